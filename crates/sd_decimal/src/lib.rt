@@ -1,0 +1,14 @@
+//! Fixed-point numbers: whole millionths, read from text, weighed, rounded and written.
+#![tactic(auto)]
+
+mod number;
+mod reading;
+mod rounding;
+#[cfg(test)]
+mod tests;
+mod writing;
+
+pub use number::{Limit, Line, Micro, NumberFault, Sum};
+pub use reading::read;
+pub use rounding::{per_second, ratio, root, weigh};
+pub use writing::write;

@@ -1,0 +1,101 @@
+ghost use Rattle.std.specs.Prelude.{◌≡◌, ◌+◌, ◌/◌, ◌%◌, ◌<◌, ◌≤◌, ◌==◌, ◌++◌, length};
+ghost use Rattle.std.specs.Fmt.{decimal};
+ghost use Rattle.arrayvec.specs.ArrayVec.{array_vec_len};
+ghost use Rattle.sd_model.specs.Lists.{trim_end};
+ghost use Rattle.sd_model.specs.Numbers.{six_digits, behind_point, number_text};
+
+use crate::number::{Line, Sum};
+
+const MILLION: u128 = 1_000_000;
+
+/// Appends the text of a number.
+pub fn write(v: Sum, out: &mut Line)
+    requires { array_vec_len out.old + 48 ≤ 1024 }
+    ensures { out.new.items ≡ out.old.items ++ number_text v.0 }
+{
+    if v.0 < 0 {
+        out.push(b'-');
+    }
+    let magnitude = v.0.unsigned_abs();
+    push_wide(magnitude / MILLION, out);
+    push_fraction((magnitude % MILLION) as u32, out);
+}
+
+// Appends the digits of a whole number.
+fn push_wide(n: u128, out: &mut Line)
+    requires { array_vec_len out.old + length (decimal n) ≤ 1024 }
+    ensures { out.new.items ≡ out.old.items ++ decimal n }
+{
+    if n <= u128::from(u64::MAX) {
+        push_whole(n as u64, out);
+    } else {
+        push_wide(n / 10, out);
+        out.push(b'0' + (n % 10) as u8);
+    }
+}
+
+// Appends the digits of a whole number of one machine word.
+fn push_whole(n: u64, out: &mut Line)
+    requires { array_vec_len out.old + length (decimal n) ≤ 1024 }
+    ensures { out.new.items ≡ out.old.items ++ decimal n }
+{
+    if n < 10 {
+        out.push(b'0' + n as u8);
+    } else {
+        push_whole(n / 10, out);
+        out.push(b'0' + (n % 10) as u8);
+    }
+}
+
+// Appends a point and the digits of a fraction, up to the last that isn't zero.
+fn push_fraction(millionths: u32, out: &mut Line)
+    requires { array_vec_len out.old + 7 ≤ 1024 }
+    ensures { out.new.items
+        ≡ out.old.items ++ behind_point (trim_end (λ d. d == 48) (six_digits millionths)) }
+{
+    let digits = six_digits(millionths);
+    let kept = without_zeros(&digits);
+    if kept.is_empty() {
+        return;
+    }
+    out.push(b'.');
+    for digit in kept {
+        out.push(*digit);
+    }
+}
+
+// The six digits of a fraction.
+fn six_digits(millionths: u32) -> [u8; 6]
+    ensures { result ≡ six_digits millionths }
+{
+    [
+        digit(millionths, 100_000),
+        digit(millionths, 10_000),
+        digit(millionths, 1000),
+        digit(millionths, 100),
+        digit(millionths, 10),
+        digit(millionths, 1),
+    ]
+}
+
+// The digit of `n` at the place of `unit`, a power of ten.
+fn digit(n: u32, unit: u32) -> u8
+    requires { 0 < unit }
+    ensures { result ≡ 48 + n / unit % 10 }
+{
+    b'0' + (n / unit % 10) as u8
+}
+
+// The digits without the zeros at their end.
+fn without_zeros(digits: &[u8]) -> &[u8]
+    ensures { result.now ≡ trim_end (λ d. d == 48) digits.now }
+{
+    let mut kept = digits;
+    while let Some((last, front)) = kept.split_last() {
+        if *last != b'0' {
+            return kept;
+        }
+        kept = front;
+    }
+    kept
+}

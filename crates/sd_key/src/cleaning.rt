@@ -1,0 +1,77 @@
+ghost use Rattle.std.specs.Prelude.{◌≡◌, ◌<◌, ℕ, List, [], ◌∷◌, ◌++◌, length, Ok, Err, IfOk, IfErr};
+ghost use Rattle.std.specs.Option.{option_to_list};
+ghost use Rattle.sd_model.specs.Lists.{is_white_space};
+ghost use Rattle.sd_model.specs.Names.{clean, cleaned, is_name_byte};
+ghost use Rattle.sd_key.specs.Clean.{ends_blank, fault_of};
+
+use crate::Key;
+use arrayvec::ArrayVec;
+
+/// Why a name has no key.
+#[derive(Clone, Copy, Debug, PartialEq, Eq)]
+pub enum KeyFault {
+    /// No byte of it is left.
+    Empty,
+    /// More than 255 bytes of it are left, namely `len`.
+    Long { len: usize },
+}
+
+/// The key of a name. Each run of white space becomes one `_`, each `/` becomes `-`, and then every byte that
+/// isn't a letter, digit, `_`, `-` or `.` is dropped.
+///
+/// # Errors
+///
+/// `Empty` where no byte is left, and `Long` where more than 255 are.
+pub fn clean(name: &[u8]) -> Result<Key, KeyFault>
+    ensures ok { IfOk result (λ key. clean name.now ≡ Ok key) }
+    ensures some { IfOk result (λ key. 0 < length key) }
+    ensures err { IfErr result (λ fault. clean name.now ≡ Err (fault_of fault)) }
+{
+    let mut bytes = ArrayVec::new();
+    let mut len = 0;
+    let mut after_blank = false;
+    for b in name {
+        if let Some(byte) = kept(*b, after_blank) {
+            len += 1;
+            if !bytes.is_full() {
+                bytes.push(byte);
+            }
+        }
+        after_blank = is_white_space(*b);
+    }
+    if len == 0 {
+        Err(KeyFault::Empty)
+    } else if len > bytes.capacity() {
+        Err(KeyFault::Long { len })
+    } else {
+        Ok(Key::from_bytes(bytes))
+    }
+}
+
+/// What a byte of a name leaves in its key, where `after_blank` says whether white space stands before it.
+fn kept(b: u8, after_blank: bool) -> Option<u8>
+    ensures { (front : List ℕ) → ends_blank front ≡ after_blank
+        → cleaned (front ++ b ∷ []) ≡ cleaned front ++ option_to_list result }
+{
+    if is_white_space(b) {
+        (!after_blank).then_some(b'_')
+    } else if b == b'/' {
+        Some(b'-')
+    } else {
+        is_name_byte(b).then_some(b)
+    }
+}
+
+/// Whether a byte is white space.
+fn is_white_space(b: u8) -> bool
+    ensures { result ≡ is_white_space b }
+{
+    matches!(b, 9..=13 | b' ')
+}
+
+/// Whether a key may have the byte.
+fn is_name_byte(b: u8) -> bool
+    ensures { result ≡ is_name_byte b }
+{
+    b.is_ascii_alphanumeric() || matches!(b, b'_' | b'-' | b'.')
+}

@@ -1,0 +1,29 @@
+ghost use Rattle.std.specs.Prelude.{◌≡◌, ◌<◌};
+ghost use Rattle.sd_model.specs.Names.{fnv1a, shard};
+
+use crate::Key;
+
+/// The hash of no bytes.
+const OFFSET: u64 = 0xcbf29ce484222325;
+
+/// What each byte multiplies the hash by.
+const PRIME: u64 = 0x100000001b3;
+
+/// The shard of a key, among `shards`.
+pub fn shard_of(key: &Key, shards: u16) -> u16
+    requires { 0 < shards }
+    ensures shard { result ≡ shard key.now shards }
+    ensures below { result < shards }
+{
+    (fnv1a(key.as_slice()) % u64::from(shards)) as u16
+}
+
+/// The hash FNV-1a of 64 bits.
+pub(crate) fn fnv1a(bytes: &[u8]) -> u64
+    ensures { result ≡ fnv1a bytes.now }
+{
+    bytes.iter().fold(
+        OFFSET,
+        |hash, byte| (hash ^ u64::from(*byte)).wrapping_mul(PRIME),
+    )
+}

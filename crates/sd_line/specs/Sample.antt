@@ -1,0 +1,23 @@
+-- A sample of the code, as the definitions have it, and what the type keeps.
+use Rattle.std.specs.Prelude.{ℕ, ◌^◌, ◌<◌, ◌≤◌, ℤ, pos, ◌≤ℤ◌, length, unsigned_abs}
+use Rattle.sd_model.specs.Lines as model
+use Rattle.sd_key.specs.Kind.{kind_of}
+use Rattle.sd_line.specs.declared.sample.Sample.TheInside.{Inside}
+
+abbrev pub sample_view : Inside → model.Sample
+sample_view s =
+    record {
+      kind = kind_of s.kind;
+      key = s.key;
+      value = s.value.0;
+      rate = unsigned_abs s.rate.0;
+      is_signed = s.signed;
+      member = s.member.items;
+    }
+
+-- The key isn't empty, the rate is from 0.000001 to 1000, and the value's magnitude is at most 10 ^ 12.
+pub record IsSample (s : Inside) : Type 0 where
+  pub named : 0 < length s.key
+  pub rate_low : pos 1 ≤ℤ s.rate.0
+  pub rate_high : s.rate.0 ≤ℤ pos (10 ^ 9)
+  pub value : unsigned_abs s.value.0 ≤ 10 ^ 18

@@ -1,0 +1,11 @@
+//! Datagrams and lines: the pieces of a datagram, and the sample of each.
+#![tactic(auto)]
+
+mod cut;
+mod lines;
+mod piece;
+mod sample;
+
+pub use lines::Lines;
+pub use piece::Bad;
+pub use sample::{Member, Sample};

@@ -1,0 +1,6 @@
+pub mod ListLemmas
+pub mod NamesLemmas
+pub mod OutsideLemmas
+pub mod Rounding
+pub mod RowLemmas
+pub mod Trims

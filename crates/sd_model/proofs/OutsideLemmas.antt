@@ -1,0 +1,24 @@
+-- Laws of what a sink and a backend tell.
+use Rattle.std.proofs.Common.{◌≡◌, ℕ, ◌+◌, List, [], ◌∷◌, ◌++◌, length, Some, None, refl, ap, arith, append_assoc, append-nil, length-append, min}
+use Rattle.sd_model.specs.Outside.{Written, Untold, Number, Bytes, Rounds, FitsLastCount, appended, last_count}
+
+-- a count that stops at its end, after two rises
+min-add-min : (n a b : ℕ) → min (min (n + a) last_count + b) last_count ≡ min (n + (a + b)) last_count
+min-add-min n a b = omega arith
+
+-- two writes one after the other are one write
+pub appended-appended : (w : Written) (xs ys : List ℕ) → appended (appended w xs) ys ≡ appended w (xs ++ ys)
+appended-appended Untold xs ys = refl
+appended-appended (Number n) xs ys = ap Number (rw length-append (min-add-min n (length xs) (length ys)))
+appended-appended (Bytes zs) xs ys = ap Bytes (append_assoc zs xs ys)
+appended-appended (Rounds rounds (Some zs)) xs ys = ap (λ bytes. Rounds rounds (Some bytes)) (append_assoc zs xs ys)
+appended-appended (Rounds rounds None) [] ys = refl
+appended-appended (Rounds rounds None) (x ∷ xs) ys = refl
+
+-- a write of nothing
+pub appended-nil : (w : Written) → FitsLastCount w → appended w [] ≡ w
+appended-nil Untold fits = refl
+appended-nil (Number n) fits = ap Number (omega arith)
+appended-nil (Bytes zs) fits = ap Bytes (append-nil zs)
+appended-nil (Rounds rounds (Some zs)) fits = ap (λ bytes. Rounds rounds (Some bytes)) (append-nil zs)
+appended-nil (Rounds rounds None) fits = refl

@@ -1,0 +1,11 @@
+pub mod Lists
+pub mod Outside
+pub mod Numbers
+pub mod Names
+pub mod Lines
+pub mod Shard
+pub mod Record
+pub mod Graphite
+pub mod Desk
+pub mod Script
+pub mod Replay

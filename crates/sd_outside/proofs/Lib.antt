@@ -1,0 +1,4 @@
+pub mod AddressLemmas
+pub mod ReadLemmas
+pub mod RoundLemmas
+pub mod WriteLemmas

@@ -1,0 +1,20 @@
+use Rattle.std.proofs.Common.{arith, length, drop, ◌≡◌, ◌∙◌, length-append, length-take-le, refl}
+use Rattle.std.proofs.lemmas.List.{take_rest, drop_at}
+use Rattle.sd_outside.proofs.ReadLemmas.{take-copied}
+use Rattle.sd_outside.proofs.mem_source.MemSourceSource.read.Goals as goal
+
+pub returns-clause-gives : goal.returns-clause-gives
+returns-clause-gives c =
+    let s = c.args.self.now in
+    let n = c.min-count.result in
+    let rest = drop n c.args.buf.now in
+    let is = rw (c.deref-2.ensures.value, take_rest) at c.copy_from_slice.ensures.after in
+    let fits : length c.copy_from_slice.new.self ≡ n = c.copy_from_slice.ensures.len ∙ length-take-le n c.args.buf.now (omega arith) in
+    let count = rw (c.deref-2.ensures.value, take_rest) at c.min-count.ensures in
+    record {
+      count = omega (arith, count);
+      within = omega (arith, length-append c.copy_from_slice.new.self rest);
+      content = take-copied s.bytes.items rest _ s.taken n is fits;
+      rest = drop_at _ rest n fits;
+      faults = refl;
+    }

@@ -1,0 +1,22 @@
+ghost use Rattle.std.specs.Prelude.{◌≡◌, ◌≤◌, ◌↔◌, IsTrue, Contains};
+ghost use Rattle.sd_model.specs.Outside.{raised};
+
+use crate::opens::Failed;
+
+/// Counts a call, and answers whether its number is among those that are to fail.
+pub(crate) fn next_call_fails(calls: &mut u64, listed: &[u64]) -> bool
+    ensures counted { calls.new ≡ raised calls.old }
+    ensures listed { IsTrue result ↔ Contains listed.now calls.new }
+{
+    *calls = calls.saturating_add(1);
+    listed.contains(calls)
+}
+
+/// Counts a fault.
+pub(crate) fn fault(faults: &mut u64) -> Failed
+    ensures counted { faults.new ≡ raised faults.old }
+    ensures stays { faults.old ≤ faults.new }
+{
+    *faults = faults.saturating_add(1);
+    Failed
+}

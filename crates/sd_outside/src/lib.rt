@@ -1,0 +1,26 @@
+//! The outside: the traits of what the program reads, writes and opens, and forms of them in memory.
+#![tactic(auto)]
+
+mod address;
+mod backend;
+mod byte_store;
+mod calls;
+mod mem_backend;
+mod mem_sink;
+mod mem_source;
+mod opens;
+mod round_store;
+mod sink;
+mod source;
+
+pub use address::{Address, Name};
+pub use backend::{Backend, Backs};
+pub use mem_backend::MemBackend;
+pub use mem_sink::MemSink;
+pub use mem_source::MemSource;
+pub use opens::{Failed, Faulty, OpenRefusal, Opens};
+pub use sink::{Sink, WriteFault, fronts_join, write_all};
+pub use source::Source;
+
+#[cfg(test)]
+mod tests;

@@ -1,0 +1,227 @@
+use crate::address::Address;
+use crate::backend::Backend;
+use crate::calls::{fault, next_call_fails};
+use crate::opens::{Failed, Faulty, OpenRefusal, Opens};
+use crate::round_store::RoundStore;
+use crate::sink::Sink;
+use std::alloc::{AllocError, Global};
+
+/// A backend in memory, whose room is taken when it is made.
+#[derive(Drop)]
+pub struct MemBackend {
+    store: RoundStore,
+    opened_at: Option<Address>,
+    faults: u64,
+    openings: u64,
+    writes: u64,
+    begins: u64,
+    finishes: u64,
+    /// The numbers of the openings that are to fail, counted from 1.
+    pub fail_open: Vec<u64>,
+    /// The numbers of the writes that are to fail, counted from 1.
+    pub fail_call: Vec<u64>,
+    /// The numbers of the calls of `begin` that are to fail, counted from 1.
+    pub fail_begin: Vec<u64>,
+    /// The numbers of the calls of `finish` that are to fail, counted from 1.
+    pub fail_finish: Vec<u64>,
+}
+
+impl MemBackend {
+    ghost use Rattle.std.specs.Prelude.{◌≡◌, ◌<◌, min, length, IfOk, None, Some, [], option_copied, slice_get};
+    ghost use Rattle.std.specs.Option.{option_map};
+    ghost use Rattle.sd_model.specs.Outside.{Rounds};
+    ghost use Rattle.sd_outside.specs.MemBackend.{HasNoRoom, Calls, byte_room_in, calls_of, list_room_in, lists_in};
+
+    /// A backend with no list, and room for that many bytes in all its lists together and for that many
+    /// lists, of which no call is to fail.
+    ///
+    /// # Errors
+    ///
+    /// Where no memory is left for the room.
+    pub fn open(alloc: Global, bytes: usize, rounds: usize) -> Result<MemBackend, AllocError>
+        ensures content { IfOk result (λ b. ⟦<MemBackend as Sink>⟧.written b ≡ Rounds [] None) }
+        ensures byte_room { IfOk result (λ b. byte_room_in b ≡ bytes) }
+        ensures list_room { IfOk result (λ b. list_room_in b ≡ rounds) }
+        ensures no_faults { IfOk result (λ b. ⟦<MemBackend as Faulty>⟧.faults b ≡ 0) }
+        ensures not_opened { IfOk result (λ b. ⟦<MemBackend as Faulty>⟧.opened_at b ≡ None) }
+        ensures no_calls { IfOk result
+            (λ b. calls_of b ≡ record { openings = 0; writes = 0; begins = 0; finishes = 0 }) }
+        ensures fails_no_opening { IfOk result (λ b. b.fail_open.items ≡ []) }
+        ensures fails_no_write { IfOk result (λ b. b.fail_call.items ≡ []) }
+        ensures fails_no_begin { IfOk result (λ b. b.fail_begin.items ≡ []) }
+        ensures fails_no_finish { IfOk result (λ b. b.fail_finish.items ≡ []) }
+    {
+        Ok(MemBackend {
+            store: RoundStore::open(alloc, bytes, rounds)?,
+            opened_at: None,
+            faults: 0,
+            openings: 0,
+            writes: 0,
+            begins: 0,
+            finishes: 0,
+            fail_open: Vec::new(alloc),
+            fail_call: Vec::new(alloc),
+            fail_begin: Vec::new(alloc),
+            fail_finish: Vec::new(alloc),
+        })
+    }
+
+    /// How many lists it was given, with the one that is open.
+    pub fn lists(&self) -> usize
+        ensures { result ≡ length (lists_in self.now) }
+    {
+        self.store.len()
+    }
+
+    /// The bytes of the list at that place, counted from 0.
+    pub fn list(&self, place: usize) -> &[u8]
+        requires { place < length (lists_in self.now) }
+        ensures { option_map (λ round. round.bytes) (slice_get (lists_in self.now) place) ≡ Some result.now }
+    {
+        self.store.list(place)
+    }
+
+    /// Whether the list at that place was ended.
+    pub fn is_ended(&self, place: usize) -> bool
+        requires { place < length (lists_in self.now) }
+        ensures { option_map (λ round. round.is_ended) (slice_get (lists_in self.now) place) ≡ Some result }
+    {
+        self.store.is_ended(place)
+    }
+
+    /// How often it failed.
+    pub fn faults(&self) -> u64
+        ensures { result ≡ ⟦<MemBackend as Faulty>⟧.faults self.now }
+    {
+        self.faults
+    }
+
+    /// The address at which it was last opened, if it was.
+    pub fn opened_at(&self) -> Option<&Address>
+        ensures { option_copied result ≡ ⟦<MemBackend as Faulty>⟧.opened_at self.now }
+    {
+        self.opened_at.as_ref()
+    }
+
+    /// How many bytes of a write fit, or none where the write needs a list for which there is no room.
+    fn fitting(&self, len: usize) -> usize
+        ensures no_room { HasNoRoom self.now → result ≡ 0 }
+        ensures room { ¬ (HasNoRoom self.now) → result ≡ min len (byte_room_in self.now) }
+    {
+        if self.store.is_open() || self.store.has_list_room() {
+            len.min(self.store.byte_room())
+        } else {
+            0
+        }
+    }
+}
+
+impl Faulty for MemBackend {
+    ghost use Rattle.sd_outside.specs.MemBackend.{address_of, faults_of};
+
+    ghost faults = { faults_of };
+
+    ghost opened_at = { address_of };
+}
+
+impl Opens for MemBackend {
+    ghost use Rattle.std.specs.Prelude.{◌≡◌, ◌≤◌, ◌↔◌, Some, OnOk, OnErr, IfErr, IsErr, Contains};
+    ghost use Rattle.sd_model.specs.Outside.{raised};
+    ghost use Rattle.sd_outside.specs.MemBackend.{Calls, Fails, SameContent, SameFailures, address_of, calls_of, faults_of, told_by};
+
+    ghost same_content = { λ old new. told_by new ≡ told_by old };
+
+    fn open_at(&mut self, at: &Address) -> Result<(), OpenRefusal>
+        ensures address { OnOk result (address_of self.new ≡ Some at.now) }
+        ensures no_fault { OnOk result (faults_of self.new ≡ faults_of self.old) }
+        ensures fails { OnErr result (Fails self.old self.new) }
+        ensures old_address { OnErr result (address_of self.new ≡ address_of self.old) }
+        ensures refusal { IfErr result (λ refusal. refusal ≡ OpenRefusal.Failed) }
+        ensures cause { IsErr result ↔ Contains self.old.fail_open.items (calls_of self.new).openings }
+        ensures faults_stay { faults_of self.old ≤ faults_of self.new }
+        ensures content { SameContent self.old self.new }
+        ensures counted { calls_of self.new
+            ≡ record (calls_of self.old) { openings = raised (calls_of self.old).openings } }
+        ensures failures_stay { SameFailures self.old self.new }
+    {
+        if next_call_fails(&mut self.openings, &self.fail_open) {
+            fault(&mut self.faults);
+            return Err(OpenRefusal::Failed);
+        }
+        self.opened_at = Some(at.copied());
+        Ok(())
+    }
+}
+
+impl Sink for MemBackend {
+    ghost use Rattle.std.specs.Prelude.{◌≡◌, ◌<◌, ◌≤◌, ◌⊎◌, ◌↔◌, length, IfOk, OnErr, IsErr, Contains};
+    ghost use Rattle.sd_model.specs.Outside.{raised};
+    ghost use Rattle.sd_outside.specs.MemBackend.{Calls, Takes, Fails, HasNoRoom, SameFailures, address_of, calls_of, faults_of, told_by};
+
+    ghost written = { told_by };
+
+    fn write(&mut self, bytes: &[u8]) -> Result<usize, Failed>
+        requires { 0 < length bytes.now }
+        ensures takes { IfOk result (Takes self.old self.new bytes.now) }
+        ensures fails { OnErr result (Fails self.old self.new) }
+        ensures cause { IsErr result
+            ↔ (Contains self.old.fail_call.items (calls_of self.new).writes ⊎ HasNoRoom self.old) }
+        ensures faults_stay { faults_of self.old ≤ faults_of self.new }
+        ensures address_stays { address_of self.new ≡ address_of self.old }
+        ensures counted { calls_of self.new
+            ≡ record (calls_of self.old) { writes = raised (calls_of self.old).writes } }
+        ensures failures_stay { SameFailures self.old self.new }
+    {
+        let count = self.fitting(bytes.len());
+        if next_call_fails(&mut self.writes, &self.fail_call) || count == 0 {
+            return Err(fault(&mut self.faults));
+        }
+        self.store.append(&bytes[..count]);
+        Ok(count)
+    }
+
+    ghost number_fits = { λ _. tt };
+}
+
+impl Backend for MemBackend {
+    ghost use Rattle.std.specs.Prelude.{◌≡◌, ◌≤◌, ◌⊎◌, ◌↔◌, OnOk, OnErr, IsErr, Contains};
+    ghost use Rattle.sd_model.specs.Outside.{raised};
+    ghost use Rattle.sd_outside.specs.MemBackend.{Begins, Calls, Fails, Finishes, SameFailures, address_of, calls_of, faults_of, list_room_in};
+
+    fn begin(&mut self) -> Result<(), Failed>
+        ensures begins { OnOk result (Begins self.old self.new) }
+        ensures fails { OnErr result (Fails self.old self.new) }
+        ensures cause { IsErr result
+            ↔ (Contains self.old.fail_begin.items (calls_of self.new).begins ⊎ (list_room_in self.old ≡ 0)) }
+        ensures faults_stay { faults_of self.old ≤ faults_of self.new }
+        ensures address_stays { address_of self.new ≡ address_of self.old }
+        ensures counted { calls_of self.new
+            ≡ record (calls_of self.old) { begins = raised (calls_of self.old).begins } }
+        ensures failures_stay { SameFailures self.old self.new }
+    {
+        if next_call_fails(&mut self.begins, &self.fail_begin) || !self.store.has_list_room() {
+            return Err(fault(&mut self.faults));
+        }
+        self.store.begin();
+        Ok(())
+    }
+
+    fn finish(&mut self) -> Result<(), Failed>
+        ensures finishes { OnOk result (Finishes self.old self.new) }
+        ensures fails { OnErr result (Fails self.old self.new) }
+        ensures cause { IsErr result ↔ Contains self.old.fail_finish.items (calls_of self.new).finishes }
+        ensures faults_stay { faults_of self.old ≤ faults_of self.new }
+        ensures address_stays { address_of self.new ≡ address_of self.old }
+        ensures counted { calls_of self.new
+            ≡ record (calls_of self.old) { finishes = raised (calls_of self.old).finishes } }
+        ensures failures_stay { SameFailures self.old self.new }
+    {
+        if next_call_fails(&mut self.finishes, &self.fail_finish) {
+            return Err(fault(&mut self.faults));
+        }
+        self.store.finish();
+        Ok(())
+    }
+
+    ghost opening_keeps = { λ _ _ same. same };
+}

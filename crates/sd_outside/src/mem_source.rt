@@ -1,0 +1,140 @@
+ghost use Rattle.std.specs.Prelude.{◌≡◌, ◌≤◌, [], option_copied, vec_len};
+
+use crate::address::Address;
+use crate::calls::{fault, next_call_fails};
+use crate::opens::{Failed, Faulty, OpenRefusal, Opens};
+use crate::source::Source;
+
+/// A source in memory, whose bytes are given when it is made.
+#[derive(Drop)]
+pub struct MemSource {
+    bytes: Vec<u8>,
+    taken: usize,
+    opened_at: Option<Address>,
+    faults: u64,
+    openings: u64,
+    reads: u64,
+    /// The numbers of the openings that are to fail, counted from 1.
+    pub fail_open: Vec<u64>,
+    /// The numbers of the reads that are to fail, counted from 1.
+    pub fail_call: Vec<u64>,
+    ghost taken_within: { taken ≤ vec_len bytes },
+}
+
+impl MemSource {
+    ghost use Rattle.std.specs.Prelude.{◌≡◌, None, Some, [], option_copied};
+    ghost use Rattle.sd_outside.specs.MemSource.{calls_of};
+
+    /// A source that has the bytes left, and of which no call is to fail.
+    pub fn of(bytes: Vec<u8>) -> MemSource
+        ensures content { ⟦<MemSource as Source>⟧.remaining result ≡ Some bytes.items }
+        ensures no_faults { ⟦<MemSource as Faulty>⟧.faults result ≡ 0 }
+        ensures not_opened { ⟦<MemSource as Faulty>⟧.opened_at result ≡ None }
+        ensures no_calls { calls_of result ≡ record { openings = 0; reads = 0 } }
+        ensures fails_no_opening { result.fail_open.items ≡ [] }
+        ensures fails_no_read { result.fail_call.items ≡ [] }
+    {
+        let alloc = *bytes.allocator();
+        MemSource {
+            bytes,
+            taken: 0,
+            opened_at: None,
+            faults: 0,
+            openings: 0,
+            reads: 0,
+            fail_open: Vec::new(alloc),
+            fail_call: Vec::new(alloc),
+        }
+    }
+
+    /// The bytes that it has left.
+    pub fn remaining(&self) -> &[u8]
+        ensures { ⟦<MemSource as Source>⟧.remaining self.now ≡ Some result.now }
+    {
+        &self.bytes[self.taken..]
+    }
+
+    /// How often it failed.
+    pub fn faults(&self) -> u64
+        ensures { result ≡ ⟦<MemSource as Faulty>⟧.faults self.now }
+    {
+        self.faults
+    }
+
+    /// The address at which it was last opened, if it was.
+    pub fn opened_at(&self) -> Option<&Address>
+        ensures { option_copied result ≡ ⟦<MemSource as Faulty>⟧.opened_at self.now }
+    {
+        self.opened_at.as_ref()
+    }
+}
+
+impl Faulty for MemSource {
+    ghost use Rattle.sd_outside.specs.MemSource.{address_of, faults_of};
+
+    ghost faults = { faults_of };
+
+    ghost opened_at = { address_of };
+}
+
+impl Opens for MemSource {
+    ghost use Rattle.std.specs.Prelude.{◌≡◌, ◌≤◌, ◌↔◌, Some, OnOk, OnErr, IfErr, IsErr, Contains};
+    ghost use Rattle.sd_model.specs.Outside.{raised};
+    ghost use Rattle.sd_outside.specs.MemSource.{Calls, Fails, SameFailures, address_of, calls_of, faults_of, left_in};
+
+    ghost same_content = { λ old new. left_in new ≡ left_in old };
+
+    fn open_at(&mut self, at: &Address) -> Result<(), OpenRefusal>
+        ensures address { OnOk result (address_of self.new ≡ Some at.now) }
+        ensures no_fault { OnOk result (faults_of self.new ≡ faults_of self.old) }
+        ensures fails { OnErr result (Fails self.old self.new) }
+        ensures refusal { IfErr result (λ refusal. refusal ≡ OpenRefusal.Failed) }
+        ensures old_address { OnErr result (address_of self.new ≡ address_of self.old) }
+        ensures cause { IsErr result ↔ Contains self.old.fail_open.items (calls_of self.new).openings }
+        ensures faults_stay { faults_of self.old ≤ faults_of self.new }
+        ensures content { left_in self.new ≡ left_in self.old }
+        ensures counted { calls_of self.new
+            ≡ record (calls_of self.old) { openings = raised (calls_of self.old).openings } }
+        ensures failures_stay { SameFailures self.old self.new }
+    {
+        if next_call_fails(&mut self.openings, &self.fail_open) {
+            fault(&mut self.faults);
+            return Err(OpenRefusal::Failed);
+        }
+        self.opened_at = Some(at.copied());
+        Ok(())
+    }
+}
+
+impl Source for MemSource {
+    ghost use Rattle.std.specs.Prelude.{◌≡◌, ◌<◌, ◌≤◌, ◌↔◌, Some, length, IfOk, OnErr, IsErr, Contains};
+    ghost use Rattle.std.proofs.Common.{ap};
+    ghost use Rattle.sd_model.specs.Outside.{raised};
+    ghost use Rattle.sd_outside.specs.MemSource.{Calls, Gives, Fails, SameFailures, address_of, calls_of, faults_of, left_in};
+
+    ghost remaining = { λ s. Some (left_in s) };
+
+    fn read(&mut self, buf: &mut [u8]) -> Result<usize, Failed>
+        requires { 0 < length buf.old }
+        ensures gives { IfOk result (Gives self.old self.new buf.old buf.new) }
+        ensures fails { OnErr result (Fails self.old self.new) }
+        ensures buffer_stays { OnErr result (buf.new ≡ buf.old) }
+        ensures cause { IsErr result ↔ Contains self.old.fail_call.items (calls_of self.new).reads }
+        ensures faults_stay { faults_of self.old ≤ faults_of self.new }
+        ensures address_stays { address_of self.new ≡ address_of self.old }
+        ensures counted { calls_of self.new
+            ≡ record (calls_of self.old) { reads = raised (calls_of self.old).reads } }
+        ensures failures_stay { SameFailures self.old self.new }
+    {
+        if next_call_fails(&mut self.reads, &self.fail_call) {
+            return Err(fault(&mut self.faults));
+        }
+        let rest = &self.bytes[self.taken..];
+        let count = rest.len().min(buf.len());
+        buf[..count].copy_from_slice(&rest[..count]);
+        self.taken += count;
+        Ok(count)
+    }
+
+    ghost opening_keeps = { λ old new same. ap Some same };
+}

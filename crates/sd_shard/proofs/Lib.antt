@@ -1,0 +1,4 @@
+mod CarryLemmas
+mod ListingLemmas
+mod RowChanges
+mod TableLemmas

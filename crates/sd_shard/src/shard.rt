@@ -1,0 +1,166 @@
+ghost use Rattle.std.specs.Prelude.{◌≡◌, ◌+◌, [], length, option_map, IfOk};
+ghost use Rattle.sd_model.specs.Shard.{empty_state, refusal, after_sample, after_swap, placed};
+ghost use Rattle.sd_shard.specs.Limits.{limits_of, policy_of, AreLimits};
+ghost use Rattle.sd_shard.specs.Table.{table_of};
+ghost use Rattle.sd_shard.specs.Shard.{state_of, cause_of, placed_of};
+ghost use Rattle.sd_model.specs.Shard.{table_of as model_table_of};
+
+use crate::limits::{Limits, Policy, Who};
+use crate::table::Table;
+use sd_line::Sample;
+use std::alloc::{AllocError, Global};
+use std::marker::Model;
+use std::mem;
+
+/// Where the numbers of a shard end.
+const LAST_NUMBER: u64 = 1 << 63;
+
+/// Why a sample wasn't taken, with what was compared.
+#[derive(Clone, Copy, Debug, PartialEq, Eq)]
+pub enum Cause {
+    /// Its row isn't there, and there are as many rows as the limit says.
+    NoRow { live: u32, limit: u32 },
+    /// There are as many entries as the limit says.
+    NoEntry { held: u32, limit: u32 },
+    /// No number is left.
+    NoNumber { taken: u64 },
+}
+
+/// What became of a sample.
+#[derive(Clone, Copy, Debug, PartialEq, Eq)]
+pub enum Placed {
+    /// It was taken, and has this number in the shard.
+    Taken { number: u64 },
+    /// It was dropped. Nothing but the number of drops changed.
+    Dropped(Cause),
+}
+
+/// The numbers of a shard.
+#[derive(Clone, Copy, Debug, PartialEq, Eq)]
+pub struct ShardBook {
+    pub taken: u64,
+    pub flushed: u64,
+    pub deleted: u64,
+    pub dropped: u64,
+    pub held: u64,
+}
+
+/// Rows and entries behind one turn. One event at a time changes it.
+#[derive(Debug, Drop)]
+pub struct Shard {
+    policy: Policy,
+    table: Table,
+    taken: u64,
+    flushed: u64,
+    deleted: u64,
+    dropped: u64,
+}
+
+impl Model for Shard {
+    ghost use Rattle.sd_shard.specs.Shard.{Standing};
+
+    ghost Value = { Standing };
+
+    ghost use Rattle.sd_shard.specs.ShardInside.{standing_of, IsShard};
+
+    ghost view = { standing_of };
+
+    ghost invariant = { IsShard };
+}
+
+impl Shard {
+    /// An empty shard. All of its room is taken here.
+    pub fn open(alloc: Global, limits: Limits, policy: Policy) -> Result<Shard, AllocError>
+        requires { AreLimits (limits_of limits) }
+        ensures state { IfOk result (λ s. state_of s ≡ empty_state) }
+        ensures limits { IfOk result (λ s. s.table.limits ≡ limits_of limits) }
+        ensures policy { IfOk result (λ s. s.policy ≡ policy_of policy) }
+    {
+        Ok(Shard {
+            policy,
+            table: Table::open(alloc, limits)?,
+            taken: 0,
+            flushed: 0,
+            deleted: 0,
+            dropped: 0,
+        })
+    }
+
+    /// Why a sample doesn't fit, where it doesn't.
+    fn refusal(&self, s: &Sample) -> Option<Cause>
+        ensures { option_map cause_of result ≡ refusal self.now.table.limits (state_of self.now) s.now }
+    {
+        let limits = self.table.limits();
+        let live = self.table.rows();
+        let held = self.table.entries();
+        if !self.table.has_row(s.kind, &s.key) && live >= limits.rows {
+            return Some(Cause::NoRow {
+                live,
+                limit: limits.rows,
+            });
+        }
+        if held >= limits.entries {
+            return Some(Cause::NoEntry {
+                held,
+                limit: limits.entries,
+            });
+        }
+        if self.taken >= LAST_NUMBER {
+            return Some(Cause::NoNumber { taken: self.taken });
+        }
+        None
+    }
+
+    /// Takes a sample of a caller, or drops it where the shard is full.
+    pub fn sample(&mut self, who: Who, s: &Sample) -> Placed
+        ensures state { state_of self.new ≡ after_sample (state_of self.old) who.0 s.now
+            (refusal self.old.table.limits (state_of self.old) s.now) }
+        ensures answer { placed_of result ≡ placed (state_of self.old) (refusal self.old.table.limits (state_of self.old) s.now) }
+        ensures limits { self.new.table.limits ≡ self.old.table.limits }
+        ensures policy { self.new.policy ≡ self.old.policy }
+    {
+        if let Some(cause) = self.refusal(s) {
+            self.dropped = self.dropped.saturating_add(1).min(LAST_NUMBER);
+            return Placed::Dropped(cause);
+        }
+        let number = self.taken;
+        self.table.push(who, number, s);
+        self.taken += 1;
+        Placed::Taken { number }
+    }
+
+    /// Hands out the table, and goes on with the spare one and the rows that stay.
+    pub fn swap(&mut self, spare: Table) -> Table
+        requires limits { spare.limits ≡ self.old.table.limits }
+        requires no_rows { spare.listed ≡ [] }
+        requires no_entries { spare.held ≡ [] }
+        ensures table { table_of result ≡ model_table_of (state_of self.old) }
+        ensures table_limits { result.limits ≡ self.old.table.limits }
+        ensures state { state_of self.new ≡ after_swap self.old.policy (state_of self.old) }
+        ensures limits { self.new.table.limits ≡ self.old.table.limits }
+        ensures policy { self.new.policy ≡ self.old.policy }
+    {
+        let table = mem::replace(&mut self.table, spare);
+        table.carry_to(&self.policy, &mut self.table);
+        self.flushed += u64::from(table.entries());
+        table
+    }
+
+    /// The numbers as they stand.
+    pub fn book(&self) -> ShardBook
+        ensures taken { result.taken ≡ (state_of self.now).taken }
+        ensures flushed { result.flushed ≡ (state_of self.now).flushed }
+        ensures deleted { result.deleted ≡ (state_of self.now).deleted }
+        ensures dropped { result.dropped ≡ (state_of self.now).dropped }
+        ensures held { result.held ≡ length (state_of self.now).held }
+        ensures conserved { result.taken ≡ result.flushed + result.deleted + result.held }
+    {
+        ShardBook {
+            taken: self.taken,
+            flushed: self.flushed,
+            deleted: self.deleted,
+            dropped: self.dropped,
+            held: u64::from(self.table.entries()),
+        }
+    }
+}
