@@ -11,4 +11,4 @@ mod writing;
 pub use number::{Limit, Line, Micro, NumberFault, Sum};
 pub use reading::read;
 pub use rounding::{per_second, ratio, root, weigh};
-pub use writing::write;
+pub use writing::{write, write_whole};

@@ -21,6 +21,15 @@ pub fn write(v: Sum, out: &mut Line)
     push_fraction((magnitude % MILLION) as u32, out);
 }
 
+/// Appends the digits of a whole number.
+pub fn write_whole(n: u128, out: &mut Line)
+    requires { array_vec_len out.old + 39 ≤ 1024 }
+    ensures text { out.new.items ≡ out.old.items ++ decimal n }
+    ensures len { array_vec_len out.new ≤ array_vec_len out.old + 39 }
+{
+    push_wide(n, out);
+}
+
 // Appends the digits of a whole number.
 fn push_wide(n: u128, out: &mut Line)
     requires { array_vec_len out.old + length (decimal n) ≤ 1024 }

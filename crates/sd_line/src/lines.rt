@@ -41,7 +41,7 @@ fn next_piece(bytes: &[u8]) -> Option<Cut<'_>>
 }
 
 /// The pieces of a datagram that are left, in order.
-#[derive(Debug)]
+#[derive(Debug, Drop)]
 pub struct Lines<'a> {
     rest: &'a [u8],
 }

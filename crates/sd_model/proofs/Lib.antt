@@ -1,6 +1,9 @@
+pub mod EntryLemmas
 pub mod ListLemmas
 pub mod NamesLemmas
 pub mod OutsideLemmas
+pub mod PieceCounts
+pub mod ReplayLemmas
 pub mod Rounding
 pub mod RowLemmas
 pub mod Trims

@@ -57,13 +57,23 @@ with_tally d t =
       console_faults = d.console_faults;
     }
 
--- after a flush took the tally and left its marks
-abbrev pub with_round : Desk → Marks → Desk
-with_round d m =
+-- after the tally was taken
+abbrev pub taken : Desk → Desk
+taken d =
     record {
-      tally = no_tally;
-      totals = d.totals;
-      rounds = counted d.rounds 1;
+      tally = no_tally; totals = d.totals;
+      rounds = d.rounds; graphite_faults = d.graphite_faults; console_faults = d.console_faults;
+    }
+
+-- after the marks of a flush
+abbrev pub marked : Desk → Marks → Desk
+marked d m =
+    record {
+      tally = d.tally; totals = d.totals; rounds = counted d.rounds 1;
       graphite_faults = counted d.graphite_faults (fault_of m.graphite);
       console_faults = counted d.console_faults (fault_of m.console);
     }
+
+-- after a flush, which takes the tally and leaves its marks
+abbrev pub with_round : Desk → Marks → Desk
+with_round d m = marked (taken d) m

@@ -9,3 +9,5 @@ pub mod Graphite
 pub mod Desk
 pub mod Script
 pub mod Replay
+pub mod Run
+pub mod Words

@@ -1,12 +1,13 @@
 -- What a replay does: the state after the records of a script, the texts of its flushes, and the totals.
-use Rattle.std.specs.Prelude.{◌≡◌, ℕ, ◌+◌, ◌≤◌, Bool, true, false, List, [], ◌∷◌, ◌++◌, length, take, codes, decimal, ◌⊎◌, Option, Some, None}
+use Rattle.std.specs.Prelude.{◌≡◌, ℕ, ◌+◌, ◌≤◌, Bool, true, false, List, [], ◌∷◌, ◌++◌, length, take, codes, decimal, ◌⊎◌, ◌≢◌, ⊤, map, Option, Some, None, option_map}
+use Rattle.std.specs.List.{AllByRecursion}
 use Rattle.sd_model.specs.Outside.{Written as Told, appended, begun, ended}
 use Rattle.sd_model.specs.Lines.{Sample, samples_of, pieces}
 use Rattle.sd_model.specs.Shard.{State, empty_state, Limits, Policy, Cause, Placed, Taken, Dropped, refusal, after_sample, after_swap, table_of}
 use Rattle.sd_model.specs.Record.{Tally, Record, record_of}
 use Rattle.sd_model.specs.Graphite.{graphite_text}
-use Rattle.sd_model.specs.Desk.{Desk, new_desk, with_tally, with_round, Mark, NotUsed, Written, Fault, Marks}
-use Rattle.sd_model.specs.Script.{Command, Packet, Flush}
+use Rattle.sd_model.specs.Desk.{Desk, new_desk, with_tally, with_round, Mark, NotUsed, Written, Fault, Marks, fault_of}
+use Rattle.sd_model.specs.Script.{Command, Packet, Flush, script_text, IsBuilt}
 
 -- the settings that a replay goes by
 pub record Settings : Type 0 where
@@ -62,14 +63,14 @@ abbrev pub packet_tally : List ℕ → ℕ → Tally
 packet_tally datagram dropped = record { packets = 1; lines = length (pieces datagram); bad = 0; dropped = dropped }
 
 -- a packet's samples filed, from a shard on
-abbrev pub packet_filing : Settings → State → ℕ → List ℕ → Filing
-packet_filing settings shard who datagram =
-    filed settings.limits who (record { shard = shard; dropped = 0 }) (samples_of datagram)
+abbrev pub packet_filing : Limits → State → ℕ → List ℕ → Filing
+packet_filing limits shard who datagram =
+    filed limits who (record { shard = shard; dropped = 0 }) (samples_of datagram)
 
 -- the state after a record
 abbrev pub play : Settings → Run → Played → Run
 play settings run (PlayedPacket who moment datagram) =
-    let filing = packet_filing settings run.shard who datagram in
+    let filing = packet_filing settings.limits run.shard who datagram in
     record { shard = filing.shard; desk = with_tally run.desk (packet_tally datagram filing.dropped) }
 play settings run (PlayedFlush ts marks) =
     record { shard = after_swap settings.policy run.shard; desk = with_round run.desk marks }
@@ -112,6 +113,25 @@ AfterDelivery d old new = AfterMark d.mark d.text old new
 abbrev pub AfterDeliveries : List Delivery → Told → Told → Type 0
 AfterDeliveries [] old new = new ≡ old
 AfterDeliveries (d ∷ deliveries) old new = (mid : Told) × AfterDelivery d old mid × AfterDeliveries deliveries mid new
+
+-- a flush that Graphite was used in, and the console wasn't
+abbrev pub UsesGraphite : Played → Type 0
+UsesGraphite (PlayedPacket who moment datagram) = ⊤
+UsesGraphite (PlayedFlush ts marks) = (marks.graphite ≢ NotUsed) × (marks.console ≡ NotUsed)
+
+-- how many flushes failed at Graphite
+abbrev pub graphite_failures : List Played → ℕ
+graphite_failures [] = 0
+graphite_failures (PlayedPacket who moment datagram ∷ played) = graphite_failures played
+graphite_failures (PlayedFlush ts marks ∷ played) = fault_of marks.graphite + graphite_failures played
+
+-- These records were carried out: the script had their text before what it has left, and what their flushes
+-- have for Graphite is what became of it, where the two tell it.
+pub record Replays (settings : Settings) (script left : Option (List ℕ)) (old new : Told) (played : List Played) : Type 0 where
+  pub text : script ≡ option_map (λ rest. script_text (map command_of played) ++ rest) left
+  pub built : AllByRecursion IsBuilt (map command_of played)
+  pub used : AllByRecursion UsesGraphite played
+  pub graphite : AfterDeliveries (graphite_deliveries settings first_run played) old new
 
 -- the lines of the totals, each a name, a space, a number and a newline
 abbrev pub total_line : List ℕ → ℕ → List ℕ

@@ -1,4 +1,4 @@
-ghost use Rattle.std.specs.Prelude.{◌≡◌, ◌+◌, [], length, option_map, IfOk};
+ghost use Rattle.std.specs.Prelude.{◌≡◌, ◌+◌, ◌≤◌, [], length, option_map, IfOk};
 ghost use Rattle.sd_model.specs.Shard.{empty_state, refusal, after_sample, after_swap, placed};
 ghost use Rattle.sd_shard.specs.Limits.{limits_of, policy_of, AreLimits};
 ghost use Rattle.sd_shard.specs.Table.{table_of};
@@ -136,6 +136,7 @@ impl Shard {
         requires no_entries { spare.held ≡ [] }
         ensures table { table_of result ≡ model_table_of (state_of self.old) }
         ensures table_limits { result.limits ≡ self.old.table.limits }
+        ensures table_rows { length result.listed ≤ result.limits.rows }
         ensures state { state_of self.new ≡ after_swap self.old.policy (state_of self.old) }
         ensures limits { self.new.table.limits ≡ self.old.table.limits }
         ensures policy { self.new.policy ≡ self.old.policy }

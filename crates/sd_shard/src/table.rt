@@ -123,6 +123,7 @@ impl Table {
         ensures live { live_of into.new ≡ carried (policy_of policy.now) (live_of self.now) }
         ensures limits { into.new.limits ≡ into.old.limits }
         ensures held { into.new.held ≡ into.old.held }
+        ensures within { length self.now.listed ≤ self.now.limits.rows }
     {
         carry(&self.rows, policy, into);
     }
@@ -137,6 +138,16 @@ impl Table {
         ensures held { self.new.held ≡ self.old.held }
     {
         add_row(&mut self.rows, new_row(kind, key, base, swaps));
+    }
+
+    /// Takes all rows and entries out.
+    pub fn clear(&mut self)
+        ensures rows { self.new.listed ≡ [] }
+        ensures entries { self.new.held ≡ [] }
+        ensures limits { self.new.limits ≡ self.old.limits }
+    {
+        self.rows.clear();
+        self.entries.clear();
     }
 
     /// Appends an entry. Its row is made where it is absent, and has no swap since its last sample then.

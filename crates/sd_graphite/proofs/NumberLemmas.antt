@@ -1,0 +1,42 @@
+-- The text of a number: its length, and that of a whole number.
+use Rattle.std.proofs.Common.{◌≡◌, ℕ, suc, ◌+◌, ◌*◌, ◌/◌, ◌%◌, ◌^◌, ◌≤◌, ◌==◌, Bool, true, false, cond, ℤ, pos, negsuc, unsigned_abs, List, [], ◌∷◌, ◌++◌, length, ap, ◌∙◌, arith, length-append, append-nil}
+use Rattle.std.specs.Fmt.{decimal}
+use Rattle.sd_model.specs.Lists.{trim_end, unless_last}
+use Rattle.sd_model.specs.Numbers.{six_digits, behind_point, magnitude_text, number_text}
+use Rattle.sd_decimal.proofs.Decimals.{length-decimal-whole}
+
+length-unless_last : (p : ℕ → Bool) (x : ℕ) (xs : List ℕ) → length (unless_last p x xs) ≤ length xs + 1
+length-unless_last p x [] = elim (p x) as (λ b. length (cond b [] (x ∷ [])) ≤ 1) [ true ↦ omega arith | false ↦ omega arith ]
+length-unless_last p x (y ∷ ys) = omega arith
+
+length-trim_end : (p : ℕ → Bool) (xs : List ℕ) → length (trim_end p xs) ≤ length xs
+length-trim_end p [] = omega arith
+length-trim_end p (x ∷ xs) = omega (arith, length-unless_last p x (trim_end p xs), length-trim_end p xs)
+
+length-behind_point : (ds : List ℕ) → length (behind_point ds) ≤ length ds + 1
+length-behind_point [] = omega arith
+length-behind_point (d ∷ ds) = omega arith
+
+length-magnitude_text : (n : ℕ) → n ≤ 2 ^ 127 → length (magnitude_text n) ≤ 40
+length-magnitude_text n fits =
+    let digits = trim_end (λ d. d == 48) (six_digits (n % 1000000)) in
+    omega (arith, length-append (decimal (n / 1000000)) (behind_point digits), length-decimal-whole n fits, length-behind_point digits, length-trim_end (λ d. d == 48) (six_digits (n % 1000000)))
+
+-- a number's text has at most 41 bytes
+pub length-number_text : (z : ℤ) → unsigned_abs z ≤ 2 ^ 127 → length (number_text z) ≤ 41
+length-number_text (pos n) fits = omega (arith, length-magnitude_text n fits)
+length-number_text (negsuc n) fits = omega (arith, length-magnitude_text (suc n) fits)
+
+-- a whole number's text is its digits
+pub number_text-whole : (n : ℕ) → number_text (pos (n * 1000000)) ≡ decimal n
+number_text-whole n =
+    let whole : n * 1000000 / 1000000 ≡ n = omega arith in
+    let rest : n * 1000000 % 1000000 ≡ 0 = omega arith in
+    ap (λ q. decimal q ++ behind_point (trim_end (λ d. d == 48) (six_digits (n * 1000000 % 1000000)))) whole
+    ∙ ap (λ r. decimal n ++ behind_point (trim_end (λ d. d == 48) (six_digits r))) rest
+    ∙ append-nil (decimal n)
+
+-- a path of two parts, a space and a number
+pub length-path_value : (start path whole spaced out front name : List ℕ) (z : ℤ) → start ≡ [] → path ≡ start ++ front → whole ≡ path ++ name → spaced ≡ whole ++ 32 ∷ [] → out ≡ spaced ++ number_text z → length front + length name ≤ 512 → unsigned_abs z ≤ 2 ^ 127 → length out ≤ 554
+length-path_value start path whole spaced out front name z empty first second space value few fits =
+    omega (arith, ap length empty, ap length first, ap length second, ap length space, ap length value, length-append start front, length-append path name, length-append whole (32 ∷ []), length-append spaced (number_text z), length-number_text z fits)

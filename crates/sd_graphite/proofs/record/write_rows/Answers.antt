@@ -1,0 +1,28 @@
+use Rattle.std.proofs.Common.{◌+◌, arith, rules}
+use Rattle.std.proofs.lemmas.Result.{err_from_is_err_and}
+use Rattle.sd_record.specs.Record.{record_view}
+use Rattle.sd_graphite.specs.Texts.{rows_text}
+use Rattle.sd_graphite.proofs.TextLemmas.{rows_text-more, rows_text-split}
+use Rattle.sd_graphite.proofs.WriteSteps.{next_part, next_front, front_front}
+use Rattle.sd_graphite.proofs.record.write_rows.Goals as goal
+
+pub loop-i-init : goal.loop-i-init
+unfolding rows_text
+loop-i-init g c = search rules
+
+pub returns-in_err-write_row-clause-front : goal.returns-in_err-write_row-clause-front
+returns-in_err-write_row-clause-front g c =
+    let r = record_view c.args.rec.now in
+    let failed = err_from_is_err_and c.from_residual.result c.from_residual.ensures.1 in
+    let more = rows_text-more r.ts _ r.rows c.loop-i.i _ c.row.ensures c.ts.ensures in
+    rw failed.1 (front_front _ _ _ _ _ (rows_text-split r.ts r.rows (c.loop-i.i + 1)) (next_front _ _ _ _ _ _ c.loop-i.invariant.written more c.in_err-write_row.ensures.front))
+
+pub loop-i-preserved : goal.loop-i-preserved
+loop-i-preserved g c =
+    let r = record_view c.args.rec.now in
+    record {
+      written = next_part _ _ _ _ _ _ c.loop-i.invariant.written (rows_text-more r.ts _ r.rows c.loop-i.i _ c.row.ensures c.ts.ensures) c.in_ok-write_row.ensures.ok;
+      all = c.loop-i.invariant.all;
+      faults = omega arith;
+      address = cc;
+    }

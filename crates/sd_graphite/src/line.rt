@@ -1,0 +1,82 @@
+ghost use Rattle.std.specs.Prelude.{◌≡◌, ◌+◌, ◌≤◌, ◌++◌, length, OnOk, OnErr};
+ghost use Rattle.arrayvec.specs.ArrayVec.{array_vec_len};
+ghost use Rattle.sd_model.specs.Outside.{Rose, appended};
+ghost use Rattle.sd_outside.specs.Write.{AppendsFront};
+ghost use Rattle.sd_graphite.specs.Texts.{line_text, counter_text};
+
+use sd_decimal::{Line, Sum, write, write_whole};
+use sd_outside::{Failed, Sink, WriteFault, write_all};
+
+/// Appends bytes for which there is room.
+fn push_text(text: &[u8], line: &mut Line)
+    requires { array_vec_len line.old + length text.now ≤ 1024 }
+    ensures { line.new.items ≡ line.old.items ++ text.now }
+{
+    line.try_extend_from_slice(text).unwrap();
+}
+
+/// The line of a path, which is given in two parts, a value and a Unix second.
+fn line_of(front: &[u8], name: &[u8], value: Sum, ts: u64) -> Line
+    requires { length front.now + length name.now ≤ 512 }
+    ensures { result.items ≡ line_text front.now name.now value.0 ts }
+{
+    // read, so that its text is known to be short
+    let Sum(_millionths) = value;
+    let mut line = Line::new();
+    push_text(front, &mut line);
+    push_text(name, &mut line);
+    line.push(b' ');
+    write(value, &mut line);
+    line.push(b' ');
+    write_whole(u128::from(ts), &mut line);
+    line.push(b'\n');
+    line
+}
+
+/// Writes a line.
+pub(crate) fn write_line<K: Sink>(
+    front: &[u8],
+    name: &[u8],
+    value: Sum,
+    ts: u64,
+    sink: &mut K,
+) -> Result<(), WriteFault>
+    requires { length front.now + length name.now ≤ 512 }
+    ensures ok { OnOk result
+        (K.written sink.new ≡ appended (K.written sink.old)
+        (line_text front.now name.now value.0 ts)) }
+    ensures failed { OnErr result (Rose (K.faults sink.old) (K.faults sink.new)) }
+    ensures front { OnErr result
+        (AppendsFront (K.written sink.old)
+        (line_text front.now name.now value.0 ts) (K.written sink.new)) }
+    ensures faults_stay { K.faults sink.old ≤ K.faults sink.new }
+    ensures address_stays { K.opened_at sink.new ≡ K.opened_at sink.old }
+{
+    match write_all(sink, line_of(front, name, value, ts).as_slice()) {
+        Ok(()) => Ok(()),
+        Err(Failed) => Err(WriteFault),
+    }
+}
+
+/// Writes the two lines of a counter.
+pub(crate) fn write_counter<K: Sink>(
+    key: &[u8],
+    count: Sum,
+    rate: Sum,
+    ts: u64,
+    sink: &mut K,
+) -> Result<(), WriteFault>
+    requires { length key.now ≤ 255 }
+    ensures ok { OnOk result
+        (K.written sink.new ≡ appended (K.written sink.old)
+        (counter_text ts key.now count.0 rate.0)) }
+    ensures failed { OnErr result (Rose (K.faults sink.old) (K.faults sink.new)) }
+    ensures front { OnErr result
+        (AppendsFront (K.written sink.old)
+        (counter_text ts key.now count.0 rate.0) (K.written sink.new)) }
+    ensures faults_stay { K.faults sink.old ≤ K.faults sink.new }
+    ensures address_stays { K.opened_at sink.new ≡ K.opened_at sink.old }
+{
+    write_line(b"stats.", key, rate, ts, sink)?;
+    write_line(b"stats_counts.", key, count, ts, sink)
+}

@@ -1,0 +1,64 @@
+ghost use Rattle.std.specs.Prelude.{◌≡◌, ◌*◌, ◌≤◌, length, OnOk, OnErr, pos};
+ghost use Rattle.sd_model.specs.Outside.{Rose, appended};
+ghost use Rattle.sd_outside.specs.Write.{AppendsFront};
+ghost use Rattle.sd_record.specs.Record.{record_view};
+ghost use Rattle.sd_graphite.specs.Texts.{own_text, tail_text};
+
+use crate::line::{write_counter, write_line};
+use sd_decimal::{Sum, per_second};
+use sd_outside::{Sink, WriteFault};
+use sd_record::Record;
+
+/// A whole number, in millionths.
+fn whole(n: u64) -> Sum
+    ensures { result.0 ≡ pos (n * 1000000) }
+{
+    Sum(i128::from(n) * 1_000_000)
+}
+
+/// Writes the lines of one of the server's own counters.
+fn write_own_counter<K: Sink>(
+    key: &[u8],
+    number: u64,
+    rec: &Record<'_>,
+    sink: &mut K,
+) -> Result<(), WriteFault>
+    requires { length key.now ≤ 255 }
+    ensures ok { OnOk result
+        (K.written sink.new ≡ appended (K.written sink.old)
+        (own_text (record_view rec.now) key.now number)) }
+    ensures failed { OnErr result (Rose (K.faults sink.old) (K.faults sink.new)) }
+    ensures front { OnErr result
+        (AppendsFront (K.written sink.old)
+        (own_text (record_view rec.now) key.now number) (K.written sink.new)) }
+    ensures faults_stay { K.faults sink.old ≤ K.faults sink.new }
+    ensures address_stays { K.opened_at sink.new ≡ K.opened_at sink.old }
+{
+    let count = whole(number);
+    let rate = per_second(count, rec.interval_ms());
+    write_counter(key, count, rate, rec.ts(), sink)
+}
+
+/// Writes the lines at the end of a record.
+pub(crate) fn write_tail<K: Sink>(rec: &Record<'_>, sink: &mut K) -> Result<(), WriteFault>
+    ensures ok { OnOk result
+        (K.written sink.new ≡ appended (K.written sink.old) (tail_text (record_view rec.now))) }
+    ensures failed { OnErr result (Rose (K.faults sink.old) (K.faults sink.new)) }
+    ensures front { OnErr result
+        (AppendsFront (K.written sink.old) (tail_text (record_view rec.now)) (K.written sink.new)) }
+    ensures faults_stay { K.faults sink.old ≤ K.faults sink.new }
+    ensures address_stays { K.opened_at sink.new ≡ K.opened_at sink.old }
+{
+    let tally = rec.tally();
+    write_own_counter(b"statsd.bad_lines_seen", tally.bad, rec, sink)?;
+    write_own_counter(b"statsd.packets_received", tally.packets, rec, sink)?;
+    write_own_counter(b"statsd.metrics_received", tally.lines, rec, sink)?;
+    write_own_counter(b"statsd.samples_dropped", tally.dropped, rec, sink)?;
+    write_line(
+        b"statsd.",
+        b"numStats",
+        whole(rec.rows() as u64),
+        rec.ts(),
+        sink,
+    )
+}

@@ -1,0 +1,86 @@
+-- What the program answers to its words, and what was done by then.
+use Rattle.std.specs.Prelude.{◌≡◌, ◌≢◌, ◌⊎◌, ⊥, ℕ, List, [], Option, Some, None, IfSome}
+use Rattle.sd_model.specs.Outside.{Rose, IsAtEnd}
+use Rattle.sd_model.specs.Run.{Seen, End, Complete, NotBuilt, ReadFailed, WriteFailed, WornOut, EndsAs}
+use Rattle.sd_model.specs.Words.{Form, Replay, form}
+
+-- an object that is opened
+pub data Part : Type 0 where
+  Settings : Part
+  Script : Part
+  Graphite : Part
+
+-- How the program answers: all was done; no memory was left; the words are of no form; an object couldn't be
+-- opened; a read failed; the output failed; no built record stands at this place, or, at 0, the settings have
+-- a byte; as many records were carried out as there may be.
+pub data Answer : Type 0 where
+  Done : Answer
+  NoMemory : Answer
+  NoForm : Answer
+  NotOpened : (part : Part) → Answer
+  NotRead : (part : Part) → Answer
+  NotWritten : Answer
+  Unbuilt : (at : ℕ) → Answer
+  Worn : (turns : ℕ) → Answer
+
+-- what the settings have left and how often they failed, and the same of the objects of a replay
+pub record Objects : Type 0 where
+  pub settings : Option (List ℕ)
+  pub settings_faults : ℕ
+  pub seen : Seen
+
+-- the words ask for a replay
+pub record AsksForReplay (words : List (List ℕ)) : Type 0 where
+  pub settings : List ℕ
+  pub script : List ℕ
+  pub form : form words ≡ Some (Replay settings script)
+
+-- what the objects of a replay have and were given is as it was
+pub record SameContent (old new : Seen) : Type 0 where
+  pub script : new.script ≡ old.script
+  pub graphite : new.graphite ≡ old.graphite
+  pub output : new.output ≡ old.output
+
+-- the settings were opened and read, and have no byte
+abbrev pub AreEmpty : Objects → Type 0
+AreEmpty old = IsAtEnd old.settings
+
+-- the settings have a byte, which is known where they tell what they have left
+abbrev pub AreNotEmpty : Objects → Type 0
+AreNotEmpty old = IfSome old.settings (λ bytes. bytes ≢ [])
+
+-- the settings were empty, and the script was carried out until this end
+pub record Ran (words : List (List ℕ)) (old new : Objects) (end : End) : Type 0 where
+  pub asked : AsksForReplay words
+  pub settings : AreEmpty old
+  pub ends : EndsAs old.seen new.seen end
+
+-- no object of a replay was used, and the settings ended it
+pub record Stopped (words : List (List ℕ)) (old new : Objects) (cause : Type 0) : Type 0 where
+  pub asked : AsksForReplay words
+  pub cause : cause
+  pub unused : new.seen ≡ old.seen
+
+-- the settings were empty, and an object of the replay couldn't be opened
+pub record Refused (words : List (List ℕ)) (old new : Objects) (cause : Type 0) : Type 0 where
+  pub asked : AsksForReplay words
+  pub settings : AreEmpty old
+  pub cause : cause
+  pub content : SameContent old.seen new.seen
+  pub output_faults : new.seen.output_faults ≡ old.seen.output_faults
+
+-- What was done where the program answers so.
+abbrev pub Answers : List (List ℕ) → Objects → Objects → Answer → Type 0
+Answers words old new NoForm = (form words ≡ None) × (new ≡ old)
+Answers words old new NoMemory = AsksForReplay words × SameContent old.seen new.seen
+Answers words old new (NotOpened Settings) = Stopped words old new (Rose old.settings_faults new.settings_faults)
+Answers words old new (NotRead Settings) = Stopped words old new (Rose old.settings_faults new.settings_faults)
+Answers words old new (Unbuilt at) = (Stopped words old new (AreNotEmpty old) × (at ≡ 0)) ⊎ Ran words old new (NotBuilt at)
+Answers words old new (NotOpened Script) =
+    Refused words old new (Rose old.seen.script_faults new.seen.script_faults) × (new.seen.graphite_faults ≡ old.seen.graphite_faults)
+Answers words old new (NotOpened Graphite) = Refused words old new (Rose old.seen.graphite_faults new.seen.graphite_faults)
+Answers words old new (NotRead Script) = Ran words old new ReadFailed
+Answers words old new (NotRead Graphite) = ⊥
+Answers words old new NotWritten = Ran words old new WriteFailed
+Answers words old new (Worn turns) = Ran words old new (WornOut turns)
+Answers words old new Done = Ran words old new Complete

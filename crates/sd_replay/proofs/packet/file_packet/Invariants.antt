@@ -1,0 +1,20 @@
+use Rattle.std.proofs.Common.{◌≡◌, ℕ, ◌+◌, ◌≤◌, List, length}
+use Rattle.std.specs.Prelude.{filter_map}
+use Rattle.sd_model.specs.Lines.{pieces, samples_of, sample_of}
+use Rattle.sd_model.specs.Replay.{filed}
+use Rattle.sd_shard.specs.Shard.{Standing, state_of}
+use Rattle.sd_replay.proofs.packet.file_packet.Given as goal
+
+-- the samples filed so far and those that are left make the whole
+pub record Files (first now : Standing) (who lines dropped : ℕ) (left : List (List ℕ)) (datagram : List ℕ) : Type 0 where
+  pub filing : filed first.table.limits who (record { shard = state_of now; dropped = dropped }) (filter_map sample_of left) ≡ filed first.table.limits who (record { shard = state_of first; dropped = 0 }) (samples_of datagram)
+  pub count : lines + length left ≡ length (pieces datagram)
+  pub few : dropped ≤ lines
+  pub limits : now.table.limits ≡ first.table.limits
+  pub policy : now.policy ≡ first.policy
+
+abbrev pub invariant-loop-piece : goal.invariant-loop-piece
+invariant-loop-piece l = Files l.fn.shard l.shard l.who.0 l.filed.lines l.filed.dropped l.lines l.datagram
+
+abbrev pub decreases-loop-piece : goal.decreases-loop-piece
+decreases-loop-piece l = length l.lines

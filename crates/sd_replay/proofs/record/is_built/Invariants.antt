@@ -1,0 +1,13 @@
+use Rattle.std.proofs.Common.{◌↔◌, length}
+use Rattle.std.specs.Prelude.{IsSome}
+use Rattle.std.specs.List.{AllByRecursion}
+use Rattle.sd_model.specs.Lines.{sample_of}
+use Rattle.sd_replay.specs.Found.{HasBuiltPieces}
+use Rattle.sd_replay.proofs.record.is_built.Given as goal
+
+-- the pieces so far are built
+abbrev pub invariant-loop-piece : goal.invariant-loop-piece
+invariant-loop-piece l = HasBuiltPieces l.datagram ↔ AllByRecursion (λ piece. IsSome (sample_of piece)) l.lines
+
+abbrev pub decreases-loop-piece : goal.decreases-loop-piece
+decreases-loop-piece l = length l.lines

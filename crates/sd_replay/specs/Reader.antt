@@ -1,0 +1,22 @@
+-- The reader of the code, as the definitions have it. The datagram that was read last stands at the front of
+-- the bytes ahead, with its newline.
+use Rattle.std.specs.Prelude.{ℕ, ◌+◌, ◌<◌, List, [], Option, None, Some, length, take, drop}
+use Rattle.std.specs.Option.{ForSome}
+use Rattle.sd_replay.specs.Ahead.{held_in}
+use Rattle.sd_replay.specs.Reading.{Reading}
+use Rattle.sd_replay.specs.declared.reader.Reader.TheInside.{Inside}
+
+abbrev pub datagram_of : Option ℕ → List ℕ → List ℕ
+datagram_of None held = []
+datagram_of (Some len) held = take len held
+
+abbrev pub pending_of : Option ℕ → List ℕ → List ℕ
+pending_of None held = held
+pending_of (Some len) held = drop (len + 1) held
+
+abbrev pub reading_of : Inside → Reading
+reading_of r = record { at = r.at; datagram = datagram_of r.packet (held_in r.ahead); pending = pending_of r.packet (held_in r.ahead) }
+
+-- the datagram and its newline are held
+abbrev pub IsReader : Inside → Type 0
+IsReader r = ForSome r.packet (λ len. len < length (held_in r.ahead))

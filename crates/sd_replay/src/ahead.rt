@@ -1,0 +1,167 @@
+ghost use Rattle.std.specs.Prelude.{◌≡◌, ◌≤◌, vec_len, IfOk};
+ghost use Rattle.sd_replay.specs.declared.ahead.TheConstants.{ROOM};
+
+use crate::fields::first_place;
+use crate::head::LONGEST;
+use sd_outside::{Failed, Source};
+use std::alloc::{AllocError, Global};
+
+/// The line of a record, with its newline, has fewer bytes than this.
+pub(crate) const LINE: usize = 40;
+
+/// No record has more bytes than this.
+const RECORD: usize = LINE + LONGEST + 1;
+
+/// How many bytes are held at most. Each byte is moved at most once where records are long.
+const ROOM: usize = 2 * RECORD;
+
+/// Bytes that were read ahead of what is asked for, in room that is taken once.
+#[derive(Drop)]
+pub(crate) struct Ahead {
+    room: Vec<u8>,
+    start: usize,
+    end: usize,
+    ghost full: { vec_len room ≡ ROOM },
+    ghost ordered: { start ≤ end },
+    ghost inside: { end ≤ ROOM },
+}
+
+/// That many bytes, all 0.
+fn zeros(alloc: Global, len: usize) -> Result<Vec<u8>, AllocError>
+    ensures { IfOk result (λ v. vec_len v ≡ len) }
+{
+    Vec::from_elem(alloc, 0, len)
+}
+
+impl Ahead {
+    ghost use Rattle.std.specs.Prelude.{◌≡◌, ◌≢◌, ℕ, ◌+◌, ◌<◌, ◌≤◌, [], List, drop, length, take, slice_index, IfOk, OnOk, OnErr, IsTrue, MatchBool, MatchOption, IfSome};
+    ghost use Rattle.sd_model.specs.Outside.{Rose, IsAtEnd};
+    ghost use Rattle.sd_replay.specs.Fields.{Lacks, IsFirstPlace};
+    ghost use Rattle.sd_replay.specs.Ahead.{held_in, left_behind, Grows, GrowsBy};
+    ghost use Rattle.sd_replay.specs.Undecided.{IsPartOfLine};
+
+    /// Takes the room, which holds no bytes yet.
+    ///
+    /// # Errors
+    ///
+    /// Where no memory is left for the room.
+    pub(crate) fn open(alloc: Global) -> Result<Ahead, AllocError>
+        ensures { IfOk result (λ a. held_in a ≡ []) }
+    {
+        Ok(Ahead {
+            room: zeros(alloc, ROOM)?,
+            start: 0,
+            end: 0,
+        })
+    }
+
+    /// The bytes that it holds.
+    pub(crate) fn bytes(&self) -> &[u8]
+        ensures { result.now ≡ held_in self.now }
+    {
+        &self.room[self.start..self.end]
+    }
+
+    /// Lets bytes at the front go.
+    pub(crate) fn take(&mut self, count: usize)
+        requires { count ≤ length (held_in self.old) }
+        ensures { held_in self.new ≡ drop count (held_in self.old) }
+    {
+        self.start += count;
+    }
+
+    /// Moves the bytes to the front of the room.
+    fn move_to_front(&mut self)
+        ensures bytes { held_in self.new ≡ held_in self.old }
+        ensures front { self.new.start ≡ 0 }
+    {
+        self.room.copy_within(self.start..self.end, 0);
+        self.end -= self.start;
+        self.start = 0;
+    }
+
+    /// Asks the source once for what follows the bytes, and answers how many came. 0 is the end.
+    fn ask<R: Source>(&mut self, script: &mut R) -> Result<usize, Failed>
+        requires { self.old.end < ROOM }
+        ensures grows { IfOk result (λ n. GrowsBy n (held_in self.old) (held_in self.new)) }
+        ensures left_stays { left_behind (held_in self.new) (R.remaining script.new)
+            ≡ left_behind (held_in self.old) (R.remaining script.old) }
+        ensures end { IfOk result (λ n. n ≡ 0 → IsAtEnd (R.remaining script.new)) }
+        ensures kept { OnErr result (held_in self.new ≡ held_in self.old) }
+        ensures failed { OnErr result (Rose (R.faults script.old) (R.faults script.new)) }
+        ensures faults_stay { R.faults script.old ≤ R.faults script.new }
+        ensures address_stays { R.opened_at script.new ≡ R.opened_at script.old }
+    {
+        let count = script.read(&mut self.room[self.end..])?;
+        self.end += count;
+        Ok(count)
+    }
+
+    /// The same, where that many bytes in all are needed, for which room is made at the end.
+    fn read<R: Source>(&mut self, script: &mut R, need: usize) -> Result<usize, Failed>
+        requires more { length (held_in self.old) < need }
+        requires room { need ≤ ROOM }
+        ensures grows { IfOk result (λ n. GrowsBy n (held_in self.old) (held_in self.new)) }
+        ensures left_stays { left_behind (held_in self.new) (R.remaining script.new)
+            ≡ left_behind (held_in self.old) (R.remaining script.old) }
+        ensures end { IfOk result (λ n. n ≡ 0 → IsAtEnd (R.remaining script.new)) }
+        ensures kept { OnErr result (held_in self.new ≡ held_in self.old) }
+        ensures failed { OnErr result (Rose (R.faults script.old) (R.faults script.new)) }
+        ensures faults_stay { R.faults script.old ≤ R.faults script.new }
+        ensures address_stays { R.opened_at script.new ≡ R.opened_at script.old }
+    {
+        if ROOM - self.start < need {
+            self.move_to_front();
+        }
+        self.ask(script)
+    }
+
+    /// Reads until that many bytes are held or the source is at its end. Answers whether they are held.
+    pub(crate) fn hold<R: Source>(&mut self, script: &mut R, need: usize) -> Result<bool, Failed>
+        requires { need ≤ ROOM }
+        ensures held { IfOk result (λ b. MatchBool b (need ≤ length (held_in self.new))
+            (IfSome (left_behind (held_in self.new) (R.remaining script.new)) (λ bytes. length bytes < need))) }
+        ensures asked { OnErr result (length (held_in self.new) < need) }
+        ensures grows { Grows (held_in self.old) (held_in self.new) }
+        ensures left_stays { left_behind (held_in self.new) (R.remaining script.new)
+            ≡ left_behind (held_in self.old) (R.remaining script.old) }
+        ensures failed { OnErr result (Rose (R.faults script.old) (R.faults script.new)) }
+        ensures faults_stay { R.faults script.old ≤ R.faults script.new }
+        ensures address_stays { R.opened_at script.new ≡ R.opened_at script.old }
+    {
+        while self.bytes().len() < need {
+            if self.read(script, need)? == 0 {
+                return Ok(false);
+            }
+        }
+        Ok(true)
+    }
+
+    /// Reads until a newline stands among the first bytes, or until they are as many as no line has, or until
+    /// the source is at its end. Answers the newline's place, where there is one.
+    pub(crate) fn hold_line<R: Source>(&mut self, script: &mut R) -> Result<Option<usize>, Failed>
+        ensures line { IfOk result (λ place. MatchOption place
+            (IfSome (left_behind (held_in self.new) (R.remaining script.new)) (λ bytes. Lacks 10 (take LINE bytes)))
+            (IsFirstPlace 10 (take LINE (held_in self.new)))) }
+        ensures asked { OnErr result (IsPartOfLine (held_in self.new)) }
+        ensures left_stays { left_behind (held_in self.new) (R.remaining script.new)
+            ≡ left_behind (held_in self.old) (R.remaining script.old) }
+        ensures failed { OnErr result (Rose (R.faults script.old) (R.faults script.new)) }
+        ensures faults_stay { R.faults script.old ≤ R.faults script.new }
+        ensures address_stays { R.opened_at script.new ≡ R.opened_at script.old }
+    {
+        loop {
+            let bytes = self.bytes();
+            let front = &bytes[..LINE.min(bytes.len())];
+            if let Some(place) = first_place(front, b'\n') {
+                return Ok(Some(place));
+            }
+            if front.len() == LINE {
+                return Ok(None);
+            }
+            if self.read(script, LINE)? == 0 {
+                return Ok(None);
+            }
+        }
+    }
+}

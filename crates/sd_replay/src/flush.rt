@@ -1,0 +1,68 @@
+ghost use Rattle.std.specs.Prelude.{◌≡◌, ◌≢◌, ◌≤◌, [], ◌∷◌};
+ghost use Rattle.sd_model.specs.Desk.{NotUsed, with_round};
+ghost use Rattle.sd_model.specs.Graphite.{graphite_text};
+ghost use Rattle.sd_model.specs.Outside.{Rose};
+ghost use Rattle.sd_model.specs.Record.{record_of};
+ghost use Rattle.sd_model.specs.Replay.{AfterMark};
+ghost use Rattle.sd_model.specs.Shard.{after_swap, table_of};
+ghost use Rattle.sd_shard.specs.Shard.{state_of};
+ghost use Rattle.sd_replay.specs.Marks.{mark_of, marks_of};
+ghost use Rattle.sd_replay.specs.Room.{IsSpareFor};
+
+use crate::deliver::deliver;
+use crate::desk::{Desk, Mark, RoundMarks};
+use crate::room::INTERVAL_MS;
+use sd_outside::Backend;
+use sd_record::{Record, RecordScratch};
+use sd_shard::{Shard, Table};
+
+/// What a flush left: its marks, and an empty table for the next one.
+#[derive(Drop)]
+pub(crate) struct Flushed {
+    pub marks: RoundMarks,
+    pub spare: Table,
+}
+
+/// Swaps the shard, takes the tally, and gives Graphite the record's text.
+pub(crate) fn flush<B: Backend>(
+    shard: &mut Shard,
+    spare: Table,
+    desk: &mut Desk,
+    scratch: &mut RecordScratch,
+    ts: u64,
+    back: &mut B,
+) -> Flushed
+    requires spare { IsSpareFor shard.old.table.limits spare }
+    requires room { shard.old.table.limits.rows ≤ scratch.old.room }
+    ensures state { state_of shard.new ≡ after_swap shard.old.policy (state_of shard.old) }
+    ensures limits { shard.new.table.limits ≡ shard.old.table.limits }
+    ensures policy { shard.new.policy ≡ shard.old.policy }
+    ensures desk { desk.new ≡ with_round desk.old (marks_of result.marks) }
+    ensures spare { IsSpareFor shard.old.table.limits result.spare }
+    ensures room { scratch.new.room ≡ scratch.old.room }
+    ensures console { result.marks.console ≡ Mark.NotUsed }
+    ensures used { mark_of result.marks.graphite ≢ NotUsed }
+    ensures text { AfterMark (mark_of result.marks.graphite)
+        (graphite_text (record_of 10000 (table_of (state_of shard.old) ∷ []) (desk.old).tally ts))
+        (B.written back.old) (B.written back.new) }
+    ensures fault { result.marks.graphite ≡ Mark.Fault → Rose (B.faults back.old) (B.faults back.new) }
+    ensures faults_stay { B.faults back.old ≤ B.faults back.new }
+    ensures address_stays { B.opened_at back.new ≡ B.opened_at back.old }
+{
+    let mut table = shard.swap(spare);
+    let tally = desk.take();
+    let graphite = {
+        let record = Record::over(&table, INTERVAL_MS, scratch, tally, ts);
+        deliver(&record, back)
+    };
+    let marks = RoundMarks {
+        graphite,
+        console: Mark::NotUsed,
+    };
+    desk.mark(marks);
+    table.clear();
+    Flushed {
+        marks,
+        spare: table,
+    }
+}

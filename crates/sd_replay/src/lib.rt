@@ -1,0 +1,24 @@
+//! Scripts: the records of a script, read one after another and carried out on a shard.
+#![tactic(auto)]
+
+mod ahead;
+mod deliver;
+mod desk;
+mod fields;
+mod flush;
+mod head;
+mod packet;
+mod reader;
+mod record;
+mod room;
+mod run;
+mod totals;
+
+pub use desk::{Mark, RoundMarks};
+pub use reader::{Item, Reader};
+pub use room::ReplayRoom;
+pub use run::{ReplayEnd, replay};
+pub use totals::Totals;
+
+#[cfg(test)]
+mod tests;

@@ -1,0 +1,54 @@
+ghost use Rattle.std.specs.Prelude.{◌≡◌, ◌≤◌, length};
+ghost use Rattle.sd_model.specs.Lines.{pieces, samples_of};
+ghost use Rattle.sd_model.specs.Shard.{refusal, after_sample};
+ghost use Rattle.sd_model.specs.Replay.{Filing, filed, drop_of};
+ghost use Rattle.sd_shard.specs.Shard.{state_of};
+
+use sd_line::{Lines, Sample};
+use sd_shard::{Placed, Shard, Who};
+
+/// What became of a datagram: how many pieces it had, and how many samples were dropped.
+#[derive(Clone, Copy, Debug, PartialEq, Eq)]
+pub(crate) struct Filed {
+    pub lines: u64,
+    pub dropped: u64,
+}
+
+/// Files a sample, and answers how many were dropped: it, or none.
+fn file_sample(shard: &mut Shard, who: Who, s: &Sample) -> u64
+    ensures dropped { result ≡ drop_of (refusal shard.old.table.limits (state_of shard.old) s.now) }
+    ensures state { state_of shard.new ≡ after_sample (state_of shard.old) who.0 s.now
+        (refusal shard.old.table.limits (state_of shard.old) s.now) }
+    ensures limits { shard.new.table.limits ≡ shard.old.table.limits }
+    ensures policy { shard.new.policy ≡ shard.old.policy }
+{
+    match shard.sample(who, s) {
+        Placed::Taken { .. } => 0,
+        Placed::Dropped(_) => 1,
+    }
+}
+
+/// Files the samples of a datagram, in order.
+pub(crate) fn file_packet(shard: &mut Shard, who: Who, datagram: &[u8]) -> Filed
+    requires { length datagram.now ≤ 65507 }
+    ensures state { state_of shard.new ≡ (filed shard.old.table.limits who.0 (record { shard = state_of shard.old; dropped = 0 }) (samples_of datagram.now)).shard }
+    ensures dropped { result.dropped ≡ (filed shard.old.table.limits who.0 (record { shard = state_of shard.old; dropped = 0 }) (samples_of datagram.now)).dropped }
+    ensures lines { result.lines ≡ length (pieces datagram.now) }
+    ensures few { result.dropped ≤ result.lines }
+    ensures small { result.lines ≤ 65508 }
+    ensures limits { shard.new.table.limits ≡ shard.old.table.limits }
+    ensures policy { shard.new.policy ≡ shard.old.policy }
+{
+    let mut lines = Lines::new(datagram);
+    let mut filed = Filed {
+        lines: 0,
+        dropped: 0,
+    };
+    while let Some(piece) = lines.next() {
+        filed.lines += 1;
+        if let Ok(sample) = piece {
+            filed.dropped += file_sample(shard, who, &sample);
+        }
+    }
+    filed
+}

@@ -1,0 +1,97 @@
+ghost use Rattle.std.specs.Prelude.{◌≡◌, ℕ, ◌+◌, ◌<◌, ◌≤◌, ◌↔◌, length, IsTrue, MatchBool, MatchOption, IfSome, IfOk, OnOk, OnErr};
+ghost use Rattle.sd_model.specs.Outside.{Rose};
+ghost use Rattle.sd_model.specs.Script.{BeginsBuilt};
+ghost use Rattle.sd_replay.specs.Ahead.{held_in, left_behind, Grows};
+ghost use Rattle.sd_replay.specs.Found.{HasBuiltPieces, HasDatagram, HasBody, IsCutShort, BeginsWith};
+ghost use Rattle.sd_replay.specs.Head.{IsLegal};
+ghost use Rattle.sd_replay.specs.Undecided.{IsUndecided};
+
+use crate::ahead::{Ahead, LINE};
+use crate::head::{Head, parse_line};
+use sd_line::Lines;
+use sd_outside::{Failed, Source};
+
+/// A record that stands at the front of bytes.
+#[derive(Clone, Copy, Debug)]
+pub(crate) struct Found {
+    pub head: Head,
+    /// How many bytes its line has, with the newline.
+    pub line: usize,
+}
+
+/// Whether each piece of a datagram is built.
+fn is_built(datagram: &[u8]) -> bool
+    ensures { IsTrue result ↔ HasBuiltPieces datagram.now }
+{
+    let mut lines = Lines::new(datagram);
+    while let Some(piece) = lines.next() {
+        if piece.is_err() {
+            return false;
+        }
+    }
+    true
+}
+
+/// Whether the datagram of that many bytes that stands at a place is built, and a newline stands behind it.
+fn has_datagram(bytes: &[u8], from: usize, len: usize) -> bool
+    requires { from + len < length bytes.now }
+    ensures { IsTrue result ↔ HasDatagram from len bytes.now }
+{
+    bytes[from + len] == b'\n' && is_built(&bytes[from..from + len])
+}
+
+/// Reads on until what follows the line of a head is held, and answers whether it is right and built.
+fn body_follows<R: Source>(
+    ahead: &mut Ahead,
+    script: &mut R,
+    head: Head,
+    line: usize,
+) -> Result<bool, Failed>
+    requires legal { IsLegal head }
+    requires line { line ≤ LINE }
+    ensures body { IfOk result (λ b. MatchBool b (HasBody head line (held_in ahead.new))
+        (IfSome (left_behind (held_in ahead.new) (R.remaining script.new)) (λ bytes. ¬ HasBody head line bytes))) }
+    ensures asked { OnErr result (IsCutShort head line (held_in ahead.new)) }
+    ensures grows { Grows (held_in ahead.old) (held_in ahead.new) }
+    ensures left_stays { left_behind (held_in ahead.new) (R.remaining script.new)
+        ≡ left_behind (held_in ahead.old) (R.remaining script.old) }
+    ensures failed { OnErr result (Rose (R.faults script.old) (R.faults script.new)) }
+    ensures faults_stay { R.faults script.old ≤ R.faults script.new }
+    ensures address_stays { R.opened_at script.new ≡ R.opened_at script.old }
+{
+    let Head::Packet { len, .. } = head else {
+        return Ok(true);
+    };
+    if !ahead.hold(script, line + len + 1)? {
+        return Ok(false);
+    }
+    Ok(has_datagram(ahead.bytes(), line, len))
+}
+
+/// The record that stands next, where a built one does. It stays ahead.
+pub(crate) fn next_record<R: Source>(
+    ahead: &mut Ahead,
+    script: &mut R,
+) -> Result<Option<Found>, Failed>
+    ensures found { IfOk result (λ found. MatchOption found
+        (IfSome (left_behind (held_in ahead.new) (R.remaining script.new)) (λ bytes. ¬ BeginsBuilt bytes))
+        (λ f. BeginsWith f (held_in ahead.new))) }
+    ensures asked { OnErr result (IsUndecided (held_in ahead.new)) }
+    ensures left_stays { left_behind (held_in ahead.new) (R.remaining script.new)
+        ≡ left_behind (held_in ahead.old) (R.remaining script.old) }
+    ensures failed { OnErr result (Rose (R.faults script.old) (R.faults script.new)) }
+    ensures faults_stay { R.faults script.old ≤ R.faults script.new }
+    ensures address_stays { R.opened_at script.new ≡ R.opened_at script.old }
+{
+    let Some(end) = ahead.hold_line(script)? else {
+        return Ok(None);
+    };
+    let Some(head) = parse_line(&ahead.bytes()[..end]) else {
+        return Ok(None);
+    };
+    let line = end + 1;
+    if !body_follows(ahead, script, head, line)? {
+        return Ok(None);
+    }
+    Ok(Some(Found { head, line }))
+}

@@ -1,0 +1,148 @@
+ghost use Rattle.std.specs.Prelude.{◌≡◌, ◌≤◌, length, OnOk, OnErr, IfOk};
+ghost use Rattle.sd_model.specs.Desk.{with_tally};
+ghost use Rattle.sd_model.specs.Outside.{Rose, appended};
+ghost use Rattle.sd_model.specs.Replay.{packet_filing, packet_tally, totals_text};
+ghost use Rattle.sd_model.specs.Run.{EndsAs};
+ghost use Rattle.sd_outside.specs.Write.{AppendsFront};
+ghost use Rattle.sd_shard.specs.Shard.{state_of};
+ghost use Rattle.sd_replay.specs.Ends.{end_of, AnswersTotals};
+ghost use Rattle.sd_replay.specs.RoomInside.{IsFresh};
+ghost use Rattle.sd_replay.specs.Totals.{totals_lines};
+
+use crate::desk::Desk;
+use crate::flush::flush;
+use crate::packet::file_packet;
+use crate::reader::Item;
+use crate::room::ReplayRoom;
+use crate::totals::{Totals, write_totals};
+use sd_outside::{Backend, Sink, Source, WriteFault};
+use sd_record::Tally;
+use sd_shard::{Shard, Who};
+
+/// How many records a replay carries out at most.
+const MOST_TURNS: u64 = 1 << 62;
+
+/// How a replay ended.
+#[derive(Clone, Copy, Debug, PartialEq, Eq)]
+pub enum ReplayEnd {
+    /// The script was read up to its end, and the totals were written.
+    Ok(Totals),
+    /// From this place on the script doesn't begin with a record that is built.
+    Unbuilt { at: u64 },
+    /// A read of the script failed.
+    ReadFault,
+    /// The totals couldn't be written whole.
+    WriteFault,
+    /// So many records were carried out, the most that there may be.
+    Worn { turns: u64 },
+}
+
+/// The totals of a shard and a desk.
+fn totals_of(shard: &Shard, desk: &Desk) -> Totals
+    ensures { totals_lines result ≡ totals_text (record { shard = state_of shard.now; desk = desk.now }) }
+{
+    let book = shard.book();
+    let facts = desk.facts();
+    Totals {
+        packets: u128::from(facts.totals.packets),
+        lines: u128::from(facts.totals.lines),
+        bad: u128::from(facts.totals.bad),
+        taken: u128::from(book.taken),
+        dropped: u128::from(book.dropped),
+        flushed: u128::from(book.flushed),
+        held: u128::from(book.held),
+        deleted: u128::from(book.deleted),
+        rounds: u128::from(facts.rounds),
+        graphite_faults: u128::from(facts.graphite_faults),
+        console_faults: u128::from(facts.console_faults),
+        repeater_faults: 0,
+        admin_faults: 0,
+    }
+}
+
+/// Files the samples of a datagram, and counts it.
+fn play_packet(shard: &mut Shard, desk: &mut Desk, who: u16, datagram: &[u8])
+    requires { length datagram.now ≤ 65507 }
+    ensures state { state_of shard.new ≡ (packet_filing shard.old.table.limits (state_of shard.old) who datagram.now).shard }
+    ensures desk { desk.new ≡ with_tally desk.old (packet_tally datagram.now (packet_filing shard.old.table.limits (state_of shard.old) who datagram.now).dropped) }
+    ensures limits { shard.new.table.limits ≡ shard.old.table.limits }
+    ensures policy { shard.new.policy ≡ shard.old.policy }
+{
+    let filed = file_packet(shard, Who(who), datagram);
+    desk.add(Tally {
+        packets: 1,
+        lines: filed.lines,
+        bad: 0,
+        dropped: filed.dropped,
+    });
+}
+
+/// Writes the totals of a shard and a desk, and answers them.
+///
+/// # Errors
+///
+/// `WriteFault` where the output failed. Then a front of their text was written.
+fn finish<O: Sink>(shard: &Shard, desk: &Desk, output: &mut O) -> Result<Totals, WriteFault>
+    ensures ok { OnOk result (O.written output.new ≡ appended (O.written output.old) (totals_text (record { shard = state_of shard.now; desk = desk.now }))) }
+    ensures totals { IfOk result (λ totals. O.written output.new ≡ appended (O.written output.old) (totals_lines totals)) }
+    ensures failed { OnErr result (Rose (O.faults output.old) (O.faults output.new)) }
+    ensures front { OnErr result (AppendsFront (O.written output.old) (totals_text (record { shard = state_of shard.now; desk = desk.now })) (O.written output.new)) }
+    ensures faults_stay { O.faults output.old ≤ O.faults output.new }
+    ensures address_stays { O.opened_at output.new ≡ O.opened_at output.old }
+{
+    let totals = totals_of(shard, desk);
+    write_totals(&totals, output)?;
+    Ok(totals)
+}
+
+/// Carries out a script, record by record, in a room that is fresh. Graphite gets each flush's text, and the
+/// output gets the totals at the end.
+pub fn replay<R: Source, O: Sink, B: Backend>(
+    room: ReplayRoom,
+    script: &mut R,
+    output: &mut O,
+    graphite: &mut B,
+) -> ReplayEnd
+    requires { IsFresh room }
+    ensures end { EndsAs
+        (record { script = R.remaining script.old; script_faults = R.faults script.old; graphite = B.written graphite.old;
+            graphite_faults = B.faults graphite.old; output = O.written output.old; output_faults = O.faults output.old })
+        (record { script = R.remaining script.new; script_faults = R.faults script.new; graphite = B.written graphite.new;
+            graphite_faults = B.faults graphite.new; output = O.written output.new; output_faults = O.faults output.new })
+        (end_of result) }
+    ensures totals { AnswersTotals (O.written output.old) (O.written output.new) result }
+    ensures script_faults_stay { R.faults script.old ≤ R.faults script.new }
+    ensures output_faults_stay { O.faults output.old ≤ O.faults output.new }
+    ensures graphite_faults_stay { B.faults graphite.old ≤ B.faults graphite.new }
+    ensures script_address_stays { R.opened_at script.new ≡ R.opened_at script.old }
+    ensures output_address_stays { O.opened_at output.new ≡ O.opened_at output.old }
+    ensures graphite_address_stays { B.opened_at graphite.new ≡ B.opened_at graphite.old }
+{
+    let ReplayRoom {
+        mut shard,
+        mut spare,
+        mut desk,
+        mut scratch,
+        mut reader,
+    } = room;
+    for _turn in 0..MOST_TURNS {
+        let Ok(item) = reader.next(script) else {
+            return ReplayEnd::ReadFault;
+        };
+        match item {
+            Item::Packet { who, .. } => play_packet(&mut shard, &mut desk, who, reader.datagram()),
+            Item::Flush { ts } => {
+                let flushed = flush(&mut shard, spare, &mut desk, &mut scratch, ts, graphite);
+                spare = flushed.spare;
+            }
+            Item::End => {
+                return match finish(&shard, &desk, output) {
+                    Ok(totals) => ReplayEnd::Ok(totals),
+                    Err(WriteFault) => ReplayEnd::WriteFault,
+                };
+            }
+            Item::Unbuilt => return ReplayEnd::Unbuilt { at: reader.at() },
+        }
+    }
+    ReplayEnd::Worn { turns: MOST_TURNS }
+}

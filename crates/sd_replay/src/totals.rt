@@ -1,0 +1,78 @@
+ghost use Rattle.std.specs.Prelude.{◌≡◌, ◌+◌, ◌≤◌, ◌++◌, length, OnOk, OnErr};
+ghost use Rattle.sd_model.specs.Outside.{Rose, appended};
+ghost use Rattle.sd_model.specs.Replay.{total_line};
+ghost use Rattle.sd_outside.specs.Write.{AppendsFront};
+ghost use Rattle.sd_replay.specs.Totals.{totals_lines};
+
+use sd_decimal::{Line, write_whole};
+use sd_outside::{Sink, WriteFault, write_all};
+
+/// What a replay counted, in whole numbers.
+#[derive(Clone, Copy, Debug, PartialEq, Eq)]
+pub struct Totals {
+    pub packets: u128,
+    pub lines: u128,
+    pub bad: u128,
+    pub taken: u128,
+    pub dropped: u128,
+    pub flushed: u128,
+    pub held: u128,
+    pub deleted: u128,
+    pub rounds: u128,
+    pub graphite_faults: u128,
+    pub console_faults: u128,
+    pub repeater_faults: u128,
+    pub admin_faults: u128,
+}
+
+/// Appends a line: the name, a space, the number and a newline.
+fn push_total(name: &[u8], n: u128, line: &mut Line)
+    requires { length line.old.items + length name.now + 41 ≤ 1024 }
+    ensures text { line.new.items ≡ line.old.items ++ total_line name.now n }
+    ensures len { length line.new.items ≤ length line.old.items + length name.now + 41 }
+{
+    line.try_extend_from_slice(name).unwrap();
+    line.push(b' ');
+    write_whole(n, line);
+    line.push(b'\n');
+}
+
+/// The lines of the totals.
+fn totals_text(totals: &Totals) -> Line
+    ensures { result.items ≡ totals_lines totals.now }
+{
+    let mut line = Line::new();
+    push_total(b"packets", totals.packets, &mut line);
+    push_total(b"lines", totals.lines, &mut line);
+    push_total(b"bad", totals.bad, &mut line);
+    push_total(b"taken", totals.taken, &mut line);
+    push_total(b"dropped", totals.dropped, &mut line);
+    push_total(b"flushed", totals.flushed, &mut line);
+    push_total(b"held", totals.held, &mut line);
+    push_total(b"deleted", totals.deleted, &mut line);
+    push_total(b"rounds", totals.rounds, &mut line);
+    push_total(b"graphite_faults", totals.graphite_faults, &mut line);
+    push_total(b"console_faults", totals.console_faults, &mut line);
+    push_total(b"repeater_faults", totals.repeater_faults, &mut line);
+    push_total(b"admin_faults", totals.admin_faults, &mut line);
+    line
+}
+
+/// Writes the totals.
+///
+/// # Errors
+///
+/// `WriteFault` where the sink failed. Then a front of the text was written.
+pub(crate) fn write_totals<O: Sink>(totals: &Totals, output: &mut O) -> Result<(), WriteFault>
+    ensures ok { OnOk result (O.written output.new ≡ appended (O.written output.old) (totals_lines totals.now)) }
+    ensures failed { OnErr result (Rose (O.faults output.old) (O.faults output.new)) }
+    ensures front { OnErr result (AppendsFront (O.written output.old) (totals_lines totals.now) (O.written output.new)) }
+    ensures faults_stay { O.faults output.old ≤ O.faults output.new }
+    ensures address_stays { O.opened_at output.new ≡ O.opened_at output.old }
+{
+    let text = totals_text(totals);
+    match write_all(output, text.as_slice()) {
+        Ok(()) => Ok(()),
+        Err(_) => Err(WriteFault),
+    }
+}

@@ -1,0 +1,21 @@
+use Rattle.std.proofs.Common.{◌≡◌, ℕ, List, ◌++◌, sym, ap, ◌∙◌, append_assoc}
+use Rattle.std.specs.Prelude.{codes, decimal}
+use Rattle.sd_top.specs.Status.{reason, part_name}
+use Rattle.sd_top.specs.declared.status.Status.{Status}
+use Rattle.sd_top.proofs.status.push_reason.Goals as goal
+
+pub returns-in-OpenFault-clause-text : goal.returns-in-OpenFault-clause-text
+returns-in-OpenFault-clause-text c =
+    let out = c.args.out.now.items in
+    c.push_part-in-OpenFault.ensures ∙ ap (λ (text : List ℕ). text ++ part_name c.in-OpenFault.part) c.push_text-in-OpenFault.ensures
+    ∙ append_assoc out (codes "statsd: open fault ") (part_name c.in-OpenFault.part) ∙ ap (λ s. out ++ reason s) (sym c.in-OpenFault.is)
+
+pub returns-in-Worn-clause-text : goal.returns-in-Worn-clause-text
+returns-in-Worn-clause-text c =
+    let out = c.args.out.now.items in
+    let front = codes "statsd: worn after " in
+    let end = codes " turns" in
+    c.push_text-in-Worn-2.ensures ∙ ap (λ (text : List ℕ). text ++ end) (c.write_whole.ensures.text ∙ ap (λ (text : List ℕ). text ++ decimal c.from.result) c.push_text-in-Worn.ensures)
+    ∙ ap (λ n. ((out ++ front) ++ decimal n) ++ end) c.from.ensures
+    ∙ ap (λ (text : List ℕ). text ++ end) (append_assoc out front (decimal c.in-Worn.turns)) ∙ append_assoc out (front ++ decimal c.in-Worn.turns) end
+    ∙ ap (λ s. out ++ reason s) (sym c.in-Worn.is)
