@@ -11,7 +11,8 @@ use crate::tail::write_tail;
 use sd_outside::{Sink, WriteFault};
 use sd_record::{Record, Row};
 
-/// Writes Graphite's text of a record: two lines a counter, the server's own counters, and the number of rows.
+/// Writes Graphite's text of a record: two lines for each counter, the server's own counters, and the
+/// number of rows. No memory is taken.
 ///
 /// # Errors
 ///

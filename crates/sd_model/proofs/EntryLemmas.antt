@@ -6,7 +6,7 @@ use Rattle.std.specs.declared.cmp.Ordering.{Ordering}
 use Rattle.std.specs.declared.cmp.Ordering.TheVariants.{Less, Equal, Greater}
 use Rattle.std.specs.Ordering.{is_lt, is_eq, eq_by_cmp, ordering_reverse}
 use Rattle.std.specs.Cmp.{IsTotalOrder, eq_by_cmp_equiv}
-use Rattle.std.specs.FinMap.{FinMap, IsAntisymmetric, find, is_sorted, entries, entries_sorted, from_entries, from_sorted, get, get-entries, get-from_entries, get-from_sorted, entries-from_sorted, same_map}
+use Rattle.std.specs.FinMap.{IsAntisymmetric, find, is_sorted, entries, entries_sorted, from_entries, from_sorted, get-entries, get-from_entries, get-from_sorted, entries-from_sorted, same_map}
 use Rattle.std.specs.FinMap.Entries.{below_all, is_some-find}
 use Rattle.std.proofs.lemmas.List.Sorted.{Contains-permutation, IsPermutation-sym, IsPermutation-map, list_any-IsPermutation, sum_by-IsPermutation}
 use Rattle.std.proofs.lemmas.List.Sums.{sum_by-cons}
@@ -164,7 +164,7 @@ module _ {K X : Type 0} {R : K → K → Ordering} (o : IsTotalOrder R) where
     pub entries-sorted : (es fs : List (K × X)) → StandApart R es → IsPermutation es fs → IsSortedByKey (λ e. e.0) R fs → entries (from_entries {R = R} es) ≡ fs
     entries-sorted es fs a moved up =
         ap entries (same_map o exact (from_entries {R = R} es) (from_entries {R = R} fs) (λ q.
-            get-from_entries o es q ∙ find-IsPermutation es fs a moved q ∙ sym (get-from_entries o fs q)))
+        get-from_entries o es q ∙ find-IsPermutation es fs a moved q ∙ sym (get-from_entries o fs q)))
         ∙ entries-from_entries fs (rise_strictly fs up (λ q. let few = times_apart q es a in let same = times-IsPermutation R q es fs moved in omega arith))
 
 -- entries with a value for each key
@@ -202,5 +202,5 @@ module _ {K X Y : Type 0} (R : K → K → Ordering) (f : K → Y) where
         let m = from_entries {R = R} es in
         sym (entries-from_entries o exact (keyed f (entries m)) (is_sorted-keyed (entries m) (entries_sorted m)))
         ∙ ap entries (same_map o exact (from_entries {R = R} (keyed f (entries m))) (from_entries {R = R} (keyed f es)) (λ q.
-            get-from_entries o (keyed f (entries m)) q ∙ find-keyed q (entries m) ∙ ap (option_map (λ _. f q)) (sym (get-entries m q) ∙ get-from_entries o es q)
-            ∙ sym (find-keyed q es) ∙ sym (get-from_entries o (keyed f es) q)))
+        get-from_entries o (keyed f (entries m)) q ∙ find-keyed q (entries m) ∙ ap (option_map (λ _. f q)) (sym (get-entries m q) ∙ get-from_entries o es q)
+        ∙ sym (find-keyed q es) ∙ sym (get-from_entries o (keyed f es) q)))

@@ -1,5 +1,5 @@
 -- What the program answers to its words, and what was done by then.
-use Rattle.std.specs.Prelude.{◌≡◌, ◌≢◌, ◌⊎◌, ⊥, ℕ, List, [], Option, Some, None, IfSome}
+use Rattle.std.specs.Prelude.{◌≡◌, ◌≢◌, ◌⊎◌, ℕ, List, [], Option, Some, None, IfSome}
 use Rattle.sd_model.specs.Outside.{Rose, IsAtEnd}
 use Rattle.sd_model.specs.Run.{Seen, End, Complete, NotBuilt, ReadFailed, WriteFailed, WornOut, EndsAs}
 use Rattle.sd_model.specs.Words.{Form, Replay, form}
@@ -49,6 +49,14 @@ AreEmpty old = IsAtEnd old.settings
 abbrev pub AreNotEmpty : Objects → Type 0
 AreNotEmpty old = IfSome old.settings (λ bytes. bytes ≢ [])
 
+-- what a replay's end is to the program
+abbrev pub ending : End → Answer
+ending Complete = Done
+ending (NotBuilt at) = Unbuilt at
+ending ReadFailed = NotRead Script
+ending WriteFailed = NotWritten
+ending (WornOut turns) = Worn turns
+
 -- the settings were empty, and the script was carried out until this end
 pub record Ran (words : List (List ℕ)) (old new : Objects) (end : End) : Type 0 where
   pub asked : AsksForReplay words
@@ -56,16 +64,16 @@ pub record Ran (words : List (List ℕ)) (old new : Objects) (end : End) : Type 
   pub ends : EndsAs old.seen new.seen end
 
 -- no object of a replay was used, and the settings ended it
-pub record Stopped (words : List (List ℕ)) (old new : Objects) (cause : Type 0) : Type 0 where
+pub record Stopped (words : List (List ℕ)) (old new : Objects) (why : Type 0) : Type 0 where
   pub asked : AsksForReplay words
-  pub cause : cause
+  pub cause : why
   pub unused : new.seen ≡ old.seen
 
 -- the settings were empty, and an object of the replay couldn't be opened
-pub record Refused (words : List (List ℕ)) (old new : Objects) (cause : Type 0) : Type 0 where
+pub record Refused (words : List (List ℕ)) (old new : Objects) (why : Type 0) : Type 0 where
   pub asked : AsksForReplay words
   pub settings : AreEmpty old
-  pub cause : cause
+  pub cause : why
   pub content : SameContent old.seen new.seen
   pub output_faults : new.seen.output_faults ≡ old.seen.output_faults
 

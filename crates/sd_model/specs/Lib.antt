@@ -11,3 +11,4 @@ pub mod Script
 pub mod Replay
 pub mod Run
 pub mod Words
+pub mod Call

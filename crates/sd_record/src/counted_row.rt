@@ -5,7 +5,8 @@ use crate::row::Row;
 use sd_decimal::{Sum, per_second};
 use sd_key::{Key, Kind};
 
-/// A row and the weights of its samples added up. Rows compare by their kinds first, and then by their keys.
+/// A row and the weights of its samples added up. Rows compare by their kinds first, and then by their
+/// keys.
 #[derive(Debug, PartialEq, Eq, PartialOrd, Ord, Drop)]
 pub(crate) struct CountedRow {
     pub kind: Kind,

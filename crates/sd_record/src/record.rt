@@ -10,8 +10,8 @@ use crate::scratch::RecordScratch;
 use crate::tally::Tally;
 use sd_shard::Table;
 
-/// The record of a flush: the rows of a table by kind and key, the tally, the Unix second, and the interval
-/// that the rates are over.
+/// The record of a flush: the rows of a table by kind and key, the tally, the Unix second, and the
+/// interval that the rates are over. Contracts see it through `record_view`.
 #[derive(Drop)]
 pub struct Record<'a> {
     scratch: &'a mut RecordScratch,
@@ -23,7 +23,8 @@ pub struct Record<'a> {
 impl<'a> Record<'a> {
     ghost use Rattle.sd_record.specs.Record.{record_view, room_of, Borrows};
 
-    /// The record of a table's rows, which are put in order in the scratch.
+    /// The record of a table's rows, which are put in order in the scratch. No memory is taken. The
+    /// scratch is free again where the record ends, and has its room then.
     pub fn over(
         table: &'a Table,
         interval_ms: u32,

@@ -1,7 +1,7 @@
 ghost use Rattle.std.specs.Prelude.{◌≤◌, ◌^◌};
 
-/// What was counted since the last flush: datagrams, pieces good and bad, bad pieces, and dropped samples.
-/// Each count is at most 2^63.
+/// What was counted since the last flush: datagrams, pieces good and bad, bad pieces, and dropped
+/// samples. Each count is at most 2^63.
 #[derive(Clone, Copy, Debug, PartialEq, Eq)]
 pub struct Tally {
     pub packets: u64,

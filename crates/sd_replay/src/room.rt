@@ -26,6 +26,7 @@ const POLICY: Policy = Policy {
 };
 
 /// All that a replay works on, in room taken when it was opened.
+#[derive(Drop)]
 pub struct ReplayRoom {
     pub(crate) shard: Shard,
     pub(crate) spare: Table,

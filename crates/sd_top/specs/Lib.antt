@@ -1,2 +1,4 @@
+pub mod Answers
+pub mod Causes
 pub mod Status
 pub mod Words

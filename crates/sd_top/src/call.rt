@@ -1,16 +1,16 @@
-ghost use Rattle.std.specs.Prelude.{◌≡◌, ◌≤◌, ◌⊎◌, [], map, string_bytes, Some, OnOk, OnErr, IfErr};
-ghost use Rattle.sd_model.specs.Call.{Answers, AreEmpty, AreNotEmpty};
+ghost use Rattle.std.specs.Prelude.{◌≡◌, ◌≤◌, ◌⊎◌, [], map, string_bytes, Some, OnOk, IfOk, IfErr};
+ghost use Rattle.sd_model.specs.Call.{Answers, AsksForReplay, ending};
 ghost use Rattle.sd_model.specs.Outside.{Rose, IsAtEnd};
 ghost use Rattle.sd_model.specs.Run.{EndsAs};
 ghost use Rattle.sd_outside.specs.declared.address.Address.TheVariants.{File};
 ghost use Rattle.sd_replay.specs.Ends.{end_of};
 ghost use Rattle.sd_top.specs.Answers.{answer_of};
-ghost use Rattle.sd_top.specs.Causes.{NotOpened, NotTakenAsSettings};
+ghost use Rattle.sd_top.specs.Causes.{NotOpened, NotTaken, NotBegun};
 
 use crate::status::{Part, Status};
 use crate::words::{Form, form_of};
 use arrayvec::ArrayVec;
-use sd_outside::{Address, Backend, Backs, Name, OpenRefusal, Opens, Sink, Source};
+use sd_outside::{Address, Backend, Backs, Failed, Name, OpenRefusal, Opens, Sink, Source};
 use sd_replay::{ReplayEnd, ReplayRoom, replay};
 use std::alloc::Global;
 
@@ -49,7 +49,7 @@ fn open<T: Opens>(object: &mut T, at: &Address, part: Part) -> Result<(), Status
 fn read_settings<R: Source>(settings: &mut R, at: &Address) -> Result<(), Status>
     ensures empty { OnOk result (IsAtEnd (R.remaining settings.old)) }
     ensures opened { OnOk result (R.opened_at settings.new ≡ Some at.now) }
-    ensures refused { IfErr result (λ status. NotTakenAsSettings status (R.remaining settings.old) (R.faults settings.old) (R.faults settings.new)) }
+    ensures refused { IfErr result (λ status. NotTaken status (R.remaining settings.old) (R.faults settings.old) (R.faults settings.new)) }
     ensures faults_stay { R.faults settings.old ≤ R.faults settings.new }
 {
     open(settings, at, Part::Settings)?;
@@ -57,13 +57,13 @@ fn read_settings<R: Source>(settings: &mut R, at: &Address) -> Result<(), Status
     match settings.read(&mut first) {
         Ok(0) => Ok(()),
         Ok(_) => Err(Status::Unbuilt { at: 0 }),
-        Err(_) => Err(Status::ReadFault {
+        Err(Failed) => Err(Status::ReadFault {
             part: Part::Settings,
         }),
     }
 }
 
-/// How the program ends where a replay ends so.
+/// What the program answers where a replay ends so.
 fn status_of(end: ReplayEnd) -> Status
     ensures { answer_of result ≡ ending (end_of end) }
 {
@@ -73,5 +73,77 @@ fn status_of(end: ReplayEnd) -> Status
         ReplayEnd::ReadFault => Status::ReadFault { part: Part::Script },
         ReplayEnd::WriteFault => Status::WriteFault,
         ReplayEnd::Worn { turns } => Status::Worn { turns },
+    }
+}
+
+/// Opens what a replay needs, and carries out the script.
+///
+/// # Errors
+///
+/// `OpenFault` where an object failed, and `OutOfMemory`.
+fn carry_out<R: Source, O: Sink, B: Backend>(
+    alloc: Global,
+    name: Name,
+    script: &mut R,
+    output: &mut O,
+    graphite: &mut B,
+) -> Result<ReplayEnd, Status>
+    ensures end { IfOk result (λ end. EndsAs
+        (record { script = R.remaining script.old; script_faults = R.faults script.old; graphite = B.written graphite.old;
+            graphite_faults = B.faults graphite.old; output = O.written output.old; output_faults = O.faults output.old })
+        (record { script = R.remaining script.new; script_faults = R.faults script.new; graphite = B.written graphite.new;
+            graphite_faults = B.faults graphite.new; output = O.written output.new; output_faults = O.faults output.new })
+        (end_of end)) }
+    ensures refused { IfErr result (λ status. NotBegun status
+        (record { script = R.remaining script.old; script_faults = R.faults script.old; graphite = B.written graphite.old;
+            graphite_faults = B.faults graphite.old; output = O.written output.old; output_faults = O.faults output.old })
+        (record { script = R.remaining script.new; script_faults = R.faults script.new; graphite = B.written graphite.new;
+            graphite_faults = B.faults graphite.new; output = O.written output.new; output_faults = O.faults output.new })) }
+{
+    let Ok(room) = ReplayRoom::open(alloc) else {
+        return Err(Status::OutOfMemory);
+    };
+    open(script, &Address::File(name), Part::Script)?;
+    open(graphite, &Address::File(Name::new()), Part::Graphite)?;
+    Ok(replay(room, script, output, graphite))
+}
+
+/// Carries out what the words ask for.
+///
+/// `replay SETTINGS SCRIPT` reads the settings, which must be empty, and carries out the script: its packets
+/// are filed, and each flush gives Graphite the record's text. The output gets the totals at the script's end.
+pub fn statsd<R: Source, O: Sink, B: Backend>(
+    alloc: Global,
+    words: &[String],
+    world: &mut World<R, O, B>,
+) -> Status
+    ensures answers { Answers (map (λ w. string_bytes w) words.now)
+        (record { settings = R.remaining world.old.settings; settings_faults = R.faults world.old.settings;
+            seen = record { script = R.remaining world.old.script; script_faults = R.faults world.old.script;
+                graphite = B.written world.old.backs.graphite; graphite_faults = B.faults world.old.backs.graphite;
+                output = O.written world.old.output; output_faults = O.faults world.old.output } })
+        (record { settings = R.remaining world.new.settings; settings_faults = R.faults world.new.settings;
+            seen = record { script = R.remaining world.new.script; script_faults = R.faults world.new.script;
+                graphite = B.written world.new.backs.graphite; graphite_faults = B.faults world.new.backs.graphite;
+                output = O.written world.new.output; output_faults = O.faults world.new.output } })
+        (answer_of result) }
+{
+    let Some(Form::Replay { settings, script }) = form_of(words) else {
+        return Status::Usage;
+    };
+    if let Err(status) = read_settings(&mut world.settings, &Address::File(settings)) {
+        return status;
+    }
+    world.backs.graphite_used = true;
+    world.backs.console_used = false;
+    match carry_out(
+        alloc,
+        script,
+        &mut world.script,
+        &mut world.output,
+        &mut world.backs.graphite,
+    ) {
+        Ok(end) => status_of(end),
+        Err(status) => status,
     }
 }

@@ -1,4 +1,4 @@
-use Rattle.std.proofs.Common.{◌+◌, arith, rules}
+use Rattle.std.proofs.Common.{◌+◌, take, arith, rules}
 use Rattle.std.proofs.lemmas.Result.{err_from_is_err_and}
 use Rattle.sd_record.specs.Record.{record_view}
 use Rattle.sd_graphite.specs.Texts.{rows_text}
@@ -15,13 +15,16 @@ returns-in_err-write_row-clause-front g c =
     let r = record_view c.args.rec.now in
     let failed = err_from_is_err_and c.from_residual.result c.from_residual.ensures.1 in
     let more = rows_text-more r.ts _ r.rows c.loop-i.i _ c.row.ensures c.ts.ensures in
-    rw failed.1 (front_front _ _ _ _ _ (rows_text-split r.ts r.rows (c.loop-i.i + 1)) (next_front _ _ _ _ _ _ c.loop-i.invariant.written more c.in_err-write_row.ensures.front))
+    let first = rows_text r.ts (take c.loop-i.i r.rows) in
+    let front = next_front _ _ _ first _ _ c.loop-i.invariant.written more c.in_err-write_row.ensures.front in
+    rw failed.1 (front_front _ _ _ _ _ (rows_text-split r.ts r.rows (c.loop-i.i + 1)) front)
 
 pub loop-i-preserved : goal.loop-i-preserved
 loop-i-preserved g c =
     let r = record_view c.args.rec.now in
+    let first = rows_text r.ts (take c.loop-i.i r.rows) in
     record {
-      written = next_part _ _ _ _ _ _ c.loop-i.invariant.written (rows_text-more r.ts _ r.rows c.loop-i.i _ c.row.ensures c.ts.ensures) c.in_ok-write_row.ensures.ok;
+      written = next_part _ _ _ first _ _ c.loop-i.invariant.written (rows_text-more r.ts _ r.rows c.loop-i.i _ c.row.ensures c.ts.ensures) c.in_ok-write_row.ensures.ok;
       all = c.loop-i.invariant.all;
       faults = omega arith;
       address = cc;
