@@ -1,5 +1,5 @@
 -- The fields of a packet's head.
-use Rattle.std.proofs.Common.{◌≡◌, ℕ, ◌<◌, ◌≤◌, ◌^◌, List, ◌∷◌, ◌++◌, ◌∙◌, decimal, arith, append_assoc}
+use Rattle.std.proofs.Common.{◌≡◌, ℕ, List, ◌∷◌, ◌++◌, ◌∙◌, decimal, arith, append_assoc}
 use Rattle.sd_replay.specs.Fields.{IsCut, Lacks}
 use Rattle.sd_replay.specs.Head.{IsLegal}
 use Rattle.sd_replay.specs.declared.head.Head.TheVariants.{Packet}

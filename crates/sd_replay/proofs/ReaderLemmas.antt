@@ -1,5 +1,5 @@
 -- A record that stands at the front of the bytes ahead is read.
-use Rattle.std.proofs.Common.{◌≡◌, ℕ, ◌+◌, ◌<◌, ◌≤◌, List, [], ◌∷◌, ◌++◌, Option, None, Some, length, take, drop, get_or, decimal, refl, sym, ap, subst, ◌∙◌, arith, append_assoc, length-append, length-drop}
+use Rattle.std.proofs.Common.{◌≡◌, ℕ, ◌+◌, ◌<◌, List, [], ◌∷◌, ◌++◌, Option, None, Some, length, take, drop, get_or, refl, sym, ap, subst, ◌∙◌, arith, append_assoc, length-append, length-drop}
 use Rattle.std.specs.Prelude.{min, option_map, slice_range}
 use Rattle.std.proofs.lemmas.List.{drop_at, length_push, take-append-drop, drop_more, length-take-le, get_or-drop}
 use Rattle.sd_model.specs.Outside.{last_count}
@@ -11,7 +11,6 @@ use Rattle.sd_replay.specs.Reading.{Reading, left}
 use Rattle.sd_replay.specs.Reads.{Takes, ReadsPacket, ReadsFlush}
 use Rattle.sd_replay.specs.declared.head.Head.{Head}
 use Rattle.sd_replay.specs.declared.head.Head.TheVariants.{Packet, Flush}
-use Rattle.sd_replay.specs.declared.record.Found.{Found}
 use Rattle.sd_replay.proofs.BuiltLemmas.{packet_parts}
 
 -- a text at the front of what is held

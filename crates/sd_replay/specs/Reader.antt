@@ -1,19 +1,21 @@
--- The reader of the code, as the definitions have it. The datagram that was read last stands at the front of
--- the bytes ahead, with its newline.
+-- The reader of the code, as the definitions have it.
 use Rattle.std.specs.Prelude.{ℕ, ◌+◌, ◌<◌, List, [], Option, None, Some, length, take, drop}
 use Rattle.std.specs.Option.{ForSome}
 use Rattle.sd_replay.specs.Ahead.{held_in}
 use Rattle.sd_replay.specs.Reading.{Reading}
 use Rattle.sd_replay.specs.declared.reader.Reader.TheInside.{Inside}
 
+-- the datagram that was read last, where there is one: it stands at the front of the bytes ahead
 abbrev pub datagram_of : Option ℕ → List ℕ → List ℕ
 datagram_of None held = []
 datagram_of (Some len) held = take len held
 
+-- what stands behind that datagram and its newline
 abbrev pub pending_of : Option ℕ → List ℕ → List ℕ
 pending_of None held = held
 pending_of (Some len) held = drop (len + 1) held
 
+-- what contracts see of the reader
 abbrev pub reading_of : Inside → Reading
 reading_of r = record { at = r.at; datagram = datagram_of r.packet (held_in r.ahead); pending = pending_of r.packet (held_in r.ahead) }
 

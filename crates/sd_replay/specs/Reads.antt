@@ -18,11 +18,12 @@ pub record Stays (old : Reading) (had : Option (List ℕ)) (new : Reading) (has 
   pub at : new.at ≡ old.at
   pub datagram : new.datagram ≡ []
 
--- a built record was read
+-- a built packet was read
 pub record ReadsPacket (who moment : ℕ) (old : Reading) (had : Option (List ℕ)) (new : Reading) (has : Option (List ℕ)) : Type 0 where
   pub built : IsBuilt (PacketRecord who moment new.datagram)
   pub taken : Takes (spelled (PacketRecord who moment new.datagram)) old had new has
 
+-- a flush was read
 pub record ReadsFlush (ts : ℕ) (old : Reading) (had : Option (List ℕ)) (new : Reading) (has : Option (List ℕ)) : Type 0 where
   pub built : IsBuilt (FlushRecord ts)
   pub taken : Takes (spelled (FlushRecord ts)) old had new has

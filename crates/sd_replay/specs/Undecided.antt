@@ -17,5 +17,6 @@ pub record IsPartOfPacket (bytes : List ℕ) : Type 0 where
   pub whole : bytes ≡ 80 ∷ 32 ∷ decimal who ++ 32 ∷ decimal moment ++ 32 ∷ decimal len ++ 10 ∷ rest
   pub short : length rest ≤ len
 
+-- one of the two
 abbrev pub IsUndecided : List ℕ → Type 0
 IsUndecided bytes = IsPartOfLine bytes ⊎ IsPartOfPacket bytes

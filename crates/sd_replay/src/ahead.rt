@@ -6,13 +6,13 @@ use crate::head::LONGEST;
 use sd_outside::{Failed, Source};
 use std::alloc::{AllocError, Global};
 
-/// The line of a record, with its newline, has fewer bytes than this.
+/// The newline of a record's line stands among this many bytes.
 pub(crate) const LINE: usize = 40;
 
-/// No record has more bytes than this.
+/// No record has more bytes.
 const RECORD: usize = LINE + LONGEST + 1;
 
-/// How many bytes are held at most. Each byte is moved at most once where records are long.
+/// Room for two of the longest records, so that bytes are seldom moved to its front.
 const ROOM: usize = 2 * RECORD;
 
 /// Bytes that were read ahead of what is asked for, in room that is taken once.
@@ -34,7 +34,7 @@ fn zeros(alloc: Global, len: usize) -> Result<Vec<u8>, AllocError>
 }
 
 impl Ahead {
-    ghost use Rattle.std.specs.Prelude.{◌≡◌, ◌≢◌, ℕ, ◌+◌, ◌<◌, ◌≤◌, [], List, drop, length, take, slice_index, IfOk, OnOk, OnErr, IsTrue, MatchBool, MatchOption, IfSome};
+    ghost use Rattle.std.specs.Prelude.{◌≡◌, ◌<◌, ◌≤◌, [], drop, length, take, IfOk, OnErr, MatchBool, MatchOption, IfSome};
     ghost use Rattle.sd_model.specs.Outside.{Rose, IsAtEnd};
     ghost use Rattle.sd_replay.specs.Fields.{Lacks, IsFirstPlace};
     ghost use Rattle.sd_replay.specs.Ahead.{held_in, left_behind, Grows, GrowsBy};

@@ -1,4 +1,4 @@
-ghost use Rattle.std.specs.Prelude.{◌≡◌, ℕ, ◌+◌, ◌<◌, ◌≤◌, ◌↔◌, length, IsTrue, MatchBool, MatchOption, IfSome, IfOk, OnOk, OnErr};
+ghost use Rattle.std.specs.Prelude.{◌≡◌, ◌+◌, ◌<◌, ◌≤◌, ◌↔◌, length, IsTrue, MatchBool, MatchOption, IfSome, IfOk, OnErr};
 ghost use Rattle.sd_model.specs.Outside.{Rose};
 ghost use Rattle.sd_model.specs.Script.{BeginsBuilt};
 ghost use Rattle.sd_replay.specs.Ahead.{held_in, left_behind, Grows};

@@ -1,10 +1,9 @@
-use Rattle.std.proofs.Common.{◌≡◌, ◌≢◌, ◌+◌, false, true, List, ℕ, take, length, subst, sym, ap, ◌∙◌, arith, length-take}
-use Rattle.std.proofs.lemmas.Option.{MatchOption-at_none}
+use Rattle.std.proofs.Common.{◌≡◌, ◌≢◌, ◌+◌, take, length, subst, sym, ap, ◌∙◌, arith, length-take}
 use Rattle.std.proofs.lemmas.Result.{err_from_is_err_and}
 use Rattle.sd_replay.specs.Ahead.{held_in}
 use Rattle.sd_replay.specs.Head.{head_line, IsLegal}
 use Rattle.sd_replay.specs.declared.head.Head.{Head}
-use Rattle.sd_replay.proofs.BuiltLemmas.{no_line_left, Line, Line-of, no_head, no_body, length-found, BeginsWithLine-grown, part_of_packet}
+use Rattle.sd_replay.proofs.BuiltLemmas.{no_line_left, Line-of, no_head, no_body, length-found, BeginsWithLine-grown, part_of_packet}
 use Rattle.sd_replay.proofs.record.next_record.Goals as goal
 
 pub returns-in_default-clause-found : goal.returns-in_default-clause-found
