@@ -61,15 +61,20 @@ with_tally d t =
 abbrev pub taken : Desk → Desk
 taken d =
     record {
-      tally = no_tally; totals = d.totals;
-      rounds = d.rounds; graphite_faults = d.graphite_faults; console_faults = d.console_faults;
+      tally = no_tally;
+      totals = d.totals;
+      rounds = d.rounds;
+      graphite_faults = d.graphite_faults;
+      console_faults = d.console_faults;
     }
 
 -- after the marks of a flush
 abbrev pub marked : Desk → Marks → Desk
 marked d m =
     record {
-      tally = d.tally; totals = d.totals; rounds = counted d.rounds 1;
+      tally = d.tally;
+      totals = d.totals;
+      rounds = counted d.rounds 1;
       graphite_faults = counted d.graphite_faults (fault_of m.graphite);
       console_faults = counted d.console_faults (fault_of m.console);
     }

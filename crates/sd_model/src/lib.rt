@@ -8,5 +8,7 @@ mod numbers;
 mod outside;
 
 pub use names::{clean_keys, clean_names, clean_twice, hash_vectors, matches_families};
-pub use numbers::{rounding_is_exact, rounding_is_monotone, rounding_is_near, rounding_is_symmetric};
+pub use numbers::{
+    rounding_is_exact, rounding_is_monotone, rounding_is_near, rounding_is_symmetric,
+};
 pub use outside::{empty_write, whole_round, writes_join};

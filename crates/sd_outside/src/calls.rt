@@ -12,8 +12,8 @@ pub(crate) fn next_call_fails(calls: &mut u64, listed: &[u64]) -> bool
     listed.contains(calls)
 }
 
-/// Counts a fault.
-pub(crate) fn fault(faults: &mut u64) -> Failed
+/// Counts a fault of an object, up to 2^64 - 1, and answers that it failed.
+pub fn fault(faults: &mut u64) -> Failed
     ensures counted { faults.new ≡ raised faults.old }
     ensures stays { faults.old ≤ faults.new }
 {

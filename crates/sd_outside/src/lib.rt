@@ -15,6 +15,7 @@ mod source;
 
 pub use address::{Address, Name};
 pub use backend::{Backend, Backs};
+pub use calls::fault;
 pub use mem_backend::MemBackend;
 pub use mem_sink::MemSink;
 pub use mem_source::MemSource;

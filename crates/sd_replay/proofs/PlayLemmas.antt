@@ -54,7 +54,10 @@ nothing_played script w shard desk at s d a =
     record {
       played = [];
       replays = record { text = sym (same_option script); built = tt; used = tt; graphite = refl };
-      same_shard = s; same_desk = d; same_place = a; turns = refl;
+      same_shard = s;
+      same_desk = d;
+      same_place = a;
+      turns = refl;
     }
 
 read_on : (commands : List Command) (c : Command) (left : Option (List ℕ)) → option_map (λ rest. script_text commands ++ rest) (option_map (λ rest. spelled c ++ rest) left) ≡ option_map (λ rest. script_text (commands ++ c ∷ []) ++ rest) left
@@ -79,7 +82,7 @@ module _ (script left left' : Option (List ℕ)) (old new new' : Told) (shard sh
         played = ps ++ p ∷ [];
         replays = record {
           text = so_far.replays.text ∙ ap (option_map (λ rest. script_text (map command_of ps) ++ rest)) text ∙ read_on (map command_of ps) (command_of p) left'
-            ∙ ap (λ cs. option_map (λ rest. script_text cs ++ rest) left') (sym commands);
+              ∙ ap (λ cs. option_map (λ rest. script_text cs ++ rest) left') (sym commands);
           built = subst (AllByRecursion IsBuilt) (sym commands) (AllByRecursion-push IsBuilt (map command_of ps) (command_of p) so_far.replays.built built);
           used = AllByRecursion-push UsesGraphite ps p so_far.replays.used used;
           graphite = after;
@@ -103,11 +106,11 @@ module _ (script left left' : Option (List ℕ)) (old new new' : Told) (shard sh
       (subst (λ q. IsBuilt (command_of q)) (sym is) built)
       (subst UsesGraphite (sym is) tt)
       (subst (λ q. AfterDeliveries (graphite_deliveries default_settings first_run (so_far.played ++ q ∷ [])) old new') (sym is)
-        (subst (λ ds. AfterDeliveries ds old new') (sym (deliveries-packet default_settings first_run so_far.played who moment datagram))
-          (subst (λ w. AfterDeliveries (graphite_deliveries default_settings first_run so_far.played) old w) (sym kept) so_far.replays.graphite)))
+      (subst (λ ds. AfterDeliveries ds old new') (sym (deliveries-packet default_settings first_run so_far.played who moment datagram))
+      (subst (λ w. AfterDeliveries (graphite_deliveries default_settings first_run so_far.played) old w) (sym kept) so_far.replays.graphite)))
       (s ∙ ap (λ state. (filing state).shard) so_far.same_shard ∙ ap (λ q. (play default_settings run q).shard) (sym is))
       (d ∙ ap (λ state. with_tally desk (packet_tally datagram (filing state).dropped)) so_far.same_shard
-        ∙ ap (λ e. with_tally e (packet_tally datagram (filing run.shard).dropped)) so_far.same_desk ∙ ap (λ q. (play default_settings run q).desk) (sym is))
+      ∙ ap (λ e. with_tally e (packet_tally datagram (filing run.shard).dropped)) so_far.same_desk ∙ ap (λ q. (play default_settings run q).desk) (sym is))
       (a ∙ ap (λ q. min (at + length (spelled (command_of q))) last_count) (sym is))
 
   -- a flush more: the shard is swapped, the tally is taken, and Graphite was given the text
@@ -120,15 +123,15 @@ module _ (script left left' : Option (List ℕ)) (old new new' : Told) (shard sh
       let run = state_after_all so_far.played in
       let text_of : State → Desk → List ℕ = λ state e. graphite_text (record_of default_settings.interval_ms (table_of state ∷ []) e.tally ts) in
       let delivered : AfterMark marks.graphite (text_of run.shard run.desk) new new' =
-          subst (λ e. AfterMark marks.graphite (text_of run.shard e) new new') so_far.same_desk
-          (subst (λ state. AfterMark marks.graphite (text_of state desk) new new') so_far.same_shard after) in
+      subst (λ e. AfterMark marks.graphite (text_of run.shard e) new new') so_far.same_desk
+      (subst (λ state. AfterMark marks.graphite (text_of state desk) new new') so_far.same_shard after) in
       one_more
       (text ∙ ap (λ q. option_map (λ rest. spelled (command_of q) ++ rest) left') (sym is))
       (subst (λ q. IsBuilt (command_of q)) (sym is) built)
       (subst UsesGraphite (sym is) (graphite, console))
       (subst (λ q. AfterDeliveries (graphite_deliveries default_settings first_run (so_far.played ++ q ∷ [])) old new') (sym is)
-        (subst (λ ds. AfterDeliveries ds old new') (sym (deliveries-flush default_settings first_run so_far.played ts marks))
-          (AfterDeliveries-push (graphite_deliveries default_settings first_run so_far.played) (delivery_of default_settings run ts marks) old new new' so_far.replays.graphite delivered)))
+      (subst (λ ds. AfterDeliveries ds old new') (sym (deliveries-flush default_settings first_run so_far.played ts marks))
+      (AfterDeliveries-push (graphite_deliveries default_settings first_run so_far.played) (delivery_of default_settings run ts marks) old new new' so_far.replays.graphite delivered)))
       (s ∙ ap (after_swap default_settings.policy) so_far.same_shard ∙ ap (λ q. (play default_settings run q).shard) (sym is))
       (d ∙ ap (λ e. with_round e marks) so_far.same_desk ∙ ap (λ q. (play default_settings run q).desk) (sym is))
       (a ∙ ap (λ q. min (at + length (spelled (command_of q))) last_count) (sym is))

@@ -7,8 +7,11 @@ use Rattle.sd_replay.specs.declared.desk.Desk.TheInside.{Inside}
 abbrev pub desk_of : Inside → model.Desk
 desk_of d =
     record {
-      tally = tally_of d.tally; totals = tally_of d.totals;
-      rounds = d.rounds; graphite_faults = d.graphite_faults; console_faults = d.console_faults;
+      tally = tally_of d.tally;
+      totals = tally_of d.totals;
+      rounds = d.rounds;
+      graphite_faults = d.graphite_faults;
+      console_faults = d.console_faults;
     }
 
 pub record IsDesk (d : Inside) : Type 0 where

@@ -105,10 +105,22 @@ pub fn replay<R: Source, O: Sink, B: Backend>(
 ) -> ReplayEnd
     requires { IsFresh room }
     ensures end { EndsAs
-        (record { script = R.remaining script.old; script_faults = R.faults script.old; graphite = B.written graphite.old;
-            graphite_faults = B.faults graphite.old; output = O.written output.old; output_faults = O.faults output.old })
-        (record { script = R.remaining script.new; script_faults = R.faults script.new; graphite = B.written graphite.new;
-            graphite_faults = B.faults graphite.new; output = O.written output.new; output_faults = O.faults output.new })
+        (record {
+          script = R.remaining script.old;
+          script_faults = R.faults script.old;
+          graphite = B.written graphite.old;
+          graphite_faults = B.faults graphite.old;
+          output = O.written output.old;
+          output_faults = O.faults output.old;
+        })
+        (record {
+          script = R.remaining script.new;
+          script_faults = R.faults script.new;
+          graphite = B.written graphite.new;
+          graphite_faults = B.faults graphite.new;
+          output = O.written output.new;
+          output_faults = O.faults output.new;
+        })
         (end_of result) }
     ensures totals { AnswersTotals (O.written output.old) (O.written output.new) result }
     ensures script_faults_stay { R.faults script.old ≤ R.faults script.new }

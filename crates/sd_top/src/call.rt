@@ -89,16 +89,40 @@ fn carry_out<R: Source, O: Sink, B: Backend>(
     graphite: &mut B,
 ) -> Result<ReplayEnd, Status>
     ensures end { IfOk result (λ end. EndsAs
-        (record { script = R.remaining script.old; script_faults = R.faults script.old; graphite = B.written graphite.old;
-            graphite_faults = B.faults graphite.old; output = O.written output.old; output_faults = O.faults output.old })
-        (record { script = R.remaining script.new; script_faults = R.faults script.new; graphite = B.written graphite.new;
-            graphite_faults = B.faults graphite.new; output = O.written output.new; output_faults = O.faults output.new })
+        (record {
+          script = R.remaining script.old;
+          script_faults = R.faults script.old;
+          graphite = B.written graphite.old;
+          graphite_faults = B.faults graphite.old;
+          output = O.written output.old;
+          output_faults = O.faults output.old;
+        })
+        (record {
+          script = R.remaining script.new;
+          script_faults = R.faults script.new;
+          graphite = B.written graphite.new;
+          graphite_faults = B.faults graphite.new;
+          output = O.written output.new;
+          output_faults = O.faults output.new;
+        })
         (end_of end)) }
     ensures refused { IfErr result (λ status. NotBegun status
-        (record { script = R.remaining script.old; script_faults = R.faults script.old; graphite = B.written graphite.old;
-            graphite_faults = B.faults graphite.old; output = O.written output.old; output_faults = O.faults output.old })
-        (record { script = R.remaining script.new; script_faults = R.faults script.new; graphite = B.written graphite.new;
-            graphite_faults = B.faults graphite.new; output = O.written output.new; output_faults = O.faults output.new })) }
+        (record {
+          script = R.remaining script.old;
+          script_faults = R.faults script.old;
+          graphite = B.written graphite.old;
+          graphite_faults = B.faults graphite.old;
+          output = O.written output.old;
+          output_faults = O.faults output.old;
+        })
+        (record {
+          script = R.remaining script.new;
+          script_faults = R.faults script.new;
+          graphite = B.written graphite.new;
+          graphite_faults = B.faults graphite.new;
+          output = O.written output.new;
+          output_faults = O.faults output.new;
+        })) }
 {
     let Ok(room) = ReplayRoom::open(alloc) else {
         return Err(Status::OutOfMemory);
@@ -118,14 +142,30 @@ pub fn statsd<R: Source, O: Sink, B: Backend>(
     world: &mut World<R, O, B>,
 ) -> Status
     ensures answers { Answers (map (λ w. string_bytes w) words.now)
-        (record { settings = R.remaining world.old.settings; settings_faults = R.faults world.old.settings;
-            seen = record { script = R.remaining world.old.script; script_faults = R.faults world.old.script;
-                graphite = B.written world.old.backs.graphite; graphite_faults = B.faults world.old.backs.graphite;
-                output = O.written world.old.output; output_faults = O.faults world.old.output } })
-        (record { settings = R.remaining world.new.settings; settings_faults = R.faults world.new.settings;
-            seen = record { script = R.remaining world.new.script; script_faults = R.faults world.new.script;
-                graphite = B.written world.new.backs.graphite; graphite_faults = B.faults world.new.backs.graphite;
-                output = O.written world.new.output; output_faults = O.faults world.new.output } })
+        (record {
+          settings = R.remaining world.old.settings;
+          settings_faults = R.faults world.old.settings;
+          seen = record {
+            script = R.remaining world.old.script;
+            script_faults = R.faults world.old.script;
+            graphite = B.written world.old.backs.graphite;
+            graphite_faults = B.faults world.old.backs.graphite;
+            output = O.written world.old.output;
+            output_faults = O.faults world.old.output;
+          };
+        })
+        (record {
+          settings = R.remaining world.new.settings;
+          settings_faults = R.faults world.new.settings;
+          seen = record {
+            script = R.remaining world.new.script;
+            script_faults = R.faults world.new.script;
+            graphite = B.written world.new.backs.graphite;
+            graphite_faults = B.faults world.new.backs.graphite;
+            output = O.written world.new.output;
+            output_faults = O.faults world.new.output;
+          };
+        })
         (answer_of result) }
 {
     let Some(Form::Replay { settings, script }) = form_of(words) else {

@@ -13,5 +13,5 @@ use Rattle.sd_replay.proofs.flush.flush.Goals as goal
 pub returns-clause-text : goal.returns-clause-text
 returns-clause-text g c =
     let same : record_view c.over-record.result ≡ record_of 10000 (table_of (state_of c.args.shard.now) ∷ []) c.args.desk.now.tally c.args.ts =
-          c.over-record.ensures.record ∙ ap (λ t. record_of 10000 (t ∷ []) (tally_of c.take-tally.result) c.args.ts) c.swap-table.ensures.table ∙ ap (λ t. record_of 10000 (table_of (state_of c.args.shard.now) ∷ []) t c.args.ts) c.take-tally.ensures.tally in
+    c.over-record.ensures.record ∙ ap (λ t. record_of 10000 (t ∷ []) (tally_of c.take-tally.result) c.args.ts) c.swap-table.ensures.table ∙ ap (λ t. record_of 10000 (table_of (state_of c.args.shard.now) ∷ []) t c.args.ts) c.take-tally.ensures.tally in
     subst (λ r. AfterMark (mark_of c.deliver-graphite.result) (graphite_text r) (g.B.Sink.written c.args.back.now) (g.B.Sink.written c.deliver-graphite.new.back)) same c.deliver-graphite.ensures.text

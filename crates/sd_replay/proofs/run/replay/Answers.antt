@@ -25,23 +25,29 @@ returns-in-End-clause-end g c =
     let same : c.loop-turn.output ≡ c.args.output.now = c.loop-turn.invariant.5 in
     let text = totals_text (record { shard = state_of c.loop-turn.shard; desk = c.loop-turn.desk }) in
     let was : Seen =
-          record {
-            script = g.R.Source.remaining c.args.script.now; script_faults = g.R.Faulty.faults c.args.script.now;
-            graphite = g.B.Sink.written c.args.graphite.now; graphite_faults = g.B.Faulty.faults c.args.graphite.now;
-            output = g.O.Sink.written c.args.output.now; output_faults = g.O.Faulty.faults c.args.output.now;
-          } in
+    record {
+      script = g.R.Source.remaining c.args.script.now;
+      script_faults = g.R.Faulty.faults c.args.script.now;
+      graphite = g.B.Sink.written c.args.graphite.now;
+      graphite_faults = g.B.Faulty.faults c.args.graphite.now;
+      output = g.O.Sink.written c.args.output.now;
+      output_faults = g.O.Faulty.faults c.args.output.now;
+    } in
     let is : Seen =
-          record {
-            script = g.R.Source.remaining c.next.new.script; script_faults = g.R.Faulty.faults c.next.new.script;
-            graphite = g.B.Sink.written c.loop-turn.graphite; graphite_faults = g.B.Faulty.faults c.loop-turn.graphite;
-            output = g.O.Sink.written c.finish.new.output; output_faults = g.O.Faulty.faults c.finish.new.output;
-          } in
+    record {
+      script = g.R.Source.remaining c.next.new.script;
+      script_faults = g.R.Faulty.faults c.next.new.script;
+      graphite = g.B.Sink.written c.loop-turn.graphite;
+      graphite_faults = g.B.Faulty.faults c.loop-turn.graphite;
+      output = g.O.Sink.written c.finish.new.output;
+      output_faults = g.O.Faulty.faults c.finish.new.output;
+    } in
     elim c.match-finish.branch [
-      in-Ok-finish w ↦ subst (λ r. EndsAs was is (end_of r)) (sym w.result-is)
-        (completes was is _ _ _ _ _ _ so_far reads.taken.left
+      | in-Ok-finish w ↦ subst (λ r. EndsAs was is (end_of r)) (sym w.result-is)
+          (completes was is _ _ _ _ _ _ so_far reads.taken.left
           (subst (λ o. g.O.Sink.written c.finish.new.output ≡ appended (g.O.Sink.written o) text) same w.in-Ok-finish.ensures.ok))
-    | in-Err w ↦ subst (λ r. EndsAs was is (end_of r)) (sym w.result-is)
-        (writes_part was is _ _ _ _ _ _ so_far reads.taken.left
+      | in-Err w ↦ subst (λ r. EndsAs was is (end_of r)) (sym w.result-is)
+          (writes_part was is _ _ _ _ _ _ so_far reads.taken.left
           (subst (λ o. Rose (g.O.Faulty.faults o) (g.O.Faulty.faults c.finish.new.output)) same w.in-Err.ensures.failed)
           (subst (λ o. AppendsFront (g.O.Sink.written o) text (g.O.Sink.written c.finish.new.output)) same w.in-Err.ensures.front))
     ]
@@ -54,38 +60,48 @@ loop-turn-preserved g c =
     let script_faults : g.R.Faulty.faults c.args.script.now ≤ g.R.Faulty.faults c.next.new.script = omega (arith, c.loop-turn.invariant.1, c.next.ensures.faults_stay) in
     let script_address : g.R.Faulty.opened_at c.next.new.script ≡ g.R.Faulty.opened_at c.args.script.now = c.next.ensures.address_stays ∙ c.loop-turn.invariant.3 in
     elim c.match-item.branch [
-      in-Packet w ↦
-        let read = subst reads w.in-Packet.is c.in-Ok.ensures.item in
-        let filing : Limits → List ℕ → Filing = λ limits bytes. packet_filing limits before w.in-Packet.who bytes in
-        let tallied : Limits → List ℕ → Desk = λ limits bytes. with_tally c.loop-turn.desk (packet_tally bytes (filing limits bytes).dropped) in
-        let more = packet_more _ _ (left c.next.new.self (g.R.Source.remaining c.next.new.script)) _ _ (g.B.Sink.written c.match-item.graphite) _ (state_of c.match-item.shard) _ c.match-item.desk _ c.next.new.self.at _ stands.progress
-              (PlayedPacket w.in-Packet.who w.in-Packet.moment c.next.new.self.datagram) w.in-Packet.who w.in-Packet.moment c.next.new.self.datagram refl read.taken.left read.built
-              (ap state_of w.shard-is ∙ w.play_packet.ensures.state ∙ ap (λ limits. (filing limits w.datagram.result.now).shard) stands.limits ∙ ap (λ bytes. (filing default_settings.limits bytes).shard) w.datagram.ensures)
-              (w.desk-is ∙ w.play_packet.ensures.desk ∙ ap (λ limits. tallied limits w.datagram.result.now) stands.limits ∙ ap (tallied default_settings.limits) w.datagram.ensures)
-              read.taken.at (ap (λ b. g.B.Sink.written b) w.graphite-is) in
-        (record {
-          progress = more;
-          limits = ap (λ (s : Standing). s.table.limits) w.shard-is ∙ w.play_packet.ensures.limits ∙ stands.limits;
-          policy = ap (λ (s : Standing). s.policy) w.shard-is ∙ w.play_packet.ensures.policy ∙ stands.policy;
-          spare = subst (IsSpareFor default_settings.limits) (sym w.spare-is) stands.spare;
-          room = subst (λ s. default_settings.limits.rows ≤ s.room) (sym w.scratch-is) stands.room;
-        }, script_faults, subst (λ b. g.B.Faulty.faults c.args.graphite.now ≤ g.B.Faulty.faults b) (sym w.graphite-is) c.loop-turn.invariant.2,
-          script_address, ap (λ b. g.B.Faulty.opened_at b) w.graphite-is ∙ c.loop-turn.invariant.4, c.loop-turn.invariant.5)
-    | in-Flush w ↦
-        let read = subst reads w.in-Flush.is c.in-Ok.ensures.item in
-        let text = graphite_text (record_of default_settings.interval_ms (table_of before ∷ []) c.loop-turn.desk.tally w.in-Flush.ts) in
-        let marks = marks_of w.flush-flushed.result.marks in
-        let more = flush_more _ _ (left c.next.new.self (g.R.Source.remaining c.next.new.script)) _ _ (g.B.Sink.written c.match-item.graphite) _ (state_of c.match-item.shard) _ c.match-item.desk _ c.next.new.self.at _ stands.progress
-              (PlayedFlush w.in-Flush.ts marks) w.in-Flush.ts marks refl read.taken.left read.built w.flush-flushed.ensures.used (ap mark_of w.flush-flushed.ensures.console)
-              (subst (AfterMark marks.graphite text (g.B.Sink.written c.loop-turn.graphite)) (ap (λ b. g.B.Sink.written b) (sym w.graphite-is)) w.flush-flushed.ensures.text)
-              (ap state_of w.shard-is ∙ w.flush-flushed.ensures.state ∙ ap (λ policy. after_swap policy before) stands.policy)
-              (w.desk-is ∙ w.flush-flushed.ensures.desk) read.taken.at in
-        (record {
-          progress = more;
-          limits = ap (λ (s : Standing). s.table.limits) w.shard-is ∙ w.flush-flushed.ensures.limits ∙ stands.limits;
-          policy = ap (λ (s : Standing). s.policy) w.shard-is ∙ w.flush-flushed.ensures.policy ∙ stands.policy;
-          spare = subst (IsSpareFor default_settings.limits) (sym w.spare-is) (subst (λ limits. IsSpareFor limits w.flush-flushed.result.spare) stands.limits w.flush-flushed.ensures.spare);
-          room = subst (λ s. default_settings.limits.rows ≤ s.room) (sym w.scratch-is) (omega (arith, stands.room, w.flush-flushed.ensures.room));
-        }, script_faults, subst (λ b. g.B.Faulty.faults c.args.graphite.now ≤ g.B.Faulty.faults b) (sym w.graphite-is) (omega (arith, c.loop-turn.invariant.2, w.flush-flushed.ensures.faults_stay)),
-          script_address, ap (λ b. g.B.Faulty.opened_at b) w.graphite-is ∙ w.flush-flushed.ensures.address_stays ∙ c.loop-turn.invariant.4, c.loop-turn.invariant.5)
+      | in-Packet w ↦
+          let read = subst reads w.in-Packet.is c.in-Ok.ensures.item in
+          let filing : Limits → List ℕ → Filing = λ limits bytes. packet_filing limits before w.in-Packet.who bytes in
+          let tallied : Limits → List ℕ → Desk = λ limits bytes. with_tally c.loop-turn.desk (packet_tally bytes (filing limits bytes).dropped) in
+          let more = packet_more _ _ (left c.next.new.self (g.R.Source.remaining c.next.new.script)) _ _ (g.B.Sink.written c.match-item.graphite) _ (state_of c.match-item.shard) _ c.match-item.desk _ c.next.new.self.at _ stands.progress
+          (PlayedPacket w.in-Packet.who w.in-Packet.moment c.next.new.self.datagram) w.in-Packet.who w.in-Packet.moment c.next.new.self.datagram refl read.taken.left read.built
+          (ap state_of w.shard-is ∙ w.play_packet.ensures.state ∙ ap (λ limits. (filing limits w.datagram.result.now).shard) stands.limits ∙ ap (λ bytes. (filing default_settings.limits bytes).shard) w.datagram.ensures)
+          (w.desk-is ∙ w.play_packet.ensures.desk ∙ ap (λ limits. tallied limits w.datagram.result.now) stands.limits ∙ ap (tallied default_settings.limits) w.datagram.ensures)
+          read.taken.at (ap (λ b. g.B.Sink.written b) w.graphite-is) in (
+            record {
+              progress = more;
+              limits = ap (λ (s : Standing). s.table.limits) w.shard-is ∙ w.play_packet.ensures.limits ∙ stands.limits;
+              policy = ap (λ (s : Standing). s.policy) w.shard-is ∙ w.play_packet.ensures.policy ∙ stands.policy;
+              spare = subst (IsSpareFor default_settings.limits) (sym w.spare-is) stands.spare;
+              room = subst (λ s. default_settings.limits.rows ≤ s.room) (sym w.scratch-is) stands.room;
+            },
+            script_faults,
+            subst (λ b. g.B.Faulty.faults c.args.graphite.now ≤ g.B.Faulty.faults b) (sym w.graphite-is) c.loop-turn.invariant.2,
+            script_address,
+            ap (λ b. g.B.Faulty.opened_at b) w.graphite-is ∙ c.loop-turn.invariant.4,
+            c.loop-turn.invariant.5,
+          )
+      | in-Flush w ↦
+          let read = subst reads w.in-Flush.is c.in-Ok.ensures.item in
+          let text = graphite_text (record_of default_settings.interval_ms (table_of before ∷ []) c.loop-turn.desk.tally w.in-Flush.ts) in
+          let marks = marks_of w.flush-flushed.result.marks in
+          let more = flush_more _ _ (left c.next.new.self (g.R.Source.remaining c.next.new.script)) _ _ (g.B.Sink.written c.match-item.graphite) _ (state_of c.match-item.shard) _ c.match-item.desk _ c.next.new.self.at _ stands.progress
+          (PlayedFlush w.in-Flush.ts marks) w.in-Flush.ts marks refl read.taken.left read.built w.flush-flushed.ensures.used (ap mark_of w.flush-flushed.ensures.console)
+          (subst (AfterMark marks.graphite text (g.B.Sink.written c.loop-turn.graphite)) (ap (λ b. g.B.Sink.written b) (sym w.graphite-is)) w.flush-flushed.ensures.text)
+          (ap state_of w.shard-is ∙ w.flush-flushed.ensures.state ∙ ap (λ policy. after_swap policy before) stands.policy)
+          (w.desk-is ∙ w.flush-flushed.ensures.desk) read.taken.at in (
+            record {
+              progress = more;
+              limits = ap (λ (s : Standing). s.table.limits) w.shard-is ∙ w.flush-flushed.ensures.limits ∙ stands.limits;
+              policy = ap (λ (s : Standing). s.policy) w.shard-is ∙ w.flush-flushed.ensures.policy ∙ stands.policy;
+              spare = subst (IsSpareFor default_settings.limits) (sym w.spare-is) (subst (λ limits. IsSpareFor limits w.flush-flushed.result.spare) stands.limits w.flush-flushed.ensures.spare);
+              room = subst (λ s. default_settings.limits.rows ≤ s.room) (sym w.scratch-is) (omega (arith, stands.room, w.flush-flushed.ensures.room));
+            },
+            script_faults,
+            subst (λ b. g.B.Faulty.faults c.args.graphite.now ≤ g.B.Faulty.faults b) (sym w.graphite-is) (omega (arith, c.loop-turn.invariant.2, w.flush-flushed.ensures.faults_stay)),
+            script_address,
+            ap (λ b. g.B.Faulty.opened_at b) w.graphite-is ∙ w.flush-flushed.ensures.address_stays ∙ c.loop-turn.invariant.4,
+            c.loop-turn.invariant.5,
+          )
     ]

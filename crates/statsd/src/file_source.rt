@@ -1,0 +1,79 @@
+use sd_outside::{Address, Failed, Faulty, OpenRefusal, Opens, Source, fault};
+use std::fs::File;
+use std::io::{ErrorKind, Read};
+use std::str;
+
+/// A file that bytes are read from. It doesn't tell what it has left.
+#[derive(Drop)]
+pub(crate) struct FileSource<'a> {
+    rt: &'a HostRuntime,
+    file: Option<File>,
+    opened_at: Option<Address>,
+    faults: u64,
+}
+
+impl<'a> FileSource<'a> {
+    /// It is opened later.
+    pub(crate) fn new(rt: &'a HostRuntime) -> FileSource<'a> {
+        FileSource {
+            rt,
+            file: None,
+            opened_at: None,
+            faults: 0,
+        }
+    }
+}
+
+impl<'a> Faulty for FileSource<'a> {
+    ghost faults = { λ s. s.faults };
+
+    ghost opened_at = { λ s. s.opened_at };
+}
+
+impl<'a> Opens for FileSource<'a> {
+    ghost use Rattle.std.specs.Prelude.{⊤};
+
+    ghost same_content = { λ old new. ⊤ };
+
+    fn open_at(&mut self, at: &Address) -> Result<(), OpenRefusal> {
+        let Address::File(name) = at else {
+            fault(&mut self.faults);
+            return Err(OpenRefusal::Failed);
+        };
+        let Ok(path) = str::from_utf8(name.as_slice()) else {
+            fault(&mut self.faults);
+            return Err(OpenRefusal::Failed);
+        };
+        match File::open(self.rt, path) {
+            Ok(file) => {
+                self.file = Some(file);
+                self.opened_at = Some(at.copied());
+                Ok(())
+            }
+            Err(e) if e.kind() == ErrorKind::OutOfMemory => Err(OpenRefusal::OutOfMemory),
+            Err(_) => {
+                fault(&mut self.faults);
+                Err(OpenRefusal::Failed)
+            }
+        }
+    }
+}
+
+impl<'a> Source for FileSource<'a> {
+    ghost use Rattle.std.specs.Prelude.{None};
+    ghost use Rattle.std.proofs.Common.{refl};
+
+    ghost remaining = { λ s. None };
+
+    fn read(&mut self, buf: &mut [u8]) -> Result<usize, Failed> {
+        let Some(file) = &mut self.file else {
+            return Err(fault(&mut self.faults));
+        };
+        match file.read(buf) {
+            Ok(n) => Ok(n),
+            Err(_) => Err(fault(&mut self.faults)),
+        }
+    }
+
+    ghost opening_keeps = { λ old new same. refl };
+}

@@ -1,0 +1,61 @@
+//! A StatsD daemon.
+#![tactic(auto)]
+
+mod file_source;
+mod standard_out;
+
+use file_source::FileSource;
+use sd_decimal::Line;
+use sd_outside::Backs;
+use sd_top::{Status, World, explain, statsd};
+use standard_out::StandardOut;
+use std::alloc::{AllocError, Global};
+use std::env;
+use std::io::{ErrorKind, Write};
+use std::process::ExitCode;
+
+/// The words after the program's name.
+///
+/// # Errors
+///
+/// `OutOfMemory`, and `Usage` where a word isn't UTF-8.
+fn words(rt: &HostRuntime) -> Result<Vec<String>, Status> {
+    match env::args(rt) {
+        Ok(args) => args.skip(1).collect(rt.alloc()).map_err(no_memory),
+        Err(e) if e.kind() == ErrorKind::OutOfMemory => Err(Status::OutOfMemory),
+        Err(_) => Err(Status::Usage),
+    }
+}
+
+fn no_memory(_: AllocError) -> Status {
+    Status::OutOfMemory
+}
+
+/// Carries out what the words ask for.
+fn run(rt: &HostRuntime) -> Status {
+    let words = match words(rt) {
+        Ok(words) => words,
+        Err(status) => return status,
+    };
+    let mut world = World {
+        settings: FileSource::new(rt),
+        script: FileSource::new(rt),
+        output: StandardOut::new(rt),
+        backs: Backs {
+            graphite: StandardOut::new(rt),
+            console: StandardOut::new(rt),
+            graphite_used: false,
+            console_used: false,
+        },
+    };
+    statsd(rt.alloc(), words.as_slice(), &mut world)
+}
+
+fn main(rt: HostRuntime) -> ExitCode {
+    let status = run(&rt);
+    let mut text = Line::new();
+    explain(&status, &mut text);
+    // there is no one left to tell where this fails
+    let _ = rt.stderr().write_all(text.as_slice());
+    ExitCode::from(status.exit())
+}

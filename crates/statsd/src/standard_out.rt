@@ -1,0 +1,75 @@
+use sd_outside::{Address, Backend, Failed, Faulty, OpenRefusal, Opens, Sink, fault};
+use std::io::{self, Write};
+
+/// Standard output, as a sink and as a backend, whose lists it doesn't set apart. It doesn't tell what it was given.
+#[derive(Drop)]
+pub(crate) struct StandardOut<'a> {
+    rt: &'a HostRuntime,
+    opened_at: Option<Address>,
+    faults: u64,
+}
+
+impl<'a> StandardOut<'a> {
+    pub(crate) fn new(rt: &'a HostRuntime) -> StandardOut<'a> {
+        StandardOut {
+            rt,
+            opened_at: None,
+            faults: 0,
+        }
+    }
+}
+
+impl<'a> Faulty for StandardOut<'a> {
+    ghost faults = { λ s. s.faults };
+
+    ghost opened_at = { λ s. s.opened_at };
+}
+
+impl<'a> Opens for StandardOut<'a> {
+    ghost use Rattle.std.specs.Prelude.{⊤};
+
+    ghost same_content = { λ old new. ⊤ };
+
+    /// Opens at the file with the empty name, and nowhere else.
+    fn open_at(&mut self, at: &Address) -> Result<(), OpenRefusal> {
+        match at {
+            Address::File(name) if name.is_empty() => {
+                self.opened_at = Some(at.copied());
+                Ok(())
+            }
+            _ => {
+                fault(&mut self.faults);
+                Err(OpenRefusal::Failed)
+            }
+        }
+    }
+}
+
+impl<'a> Sink for StandardOut<'a> {
+    ghost use Rattle.sd_model.specs.Outside.{Untold};
+
+    ghost written = { λ s. Untold };
+
+    fn write(&mut self, bytes: &[u8]) -> Result<usize, Failed> {
+        match self.rt.stdout().write(bytes) {
+            Ok(0) | Err(_) => Err(fault(&mut self.faults)),
+            Ok(n) => Ok(n),
+        }
+    }
+
+    ghost number_fits = { λ s. tt };
+}
+
+impl<'a> Backend for StandardOut<'a> {
+    ghost use Rattle.std.proofs.Common.{refl};
+
+    fn begin(&mut self) -> Result<(), Failed> {
+        Ok(())
+    }
+
+    fn finish(&mut self) -> Result<(), Failed> {
+        Ok(())
+    }
+
+    ghost opening_keeps = { λ old new same. refl };
+}
