@@ -8,7 +8,9 @@ pub mod Record
 pub mod Graphite
 pub mod Desk
 pub mod Script
+pub mod Undecided
 pub mod Replay
 pub mod Run
 pub mod Words
 pub mod Call
+pub mod Accounting

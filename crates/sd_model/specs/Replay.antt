@@ -1,7 +1,7 @@
 -- What a replay does: the state after the records of a script, the texts of its flushes, and the totals.
 use Rattle.std.specs.Prelude.{◌≡◌, ℕ, ◌+◌, ◌≤◌, Bool, true, false, List, [], ◌∷◌, ◌++◌, length, take, codes, decimal, ◌⊎◌, ◌≢◌, ⊤, map, Option, Some, None, option_map}
 use Rattle.std.specs.List.{AllByRecursion}
-use Rattle.sd_model.specs.Outside.{Written as Told, appended, begun, ended}
+use Rattle.sd_model.specs.Outside.{Written as Told, RoseBy, appended, begun, ended}
 use Rattle.sd_model.specs.Lines.{Sample, samples_of, pieces}
 use Rattle.sd_model.specs.Shard.{State, empty_state, Limits, Policy, Cause, Placed, Taken, Dropped, refusal, after_sample, after_swap, table_of}
 use Rattle.sd_model.specs.Record.{Tally, Record, record_of}
@@ -125,13 +125,15 @@ graphite_failures [] = 0
 graphite_failures (PlayedPacket who moment datagram ∷ played) = graphite_failures played
 graphite_failures (PlayedFlush ts marks ∷ played) = fault_of marks.graphite + graphite_failures played
 
--- These records were carried out: the script had their text before what it has left, and what their flushes
--- have for Graphite is what became of it, where the two tell it.
-pub record Replays (settings : Settings) (script left : Option (List ℕ)) (old new : Told) (played : List Played) : Type 0 where
+-- These records were carried out: the script had their text before what it has left; what their flushes have
+-- for Graphite is what became of it, where it tells that; and its count of faults rose by one for each flush that
+-- failed there, or by more.
+pub record Replays (settings : Settings) (script left : Option (List ℕ)) (old new : Told) (had has : ℕ) (played : List Played) : Type 0 where
   pub text : script ≡ option_map (λ rest. script_text (map command_of played) ++ rest) left
   pub built : AllByRecursion IsBuilt (map command_of played)
   pub used : AllByRecursion UsesGraphite played
   pub graphite : AfterDeliveries (graphite_deliveries settings first_run played) old new
+  pub faults : RoseBy (graphite_failures played) had has
 
 -- the lines of the totals, each a name, a space, a number and a newline
 abbrev pub total_line : List ℕ → ℕ → List ℕ

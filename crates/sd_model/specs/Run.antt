@@ -2,6 +2,7 @@
 use Rattle.std.specs.Prelude.{◌≡◌, ◌<◌, ◌^◌, ℕ, min, List, ◌++◌, length, map, take, Option, option_map, IfSome}
 use Rattle.sd_model.specs.Outside.{Written, Rose, appended, last_count}
 use Rattle.sd_model.specs.Script.{end_word, script_text, BeginsBuilt}
+use Rattle.sd_model.specs.Undecided.{IsUndecided}
 use Rattle.sd_model.specs.Replay.{default_settings, first_run, Run, Played, command_of, run_of, totals_text, Replays}
 
 -- What is seen of the objects that a replay uses: what the script has left and how often it failed, and what
@@ -38,7 +39,11 @@ state_after_all played = run_of default_settings first_run played
 
 -- these records were carried out, and then so much of the script is left
 abbrev pub PlayedUpTo : Seen → Seen → Option (List ℕ) → List Played → Type 0
-PlayedUpTo old new left played = Replays default_settings old.script left old.graphite new.graphite played
+PlayedUpTo old new left played = Replays default_settings old.script left old.graphite new.graphite old.graphite_faults new.graphite_faults played
+
+-- bytes that were read, and don't decide what stands next, stand at the front of what is left
+abbrev pub StandsUndecided : Option (List ℕ) → Type 0
+StandsUndecided left = (read : List ℕ) × IsUndecided read × IfSome left (λ bytes. (rest : List ℕ) × (bytes ≡ read ++ rest))
 
 -- What was done where a replay ends so.
 abbrev pub EndsAs : Seen → Seen → End → Type 0
@@ -50,7 +55,7 @@ EndsAs old new (NotBuilt at) =
     × IfSome left (λ bytes. ¬ BeginsBuilt bytes) × (at ≡ text_length played) × (new.output ≡ old.output)
 EndsAs old new ReadFailed =
     (played : List Played) × (left : Option (List ℕ)) × PlayedUpTo old new left played
-    × Rose old.script_faults new.script_faults × (new.output ≡ old.output)
+    × Rose old.script_faults new.script_faults × StandsUndecided left × (new.output ≡ old.output)
 EndsAs old new WriteFailed =
     (played : List Played) × (left : Option (List ℕ)) × PlayedUpTo old new (ended_with left) played
     × Rose old.output_faults new.output_faults

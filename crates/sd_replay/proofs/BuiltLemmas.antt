@@ -10,7 +10,7 @@ use Rattle.sd_replay.specs.Ahead.{left_behind, Grows}
 use Rattle.sd_replay.specs.Fields.{Lacks, IsFirstPlace}
 use Rattle.sd_replay.specs.Found.{HasBuiltPieces, HasDatagram, HasBody, IsCutShort, BeginsWithLine}
 use Rattle.sd_replay.specs.Head.{head_line, IsLegal}
-use Rattle.sd_replay.specs.Undecided.{IsUndecided}
+use Rattle.sd_model.specs.Undecided.{IsUndecided}
 use Rattle.sd_replay.specs.declared.head.Head.{Head}
 use Rattle.sd_replay.specs.declared.head.Head.TheVariants.{Packet, Flush, End}
 use Rattle.sd_replay.proofs.Cuts.{same_cut, at_cut, inside_cut}

@@ -1,9 +1,6 @@
 -- Where a byte stands in a list, and numbers as they are written.
 use Rattle.std.specs.Prelude.{◌≡◌, ◌≢◌, ℕ, ◌^◌, ◌<◌, List, ◌∷◌, ◌++◌, length, slice_index, decimal}
-
--- the byte stands nowhere in the list
-abbrev pub Lacks : ℕ → List ℕ → Type 0
-Lacks byte xs = (k : ℕ) → k < length xs → slice_index xs k ≢ byte
+pub use Rattle.sd_model.specs.Lists.{Lacks}
 
 -- the byte stands at this place, and nowhere before it
 pub record IsFirstPlace (byte : ℕ) (xs : List ℕ) (place : ℕ) : Type 0 where

@@ -11,4 +11,3 @@ pub mod Reads
 pub mod Room
 pub mod RoomInside
 pub mod Totals
-pub mod Undecided

@@ -38,7 +38,7 @@ impl Ahead {
     ghost use Rattle.sd_model.specs.Outside.{Rose, IsAtEnd};
     ghost use Rattle.sd_replay.specs.Fields.{Lacks, IsFirstPlace};
     ghost use Rattle.sd_replay.specs.Ahead.{held_in, left_behind, Grows, GrowsBy};
-    ghost use Rattle.sd_replay.specs.Undecided.{IsPartOfLine};
+    ghost use Rattle.sd_model.specs.Undecided.{IsPartOfLine};
 
     /// Takes the room, which holds no bytes yet.
     ///

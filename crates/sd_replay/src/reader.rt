@@ -42,7 +42,7 @@ impl Reader {
     ghost use Rattle.std.specs.Prelude.{◌≡◌, ◌≤◌, [], IfOk, OnErr};
     ghost use Rattle.sd_model.specs.Outside.{Rose};
     ghost use Rattle.sd_replay.specs.Reads.{ReadsItem, Stays};
-    ghost use Rattle.sd_replay.specs.Undecided.{IsUndecided};
+    ghost use Rattle.sd_model.specs.Undecided.{IsUndecided};
 
     /// A reader that has read nothing yet.
     ///

@@ -4,7 +4,7 @@ ghost use Rattle.sd_model.specs.Script.{BeginsBuilt};
 ghost use Rattle.sd_replay.specs.Ahead.{held_in, left_behind, Grows};
 ghost use Rattle.sd_replay.specs.Found.{HasBuiltPieces, HasDatagram, HasBody, IsCutShort, BeginsWith};
 ghost use Rattle.sd_replay.specs.Head.{IsLegal};
-ghost use Rattle.sd_replay.specs.Undecided.{IsUndecided};
+ghost use Rattle.sd_model.specs.Undecided.{IsUndecided};
 
 use crate::ahead::{Ahead, LINE};
 use crate::head::{Head, parse_line};

@@ -1,6 +1,6 @@
 use Rattle.std.proofs.Common.{◌≡◌, ◌≤◌, ℕ, ◌+◌, List, [], ◌∷◌, sym, subst, ap, ◌∙◌, refl, arith}
-use Rattle.sd_model.specs.Desk.{Desk, with_tally, with_round}
-use Rattle.sd_model.specs.Outside.{Rose, appended}
+use Rattle.sd_model.specs.Desk.{Desk, fault_of, with_tally, with_round}
+use Rattle.sd_model.specs.Outside.{Rose, RoseBy, appended}
 use Rattle.sd_model.specs.Graphite.{graphite_text}
 use Rattle.sd_model.specs.Record.{record_of}
 use Rattle.sd_model.specs.Replay.{AfterMark, Filing, PlayedFlush, PlayedPacket, default_settings, packet_filing, packet_tally, totals_text}
@@ -64,11 +64,12 @@ loop-turn-preserved g c =
           let read = subst reads w.in-Packet.is c.in-Ok.ensures.item in
           let filing : Limits → List ℕ → Filing = λ limits bytes. packet_filing limits before w.in-Packet.who bytes in
           let tallied : Limits → List ℕ → Desk = λ limits bytes. with_tally c.loop-turn.desk (packet_tally bytes (filing limits bytes).dropped) in
-          let more = packet_more _ _ (left c.next.new.self (g.R.Source.remaining c.next.new.script)) _ _ (g.B.Sink.written c.match-item.graphite) _ (state_of c.match-item.shard) _ c.match-item.desk _ c.next.new.self.at _ stands.progress
+          let more = packet_more _ _ (left c.next.new.self (g.R.Source.remaining c.next.new.script)) _ _ (g.B.Sink.written c.match-item.graphite) _ _ (g.B.Faulty.faults c.match-item.graphite) _ (state_of c.match-item.shard) _ c.match-item.desk _ c.next.new.self.at _ stands.progress
           (PlayedPacket w.in-Packet.who w.in-Packet.moment c.next.new.self.datagram) w.in-Packet.who w.in-Packet.moment c.next.new.self.datagram refl read.taken.left read.built
           (ap state_of w.shard-is ∙ w.play_packet.ensures.state ∙ ap (λ limits. (filing limits w.datagram.result.now).shard) stands.limits ∙ ap (λ bytes. (filing default_settings.limits bytes).shard) w.datagram.ensures)
           (w.desk-is ∙ w.play_packet.ensures.desk ∙ ap (λ limits. tallied limits w.datagram.result.now) stands.limits ∙ ap (tallied default_settings.limits) w.datagram.ensures)
-          read.taken.at (ap (λ b. g.B.Sink.written b) w.graphite-is) in (
+          read.taken.at (ap (λ b. g.B.Sink.written b) w.graphite-is)
+          (subst (λ b. g.B.Faulty.faults c.loop-turn.graphite ≤ g.B.Faulty.faults b) (sym w.graphite-is) (omega arith)) in (
             record {
               progress = more;
               limits = ap (λ (s : Standing). s.table.limits) w.shard-is ∙ w.play_packet.ensures.limits ∙ stands.limits;
@@ -86,11 +87,13 @@ loop-turn-preserved g c =
           let read = subst reads w.in-Flush.is c.in-Ok.ensures.item in
           let text = graphite_text (record_of default_settings.interval_ms (table_of before ∷ []) c.loop-turn.desk.tally w.in-Flush.ts) in
           let marks = marks_of w.flush-flushed.result.marks in
-          let more = flush_more _ _ (left c.next.new.self (g.R.Source.remaining c.next.new.script)) _ _ (g.B.Sink.written c.match-item.graphite) _ (state_of c.match-item.shard) _ c.match-item.desk _ c.next.new.self.at _ stands.progress
+          let more = flush_more _ _ (left c.next.new.self (g.R.Source.remaining c.next.new.script)) _ _ (g.B.Sink.written c.match-item.graphite) _ _ (g.B.Faulty.faults c.match-item.graphite) _ (state_of c.match-item.shard) _ c.match-item.desk _ c.next.new.self.at _ stands.progress
           (PlayedFlush w.in-Flush.ts marks) w.in-Flush.ts marks refl read.taken.left read.built w.flush-flushed.ensures.used (ap mark_of w.flush-flushed.ensures.console)
           (subst (AfterMark marks.graphite text (g.B.Sink.written c.loop-turn.graphite)) (ap (λ b. g.B.Sink.written b) (sym w.graphite-is)) w.flush-flushed.ensures.text)
           (ap state_of w.shard-is ∙ w.flush-flushed.ensures.state ∙ ap (λ policy. after_swap policy before) stands.policy)
-          (w.desk-is ∙ w.flush-flushed.ensures.desk) read.taken.at in (
+          (w.desk-is ∙ w.flush-flushed.ensures.desk) read.taken.at
+          (subst (λ b. RoseBy (fault_of marks.graphite) (g.B.Faulty.faults c.loop-turn.graphite) (g.B.Faulty.faults b)) (sym w.graphite-is) w.flush-flushed.ensures.faults)
+          (subst (λ b. g.B.Faulty.faults c.loop-turn.graphite ≤ g.B.Faulty.faults b) (sym w.graphite-is) w.flush-flushed.ensures.faults_stay) in (
             record {
               progress = more;
               limits = ap (λ (s : Standing). s.table.limits) w.shard-is ∙ w.flush-flushed.ensures.limits ∙ stands.limits;

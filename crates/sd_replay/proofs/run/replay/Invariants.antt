@@ -10,8 +10,8 @@ use Rattle.sd_replay.proofs.PlayLemmas.{Progress}
 use Rattle.sd_replay.proofs.run.replay.Given as goal
 
 -- what stands after so many turns
-pub record Stands (script now_left : Option (List ℕ)) (old new : Written) (shard : Standing) (empty_table : Listing) (desk : Desk) (scratch_room : ℕ) (reader : Reading) (turn : ℕ) : Type 0 where
-  pub progress : Progress script (left reader now_left) old new (state_of shard) desk reader.at turn
+pub record Stands (script now_left : Option (List ℕ)) (old new : Written) (had has : ℕ) (shard : Standing) (empty_table : Listing) (desk : Desk) (scratch_room : ℕ) (reader : Reading) (turn : ℕ) : Type 0 where
+  pub progress : Progress script (left reader now_left) old new had has (state_of shard) desk reader.at turn
   pub limits : shard.table.limits ≡ default_settings.limits
   pub policy : shard.policy ≡ default_settings.policy
   pub spare : IsSpareFor default_settings.limits empty_table
@@ -20,6 +20,7 @@ pub record Stands (script now_left : Option (List ℕ)) (old new : Written) (sha
 abbrev pub invariant-loop-turn : goal.invariant-loop-turn
 invariant-loop-turn g l =
     Stands (g.R.Source.remaining l.fn.script) (g.R.Source.remaining l.script) (g.B.Sink.written l.fn.graphite) (g.B.Sink.written l.graphite)
+      (g.B.Faulty.faults l.fn.graphite) (g.B.Faulty.faults l.graphite)
     l.shard l.spare l.desk l.scratch.room l.reader l._turn
     × (g.R.Faulty.faults l.fn.script ≤ g.R.Faulty.faults l.script)
     × (g.B.Faulty.faults l.fn.graphite ≤ g.B.Faulty.faults l.graphite)

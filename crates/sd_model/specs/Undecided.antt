@@ -1,6 +1,6 @@
 -- Bytes that don't decide yet what stands next in a script, so that more have to be read.
 use Rattle.std.specs.Prelude.{◌≡◌, ℕ, ◌^◌, ◌<◌, ◌≤◌, ◌⊎◌, List, ◌∷◌, ◌++◌, length, decimal}
-use Rattle.sd_replay.specs.Fields.{Lacks}
+use Rattle.sd_model.specs.Lists.{Lacks}
 
 -- fewer than 40 bytes without a newline
 abbrev pub IsPartOfLine : List ℕ → Type 0
