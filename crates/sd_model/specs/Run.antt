@@ -41,23 +41,28 @@ state_after_all played = run_of default_settings first_run played
 abbrev pub PlayedUpTo : Seen → Seen → Option (List ℕ) → List Played → Type 0
 PlayedUpTo old new left played = Replays default_settings old.script left old.graphite new.graphite old.graphite_faults new.graphite_faults played
 
--- bytes that were read, and don't decide what stands next, stand at the front of what is left
-abbrev pub StandsUndecided : Option (List ℕ) → Type 0
-StandsUndecided left = (read : List ℕ) × IsUndecided read × IfSome left (λ bytes. (rest : List ℕ) × (bytes ≡ read ++ rest))
+-- what is left begins with bytes that were read and don't decide what stands next; behind them stands what the
+-- script's object has left
+abbrev pub StandsUndecided : Option (List ℕ) → Option (List ℕ) → Type 0
+StandsUndecided left unread = (read : List ℕ) × IsUndecided read × (left ≡ option_map (λ rest. read ++ rest) unread)
+
+-- fewer records than a replay carries out at most
+abbrev pub AreFew : List Played → Type 0
+AreFew played = length played < 2 ^ 62
 
 -- What was done where a replay ends so.
 abbrev pub EndsAs : Seen → Seen → End → Type 0
 EndsAs old new Complete =
-    (played : List Played) × (left : Option (List ℕ)) × PlayedUpTo old new (ended_with left) played
+    (played : List Played) × (left : Option (List ℕ)) × PlayedUpTo old new (ended_with left) played × AreFew played
     × (new.output ≡ appended old.output (totals_text (state_after_all played)))
 EndsAs old new (NotBuilt at) =
-    (played : List Played) × (left : Option (List ℕ)) × PlayedUpTo old new left played
+    (played : List Played) × (left : Option (List ℕ)) × PlayedUpTo old new left played × AreFew played
     × IfSome left (λ bytes. ¬ BeginsBuilt bytes) × (at ≡ text_length played) × (new.output ≡ old.output)
 EndsAs old new ReadFailed =
-    (played : List Played) × (left : Option (List ℕ)) × PlayedUpTo old new left played
-    × Rose old.script_faults new.script_faults × StandsUndecided left × (new.output ≡ old.output)
+    (played : List Played) × (left : Option (List ℕ)) × PlayedUpTo old new left played × AreFew played
+    × Rose old.script_faults new.script_faults × StandsUndecided left new.script × (new.output ≡ old.output)
 EndsAs old new WriteFailed =
-    (played : List Played) × (left : Option (List ℕ)) × PlayedUpTo old new (ended_with left) played
+    (played : List Played) × (left : Option (List ℕ)) × PlayedUpTo old new (ended_with left) played × AreFew played
     × Rose old.output_faults new.output_faults
     × ((n : ℕ) × (n < length (totals_text (state_after_all played))) × (new.output ≡ appended old.output (take n (totals_text (state_after_all played)))))
 EndsAs old new (WornOut turns) =

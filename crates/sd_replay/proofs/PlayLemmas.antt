@@ -1,5 +1,5 @@
 -- A replay so far, and one record more.
-use Rattle.std.proofs.Common.{◌≡◌, ◌≢◌, ℕ, ◌+◌, ◌≤◌, min, List, [], ◌∷◌, ◌++◌, length, map, refl, sym, ap, subst, ◌∙◌, Option, Some, None, option_map, length-append, arith}
+use Rattle.std.proofs.Common.{◌≡◌, ◌≢◌, ℕ, ◌+◌, ◌<◌, ◌≤◌, ◌^◌, min, List, [], ◌∷◌, ◌++◌, length, map, refl, sym, ap, subst, ◌∙◌, Option, Some, None, option_map, length-append, arith}
 use Rattle.std.proofs.lemmas.List.{map-append, length-map}
 use Rattle.std.specs.Prelude.{⊤}
 use Rattle.std.specs.List.{AllByRecursion}
@@ -37,16 +37,16 @@ pub nothing_ahead : (reader : Reading) (script : Option (List ℕ)) → reader.p
 nothing_ahead reader script e = ap (λ bytes. option_map (λ (rest : List ℕ). bytes ++ rest) script) e ∙ same_option script
 
 -- the end: the word was read, and the totals were written
-pub completes : (old new : Seen) (left now : Option (List ℕ)) (shard : State) (desk : Desk) (at turn : ℕ) → Progress old.script left old.graphite new.graphite old.graphite_faults new.graphite_faults shard desk at turn → left ≡ ended_with now
+pub completes : (old new : Seen) (left now : Option (List ℕ)) (shard : State) (desk : Desk) (at turn : ℕ) → Progress old.script left old.graphite new.graphite old.graphite_faults new.graphite_faults shard desk at turn → turn < 2 ^ 62 → left ≡ ended_with now
     → new.output ≡ appended old.output (totals_text (record { shard = shard; desk = desk })) → EndsAs old new Complete
-completes old new left now shard desk at turn so_far word written =
-    (so_far.played, now, subst (λ o. PlayedUpTo old new o so_far.played) word so_far.replays, written ∙ ap (λ run. appended old.output (totals_text run)) (same_run so_far))
+completes old new left now shard desk at turn so_far few word written =
+    (so_far.played, now, subst (λ o. PlayedUpTo old new o so_far.played) word so_far.replays, omega (arith, few, so_far.turns), written ∙ ap (λ run. appended old.output (totals_text run)) (same_run so_far))
 
 -- the end: the word was read, and a write of the totals failed
-pub writes_part : (old new : Seen) (left now : Option (List ℕ)) (shard : State) (desk : Desk) (at turn : ℕ) → Progress old.script left old.graphite new.graphite old.graphite_faults new.graphite_faults shard desk at turn → left ≡ ended_with now
+pub writes_part : (old new : Seen) (left now : Option (List ℕ)) (shard : State) (desk : Desk) (at turn : ℕ) → Progress old.script left old.graphite new.graphite old.graphite_faults new.graphite_faults shard desk at turn → turn < 2 ^ 62 → left ≡ ended_with now
     → Rose old.output_faults new.output_faults → AppendsFront old.output (totals_text (record { shard = shard; desk = desk })) new.output → EndsAs old new WriteFailed
-writes_part old new left now shard desk at turn so_far word rose front =
-    (so_far.played, now, subst (λ o. PlayedUpTo old new o so_far.played) word so_far.replays, rose, subst (λ run. AppendsFront old.output (totals_text run) new.output) (same_run so_far) front)
+writes_part old new left now shard desk at turn so_far few word rose front =
+    (so_far.played, now, subst (λ o. PlayedUpTo old new o so_far.played) word so_far.replays, omega (arith, few, so_far.turns), rose, subst (λ run. AppendsFront old.output (totals_text run) new.output) (same_run so_far) front)
 
 -- nothing was done yet
 pub nothing_played : (script : Option (List ℕ)) (w : Told) (had : ℕ) (shard : State) (desk : Desk) (at : ℕ) → shard ≡ first_run.shard → desk ≡ first_run.desk → at ≡ 0 → Progress script script w w had had shard desk at 0

@@ -44,10 +44,10 @@ returns-in-End-clause-end g c =
     } in
     elim c.match-finish.branch [
       | in-Ok-finish w ↦ subst (λ r. EndsAs was is (end_of r)) (sym w.result-is)
-          (completes was is _ _ _ _ _ _ so_far reads.taken.left
+          (completes was is _ _ _ _ _ _ so_far c.loop-turn-test.true reads.taken.left
           (subst (λ o. g.O.Sink.written c.finish.new.output ≡ appended (g.O.Sink.written o) text) same w.in-Ok-finish.ensures.ok))
       | in-Err w ↦ subst (λ r. EndsAs was is (end_of r)) (sym w.result-is)
-          (writes_part was is _ _ _ _ _ _ so_far reads.taken.left
+          (writes_part was is _ _ _ _ _ _ so_far c.loop-turn-test.true reads.taken.left
           (subst (λ o. Rose (g.O.Faulty.faults o) (g.O.Faulty.faults c.finish.new.output)) same w.in-Err.ensures.failed)
           (subst (λ o. AppendsFront (g.O.Sink.written o) text (g.O.Sink.written c.finish.new.output)) same w.in-Err.ensures.front))
     ]
