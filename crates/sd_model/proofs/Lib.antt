@@ -1,9 +1,14 @@
+pub mod AccountingLemmas
+pub mod CompletenessLemmas
+pub mod Cuts
 pub mod EntryLemmas
 pub mod ListLemmas
 pub mod NamesLemmas
 pub mod OutsideLemmas
 pub mod PieceCounts
+pub mod ReadingLemmas
 pub mod ReplayLemmas
 pub mod Rounding
 pub mod RowLemmas
+pub mod RunLemmas
 pub mod Trims

@@ -10,7 +10,8 @@ pub mod Desk
 pub mod Script
 pub mod Undecided
 pub mod Replay
+pub mod Accounting
 pub mod Run
 pub mod Words
 pub mod Call
-pub mod Accounting
+pub mod Completeness

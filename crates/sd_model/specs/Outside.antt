@@ -3,6 +3,11 @@
 use Rattle.std.specs.Prelude.{◌≡◌, ℕ, ◌+◌, ◌-◌, ◌^◌, ◌≤◌, min, Bool, true, false, List, [], ◌∷◌, ◌++◌, length, Option, Some, None, IfSome}
 use Rattle.std.specs.Option.{option_map}
 
+-- Where an object is opened: at a file by its name, or at a host and a port.
+pub data Place : Type 0 where
+  File : (name : List ℕ) → Place
+  Host : (host : List ℕ) (port : ℕ) → Place
+
 -- where a count that has no more room stops
 abbrev pub last_count : ℕ
 last_count = 2 ^ 64 - 1

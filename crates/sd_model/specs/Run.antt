@@ -2,6 +2,7 @@
 use Rattle.std.specs.Prelude.{◌≡◌, ◌<◌, ◌^◌, ℕ, min, List, ◌++◌, length, map, take, Option, option_map, IfSome}
 use Rattle.sd_model.specs.Outside.{Written, Rose, appended, last_count}
 use Rattle.sd_model.specs.Script.{end_word, script_text, BeginsBuilt}
+use Rattle.sd_model.specs.Accounting.{Accounted}
 use Rattle.sd_model.specs.Undecided.{IsUndecided}
 use Rattle.sd_model.specs.Replay.{default_settings, first_run, Run, Played, command_of, run_of, totals_text, Replays}
 
@@ -37,9 +38,11 @@ text_length played = min (length (script_text (map command_of played))) last_cou
 abbrev pub state_after_all : List Played → Run
 state_after_all played = run_of default_settings first_run played
 
--- these records were carried out, and then so much of the script is left
-abbrev pub PlayedUpTo : Seen → Seen → Option (List ℕ) → List Played → Type 0
-PlayedUpTo old new left played = Replays default_settings old.script left old.graphite new.graphite old.graphite_faults new.graphite_faults played
+-- These records were carried out, and then so much of the script is left; and each good sample of them has its
+-- place.
+pub record PlayedUpTo (old new : Seen) (left : Option (List ℕ)) (played : List Played) : Type 0 where
+  pub replays : Replays default_settings old.script left old.graphite new.graphite old.graphite_faults new.graphite_faults played
+  pub accounted : Accounted default_settings played
 
 -- what is left begins with bytes that were read and don't decide what stands next; behind them stands what the
 -- script's object has left

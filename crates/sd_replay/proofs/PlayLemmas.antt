@@ -14,12 +14,15 @@ use Rattle.sd_model.specs.Record.{record_of}
 use Rattle.sd_model.specs.Replay.{default_settings, first_run, Filing, Run, Played, PlayedPacket, PlayedFlush, command_of, packet_filing, packet_tally, play, run_of, flush_record, graphite_deliveries, AfterMark, AfterDelivery, AfterDeliveries, UsesGraphite, graphite_failures, Replays, totals_text}
 use Rattle.sd_model.specs.Run.{Seen, End, Complete, WriteFailed, EndsAs, PlayedUpTo, ended_with, state_after_all, text_length}
 use Rattle.sd_replay.specs.Reading.{Reading, left}
+use Rattle.sd_model.specs.Accounting.{Accounted}
+use Rattle.sd_model.proofs.AccountingLemmas.{accounted}
 use Rattle.sd_model.proofs.ReplayLemmas.{run_of-push, deliveries-packet, deliveries-flush, failures-packet, failures-flush, delivery_of, AfterDeliveries-push, script_text-push, script_text-end, AllByRecursion-push}
 
 -- what a replay has done since it began
 pub record Progress (script left : Option (List ℕ)) (old new : Told) (had has : ℕ) (shard : State) (desk : Desk) (at turn : ℕ) : Type 0 where
   pub played : List Played
   pub replays : Replays default_settings script left old new had has played
+  pub accounted : Accounted default_settings played
   pub same_shard : shard ≡ (state_after_all played).shard
   pub same_desk : desk ≡ (state_after_all played).desk
   pub same_place : at ≡ text_length played
@@ -40,13 +43,13 @@ nothing_ahead reader script e = ap (λ bytes. option_map (λ (rest : List ℕ). 
 pub completes : (old new : Seen) (left now : Option (List ℕ)) (shard : State) (desk : Desk) (at turn : ℕ) → Progress old.script left old.graphite new.graphite old.graphite_faults new.graphite_faults shard desk at turn → turn < 2 ^ 62 → left ≡ ended_with now
     → new.output ≡ appended old.output (totals_text (record { shard = shard; desk = desk })) → EndsAs old new Complete
 completes old new left now shard desk at turn so_far few word written =
-    (so_far.played, now, subst (λ o. PlayedUpTo old new o so_far.played) word so_far.replays, omega (arith, few, so_far.turns), written ∙ ap (λ run. appended old.output (totals_text run)) (same_run so_far))
+    (so_far.played, now, subst (λ o. PlayedUpTo old new o so_far.played) word (record { replays = so_far.replays; accounted = so_far.accounted }), omega (arith, few, so_far.turns), written ∙ ap (λ run. appended old.output (totals_text run)) (same_run so_far))
 
 -- the end: the word was read, and a write of the totals failed
 pub writes_part : (old new : Seen) (left now : Option (List ℕ)) (shard : State) (desk : Desk) (at turn : ℕ) → Progress old.script left old.graphite new.graphite old.graphite_faults new.graphite_faults shard desk at turn → turn < 2 ^ 62 → left ≡ ended_with now
     → Rose old.output_faults new.output_faults → AppendsFront old.output (totals_text (record { shard = shard; desk = desk })) new.output → EndsAs old new WriteFailed
 writes_part old new left now shard desk at turn so_far few word rose front =
-    (so_far.played, now, subst (λ o. PlayedUpTo old new o so_far.played) word so_far.replays, omega (arith, few, so_far.turns), rose, subst (λ run. AppendsFront old.output (totals_text run) new.output) (same_run so_far) front)
+    (so_far.played, now, subst (λ o. PlayedUpTo old new o so_far.played) word (record { replays = so_far.replays; accounted = so_far.accounted }), omega (arith, few, so_far.turns), rose, subst (λ run. AppendsFront old.output (totals_text run) new.output) (same_run so_far) front)
 
 -- nothing was done yet
 pub nothing_played : (script : Option (List ℕ)) (w : Told) (had : ℕ) (shard : State) (desk : Desk) (at : ℕ) → shard ≡ first_run.shard → desk ≡ first_run.desk → at ≡ 0 → Progress script script w w had had shard desk at 0
@@ -54,6 +57,7 @@ nothing_played script w had shard desk at s d a =
     record {
       played = [];
       replays = record { text = sym (same_option script); built = tt; used = tt; graphite = refl; faults = omega arith };
+      accounted = accounted default_settings [];
       same_shard = s;
       same_desk = d;
       same_place = a;
@@ -88,6 +92,7 @@ module _ (script left left' : Option (List ℕ)) (old new new' : Told) (had has 
           graphite = after;
           faults = rose;
         };
+        accounted = accounted default_settings (ps ++ p ∷ []);
         same_shard = s ∙ ap (λ r. r.shard) (sym (run_of-push default_settings first_run ps p));
         same_desk = d ∙ ap (λ r. r.desk) (sym (run_of-push default_settings first_run ps p));
         same_place = a ∙ longer (map command_of ps) (command_of p) at so_far.same_place ∙ ap (λ cs. min (length (script_text cs)) last_count) (sym commands);

@@ -1,11 +1,9 @@
-ghost use Rattle.std.specs.Prelude.{IfOk};
-ghost use Rattle.sd_replay.specs.RoomInside.{IsFresh};
-
 use crate::desk::Desk;
 use crate::reader::Reader;
 use sd_record::RecordScratch;
 use sd_shard::{Limits, Policy, Shard, Table};
 use std::alloc::{AllocError, Global};
+use std::marker::Model;
 
 /// How long the time between flushes is, in milliseconds.
 pub(crate) const INTERVAL_MS: u32 = 10_000;
@@ -25,7 +23,7 @@ const POLICY: Policy = Policy {
     max_ttl: 1,
 };
 
-/// All that a replay works on, in room taken when it was opened.
+/// All that a replay works on, in room taken when it was opened. Nothing was done yet.
 #[derive(Drop)]
 pub struct ReplayRoom {
     pub(crate) shard: Shard,
@@ -35,6 +33,18 @@ pub struct ReplayRoom {
     pub(crate) reader: Reader,
 }
 
+impl Model for ReplayRoom {
+    ghost use Rattle.std.specs.Prelude.{⊤};
+
+    ghost Value = { ⊤ };
+
+    ghost use Rattle.sd_replay.specs.RoomInside.{untold, IsFresh};
+
+    ghost view = { untold };
+
+    ghost invariant = { IsFresh };
+}
+
 impl ReplayRoom {
     /// Takes the room.
     ///
@@ -42,7 +52,6 @@ impl ReplayRoom {
     ///
     /// Where no memory is left for it.
     pub fn open(alloc: Global) -> Result<ReplayRoom, AllocError>
-        ensures { IfOk result IsFresh }
     {
         Ok(ReplayRoom {
             shard: Shard::open(alloc, LIMITS, POLICY)?,

@@ -6,7 +6,6 @@ ghost use Rattle.sd_model.specs.Run.{EndsAs};
 ghost use Rattle.sd_outside.specs.Write.{AppendsFront};
 ghost use Rattle.sd_shard.specs.Shard.{state_of};
 ghost use Rattle.sd_replay.specs.Ends.{end_of, AnswersTotals};
-ghost use Rattle.sd_replay.specs.RoomInside.{IsFresh};
 ghost use Rattle.sd_replay.specs.Totals.{totals_lines};
 
 use crate::desk::Desk;
@@ -95,7 +94,7 @@ fn finish<O: Sink>(shard: &Shard, desk: &Desk, output: &mut O) -> Result<Totals,
     Ok(totals)
 }
 
-/// Carries out a script, record by record, in a room that is fresh. Graphite gets each flush's text, and the
+/// Carries out a script, record by record. Graphite gets each flush's text, and the
 /// output gets the totals at the end.
 pub fn replay<R: Source, O: Sink, B: Backend>(
     room: ReplayRoom,
@@ -103,7 +102,6 @@ pub fn replay<R: Source, O: Sink, B: Backend>(
     output: &mut O,
     graphite: &mut B,
 ) -> ReplayEnd
-    requires { IsFresh room }
     ensures end { EndsAs
         (record {
           script = R.remaining script.old;

@@ -1,7 +1,7 @@
 -- Why a step before a replay ended the call.
-use Rattle.std.specs.Prelude.{◌≡◌, ◌≢◌, ◌⊎◌, ℕ, List, [], Option, IfSome}
+use Rattle.std.specs.Prelude.{◌≡◌, ◌≢◌, ◌⊎◌, ℕ, List, [], Option, Some, IfSome}
 use Rattle.sd_model.specs.Call.{SameContent}
-use Rattle.sd_model.specs.Outside.{Rose}
+use Rattle.sd_model.specs.Outside.{Place, Rose}
 use Rattle.sd_model.specs.Run.{Seen}
 use Rattle.sd_top.specs.declared.status.Part.{Part}
 use Rattle.sd_top.specs.declared.status.Part.TheVariants.{Settings, Script, Graphite}
@@ -12,11 +12,18 @@ use Rattle.sd_top.specs.declared.status.Status.TheVariants.{OutOfMemory, ReadFau
 abbrev pub NotOpened : Part → Status → ℕ → ℕ → Type 0
 NotOpened part status had has = (status ≡ OutOfMemory) ⊎ ((status ≡ OpenFault part) × Rose had has)
 
--- the settings weren't opened, or a read of them failed, or they have a byte
-abbrev pub NotTaken : Status → Option (List ℕ) → ℕ → ℕ → Type 0
-NotTaken status left had has =
-    NotOpened Settings status had has ⊎ ((status ≡ ReadFault Settings) × Rose had has)
-    ⊎ ((status ≡ Unbuilt 0) × IfSome left (λ bytes. bytes ≢ []))
+-- the settings weren't opened, or a read of them failed, or they have a byte; `at` is where they were opened last
+abbrev pub NotTaken : Status → Option Place → Place → Option (List ℕ) → ℕ → ℕ → Type 0
+NotTaken status at name left had has =
+    NotOpened Settings status had has
+    ⊎ ((status ≡ ReadFault Settings) × Rose had has × (at ≡ Some name))
+    ⊎ ((status ≡ Unbuilt 0) × IfSome left (λ bytes. bytes ≢ []) × (at ≡ Some name))
+
+-- the objects of a replay, and where the script and Graphite were opened last
+pub record Ready : Type 0 where
+  pub seen : Seen
+  pub script_at : Option Place
+  pub graphite_at : Option Place
 
 -- what the objects of a replay have is as it was, and the output wasn't used
 pub record Unused (old new : Seen) : Type 0 where
@@ -24,8 +31,9 @@ pub record Unused (old new : Seen) : Type 0 where
   pub output_faults : new.output_faults ≡ old.output_faults
 
 -- no record was carried out: no memory was left, or the script or Graphite couldn't be opened
-abbrev pub NotBegun : Status → Seen → Seen → Type 0
-NotBegun status old new =
-    (status ≡ OutOfMemory) × Unused old new
-    ⊎ (status ≡ OpenFault Script) × Unused old new × Rose old.script_faults new.script_faults × (new.graphite_faults ≡ old.graphite_faults)
-    ⊎ (status ≡ OpenFault Graphite) × Unused old new × Rose old.graphite_faults new.graphite_faults
+abbrev pub NotBegun : Status → Place → Ready → Ready → Type 0
+NotBegun status name old new =
+    (status ≡ OutOfMemory) × Unused old.seen new.seen
+    ⊎ (status ≡ OpenFault Script) × Unused old.seen new.seen × Rose old.seen.script_faults new.seen.script_faults
+      × (new.seen.graphite_faults ≡ old.seen.graphite_faults) × (new.graphite_at ≡ old.graphite_at)
+    ⊎ (status ≡ OpenFault Graphite) × Unused old.seen new.seen × Rose old.seen.graphite_faults new.seen.graphite_faults × (new.script_at ≡ Some name)

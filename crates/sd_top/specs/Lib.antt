@@ -1,4 +1,5 @@
 pub mod Answers
 pub mod Causes
+pub mod Places
 pub mod Status
 pub mod Words

@@ -1,14 +1,14 @@
 ghost use Rattle.std.specs.Prelude.{◌≡◌, ◌≤◌, ◌⊎◌, [], map, string_bytes, Some, OnOk, IfOk, IfErr};
-ghost use Rattle.sd_model.specs.Call.{Answers, AsksForReplay, ending};
-ghost use Rattle.sd_model.specs.Outside.{Rose, IsAtEnd};
+ghost use Rattle.sd_model.specs.Call.{Answers, ending};
+ghost use Rattle.sd_model.specs.Outside.{File, IsAtEnd};
 ghost use Rattle.sd_model.specs.Run.{EndsAs};
-ghost use Rattle.sd_outside.specs.declared.address.Address.TheVariants.{File};
 ghost use Rattle.sd_replay.specs.Ends.{end_of};
 ghost use Rattle.sd_top.specs.Answers.{answer_of};
 ghost use Rattle.sd_top.specs.Causes.{NotOpened, NotTaken, NotBegun};
+ghost use Rattle.sd_top.specs.Places.{place_of, last_place};
 
 use crate::status::{Part, Status};
-use crate::words::{Form, form_of};
+use crate::words::form_of;
 use arrayvec::ArrayVec;
 use sd_outside::{Address, Backend, Backs, Failed, Name, OpenRefusal, Opens, Sink, Source};
 use sd_replay::{ReplayEnd, ReplayRoom, replay};
@@ -29,7 +29,7 @@ pub struct World<R, O, B> {
 ///
 /// `OpenFault` where it failed, and `OutOfMemory`.
 fn open<T: Opens>(object: &mut T, at: &Address, part: Part) -> Result<(), Status>
-    ensures ok { OnOk result (T.opened_at object.new ≡ Some at.now) }
+    ensures ok { OnOk result (last_place (T.opened_at object.new) ≡ Some (place_of at.now)) }
     ensures content { T.same_content object.old object.new }
     ensures refused { IfErr result (λ status. NotOpened part status (T.faults object.old) (T.faults object.new)) }
     ensures faults_stay { T.faults object.old ≤ T.faults object.new }
@@ -41,6 +41,34 @@ fn open<T: Opens>(object: &mut T, at: &Address, part: Part) -> Result<(), Status
     }
 }
 
+/// Opens a source, which has the same left to read.
+///
+/// # Errors
+///
+/// `OpenFault` where it failed, and `OutOfMemory`.
+fn open_source<R: Source>(source: &mut R, at: &Address, part: Part) -> Result<(), Status>
+    ensures ok { OnOk result (last_place (R.opened_at source.new) ≡ Some (place_of at.now)) }
+    ensures content { R.remaining source.new ≡ R.remaining source.old }
+    ensures refused { IfErr result (λ status. NotOpened part status (R.faults source.old) (R.faults source.new)) }
+    ensures faults_stay { R.faults source.old ≤ R.faults source.new }
+{
+    open(source, at, part)
+}
+
+/// Opens a backend, which was given the same.
+///
+/// # Errors
+///
+/// `OpenFault` where it failed, and `OutOfMemory`.
+fn open_backend<B: Backend>(back: &mut B, at: &Address, part: Part) -> Result<(), Status>
+    ensures ok { OnOk result (last_place (B.opened_at back.new) ≡ Some (place_of at.now)) }
+    ensures content { B.written back.new ≡ B.written back.old }
+    ensures refused { IfErr result (λ status. NotOpened part status (B.faults back.old) (B.faults back.new)) }
+    ensures faults_stay { B.faults back.old ≤ B.faults back.new }
+{
+    open(back, at, part)
+}
+
 /// Opens and reads the settings, which have no byte.
 ///
 /// # Errors
@@ -48,11 +76,12 @@ fn open<T: Opens>(object: &mut T, at: &Address, part: Part) -> Result<(), Status
 /// `OpenFault` and `ReadFault` where they failed, `OutOfMemory`, and `Unbuilt` where they have a byte.
 fn read_settings<R: Source>(settings: &mut R, at: &Address) -> Result<(), Status>
     ensures empty { OnOk result (IsAtEnd (R.remaining settings.old)) }
-    ensures opened { OnOk result (R.opened_at settings.new ≡ Some at.now) }
-    ensures refused { IfErr result (λ status. NotTaken status (R.remaining settings.old) (R.faults settings.old) (R.faults settings.new)) }
+    ensures opened { OnOk result (last_place (R.opened_at settings.new) ≡ Some (place_of at.now)) }
+    ensures refused { IfErr result (λ status. NotTaken status (last_place (R.opened_at settings.new)) (place_of at.now)
+        (R.remaining settings.old) (R.faults settings.old) (R.faults settings.new)) }
     ensures faults_stay { R.faults settings.old ≤ R.faults settings.new }
 {
-    open(settings, at, Part::Settings)?;
+    open_source(settings, at, Part::Settings)?;
     let mut first = [0];
     match settings.read(&mut first) {
         Ok(0) => Ok(()),
@@ -106,29 +135,43 @@ fn carry_out<R: Source, O: Sink, B: Backend>(
           output_faults = O.faults output.new;
         })
         (end_of end)) }
-    ensures refused { IfErr result (λ status. NotBegun status
+    ensures script_at { IfOk result (λ end. last_place (R.opened_at script.new) ≡ Some (File name.items)) }
+    ensures graphite_at { IfOk result (λ end. last_place (B.opened_at graphite.new) ≡ Some (File [])) }
+    ensures refused { IfErr result (λ status. NotBegun status (File name.items)
         (record {
-          script = R.remaining script.old;
-          script_faults = R.faults script.old;
-          graphite = B.written graphite.old;
-          graphite_faults = B.faults graphite.old;
-          output = O.written output.old;
-          output_faults = O.faults output.old;
+          seen = record {
+            script = R.remaining script.old;
+            script_faults = R.faults script.old;
+            graphite = B.written graphite.old;
+            graphite_faults = B.faults graphite.old;
+            output = O.written output.old;
+            output_faults = O.faults output.old;
+          };
+          script_at = last_place (R.opened_at script.old);
+          graphite_at = last_place (B.opened_at graphite.old);
         })
         (record {
-          script = R.remaining script.new;
-          script_faults = R.faults script.new;
-          graphite = B.written graphite.new;
-          graphite_faults = B.faults graphite.new;
-          output = O.written output.new;
-          output_faults = O.faults output.new;
+          seen = record {
+            script = R.remaining script.new;
+            script_faults = R.faults script.new;
+            graphite = B.written graphite.new;
+            graphite_faults = B.faults graphite.new;
+            output = O.written output.new;
+            output_faults = O.faults output.new;
+          };
+          script_at = last_place (R.opened_at script.new);
+          graphite_at = last_place (B.opened_at graphite.new);
         })) }
+    ensures script_faults_stay { R.faults script.old ≤ R.faults script.new }
+    ensures output_faults_stay { O.faults output.old ≤ O.faults output.new }
+    ensures graphite_faults_stay { B.faults graphite.old ≤ B.faults graphite.new }
+    ensures output_address_stays { O.opened_at output.new ≡ O.opened_at output.old }
 {
     let Ok(room) = ReplayRoom::open(alloc) else {
         return Err(Status::OutOfMemory);
     };
-    open(script, &Address::File(name), Part::Script)?;
-    open(graphite, &Address::File(Name::new()), Part::Graphite)?;
+    open_source(script, &Address::File(name), Part::Script)?;
+    open_backend(graphite, &Address::File(Name::new()), Part::Graphite)?;
     Ok(replay(room, script, output, graphite))
 }
 
@@ -153,6 +196,9 @@ pub fn statsd<R: Source, O: Sink, B: Backend>(
             output = O.written world.old.output;
             output_faults = O.faults world.old.output;
           };
+          settings_at = last_place (R.opened_at world.old.settings);
+          script_at = last_place (R.opened_at world.old.script);
+          graphite_at = last_place (B.opened_at world.old.backs.graphite);
         })
         (record {
           settings = R.remaining world.new.settings;
@@ -165,20 +211,29 @@ pub fn statsd<R: Source, O: Sink, B: Backend>(
             output = O.written world.new.output;
             output_faults = O.faults world.new.output;
           };
+          settings_at = last_place (R.opened_at world.new.settings);
+          script_at = last_place (R.opened_at world.new.script);
+          graphite_at = last_place (B.opened_at world.new.backs.graphite);
         })
         (answer_of result) }
+    ensures settings_faults_stay { R.faults world.old.settings ≤ R.faults world.new.settings }
+    ensures script_faults_stay { R.faults world.old.script ≤ R.faults world.new.script }
+    ensures output_faults_stay { O.faults world.old.output ≤ O.faults world.new.output }
+    ensures graphite_faults_stay { B.faults world.old.backs.graphite ≤ B.faults world.new.backs.graphite }
+    ensures output_address_stays { O.opened_at world.new.output ≡ O.opened_at world.old.output }
+    ensures console_stays { world.new.backs.console ≡ world.old.backs.console }
 {
-    let Some(Form::Replay { settings, script }) = form_of(words) else {
+    let Some(files) = form_of(words) else {
         return Status::Usage;
     };
-    if let Err(status) = read_settings(&mut world.settings, &Address::File(settings)) {
+    if let Err(status) = read_settings(&mut world.settings, &Address::File(files.settings)) {
         return status;
     }
     world.backs.graphite_used = true;
     world.backs.console_used = false;
     match carry_out(
         alloc,
-        script,
+        files.script,
         &mut world.script,
         &mut world.output,
         &mut world.backs.graphite,

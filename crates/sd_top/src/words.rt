@@ -5,11 +5,11 @@ ghost use Rattle.sd_top.specs.Words.{form_view};
 use arrayvec::ArrayVec;
 use sd_outside::Name;
 
-/// What the words ask for.
+/// The files that the words of a replay name.
 #[derive(Debug, Drop)]
-pub(crate) enum Form {
-    /// A script carried out by settings.
-    Replay { settings: Name, script: Name },
+pub(crate) struct ReplayFiles {
+    pub settings: Name,
+    pub script: Name,
 }
 
 /// Whether a word names a file: 1 to 255 bytes, the first of which isn't `-`.
@@ -35,7 +35,7 @@ fn name_of(word: &str) -> Name
 }
 
 /// What the words ask for, where they are of a form that is built.
-pub(crate) fn form_of(words: &[String]) -> Option<Form>
+pub(crate) fn form_of(words: &[String]) -> Option<ReplayFiles>
     ensures { option_map form_view result ≡ form (map (λ w. string_bytes w) words.now) }
 {
     let [name, settings, script] = words else {
@@ -47,7 +47,7 @@ pub(crate) fn form_of(words: &[String]) -> Option<Form>
     {
         return None;
     }
-    Some(Form::Replay {
+    Some(ReplayFiles {
         settings: name_of(settings.as_str()),
         script: name_of(script.as_str()),
     })

@@ -14,9 +14,31 @@ use Rattle.sd_replay.specs.Reading.{left}
 use Rattle.sd_replay.specs.Reads.{ReadsItem}
 use Rattle.sd_replay.specs.Room.{IsSpareFor}
 use Rattle.sd_replay.specs.declared.reader.Item.{Item}
-use Rattle.sd_replay.proofs.PlayLemmas.{completes, writes_part, packet_more, flush_more}
+use Rattle.sd_replay.proofs.PlayLemmas.{Progress, nothing_ahead, nothing_played, completes, writes_part, packet_more, flush_more}
 use Rattle.sd_replay.proofs.run.replay.Goals as goal
 use Rattle.sd_replay.proofs.run.replay.Goals.{in-Ok-finish, in-Err, in-Packet, in-Flush}
+
+pub loop-turn-init : goal.loop-turn-init
+loop-turn-init g c =
+    let room = c.room.inside in
+    let script = g.R.Source.remaining c.args.script.now in
+    let graphite = g.B.Sink.written c.args.graphite.now in
+    let faults = g.B.Faulty.faults c.args.graphite.now in
+    (
+      record {
+        progress = subst (λ o. Progress script o graphite graphite faults faults (state_of room.shard) room.desk room.reader.at 0) (sym (nothing_ahead room.reader script c.room.invariant.pending))
+          (nothing_played script graphite faults (state_of room.shard) room.desk room.reader.at c.room.invariant.state c.room.invariant.desk c.room.invariant.start);
+        limits = c.room.invariant.limits;
+        policy = c.room.invariant.policy;
+        spare = c.room.invariant.spare;
+        room = c.room.invariant.scratch;
+      },
+      omega arith,
+      omega arith,
+      refl,
+      refl,
+      refl,
+    )
 
 pub returns-in-End-clause-end : goal.returns-in-End-clause-end
 returns-in-End-clause-end g c =

@@ -1,0 +1,13 @@
+-- Addresses of the code, as the definitions have them.
+use Rattle.std.specs.Prelude.{Option, option_map}
+use Rattle.sd_model.specs.Outside as model
+use Rattle.sd_outside.specs.declared.address.Address.{Address}
+use Rattle.sd_outside.specs.declared.address.Address.TheVariants.{File, Host}
+
+abbrev pub place_of : Address → model.Place
+place_of (File name) = model.File name.items
+place_of (Host host port) = model.Host host.items port
+
+-- the place where an object was last opened, if it was
+abbrev pub last_place : Option Address → Option model.Place
+last_place address = option_map place_of address
