@@ -35,8 +35,13 @@ module _ (old mid new : Seen) (opened : OnlyOpened old mid) where
       (played, left, played_from left played ups, few, unbuilt, place, output ∙ opened.output)
   ends_from ReadFailed (played, left, ups, few, rose, read, output) =
       (played, left, played_from left played ups, few, omega (arith, rose, opened.script_faults), read, output ∙ opened.output)
-  ends_from WriteFailed (played, left, ups, few, rose, (n, short, output)) =
-      (played, left, played_from _ played ups, few, omega (arith, rose, opened.output_faults),
-        (n, short, output ∙ ap (λ w. appended w (take n (totals_text (state_after_all played)))) opened.output))
+  ends_from WriteFailed (played, left, ups, few, rose, (n, short, output)) = (
+    played,
+    left,
+    played_from _ played ups,
+    few,
+    omega (arith, rose, opened.output_faults),
+    (n, short, output ∙ ap (λ w. appended w (take n (totals_text (state_after_all played)))) opened.output),
+  )
   ends_from (WornOut turns) (played, left, ups, turns_are, many, output) =
       (played, left, played_from left played ups, turns_are, many, output ∙ opened.output)

@@ -51,8 +51,7 @@ impl ReplayRoom {
     /// # Errors
     ///
     /// Where no memory is left for it.
-    pub fn open(alloc: Global) -> Result<ReplayRoom, AllocError>
-    {
+    pub fn open(alloc: Global) -> Result<ReplayRoom, AllocError> {
         Ok(ReplayRoom {
             shard: Shard::open(alloc, LIMITS, POLICY)?,
             spare: Table::open(alloc, LIMITS)?,

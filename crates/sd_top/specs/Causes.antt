@@ -35,5 +35,5 @@ abbrev pub NotBegun : Status → Place → Ready → Ready → Type 0
 NotBegun status name old new =
     (status ≡ OutOfMemory) × Unused old.seen new.seen
     ⊎ (status ≡ OpenFault Script) × Unused old.seen new.seen × Rose old.seen.script_faults new.seen.script_faults
-      × (new.seen.graphite_faults ≡ old.seen.graphite_faults) × (new.graphite_at ≡ old.graphite_at)
+    × (new.seen.graphite_faults ≡ old.seen.graphite_faults) × (new.graphite_at ≡ old.graphite_at)
     ⊎ (status ≡ OpenFault Graphite) × Unused old.seen new.seen × Rose old.seen.graphite_faults new.seen.graphite_faults × (new.script_at ≡ Some name)

@@ -7,3 +7,6 @@ mod words;
 
 pub use call::{World, statsd};
 pub use status::{Part, Status, explain};
+
+#[cfg(test)]
+mod tests;

@@ -23,11 +23,10 @@ loop-turn-init g c =
     let room = c.room.inside in
     let script = g.R.Source.remaining c.args.script.now in
     let graphite = g.B.Sink.written c.args.graphite.now in
-    let faults = g.B.Faulty.faults c.args.graphite.now in
-    (
+    let faults = g.B.Faulty.faults c.args.graphite.now in (
       record {
         progress = subst (λ o. Progress script o graphite graphite faults faults (state_of room.shard) room.desk room.reader.at 0) (sym (nothing_ahead room.reader script c.room.invariant.pending))
-          (nothing_played script graphite faults (state_of room.shard) room.desk room.reader.at c.room.invariant.state c.room.invariant.desk c.room.invariant.start);
+            (nothing_played script graphite faults (state_of room.shard) room.desk room.reader.at c.room.invariant.state c.room.invariant.desk c.room.invariant.start);
         limits = c.room.invariant.limits;
         policy = c.room.invariant.policy;
         spare = c.room.invariant.spare;

@@ -20,7 +20,7 @@ pub record Stands (script now_left : Option (List ℕ)) (old new : Written) (had
 abbrev pub invariant-loop-turn : goal.invariant-loop-turn
 invariant-loop-turn g l =
     Stands (g.R.Source.remaining l.fn.script) (g.R.Source.remaining l.script) (g.B.Sink.written l.fn.graphite) (g.B.Sink.written l.graphite)
-      (g.B.Faulty.faults l.fn.graphite) (g.B.Faulty.faults l.graphite)
+    (g.B.Faulty.faults l.fn.graphite) (g.B.Faulty.faults l.graphite)
     l.shard l.spare l.desk l.scratch.room l.reader l._turn
     × (g.R.Faulty.faults l.fn.script ≤ g.R.Faulty.faults l.script)
     × (g.B.Faulty.faults l.fn.graphite ≤ g.B.Faulty.faults l.graphite)
