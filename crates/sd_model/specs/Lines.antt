@@ -22,7 +22,7 @@ abbrev pub is_empty : {A : Type 0} → List A → Bool
 is_empty [] = true
 is_empty (x ∷ xs) = false
 
--- the pieces of a datagram: its lines without the white space at their ends, and without the empty ones
+-- the pieces of a datagram: its lines without the white space behind them, and without the empty ones
 abbrev pub pieces : List ℕ → List (List ℕ)
 pieces datagram = filter (λ piece. not (is_empty piece)) (map (trim_end is_white_space) (split 10 datagram))
 

@@ -13,8 +13,9 @@ use Rattle.sd_replay.specs.Head.{head_line, IsLegal}
 use Rattle.sd_model.specs.Undecided.{IsUndecided}
 use Rattle.sd_replay.specs.declared.head.Head.{Head}
 use Rattle.sd_replay.specs.declared.head.Head.TheVariants.{Packet, Flush, End}
-use Rattle.sd_replay.proofs.Cuts.{same_cut, at_cut, inside_cut}
-use Rattle.sd_replay.proofs.Numbers.{Lacks-decimal}
+use Rattle.sd_model.proofs.Cuts.{same_cut, at_cut}
+use Rattle.sd_replay.proofs.Cuts.{inside_cut}
+use Rattle.sd_model.proofs.ReadingLemmas.{Lacks-decimal}
 
 -- a datagram that stands behind the front
 HasDatagram-behind : (front datagram rest : List ℕ) → HasBuiltPieces datagram → HasDatagram (length front) (length datagram) (front ++ (datagram ++ 10 ∷ rest))

@@ -8,7 +8,7 @@ use std::marker::Model;
 /// What stands next in a script.
 #[derive(Clone, Copy, Debug, PartialEq, Eq)]
 pub enum Item {
-    /// A receiver got a datagram at a Unix second. `Reader::datagram` lends the datagram.
+    /// A receiver got a datagram at a moment. `Reader::datagram` lends the datagram.
     Packet { who: u16, moment: u64 },
     /// A flush at a Unix second.
     Flush { ts: u64 },

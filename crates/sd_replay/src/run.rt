@@ -24,7 +24,7 @@ const MOST_TURNS: u64 = 1 << 62;
 /// How a replay ended.
 #[derive(Clone, Copy, Debug, PartialEq, Eq)]
 pub enum ReplayEnd {
-    /// The script was read up to its end, and the totals were written.
+    /// The script was read up to its end, and these totals were written.
     Ok(Totals),
     /// From this place on the script doesn't begin with a record that is built.
     Unbuilt { at: u64 },
