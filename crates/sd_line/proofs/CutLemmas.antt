@@ -1,7 +1,5 @@
 -- A search for the first separator, from place to place.
-use Rattle.std.proofs.Common.{◌≡◌, ◌≢◌, ℕ, suc, ◌+◌, ◌<◌, Bool, true, false, cond, eqb, List, [], ◌∷◌, ◌++◌, length, get_or, take, drop, refl, sym, ap, ◌∙◌, Option, Some, None, option_map, add-one, eq-eqb, append_assoc}
-use Rattle.std.proofs.Math.Seq.{drop-cons, take-suc}
-use Rattle.std.proofs.lemmas.Bool.Decides.{nat_tests}
+use Rattle.std.proofs.Common.{◌≡◌, ℕ, false, eqb, List, [], ◌∷◌, ◌++◌, refl, sym, ap, Option, Some, None, option_map, eq-eqb, append_assoc}
 use Rattle.sd_model.specs.Lists.{cut_at, Cut, before_part}
 
 -- a cut of what stands behind the front

@@ -1,6 +1,6 @@
 -- The pieces of a datagram, one line after another.
-use Rattle.std.proofs.Common.{◌≡◌, ℕ, cond, not, List, [], ◌∷◌, refl, sym, ap, ◌∙◌, Option, Some, None, map, filter}
-use Rattle.sd_model.specs.Lists.{is_white_space, trim_end, split, cut_at, Cut}
+use Rattle.std.proofs.Common.{◌≡◌, ℕ, cond, not, List, [], ◌∷◌, refl, sym, ap, ◌∙◌, Some, None, map, filter}
+use Rattle.sd_model.specs.Lists.{is_white_space, trim_end, cut_at, Cut}
 use Rattle.sd_model.specs.Lines.{is_empty, pieces}
 use Rattle.sd_model.proofs.ListLemmas.{split-cut, parts_of}
 use Rattle.sd_line.specs.Pieces.{with_line}

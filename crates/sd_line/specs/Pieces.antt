@@ -1,5 +1,5 @@
 -- What the reader of a datagram's pieces answers.
-use Rattle.std.specs.Prelude.{◌≡◌, ℕ, List, [], ◌∷◌, Option, Some, None, Result, MatchResult}
+use Rattle.std.specs.Prelude.{◌≡◌, ℕ, List, [], ◌∷◌, Some, None, Result, MatchResult}
 use Rattle.sd_model.specs.Lines.{Sample, sample_of}
 use Rattle.sd_line.specs.declared.piece.Bad.{Bad}
 

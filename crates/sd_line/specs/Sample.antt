@@ -1,5 +1,5 @@
 -- A sample of the code, as the definitions have it, and what the type keeps.
-use Rattle.std.specs.Prelude.{ℕ, ◌^◌, ◌<◌, ◌≤◌, ℤ, pos, ◌≤ℤ◌, length, unsigned_abs}
+use Rattle.std.specs.Prelude.{◌^◌, ◌<◌, ◌≤◌, pos, ◌≤ℤ◌, length, unsigned_abs}
 use Rattle.sd_model.specs.Lines as model
 use Rattle.sd_key.specs.Kind.{kind_of}
 use Rattle.sd_line.specs.declared.sample.Sample.TheInside.{Inside}

@@ -1,5 +1,5 @@
 -- How many pieces a datagram has at most.
-use Rattle.std.proofs.Common.{◌≡◌, ℕ, suc, ◌+◌, ◌≤◌, Bool, true, false, cond, not, eqb, List, [], ◌∷◌, length, map, filter, arith}
+use Rattle.std.proofs.Common.{ℕ, suc, ◌+◌, ◌≤◌, Bool, true, false, cond, not, eqb, List, [], ◌∷◌, length, map, filter, arith}
 use Rattle.std.proofs.lemmas.List.{length-map}
 use Rattle.sd_model.specs.Lists.{split, onto_first, trim_end, is_white_space}
 use Rattle.sd_model.specs.Lines.{pieces, is_empty}

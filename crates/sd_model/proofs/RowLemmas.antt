@@ -1,15 +1,12 @@
 -- The order of rows, and maps of rows that are made from lists.
-use Rattle.std.proofs.Common.{◌≡◌, ℕ, zero, suc, ◌+◌, ◌<◌, ◌≤◌, Bool, true, false, cond, not, ◌||◌, eqb, List, [], ◌∷◌, ◌++◌, length, get_or, set, take, drop, map, refl, sym, ap, subst, ◌∙◌, Option, Some, None, is_some, IsSome, arith}
-use Rattle.std.specs.List.{list_any}
-use Rattle.std.specs.declared.cmp.Ordering.{Ordering}
-use Rattle.std.specs.declared.cmp.Ordering.TheVariants.{Less, Equal, Greater}
-use Rattle.std.specs.Ordering.{nat_cmp, is_eq, eq_by_cmp}
-use Rattle.std.specs.Cmp.{IsTotalOrder, eq_by_cmp_equiv, on_total, then_total, nat_cmp_total}
+use Rattle.std.proofs.Common.{◌≡◌, ℕ, cond, eqb, List, refl, sym, ap, ◌∙◌}
+use Rattle.std.specs.Ordering.{nat_cmp}
+use Rattle.std.specs.Cmp.{IsTotalOrder, on_total, then_total, nat_cmp_total}
 use Rattle.std.specs.Cmp.Lexicographic.{slice_cmp, nat_list_cmp_total}
-use Rattle.std.specs.FinMap.{FinMap, IsAntisymmetric, nat_cmp-IsAntisymmetric, slice_cmp-IsAntisymmetric, find, get, insert, from_entries, len, contains_key, same_map, get-insert, get-from_entries, len-insert, from_entries_push, retain_keys, get-retain_keys}
+use Rattle.std.specs.FinMap.{IsAntisymmetric, nat_cmp-IsAntisymmetric, slice_cmp-IsAntisymmetric}
 use Rattle.std.proofs.lemmas.Map.Lookups.{exact_pairs, exact_unsigned}
 use Rattle.sd_model.specs.Names.{Kind, Counter, Timer, Gauge, Set, rank}
-use Rattle.sd_model.specs.Shard.{RowId, row_cmp, Rows, Kept, is_same_row}
+use Rattle.sd_model.specs.Shard.{RowId, row_cmp}
 
 kind_at : ℕ → Kind
 kind_at n = cond (eqb n 0) Counter (cond (eqb n 1) Timer (cond (eqb n 2) Gauge Set))

@@ -1,6 +1,6 @@
 -- A replay that began from objects that only were opened.
-use Rattle.std.proofs.Common.{◌≡◌, ℕ, ◌≤◌, List, refl, sym, ap, subst, ◌∙◌, take, arith, Option}
-use Rattle.sd_model.specs.Outside.{Rose, RoseBy, appended}
+use Rattle.std.proofs.Common.{◌≡◌, ℕ, ◌≤◌, List, sym, ap, subst, ◌∙◌, take, arith, Option}
+use Rattle.sd_model.specs.Outside.{appended}
 use Rattle.sd_model.specs.Replay.{Played, default_settings, first_run, graphite_deliveries, AfterDeliveries, totals_text}
 use Rattle.sd_model.specs.Run.{Seen, End, Complete, NotBuilt, ReadFailed, WriteFailed, WornOut, EndsAs, PlayedUpTo, state_after_all}
 

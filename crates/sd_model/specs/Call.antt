@@ -2,7 +2,7 @@
 use Rattle.std.specs.Prelude.{◌≡◌, ◌≢◌, ◌⊎◌, ℕ, List, [], Option, Some, None, IfSome}
 use Rattle.sd_model.specs.Outside.{Place, File, Rose, IsAtEnd}
 use Rattle.sd_model.specs.Run.{Seen, End, Complete, NotBuilt, ReadFailed, WriteFailed, WornOut, EndsAs}
-use Rattle.sd_model.specs.Words.{Form, Replay, form}
+use Rattle.sd_model.specs.Words.{Replay, form}
 
 -- an object that is opened
 pub data Part : Type 0 where

@@ -1,5 +1,5 @@
 -- The desk: what the server counts of itself.
-use Rattle.std.specs.Prelude.{ℕ, ◌+◌, ◌^◌, min, List, [], ◌∷◌, ◌++◌, codes, decimal}
+use Rattle.std.specs.Prelude.{ℕ, ◌+◌, ◌^◌, min}
 use Rattle.sd_model.specs.Record.{Tally}
 
 -- counts stop at 2 ^ 63

@@ -2,7 +2,7 @@
 -- under StatsD's legacy names.
 use Rattle.std.specs.Prelude.{ℕ, ◌*◌, ℤ, pos, List, [], ◌∷◌, ◌++◌, length, flat_map, codes, decimal}
 use Rattle.sd_model.specs.Numbers.{number_text, per_second}
-use Rattle.sd_model.specs.Record.{Row, CounterRow, Tally, Record}
+use Rattle.sd_model.specs.Record.{Row, CounterRow, Record}
 
 -- a line: path, value and second
 abbrev pub line : List ℕ → List ℕ → ℕ → List ℕ

@@ -1,9 +1,8 @@
 -- Flush records: the rows of the tables that were swapped out, with their values.
 use Rattle.std.specs.Prelude.{ℕ, ℤ, List, map, flat_map}
-use Rattle.std.specs.FinMap.{FinMap, entries, from_entries}
-use Rattle.sd_model.specs.Names.{Kind}
+use Rattle.std.specs.FinMap.{entries, from_entries}
 use Rattle.sd_model.specs.Numbers.{per_second}
-use Rattle.sd_model.specs.Shard.{RowId, row_cmp, Kept, Entry, Table, counter_value}
+use Rattle.sd_model.specs.Shard.{RowId, row_cmp, Entry, Table, counter_value}
 
 -- A row of a record: a counter with its count and its count per second.
 pub data Row : Type 0 where

@@ -1,9 +1,9 @@
 -- What a replay does: the state after the records of a script, the texts of its flushes, and the totals.
-use Rattle.std.specs.Prelude.{◌≡◌, ℕ, ◌+◌, ◌≤◌, Bool, true, false, List, [], ◌∷◌, ◌++◌, length, take, codes, decimal, ◌⊎◌, ◌≢◌, ⊤, map, Option, Some, None, option_map}
+use Rattle.std.specs.Prelude.{◌≡◌, ℕ, ◌+◌, ◌≤◌, false, List, [], ◌∷◌, ◌++◌, length, take, codes, decimal, ◌⊎◌, ◌≢◌, ⊤, map, Option, Some, None, option_map}
 use Rattle.std.specs.List.{AllByRecursion}
 use Rattle.sd_model.specs.Outside.{Written as Told, RoseBy, appended, begun, ended}
 use Rattle.sd_model.specs.Lines.{Sample, samples_of, pieces}
-use Rattle.sd_model.specs.Shard.{State, empty_state, Limits, Policy, Cause, Placed, Taken, Dropped, refusal, after_sample, after_swap, table_of}
+use Rattle.sd_model.specs.Shard.{State, empty_state, Limits, Policy, Cause, refusal, after_sample, after_swap, table_of}
 use Rattle.sd_model.specs.Record.{Tally, Record, record_of}
 use Rattle.sd_model.specs.Graphite.{graphite_text}
 use Rattle.sd_model.specs.Desk.{Desk, new_desk, with_tally, with_round, Mark, NotUsed, Written, Fault, Marks, fault_of}

@@ -1,5 +1,5 @@
 -- Scripts: the records that a replay carries out, and their text.
-use Rattle.std.specs.Prelude.{◌≡◌, ◌⊎◌, ℕ, ◌+◌, ◌^◌, ◌<◌, ◌≤◌, List, [], ◌∷◌, ◌++◌, length, flat_map, decimal, IsSome, ⊤}
+use Rattle.std.specs.Prelude.{◌≡◌, ◌⊎◌, ℕ, ◌^◌, ◌<◌, ◌≤◌, List, [], ◌∷◌, ◌++◌, length, flat_map, decimal, IsSome}
 use Rattle.std.specs.List.{AllByRecursion}
 use Rattle.sd_model.specs.Lines.{pieces, sample_of}
 

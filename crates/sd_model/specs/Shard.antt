@@ -1,5 +1,5 @@
 -- A shard: its rows and entries, and what one event does to them.
-use Rattle.std.specs.Prelude.{◌≡◌, ℕ, ◌+◌, ◌^◌, min, nat_lt, Bool, true, false, not, ◌&&◌, ◌||◌, ℤ, pos, ◌+ℤ◌, List, [], ◌∷◌, ◌++◌, length, filter, fold, map, if◌then◌else◌, Option, Some, None, option_map, unwrap_or, refl}
+use Rattle.std.specs.Prelude.{ℕ, ◌+◌, ◌^◌, min, nat_lt, Bool, not, ◌&&◌, ℤ, pos, ◌+ℤ◌, List, [], ◌∷◌, ◌++◌, length, filter, fold, map, if◌then◌else◌, Option, Some, None, option_map, unwrap_or}
 use Rattle.std.specs.declared.cmp.Ordering.{Ordering}
 use Rattle.std.specs.Ordering.{nat_cmp, ordering_then, is_eq}
 use Rattle.std.specs.Cmp.Lexicographic.{slice_cmp}

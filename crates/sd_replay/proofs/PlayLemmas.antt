@@ -1,18 +1,16 @@
 -- A replay so far, and one record more.
 use Rattle.std.proofs.Common.{◌≡◌, ◌≢◌, ℕ, ◌+◌, ◌<◌, ◌≤◌, ◌^◌, min, List, [], ◌∷◌, ◌++◌, length, map, refl, sym, ap, subst, ◌∙◌, Option, Some, None, option_map, length-append, arith}
-use Rattle.std.proofs.lemmas.List.{map-append, length-map}
-use Rattle.std.specs.Prelude.{⊤}
+use Rattle.std.proofs.lemmas.List.{map-append}
 use Rattle.std.specs.List.{AllByRecursion}
 use Rattle.sd_model.specs.Outside.{Written as Told, Rose, RoseBy, appended, last_count}
 use Rattle.sd_outside.specs.Write.{AppendsFront}
-use Rattle.sd_model.specs.Lines.{samples_of}
 use Rattle.sd_model.specs.Shard.{State, after_swap, table_of}
 use Rattle.sd_model.specs.Desk.{Desk, Marks, NotUsed, with_tally, with_round, fault_of}
 use Rattle.sd_model.specs.Graphite.{graphite_text}
 use Rattle.sd_model.specs.Script.{Command, Packet, Flush, spelled, script_text, IsBuilt}
 use Rattle.sd_model.specs.Record.{record_of}
-use Rattle.sd_model.specs.Replay.{default_settings, first_run, Filing, Run, Played, PlayedPacket, PlayedFlush, command_of, packet_filing, packet_tally, play, run_of, flush_record, graphite_deliveries, AfterMark, AfterDelivery, AfterDeliveries, UsesGraphite, graphite_failures, Replays, totals_text}
-use Rattle.sd_model.specs.Run.{Seen, End, Complete, WriteFailed, EndsAs, PlayedUpTo, ended_with, state_after_all, text_length}
+use Rattle.sd_model.specs.Replay.{default_settings, first_run, Filing, Played, PlayedPacket, PlayedFlush, command_of, packet_filing, packet_tally, play, graphite_deliveries, AfterMark, AfterDeliveries, UsesGraphite, graphite_failures, Replays, totals_text}
+use Rattle.sd_model.specs.Run.{Seen, Complete, WriteFailed, EndsAs, PlayedUpTo, ended_with, state_after_all, text_length}
 use Rattle.sd_replay.specs.Reading.{Reading, left}
 use Rattle.sd_model.specs.Accounting.{Accounted}
 use Rattle.sd_model.proofs.AccountingLemmas.{accounted}

@@ -1,7 +1,6 @@
 -- The rows that stay at a swap, one after another.
 use Rattle.std.proofs.Common.{◌≡◌, ℕ, zero, suc, ◌<◌, Bool, true, false, cond, not, ◌||◌, List, [], ◌∷◌, ◌++◌, length, get_or, take, map, ◌+◌, refl, sym, ap, subst, ◌∙◌, Option, Some, None, is_some, arith}
-use Rattle.std.specs.declared.cmp.Ordering.TheVariants.{Equal}
-use Rattle.std.specs.FinMap.{empty, get-empty, find, get, insert, from_entries, contains_key, same_map, get-insert, get-from_entries, get-retain_keys}
+use Rattle.std.specs.FinMap.{empty, get-empty, get, insert, from_entries, contains_key, same_map, get-insert, get-from_entries, get-retain_keys}
 use Rattle.std.specs.Cmp.{eq_by_cmp_equiv}
 use Rattle.sd_model.specs.Shard.{RowId, row_cmp, Rows, Kept, is_same_row, Policy, goes_idle, carried}
 use Rattle.sd_model.proofs.RowLemmas.{rows_total, rows_exact}
@@ -10,7 +9,7 @@ use Rattle.std.proofs.Math.ListN.{get_or-map}
 use Rattle.sd_shard.specs.Table.{AreApart, listed_with, row_view, live_rows}
 use Rattle.sd_shard.specs.declared.table.Row.{Row}
 use Rattle.sd_shard.proofs.RowChanges.{live-push}
-use Rattle.sd_shard.proofs.ListingLemmas.{same_row, not_found, from_entries-push, found}
+use Rattle.sd_shard.proofs.ListingLemmas.{same_row, not_found}
 
 stays : Policy → RowId → Bool
 stays policy id = not (goes_idle policy id.kind)

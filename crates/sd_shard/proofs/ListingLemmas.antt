@@ -1,14 +1,13 @@
 -- Rows listed in some order, and the map that they make.
 use Rattle.std.proofs.Common.{◌≡◌, ℕ, zero, suc, ◌+◌, Bool, true, false, cond, not, ◌||◌, ◌&&◌, List, [], ◌∷◌, ◌++◌, length, set, refl, sym, ap, subst, ◌∙◌, get_or, ◌<◌, drop, map, Option, Some, None, is_some, add-one, arith}
-use Rattle.std.specs.List.{list_any}
 use Rattle.std.specs.declared.cmp.Ordering.TheVariants.{Less, Equal, Greater}
-use Rattle.std.specs.Ordering.{is_eq, eq_by_cmp}
+use Rattle.std.specs.Ordering.{is_eq}
 use Rattle.std.specs.Cmp.{eq_by_cmp_equiv}
-use Rattle.std.specs.FinMap.{find, get, insert, from_entries, len, contains_key, same_map, get-insert, get-from_entries, len-insert, len-empty, from_entries_push}
+use Rattle.std.specs.FinMap.{find, insert, from_entries, len, contains_key, same_map, get-insert, get-from_entries, len-insert, len-empty, from_entries_push}
 use Rattle.std.specs.Prelude.{nat_lt}
 use Rattle.std.proofs.lemmas.Bool.{ltb-true}
 use Rattle.sd_model.specs.Lines.{Sample}
-use Rattle.sd_model.specs.Shard.{RowId, row_cmp, Rows, Kept, is_same_row, row_of, State, Limits, Cause, NoRow, NoEntry, NoNumber, refusal, last_number}
+use Rattle.sd_model.specs.Shard.{RowId, row_cmp, Kept, is_same_row, row_of, State, Limits, Cause, NoRow, NoEntry, NoNumber, refusal, last_number}
 use Rattle.sd_model.proofs.RowLemmas.{rows_exact, rows_total}
 use Rattle.sd_shard.specs.Table.{AreApart, IsPlace, listed_with, row_view}
 use Rattle.sd_shard.specs.declared.table.Row.{Row}

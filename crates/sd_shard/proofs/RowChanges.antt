@@ -1,13 +1,13 @@
 -- Changes of the rows of the code, and of the map that they make.
-use Rattle.std.proofs.Common.{◌≡◌, ℕ, zero, suc, ◌+◌, ◌<◌, ◌≤◌, Bool, true, false, cond, ◌||◌, List, [], ◌∷◌, ◌++◌, length, get_or, set, map, pos, refl, sym, ap, subst, ◌∙◌, Option, Some, None, is_some, MatchOption, option_map, unwrap_or, arith}
+use Rattle.std.proofs.Common.{◌≡◌, ℕ, zero, suc, ◌+◌, ◌<◌, ◌≤◌, Bool, true, false, cond, ◌||◌, List, [], ◌∷◌, ◌++◌, get_or, set, map, pos, refl, sym, ap, subst, ◌∙◌, Option, Some, None, is_some, MatchOption, option_map, unwrap_or, arith}
 use Rattle.std.proofs.lemmas.List.{map-append, map-set}
 use Rattle.std.proofs.Math.ListN.{get_or-map}
-use Rattle.std.specs.FinMap.{find, get, insert, from_entries, get-from_entries}
-use Rattle.sd_model.specs.Shard.{RowId, row_cmp, Rows, Kept, is_same_row, touched, base_of}
+use Rattle.std.specs.FinMap.{insert, from_entries, get-from_entries}
+use Rattle.sd_model.specs.Shard.{RowId, row_cmp, Kept, is_same_row, touched, base_of}
 use Rattle.sd_model.proofs.RowLemmas.{rows_total}
 use Rattle.sd_shard.specs.Table.{AreApart, IsPlace, listed_with, row_view, live_rows}
 use Rattle.sd_shard.specs.declared.table.Row.{Row}
-use Rattle.sd_shard.proofs.ListingLemmas.{from_entries-set, from_entries-push, find-place, id_at_place, AreApart-set, AreApart-push, not_found, same_itself, place_below}
+use Rattle.sd_shard.proofs.ListingLemmas.{from_entries-set, from_entries-push, find-place, id_at_place, AreApart-set, AreApart-push, not_found, same_itself}
 
 pub live-push : (rows : List Row) (row : Row) → listed_with (row_view row).0 (map row_view rows) ≡ false → live_rows (rows ++ row ∷ []) ≡ insert (live_rows rows) (row_view row).0 (row_view row).1
 live-push rows row absent =

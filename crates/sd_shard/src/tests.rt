@@ -27,9 +27,11 @@ fn policy(counters: bool) -> Policy {
 fn count(rt: &impl Abort, shard: &mut Shard, name: &str) -> Placed
     ensures { shard.new.table.limits ≡ shard.old.table.limits }
 {
+    let key = Key::of(name.as_bytes()).expect(rt, "a short name");
+    assert!(rt; !key.is_empty());
     let sample = Sample {
         kind: Kind::Counter,
-        key: Key::of(name.as_bytes()).expect(rt, "a short name"),
+        key,
         value: Micro(1_000_000),
         rate: Micro(1_000_000),
         signed: false,

@@ -1,12 +1,12 @@
 -- What a call answers, by the step that ended it.
-use Rattle.std.proofs.Common.{◌≡◌, List, ℕ, [], inl, inr, Some, refl, sym, ap, subst, Option}
+use Rattle.std.proofs.Common.{◌≡◌, List, ℕ, [], inl, inr, Some, refl, sym, ap, subst}
 use Rattle.sd_model.specs.Outside.{File, IsAtEnd}
 use Rattle.sd_model.specs.Run.{Seen, End, Complete, NotBuilt, ReadFailed, WriteFailed, WornOut, EndsAs}
 use Rattle.sd_model.specs.Words.{Replay, form}
 use Rattle.sd_model.specs.Call.{Objects, Answer, AsksForReplay, SameContent, Ran, Answers, ending}
 use Rattle.sd_top.specs.declared.status.Status.{Status}
 use Rattle.sd_top.specs.Answers.{answer_of}
-use Rattle.sd_top.specs.Causes.{NotTaken, NotBegun, Ready, Unused}
+use Rattle.sd_top.specs.Causes.{NotTaken, NotBegun, Ready}
 
 -- what a replay works on
 abbrev pub ready_of : Objects → Ready

@@ -9,7 +9,6 @@ ghost use Rattle.sd_top.specs.Places.{place_of, last_place};
 
 use crate::status::{Part, Status};
 use crate::words::form_of;
-use arrayvec::ArrayVec;
 use sd_outside::{Address, Backend, Backs, Failed, Name, OpenRefusal, Opens, Sink, Source};
 use sd_replay::{ReplayEnd, ReplayRoom, replay};
 use std::alloc::Global;
@@ -179,6 +178,7 @@ fn carry_out<R: Source, O: Sink, B: Backend>(
 ///
 /// `replay SETTINGS SCRIPT` reads the settings, which must be empty, and carries out the script: its packets
 /// are filed, and each flush gives Graphite the record's text. The output gets the totals at the script's end.
+/// Graphite is used whatever the flags of `backs` say, and the console isn't.
 pub fn statsd<R: Source, O: Sink, B: Backend>(
     alloc: Global,
     words: &[String],
@@ -222,6 +222,8 @@ pub fn statsd<R: Source, O: Sink, B: Backend>(
     ensures graphite_faults_stay { B.faults world.old.backs.graphite ≤ B.faults world.new.backs.graphite }
     ensures output_address_stays { O.opened_at world.new.output ≡ O.opened_at world.old.output }
     ensures console_stays { world.new.backs.console ≡ world.old.backs.console }
+    ensures graphite_used_stays { world.new.backs.graphite_used ≡ world.old.backs.graphite_used }
+    ensures console_used_stays { world.new.backs.console_used ≡ world.old.backs.console_used }
 {
     let Some(files) = form_of(words) else {
         return Status::Usage;
@@ -229,8 +231,6 @@ pub fn statsd<R: Source, O: Sink, B: Backend>(
     if let Err(status) = read_settings(&mut world.settings, &Address::File(files.settings)) {
         return status;
     }
-    world.backs.graphite_used = true;
-    world.backs.console_used = false;
     match carry_out(
         alloc,
         files.script,

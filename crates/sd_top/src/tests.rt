@@ -168,7 +168,7 @@ fn world_of(alloc: Global, settings: &str, script: &str) -> Result<MemWorld, All
         backs: Backs {
             graphite: MemBackend::open(alloc, 4096, 4)?,
             console: MemBackend::open(alloc, 0, 0)?,
-            graphite_used: false,
+            graphite_used: true,
             console_used: false,
         },
     })

@@ -44,7 +44,7 @@ fn run(rt: &HostRuntime) -> Status {
         backs: Backs {
             graphite: StandardOut::new(rt),
             console: StandardOut::new(rt),
-            graphite_used: false,
+            graphite_used: true,
             console_used: false,
         },
     };

@@ -1,4 +1,4 @@
-use Rattle.std.proofs.Common.{◌≡◌, ℕ, List, ◌∙◌, sym, ap}
+use Rattle.std.proofs.Common.{ℕ, List, ◌∙◌, sym, ap}
 use Rattle.sd_model.specs.Lines.{pieces}
 use Rattle.sd_line.specs.Cut.{cut_view}
 use Rattle.sd_line.specs.Pieces.{with_line}

@@ -1,4 +1,4 @@
-use Rattle.std.proofs.Common.{◌≡◌, ℕ, true, not, eqb, List, Option, Some, ◌∙◌, sym, ap}
+use Rattle.std.proofs.Common.{ℕ, not, eqb, List, Some, ◌∙◌, sym, ap}
 use Rattle.std.specs.Cmp.Lexicographic.{pointwise}
 use Rattle.sd_model.specs.Lines.{Sample}
 use Rattle.sd_line.specs.Cut.{cut_view}

@@ -1,5 +1,5 @@
-use Rattle.std.proofs.Common.{◌≡◌, ◌≤◌, ℕ, ◌+◌, List, [], ◌∷◌, sym, subst, ap, ◌∙◌, refl, arith}
-use Rattle.sd_model.specs.Desk.{Desk, fault_of, with_tally, with_round}
+use Rattle.std.proofs.Common.{◌≡◌, ◌≤◌, ℕ, List, [], ◌∷◌, sym, subst, ap, ◌∙◌, refl, arith}
+use Rattle.sd_model.specs.Desk.{Desk, fault_of, with_tally}
 use Rattle.sd_model.specs.Outside.{Rose, RoseBy, appended}
 use Rattle.sd_model.specs.Graphite.{graphite_text}
 use Rattle.sd_model.specs.Record.{record_of}

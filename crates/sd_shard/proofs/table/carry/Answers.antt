@@ -1,8 +1,8 @@
-use Rattle.std.proofs.Common.{◌≡◌, ℕ, ◌+◌, ◌≤◌, List, false, length, refl, take, map, sym, ap, subst, ◌∙◌, arith}
+use Rattle.std.proofs.Common.{◌+◌, List, length, refl, take, map, sym, ap, subst, ◌∙◌, arith}
 use Rattle.std.specs.FinMap.{contains_key, insert, from_entries}
 use Rattle.sd_model.specs.Shard.{RowId, Kept, Rows, row_cmp}
 use Rattle.sd_shard.specs.Limits.{policy_of}
-use Rattle.sd_shard.specs.Table.{Listing, live_of, id_of, row_view}
+use Rattle.sd_shard.specs.Table.{Listing, row_view}
 use Rattle.sd_shard.proofs.CarryLemmas.{carried-empty, carried-absent, absent_before, step_keeps, step_drops}
 use Rattle.sd_shard.proofs.table.carry.Invariants.{Carries}
 use Rattle.sd_shard.proofs.table.carry.Goals as goal

@@ -1,4 +1,4 @@
-use Rattle.std.proofs.Common.{◌≡◌, ℕ, ◌+◌, suc, map, subst, sym, ◌∙◌, add-zero, add-one, add-suc, arith}
+use Rattle.std.proofs.Common.{◌≡◌, ◌+◌, suc, map, subst, sym, ◌∙◌, arith}
 use Rattle.sd_shard.specs.Table.{id_of, row_view, IsPlace}
 use Rattle.sd_shard.proofs.ListingLemmas.{here, listed_further, place_further}
 use Rattle.sd_shard.proofs.table.place_of.Goals as goal

@@ -1,4 +1,4 @@
-use Rattle.std.proofs.Common.{◌≡◌, ◌+◌, ℕ, Bool, cond, map, sym, ap, ◌∙◌, arith, add-zero}
+use Rattle.std.proofs.Common.{◌+◌, cond, map, sym, ap, ◌∙◌, arith, add-zero}
 use Rattle.std.specs.FinMap.{insert}
 use Rattle.std.proofs.lemmas.List.{length-map}
 use Rattle.sd_model.specs.Shard.{RowId, Kept}

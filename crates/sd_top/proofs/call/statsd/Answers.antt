@@ -1,5 +1,4 @@
-use Rattle.std.proofs.Common.{◌≡◌, refl, sym, ap, subst, ◌∙◌, option_map}
-use Rattle.sd_model.specs.Words.{form}
+use Rattle.std.proofs.Common.{refl, sym, ap, ◌∙◌, option_map}
 use Rattle.sd_replay.specs.Ends.{end_of}
 use Rattle.sd_top.specs.Words.{form_view}
 use Rattle.sd_top.proofs.CallLemmas.{by_settings, before_replay, by_replay}

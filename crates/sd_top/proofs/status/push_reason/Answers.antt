@@ -1,7 +1,6 @@
-use Rattle.std.proofs.Common.{◌≡◌, ℕ, List, ◌++◌, sym, ap, ◌∙◌, append_assoc}
+use Rattle.std.proofs.Common.{ℕ, List, ◌++◌, sym, ap, ◌∙◌, append_assoc}
 use Rattle.std.specs.Prelude.{codes, decimal}
 use Rattle.sd_top.specs.Status.{reason, part_name}
-use Rattle.sd_top.specs.declared.status.Status.{Status}
 use Rattle.sd_top.proofs.status.push_reason.Goals as goal
 
 pub returns-in-OpenFault-clause-text : goal.returns-in-OpenFault-clause-text
