@@ -10,5 +10,4 @@ pub mod ReadingLemmas
 pub mod ReplayLemmas
 pub mod Rounding
 pub mod RowLemmas
-pub mod RunLemmas
 pub mod Trims
