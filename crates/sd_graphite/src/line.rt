@@ -46,6 +46,7 @@ pub(crate) fn write_line<K: Sink>(
         (K.written sink.new ≡ appended (K.written sink.old)
         (line_text front.now name.now value.0 ts)) }
     ensures failed { OnErr result (Rose (K.faults sink.old) (K.faults sink.new)) }
+    ensures steady { OnOk result (K.faults sink.new ≡ K.faults sink.old) }
     ensures front { OnErr result
         (AppendsFront (K.written sink.old)
         (line_text front.now name.now value.0 ts) (K.written sink.new)) }
@@ -71,6 +72,7 @@ pub(crate) fn write_counter<K: Sink>(
         (K.written sink.new ≡ appended (K.written sink.old)
         (counter_text ts key.now count.0 rate.0)) }
     ensures failed { OnErr result (Rose (K.faults sink.old) (K.faults sink.new)) }
+    ensures steady { OnOk result (K.faults sink.new ≡ K.faults sink.old) }
     ensures front { OnErr result
         (AppendsFront (K.written sink.old)
         (counter_text ts key.now count.0 rate.0) (K.written sink.new)) }

@@ -21,6 +21,7 @@ pub fn write_record<K: Sink>(rec: &Record<'_>, sink: &mut K) -> Result<(), Write
     ensures ok { OnOk result
         (K.written sink.new ≡ appended (K.written sink.old) (graphite_text (record_view rec.now))) }
     ensures failed { OnErr result (Rose (K.faults sink.old) (K.faults sink.new)) }
+    ensures steady { OnOk result (K.faults sink.new ≡ K.faults sink.old) }
     ensures front { OnErr result
         (AppendsFront (K.written sink.old)
         (graphite_text (record_view rec.now)) (K.written sink.new)) }
@@ -37,6 +38,7 @@ fn write_rows<K: Sink>(rec: &Record<'_>, sink: &mut K) -> Result<(), WriteFault>
         (K.written sink.new ≡ appended (K.written sink.old)
         (rows_text (record_view rec.now).ts (record_view rec.now).rows)) }
     ensures failed { OnErr result (Rose (K.faults sink.old) (K.faults sink.new)) }
+    ensures steady { OnOk result (K.faults sink.new ≡ K.faults sink.old) }
     ensures front { OnErr result
         (AppendsFront (K.written sink.old)
         (rows_text (record_view rec.now).ts (record_view rec.now).rows) (K.written sink.new)) }
@@ -54,6 +56,7 @@ fn write_row<K: Sink>(row: &Row, ts: u64, sink: &mut K) -> Result<(), WriteFault
     ensures ok { OnOk result
         (K.written sink.new ≡ appended (K.written sink.old) (row_text ts (row_view row.now))) }
     ensures failed { OnErr result (Rose (K.faults sink.old) (K.faults sink.new)) }
+    ensures steady { OnOk result (K.faults sink.new ≡ K.faults sink.old) }
     ensures front { OnErr result
         (AppendsFront (K.written sink.old) (row_text ts (row_view row.now)) (K.written sink.new)) }
     ensures faults_stay { K.faults sink.old ≤ K.faults sink.new }

@@ -28,6 +28,7 @@ fn write_own_counter<K: Sink>(
         (K.written sink.new ≡ appended (K.written sink.old)
         (own_text (record_view rec.now) key.now number)) }
     ensures failed { OnErr result (Rose (K.faults sink.old) (K.faults sink.new)) }
+    ensures steady { OnOk result (K.faults sink.new ≡ K.faults sink.old) }
     ensures front { OnErr result
         (AppendsFront (K.written sink.old)
         (own_text (record_view rec.now) key.now number) (K.written sink.new)) }
@@ -44,6 +45,7 @@ pub(crate) fn write_tail<K: Sink>(rec: &Record<'_>, sink: &mut K) -> Result<(), 
     ensures ok { OnOk result
         (K.written sink.new ≡ appended (K.written sink.old) (tail_text (record_view rec.now))) }
     ensures failed { OnErr result (Rose (K.faults sink.old) (K.faults sink.new)) }
+    ensures steady { OnOk result (K.faults sink.new ≡ K.faults sink.old) }
     ensures front { OnErr result
         (AppendsFront (K.written sink.old) (tail_text (record_view rec.now)) (K.written sink.new)) }
     ensures faults_stay { K.faults sink.old ≤ K.faults sink.new }

@@ -4,10 +4,10 @@ use Rattle.std.specs.Prelude.{Option, Some, None}
 use Rattle.std.specs.List.{range_with_len}
 use Rattle.std.proofs.lemmas.List.{map-append, length-map}
 use Rattle.sd_model.specs.Lines.{Sample, samples_of}
-use Rattle.sd_model.specs.Shard.{State, Entry, Cause, Limits, Placed, Taken, Dropped, refusal, placed, after_sample, last_number}
+use Rattle.sd_model.specs.Shard.{State, Entry, Cause, Limits, Placed, Taken, Dropped, refusal, placed, after_sample, after_samples, answers_to, drops, last_number}
 use Rattle.sd_model.specs.Desk.{Marks}
-use Rattle.sd_model.specs.Replay.{Settings, Run, Played, PlayedPacket, PlayedFlush, Filing, drop_of, filed, first_run, play, run_of, graphite_deliveries}
-use Rattle.sd_model.specs.Accounting.{Arrival, arrivals_of, arrivals, fates_from, fates_of, fates, entries_filed, drops, journals, tables, records, flush_times, graphite_marks, AreOfTables, AreTextsOf, all_of, Accounted}
+use Rattle.sd_model.specs.Replay.{Settings, Run, Played, PlayedPacket, PlayedFlush, first_run, play, run_of, records}
+use Rattle.sd_model.specs.Accounting.{Arrival, arrivals_of, arrivals, fates_of, fates, entries_filed, journals, flush_times, all_of, Accounted}
 
 -- the good samples of one caller
 abbrev brought : ℕ → List Sample → List Arrival
@@ -23,8 +23,7 @@ entries_filed-append (a ∷ ys) bs (Dropped cause ∷ ps) qs same = entries_file
 
 drops-append : (ps qs : List Placed) → drops (ps ++ qs) ≡ drops ps + drops qs
 drops-append [] qs = omega arith
-drops-append (Taken n ∷ ps) qs = drops-append ps qs
-drops-append (Dropped cause ∷ ps) qs = omega (arith, drops-append ps qs)
+drops-append (p ∷ ps) qs = omega (arith, drops-append ps qs)
 
 range-append : (a m n : ℕ) → range_with_len a (m + n) ≡ range_with_len a m ++ range_with_len (a + m) n
 range-append a zero n = let left : zero + n ≡ n = omega arith in let right : a + zero ≡ a = omega arith in ap (range_with_len a) left ∙ ap (λ b. range_with_len b n) (sym right)
@@ -34,57 +33,53 @@ range-append a (suc m) n =
     ap (range_with_len a) left ∙ ap (λ xs. a ∷ xs) (range-append (a + 1) m n ∙ ap (λ b. range_with_len (a + 1) m ++ range_with_len b n) right)
 
 -- what filing does to a shard, by the shard's answers
-record Files (old new : State) (had has : ℕ) (entries : List Entry) (lost : ℕ) : Type 0 where
+record Files (old new : State) (entries : List Entry) (lost : ℕ) : Type 0 where
   held : new.held ≡ old.held ++ entries
   numbers : map (λ e. e.number) entries ≡ range_with_len old.taken (length entries)
   taken : new.taken ≡ old.taken + length entries
   flushed : new.flushed ≡ old.flushed
   deleted : new.deleted ≡ old.deleted
   dropped : old.dropped ≤ last_number → new.dropped ≡ min (old.dropped + lost) last_number
-  counted : has ≡ had + lost
 
-fates_from-length : (limits : Limits) (who : ℕ) (state : State) (samples : List Sample) → length (fates_from limits who state samples) ≡ length samples
-fates_from-length limits who state [] = refl
-fates_from-length limits who state (s ∷ samples) = ap suc (fates_from-length limits who (after_sample state who s (refusal limits state s)) samples)
+answers_to-length : (limits : Limits) (who : ℕ) (state : State) (samples : List Sample) → length (answers_to limits who state samples) ≡ length samples
+answers_to-length limits who state [] = refl
+answers_to-length limits who state (s ∷ samples) = ap suc (answers_to-length limits who (after_sample state who s (refusal limits state s)) samples)
 
 -- the first sample of several, by its answer
-files_more : (limits : Limits) (who : ℕ) (state : State) (n : ℕ) (s : Sample) (samples : List Sample) (answer : Option Cause) (last : Filing)
-    → Files (after_sample state who s answer) last.shard (n + drop_of answer) last.dropped (entries_filed (brought who samples) (fates_from limits who (after_sample state who s answer) samples)) (drops (fates_from limits who (after_sample state who s answer) samples))
-    → Files state last.shard n last.dropped (entries_filed (brought who (s ∷ samples)) (placed state answer ∷ fates_from limits who (after_sample state who s answer) samples)) (drops (placed state answer ∷ fates_from limits who (after_sample state who s answer) samples))
-files_more limits who state n s samples None last h = record {
-  held = h.held ∙ append_assoc state.held (record { who = who; number = state.taken; sample = s } ∷ []) (entries_filed (brought who samples) (fates_from limits who (after_sample state who s None) samples));
+files_more : (limits : Limits) (who : ℕ) (state : State) (s : Sample) (samples : List Sample) (answer : Option Cause) (last : State)
+    → Files (after_sample state who s answer) last (entries_filed (brought who samples) (answers_to limits who (after_sample state who s answer) samples)) (drops (answers_to limits who (after_sample state who s answer) samples))
+    → Files state last (entries_filed (brought who (s ∷ samples)) (placed state answer ∷ answers_to limits who (after_sample state who s answer) samples)) (drops (placed state answer ∷ answers_to limits who (after_sample state who s answer) samples))
+files_more limits who state s samples None last h = record {
+  held = h.held ∙ append_assoc state.held (record { who = who; number = state.taken; sample = s } ∷ []) (entries_filed (brought who samples) (answers_to limits who (after_sample state who s None) samples));
   numbers = ap (λ xs. state.taken ∷ xs) h.numbers;
   taken = omega (arith, h.taken);
   flushed = h.flushed;
   deleted = h.deleted;
-  dropped = λ below. h.dropped below;
-  counted = omega (arith, h.counted);
+  dropped = λ below. omega (arith, h.dropped below);
 }
-files_more limits who state n s samples (Some cause) last h = record {
+files_more limits who state s samples (Some cause) last h = record {
   held = h.held;
   numbers = h.numbers;
   taken = h.taken;
   flushed = h.flushed;
   deleted = h.deleted;
   dropped = λ below. omega (arith, h.dropped (omega arith));
-  counted = omega (arith, h.counted);
 }
 
-files : (limits : Limits) (who : ℕ) (f : Filing) (samples : List Sample)
-    → Files f.shard (filed limits who f samples).shard f.dropped (filed limits who f samples).dropped (entries_filed (brought who samples) (fates_from limits who f.shard samples)) (drops (fates_from limits who f.shard samples))
-files limits who f [] = record {
-  held = sym (append-nil f.shard.held);
+files : (limits : Limits) (who : ℕ) (state : State) (samples : List Sample)
+    → Files state (after_samples limits who state samples) (entries_filed (brought who samples) (answers_to limits who state samples)) (drops (answers_to limits who state samples))
+files limits who state [] = record {
+  held = sym (append-nil state.held);
   numbers = refl;
   taken = omega arith;
   flushed = refl;
   deleted = refl;
   dropped = λ below. omega arith;
-  counted = omega arith;
 }
-files limits who f (s ∷ samples) =
-    let answer = refusal limits f.shard s in
-    let next : Filing = record { shard = after_sample f.shard who s answer; dropped = f.dropped + drop_of answer } in
-    files_more limits who f.shard f.dropped s samples answer (filed limits who next samples) (files limits who next samples)
+files limits who state (s ∷ samples) =
+    let answer = refusal limits state s in
+    let next = after_sample state who s answer in
+    files_more limits who state s samples answer (after_samples limits who next samples) (files limits who next samples)
 
 -- what records do to a shard
 record Plays (settings : Settings) (run : Run) (played : List Played) : Type 0 where
@@ -108,8 +103,8 @@ packet_plays settings run who moment datagram played h =
     let qs = fates settings next played in
     let front = entries_filed ys ps in
     let behind = entries_filed bs qs in
-    let one = files settings.limits who (record { shard = run.shard; dropped = 0 }) (samples_of datagram) in
-    let same : length ps ≡ length ys = fates_from-length settings.limits who run.shard (samples_of datagram) ∙ sym (length-map (samples_of datagram) (λ s. record { who = who; sample = s })) in
+    let one = files settings.limits who run.shard (samples_of datagram) in
+    let same : length ps ≡ length ys = answers_to-length settings.limits who run.shard (samples_of datagram) ∙ sym (length-map (samples_of datagram) (λ s. record { who = who; sample = s })) in
     let both : entries_filed (ys ++ bs) (ps ++ qs) ≡ front ++ behind = entries_filed-append ys bs ps qs same in
     let long : length (entries_filed (ys ++ bs) (ps ++ qs)) ≡ length front + length behind = ap length both ∙ length-append front behind in
     record {
@@ -175,26 +170,8 @@ accounted settings played =
       sum = omega (arith, h.taken, h.flushed, h.deleted, long);
     }
 
--- the journals are the entries of the tables
-pub tables-journals : (settings : Settings) (run : Run) (played : List Played) → map (λ t. t.held) (tables settings run played) ≡ journals settings run played
-tables-journals settings run [] = refl
-tables-journals settings run (PlayedPacket who moment datagram ∷ played) = tables-journals settings (play settings run (PlayedPacket who moment datagram)) played
-tables-journals settings run (PlayedFlush ts marks ∷ played) = ap (λ lists. run.shard.held ∷ lists) (tables-journals settings (play settings run (PlayedFlush ts marks)) played)
-
--- each record is that of its table
-pub records-tables : (settings : Settings) (run : Run) (played : List Played) → AreOfTables settings.interval_ms (tables settings run played) (records settings run played)
-records-tables settings run [] = tt
-records-tables settings run (PlayedPacket who moment datagram ∷ played) = records-tables settings (play settings run (PlayedPacket who moment datagram)) played
-records-tables settings run (PlayedFlush ts marks ∷ played) = (refl, records-tables settings (play settings run (PlayedFlush ts marks)) played)
-
 -- each record is at the second of its flush
 pub records-times : (settings : Settings) (run : Run) (played : List Played) → map (λ r. r.ts) (records settings run played) ≡ flush_times played
 records-times settings run [] = refl
 records-times settings run (PlayedPacket who moment datagram ∷ played) = records-times settings (play settings run (PlayedPacket who moment datagram)) played
 records-times settings run (PlayedFlush ts marks ∷ played) = ap (λ seconds. ts ∷ seconds) (records-times settings (play settings run (PlayedFlush ts marks)) played)
-
--- what Graphite gets of a flush is the text of its record
-pub deliveries-records : (settings : Settings) (run : Run) (played : List Played) → AreTextsOf (records settings run played) (graphite_marks played) (graphite_deliveries settings run played)
-deliveries-records settings run [] = tt
-deliveries-records settings run (PlayedPacket who moment datagram ∷ played) = deliveries-records settings (play settings run (PlayedPacket who moment datagram)) played
-deliveries-records settings run (PlayedFlush ts marks ∷ played) = (refl, refl, deliveries-records settings (play settings run (PlayedFlush ts marks)) played)

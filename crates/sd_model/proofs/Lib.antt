@@ -1,8 +1,10 @@
 pub mod AccountingLemmas
 pub mod CompletenessLemmas
 pub mod Cuts
+pub mod Digits
 pub mod EntryLemmas
 pub mod ListLemmas
+pub mod ListsTold
 pub mod NamesLemmas
 pub mod OutsideLemmas
 pub mod PieceCounts
@@ -10,4 +12,5 @@ pub mod ReadingLemmas
 pub mod ReplayLemmas
 pub mod Rounding
 pub mod RowLemmas
+pub mod StatisticsLemmas
 pub mod Trims

@@ -1,6 +1,6 @@
--- Laws of what a sink and a backend tell.
-use Rattle.std.proofs.Common.{◌≡◌, ℕ, ◌+◌, List, [], ◌∷◌, ◌++◌, length, Some, None, refl, ap, arith, append_assoc, append-nil, length-append, min}
-use Rattle.sd_model.specs.Outside.{Written, Untold, Number, Bytes, Rounds, FitsLastCount, appended, last_count}
+-- Laws of what a sink, a backend and a source tell.
+use Rattle.std.proofs.Common.{◌≡◌, ℕ, ◌+◌, List, [], ◌∷◌, ◌++◌, length, Option, Some, None, option_map, refl, sym, ap, ◌∙◌, arith, append_assoc, append-nil, length-append, min}
+use Rattle.sd_model.specs.Outside.{Written, Untold, Number, Bytes, Rounds, FitsLastCount, Reads, appended, last_count}
 
 -- a count that stops at its end, after two rises
 min-add-min : (n a b : ℕ) → min (min (n + a) last_count + b) last_count ≡ min (n + (a + b)) last_count
@@ -22,3 +22,13 @@ appended-nil (Number n) fits = ap Number (omega arith)
 appended-nil (Bytes zs) fits = ap Bytes (append-nil zs)
 appended-nil (Rounds rounds (Some zs)) fits = ap (λ bytes. Rounds rounds (Some bytes)) (append-nil zs)
 appended-nil (Rounds rounds None) fits = refl
+
+-- nothing was read
+pub Reads-nil : (left : Option (List ℕ)) → Reads left [] left
+Reads-nil None = refl
+Reads-nil (Some bytes) = refl
+
+-- two texts were read one after the other
+pub Reads-append : (old mid new : Option (List ℕ)) (xs ys : List ℕ) → Reads old xs mid → Reads mid ys new → Reads old (xs ++ ys) new
+Reads-append old mid None xs ys first then = first ∙ ap (option_map (λ rest. xs ++ rest)) then
+Reads-append old mid (Some rest) xs ys first then = first ∙ ap (option_map (λ bytes. xs ++ bytes)) then ∙ ap (λ bytes. Some bytes) (sym (append_assoc xs ys rest))

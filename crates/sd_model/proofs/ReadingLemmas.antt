@@ -1,27 +1,10 @@
 -- A script has one reading.
-use Rattle.std.proofs.Common.{◌≡◌, ℕ, ◌^◌, ◌<◌, true, List, [], ◌∷◌, ◌++◌, length, get_or, drop, decimal, refl, sym, ap, ◌∙◌, arith, append_assoc, append-nil, inl, inr, rules}
+use Rattle.std.proofs.Common.{◌≡◌, ℕ, ◌^◌, ◌<◌, List, [], ◌∷◌, ◌++◌, length, get_or, drop, decimal, refl, sym, ap, ◌∙◌, arith, append_assoc, append-nil, inl, inr}
 use Rattle.std.specs.List.{AllByRecursion}
-use Rattle.std.proofs.lemmas.Fmt.{digits_decimal, decimal_injective}
-use Rattle.std.proofs.lemmas.Str.Parse.{IsNumeralModel, IsDigitsTest, numerals_by_value, not_in_digits}
-use Rattle.std.specs.Char.{is_ascii_digit}
-use Rattle.std.specs.List.{list_all}
-use Rattle.std.specs.Str.Parse.{digits_value}
-use Rattle.sd_model.specs.Lists.{Lacks}
+use Rattle.std.proofs.lemmas.Fmt.{decimal_injective}
 use Rattle.sd_model.specs.Script.{Command, Packet, Flush, spelled, end_word, script_text, IsBuilt, BeginsBuilt}
 use Rattle.sd_model.proofs.Cuts.{same_cut, same_parts}
-
-abbrev AreDigits : List ℕ → Type 0
-AreDigits ds = list_all is_ascii_digit ds ≡ true
-
-tells : IsDigitsTest AreDigits
-tells = search rules
-
-own : IsNumeralModel AreDigits (digits_value 10)
-own = numerals_by_value AreDigits tells
-
--- a byte that is no digit stands in no number's text
-pub Lacks-decimal : (byte n : ℕ) → byte < 48 → n < 2 ^ 64 → Lacks byte (decimal n)
-Lacks-decimal byte n low small = not_in_digits own (decimal n) byte (digits_decimal own n small) (λ within. absurd (omega (arith, within)))
+use Rattle.sd_model.proofs.Digits.{Lacks-decimal}
 
 -- a number's text and a byte that is no digit tell the number
 number_cut : (byte m n : ℕ) (r s : List ℕ) → byte < 48 → m < 2 ^ 64 → n < 2 ^ 64 → decimal m ++ byte ∷ r ≡ decimal n ++ byte ∷ s → (m ≡ n) × (r ≡ s)

@@ -1,12 +1,12 @@
--- Where each good sample of a replay is: in the journal of one flush, among the entries held, or dropped.
+-- Where each good sample of a replay is (in the journal of one flush, among the entries held, or dropped), and
+-- what the records of the flushes have of their journals.
 use Rattle.std.specs.Prelude.{◌≡◌, ℕ, ◌+◌, min, List, [], ◌∷◌, ◌++◌, length, map, flat_map, ⊤}
 use Rattle.std.specs.List.{range_with_len}
+use Rattle.std.specs.FinMap.{keys}
 use Rattle.sd_model.specs.Lines.{Sample, samples_of}
-use Rattle.sd_model.specs.Shard.{State, Entry, Limits, Table, Placed, Taken, Dropped, refusal, placed, after_sample, table_of, last_number}
-use Rattle.sd_model.specs.Graphite.{graphite_text}
-use Rattle.sd_model.specs.Record.{Record, record_of}
-use Rattle.sd_model.specs.Desk.{Mark}
-use Rattle.sd_model.specs.Replay.{Settings, Run, Played, PlayedPacket, PlayedFlush, Delivery, first_run, play, run_of, flush_record}
+use Rattle.sd_model.specs.Shard.{State, Rows, Entry, Placed, Taken, Dropped, answers_to, drops, row_of, touched, carried, last_number}
+use Rattle.sd_model.specs.Record.{Row, Record, row_value}
+use Rattle.sd_model.specs.Replay.{Settings, Run, Played, PlayedPacket, PlayedFlush, first_run, play, run_of}
 
 -- A good sample, and who brought it.
 pub record Arrival : Type 0 where
@@ -22,17 +22,9 @@ arrivals_of (PlayedFlush ts marks) = []
 abbrev pub arrivals : List Played → List Arrival
 arrivals played = flat_map arrivals_of played
 
--- What became of samples of one caller, from a shard's state on: the shard's answers, the number that a sample was
--- filed under or why it was dropped.
-abbrev pub fates_from : Limits → ℕ → State → List Sample → List Placed
-fates_from limits who state [] = []
-fates_from limits who state (s ∷ samples) =
-    let answer = refusal limits state s in
-    placed state answer ∷ fates_from limits who (after_sample state who s answer) samples
-
--- what became of the good samples of a record
+-- what became of the good samples of a record: the number that each was filed under, or why it was dropped
 abbrev pub fates_of : Settings → Run → Played → List Placed
-fates_of settings run (PlayedPacket who moment datagram) = fates_from settings.limits who run.shard (samples_of datagram)
+fates_of settings run (PlayedPacket who moment datagram) = answers_to settings.limits who run.shard (samples_of datagram)
 fates_of settings run (PlayedFlush ts marks) = []
 
 -- what became of the good samples of records
@@ -47,57 +39,17 @@ entries_filed (a ∷ arrivals) (Dropped cause ∷ fates) = entries_filed arrival
 entries_filed [] fates = []
 entries_filed (a ∷ arrivals) [] = []
 
--- how many were dropped
-abbrev pub drops : List Placed → ℕ
-drops [] = 0
-drops (Taken number ∷ fates) = drops fates
-drops (Dropped cause ∷ fates) = 1 + drops fates
-
 -- the journals of the flushes: the entries that each took out
 abbrev pub journals : Settings → Run → List Played → List (List Entry)
 journals settings run [] = []
 journals settings run (PlayedPacket who moment datagram ∷ played) = journals settings (play settings run (PlayedPacket who moment datagram)) played
 journals settings run (PlayedFlush ts marks ∷ played) = run.shard.held ∷ journals settings (play settings run (PlayedFlush ts marks)) played
 
--- the tables of the flushes: the rows and entries that each took out
-abbrev pub tables : Settings → Run → List Played → List Table
-tables settings run [] = []
-tables settings run (PlayedPacket who moment datagram ∷ played) = tables settings (play settings run (PlayedPacket who moment datagram)) played
-tables settings run (PlayedFlush ts marks ∷ played) = table_of run.shard ∷ tables settings (play settings run (PlayedFlush ts marks)) played
-
--- the records of the flushes
-abbrev pub records : Settings → Run → List Played → List Record
-records settings run [] = []
-records settings run (PlayedPacket who moment datagram ∷ played) = records settings (play settings run (PlayedPacket who moment datagram)) played
-records settings run (PlayedFlush ts marks ∷ played) = flush_record settings run ts ∷ records settings (play settings run (PlayedFlush ts marks)) played
-
 -- the seconds of the flushes
 abbrev pub flush_times : List Played → List ℕ
 flush_times [] = []
 flush_times (PlayedPacket who moment datagram ∷ played) = flush_times played
 flush_times (PlayedFlush ts marks ∷ played) = ts ∷ flush_times played
-
--- how Graphite took part in the flushes
-abbrev pub graphite_marks : List Played → List Mark
-graphite_marks [] = []
-graphite_marks (PlayedPacket who moment datagram ∷ played) = graphite_marks played
-graphite_marks (PlayedFlush ts marks ∷ played) = marks.graphite ∷ graphite_marks played
-
--- there are as many tables as records, and each record is that of its table alone, at its tally and second
-abbrev pub AreOfTables : ℕ → List Table → List Record → Type 0
-AreOfTables interval_ms [] [] = ⊤
-AreOfTables interval_ms (t ∷ tables) (r ∷ records) = (r ≡ record_of interval_ms (t ∷ []) r.tally r.ts) × AreOfTables interval_ms tables records
-AreOfTables interval_ms [] (r ∷ records) = ⊥
-AreOfTables interval_ms (t ∷ tables) [] = ⊥
-
--- there are as many deliveries as records and as marks, and each has the text of its record, and its mark
-abbrev pub AreTextsOf : List Record → List Mark → List Delivery → Type 0
-AreTextsOf [] [] [] = ⊤
-AreTextsOf (r ∷ records) (m ∷ marks) (d ∷ deliveries) = (d.text ≡ graphite_text r) × (d.mark ≡ m) × AreTextsOf records marks deliveries
-AreTextsOf [] [] (d ∷ deliveries) = ⊥
-AreTextsOf [] (m ∷ marks) deliveries = ⊥
-AreTextsOf (r ∷ records) [] deliveries = ⊥
-AreTextsOf (r ∷ records) (m ∷ marks) [] = ⊥
 
 -- entries of lists, one after another
 abbrev pub all_of : List (List Entry) → List Entry
@@ -117,3 +69,22 @@ pub record Accounted (settings : Settings) (played : List Played) : Type 0 where
   pub dropped : (shard_after settings played).dropped ≡ min (drops (fates settings first_run played)) last_number
   pub deleted : (shard_after settings played).deleted ≡ 0
   pub sum : (shard_after settings played).taken ≡ (shard_after settings played).flushed + (shard_after settings played).deleted + length (shard_after settings played).held
+
+-- rows carried in, and the rows of samples that were filed since
+abbrev pub rows_with : Rows → List Entry → Rows
+rows_with live [] = live
+rows_with live (e ∷ entries) = rows_with (touched live (row_of e.sample)) entries
+
+-- the statistics of these rows over a journal, by kind and then by the bytes of the key
+abbrev pub statistics_of : ℕ → Rows → List Entry → List Row
+statistics_of interval_ms live journal = map (row_value interval_ms journal) (keys live)
+
+-- There are as many records as journals. The rows of each are those carried in and those of its own journal, each with
+-- its statistics over that journal; of these rows the policy says which are carried into the next.
+abbrev pub AreDocumented : Settings → Rows → List (List Entry) → List Record → Type 0
+AreDocumented settings carried_in [] [] = ⊤
+AreDocumented settings carried_in (journal ∷ journals) (r ∷ records) =
+    let live = rows_with carried_in journal in
+    (r.rows ≡ statistics_of settings.interval_ms live journal) × AreDocumented settings (carried settings.policy live) journals records
+AreDocumented settings carried_in [] (r ∷ records) = ⊥
+AreDocumented settings carried_in (journal ∷ journals) [] = ⊥

@@ -1,5 +1,5 @@
 -- The desk: what the server counts of itself.
-use Rattle.std.specs.Prelude.{ℕ, ◌+◌, ◌^◌, min}
+use Rattle.std.specs.Prelude.{ℕ, ◌+◌, ◌^◌, min, Bool, true, false}
 use Rattle.sd_model.specs.Record.{Tally}
 
 -- counts stop at 2 ^ 63
@@ -34,6 +34,12 @@ abbrev pub fault_of : Mark → ℕ
 fault_of NotUsed = 0
 fault_of Written = 0
 fault_of Fault = 1
+
+-- whether a mark says that the whole text was written
+abbrev pub is_written : Mark → Bool
+is_written NotUsed = false
+is_written Written = true
+is_written Fault = false
 
 -- the tally since it was last taken, and the totals since the start
 pub record Desk : Type 0 where

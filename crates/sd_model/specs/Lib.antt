@@ -11,6 +11,7 @@ pub mod Script
 pub mod Undecided
 pub mod Replay
 pub mod Accounting
+pub mod AccountingTheorem
 pub mod Run
 pub mod Words
 pub mod Call

@@ -80,3 +80,10 @@ ended (Rounds rounds None) = Rounds rounds None
 ended Untold = Untold
 ended (Number n) = Number n
 ended (Bytes ys) = Bytes ys
+
+-- the lists that a backend tells, the open one last
+abbrev pub told_lists : Written → Option (List Round)
+told_lists (Rounds rounds open_list) = Some (lists_of rounds open_list)
+told_lists Untold = None
+told_lists (Number n) = None
+told_lists (Bytes ys) = None

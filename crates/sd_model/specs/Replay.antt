@@ -1,13 +1,12 @@
 -- What a replay does: the state after the records of a script, the texts of its flushes, and the totals.
-use Rattle.std.specs.Prelude.{◌≡◌, ℕ, ◌+◌, ◌≤◌, false, List, [], ◌∷◌, ◌++◌, length, take, codes, decimal, ◌⊎◌, ◌≢◌, ⊤, map, Option, Some, None, option_map}
-use Rattle.std.specs.List.{AllByRecursion}
-use Rattle.sd_model.specs.Outside.{Written as Told, RoseBy, appended, begun, ended}
-use Rattle.sd_model.specs.Lines.{Sample, samples_of, pieces}
-use Rattle.sd_model.specs.Shard.{State, empty_state, Limits, Policy, Cause, refusal, after_sample, after_swap, table_of}
+use Rattle.std.specs.Prelude.{◌≡◌, ℕ, ◌+◌, ◌≤◌, true, false, if◌then◌else◌, List, [], ◌∷◌, ◌++◌, length, take, codes, decimal, ◌⊎◌, ◌≢◌, ⊤, Some}
+use Rattle.sd_model.specs.Outside.{Round, Written as Told, Rose, RoseBy, appended, begun, ended, told_lists}
+use Rattle.sd_model.specs.Lines.{samples_of, pieces}
+use Rattle.sd_model.specs.Shard.{State, empty_state, Limits, Policy, after_samples, answers_to, drops, after_swap, table_of}
 use Rattle.sd_model.specs.Record.{Tally, Record, record_of}
 use Rattle.sd_model.specs.Graphite.{graphite_text}
-use Rattle.sd_model.specs.Desk.{Desk, new_desk, with_tally, with_round, Mark, NotUsed, Written, Fault, Marks, fault_of}
-use Rattle.sd_model.specs.Script.{Command, Packet, Flush, script_text, IsBuilt}
+use Rattle.sd_model.specs.Desk.{Desk, new_desk, with_tally, with_round, Mark, NotUsed, Written, Fault, Marks, fault_of, is_written}
+use Rattle.sd_model.specs.Script.{Command, Packet, Flush}
 
 -- the settings that a replay goes by
 pub record Settings : Type 0 where
@@ -34,22 +33,6 @@ abbrev pub command_of : Played → Command
 command_of (PlayedPacket who moment datagram) = Packet who moment datagram
 command_of (PlayedFlush ts marks) = Flush ts
 
--- a shard, and how many samples of a datagram it dropped
-pub record Filing : Type 0 where
-  pub shard : State
-  pub dropped : ℕ
-
-abbrev pub drop_of : Option Cause → ℕ
-drop_of None = 0
-drop_of (Some cause) = 1
-
--- after samples of one caller, one after another
-abbrev pub filed : Limits → ℕ → Filing → List Sample → Filing
-filed limits who f [] = f
-filed limits who f (s ∷ samples) =
-    let answer = refusal limits f.shard s in
-    filed limits who (record { shard = after_sample f.shard who s answer; dropped = f.dropped + drop_of answer }) samples
-
 -- the state of a replay
 pub record Run : Type 0 where
   pub shard : State
@@ -62,16 +45,14 @@ first_run = record { shard = empty_state; desk = new_desk }
 abbrev pub packet_tally : List ℕ → ℕ → Tally
 packet_tally datagram dropped = record { packets = 1; lines = length (pieces datagram); bad = 0; dropped = dropped }
 
--- a packet's samples filed, from a shard on
-abbrev pub packet_filing : Limits → State → ℕ → List ℕ → Filing
-packet_filing limits shard who datagram =
-    filed limits who (record { shard = shard; dropped = 0 }) (samples_of datagram)
-
 -- the state after a record
 abbrev pub play : Settings → Run → Played → Run
 play settings run (PlayedPacket who moment datagram) =
-    let filing = packet_filing settings.limits run.shard who datagram in
-    record { shard = filing.shard; desk = with_tally run.desk (packet_tally datagram filing.dropped) }
+    let samples = samples_of datagram in
+    record {
+      shard = after_samples settings.limits who run.shard samples;
+      desk = with_tally run.desk (packet_tally datagram (drops (answers_to settings.limits who run.shard samples)));
+    }
 play settings run (PlayedFlush ts marks) =
     record { shard = after_swap settings.policy run.shard; desk = with_round run.desk marks }
 
@@ -89,14 +70,27 @@ pub record Delivery : Type 0 where
   pub text : List ℕ
   pub mark : Mark
 
--- the texts that the flushes have for Graphite, in order
+-- the records of the flushes, in order
+abbrev pub records : Settings → Run → List Played → List Record
+records settings run [] = []
+records settings run (PlayedPacket who moment datagram ∷ played) = records settings (play settings run (PlayedPacket who moment datagram)) played
+records settings run (PlayedFlush ts marks ∷ played) = flush_record settings run ts ∷ records settings (play settings run (PlayedFlush ts marks)) played
+
+-- how Graphite took part in the flushes
+abbrev pub graphite_marks : List Played → List Mark
+graphite_marks [] = []
+graphite_marks (PlayedPacket who moment datagram ∷ played) = graphite_marks played
+graphite_marks (PlayedFlush ts marks ∷ played) = marks.graphite ∷ graphite_marks played
+
+-- the text of each record, with its mark
+abbrev pub deliveries_of : List Record → List Mark → List Delivery
+deliveries_of [] marks = []
+deliveries_of (r ∷ records) [] = []
+deliveries_of (r ∷ records) (m ∷ marks) = record { text = graphite_text r; mark = m } ∷ deliveries_of records marks
+
+-- what the flushes have for Graphite, in order: the text of each record
 abbrev pub graphite_deliveries : Settings → Run → List Played → List Delivery
-graphite_deliveries settings run [] = []
-graphite_deliveries settings run (PlayedPacket who moment datagram ∷ played) =
-    graphite_deliveries settings (play settings run (PlayedPacket who moment datagram)) played
-graphite_deliveries settings run (PlayedFlush ts marks ∷ played) =
-    record { text = graphite_text (flush_record settings run ts); mark = marks.graphite }
-    ∷ graphite_deliveries settings (play settings run (PlayedFlush ts marks)) played
+graphite_deliveries settings run played = deliveries_of (records settings run played) (graphite_marks played)
 
 -- What a flush does to a backend, by its mark: a list is begun, gets the whole text and is ended; nothing, or
 -- a list is begun and gets a front of the text, and isn't ended; nothing.
@@ -105,14 +99,43 @@ AfterMark Written text old new = new ≡ ended (appended (begun old) text)
 AfterMark NotUsed text old new = new ≡ old
 AfterMark Fault text old new = (new ≡ old) ⊎ ((n : ℕ) × (n ≤ length text) × (new ≡ appended (begun old) (take n text)))
 
--- the same of a delivery
-abbrev pub AfterDelivery : Delivery → Told → Told → Type 0
-AfterDelivery d old new = AfterMark d.mark d.text old new
+-- what a flush does to a backend's count of faults: it rises where the flush is marked as failed, and else stays
+abbrev pub FaultsAfter : Mark → ℕ → ℕ → Type 0
+FaultsAfter NotUsed had has = has ≡ had
+FaultsAfter Written had has = has ≡ had
+FaultsAfter Fault had has = Rose had has
 
--- what the flushes do, one after another
+-- what flushes do to a backend, one after another
 abbrev pub AfterDeliveries : List Delivery → Told → Told → Type 0
 AfterDeliveries [] old new = new ≡ old
-AfterDeliveries (d ∷ deliveries) old new = (mid : Told) × AfterDelivery d old mid × AfterDeliveries deliveries mid new
+AfterDeliveries (d ∷ deliveries) old new = (mid : Told) × AfterMark d.mark d.text old mid × AfterDeliveries deliveries mid new
+
+-- the list that a whole text is, begun and ended
+abbrev pub whole_list : List ℕ → Round
+whole_list text = record { bytes = text; is_ended = true }
+
+-- the lists that a flush leaves to a backend which tells its lists: its whole text; a front of it that isn't ended,
+-- or none; none
+abbrev pub LeavesLists : Mark → List ℕ → List Round → Type 0
+LeavesLists Written text lists = lists ≡ whole_list text ∷ []
+LeavesLists NotUsed text lists = lists ≡ []
+LeavesLists Fault text lists = (lists ≡ []) ⊎ ((n : ℕ) × (n ≤ length text) × (lists ≡ record { bytes = take n text; is_ended = false } ∷ []))
+
+-- the lists that flushes leave, one after another
+abbrev pub LeaveLists : List Delivery → List Round → Type 0
+LeaveLists [] lists = lists ≡ []
+LeaveLists (d ∷ deliveries) lists =
+    (first : List Round) × (others : List Round) × LeavesLists d.mark d.text first × LeaveLists deliveries others × (lists ≡ first ++ others)
+
+-- a backend has these lists, and behind them those that flushes left
+abbrev pub HasLists : List Delivery → List Round → Told → Type 0
+HasLists deliveries before now =
+    (lists : List Round) × LeaveLists deliveries lists × (told_lists now ≡ Some (before ++ lists))
+
+-- the texts of the flushes that were written whole
+abbrev pub texts_written : List Delivery → List (List ℕ)
+texts_written [] = []
+texts_written (d ∷ deliveries) = if is_written d.mark then d.text ∷ texts_written deliveries else texts_written deliveries
 
 -- a flush that Graphite was used in, and the console wasn't
 abbrev pub UsesGraphite : Played → Type 0
@@ -125,33 +148,64 @@ graphite_failures [] = 0
 graphite_failures (PlayedPacket who moment datagram ∷ played) = graphite_failures played
 graphite_failures (PlayedFlush ts marks ∷ played) = fault_of marks.graphite + graphite_failures played
 
--- These records were carried out: the script had their text before what it has left; what their flushes have
--- for Graphite is what became of it, where it tells that; and its count of faults rose by one for each flush that
--- failed there, or by more.
-pub record Replays (settings : Settings) (script left : Option (List ℕ)) (old new : Told) (had has : ℕ) (played : List Played) : Type 0 where
-  pub text : script ≡ option_map (λ rest. script_text (map command_of played) ++ rest) left
-  pub built : AllByRecursion IsBuilt (map command_of played)
-  pub used : AllByRecursion UsesGraphite played
-  pub graphite : AfterDeliveries (graphite_deliveries settings first_run played) old new
-  pub faults : RoseBy (graphite_failures played) had has
+-- What a replay counted.
+pub record Totals : Type 0 where
+  pub packets : ℕ
+  pub lines : ℕ
+  pub bad : ℕ
+  pub taken : ℕ
+  pub dropped : ℕ
+  pub flushed : ℕ
+  pub held : ℕ
+  pub deleted : ℕ
+  pub rounds : ℕ
+  pub graphite_faults : ℕ
+  pub console_faults : ℕ
+  pub repeater_faults : ℕ
+  pub admin_faults : ℕ
 
--- the lines of the totals, each a name, a space, a number and a newline
+-- the totals in this state
+abbrev pub totals_of : Run → Totals
+totals_of run =
+    record {
+      packets = run.desk.totals.packets;
+      lines = run.desk.totals.lines;
+      bad = run.desk.totals.bad;
+      taken = run.shard.taken;
+      dropped = run.shard.dropped;
+      flushed = run.shard.flushed;
+      held = length run.shard.held;
+      deleted = run.shard.deleted;
+      rounds = run.desk.rounds;
+      graphite_faults = run.desk.graphite_faults;
+      console_faults = run.desk.console_faults;
+      repeater_faults = 0;
+      admin_faults = 0;
+    }
+
+-- Graphite's count of faults over these records: it rose by as many as flushes are marked as failed there, or by more;
+-- and where none is, it stayed.
+pub record FaultsOver (played : List Played) (had has : ℕ) : Type 0 where
+  pub rose : RoseBy (graphite_failures played) had has
+  pub steady : graphite_failures played ≡ 0 → has ≡ had
+
+-- a line of the totals: a name, a space, a number and a newline
 abbrev pub total_line : List ℕ → ℕ → List ℕ
 total_line name n = name ++ 32 ∷ decimal n ++ 10 ∷ []
 
--- the totals of a replay
-abbrev pub totals_text : Run → List ℕ
-totals_text run =
-    total_line (codes "packets") run.desk.totals.packets
-    ++ total_line (codes "lines") run.desk.totals.lines
-    ++ total_line (codes "bad") run.desk.totals.bad
-    ++ total_line (codes "taken") run.shard.taken
-    ++ total_line (codes "dropped") run.shard.dropped
-    ++ total_line (codes "flushed") run.shard.flushed
-    ++ total_line (codes "held") (length run.shard.held)
-    ++ total_line (codes "deleted") run.shard.deleted
-    ++ total_line (codes "rounds") run.desk.rounds
-    ++ total_line (codes "graphite_faults") run.desk.graphite_faults
-    ++ total_line (codes "console_faults") run.desk.console_faults
-    ++ total_line (codes "repeater_faults") 0
-    ++ total_line (codes "admin_faults") 0
+-- the lines of the totals
+abbrev pub totals_text : Totals → List ℕ
+totals_text t =
+    total_line (codes "packets") t.packets
+    ++ total_line (codes "lines") t.lines
+    ++ total_line (codes "bad") t.bad
+    ++ total_line (codes "taken") t.taken
+    ++ total_line (codes "dropped") t.dropped
+    ++ total_line (codes "flushed") t.flushed
+    ++ total_line (codes "held") t.held
+    ++ total_line (codes "deleted") t.deleted
+    ++ total_line (codes "rounds") t.rounds
+    ++ total_line (codes "graphite_faults") t.graphite_faults
+    ++ total_line (codes "console_faults") t.console_faults
+    ++ total_line (codes "repeater_faults") t.repeater_faults
+    ++ total_line (codes "admin_faults") t.admin_faults

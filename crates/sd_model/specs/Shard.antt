@@ -127,6 +127,27 @@ abbrev pub placed : State → Option Cause → Placed
 placed state None = Taken state.taken
 placed state (Some cause) = Dropped cause
 
+-- the state after samples of one caller, one after another
+abbrev pub after_samples : Limits → ℕ → State → List Sample → State
+after_samples limits who state [] = state
+after_samples limits who state (s ∷ samples) = after_samples limits who (after_sample state who s (refusal limits state s)) samples
+
+-- the answers to them
+abbrev pub answers_to : Limits → ℕ → State → List Sample → List Placed
+answers_to limits who state [] = []
+answers_to limits who state (s ∷ samples) =
+    placed state (refusal limits state s) ∷ answers_to limits who (after_sample state who s (refusal limits state s)) samples
+
+-- 1 for a drop, and else 0
+abbrev pub drop_of : Placed → ℕ
+drop_of (Taken number) = 0
+drop_of (Dropped cause) = 1
+
+-- how many samples were dropped
+abbrev pub drops : List Placed → ℕ
+drops [] = 0
+drops (a ∷ answers) = drop_of a + drops answers
+
 -- whether a kind goes at a swap
 abbrev pub goes_idle : Policy → Kind → Bool
 goes_idle policy Counter = policy.counters

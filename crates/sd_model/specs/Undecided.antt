@@ -1,6 +1,7 @@
 -- Bytes that don't decide yet what stands next in a script, so that more have to be read.
-use Rattle.std.specs.Prelude.{◌≡◌, ℕ, ◌^◌, ◌<◌, ◌≤◌, ◌⊎◌, List, ◌∷◌, ◌++◌, length, decimal}
+use Rattle.std.specs.Prelude.{◌≡◌, ℕ, ◌^◌, ◌<◌, ◌≤◌, ◌⊎◌, List, ◌∷◌, ◌++◌, length, decimal, Option}
 use Rattle.sd_model.specs.Lists.{Lacks}
+use Rattle.sd_model.specs.Outside.{IsAtEnd}
 
 -- fewer than 40 bytes without a newline
 abbrev pub IsPartOfLine : List ℕ → Type 0
@@ -20,3 +21,7 @@ pub record IsPartOfPacket (bytes : List ℕ) : Type 0 where
 -- one of the two
 abbrev pub IsUndecided : List ℕ → Type 0
 IsUndecided bytes = IsPartOfLine bytes ⊎ IsPartOfPacket bytes
+
+-- bytes that were read decide what stands next, or nothing is left behind them, where the script tells it
+abbrev pub IsDecided : List ℕ → Option (List ℕ) → Type 0
+IsDecided bytes left = (¬ IsUndecided bytes) ⊎ IsAtEnd left

@@ -1,10 +1,13 @@
 ghost use Rattle.std.specs.Prelude.{◌≡◌, ◌≢◌, ℕ, List, ◌++◌};
 ghost use Rattle.std.specs.List.{AllByRecursion};
-ghost use Rattle.sd_model.specs.Outside.{Rose, RoseBy};
+ghost use Rattle.sd_model.specs.Outside.{Rose};
+ghost use Rattle.sd_model.specs.Desk.{Mark, NotUsed, Written};
 ghost use Rattle.sd_model.specs.Script.{Command, IsBuilt, end_word, script_text, spelled};
-ghost use Rattle.sd_model.specs.Replay.{Played, graphite_failures};
-ghost use Rattle.sd_model.specs.Call.{Answer, Answers, Done, Objects};
-ghost use Rattle.sd_model.specs.Completeness.{CarriedOut, CarriedOutWell, IsFullAnswer, IsUnhindered, IsWholeAnswer, WrittenWhereUsed};
+ghost use Rattle.sd_model.specs.Replay.{FaultsAfter, FaultsOver, Played, Totals};
+ghost use Rattle.sd_model.specs.AccountingTheorem.{Seen};
+ghost use Rattle.sd_model.specs.Run.{Complete, End, Replayed};
+ghost use Rattle.sd_model.specs.Call.{Accounts, Answer, Done, Objects};
+ghost use Rattle.sd_model.specs.Completeness.{CarriedOut, CarriedOutWell, IsFullAnswer, IsUnhindered, IsUnhinderedReplay, IsWholeAnswer, WrittenWhereUsed};
 
 /// A script has one reading: bytes begin with one built record at most, and built records that stand at the
 /// front of a script that is built as far as its end are the first of its records.
@@ -21,25 +24,32 @@ pub fn scripts_have_one_reading()
         → (commands ≡ others) × (rest ≡ left) }
 {}
 
+/// A replay that nothing hinders comes to the word that ends the script.
+pub fn unhindered_replays_complete()
+    ensures { (old new : Seen) (commands : List Command) (rest : List ℕ) (end : End)
+        → IsUnhinderedReplay old new commands rest → Replayed end old new → (totals : Totals) × (end ≡ Complete totals) }
+{}
+
 /// A call that nothing hinders carries out the whole script, unless memory or Graphite is lacking; and where it
 /// says that it did, it carried out just the script's records.
 pub fn unhindered_calls_complete()
     ensures answer { (words : List (List ℕ)) (old new : Objects) (commands : List Command) (rest : List ℕ) (answer : Answer)
-        → IsUnhindered words old new commands rest → Answers words old new answer → IsFullAnswer answer }
+        → IsUnhindered words old new commands rest → Accounts words old new answer → IsFullAnswer answer }
     ensures whole { (words : List (List ℕ)) (old new : Objects) (commands : List Command) (rest : List ℕ) (answer : Answer)
         → IsUnhindered words old new commands rest → ¬ Rose old.seen.graphite_faults new.seen.graphite_faults
-        → Answers words old new answer → IsWholeAnswer answer }
+        → Accounts words old new answer → IsWholeAnswer answer }
     ensures done { (words : List (List ℕ)) (old new : Objects) (commands : List Command) (rest : List ℕ)
-        → IsUnhindered words old new commands rest → Answers words old new Done → CarriedOut old.seen new.seen commands rest }
+        → IsUnhindered words old new commands rest → Accounts words old new Done → CarriedOut old.seen new.seen commands rest }
     ensures well { (words : List (List ℕ)) (old new : Objects) (commands : List Command) (rest : List ℕ)
         → IsUnhindered words old new commands rest → ¬ Rose old.seen.graphite_faults new.seen.graphite_faults
-        → Answers words old new Done → CarriedOutWell old.seen new.seen commands }
+        → Accounts words old new Done → CarriedOutWell old.seen new.seen commands }
 {}
 
-/// Where Graphite's count of faults didn't rise, no flush failed there, and each that used it was written.
+/// No fault, no failure. Of a flush: where Graphite is used and its count of faults doesn't rise in that flush, the
+/// flush is marked as written. Of several: where the count doesn't rise, each flush that used Graphite is.
 pub fn no_fault_no_failure()
-    ensures failures { (played : List Played) (had has : ℕ)
-        → ¬ Rose had has → RoseBy (graphite_failures played) had has → graphite_failures played ≡ 0 }
+    ensures flush { (mark : Mark) (had has : ℕ)
+        → mark ≢ NotUsed → ¬ Rose had has → FaultsAfter mark had has → mark ≡ Written }
     ensures written { (played : List Played) (had has : ℕ)
-        → ¬ Rose had has → RoseBy (graphite_failures played) had has → AllByRecursion WrittenWhereUsed played }
+        → ¬ Rose had has → FaultsOver played had has → AllByRecursion WrittenWhereUsed played }
 {}

@@ -9,8 +9,11 @@ mod names;
 mod numbers;
 mod outside;
 
-pub use accounting::{records_are_of_journals, samples_are_accounted};
-pub use completeness::{no_fault_no_failure, scripts_have_one_reading, unhindered_calls_complete};
+pub use accounting::{deliveries_are_lists, records_are_documented, samples_are_accounted};
+pub use completeness::{
+    no_fault_no_failure, scripts_have_one_reading, unhindered_calls_complete,
+    unhindered_replays_complete,
+};
 pub use names::{clean_keys, clean_names, clean_twice, hash_vectors, matches_families};
 pub use numbers::{
     rounding_is_exact, rounding_is_monotone, rounding_is_near, rounding_is_symmetric,

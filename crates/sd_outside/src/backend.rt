@@ -14,6 +14,7 @@ pub trait Backend: Sink + Opens {
     fn begin(&mut self) -> Result<(), Failed>
         ensures ok { OnOk result (Self.written self.new ≡ begun (Self.written self.old)) }
         ensures failed { OnErr result (Rose (Self.faults self.old) (Self.faults self.new)) }
+        ensures steady { OnOk result (Self.faults self.new ≡ Self.faults self.old) }
         ensures kept { OnErr result (Self.written self.new ≡ Self.written self.old) }
         ensures faults_stay { Self.faults self.old ≤ Self.faults self.new }
         ensures address_stays { Self.opened_at self.new ≡ Self.opened_at self.old };
@@ -26,6 +27,7 @@ pub trait Backend: Sink + Opens {
     fn finish(&mut self) -> Result<(), Failed>
         ensures ok { OnOk result (Self.written self.new ≡ ended (Self.written self.old)) }
         ensures failed { OnErr result (Rose (Self.faults self.old) (Self.faults self.new)) }
+        ensures steady { OnOk result (Self.faults self.new ≡ Self.faults self.old) }
         ensures kept { OnErr result (Self.written self.new ≡ Self.written self.old) }
         ensures faults_stay { Self.faults self.old ≤ Self.faults self.new }
         ensures address_stays { Self.opened_at self.new ≡ Self.opened_at self.old };

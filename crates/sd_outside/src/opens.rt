@@ -1,4 +1,4 @@
-ghost use Rattle.std.specs.Prelude.{◌≡◌, ℕ, ◌≤◌, Option, OnOk, IsErrOf};
+ghost use Rattle.std.specs.Prelude.{◌≡◌, ℕ, ◌≤◌, Option, OnOk, OnErr, IsErrOf};
 ghost use Rattle.sd_model.specs.Outside.{Rose};
 ghost use Rattle.sd_outside.specs.declared.address.Address.{Address as Place};
 
@@ -35,11 +35,14 @@ pub trait Opens: Faulty {
     ///
     /// # Errors
     ///
-    /// `Failed` where the object failed, and `OutOfMemory` where memory ran out, which isn't a fault.
+    /// `Failed` where the object failed, and `OutOfMemory` where memory ran out, which isn't a fault. In
+    /// both cases it is where it was last opened before.
     fn open_at(&mut self, at: &Address) -> Result<(), OpenRefusal>
         ensures ok { OnOk result (Self.opened_at self.new ≡ Some at.now) }
         ensures content { same_content self.old self.new }
         ensures failed { IsErrOf result OpenRefusal.Failed → Rose (Self.faults self.old) (Self.faults self.new) }
+        ensures steady { OnOk result (Self.faults self.new ≡ Self.faults self.old) }
         ensures out_of_memory { IsErrOf result OpenRefusal.OutOfMemory → Self.faults self.new ≡ Self.faults self.old }
+        ensures address_stays { OnErr result (Self.opened_at self.new ≡ Self.opened_at self.old) }
         ensures faults_stay { Self.faults self.old ≤ Self.faults self.new };
 }

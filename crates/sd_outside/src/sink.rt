@@ -23,6 +23,7 @@ pub trait Sink: Faulty {
         ensures count { IfOk result (λ n. (0 < n) × (n ≤ length bytes.now)) }
         ensures appended { IfOk result (λ n. written self.new ≡ appended (written self.old) (take n bytes.now)) }
         ensures failed { OnErr result (Rose (Self.faults self.old) (Self.faults self.new)) }
+        ensures steady { OnOk result (Self.faults self.new ≡ Self.faults self.old) }
         ensures kept { OnErr result (written self.new ≡ written self.old) }
         ensures faults_stay { Self.faults self.old ≤ Self.faults self.new }
         ensures address_stays { Self.opened_at self.new ≡ Self.opened_at self.old };
@@ -39,6 +40,7 @@ pub trait Sink: Faulty {
 pub fn write_all<K: Sink>(sink: &mut K, bytes: &[u8]) -> Result<(), Failed>
     ensures ok { OnOk result (K.written sink.new ≡ appended (K.written sink.old) bytes.now) }
     ensures failed { OnErr result (Rose (K.faults sink.old) (K.faults sink.new)) }
+    ensures steady { OnOk result (K.faults sink.new ≡ K.faults sink.old) }
     ensures front { OnErr result (AppendsFront (K.written sink.old) bytes.now (K.written sink.new)) }
     ensures faults_stay { K.faults sink.old ≤ K.faults sink.new }
     ensures address_stays { K.opened_at sink.new ≡ K.opened_at sink.old }

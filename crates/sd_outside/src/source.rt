@@ -1,4 +1,4 @@
-ghost use Rattle.std.specs.Prelude.{◌≡◌, ℕ, ◌<◌, ◌≤◌, List, length, take, Option, IfOk, OnErr};
+ghost use Rattle.std.specs.Prelude.{◌≡◌, ℕ, ◌<◌, ◌≤◌, List, length, take, Option, IfOk, OnOk, OnErr};
 ghost use Rattle.sd_model.specs.Outside.{Rose, Reads, IsAtEnd};
 
 use crate::opens::{Failed, Opens};
@@ -19,6 +19,7 @@ pub trait Source: Opens {
         ensures next { IfOk result (λ n. Reads (remaining self.old) (take n buf.new) (remaining self.new)) }
         ensures end { IfOk result (λ n. n ≡ 0 → IsAtEnd (remaining self.old)) }
         ensures failed { OnErr result (Rose (Self.faults self.old) (Self.faults self.new)) }
+        ensures steady { OnOk result (Self.faults self.new ≡ Self.faults self.old) }
         ensures kept { OnErr result (remaining self.new ≡ remaining self.old) }
         ensures faults_stay { Self.faults self.old ≤ Self.faults self.new }
         ensures address_stays { Self.opened_at self.new ≡ Self.opened_at self.old };

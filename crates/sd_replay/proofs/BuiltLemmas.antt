@@ -1,5 +1,5 @@
 -- Bytes that begin with a built record begin with the line of a legal head.
-use Rattle.std.proofs.Common.{◌≡◌, ◌≢◌, ℕ, suc, zero, ◌+◌, ◌-◌, ◌^◌, ◌<◌, List, [], ◌∷◌, ◌++◌, Option, Some, None, length, get_or, take, drop, decimal, refl, sym, ap, subst, ◌∙◌, ⊎_elim, inl, inr, arith, append_assoc, length-append, length-take}
+use Rattle.std.proofs.Common.{◌≡◌, ◌≢◌, ℕ, suc, zero, ◌+◌, ◌-◌, ◌^◌, ◌<◌, ◌≤◌, List, [], ◌∷◌, ◌++◌, Option, Some, None, length, get_or, take, drop, decimal, refl, sym, ap, subst, ◌∙◌, ⊎_elim, inl, inr, arith, append_assoc, length-append, length-take}
 use Rattle.std.specs.Prelude.{IfSome, MatchOption, slice_range}
 use Rattle.std.proofs.lemmas.Bool.{cases_lt}
 use Rattle.std.proofs.lemmas.Option.{MatchOption-at_some}
@@ -15,7 +15,7 @@ use Rattle.sd_replay.specs.declared.head.Head.{Head}
 use Rattle.sd_replay.specs.declared.head.Head.TheVariants.{Packet, Flush, End}
 use Rattle.sd_model.proofs.Cuts.{same_cut, at_cut}
 use Rattle.sd_replay.proofs.Cuts.{inside_cut}
-use Rattle.sd_model.proofs.ReadingLemmas.{Lacks-decimal}
+use Rattle.sd_model.proofs.Digits.{Lacks-decimal}
 
 -- a datagram that stands behind the front
 HasDatagram-behind : (front datagram rest : List ℕ) → HasBuiltPieces datagram → HasDatagram (length front) (length datagram) (front ++ (datagram ++ 10 ∷ rest))
@@ -136,19 +136,23 @@ same_head End (Packet who moment len) first second same = absurd (omega (arith, 
 same_head End (Flush ts) first second same = absurd (omega (arith, first_byte _ _ same))
 same_head End End first second same = refl
 
+-- the newline behind a short line is seen
+newline_seen : (bytes line rest : List ℕ) → length line < 40 → bytes ≡ line ++ 10 ∷ rest → Lacks 10 (take 40 bytes) → ⊥
+newline_seen bytes line rest short whole lacks =
+    let inside : length line < length bytes = subst (λ xs. length line < length xs) (sym whole) (inside_cut 10 line rest) in
+    lacks (length line) (omega (arith, length-take 40 bytes))
+    (get_or-take 40 bytes (length line) 0 short ∙ ap (λ xs. get_or xs (length line) 0) whole ∙ at_cut 10 line rest)
+
 pub no_line : (bytes : List ℕ) → Lacks 10 (take 40 bytes) → BeginsBuilt bytes → ⊥
 no_line bytes lacks built =
     let opens = Opens-built bytes built in
-    let line = head_line opens.head in
-    let short = length-line opens.head opens.legal in
-    let inside : length line < length bytes = subst (λ xs. length line < length xs) (sym opens.line.whole) (inside_cut 10 line opens.line.rest) in
-    lacks (length line) (omega (arith, length-take 40 bytes))
-    (get_or-take 40 bytes (length line) 0 short ∙ ap (λ xs. get_or xs (length line) 0) opens.line.whole ∙ at_cut 10 line opens.line.rest)
+    newline_seen bytes (head_line opens.head) opens.line.rest (length-line opens.head opens.legal) opens.line.whole lacks
 
 -- bytes that are cut at their first newline
 pub record Line (held : List ℕ) (end : ℕ) : Type 0 where
   pub whole : held ≡ take end held ++ 10 ∷ drop (end + 1) held
   pub first : Lacks 10 (take end held)
+  pub here : get_or held end 0 ≡ 10
   pub inside : end < length held
   pub short : end < 40
 
@@ -162,6 +166,7 @@ Line-found held end found =
       first = λ k within same.
           let before : k < end = omega (arith, within, length-take end held) in
           found.before k before (get_or-take 40 held k 0 (omega arith) ∙ sym (get_or-take end held k 0 before) ∙ same);
+      here = here;
       inside = inside;
       short = short;
     }
@@ -221,3 +226,32 @@ part_of_packet (Packet who moment len) line held legal size front short =
     })
 part_of_packet (Flush ts) line held legal size front short = absurd short
 part_of_packet End line held legal size front short = absurd short
+
+-- 40 bytes without a newline decide
+pub forty_decided : (held : List ℕ) → 40 ≤ length held → Lacks 10 (take 40 held) → ¬ IsUndecided held
+forty_decided held long lacks (inl part) = absurd (omega (arith, long, part.1))
+forty_decided held long lacks (inr p) =
+    let head = Packet p.who p.moment p.len in
+    newline_seen held (head_line head) p.rest (length-line head p.legal) p.whole lacks
+
+-- a line that is no legal head decides
+pub line_decided : (held : List ℕ) (end : ℕ) → Line held end → ((head : Head) → IsLegal head → take end held ≢ head_line head) → ¬ IsUndecided held
+line_decided held end line other (inl part) = part.0 end line.inside line.here
+line_decided held end line other (inr p) =
+    let head = Packet p.who p.moment p.len in
+    let cut = same_cut 10 (take end held) (drop (end + 1) held) (head_line head) p.rest line.first (Lacks-line head p.legal) (sym line.whole ∙ p.whole) in
+    other head p.legal cut.0
+
+-- the line of a head decides, with as many bytes behind it as the head asks for
+pub body_decided : (head : Head) (line : ℕ) (held : List ℕ) → IsLegal head → line ≡ length (head_line head) + 1 → BeginsWithLine head held → ¬ IsCutShort head line held → ¬ IsUndecided held
+body_decided head line held legal size front long (inl part) =
+    let text = head_line head in
+    let inside : length text < length held = subst (λ xs. length text < length xs) (sym front.whole) (inside_cut 10 text front.rest) in
+    part.0 (length text) inside (ap (λ xs. get_or xs (length text) 0) front.whole ∙ at_cut 10 text front.rest)
+body_decided head line held legal size front long (inr p) =
+    let text = head_line head in
+    let other = Packet p.who p.moment p.len in
+    let cut = same_cut 10 text front.rest (head_line other) p.rest (Lacks-line head legal) (Lacks-line other p.legal) (sym front.whole ∙ p.whole) in
+    let same : other ≡ head = same_head other head p.legal legal (sym cut.0) in
+    let short : length held ≤ line + p.len = omega (arith, ap length front.whole, length-append text (10 ∷ front.rest), size, ap length cut.1, p.short) in
+    long (subst (λ h. IsCutShort h line held) same short)

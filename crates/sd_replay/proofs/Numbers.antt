@@ -1,21 +1,13 @@
 -- Digits with no leading zero, and the number that they write.
-use Rattle.std.proofs.Common.{◌≡◌, ℕ, zero, suc, ◌^◌, ◌<◌, ◌≤◌, true, List, length, get_or, decimal, rules, arith, sym}
+use Rattle.std.proofs.Common.{◌≡◌, ℕ, zero, suc, ◌^◌, ◌<◌, ◌≤◌, true, List, length, get_or, decimal, arith, sym}
 use Rattle.std.specs.Char.{is_ascii_digit}
 use Rattle.std.specs.List.{list_all}
 use Rattle.std.specs.Str.Parse.{digits_value}
 use Rattle.std.proofs.Math.Nat.{pow-le-pow_right}
 use Rattle.std.proofs.lemmas.Fmt.{digits_decimal, decimal-digits_value, decimal_nonempty, length-decimal-le, first_decimal, decimal_digit}
-use Rattle.std.proofs.lemmas.Str.Parse.{IsNumeralModel, IsDigitsTest, numerals_by_value, digits_value_short, not_in_digits}
-use Rattle.sd_replay.specs.Fields.{IsNumber, Lacks}
-
-abbrev AreDigits : List ℕ → Type 0
-AreDigits ds = list_all is_ascii_digit ds ≡ true
-
-tells : IsDigitsTest AreDigits
-tells = search rules
-
-own : IsNumeralModel AreDigits (digits_value 10)
-own = numerals_by_value AreDigits tells
+use Rattle.std.proofs.lemmas.Str.Parse.{digits_value_short}
+use Rattle.sd_model.proofs.Digits.{numerals}
+use Rattle.sd_replay.specs.Fields.{IsNumber}
 
 -- a number of at most 18 digits fits 64 bits
 small_power : (most : ℕ) → most ≤ 18 → 10 ^ most ≤ 10 ^ 18
@@ -23,10 +15,10 @@ small_power most few = let ten : 0 < 10 = omega arith in pow-le-pow_right ten fe
 
 pub number_written : (ds : List ℕ) (most : ℕ) → most ≤ 18 → list_all is_ascii_digit ds ≡ true → 0 < length ds → length ds ≤ most → (get_or ds 0 0 ≡ 48 → length ds ≤ 1) → IsNumber ds most (digits_value 10 ds)
 number_written ds most few digits some short first =
-    let below : digits_value 10 ds < 10 ^ most = digits_value_short own ds most digits short in
+    let below : digits_value 10 ds < 10 ^ most = digits_value_short numerals ds most digits short in
     let fits = small_power most few in
     record {
-      written = sym (decimal-digits_value own ds digits some (λ leading. let one = first leading in omega arith) (omega arith));
+      written = sym (decimal-digits_value numerals ds digits some (λ leading. let one = first leading in omega arith) (omega arith));
       fits = below;
     }
 
@@ -48,13 +40,9 @@ IsWritten-decimal most n some few fits =
     record {
       some = decimal_nonempty n small;
       short = length-decimal-le most n some fits small;
-      digits = digits_decimal own n small;
+      digits = digits_decimal numerals n small;
       first = first_of n small;
     }
 
 pub IsWritten-from : (ds : List ℕ) (most n : ℕ) → 0 < most → most ≤ 18 → n < 10 ^ most → ds ≡ decimal n → IsWritten ds most
 IsWritten-from ds most n some few fits same = rw same (IsWritten-decimal most n some few fits)
-
--- a byte that is no digit stands in no number's text
-pub Lacks-decimal : (byte n : ℕ) → byte < 48 → n < 2 ^ 64 → Lacks byte (decimal n)
-Lacks-decimal byte n low small = not_in_digits own (decimal n) byte (digits_decimal own n small) (λ within. absurd (omega (arith, within)))

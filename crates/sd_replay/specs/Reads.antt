@@ -3,6 +3,7 @@
 use Rattle.std.specs.Prelude.{◌≡◌, ℕ, ◌+◌, List, [], ◌++◌, length, min, Option, option_map, IfSome}
 use Rattle.sd_model.specs.Outside.{last_count}
 use Rattle.sd_model.specs.Script.{Packet as PacketRecord, Flush as FlushRecord, spelled, end_word, IsBuilt, BeginsBuilt}
+use Rattle.sd_model.specs.Undecided.{IsDecided}
 use Rattle.sd_replay.specs.Reading.{Reading, left}
 use Rattle.sd_replay.specs.declared.reader.Item.{Item}
 use Rattle.sd_replay.specs.declared.reader.Item.TheVariants.{Packet, Flush, End, Unbuilt}
@@ -34,10 +35,12 @@ pub record ReadsEnd (old : Reading) (had : Option (List ℕ)) (new : Reading) (h
   pub taken : Takes end_word old had new has
   pub datagram : new.datagram ≡ []
 
--- no built record stands next, which is known where the source tells what it has left
+-- no built record stands next, which is known where the source tells what it has left; and the bytes at hand decide it,
+-- or the source is at its end
 pub record FindsUnbuilt (old : Reading) (had : Option (List ℕ)) (new : Reading) (has : Option (List ℕ)) : Type 0 where
   pub stays : Stays old had new has
   pub unbuilt : IfSome (left old had) (λ bytes. ¬ BeginsBuilt bytes)
+  pub decided : IsDecided new.pending has
 
 -- the answer to the question what stands next
 abbrev pub ReadsItem : Item → Reading → Option (List ℕ) → Reading → Option (List ℕ) → Type 0

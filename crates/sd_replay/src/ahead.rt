@@ -34,11 +34,12 @@ fn zeros(alloc: Global, len: usize) -> Result<Vec<u8>, AllocError>
 }
 
 impl Ahead {
-    ghost use Rattle.std.specs.Prelude.{◌≡◌, ◌<◌, ◌≤◌, [], drop, length, take, IfOk, OnErr, MatchBool, MatchOption, IfSome};
+    ghost use Rattle.std.specs.Prelude.{◌≡◌, ◌<◌, ◌≤◌, [], drop, length, take, IfOk, OnOk, OnErr, MatchBool, MatchOption, IfSome, IfNone};
+    ghost use Rattle.std.specs.Bool.{OnFalse};
     ghost use Rattle.sd_model.specs.Outside.{Rose, IsAtEnd};
     ghost use Rattle.sd_replay.specs.Fields.{Lacks, IsFirstPlace};
     ghost use Rattle.sd_replay.specs.Ahead.{held_in, left_behind, Grows, GrowsBy};
-    ghost use Rattle.sd_model.specs.Undecided.{IsPartOfLine};
+    ghost use Rattle.sd_model.specs.Undecided.{IsPartOfLine, IsDecided};
 
     /// Takes the room, which holds no bytes yet.
     ///
@@ -89,6 +90,7 @@ impl Ahead {
         ensures end { IfOk result (λ n. n ≡ 0 → IsAtEnd (R.remaining script.new)) }
         ensures kept { OnErr result (held_in self.new ≡ held_in self.old) }
         ensures failed { OnErr result (Rose (R.faults script.old) (R.faults script.new)) }
+        ensures steady { OnOk result (R.faults script.new ≡ R.faults script.old) }
         ensures faults_stay { R.faults script.old ≤ R.faults script.new }
         ensures address_stays { R.opened_at script.new ≡ R.opened_at script.old }
     {
@@ -107,6 +109,7 @@ impl Ahead {
         ensures end { IfOk result (λ n. n ≡ 0 → IsAtEnd (R.remaining script.new)) }
         ensures kept { OnErr result (held_in self.new ≡ held_in self.old) }
         ensures failed { OnErr result (Rose (R.faults script.old) (R.faults script.new)) }
+        ensures steady { OnOk result (R.faults script.new ≡ R.faults script.old) }
         ensures faults_stay { R.faults script.old ≤ R.faults script.new }
         ensures address_stays { R.opened_at script.new ≡ R.opened_at script.old }
     {
@@ -121,11 +124,13 @@ impl Ahead {
         requires { need ≤ ROOM }
         ensures held { IfOk result (λ b. MatchBool b (need ≤ length (held_in self.new))
             (IfSome (left_behind (held_in self.new) (R.remaining script.new)) (λ bytes. length bytes < need))) }
+        ensures end { IfOk result (λ b. OnFalse b (IsAtEnd (R.remaining script.new))) }
         ensures asked { OnErr result (length (held_in self.new) < need) }
         ensures grows { Grows (held_in self.old) (held_in self.new) }
         ensures left_stays { left_behind (held_in self.new) (R.remaining script.new)
             ≡ left_behind (held_in self.old) (R.remaining script.old) }
         ensures failed { OnErr result (Rose (R.faults script.old) (R.faults script.new)) }
+        ensures steady { OnOk result (R.faults script.new ≡ R.faults script.old) }
         ensures faults_stay { R.faults script.old ≤ R.faults script.new }
         ensures address_stays { R.opened_at script.new ≡ R.opened_at script.old }
     {
@@ -143,10 +148,12 @@ impl Ahead {
         ensures line { IfOk result (λ place. MatchOption place
             (IfSome (left_behind (held_in self.new) (R.remaining script.new)) (λ bytes. Lacks 10 (take LINE bytes)))
             (IsFirstPlace 10 (take LINE (held_in self.new)))) }
+        ensures decided { IfOk result (λ place. IfNone place (IsDecided (held_in self.new) (R.remaining script.new))) }
         ensures asked { OnErr result (IsPartOfLine (held_in self.new)) }
         ensures left_stays { left_behind (held_in self.new) (R.remaining script.new)
             ≡ left_behind (held_in self.old) (R.remaining script.old) }
         ensures failed { OnErr result (Rose (R.faults script.old) (R.faults script.new)) }
+        ensures steady { OnOk result (R.faults script.new ≡ R.faults script.old) }
         ensures faults_stay { R.faults script.old ≤ R.faults script.new }
         ensures address_stays { R.opened_at script.new ≡ R.opened_at script.old }
     {

@@ -1,8 +1,7 @@
 ghost use Rattle.std.specs.Prelude.{◌≡◌, ◌≢◌, ◌≤◌};
-ghost use Rattle.sd_model.specs.Desk.{NotUsed, fault_of};
+ghost use Rattle.sd_model.specs.Desk.{NotUsed};
 ghost use Rattle.sd_model.specs.Graphite.{graphite_text};
-ghost use Rattle.sd_model.specs.Outside.{RoseBy};
-ghost use Rattle.sd_model.specs.Replay.{AfterMark};
+ghost use Rattle.sd_model.specs.Replay.{AfterMark, FaultsAfter};
 ghost use Rattle.sd_record.specs.Record.{record_view};
 ghost use Rattle.sd_replay.specs.Marks.{mark_of};
 
@@ -15,7 +14,7 @@ use sd_record::Record;
 pub(crate) fn deliver<B: Backend>(rec: &Record<'_>, back: &mut B) -> Mark
     ensures used { mark_of result ≢ NotUsed }
     ensures text { AfterMark (mark_of result) (graphite_text (record_view rec.now)) (B.written back.old) (B.written back.new) }
-    ensures faults { RoseBy (fault_of (mark_of result)) (B.faults back.old) (B.faults back.new) }
+    ensures faults { FaultsAfter (mark_of result) (B.faults back.old) (B.faults back.new) }
     ensures faults_stay { B.faults back.old ≤ B.faults back.new }
     ensures address_stays { B.opened_at back.new ≡ B.opened_at back.old }
 {

@@ -1,9 +1,8 @@
 ghost use Rattle.std.specs.Prelude.{◌≡◌, ◌≢◌, ◌≤◌, [], ◌∷◌};
-ghost use Rattle.sd_model.specs.Desk.{NotUsed, fault_of, with_round};
+ghost use Rattle.sd_model.specs.Desk.{NotUsed, with_round};
 ghost use Rattle.sd_model.specs.Graphite.{graphite_text};
-ghost use Rattle.sd_model.specs.Outside.{RoseBy};
 ghost use Rattle.sd_model.specs.Record.{record_of};
-ghost use Rattle.sd_model.specs.Replay.{AfterMark};
+ghost use Rattle.sd_model.specs.Replay.{AfterMark, FaultsAfter};
 ghost use Rattle.sd_model.specs.Shard.{after_swap, table_of};
 ghost use Rattle.sd_shard.specs.Shard.{state_of};
 ghost use Rattle.sd_replay.specs.Marks.{mark_of, marks_of};
@@ -45,7 +44,7 @@ pub(crate) fn flush<B: Backend>(
     ensures text { AfterMark (mark_of result.marks.graphite)
         (graphite_text (record_of 10000 (table_of (state_of shard.old) ∷ []) (desk.old).tally ts))
         (B.written back.old) (B.written back.new) }
-    ensures faults { RoseBy (fault_of (mark_of result.marks.graphite)) (B.faults back.old) (B.faults back.new) }
+    ensures faults { FaultsAfter (mark_of result.marks.graphite) (B.faults back.old) (B.faults back.new) }
     ensures faults_stay { B.faults back.old ≤ B.faults back.new }
     ensures address_stays { B.opened_at back.new ≡ B.opened_at back.old }
 {

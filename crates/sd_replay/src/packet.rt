@@ -1,7 +1,6 @@
 ghost use Rattle.std.specs.Prelude.{◌≡◌, ◌≤◌, length};
 ghost use Rattle.sd_model.specs.Lines.{pieces, samples_of};
-ghost use Rattle.sd_model.specs.Shard.{refusal, after_sample};
-ghost use Rattle.sd_model.specs.Replay.{Filing, filed, drop_of};
+ghost use Rattle.sd_model.specs.Shard.{refusal, placed, after_sample, after_samples, answers_to, drop_of, drops};
 ghost use Rattle.sd_shard.specs.Shard.{state_of};
 
 use sd_line::{Lines, Sample};
@@ -16,7 +15,7 @@ pub(crate) struct Filed {
 
 /// Files a sample, and answers how many were dropped: it, or none.
 fn file_sample(shard: &mut Shard, who: Who, s: &Sample) -> u64
-    ensures dropped { result ≡ drop_of (refusal shard.old.table.limits (state_of shard.old) s.now) }
+    ensures dropped { result ≡ drop_of (placed (state_of shard.old) (refusal shard.old.table.limits (state_of shard.old) s.now)) }
     ensures state { state_of shard.new ≡ after_sample (state_of shard.old) who.0 s.now
         (refusal shard.old.table.limits (state_of shard.old) s.now) }
     ensures limits { shard.new.table.limits ≡ shard.old.table.limits }
@@ -31,8 +30,8 @@ fn file_sample(shard: &mut Shard, who: Who, s: &Sample) -> u64
 /// Files the samples of a datagram, in order.
 pub(crate) fn file_packet(shard: &mut Shard, who: Who, datagram: &[u8]) -> Filed
     requires { length datagram.now ≤ 65507 }
-    ensures state { state_of shard.new ≡ (filed shard.old.table.limits who.0 (record { shard = state_of shard.old; dropped = 0 }) (samples_of datagram.now)).shard }
-    ensures dropped { result.dropped ≡ (filed shard.old.table.limits who.0 (record { shard = state_of shard.old; dropped = 0 }) (samples_of datagram.now)).dropped }
+    ensures state { state_of shard.new ≡ after_samples shard.old.table.limits who.0 (state_of shard.old) (samples_of datagram.now) }
+    ensures dropped { result.dropped ≡ drops (answers_to shard.old.table.limits who.0 (state_of shard.old) (samples_of datagram.now)) }
     ensures lines { result.lines ≡ length (pieces datagram.now) }
     ensures few { result.dropped ≤ result.lines }
     ensures small { result.lines ≤ 65508 }

@@ -39,7 +39,7 @@ impl Model for Reader {
 }
 
 impl Reader {
-    ghost use Rattle.std.specs.Prelude.{◌≡◌, ◌≤◌, [], IfOk, OnErr};
+    ghost use Rattle.std.specs.Prelude.{◌≡◌, ◌≤◌, [], IfOk, OnOk, OnErr};
     ghost use Rattle.sd_model.specs.Outside.{Rose};
     ghost use Rattle.sd_replay.specs.Reads.{ReadsItem, Stays};
     ghost use Rattle.sd_model.specs.Undecided.{IsUndecided};
@@ -87,6 +87,7 @@ impl Reader {
         ensures item { IfOk result
             (λ item. ReadsItem item self.old (R.remaining script.old) self.new (R.remaining script.new)) }
         ensures failed { OnErr result (Rose (R.faults script.old) (R.faults script.new)) }
+        ensures steady { OnOk result (R.faults script.new ≡ R.faults script.old) }
         ensures stays { OnErr result (Stays self.old (R.remaining script.old) self.new (R.remaining script.new)) }
         ensures asked { OnErr result (IsUndecided (self.new).pending) }
         ensures faults_stay { R.faults script.old ≤ R.faults script.new }

@@ -1,10 +1,11 @@
-ghost use Rattle.std.specs.Prelude.{◌≡◌, ◌+◌, ◌<◌, ◌≤◌, ◌↔◌, length, IsTrue, MatchBool, MatchOption, IfSome, IfOk, OnErr};
-ghost use Rattle.sd_model.specs.Outside.{Rose};
+ghost use Rattle.std.specs.Prelude.{◌≡◌, ◌+◌, ◌<◌, ◌≤◌, ◌↔◌, length, IsTrue, MatchBool, MatchOption, IfSome, IfNone, IfOk, OnOk, OnErr, ◌⊎◌};
+ghost use Rattle.std.specs.Bool.{OnFalse};
+ghost use Rattle.sd_model.specs.Outside.{Rose, IsAtEnd};
 ghost use Rattle.sd_model.specs.Script.{BeginsBuilt};
 ghost use Rattle.sd_replay.specs.Ahead.{held_in, left_behind, Grows};
 ghost use Rattle.sd_replay.specs.Found.{HasBuiltPieces, HasDatagram, HasBody, IsCutShort, BeginsWith};
 ghost use Rattle.sd_replay.specs.Head.{IsLegal};
-ghost use Rattle.sd_model.specs.Undecided.{IsUndecided};
+ghost use Rattle.sd_model.specs.Undecided.{IsUndecided, IsDecided};
 
 use crate::ahead::{Ahead, LINE};
 use crate::head::{Head, parse_line};
@@ -51,11 +52,14 @@ fn body_follows<R: Source>(
     requires line { line ≤ LINE }
     ensures body { IfOk result (λ b. MatchBool b (HasBody head line (held_in ahead.new))
         (IfSome (left_behind (held_in ahead.new) (R.remaining script.new)) (λ bytes. ¬ HasBody head line bytes))) }
+    ensures decided { IfOk result (λ b. OnFalse b
+        ((¬ IsCutShort head line (held_in ahead.new)) ⊎ IsAtEnd (R.remaining script.new))) }
     ensures asked { OnErr result (IsCutShort head line (held_in ahead.new)) }
     ensures grows { Grows (held_in ahead.old) (held_in ahead.new) }
     ensures left_stays { left_behind (held_in ahead.new) (R.remaining script.new)
         ≡ left_behind (held_in ahead.old) (R.remaining script.old) }
     ensures failed { OnErr result (Rose (R.faults script.old) (R.faults script.new)) }
+    ensures steady { OnOk result (R.faults script.new ≡ R.faults script.old) }
     ensures faults_stay { R.faults script.old ≤ R.faults script.new }
     ensures address_stays { R.opened_at script.new ≡ R.opened_at script.old }
 {
@@ -76,10 +80,12 @@ pub(crate) fn next_record<R: Source>(
     ensures found { IfOk result (λ found. MatchOption found
         (IfSome (left_behind (held_in ahead.new) (R.remaining script.new)) (λ bytes. ¬ BeginsBuilt bytes))
         (λ f. BeginsWith f (held_in ahead.new))) }
+    ensures decided { IfOk result (λ found. IfNone found (IsDecided (held_in ahead.new) (R.remaining script.new))) }
     ensures asked { OnErr result (IsUndecided (held_in ahead.new)) }
     ensures left_stays { left_behind (held_in ahead.new) (R.remaining script.new)
         ≡ left_behind (held_in ahead.old) (R.remaining script.old) }
     ensures failed { OnErr result (Rose (R.faults script.old) (R.faults script.new)) }
+    ensures steady { OnOk result (R.faults script.new ≡ R.faults script.old) }
     ensures faults_stay { R.faults script.old ≤ R.faults script.new }
     ensures address_stays { R.opened_at script.new ≡ R.opened_at script.old }
 {

@@ -1,12 +1,15 @@
 ghost use Rattle.std.specs.Prelude.{◌≡◌, ◌≤◌, length, OnOk, OnErr, IfOk};
+ghost use Rattle.sd_model.specs.Lines.{samples_of};
+ghost use Rattle.sd_model.specs.Shard.{after_samples, answers_to, drops};
 ghost use Rattle.sd_model.specs.Desk.{with_tally};
 ghost use Rattle.sd_model.specs.Outside.{Rose, appended};
-ghost use Rattle.sd_model.specs.Replay.{packet_filing, packet_tally, totals_text};
-ghost use Rattle.sd_model.specs.Run.{EndsAs};
+ghost use Rattle.sd_model.specs.Replay.{packet_tally, totals_of as totals_in, totals_text};
+ghost use Rattle.sd_model.specs.AccountingTheorem.{seen_of};
+ghost use Rattle.sd_model.specs.Run.{Replayed};
 ghost use Rattle.sd_outside.specs.Write.{AppendsFront};
 ghost use Rattle.sd_shard.specs.Shard.{state_of};
-ghost use Rattle.sd_replay.specs.Ends.{end_of, AnswersTotals};
-ghost use Rattle.sd_replay.specs.Totals.{totals_lines};
+ghost use Rattle.sd_replay.specs.Ends.{end_of};
+ghost use Rattle.sd_replay.specs.Totals.{totals_view};
 
 use crate::desk::Desk;
 use crate::flush::flush;
@@ -38,7 +41,7 @@ pub enum ReplayEnd {
 
 /// The totals of a shard and a desk.
 fn totals_of(shard: &Shard, desk: &Desk) -> Totals
-    ensures { totals_lines result ≡ totals_text (record { shard = state_of shard.now; desk = desk.now }) }
+    ensures { totals_view result ≡ totals_in (record { shard = state_of shard.now; desk = desk.now }) }
 {
     let book = shard.book();
     let facts = desk.facts();
@@ -62,8 +65,8 @@ fn totals_of(shard: &Shard, desk: &Desk) -> Totals
 /// Files the samples of a datagram, and counts it.
 fn play_packet(shard: &mut Shard, desk: &mut Desk, who: u16, datagram: &[u8])
     requires { length datagram.now ≤ 65507 }
-    ensures state { state_of shard.new ≡ (packet_filing shard.old.table.limits (state_of shard.old) who datagram.now).shard }
-    ensures desk { desk.new ≡ with_tally desk.old (packet_tally datagram.now (packet_filing shard.old.table.limits (state_of shard.old) who datagram.now).dropped) }
+    ensures state { state_of shard.new ≡ after_samples shard.old.table.limits who (state_of shard.old) (samples_of datagram.now) }
+    ensures desk { desk.new ≡ with_tally desk.old (packet_tally datagram.now (drops (answers_to shard.old.table.limits who (state_of shard.old) (samples_of datagram.now)))) }
     ensures limits { shard.new.table.limits ≡ shard.old.table.limits }
     ensures policy { shard.new.policy ≡ shard.old.policy }
 {
@@ -82,10 +85,11 @@ fn play_packet(shard: &mut Shard, desk: &mut Desk, who: u16, datagram: &[u8])
 ///
 /// `WriteFault` where the output failed. Then a front of their text was written.
 fn finish<O: Sink>(shard: &Shard, desk: &Desk, output: &mut O) -> Result<Totals, WriteFault>
-    ensures ok { OnOk result (O.written output.new ≡ appended (O.written output.old) (totals_text (record { shard = state_of shard.now; desk = desk.now }))) }
-    ensures totals { IfOk result (λ totals. O.written output.new ≡ appended (O.written output.old) (totals_lines totals)) }
+    ensures totals { IfOk result (λ totals. totals_view totals ≡ totals_in (record { shard = state_of shard.now; desk = desk.now })) }
+    ensures written { IfOk result (λ totals. O.written output.new ≡ appended (O.written output.old) (totals_text (totals_view totals))) }
     ensures failed { OnErr result (Rose (O.faults output.old) (O.faults output.new)) }
-    ensures front { OnErr result (AppendsFront (O.written output.old) (totals_text (record { shard = state_of shard.now; desk = desk.now })) (O.written output.new)) }
+    ensures steady { OnOk result (O.faults output.new ≡ O.faults output.old) }
+    ensures front { OnErr result (AppendsFront (O.written output.old) (totals_text (totals_in (record { shard = state_of shard.now; desk = desk.now }))) (O.written output.new)) }
     ensures faults_stay { O.faults output.old ≤ O.faults output.new }
     ensures address_stays { O.opened_at output.new ≡ O.opened_at output.old }
 {
@@ -102,25 +106,9 @@ pub fn replay<R: Source, O: Sink, B: Backend>(
     output: &mut O,
     graphite: &mut B,
 ) -> ReplayEnd
-    ensures end { EndsAs
-        (record {
-          script = R.remaining script.old;
-          script_faults = R.faults script.old;
-          graphite = B.written graphite.old;
-          graphite_faults = B.faults graphite.old;
-          output = O.written output.old;
-          output_faults = O.faults output.old;
-        })
-        (record {
-          script = R.remaining script.new;
-          script_faults = R.faults script.new;
-          graphite = B.written graphite.new;
-          graphite_faults = B.faults graphite.new;
-          output = O.written output.new;
-          output_faults = O.faults output.new;
-        })
-        (end_of result) }
-    ensures totals { AnswersTotals (O.written output.old) (O.written output.new) result }
+    ensures end { Replayed (end_of result)
+        (seen_of R.remaining R.faults B.written B.faults O.written O.faults script.old graphite.old output.old)
+        (seen_of R.remaining R.faults B.written B.faults O.written O.faults script.new graphite.new output.new) }
     ensures script_faults_stay { R.faults script.old ≤ R.faults script.new }
     ensures output_faults_stay { O.faults output.old ≤ O.faults output.new }
     ensures graphite_faults_stay { B.faults graphite.old ≤ B.faults graphite.new }

@@ -1,8 +1,8 @@
 ghost use Rattle.std.specs.Prelude.{◌≡◌, ◌+◌, ◌≤◌, ◌++◌, length, OnOk, OnErr};
 ghost use Rattle.sd_model.specs.Outside.{Rose, appended};
-ghost use Rattle.sd_model.specs.Replay.{total_line};
+ghost use Rattle.sd_model.specs.Replay.{total_line, totals_text as lines_of};
 ghost use Rattle.sd_outside.specs.Write.{AppendsFront};
-ghost use Rattle.sd_replay.specs.Totals.{totals_lines};
+ghost use Rattle.sd_replay.specs.Totals.{totals_view};
 
 use sd_decimal::{Line, write_whole};
 use sd_outside::{Sink, WriteFault, write_all};
@@ -39,7 +39,7 @@ fn push_total(name: &[u8], n: u128, line: &mut Line)
 
 /// The lines of the totals.
 fn totals_text(totals: &Totals) -> Line
-    ensures { result.items ≡ totals_lines totals.now }
+    ensures { result.items ≡ lines_of (totals_view totals.now) }
 {
     let mut line = Line::new();
     push_total(b"packets", totals.packets, &mut line);
@@ -64,9 +64,10 @@ fn totals_text(totals: &Totals) -> Line
 ///
 /// `WriteFault` where the sink failed. Then a front of the text was written.
 pub(crate) fn write_totals<O: Sink>(totals: &Totals, output: &mut O) -> Result<(), WriteFault>
-    ensures ok { OnOk result (O.written output.new ≡ appended (O.written output.old) (totals_lines totals.now)) }
+    ensures ok { OnOk result (O.written output.new ≡ appended (O.written output.old) (lines_of (totals_view totals.now))) }
     ensures failed { OnErr result (Rose (O.faults output.old) (O.faults output.new)) }
-    ensures front { OnErr result (AppendsFront (O.written output.old) (totals_lines totals.now) (O.written output.new)) }
+    ensures steady { OnOk result (O.faults output.new ≡ O.faults output.old) }
+    ensures front { OnErr result (AppendsFront (O.written output.old) (lines_of (totals_view totals.now)) (O.written output.new)) }
     ensures faults_stay { O.faults output.old ≤ O.faults output.new }
     ensures address_stays { O.opened_at output.new ≡ O.opened_at output.old }
 {

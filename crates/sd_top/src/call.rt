@@ -1,11 +1,13 @@
-ghost use Rattle.std.specs.Prelude.{◌≡◌, ◌≤◌, ◌⊎◌, [], map, string_bytes, Some, OnOk, IfOk, IfErr};
-ghost use Rattle.sd_model.specs.Call.{Answers, ending};
+ghost use Rattle.std.specs.Prelude.{◌≡◌, ◌≤◌, [], map, string_bytes, Some, OnOk, OnErr, IfOk, IfErr};
+ghost use Rattle.sd_model.specs.Call.{Accounts, ending};
 ghost use Rattle.sd_model.specs.Outside.{File, IsAtEnd};
-ghost use Rattle.sd_model.specs.Run.{EndsAs};
+ghost use Rattle.sd_model.specs.AccountingTheorem.{seen_of};
+ghost use Rattle.sd_model.specs.Run.{Replayed};
 ghost use Rattle.sd_replay.specs.Ends.{end_of};
 ghost use Rattle.sd_top.specs.Answers.{answer_of};
 ghost use Rattle.sd_top.specs.Causes.{NotOpened, NotTaken, NotBegun};
 ghost use Rattle.sd_top.specs.Places.{place_of, last_place};
+ghost use Rattle.sd_top.specs.World.{objects_of, ready_of, settled_of};
 
 use crate::status::{Part, Status};
 use crate::words::form_of;
@@ -31,6 +33,8 @@ fn open<T: Opens>(object: &mut T, at: &Address, part: Part) -> Result<(), Status
     ensures ok { OnOk result (last_place (T.opened_at object.new) ≡ Some (place_of at.now)) }
     ensures content { T.same_content object.old object.new }
     ensures refused { IfErr result (λ status. NotOpened part status (T.faults object.old) (T.faults object.new)) }
+    ensures steady { OnOk result (T.faults object.new ≡ T.faults object.old) }
+    ensures place_stays { OnErr result (last_place (T.opened_at object.new) ≡ last_place (T.opened_at object.old)) }
     ensures faults_stay { T.faults object.old ≤ T.faults object.new }
 {
     match object.open_at(at) {
@@ -49,6 +53,8 @@ fn open_source<R: Source>(source: &mut R, at: &Address, part: Part) -> Result<()
     ensures ok { OnOk result (last_place (R.opened_at source.new) ≡ Some (place_of at.now)) }
     ensures content { R.remaining source.new ≡ R.remaining source.old }
     ensures refused { IfErr result (λ status. NotOpened part status (R.faults source.old) (R.faults source.new)) }
+    ensures steady { OnOk result (R.faults source.new ≡ R.faults source.old) }
+    ensures place_stays { OnErr result (last_place (R.opened_at source.new) ≡ last_place (R.opened_at source.old)) }
     ensures faults_stay { R.faults source.old ≤ R.faults source.new }
 {
     open(source, at, part)
@@ -63,6 +69,8 @@ fn open_backend<B: Backend>(back: &mut B, at: &Address, part: Part) -> Result<()
     ensures ok { OnOk result (last_place (B.opened_at back.new) ≡ Some (place_of at.now)) }
     ensures content { B.written back.new ≡ B.written back.old }
     ensures refused { IfErr result (λ status. NotOpened part status (B.faults back.old) (B.faults back.new)) }
+    ensures steady { OnOk result (B.faults back.new ≡ B.faults back.old) }
+    ensures place_stays { OnErr result (last_place (B.opened_at back.new) ≡ last_place (B.opened_at back.old)) }
     ensures faults_stay { B.faults back.old ≤ B.faults back.new }
 {
     open(back, at, part)
@@ -76,8 +84,10 @@ fn open_backend<B: Backend>(back: &mut B, at: &Address, part: Part) -> Result<()
 fn read_settings<R: Source>(settings: &mut R, at: &Address) -> Result<(), Status>
     ensures empty { OnOk result (IsAtEnd (R.remaining settings.old)) }
     ensures opened { OnOk result (last_place (R.opened_at settings.new) ≡ Some (place_of at.now)) }
-    ensures refused { IfErr result (λ status. NotTaken status (last_place (R.opened_at settings.new)) (place_of at.now)
-        (R.remaining settings.old) (R.faults settings.old) (R.faults settings.new)) }
+    ensures steady { OnOk result (R.faults settings.new ≡ R.faults settings.old) }
+    ensures refused { IfErr result (λ status. NotTaken status (place_of at.now)
+        (settled_of R.remaining R.faults R.opened_at settings.old)
+        (settled_of R.remaining R.faults R.opened_at settings.new)) }
     ensures faults_stay { R.faults settings.old ≤ R.faults settings.new }
 {
     open_source(settings, at, Part::Settings)?;
@@ -116,51 +126,14 @@ fn carry_out<R: Source, O: Sink, B: Backend>(
     output: &mut O,
     graphite: &mut B,
 ) -> Result<ReplayEnd, Status>
-    ensures end { IfOk result (λ end. EndsAs
-        (record {
-          script = R.remaining script.old;
-          script_faults = R.faults script.old;
-          graphite = B.written graphite.old;
-          graphite_faults = B.faults graphite.old;
-          output = O.written output.old;
-          output_faults = O.faults output.old;
-        })
-        (record {
-          script = R.remaining script.new;
-          script_faults = R.faults script.new;
-          graphite = B.written graphite.new;
-          graphite_faults = B.faults graphite.new;
-          output = O.written output.new;
-          output_faults = O.faults output.new;
-        })
-        (end_of end)) }
+    ensures end { IfOk result (λ end. Replayed (end_of end)
+        (seen_of R.remaining R.faults B.written B.faults O.written O.faults script.old graphite.old output.old)
+        (seen_of R.remaining R.faults B.written B.faults O.written O.faults script.new graphite.new output.new)) }
     ensures script_at { IfOk result (λ end. last_place (R.opened_at script.new) ≡ Some (File name.items)) }
     ensures graphite_at { IfOk result (λ end. last_place (B.opened_at graphite.new) ≡ Some (File [])) }
     ensures refused { IfErr result (λ status. NotBegun status (File name.items)
-        (record {
-          seen = record {
-            script = R.remaining script.old;
-            script_faults = R.faults script.old;
-            graphite = B.written graphite.old;
-            graphite_faults = B.faults graphite.old;
-            output = O.written output.old;
-            output_faults = O.faults output.old;
-          };
-          script_at = last_place (R.opened_at script.old);
-          graphite_at = last_place (B.opened_at graphite.old);
-        })
-        (record {
-          seen = record {
-            script = R.remaining script.new;
-            script_faults = R.faults script.new;
-            graphite = B.written graphite.new;
-            graphite_faults = B.faults graphite.new;
-            output = O.written output.new;
-            output_faults = O.faults output.new;
-          };
-          script_at = last_place (R.opened_at script.new);
-          graphite_at = last_place (B.opened_at graphite.new);
-        })) }
+        (ready_of R.remaining R.faults R.opened_at B.written B.faults B.opened_at O.written O.faults script.old graphite.old output.old)
+        (ready_of R.remaining R.faults R.opened_at B.written B.faults B.opened_at O.written O.faults script.new graphite.new output.new)) }
     ensures script_faults_stay { R.faults script.old ≤ R.faults script.new }
     ensures output_faults_stay { O.faults output.old ≤ O.faults output.new }
     ensures graphite_faults_stay { B.faults graphite.old ≤ B.faults graphite.new }
@@ -178,43 +151,15 @@ fn carry_out<R: Source, O: Sink, B: Backend>(
 ///
 /// `replay SETTINGS SCRIPT` reads the settings, which must be empty, and carries out the script: its packets
 /// are filed, and each flush gives Graphite the record's text. The output gets the totals at the script's end.
-/// Graphite is used whatever the flags of `backs` say, and the console isn't.
+/// Once the settings are found empty, the flags of `backs` say that Graphite is used and the console isn't.
 pub fn statsd<R: Source, O: Sink, B: Backend>(
     alloc: Global,
     words: &[String],
     world: &mut World<R, O, B>,
 ) -> Status
-    ensures answers { Answers (map (λ w. string_bytes w) words.now)
-        (record {
-          settings = R.remaining world.old.settings;
-          settings_faults = R.faults world.old.settings;
-          seen = record {
-            script = R.remaining world.old.script;
-            script_faults = R.faults world.old.script;
-            graphite = B.written world.old.backs.graphite;
-            graphite_faults = B.faults world.old.backs.graphite;
-            output = O.written world.old.output;
-            output_faults = O.faults world.old.output;
-          };
-          settings_at = last_place (R.opened_at world.old.settings);
-          script_at = last_place (R.opened_at world.old.script);
-          graphite_at = last_place (B.opened_at world.old.backs.graphite);
-        })
-        (record {
-          settings = R.remaining world.new.settings;
-          settings_faults = R.faults world.new.settings;
-          seen = record {
-            script = R.remaining world.new.script;
-            script_faults = R.faults world.new.script;
-            graphite = B.written world.new.backs.graphite;
-            graphite_faults = B.faults world.new.backs.graphite;
-            output = O.written world.new.output;
-            output_faults = O.faults world.new.output;
-          };
-          settings_at = last_place (R.opened_at world.new.settings);
-          script_at = last_place (R.opened_at world.new.script);
-          graphite_at = last_place (B.opened_at world.new.backs.graphite);
-        })
+    ensures accounting { Accounts (map (λ w. string_bytes w) words.now)
+        (objects_of R.remaining R.faults R.opened_at B.written B.faults B.opened_at O.written O.faults world.old)
+        (objects_of R.remaining R.faults R.opened_at B.written B.faults B.opened_at O.written O.faults world.new)
         (answer_of result) }
     ensures settings_faults_stay { R.faults world.old.settings ≤ R.faults world.new.settings }
     ensures script_faults_stay { R.faults world.old.script ≤ R.faults world.new.script }
@@ -222,8 +167,6 @@ pub fn statsd<R: Source, O: Sink, B: Backend>(
     ensures graphite_faults_stay { B.faults world.old.backs.graphite ≤ B.faults world.new.backs.graphite }
     ensures output_address_stays { O.opened_at world.new.output ≡ O.opened_at world.old.output }
     ensures console_stays { world.new.backs.console ≡ world.old.backs.console }
-    ensures graphite_used_stays { world.new.backs.graphite_used ≡ world.old.backs.graphite_used }
-    ensures console_used_stays { world.new.backs.console_used ≡ world.old.backs.console_used }
 {
     let Some(files) = form_of(words) else {
         return Status::Usage;
@@ -231,6 +174,8 @@ pub fn statsd<R: Source, O: Sink, B: Backend>(
     if let Err(status) = read_settings(&mut world.settings, &Address::File(files.settings)) {
         return status;
     }
+    world.backs.graphite_used = true;
+    world.backs.console_used = false;
     match carry_out(
         alloc,
         files.script,

@@ -168,8 +168,8 @@ fn world_of(alloc: Global, settings: &str, script: &str) -> Result<MemWorld, All
         backs: Backs {
             graphite: MemBackend::open(alloc, 4096, 4)?,
             console: MemBackend::open(alloc, 0, 0)?,
-            graphite_used: true,
-            console_used: false,
+            graphite_used: false,
+            console_used: true,
         },
     })
 }
@@ -334,8 +334,17 @@ fn addresses(rt: HostRuntime) -> Result<(), Fail> {
         world.backs.graphite.opened_at() == Some(&file(&rt, "")),
         true
     );
-    assert_eq!(rt; world.backs.graphite_used, true);
-    assert_eq!(rt; world.backs.console_used, false);
+    Ok(())
+}
+
+#[test]
+fn used_backends(rt: HostRuntime) -> Result<(), Fail> {
+    for (settings, graphite, console) in [("", true, false), ("x", false, true)] {
+        let mut world = world_of(rt.alloc(), settings, "F 1000\nE\n")?;
+        run(rt.alloc(), &WORDS, &mut world)?;
+        assert_eq!(rt; world.backs.graphite_used, graphite, "{settings}");
+        assert_eq!(rt; world.backs.console_used, console, "{settings}");
+    }
     Ok(())
 }
 

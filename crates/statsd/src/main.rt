@@ -1,6 +1,10 @@
 //! A StatsD daemon.
 #![tactic(auto)]
 
+ghost use Rattle.std.specs.Prelude.{◌≡◌, drop};
+ghost use Rattle.std.specs.Process.{exit_status};
+ghost use Rattle.sd_top.specs.Status.{exit_code};
+
 mod file_source;
 mod standard_out;
 
@@ -14,21 +18,40 @@ use std::env;
 use std::io::{ErrorKind, Write};
 use std::process::ExitCode;
 
-/// The words after the program's name.
+/// The words of the command line, with the program's name first.
 ///
 /// # Errors
 ///
 /// `OutOfMemory`, and `Usage` where a word isn't UTF-8.
 fn words(rt: &HostRuntime) -> Result<Vec<String>, Status> {
     match env::args(rt) {
-        Ok(args) => args.skip(1).collect(rt.alloc()).map_err(no_memory),
+        Ok(args) => args.collect(rt.alloc()).map_err(no_memory),
         Err(e) if e.kind() == ErrorKind::OutOfMemory => Err(Status::OutOfMemory),
         Err(_) => Err(Status::Usage),
     }
 }
 
-fn no_memory(_: AllocError) -> Status {
+fn no_memory(_: AllocError) -> Status
+    ensures { result ≡ Status.OutOfMemory }
+{
     Status::OutOfMemory
+}
+
+/// The words behind the program's name.
+fn behind_name(words: &[String]) -> &[String]
+    ensures { result.now ≡ drop 1 words.now }
+{
+    match words {
+        [_, rest @ ..] => rest,
+        [] => &[],
+    }
+}
+
+/// How the program exits after a status.
+fn exit_of(status: &Status) -> ExitCode
+    ensures { exit_status result ≡ exit_code status.now }
+{
+    ExitCode::from(status.exit())
 }
 
 /// Carries out what the words ask for.
@@ -48,7 +71,7 @@ fn run(rt: &HostRuntime) -> Status {
             console_used: false,
         },
     };
-    statsd(rt.alloc(), words.as_slice(), &mut world)
+    statsd(rt.alloc(), behind_name(words.as_slice()), &mut world)
 }
 
 fn main(rt: HostRuntime) -> ExitCode {
@@ -57,5 +80,5 @@ fn main(rt: HostRuntime) -> ExitCode {
     explain(&status, &mut text);
     // there is no one left to tell where this fails
     let _ = rt.stderr().write_all(text.as_slice());
-    ExitCode::from(status.exit())
+    exit_of(&status)
 }

@@ -1,5 +1,19 @@
+ghost use Rattle.std.specs.Prelude.{◌≡◌, ◌↔◌, [], IsTrue};
+ghost use Rattle.sd_model.specs.Outside.{File};
+ghost use Rattle.sd_top.specs.Places.{place_of};
+
 use sd_outside::{Address, Backend, Failed, Faulty, OpenRefusal, Opens, Sink, fault};
 use std::io::{self, Write};
+
+/// Whether an address is that of standard output, the file with the empty name.
+fn is_standard(at: &Address) -> bool
+    ensures { IsTrue result ↔ (place_of at.now ≡ File []) }
+{
+    match at {
+        Address::File(name) => name.is_empty(),
+        Address::Host { .. } => false,
+    }
+}
 
 /// Standard output, as a sink and as a backend, whose lists it doesn't set apart. It doesn't tell what it was given.
 #[derive(Drop)]
@@ -32,16 +46,12 @@ impl<'a> Opens for StandardOut<'a> {
 
     /// Opens at the file with the empty name, and nowhere else.
     fn open_at(&mut self, at: &Address) -> Result<(), OpenRefusal> {
-        match at {
-            Address::File(name) if name.is_empty() => {
-                self.opened_at = Some(at.copied());
-                Ok(())
-            }
-            _ => {
-                fault(&mut self.faults);
-                Err(OpenRefusal::Failed)
-            }
+        if !is_standard(at) {
+            fault(&mut self.faults);
+            return Err(OpenRefusal::Failed);
         }
+        self.opened_at = Some(at.copied());
+        Ok(())
     }
 }
 

@@ -1,4 +1,4 @@
-use Rattle.std.proofs.Common.{◌+◌, take, arith, rules}
+use Rattle.std.proofs.Common.{◌+◌, ◌∙◌, take, rules}
 use Rattle.std.proofs.lemmas.Result.{err_from_is_err_and}
 use Rattle.sd_record.specs.Record.{record_view}
 use Rattle.sd_graphite.specs.Texts.{rows_text}
@@ -26,6 +26,6 @@ loop-i-preserved g c =
     record {
       written = next_part _ _ _ first _ _ c.loop-i.invariant.written (rows_text-more r.ts _ r.rows c.loop-i.i _ c.row.ensures c.ts.ensures) c.in_ok-write_row.ensures.ok;
       all = c.loop-i.invariant.all;
-      faults = omega arith;
+      faults = c.in_ok-write_row.ensures.steady ∙ c.loop-i.invariant.faults;
       address = cc;
     }

@@ -1,4 +1,4 @@
-use Rattle.std.proofs.Common.{arith, rules}
+use Rattle.std.proofs.Common.{◌∙◌, rules}
 use Rattle.std.proofs.lemmas.Result.{err_from_is_err_and}
 use Rattle.sd_outside.proofs.WriteLemmas.{AppendsFront-before, HasWritten-next}
 use Rattle.sd_outside.proofs.sink.write_all.Goals as goal
@@ -11,6 +11,6 @@ returns-in_err-taken-clause-front g c =
 pub loop-rest-preserved : goal.loop-rest-preserved
 loop-rest-preserved g c = record {
   front = HasWritten-next _ _ _ _ _ _ c.loop-rest.invariant.front c.in_ok-taken.ensures.appended;
-  faults = omega arith;
+  faults = c.in_ok-taken.ensures.steady ∙ c.loop-rest.invariant.faults;
   address = cc;
 }

@@ -1,13 +1,14 @@
 use Rattle.std.proofs.Common.{◌≡◌, ℕ, ◌+◌, ◌≤◌, List, length}
 use Rattle.std.specs.Prelude.{filter_map}
 use Rattle.sd_model.specs.Lines.{pieces, samples_of, sample_of}
-use Rattle.sd_model.specs.Replay.{filed}
+use Rattle.sd_model.specs.Shard.{after_samples, answers_to, drops}
 use Rattle.sd_shard.specs.Shard.{Standing, state_of}
 use Rattle.sd_replay.proofs.packet.file_packet.Given as goal
 
 -- the samples filed so far and those that are left make the whole
 pub record Files (first now : Standing) (who lines dropped : ℕ) (left : List (List ℕ)) (datagram : List ℕ) : Type 0 where
-  pub filing : filed first.table.limits who (record { shard = state_of now; dropped = dropped }) (filter_map sample_of left) ≡ filed first.table.limits who (record { shard = state_of first; dropped = 0 }) (samples_of datagram)
+  pub state : after_samples first.table.limits who (state_of now) (filter_map sample_of left) ≡ after_samples first.table.limits who (state_of first) (samples_of datagram)
+  pub lost : dropped + drops (answers_to first.table.limits who (state_of now) (filter_map sample_of left)) ≡ drops (answers_to first.table.limits who (state_of first) (samples_of datagram))
   pub count : lines + length left ≡ length (pieces datagram)
   pub few : dropped ≤ lines
   pub limits : now.table.limits ≡ first.table.limits

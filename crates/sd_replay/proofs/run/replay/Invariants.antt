@@ -22,7 +22,7 @@ invariant-loop-turn g l =
     Stands (g.R.Source.remaining l.fn.script) (g.R.Source.remaining l.script) (g.B.Sink.written l.fn.graphite) (g.B.Sink.written l.graphite)
     (g.B.Faulty.faults l.fn.graphite) (g.B.Faulty.faults l.graphite)
     l.shard l.spare l.desk l.scratch.room l.reader l._turn
-    × (g.R.Faulty.faults l.fn.script ≤ g.R.Faulty.faults l.script)
+    × (g.R.Faulty.faults l.script ≡ g.R.Faulty.faults l.fn.script)
     × (g.B.Faulty.faults l.fn.graphite ≤ g.B.Faulty.faults l.graphite)
     × (g.R.Faulty.opened_at l.script ≡ g.R.Faulty.opened_at l.fn.script)
     × (g.B.Faulty.opened_at l.graphite ≡ g.B.Faulty.opened_at l.fn.graphite)

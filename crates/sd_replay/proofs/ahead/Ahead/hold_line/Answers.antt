@@ -1,8 +1,9 @@
-use Rattle.std.proofs.Common.{◌≡◌, [], ◌++◌, arith, length, length-take, subst, ap, ◌∙◌}
+use Rattle.std.proofs.Common.{◌≡◌, [], ◌++◌, inl, arith, length, length-take, subst, ap, ◌∙◌}
 use Rattle.std.proofs.lemmas.List.{nil_from_length, append-nil}
 use Rattle.sd_replay.specs.Fields.{Lacks, IsFirstPlace}
 use Rattle.sd_replay.specs.Ahead.{held_in}
 use Rattle.sd_replay.proofs.AheadLemmas.{take-front, Lacks-enough, Lacks-end}
+use Rattle.sd_replay.proofs.BuiltLemmas.{forty_decided}
 use Rattle.sd_replay.proofs.ahead.Ahead.hold_line.Goals as goal
 
 pub returns-in-Some-clause-line : goal.returns-in-Some-clause-line
@@ -25,3 +26,9 @@ returns-then-branch-eq0-clause-line g c =
     let none : grown.0 ≡ [] = nil_from_length grown.0 (grown.1 ∙ c.if-branch-eq0.true) in
     let same : held_in c.read.new.self ≡ held = grown.2 ∙ ap (λ more. held ++ more) none ∙ append-nil held in
     Lacks-end 10 40 (held_in c.read.new.self) _ (rw same (subst (Lacks 10) front c.in_default.ensures)) (c.in_ok-read.ensures.end c.if-branch-eq0.true)
+
+pub returns-then-front-eq-LINE-clause-decided : goal.returns-then-front-eq-LINE-clause-decided
+returns-then-front-eq-LINE-clause-decided g c =
+    let held = held_in c.loop-place.self in
+    let front = take-front c.bytes-bytes.result.now held 40 c.min.result c.bytes-bytes.ensures c.min.ensures in
+    inl (forty_decided held (omega (arith, ap length front, length-take 40 held)) (subst (Lacks 10) front c.in_default.ensures))

@@ -1,4 +1,7 @@
 use Rattle.std.proofs.Common.{◌≡◌, ℕ, ◌+◌, Option, None, List, take, drop, subst, sym, ap, ◌∙◌, arith}
+use Rattle.std.specs.Prelude.{IfSome}
+use Rattle.sd_model.specs.Script.{BeginsBuilt}
+use Rattle.sd_model.specs.Undecided.{IsDecided}
 use Rattle.sd_replay.proofs.ReaderLemmas.{ReadsPacket-from, ReadsFlush-from}
 use Rattle.sd_replay.specs.Ahead.{held_in, left_behind}
 use Rattle.sd_replay.specs.Reading.{Reading}
@@ -58,3 +61,19 @@ returns-in-Flush-clause-item g c =
     (ap (λ (p : Option ℕ). pending_of p (held_in c.take-2.new.self)) ahead.packet ∙ c.take-2.ensures)
     (omega (arith, ahead.at, c.saturating_add-self-inside.ensures))
     (ap (λ (p : Option ℕ). datagram_of p (held_in c.take-2.new.self)) ahead.packet)
+
+pub returns-in_default-2-clause-item : goal.returns-in_default-2-clause-item
+returns-in_default-2-clause-item g c =
+    let ahead = is_ahead g (goal.at.returns-in_default-2-clause-item g c).After-next_record in
+    let held = held_in c.next_record.new.ahead in
+    let has = g.R.Source.remaining c.next_record.new.script in
+    let same = c.in_ok-found.ensures.left_stays ∙ ap (λ (xs : List ℕ). left_behind xs (g.R.Source.remaining c.args.script.now)) ahead.pending in
+    record {
+      stays = record {
+        left = ap (λ (p : Option ℕ). left_behind (pending_of p held) has) ahead.packet ∙ same;
+        at = ahead.at;
+        datagram = ap (λ (p : Option ℕ). datagram_of p held) ahead.packet;
+      };
+      unbuilt = subst (λ (o : Option (List ℕ)). IfSome o (λ bytes. ¬ BeginsBuilt bytes)) same (rw c.in_default-2.is at c.in_ok-found.ensures.found);
+      decided = subst (λ (p : Option ℕ). IsDecided (pending_of p held) has) (sym ahead.packet) (rw c.in_default-2.is at c.in_ok-found.ensures.decided);
+    }
