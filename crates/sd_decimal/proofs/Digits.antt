@@ -11,8 +11,8 @@ use Rattle.std.proofs.lemmas.List.{take-append-drop, take-take, length-take-le}
 use Rattle.std.proofs.Math.Seq.{take-length, drop-cons}
 use Rattle.std.proofs.lemmas.List.Folds.{list_all_more, list_all-append}
 use Rattle.std.proofs.lemmas.Nat.{pow-add, mul-le}
-use Rattle.sd_model.specs.Numbers.{rounded}
-use Rattle.sd_model.proofs.Rounding.{rounded_is, rounded-exact}
+use Rattle.sd_model_text.specs.Numbers.{rounded}
+use Rattle.sd_model_text.proofs.Rounding.{rounded_is, rounded-exact}
 
 -- the digits behind n put n in front
 pub digits_value_behind : (n : ℕ) (ds : List ℕ) → digits_value_after 10 n ds ≡ n * 10 ^ length ds + digits_value 10 ds

@@ -11,8 +11,8 @@ use Rattle.std.proofs.lemmas.Bool.{and_from, and_left, and_right, both_ways, con
 use Rattle.std.proofs.lemmas.List.{get_or-take, length-take-le}
 use Rattle.std.proofs.lemmas.List.Folds.{list_all-append, list_all_at}
 use Rattle.std.proofs.lemmas.List.Sums.{position_or_len_is, prefix_len_passes, prefix_len_stops, prefix_len-le-length}
-use Rattle.sd_model.specs.Numbers.{rounded, BadShape, BadRange, is_point, exact_magnitude, within_range, magnitude_of_sides, decimal_magnitude}
-use Rattle.sd_model.proofs.Rounding.{rounded-add}
+use Rattle.sd_model_text.specs.Numbers.{rounded, BadShape, BadRange, is_point, exact_magnitude, within_range, magnitude_of_sides, decimal_magnitude}
+use Rattle.sd_model_text.proofs.Rounding.{rounded-add}
 use Rattle.sd_decimal.proofs.Digits.{digits_value-append}
 
 digit_no_point : (b : ℕ) → is_ascii_digit b ≡ true → is_point b ≡ false

@@ -1,6 +1,6 @@
 -- The faults of a number text as the definitions name them.
 use Rattle.std.specs.Prelude.{Result, Ok, Err}
-use Rattle.sd_model.specs.Numbers.{NumberFlaw, BadShape, BadRange}
+use Rattle.sd_model_text.specs.Numbers.{NumberFlaw, BadShape, BadRange}
 use Rattle.sd_decimal.specs.declared.number.NumberFault.{NumberFault}
 use Rattle.sd_decimal.specs.declared.number.NumberFault.TheVariants.{Shape, Range}
 

@@ -2,7 +2,7 @@ ghost use Rattle.std.specs.Prelude.{◌≡◌, ◌+◌, ◌-◌, ◌*◌, ◌^�
 ghost use Rattle.std.specs.Char.{is_ascii_digit, digit_value};
 ghost use Rattle.std.specs.List.{list_all, prefix_len};
 ghost use Rattle.std.specs.Str.Parse.{digits_value};
-ghost use Rattle.sd_model.specs.Numbers.{rounded, BadShape, magnitude_of_sides, decimal_magnitude, decimal_value, has_minus, without_sign};
+ghost use Rattle.sd_model_text.specs.Numbers.{rounded, BadShape, magnitude_of_sides, decimal_magnitude, decimal_value, has_minus, without_sign};
 ghost use Rattle.sd_decimal.specs.NumberFault.{seen_by};
 
 use crate::number::{Micro, NumberFault};

@@ -1,5 +1,5 @@
 ghost use Rattle.std.specs.Prelude.{◌≡◌, ◌+◌, ◌*◌, ◌^◌, ◌<◌, ◌≤◌, pos, ◌≤ℤ◌, unsigned_abs};
-ghost use Rattle.sd_model.specs.Numbers.{rounded, round, weight, per_second};
+ghost use Rattle.sd_model_text.specs.Numbers.{rounded, round, weight, per_second};
 
 use crate::number::{Micro, Sum};
 

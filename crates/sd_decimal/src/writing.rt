@@ -1,8 +1,8 @@
 ghost use Rattle.std.specs.Prelude.{◌≡◌, ◌+◌, ◌/◌, ◌%◌, ◌<◌, ◌≤◌, ◌==◌, ◌++◌, length};
 ghost use Rattle.std.specs.Fmt.{decimal};
 ghost use Rattle.arrayvec.specs.ArrayVec.{array_vec_len};
-ghost use Rattle.sd_model.specs.Lists.{trim_end};
-ghost use Rattle.sd_model.specs.Numbers.{six_digits, behind_point, number_text};
+ghost use Rattle.sd_model_text.specs.Lists.{trim_end};
+ghost use Rattle.sd_model_text.specs.Numbers.{six_digits, behind_point, number_text};
 
 use crate::number::{Line, Sum};
 

@@ -1,8 +1,8 @@
 -- The text of a number: its length, and that of a whole number.
 use Rattle.std.proofs.Common.{◌≡◌, ℕ, suc, ◌+◌, ◌*◌, ◌/◌, ◌%◌, ◌^◌, ◌≤◌, ◌==◌, Bool, true, false, cond, ℤ, pos, negsuc, unsigned_abs, List, [], ◌∷◌, ◌++◌, length, ap, ◌∙◌, arith, length-append, append-nil}
 use Rattle.std.specs.Fmt.{decimal}
-use Rattle.sd_model.specs.Lists.{trim_end, unless_last}
-use Rattle.sd_model.specs.Numbers.{six_digits, behind_point, magnitude_text, number_text}
+use Rattle.sd_model_text.specs.Lists.{trim_end, unless_last}
+use Rattle.sd_model_text.specs.Numbers.{six_digits, behind_point, magnitude_text, number_text}
 use Rattle.sd_decimal.proofs.Decimals.{length-decimal-whole}
 
 length-unless_last : (p : ℕ → Bool) (x : ℕ) (xs : List ℕ) → length (unless_last p x xs) ≤ length xs + 1

@@ -4,10 +4,10 @@ use Rattle.std.proofs.lemmas.List.{take_more, take-append-drop}
 use Rattle.std.proofs.lemmas.List.Concat.{flat_map-append}
 use Rattle.std.proofs.lemmas.Option.{slice_get_within, get_or_from_slice_get}
 use Rattle.std.specs.Fmt.{decimal}
-use Rattle.sd_model.specs.Numbers.{number_text, per_second}
-use Rattle.sd_model.specs.Record.{Row, CounterRow, Tally, Record}
-use Rattle.sd_model.specs.Graphite.{line, row_lines, graphite_text}
-use Rattle.sd_model.specs.Outside.{Written}
+use Rattle.sd_model_text.specs.Numbers.{number_text, per_second}
+use Rattle.sd_model_record.specs.Record.{Row, CounterRow, Tally, Record}
+use Rattle.sd_model_record.specs.Graphite.{line, row_lines, graphite_text}
+use Rattle.sd_model_outside.specs.Outside.{Written}
 use Rattle.sd_outside.specs.Write.{AppendsFront}
 use Rattle.sd_graphite.specs.Texts.{line_text, counter_text, row_text, rows_text, own_text, tail_text}
 use Rattle.sd_graphite.proofs.NumberLemmas.{number_text-whole}

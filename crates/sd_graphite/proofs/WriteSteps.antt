@@ -1,7 +1,7 @@
 -- A text that is written in parts, one after another.
 use Rattle.std.proofs.Common.{◌≡◌, ℕ, List, ◌++◌, refl, sym, ap, subst, ◌∙◌}
-use Rattle.sd_model.specs.Outside.{Written, appended}
-use Rattle.sd_model.proofs.OutsideLemmas.{appended-appended}
+use Rattle.sd_model_outside.specs.Outside.{Written, appended}
+use Rattle.sd_model_outside.proofs.OutsideLemmas.{appended-appended}
 use Rattle.sd_outside.specs.Write.{AppendsFront}
 use Rattle.sd_outside.proofs.WriteLemmas.{AppendsFront-later, AppendsFront-longer}
 

@@ -1,8 +1,8 @@
 -- The parts of Graphite's text, as they are written.
 use Rattle.std.specs.Prelude.{ℕ, ◌*◌, ℤ, pos, List, ◌++◌, flat_map}
-use Rattle.sd_model.specs.Numbers.{number_text, per_second}
-use Rattle.sd_model.specs.Record.{Row, Record}
-use Rattle.sd_model.specs.Graphite.{line, counter_lines, row_lines, tail_lines}
+use Rattle.sd_model_text.specs.Numbers.{number_text, per_second}
+use Rattle.sd_model_record.specs.Record.{Row, Record}
+use Rattle.sd_model_record.specs.Graphite.{line, counter_lines, row_lines, tail_lines}
 
 -- the line of a path in two parts
 unfoldable pub line_text : List ℕ → List ℕ → ℤ → ℕ → List ℕ

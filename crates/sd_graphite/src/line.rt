@@ -1,6 +1,6 @@
 ghost use Rattle.std.specs.Prelude.{◌≡◌, ◌+◌, ◌≤◌, ◌++◌, length, OnOk, OnErr};
 ghost use Rattle.arrayvec.specs.ArrayVec.{array_vec_len};
-ghost use Rattle.sd_model.specs.Outside.{Rose, appended};
+ghost use Rattle.sd_model_outside.specs.Outside.{Rose, appended};
 ghost use Rattle.sd_outside.specs.Write.{AppendsFront};
 ghost use Rattle.sd_graphite.specs.Texts.{line_text, counter_text};
 

@@ -1,6 +1,6 @@
 ghost use Rattle.std.specs.Prelude.{◌≡◌, ◌≤◌, OnOk, OnErr};
-ghost use Rattle.sd_model.specs.Graphite.{graphite_text};
-ghost use Rattle.sd_model.specs.Outside.{Rose, appended};
+ghost use Rattle.sd_model_record.specs.Graphite.{graphite_text};
+ghost use Rattle.sd_model_outside.specs.Outside.{Rose, appended};
 ghost use Rattle.sd_outside.specs.Write.{AppendsFront};
 ghost use Rattle.sd_record.specs.Record.{record_view};
 ghost use Rattle.sd_record.specs.Row.{row_view};

@@ -1,5 +1,5 @@
 ghost use Rattle.std.specs.Prelude.{◌≡◌, ◌*◌, ◌≤◌, length, OnOk, OnErr, pos};
-ghost use Rattle.sd_model.specs.Outside.{Rose, appended};
+ghost use Rattle.sd_model_outside.specs.Outside.{Rose, appended};
 ghost use Rattle.sd_outside.specs.Write.{AppendsFront};
 ghost use Rattle.sd_record.specs.Record.{record_view};
 ghost use Rattle.sd_graphite.specs.Texts.{own_text, tail_text};

@@ -5,8 +5,8 @@ use Rattle.std.specs.Option.{option_to_list}
 use Rattle.std.proofs.lemmas.List.{map-append, take_all, take-append-le, length_push}
 use Rattle.std.proofs.lemmas.List.Elements.{filter-append}
 use Rattle.std.proofs.lemmas.List.Sums.{fold_push}
-use Rattle.sd_model.specs.Lists.{is_white_space}
-use Rattle.sd_model.specs.Names.{is_name_byte, underscored, dashed, cleaned}
+use Rattle.sd_model_text.specs.Lists.{is_white_space}
+use Rattle.sd_model_text.specs.Names.{is_name_byte, underscored, dashed, cleaned}
 use Rattle.sd_key.specs.Clean.{ends_blank}
 
 -- what that byte adds

@@ -1,7 +1,7 @@
 -- What the cleaning of a name keeps in mind, and why a name has no key.
 use Rattle.std.specs.Prelude.{ℕ, Bool, false, List, fold}
-use Rattle.sd_model.specs.Lists.{is_white_space}
-use Rattle.sd_model.specs.Names as model
+use Rattle.sd_model_text.specs.Lists.{is_white_space}
+use Rattle.sd_model_text.specs.Names as model
 use Rattle.sd_key.specs.declared.cleaning.KeyFault.{KeyFault}
 use Rattle.sd_key.specs.declared.cleaning.KeyFault.TheVariants.{Empty, Long}
 

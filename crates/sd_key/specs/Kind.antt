@@ -1,5 +1,5 @@
 -- The kind of a metric as the code has it, and as the definitions have it.
-use Rattle.sd_model.specs.Names as model
+use Rattle.sd_model_text.specs.Names as model
 use Rattle.sd_key.specs.declared.kind.Kind.{Kind}
 use Rattle.sd_key.specs.declared.kind.Kind.TheVariants.{Counter, Timer, Gauge, Set}
 

@@ -1,7 +1,7 @@
 ghost use Rattle.std.specs.Prelude.{◌≡◌, ◌<◌, ℕ, List, [], ◌∷◌, ◌++◌, length, Ok, Err, IfOk, IfErr};
 ghost use Rattle.std.specs.Option.{option_to_list};
-ghost use Rattle.sd_model.specs.Lists.{is_white_space};
-ghost use Rattle.sd_model.specs.Names.{clean, cleaned, is_name_byte};
+ghost use Rattle.sd_model_text.specs.Lists.{is_white_space};
+ghost use Rattle.sd_model_text.specs.Names.{clean, cleaned, is_name_byte};
 ghost use Rattle.sd_key.specs.Clean.{ends_blank, fault_of};
 
 use crate::Key;

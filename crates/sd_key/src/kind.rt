@@ -1,6 +1,6 @@
 ghost use Rattle.std.specs.Prelude.{◌≡◌};
 ghost use Rattle.std.specs.Ordering.{nat_cmp};
-ghost use Rattle.sd_model.specs.Names.{rank};
+ghost use Rattle.sd_model_text.specs.Names.{rank};
 ghost use Rattle.sd_key.specs.declared.kind.Kind.{Kind as CodeKind};
 ghost use Rattle.sd_key.specs.Kind.{kind_of};
 

@@ -1,5 +1,5 @@
 ghost use Rattle.std.specs.Prelude.{◌≡◌, ◌↔◌, ℕ, ◌≤◌, List, [], length, IsSome, IfSome, IsTrue};
-ghost use Rattle.sd_model.specs.Names.{matches};
+ghost use Rattle.sd_model_text.specs.Names.{matches};
 
 use crate::Key;
 use arrayvec::ArrayVec;

@@ -1,5 +1,5 @@
 ghost use Rattle.std.specs.Prelude.{◌≡◌, ◌<◌};
-ghost use Rattle.sd_model.specs.Names.{fnv1a, shard};
+ghost use Rattle.sd_model_text.specs.Names.{fnv1a, shard};
 
 use crate::Key;
 

@@ -1,6 +1,6 @@
 -- A search for the first separator, from place to place.
 use Rattle.std.proofs.Common.{◌≡◌, ℕ, false, eqb, List, [], ◌∷◌, ◌++◌, refl, sym, ap, Option, Some, None, option_map, eq-eqb, append_assoc}
-use Rattle.sd_model.specs.Lists.{cut_at, Cut, before_part}
+use Rattle.sd_model_text.specs.Lists.{cut_at, Cut, before_part}
 
 -- a cut of what stands behind the front
 abbrev pub cut_behind : List ℕ → Option Cut → Option Cut

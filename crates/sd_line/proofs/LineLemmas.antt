@@ -1,8 +1,8 @@
 -- The pieces of a datagram, one line after another.
 use Rattle.std.proofs.Common.{◌≡◌, ℕ, cond, not, List, [], ◌∷◌, refl, sym, ap, ◌∙◌, Some, None, map, filter}
-use Rattle.sd_model.specs.Lists.{is_white_space, trim_end, cut_at, Cut}
-use Rattle.sd_model.specs.Lines.{is_empty, pieces}
-use Rattle.sd_model.proofs.ListLemmas.{split-cut, parts_of}
+use Rattle.sd_model_text.specs.Lists.{is_white_space, trim_end, cut_at, Cut}
+use Rattle.sd_model_text.specs.Lines.{is_empty, pieces}
+use Rattle.sd_model_text.proofs.ListLemmas.{split-cut, parts_of}
 use Rattle.sd_line.specs.Pieces.{with_line}
 
 by_line : (line : List ℕ) (ps : List (List ℕ)) → cond (not (is_empty line)) (line ∷ ps) ps ≡ with_line line ps

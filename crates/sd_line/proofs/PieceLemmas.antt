@@ -3,10 +3,10 @@ use Rattle.std.proofs.Common.{◌≡◌, ℕ, Bool, true, false, cond, not, ◌&
 use Rattle.std.specs.Prelude.{◌==◌, ◌*◌, ℤ, pos}
 use Rattle.std.specs.Str.Parse.{digits_value}
 use Rattle.std.specs.Cmp.Lexicographic.{pointwise, same_text}
-use Rattle.sd_model.specs.Lists.{split, cut_at, Cut}
-use Rattle.sd_model.specs.Names.{Counter}
-use Rattle.sd_model.specs.Lines.{Sample, sample_of_fields, is_key, is_count, counter_sample}
-use Rattle.sd_model.proofs.ListLemmas.{split-cut, parts_of}
+use Rattle.sd_model_text.specs.Lists.{split, cut_at, Cut}
+use Rattle.sd_model_text.specs.Names.{Counter}
+use Rattle.sd_model_text.specs.Lines.{Sample, sample_of_fields, is_key, is_count, counter_sample}
+use Rattle.sd_model_text.proofs.ListLemmas.{split-cut, parts_of}
 
 pub no_bar : (name fields : List ℕ) → None ≡ cut_at 124 fields → None ≡ sample_of_fields name (split 124 fields)
 no_bar name fields h = sym (ap (sample_of_fields name) (split-cut 124 fields ∙ ap (parts_of 124 fields) (sym h)))

@@ -1,6 +1,6 @@
 -- What the reader of a datagram's pieces answers.
 use Rattle.std.specs.Prelude.{◌≡◌, ℕ, List, [], ◌∷◌, Some, None, Result, MatchResult}
-use Rattle.sd_model.specs.Lines.{Sample, sample_of}
+use Rattle.sd_model_text.specs.Lines.{Sample, sample_of}
 use Rattle.sd_line.specs.declared.piece.Bad.{Bad}
 
 -- the pieces with this line before them, unless it is empty

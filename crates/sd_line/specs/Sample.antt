@@ -1,7 +1,7 @@
 -- A sample of the code, as the definitions have it, and what the type keeps.
 use Rattle.std.specs.Prelude.{◌≡◌, ◌^◌, ◌<◌, ◌≤◌, pos, ◌≤ℤ◌, length, unsigned_abs}
-use Rattle.sd_model.specs.Lines as model
-use Rattle.sd_model.specs.Names.{Timer}
+use Rattle.sd_model_text.specs.Lines as model
+use Rattle.sd_model_text.specs.Names.{Timer}
 use Rattle.sd_key.specs.Kind.{kind_of}
 use Rattle.sd_line.specs.declared.sample.Sample.TheInside.{Inside}
 

@@ -1,5 +1,5 @@
 ghost use Rattle.std.specs.Prelude.{◌≡◌, ◌+◌, length, IfSome, option_map};
-ghost use Rattle.sd_model.specs.Lists.{cut_at, trim_end, is_white_space as is_space};
+ghost use Rattle.sd_model_text.specs.Lists.{cut_at, trim_end, is_white_space as is_space};
 ghost use Rattle.sd_line.specs.Cut.{cut_view};
 
 /// What stands before a separator, and what stands behind it.

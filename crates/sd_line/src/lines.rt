@@ -1,5 +1,5 @@
 ghost use Rattle.std.specs.Prelude.{◌≡◌, ℕ, ◌<◌, List, [], ◌∷◌, length, IsNone, IfSome, MatchOption};
-ghost use Rattle.sd_model.specs.Lines.{pieces};
+ghost use Rattle.sd_model_text.specs.Lines.{pieces};
 ghost use Rattle.sd_line.specs.Pieces.{with_line, Answers};
 
 use crate::cut::{Cut, first_cut, trimmed};
@@ -48,7 +48,7 @@ pub struct Lines<'a> {
 
 impl<'a> Model for Lines<'a> {
     ghost use Rattle.std.specs.Prelude.{ℕ, List};
-    ghost use Rattle.sd_model.specs.Lines.{pieces};
+    ghost use Rattle.sd_model_text.specs.Lines.{pieces};
 
     ghost Value = { List (List ℕ) };
 

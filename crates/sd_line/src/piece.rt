@@ -2,9 +2,9 @@ ghost use Rattle.std.specs.Prelude.{◌≡◌, ℕ, ◌*◌, ◌^◌, ◌<◌, �
 ghost use Rattle.std.specs.List.{list_all};
 ghost use Rattle.std.specs.Str.Parse.{digits_value};
 ghost use Rattle.std.specs.Char.{is_ascii_digit as is_digit};
-ghost use Rattle.sd_model.specs.Names.{is_name_byte};
-ghost use Rattle.sd_model.specs.Lines.{is_key, is_count, sample_of, sample_of_fields};
-ghost use Rattle.sd_model.specs.Lists.{split};
+ghost use Rattle.sd_model_text.specs.Names.{is_name_byte};
+ghost use Rattle.sd_model_text.specs.Lines.{is_key, is_count, sample_of, sample_of_fields};
+ghost use Rattle.sd_model_text.specs.Lists.{split};
 
 use crate::cut::first_cut;
 use crate::sample::{Member, Sample};

@@ -19,7 +19,7 @@ pub struct Sample {
 }
 
 impl Model for Sample {
-    ghost use Rattle.sd_model.specs.Lines.{Sample as Value'};
+    ghost use Rattle.sd_model_text.specs.Lines.{Sample as Value'};
 
     ghost Value = { Value' };
 

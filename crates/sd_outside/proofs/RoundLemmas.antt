@@ -2,7 +2,7 @@
 use Rattle.std.proofs.Common.{◌≡◌, ℕ, suc, ◌-◌, ◌<◌, ◌≤◌, List, [], ◌∷◌, ◌++◌, Option, None, Some, unwrap_or, All, length, map, drop, refl, ap, arith, length-drop}
 use Rattle.std.specs.Option.{ForSome, option_map}
 use Rattle.std.proofs.lemmas.List.{drop-append-le, take-append-le, drop_at}
-use Rattle.sd_model.specs.Outside.{Written, Rounds, appended}
+use Rattle.sd_model_outside.specs.Outside.{Written, Rounds, appended}
 use Rattle.sd_outside.specs.declared.round_store.Span.{Span}
 use Rattle.sd_outside.specs.RoundStore.{round_at}
 

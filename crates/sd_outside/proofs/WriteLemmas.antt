@@ -2,8 +2,8 @@
 use Rattle.std.proofs.Common.{◌≡◌, ℕ, ◌+◌, ◌-◌, ◌<◌, List, ◌++◌, length, take, drop, sym, ap, ◌∙◌, arith, append_assoc, length-append, refl}
 use Rattle.std.proofs.lemmas.List.{take_at, take_rest, take-append-drop, take-append-le}
 use Rattle.std.proofs.Math.Seq.{take-append-add}
-use Rattle.sd_model.specs.Outside.{Written, appended}
-use Rattle.sd_model.proofs.OutsideLemmas.{appended-appended}
+use Rattle.sd_model_outside.specs.Outside.{Written, appended}
+use Rattle.sd_model_outside.proofs.OutsideLemmas.{appended-appended}
 use Rattle.sd_outside.specs.Write.{AppendsFront}
 
 -- w became v by a write of the bytes that stand before the rest

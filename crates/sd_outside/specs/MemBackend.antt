@@ -1,6 +1,6 @@
 -- What a backend in memory has, and what its calls leave.
 use Rattle.std.specs.Prelude.{◌≡◌, ℕ, ◌+◌, ◌<◌, ◌⊎◌, List, Option, IsNone, OnSome, IfNone, length, take, min}
-use Rattle.sd_model.specs.Outside.{Round, Written, appended, begun, ended, raised}
+use Rattle.sd_model_outside.specs.Outside.{Round, Written, appended, begun, ended, raised}
 use Rattle.sd_outside.specs.RoundStore as store
 use Rattle.sd_outside.specs.declared.address.Address.{Address}
 use Rattle.sd_outside.specs.declared.mem_backend.MemBackend.{MemBackend}

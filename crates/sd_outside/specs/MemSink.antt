@@ -1,6 +1,6 @@
 -- What a sink in memory has, and what a write does to it.
 use Rattle.std.specs.Prelude.{◌≡◌, ℕ, ◌+◌, ◌<◌, List, ◌++◌, length, take, min}
-use Rattle.sd_model.specs.Outside.{raised}
+use Rattle.sd_model_outside.specs.Outside.{raised}
 use Rattle.sd_outside.specs.ByteStore as store
 use Rattle.sd_outside.specs.declared.mem_sink.MemSink.{MemSink}
 

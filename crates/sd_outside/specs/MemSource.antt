@@ -1,6 +1,6 @@
 -- What a source in memory has, and what its calls leave.
 use Rattle.std.specs.Prelude.{◌≡◌, ℕ, ◌≤◌, List, ◌++◌, Option, drop, take, length, min}
-use Rattle.sd_model.specs.Outside.{raised}
+use Rattle.sd_model_outside.specs.Outside.{raised}
 use Rattle.sd_outside.specs.declared.address.Address.{Address}
 use Rattle.sd_outside.specs.declared.mem_source.MemSource.{MemSource}
 

@@ -1,7 +1,7 @@
 -- What a store of lists of bytes has.
 use Rattle.std.specs.Prelude.{ℕ, ◌-◌, Bool, List, [], ◌∷◌, ◌++◌, length, map, drop, Option, None, Some, slice_range}
 use Rattle.std.specs.Option.{option_map}
-use Rattle.sd_model.specs.Outside.{Round, Written, Rounds, lists_of}
+use Rattle.sd_model_outside.specs.Outside.{Round, Written, Rounds, lists_of}
 use Rattle.sd_outside.specs.ByteStore.{bytes_in, room_in}
 use Rattle.sd_outside.specs.declared.round_store.Span.{Span}
 use Rattle.sd_outside.specs.declared.round_store.RoundStore.{RoundStore}

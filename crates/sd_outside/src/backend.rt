@@ -1,5 +1,5 @@
 ghost use Rattle.std.specs.Prelude.{◌≡◌, ◌≤◌, OnOk, OnErr};
-ghost use Rattle.sd_model.specs.Outside.{Rose, begun, ended};
+ghost use Rattle.sd_model_outside.specs.Outside.{Rose, begun, ended};
 
 use crate::opens::{Failed, Opens};
 use crate::sink::Sink;

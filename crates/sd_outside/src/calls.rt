@@ -1,5 +1,5 @@
 ghost use Rattle.std.specs.Prelude.{◌≡◌, ◌≤◌, ◌↔◌, IsTrue, Contains};
-ghost use Rattle.sd_model.specs.Outside.{raised};
+ghost use Rattle.sd_model_outside.specs.Outside.{raised};
 
 use crate::opens::Failed;
 

@@ -29,7 +29,7 @@ pub struct MemBackend {
 impl MemBackend {
     ghost use Rattle.std.specs.Prelude.{◌≡◌, ◌<◌, min, length, IfOk, None, Some, [], option_copied, slice_get};
     ghost use Rattle.std.specs.Option.{option_map};
-    ghost use Rattle.sd_model.specs.Outside.{Rounds};
+    ghost use Rattle.sd_model_outside.specs.Outside.{Rounds};
     ghost use Rattle.sd_outside.specs.MemBackend.{HasNoRoom, Calls, byte_room_in, calls_of, list_room_in, lists_in};
 
     /// A backend with no list, and room for that many bytes in all its lists together and for that many
@@ -126,7 +126,7 @@ impl Faulty for MemBackend {
 
 impl Opens for MemBackend {
     ghost use Rattle.std.specs.Prelude.{◌≡◌, ◌≤◌, ◌↔◌, Some, OnOk, OnErr, IfErr, IsErr, Contains};
-    ghost use Rattle.sd_model.specs.Outside.{raised};
+    ghost use Rattle.sd_model_outside.specs.Outside.{raised};
     ghost use Rattle.sd_outside.specs.MemBackend.{Calls, Fails, SameContent, SameFailures, address_of, calls_of, faults_of, told_by};
 
     ghost same_content = { λ old new. told_by new ≡ told_by old };
@@ -155,7 +155,7 @@ impl Opens for MemBackend {
 
 impl Sink for MemBackend {
     ghost use Rattle.std.specs.Prelude.{◌≡◌, ◌<◌, ◌≤◌, ◌⊎◌, ◌↔◌, length, IfOk, OnErr, IsErr, Contains};
-    ghost use Rattle.sd_model.specs.Outside.{raised};
+    ghost use Rattle.sd_model_outside.specs.Outside.{raised};
     ghost use Rattle.sd_outside.specs.MemBackend.{Calls, Takes, Fails, HasNoRoom, SameFailures, address_of, calls_of, faults_of, told_by};
 
     ghost written = { told_by };
@@ -185,7 +185,7 @@ impl Sink for MemBackend {
 
 impl Backend for MemBackend {
     ghost use Rattle.std.specs.Prelude.{◌≡◌, ◌≤◌, ◌⊎◌, ◌↔◌, OnOk, OnErr, IsErr, Contains};
-    ghost use Rattle.sd_model.specs.Outside.{raised};
+    ghost use Rattle.sd_model_outside.specs.Outside.{raised};
     ghost use Rattle.sd_outside.specs.MemBackend.{Begins, Calls, Fails, Finishes, SameFailures, address_of, calls_of, faults_of, list_room_in};
 
     fn begin(&mut self) -> Result<(), Failed>

@@ -16,7 +16,7 @@ pub struct MemSink {
 
 impl MemSink {
     ghost use Rattle.std.specs.Prelude.{◌≡◌, None, [], IfOk};
-    ghost use Rattle.sd_model.specs.Outside.{Bytes};
+    ghost use Rattle.sd_model_outside.specs.Outside.{Bytes};
     ghost use Rattle.sd_outside.specs.MemSink.{room_in, writes_of};
 
     /// An empty sink with room for that many bytes, of which no write is to fail.
@@ -66,7 +66,7 @@ impl Faulty for MemSink {
 
 impl Sink for MemSink {
     ghost use Rattle.std.specs.Prelude.{◌≡◌, ◌<◌, ◌≤◌, ◌⊎◌, ◌↔◌, length, IfOk, OnErr, IsErr, Contains};
-    ghost use Rattle.sd_model.specs.Outside.{Bytes, raised};
+    ghost use Rattle.sd_model_outside.specs.Outside.{Bytes, raised};
     ghost use Rattle.sd_outside.specs.MemSink.{Takes, Fails, faults_of, given_to, room_in, writes_of};
 
     ghost written = { λ s. Bytes (given_to s) };

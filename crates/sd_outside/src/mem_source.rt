@@ -79,7 +79,7 @@ impl Faulty for MemSource {
 
 impl Opens for MemSource {
     ghost use Rattle.std.specs.Prelude.{◌≡◌, ◌≤◌, ◌↔◌, Some, OnOk, OnErr, IfErr, IsErr, Contains};
-    ghost use Rattle.sd_model.specs.Outside.{raised};
+    ghost use Rattle.sd_model_outside.specs.Outside.{raised};
     ghost use Rattle.sd_outside.specs.MemSource.{Calls, Fails, SameFailures, address_of, calls_of, faults_of, left_in};
 
     ghost same_content = { λ old new. left_in new ≡ left_in old };
@@ -109,7 +109,7 @@ impl Opens for MemSource {
 impl Source for MemSource {
     ghost use Rattle.std.specs.Prelude.{◌≡◌, ◌<◌, ◌≤◌, ◌↔◌, Some, length, IfOk, OnErr, IsErr, Contains};
     ghost use Rattle.std.proofs.Common.{ap};
-    ghost use Rattle.sd_model.specs.Outside.{raised};
+    ghost use Rattle.sd_model_outside.specs.Outside.{raised};
     ghost use Rattle.sd_outside.specs.MemSource.{Calls, Gives, Fails, SameFailures, address_of, calls_of, faults_of, left_in};
 
     ghost remaining = { λ s. Some (left_in s) };

@@ -1,5 +1,5 @@
 ghost use Rattle.std.specs.Prelude.{◌≡◌, ℕ, ◌≤◌, Option, OnOk, OnErr, IsErrOf};
-ghost use Rattle.sd_model.specs.Outside.{Rose};
+ghost use Rattle.sd_model_outside.specs.Outside.{Rose};
 ghost use Rattle.sd_outside.specs.declared.address.Address.{Address as Place};
 
 use crate::address::Address;

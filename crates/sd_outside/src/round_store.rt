@@ -29,7 +29,7 @@ pub(crate) struct RoundStore {
 impl RoundStore {
     ghost use Rattle.std.specs.Prelude.{◌≡◌, ◌+◌, ◌<◌, ◌≤◌, ◌↔◌, length, IfOk, IsTrue, IsSome, OnSome, IfNone, None, Some, [], ◌⊎◌, slice_get};
     ghost use Rattle.std.specs.Option.{option_map};
-    ghost use Rattle.sd_model.specs.Outside.{Rounds, appended, begun, ended, lists_of};
+    ghost use Rattle.sd_model_outside.specs.Outside.{Rounds, appended, begun, ended, lists_of};
     ghost use Rattle.sd_outside.specs.RoundStore.{round_at, closed, rounds_in, open_in, told_by, lists_in, byte_room_in, list_room_in};
 
     /// A store with no list, and room for that many bytes and that many lists.

@@ -1,5 +1,5 @@
 ghost use Rattle.std.specs.Prelude.{◌≡◌, ℕ, ◌<◌, ◌≤◌, List, ◌++◌, length, take, IfOk, OnOk, OnErr};
-ghost use Rattle.sd_model.specs.Outside.{Rose, Written, FitsLastCount, appended};
+ghost use Rattle.sd_model_outside.specs.Outside.{Rose, Written, FitsLastCount, appended};
 ghost use Rattle.sd_outside.specs.Write.{AppendsFront};
 
 use crate::opens::{Failed, Faulty};

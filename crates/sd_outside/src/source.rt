@@ -1,5 +1,5 @@
 ghost use Rattle.std.specs.Prelude.{◌≡◌, ℕ, ◌<◌, ◌≤◌, List, length, take, Option, IfOk, OnOk, OnErr};
-ghost use Rattle.sd_model.specs.Outside.{Rose, Reads, IsAtEnd};
+ghost use Rattle.sd_model_outside.specs.Outside.{Rose, Reads, IsAtEnd};
 
 use crate::opens::{Failed, Opens};
 

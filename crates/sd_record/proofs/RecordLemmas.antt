@@ -4,10 +4,10 @@ use Rattle.std.proofs.lemmas.List.{length-map}
 use Rattle.std.specs.FinMap.{entries, from_entries, entries_sorted}
 use Rattle.std.proofs.lemmas.Simd.{map-map}
 use Rattle.std.proofs.lemmas.Option.{slice_get-map, slice_get_read}
-use Rattle.sd_model.specs.Record.{Row, Tally, Record, row_value, table_rows, record_rows, record_of}
-use Rattle.sd_model.specs.Shard.{RowId, row_cmp, Table, counter_value}
-use Rattle.sd_model.proofs.RowLemmas.{rows_total, rows_exact}
-use Rattle.sd_model.proofs.EntryLemmas.{is_sorted-keyed, entries-from_entries}
+use Rattle.sd_model_record.specs.Record.{Row, Tally, Record, row_value, table_rows, record_rows, record_of}
+use Rattle.sd_model_shard.specs.Shard.{RowId, row_cmp, Table, counter_value}
+use Rattle.sd_model_shard.proofs.RowLemmas.{rows_total, rows_exact}
+use Rattle.sd_model_shard.proofs.EntryLemmas.{is_sorted-keyed, entries-from_entries}
 use Rattle.sd_record.specs.Counts.{counted}
 use Rattle.sd_record.specs.CountedRow.{counted_view}
 use Rattle.sd_record.specs.Record.{record_row}

@@ -1,6 +1,6 @@
 -- What a row of the scratch stands for.
 use Rattle.std.specs.Prelude.{ℤ, List, map}
-use Rattle.sd_model.specs.Shard.{RowId, counter_value}
+use Rattle.sd_model_shard.specs.Shard.{RowId, counter_value}
 use Rattle.sd_shard.specs.Table.{Listing, id_of}
 use Rattle.sd_record.specs.declared.counted_row.CountedRow.{CountedRow}
 

@@ -1,7 +1,7 @@
 -- What a contract sees of the room for a record's rows.
 use Rattle.std.specs.Prelude.{ℕ, ℤ, List, map}
 use Rattle.std.specs.FinMap.{entries}
-use Rattle.sd_model.specs.Shard.{RowId, Table, counter_value}
+use Rattle.sd_model_shard.specs.Shard.{RowId, Table, counter_value}
 
 -- for how many rows there is room, and the rows that stand there with their counts
 pub record Counts : Type 0 where

@@ -1,5 +1,5 @@
 -- A row of the code, as the definitions have it.
-use Rattle.sd_model.specs.Record as model
+use Rattle.sd_model_record.specs.Record as model
 use Rattle.sd_record.specs.declared.row.Row.{Row}
 use Rattle.sd_record.specs.declared.row.Row.TheVariants.{Counter}
 

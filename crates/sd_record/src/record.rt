@@ -1,5 +1,5 @@
 ghost use Rattle.std.specs.Prelude.{◌≡◌, ◌<◌, ◌≤◌, [], ◌∷◌, length, slice_get, Some};
-ghost use Rattle.sd_model.specs.Record.{record_of};
+ghost use Rattle.sd_model_record.specs.Record.{record_of};
 ghost use Rattle.sd_shard.specs.Table.{table_of};
 ghost use Rattle.sd_record.specs.Tally.{tally_of};
 ghost use Rattle.sd_record.specs.Row.{row_view};

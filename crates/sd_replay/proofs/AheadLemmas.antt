@@ -5,7 +5,7 @@ use Rattle.std.proofs.lemmas.List.{take-append-le, drop-append-le, drop-take, dr
 use Rattle.std.proofs.Math.Seq.{take-append-add}
 use Rattle.std.specs.Vec.{with_items}
 use borrow.Rule.Slice.PartMut.{post_of}
-use Rattle.sd_model.specs.Outside.{Reads, IsAtEnd}
+use Rattle.sd_model_outside.specs.Outside.{Reads, IsAtEnd}
 use Rattle.sd_replay.specs.Ahead.{left_behind}
 use Rattle.sd_replay.specs.Fields.{Lacks}
 

@@ -5,17 +5,17 @@ use Rattle.std.proofs.lemmas.Bool.{cases_lt}
 use Rattle.std.proofs.lemmas.Option.{MatchOption-at_some}
 use Rattle.std.proofs.lemmas.Fmt.{length-decimal-le, decimal_injective}
 use Rattle.std.proofs.lemmas.List.{take_at, drop_at, get_or-take, get_or-append-add, get_or_append_left, get_or-append_right, take-append-drop, drop_more, length_push}
-use Rattle.sd_model.specs.Script.{Command, Packet as PacketRecord, Flush as FlushRecord, spelled, IsBuilt, BeginsBuilt}
+use Rattle.sd_model_replay.specs.Script.{Command, Packet as PacketRecord, Flush as FlushRecord, spelled, IsBuilt, BeginsBuilt}
 use Rattle.sd_replay.specs.Ahead.{left_behind, Grows}
 use Rattle.sd_replay.specs.Fields.{Lacks, IsFirstPlace}
 use Rattle.sd_replay.specs.Found.{HasBuiltPieces, HasDatagram, HasBody, IsCutShort, BeginsWithLine}
 use Rattle.sd_replay.specs.Head.{head_line, IsLegal}
-use Rattle.sd_model.specs.Undecided.{IsUndecided}
+use Rattle.sd_model_replay.specs.Undecided.{IsUndecided}
 use Rattle.sd_replay.specs.declared.head.Head.{Head}
 use Rattle.sd_replay.specs.declared.head.Head.TheVariants.{Packet, Flush, End}
-use Rattle.sd_model.proofs.Cuts.{same_cut, at_cut}
+use Rattle.sd_model_text.proofs.Cuts.{same_cut, at_cut}
 use Rattle.sd_replay.proofs.Cuts.{inside_cut}
-use Rattle.sd_model.proofs.Digits.{Lacks-decimal}
+use Rattle.sd_model_text.proofs.Digits.{Lacks-decimal}
 
 -- a datagram that stands behind the front
 HasDatagram-behind : (front datagram rest : List ℕ) → HasBuiltPieces datagram → HasDatagram (length front) (length datagram) (front ++ (datagram ++ 10 ∷ rest))

@@ -1,6 +1,6 @@
 -- Where a list is cut at its first separator.
 use Rattle.std.proofs.Common.{◌≡◌, ℕ, ◌<◌, List, ◌∷◌, ◌++◌, length, sym, ◌∙◌, arith, length-append}
-use Rattle.sd_model.proofs.Cuts.{at_cut, same_cut}
+use Rattle.sd_model_text.proofs.Cuts.{at_cut, same_cut}
 use Rattle.sd_replay.specs.Fields.{Lacks, IsCut}
 
 pub inside_cut : (s : ℕ) (part rest : List ℕ) → length part < length (part ++ s ∷ rest)

@@ -4,7 +4,7 @@ use Rattle.sd_replay.specs.Fields.{IsCut, Lacks}
 use Rattle.sd_replay.specs.Head.{IsLegal}
 use Rattle.sd_replay.specs.declared.head.Head.TheVariants.{Packet}
 use Rattle.sd_replay.proofs.Cuts.{cut_is, uncut}
-use Rattle.sd_model.proofs.Digits.{Lacks-decimal}
+use Rattle.sd_model_text.proofs.Digits.{Lacks-decimal}
 
 module _ (fields : List ℕ) (who moment len : ℕ) (legal : IsLegal (Packet who moment len)) (same : fields ≡ decimal who ++ 32 ∷ decimal moment ++ 32 ∷ decimal len) where
   regrouped : fields ≡ decimal who ++ 32 ∷ (decimal moment ++ 32 ∷ decimal len)

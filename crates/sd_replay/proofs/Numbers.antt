@@ -6,7 +6,7 @@ use Rattle.std.specs.Str.Parse.{digits_value}
 use Rattle.std.proofs.Math.Nat.{pow-le-pow_right}
 use Rattle.std.proofs.lemmas.Fmt.{digits_decimal, decimal-digits_value, decimal_nonempty, length-decimal-le, first_decimal, decimal_digit}
 use Rattle.std.proofs.lemmas.Str.Parse.{digits_value_short}
-use Rattle.sd_model.proofs.Digits.{numerals}
+use Rattle.sd_model_text.proofs.Digits.{numerals}
 use Rattle.sd_replay.specs.Fields.{IsNumber}
 
 -- a number of at most 18 digits fits 64 bits

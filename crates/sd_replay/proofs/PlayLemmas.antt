@@ -4,23 +4,23 @@ use Rattle.std.proofs.lemmas.List.{map-append}
 use Rattle.std.specs.FinMap.{empty}
 use Rattle.std.specs.List.{AllByRecursion}
 use Rattle.std.specs.Prelude.{IfSome}
-use Rattle.sd_model.specs.Outside.{Written as Told, Reads, Rose, appended, last_count}
+use Rattle.sd_model_outside.specs.Outside.{Written as Told, Reads, Rose, appended, last_count}
 use Rattle.sd_outside.specs.Write.{AppendsFront}
-use Rattle.sd_model.specs.Lines.{samples_of}
-use Rattle.sd_model.specs.Shard.{State, after_samples, answers_to, drops, after_swap, table_of}
-use Rattle.sd_model.specs.Desk.{Desk, Marks, NotUsed, with_tally, with_round}
-use Rattle.sd_model.specs.Graphite.{graphite_text}
-use Rattle.sd_model.specs.Script.{Command, Packet, Flush, end_word, spelled, script_text, IsBuilt, BeginsBuilt}
-use Rattle.sd_model.specs.Record.{record_of}
-use Rattle.sd_model.specs.Replay.{default_settings, first_run, Played, PlayedPacket, PlayedFlush, command_of, packet_tally, play, graphite_deliveries, graphite_marks, AfterMark, FaultsAfter, FaultsOver, AfterDeliveries, UsesGraphite, Totals, totals_of, totals_text}
-use Rattle.sd_model.specs.AccountingTheorem.{Seen, Course, AccountingTheorem}
-use Rattle.sd_model.specs.Run.{Complete, NotBuilt, ReadFailed, WriteFailed, WornOut, Replayed, state_after_all, text_length}
-use Rattle.sd_model.specs.Undecided.{IsUndecided, IsDecided}
+use Rattle.sd_model_text.specs.Lines.{samples_of}
+use Rattle.sd_model_shard.specs.Shard.{State, after_samples, answers_to, drops, after_swap, table_of}
+use Rattle.sd_model_record.specs.Desk.{Desk, Marks, NotUsed, with_tally, with_round}
+use Rattle.sd_model_record.specs.Graphite.{graphite_text}
+use Rattle.sd_model_replay.specs.Script.{Command, Packet, Flush, end_word, spelled, script_text, IsBuilt, BeginsBuilt}
+use Rattle.sd_model_record.specs.Record.{record_of}
+use Rattle.sd_model_replay.specs.Replay.{default_settings, first_run, Played, PlayedPacket, PlayedFlush, command_of, packet_tally, play, graphite_deliveries, graphite_marks, AfterMark, FaultsAfter, FaultsOver, AfterDeliveries, UsesGraphite, Totals, totals_of, totals_text}
+use Rattle.sd_model_replay.specs.AccountingTheorem.{Seen, Course, AccountingTheorem}
+use Rattle.sd_model_replay.specs.Run.{Complete, NotBuilt, ReadFailed, WriteFailed, WornOut, Replayed, state_after_all, text_length}
+use Rattle.sd_model_replay.specs.Undecided.{IsUndecided, IsDecided}
 use Rattle.sd_replay.specs.Reading.{Reading, left}
-use Rattle.sd_model.proofs.AccountingLemmas.{accounted}
-use Rattle.sd_model.proofs.OutsideLemmas.{Reads-nil, Reads-append}
-use Rattle.sd_model.proofs.StatisticsLemmas.{documented}
-use Rattle.sd_model.proofs.ReplayLemmas.{run_of-push, deliveries-packet, deliveries-flush, delivery_of, AfterDeliveries-push, FaultsAfterAll, FaultsOver-all, faults-packet, faults-flush, script_text-push, script_text-end, AllByRecursion-push}
+use Rattle.sd_model_replay.proofs.AccountingLemmas.{accounted}
+use Rattle.sd_model_outside.proofs.OutsideLemmas.{Reads-nil, Reads-append}
+use Rattle.sd_model_replay.proofs.StatisticsLemmas.{documented}
+use Rattle.sd_model_replay.proofs.ReplayLemmas.{run_of-push, deliveries-packet, deliveries-flush, delivery_of, AfterDeliveries-push, FaultsAfterAll, FaultsOver-all, faults-packet, faults-flush, script_text-push, script_text-end, AllByRecursion-push}
 
 -- what a replay has done since it began
 pub record Progress (script left : Option (List ℕ)) (old new : Told) (had has : ℕ) (shard : State) (desk : Desk) (at turn : ℕ) : Type 0 where

@@ -2,8 +2,8 @@
 use Rattle.std.proofs.Common.{◌≡◌, ℕ, ◌+◌, ◌<◌, List, [], ◌∷◌, ◌++◌, Option, None, Some, length, take, drop, get_or, refl, sym, ap, subst, ◌∙◌, arith, append_assoc, length-append, length-drop}
 use Rattle.std.specs.Prelude.{min, option_map, slice_range}
 use Rattle.std.proofs.lemmas.List.{drop_at, length_push, take-append-drop, drop_more, length-take-le, get_or-drop}
-use Rattle.sd_model.specs.Outside.{last_count}
-use Rattle.sd_model.specs.Script.{Packet as PacketRecord, Flush as FlushRecord, spelled, IsBuilt}
+use Rattle.sd_model_outside.specs.Outside.{last_count}
+use Rattle.sd_model_replay.specs.Script.{Packet as PacketRecord, Flush as FlushRecord, spelled, IsBuilt}
 use Rattle.sd_replay.specs.Ahead.{left_behind}
 use Rattle.sd_replay.specs.Found.{HasBuiltPieces, HasDatagram, BeginsWith, BeginsWithLine}
 use Rattle.sd_replay.specs.Head.{head_line}

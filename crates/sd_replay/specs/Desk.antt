@@ -1,6 +1,6 @@
 -- The desk of the code, as the definitions have it, and what it keeps.
 use Rattle.std.specs.Prelude.{◌^◌, ◌≤◌}
-use Rattle.sd_model.specs.Desk as model
+use Rattle.sd_model_record.specs.Desk as model
 use Rattle.sd_record.specs.Tally.{tally_of}
 use Rattle.sd_replay.specs.declared.desk.Desk.TheInside.{Inside}
 

@@ -1,6 +1,6 @@
 -- Where a byte stands in a list, and numbers as they are written.
 use Rattle.std.specs.Prelude.{◌≡◌, ◌≢◌, ℕ, ◌^◌, ◌<◌, List, ◌∷◌, ◌++◌, length, slice_index, decimal}
-pub use Rattle.sd_model.specs.Lists.{Lacks}
+pub use Rattle.sd_model_text.specs.Lists.{Lacks}
 
 -- the byte stands at this place, and nowhere before it
 pub record IsFirstPlace (byte : ℕ) (xs : List ℕ) (place : ℕ) : Type 0 where

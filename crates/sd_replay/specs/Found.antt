@@ -1,7 +1,7 @@
 -- A record that stands at the front of bytes.
 use Rattle.std.specs.Prelude.{◌≡◌, ℕ, ◌+◌, ◌<◌, ◌≤◌, List, ◌∷◌, ◌++◌, length, slice_index, slice_range, IsSome}
 use Rattle.std.specs.List.{AllByRecursion}
-use Rattle.sd_model.specs.Lines.{pieces, sample_of}
+use Rattle.sd_model_text.specs.Lines.{pieces, sample_of}
 use Rattle.sd_replay.specs.Head.{head_line, IsLegal}
 use Rattle.sd_replay.specs.declared.head.Head.{Head}
 use Rattle.sd_replay.specs.declared.head.Head.TheVariants.{Packet, Flush, End}

@@ -1,5 +1,5 @@
 -- Marks of the code, as the definitions have them.
-use Rattle.sd_model.specs.Desk as model
+use Rattle.sd_model_record.specs.Desk as model
 use Rattle.sd_replay.specs.declared.desk.Mark.{Mark}
 use Rattle.sd_replay.specs.declared.desk.Mark.TheVariants.{NotUsed, Written, Fault}
 use Rattle.sd_replay.specs.declared.desk.RoundMarks.{RoundMarks}

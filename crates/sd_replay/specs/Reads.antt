@@ -1,9 +1,9 @@
 -- What a reader of a script answers, and what it leaves: `had` and `has` are what the source has left before
 -- the call and after it.
 use Rattle.std.specs.Prelude.{◌≡◌, ℕ, ◌+◌, List, [], ◌++◌, length, min, Option, option_map, IfSome}
-use Rattle.sd_model.specs.Outside.{last_count}
-use Rattle.sd_model.specs.Script.{Packet as PacketRecord, Flush as FlushRecord, spelled, end_word, IsBuilt, BeginsBuilt}
-use Rattle.sd_model.specs.Undecided.{IsDecided}
+use Rattle.sd_model_outside.specs.Outside.{last_count}
+use Rattle.sd_model_replay.specs.Script.{Packet as PacketRecord, Flush as FlushRecord, spelled, end_word, IsBuilt, BeginsBuilt}
+use Rattle.sd_model_replay.specs.Undecided.{IsDecided}
 use Rattle.sd_replay.specs.Reading.{Reading, left}
 use Rattle.sd_replay.specs.declared.reader.Item.{Item}
 use Rattle.sd_replay.specs.declared.reader.Item.TheVariants.{Packet, Flush, End, Unbuilt}

@@ -1,6 +1,6 @@
 -- Tables that a shard can be swapped for.
 use Rattle.std.specs.Prelude.{◌≡◌, []}
-use Rattle.sd_model.specs.Shard.{Limits}
+use Rattle.sd_model_shard.specs.Shard.{Limits}
 use Rattle.sd_shard.specs.Table.{Listing}
 
 -- an empty table of these limits

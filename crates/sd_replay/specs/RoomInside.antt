@@ -1,8 +1,8 @@
 -- What a replay works on, before the first record.
 use Rattle.std.specs.Prelude.{◌≡◌, ◌≤◌, [], ⊤}
-use Rattle.sd_model.specs.Shard.{empty_state}
-use Rattle.sd_model.specs.Desk.{new_desk}
-use Rattle.sd_model.specs.Replay.{default_settings}
+use Rattle.sd_model_shard.specs.Shard.{empty_state}
+use Rattle.sd_model_record.specs.Desk.{new_desk}
+use Rattle.sd_model_replay.specs.Replay.{default_settings}
 use Rattle.sd_shard.specs.Shard.{state_of}
 use Rattle.sd_replay.specs.Room.{IsSpareFor}
 use Rattle.sd_replay.specs.declared.room.ReplayRoom.TheInside.{Inside}

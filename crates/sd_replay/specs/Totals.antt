@@ -1,5 +1,5 @@
 -- The totals of the code, as the definitions have them.
-use Rattle.sd_model.specs.Replay as model
+use Rattle.sd_model_replay.specs.Replay as model
 use Rattle.sd_replay.specs.declared.totals.Totals.{Totals}
 
 abbrev pub totals_view : Totals → model.Totals

@@ -36,10 +36,10 @@ fn zeros(alloc: Global, len: usize) -> Result<Vec<u8>, AllocError>
 impl Ahead {
     ghost use Rattle.std.specs.Prelude.{◌≡◌, ◌<◌, ◌≤◌, [], drop, length, take, IfOk, OnOk, OnErr, MatchBool, MatchOption, IfSome, IfNone};
     ghost use Rattle.std.specs.Bool.{OnFalse};
-    ghost use Rattle.sd_model.specs.Outside.{Rose, IsAtEnd};
+    ghost use Rattle.sd_model_outside.specs.Outside.{Rose, IsAtEnd};
     ghost use Rattle.sd_replay.specs.Fields.{Lacks, IsFirstPlace};
     ghost use Rattle.sd_replay.specs.Ahead.{held_in, left_behind, Grows, GrowsBy};
-    ghost use Rattle.sd_model.specs.Undecided.{IsPartOfLine, IsDecided};
+    ghost use Rattle.sd_model_replay.specs.Undecided.{IsPartOfLine, IsDecided};
 
     /// Takes the room, which holds no bytes yet.
     ///

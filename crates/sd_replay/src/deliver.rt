@@ -1,7 +1,7 @@
 ghost use Rattle.std.specs.Prelude.{◌≡◌, ◌≢◌, ◌≤◌};
-ghost use Rattle.sd_model.specs.Desk.{NotUsed};
-ghost use Rattle.sd_model.specs.Graphite.{graphite_text};
-ghost use Rattle.sd_model.specs.Replay.{AfterMark, FaultsAfter};
+ghost use Rattle.sd_model_record.specs.Desk.{NotUsed};
+ghost use Rattle.sd_model_record.specs.Graphite.{graphite_text};
+ghost use Rattle.sd_model_replay.specs.Replay.{AfterMark, FaultsAfter};
 ghost use Rattle.sd_record.specs.Record.{record_view};
 ghost use Rattle.sd_replay.specs.Marks.{mark_of};
 

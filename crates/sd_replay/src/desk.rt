@@ -1,5 +1,5 @@
 ghost use Rattle.std.specs.Prelude.{◌≡◌, ◌^◌, ◌≤◌, ◌+◌, min};
-ghost use Rattle.sd_model.specs.Desk.{new_desk, with_tally, with_round, add_tally, no_tally as nothing, counted as counted_up, fault_of, taken, marked};
+ghost use Rattle.sd_model_record.specs.Desk.{new_desk, with_tally, with_round, add_tally, no_tally as nothing, counted as counted_up, fault_of, taken, marked};
 ghost use Rattle.sd_record.specs.Tally.{tally_of};
 ghost use Rattle.sd_replay.specs.Marks.{mark_of, marks_of};
 
@@ -38,7 +38,7 @@ pub(crate) struct Desk {
 }
 
 impl Model for Desk {
-    ghost use Rattle.sd_model.specs.Desk.{Desk as Value'};
+    ghost use Rattle.sd_model_record.specs.Desk.{Desk as Value'};
 
     ghost Value = { Value' };
 

@@ -1,9 +1,9 @@
 ghost use Rattle.std.specs.Prelude.{◌≡◌, ◌≢◌, ◌≤◌, [], ◌∷◌};
-ghost use Rattle.sd_model.specs.Desk.{NotUsed, with_round};
-ghost use Rattle.sd_model.specs.Graphite.{graphite_text};
-ghost use Rattle.sd_model.specs.Record.{record_of};
-ghost use Rattle.sd_model.specs.Replay.{AfterMark, FaultsAfter};
-ghost use Rattle.sd_model.specs.Shard.{after_swap, table_of};
+ghost use Rattle.sd_model_record.specs.Desk.{NotUsed, with_round};
+ghost use Rattle.sd_model_record.specs.Graphite.{graphite_text};
+ghost use Rattle.sd_model_record.specs.Record.{record_of};
+ghost use Rattle.sd_model_replay.specs.Replay.{AfterMark, FaultsAfter};
+ghost use Rattle.sd_model_shard.specs.Shard.{after_swap, table_of};
 ghost use Rattle.sd_shard.specs.Shard.{state_of};
 ghost use Rattle.sd_replay.specs.Marks.{mark_of, marks_of};
 ghost use Rattle.sd_replay.specs.Room.{IsSpareFor};

@@ -1,6 +1,6 @@
 ghost use Rattle.std.specs.Prelude.{◌≡◌, ◌≤◌, length};
-ghost use Rattle.sd_model.specs.Lines.{pieces, samples_of};
-ghost use Rattle.sd_model.specs.Shard.{refusal, placed, after_sample, after_samples, answers_to, drop_of, drops};
+ghost use Rattle.sd_model_text.specs.Lines.{pieces, samples_of};
+ghost use Rattle.sd_model_shard.specs.Shard.{refusal, placed, after_sample, after_samples, answers_to, drop_of, drops};
 ghost use Rattle.sd_shard.specs.Shard.{state_of};
 
 use sd_line::{Lines, Sample};

@@ -40,9 +40,9 @@ impl Model for Reader {
 
 impl Reader {
     ghost use Rattle.std.specs.Prelude.{◌≡◌, ◌≤◌, [], IfOk, OnOk, OnErr};
-    ghost use Rattle.sd_model.specs.Outside.{Rose};
+    ghost use Rattle.sd_model_outside.specs.Outside.{Rose};
     ghost use Rattle.sd_replay.specs.Reads.{ReadsItem, Stays};
-    ghost use Rattle.sd_model.specs.Undecided.{IsUndecided};
+    ghost use Rattle.sd_model_replay.specs.Undecided.{IsUndecided};
 
     /// A reader that has read nothing yet.
     ///

@@ -1,11 +1,11 @@
 ghost use Rattle.std.specs.Prelude.{◌≡◌, ◌+◌, ◌<◌, ◌≤◌, ◌↔◌, length, IsTrue, MatchBool, MatchOption, IfSome, IfNone, IfOk, OnOk, OnErr, ◌⊎◌};
 ghost use Rattle.std.specs.Bool.{OnFalse};
-ghost use Rattle.sd_model.specs.Outside.{Rose, IsAtEnd};
-ghost use Rattle.sd_model.specs.Script.{BeginsBuilt};
+ghost use Rattle.sd_model_outside.specs.Outside.{Rose, IsAtEnd};
+ghost use Rattle.sd_model_replay.specs.Script.{BeginsBuilt};
 ghost use Rattle.sd_replay.specs.Ahead.{held_in, left_behind, Grows};
 ghost use Rattle.sd_replay.specs.Found.{HasBuiltPieces, HasDatagram, HasBody, IsCutShort, BeginsWith};
 ghost use Rattle.sd_replay.specs.Head.{IsLegal};
-ghost use Rattle.sd_model.specs.Undecided.{IsUndecided, IsDecided};
+ghost use Rattle.sd_model_replay.specs.Undecided.{IsUndecided, IsDecided};
 
 use crate::ahead::{Ahead, LINE};
 use crate::head::{Head, parse_line};

@@ -1,11 +1,11 @@
 ghost use Rattle.std.specs.Prelude.{◌≡◌, ◌≤◌, length, OnOk, OnErr, IfOk};
-ghost use Rattle.sd_model.specs.Lines.{samples_of};
-ghost use Rattle.sd_model.specs.Shard.{after_samples, answers_to, drops};
-ghost use Rattle.sd_model.specs.Desk.{with_tally};
-ghost use Rattle.sd_model.specs.Outside.{Rose, appended};
-ghost use Rattle.sd_model.specs.Replay.{packet_tally, totals_of as totals_in, totals_text};
-ghost use Rattle.sd_model.specs.AccountingTheorem.{seen_of};
-ghost use Rattle.sd_model.specs.Run.{Replayed};
+ghost use Rattle.sd_model_text.specs.Lines.{samples_of};
+ghost use Rattle.sd_model_shard.specs.Shard.{after_samples, answers_to, drops};
+ghost use Rattle.sd_model_record.specs.Desk.{with_tally};
+ghost use Rattle.sd_model_outside.specs.Outside.{Rose, appended};
+ghost use Rattle.sd_model_replay.specs.Replay.{packet_tally, totals_of as totals_in, totals_text};
+ghost use Rattle.sd_model_replay.specs.AccountingTheorem.{seen_of};
+ghost use Rattle.sd_model_replay.specs.Run.{Replayed};
 ghost use Rattle.sd_outside.specs.Write.{AppendsFront};
 ghost use Rattle.sd_shard.specs.Shard.{state_of};
 ghost use Rattle.sd_replay.specs.Ends.{end_of};

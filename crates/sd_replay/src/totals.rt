@@ -1,6 +1,6 @@
 ghost use Rattle.std.specs.Prelude.{◌≡◌, ◌+◌, ◌≤◌, ◌++◌, length, OnOk, OnErr};
-ghost use Rattle.sd_model.specs.Outside.{Rose, appended};
-ghost use Rattle.sd_model.specs.Replay.{total_line, totals_text as lines_of};
+ghost use Rattle.sd_model_outside.specs.Outside.{Rose, appended};
+ghost use Rattle.sd_model_replay.specs.Replay.{total_line, totals_text as lines_of};
 ghost use Rattle.sd_outside.specs.Write.{AppendsFront};
 ghost use Rattle.sd_replay.specs.Totals.{totals_view};
 

@@ -2,8 +2,8 @@
 use Rattle.std.proofs.Common.{◌≡◌, ℕ, zero, suc, ◌<◌, Bool, true, false, cond, not, ◌||◌, List, [], ◌∷◌, ◌++◌, length, get_or, take, map, ◌+◌, refl, sym, ap, subst, ◌∙◌, Option, Some, None, is_some, arith}
 use Rattle.std.specs.FinMap.{empty, get-empty, get, insert, from_entries, contains_key, same_map, get-insert, get-from_entries, get-retain_keys}
 use Rattle.std.specs.Cmp.{eq_by_cmp_equiv}
-use Rattle.sd_model.specs.Shard.{RowId, row_cmp, Rows, Kept, is_same_row, Policy, goes_idle, carried}
-use Rattle.sd_model.proofs.RowLemmas.{rows_total, rows_exact}
+use Rattle.sd_model_shard.specs.Shard.{RowId, row_cmp, Rows, Kept, is_same_row, Policy, goes_idle, carried}
+use Rattle.sd_model_shard.proofs.RowLemmas.{rows_total, rows_exact}
 use Rattle.std.proofs.lemmas.List.{length-map, take_more, take-map}
 use Rattle.std.proofs.Math.ListN.{get_or-map}
 use Rattle.sd_shard.specs.Table.{AreApart, listed_with, row_view, live_rows}

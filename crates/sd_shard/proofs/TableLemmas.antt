@@ -2,7 +2,7 @@
 use Rattle.std.proofs.Common.{◌≡◌, ◌<◌, false, map, vec_len, sym, ap, subst, ◌∙◌, arith}
 use Rattle.std.proofs.lemmas.List.{length-map}
 use Rattle.std.specs.FinMap.{contains_key, len}
-use Rattle.sd_model.specs.Shard.{RowId}
+use Rattle.sd_model_shard.specs.Shard.{RowId}
 use Rattle.sd_shard.specs.Table.{Listing, AreApart, live_of, row_view, listed_with}
 use Rattle.sd_shard.specs.TableInside.{listing_of}
 use Rattle.sd_shard.specs.declared.table.Table.TheInside.{Inside}

@@ -1,7 +1,7 @@
 ghost use Rattle.std.specs.Prelude.{◌≡◌};
 ghost use Rattle.sd_shard.specs.Limits.{policy_of};
 ghost use Rattle.sd_key.specs.Kind.{kind_of};
-ghost use Rattle.sd_model.specs.Shard.{goes_idle as goes_idle_by};
+ghost use Rattle.sd_model_shard.specs.Shard.{goes_idle as goes_idle_by};
 
 use sd_key::Kind;
 

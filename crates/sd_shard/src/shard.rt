@@ -1,9 +1,9 @@
 ghost use Rattle.std.specs.Prelude.{◌≡◌, ◌+◌, ◌≤◌, [], length, option_map, IfOk};
-ghost use Rattle.sd_model.specs.Shard.{empty_state, refusal, after_sample, after_swap, placed};
+ghost use Rattle.sd_model_shard.specs.Shard.{empty_state, refusal, after_sample, after_swap, placed};
 ghost use Rattle.sd_shard.specs.Limits.{limits_of, policy_of, AreLimits};
 ghost use Rattle.sd_shard.specs.Table.{table_of};
 ghost use Rattle.sd_shard.specs.Shard.{state_of, cause_of, placed_of};
-ghost use Rattle.sd_model.specs.Shard.{table_of as model_table_of};
+ghost use Rattle.sd_model_shard.specs.Shard.{table_of as model_table_of};
 
 use crate::limits::{Limits, Policy, Who};
 use crate::table::Table;

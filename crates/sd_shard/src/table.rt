@@ -1,7 +1,7 @@
 ghost use Rattle.std.specs.Prelude.{◌≡◌, ◌+◌, ◌*◌, ◌^◌, ◌<◌, ◌≤◌, ◌+ℤ◌, unsigned_abs, slice_get, false, [], ◌∷◌, ◌++◌, length, map, vec_len, vec_capacity, IfOk, MatchOption, if◌then◌else◌};
 ghost use Rattle.std.specs.FinMap.{len, contains_key, insert};
-ghost use Rattle.sd_model.specs.Shard.{row_of, touched, is_same_row, entries_of, counter_value, carried};
-ghost use Rattle.sd_model.specs.Numbers.{weight};
+ghost use Rattle.sd_model_shard.specs.Shard.{row_of, touched, is_same_row, entries_of, counter_value, carried};
+ghost use Rattle.sd_model_text.specs.Numbers.{weight};
 ghost use Rattle.sd_shard.specs.Limits.{limits_of, policy_of, AreLimits};
 ghost use Rattle.sd_shard.specs.Table.{live_of, live_rows, AreApart, row_view, entry_view, id_of, listed_with, IsPlace};
 

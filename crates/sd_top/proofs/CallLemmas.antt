@@ -1,13 +1,13 @@
 -- What a call answers, by the step that ended it.
 use Rattle.std.proofs.Common.{◌≡◌, List, ℕ, [], inl, inr, Some, None, take, refl, sym, ap, subst, ◌∙◌, arith}
-use Rattle.sd_model.specs.Outside.{File, IsAtEnd, appended}
-use Rattle.sd_model.specs.Replay.{default_settings, first_run, graphite_deliveries, AfterDeliveries, FaultsOver, totals_text}
-use Rattle.sd_model.specs.AccountingTheorem.{Seen, Course, AccountingTheorem}
-use Rattle.sd_model.specs.Run.{End, Complete, NotBuilt, ReadFailed, WriteFailed, WornOut, EndsAs, Replayed, totals_after}
-use Rattle.sd_model.specs.Words.{Replay, form}
-use Rattle.sd_model.specs.Call.{Objects, Answer, NoForm, AsksForReplay, IsNothing, SameContent, SameFaults, Ran, Answers, Accounts, default_flags, ending}
-use Rattle.sd_model.proofs.AccountingLemmas.{accounted}
-use Rattle.sd_model.proofs.OutsideLemmas.{Reads-nil}
+use Rattle.sd_model_outside.specs.Outside.{File, IsAtEnd, appended}
+use Rattle.sd_model_replay.specs.Replay.{default_settings, first_run, graphite_deliveries, AfterDeliveries, FaultsOver, totals_text}
+use Rattle.sd_model_replay.specs.AccountingTheorem.{Seen, Course, AccountingTheorem}
+use Rattle.sd_model_replay.specs.Run.{End, Complete, NotBuilt, ReadFailed, WriteFailed, WornOut, EndsAs, Replayed, totals_after}
+use Rattle.sd_model_call.specs.Words.{Replay, form}
+use Rattle.sd_model_call.specs.Call.{Objects, Answer, NoForm, AsksForReplay, IsNothing, SameContent, SameFaults, Ran, Answers, Accounts, default_flags, ending}
+use Rattle.sd_model_replay.proofs.AccountingLemmas.{accounted}
+use Rattle.sd_model_outside.proofs.OutsideLemmas.{Reads-nil}
 use Rattle.sd_top.specs.declared.status.Status.{Status}
 use Rattle.sd_top.specs.Answers.{answer_of}
 use Rattle.sd_top.specs.Causes.{NotTaken, NotBegun, Ready, Settled}

@@ -1,5 +1,5 @@
 -- How the program of the code answers, as the definitions have it.
-use Rattle.sd_model.specs.Call as model
+use Rattle.sd_model_call.specs.Call as model
 use Rattle.sd_top.specs.declared.status.Part.{Part}
 use Rattle.sd_top.specs.declared.status.Part.TheVariants.{Settings, Script, Graphite}
 use Rattle.sd_top.specs.declared.status.Status.{Status}

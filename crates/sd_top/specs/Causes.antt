@@ -1,8 +1,8 @@
 -- Why a step before a replay ended the call.
 use Rattle.std.specs.Prelude.{◌≡◌, ◌≢◌, ◌⊎◌, ℕ, List, [], Option, Some, IfSome}
-use Rattle.sd_model.specs.AccountingTheorem.{Seen}
-use Rattle.sd_model.specs.Call.{IsAtMostAt, SameContent, SameFaults}
-use Rattle.sd_model.specs.Outside.{Place, Rose}
+use Rattle.sd_model_replay.specs.AccountingTheorem.{Seen}
+use Rattle.sd_model_call.specs.Call.{IsAtMostAt, SameContent, SameFaults}
+use Rattle.sd_model_outside.specs.Outside.{Place, Rose}
 use Rattle.sd_top.specs.declared.status.Part.{Part}
 use Rattle.sd_top.specs.declared.status.Part.TheVariants.{Settings, Script, Graphite}
 use Rattle.sd_top.specs.declared.status.Status.{Status}

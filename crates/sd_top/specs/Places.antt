@@ -1,6 +1,6 @@
 -- Addresses of the code, as the definitions have them.
 use Rattle.std.specs.Prelude.{Option, option_map}
-use Rattle.sd_model.specs.Outside as model
+use Rattle.sd_model_outside.specs.Outside as model
 use Rattle.sd_outside.specs.declared.address.Address.{Address}
 use Rattle.sd_outside.specs.declared.address.Address.TheVariants.{File, Host}
 

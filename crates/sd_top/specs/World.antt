@@ -2,9 +2,9 @@
 -- was last opened; of a backend what it was given, its faults and where it was last opened; of the output what it was
 -- given and its faults.
 use Rattle.std.specs.Prelude.{ℕ, List, Option}
-use Rattle.sd_model.specs.AccountingTheorem.{seen_of}
-use Rattle.sd_model.specs.Call.{Objects}
-use Rattle.sd_model.specs.Outside.{Written}
+use Rattle.sd_model_replay.specs.AccountingTheorem.{seen_of}
+use Rattle.sd_model_call.specs.Call.{Objects}
+use Rattle.sd_model_outside.specs.Outside.{Written}
 use Rattle.sd_outside.specs.declared.address.Address.{Address}
 use Rattle.sd_top.specs.Causes.{Ready, Settled}
 use Rattle.sd_top.specs.Places.{last_place}

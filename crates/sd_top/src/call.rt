@@ -1,8 +1,8 @@
 ghost use Rattle.std.specs.Prelude.{◌≡◌, ◌≤◌, [], map, string_bytes, Some, OnOk, OnErr, IfOk, IfErr};
-ghost use Rattle.sd_model.specs.Call.{Accounts, ending};
-ghost use Rattle.sd_model.specs.Outside.{File, IsAtEnd};
-ghost use Rattle.sd_model.specs.AccountingTheorem.{seen_of};
-ghost use Rattle.sd_model.specs.Run.{Replayed};
+ghost use Rattle.sd_model_call.specs.Call.{Accounts, ending};
+ghost use Rattle.sd_model_outside.specs.Outside.{File, IsAtEnd};
+ghost use Rattle.sd_model_replay.specs.AccountingTheorem.{seen_of};
+ghost use Rattle.sd_model_replay.specs.Run.{Replayed};
 ghost use Rattle.sd_replay.specs.Ends.{end_of};
 ghost use Rattle.sd_top.specs.Answers.{answer_of};
 ghost use Rattle.sd_top.specs.Causes.{NotOpened, NotTaken, NotBegun};

@@ -1,5 +1,5 @@
 ghost use Rattle.std.specs.Prelude.{◌≡◌, ◌≤◌, ◌<◌, length, map, string_bytes, option_map, true, IsTrue};
-ghost use Rattle.sd_model.specs.Words.{form, is_file_word as names_file};
+ghost use Rattle.sd_model_call.specs.Words.{form, is_file_word as names_file};
 ghost use Rattle.sd_top.specs.Words.{form_view};
 
 use arrayvec::ArrayVec;

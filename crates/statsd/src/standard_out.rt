@@ -1,5 +1,5 @@
 ghost use Rattle.std.specs.Prelude.{◌≡◌, ◌↔◌, [], IsTrue};
-ghost use Rattle.sd_model.specs.Outside.{File};
+ghost use Rattle.sd_model_outside.specs.Outside.{File};
 ghost use Rattle.sd_top.specs.Places.{place_of};
 
 use sd_outside::{Address, Backend, Failed, Faulty, OpenRefusal, Opens, Sink, fault};
@@ -56,7 +56,7 @@ impl<'a> Opens for StandardOut<'a> {
 }
 
 impl<'a> Sink for StandardOut<'a> {
-    ghost use Rattle.sd_model.specs.Outside.{Untold};
+    ghost use Rattle.sd_model_outside.specs.Outside.{Untold};
 
     ghost written = { λ s. Untold };
 

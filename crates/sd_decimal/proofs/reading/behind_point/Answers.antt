@@ -1,7 +1,7 @@
 use Rattle.std.proofs.Common.{◌+◌, ◌∙◌, ap, sym, length, take, drop, arith, length-drop}
 use Rattle.std.proofs.lemmas.Bool.{ltb-true}
 use Rattle.std.proofs.lemmas.List.{take_all}
-use Rattle.sd_model.specs.Numbers.{magnitude_of_sides}
+use Rattle.sd_model_text.specs.Numbers.{magnitude_of_sides}
 use Rattle.sd_decimal.proofs.Sides.{sides_end, sides_point, sides_other}
 use Rattle.sd_decimal.proofs.reading.behind_point.Goals as goal
 

@@ -1,6 +1,6 @@
 use Rattle.std.proofs.Common.{ℕ, ◌==◌, ◌∙◌, Bool, ap, sym, eq-eqb, ne_eqb}
-use Rattle.sd_model.specs.Lists.{trim_end}
-use Rattle.sd_model.proofs.Trims.{trim_end-passed, trim_end-stays}
+use Rattle.sd_model_text.specs.Lists.{trim_end}
+use Rattle.sd_model_text.proofs.Trims.{trim_end-passed, trim_end-stays}
 use Rattle.sd_decimal.proofs.writing.without_zeros.Goals as goal
 
 abbrev zero_digit : ℕ → Bool

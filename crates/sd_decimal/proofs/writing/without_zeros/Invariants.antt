@@ -1,5 +1,5 @@
 use Rattle.std.proofs.Common.{◌≡◌, ◌==◌, length}
-use Rattle.sd_model.specs.Lists.{trim_end}
+use Rattle.sd_model_text.specs.Lists.{trim_end}
 use Rattle.sd_decimal.proofs.writing.without_zeros.Given as goal
 
 abbrev pub invariant-loop-last : goal.invariant-loop-last

@@ -1,5 +1,5 @@
 use Rattle.std.proofs.Common.{◌≡◌, length, take}
-use Rattle.sd_model.specs.Outside.{appended}
+use Rattle.sd_model_outside.specs.Outside.{appended}
 use Rattle.sd_record.specs.Record.{record_view}
 use Rattle.sd_graphite.specs.Texts.{rows_text}
 use Rattle.sd_graphite.proofs.record.write_rows.Given as goal

@@ -3,8 +3,8 @@ use Rattle.std.proofs.Common.{◌≡◌, ◌<◌, ◌≤◌, ◌++◌, length, t
 use Rattle.std.proofs.lemmas.Bool.{eqb-true, eqb-false}
 use Rattle.std.proofs.lemmas.List.{append-nil, take_more, take_all, length_push}
 use Rattle.std.specs.Option.{option_to_list}
-use Rattle.sd_model.specs.Names.{cleaned}
-use Rattle.sd_model.proofs.NamesLemmas.{as_key-fits}
+use Rattle.sd_model_text.specs.Names.{cleaned}
+use Rattle.sd_model_text.proofs.NamesLemmas.{as_key-fits}
 use Rattle.sd_key.specs.Clean.{ends_blank}
 use Rattle.sd_key.proofs.CleanLemmas.{ends_blank-push, take-push_room, take-push_full}
 use Rattle.sd_key.proofs.cleaning.clean.Goals as goal

@@ -1,7 +1,7 @@
 -- What one more byte adds, by the kinds of bytes.
 use Rattle.std.proofs.Common.{ap, sym, ◌∙◌, ◌++◌, ne_eqb}
 use Rattle.std.specs.Option.{option_to_list}
-use Rattle.sd_model.specs.Names.{cleaned}
+use Rattle.sd_model_text.specs.Names.{cleaned}
 use Rattle.sd_key.proofs.CleanLemmas.{cleaned-push_blank, cleaned-push_slash, cleaned-push_other}
 use Rattle.sd_key.proofs.cleaning.kept.Goals as goal
 

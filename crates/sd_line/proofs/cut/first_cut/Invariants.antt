@@ -1,5 +1,5 @@
 use Rattle.std.proofs.Common.{◌≡◌, take, drop}
-use Rattle.sd_model.specs.Lists.{cut_at}
+use Rattle.sd_model_text.specs.Lists.{cut_at}
 use Rattle.sd_line.proofs.CutLemmas.{cut_behind}
 use Rattle.sd_line.proofs.cut.first_cut.Given as goal
 

@@ -1,6 +1,6 @@
 use Rattle.std.proofs.Common.{◌∙◌, sym, arith}
-use Rattle.sd_model.specs.Lists.{is_white_space}
-use Rattle.sd_model.proofs.ListLemmas.{trim_end-goes, trim_end-stays}
+use Rattle.sd_model_text.specs.Lists.{is_white_space}
+use Rattle.sd_model_text.proofs.ListLemmas.{trim_end-goes, trim_end-stays}
 use Rattle.sd_line.proofs.cut.trimmed.Goals as goal
 
 pub loop-rest-preserved : goal.loop-rest-preserved

@@ -1,5 +1,5 @@
 use Rattle.std.proofs.Common.{◌≡◌, length}
-use Rattle.sd_model.specs.Lists.{is_white_space, trim_end}
+use Rattle.sd_model_text.specs.Lists.{is_white_space, trim_end}
 use Rattle.sd_line.proofs.cut.trimmed.Given as goal
 
 abbrev pub invariant-loop-rest : goal.invariant-loop-rest

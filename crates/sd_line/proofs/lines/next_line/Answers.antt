@@ -1,5 +1,5 @@
 use Rattle.std.proofs.Common.{ℕ, List, ◌∙◌, sym, ap}
-use Rattle.sd_model.specs.Lines.{pieces}
+use Rattle.sd_model_text.specs.Lines.{pieces}
 use Rattle.sd_line.specs.Cut.{cut_view}
 use Rattle.sd_line.specs.Pieces.{with_line}
 use Rattle.sd_line.proofs.LineLemmas.{first_line, last_line}

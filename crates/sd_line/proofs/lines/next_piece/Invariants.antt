@@ -1,5 +1,5 @@
 use Rattle.std.proofs.Common.{◌≡◌, length}
-use Rattle.sd_model.specs.Lines.{pieces}
+use Rattle.sd_model_text.specs.Lines.{pieces}
 use Rattle.sd_line.proofs.lines.next_piece.Given as goal
 
 abbrev pub invariant-loop-rest : goal.invariant-loop-rest

@@ -1,6 +1,6 @@
 use Rattle.std.proofs.Common.{ℕ, not, eqb, List, Some, ◌∙◌, sym, ap}
 use Rattle.std.specs.Cmp.Lexicographic.{pointwise}
-use Rattle.sd_model.specs.Lines.{Sample}
+use Rattle.sd_model_text.specs.Lines.{Sample}
 use Rattle.sd_line.specs.Cut.{cut_view}
 use Rattle.sd_line.proofs.PieceLemmas.{no_bar, other_kind, bad_count, good_fields, same_sample, not_false}
 use Rattle.sd_line.proofs.piece.sample_of_name.Goals as goal

@@ -1,7 +1,7 @@
 use Rattle.std.proofs.Common.{◌≡◌, length, sym, subst, ap, inr, ◌∙◌, arith}
 use Rattle.std.proofs.Math.Seq.{take-length}
-use Rattle.sd_model.specs.Graphite.{graphite_text}
-use Rattle.sd_model.specs.Outside.{appended, begun}
+use Rattle.sd_model_record.specs.Graphite.{graphite_text}
+use Rattle.sd_model_outside.specs.Outside.{appended, begun}
 use Rattle.sd_record.specs.Record.{record_view}
 use Rattle.sd_replay.proofs.deliver.deliver.Goals as goal
 

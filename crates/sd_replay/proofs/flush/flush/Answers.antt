@@ -1,8 +1,8 @@
 use Rattle.std.proofs.Common.{◌≡◌, [], ◌∷◌, subst, ap, ◌∙◌}
-use Rattle.sd_model.specs.Graphite.{graphite_text}
-use Rattle.sd_model.specs.Record.{record_of}
-use Rattle.sd_model.specs.Replay.{AfterMark}
-use Rattle.sd_model.specs.Shard.{table_of}
+use Rattle.sd_model_record.specs.Graphite.{graphite_text}
+use Rattle.sd_model_record.specs.Record.{record_of}
+use Rattle.sd_model_replay.specs.Replay.{AfterMark}
+use Rattle.sd_model_shard.specs.Shard.{table_of}
 use Rattle.sd_record.specs.Record.{record_view}
 use Rattle.sd_record.specs.Tally.{tally_of}
 use Rattle.sd_shard.specs.Shard.{state_of}

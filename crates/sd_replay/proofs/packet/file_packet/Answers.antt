@@ -1,5 +1,5 @@
 use Rattle.std.proofs.Common.{arith}
-use Rattle.sd_model.proofs.PieceCounts.{length-pieces}
+use Rattle.sd_model_text.proofs.PieceCounts.{length-pieces}
 use Rattle.sd_replay.proofs.packet.file_packet.Goals as goal
 
 pub overflow_add-filed : goal.overflow_add-filed

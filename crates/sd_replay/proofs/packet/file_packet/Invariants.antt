@@ -1,7 +1,7 @@
 use Rattle.std.proofs.Common.{◌≡◌, ℕ, ◌+◌, ◌≤◌, List, length}
 use Rattle.std.specs.Prelude.{filter_map}
-use Rattle.sd_model.specs.Lines.{pieces, samples_of, sample_of}
-use Rattle.sd_model.specs.Shard.{after_samples, answers_to, drops}
+use Rattle.sd_model_text.specs.Lines.{pieces, samples_of, sample_of}
+use Rattle.sd_model_shard.specs.Shard.{after_samples, answers_to, drops}
 use Rattle.sd_shard.specs.Shard.{Standing, state_of}
 use Rattle.sd_replay.proofs.packet.file_packet.Given as goal
 

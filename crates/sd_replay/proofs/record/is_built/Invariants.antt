@@ -1,7 +1,7 @@
 use Rattle.std.proofs.Common.{◌↔◌, length}
 use Rattle.std.specs.Prelude.{IsSome}
 use Rattle.std.specs.List.{AllByRecursion}
-use Rattle.sd_model.specs.Lines.{sample_of}
+use Rattle.sd_model_text.specs.Lines.{sample_of}
 use Rattle.sd_replay.specs.Found.{HasBuiltPieces}
 use Rattle.sd_replay.proofs.record.is_built.Given as goal
 

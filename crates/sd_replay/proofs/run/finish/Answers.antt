@@ -1,6 +1,6 @@
 -- The totals that couldn't be written whole are those of the state.
 use Rattle.std.proofs.Common.{Result, Ok, Err, OnErr, subst}
-use Rattle.sd_model.specs.Replay.{totals_text}
+use Rattle.sd_model_replay.specs.Replay.{totals_text}
 use Rattle.sd_outside.specs.Write.{AppendsFront}
 use Rattle.sd_replay.proofs.run.finish.Goals as goal
 

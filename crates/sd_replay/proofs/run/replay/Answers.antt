@@ -1,16 +1,16 @@
 use Rattle.std.proofs.Common.{◌≡◌, ◌≤◌, ℕ, List, [], ◌∷◌, ◌++◌, sym, subst, ap, ◌∙◌, refl, arith}
 use Rattle.std.specs.Prelude.{IfSome}
-use Rattle.sd_model.specs.Desk.{Desk, with_tally}
-use Rattle.sd_model.specs.Outside.{Rose, appended}
-use Rattle.sd_model.specs.Graphite.{graphite_text}
-use Rattle.sd_model.specs.Record.{record_of}
-use Rattle.sd_model.specs.Lines.{samples_of}
-use Rattle.sd_model.specs.Replay.{AfterMark, FaultsAfter, PlayedFlush, PlayedPacket, Run, default_settings, packet_tally, totals_of, totals_text}
-use Rattle.sd_model.specs.Script.{BeginsBuilt, end_word}
-use Rattle.sd_model.specs.AccountingTheorem.{Seen}
-use Rattle.sd_model.specs.Run.{Replayed}
-use Rattle.sd_model.specs.Shard.{Limits, State, after_samples, after_swap, answers_to, drops, table_of}
-use Rattle.sd_model.proofs.OutsideLemmas.{Reads-append}
+use Rattle.sd_model_record.specs.Desk.{Desk, with_tally}
+use Rattle.sd_model_outside.specs.Outside.{Rose, appended}
+use Rattle.sd_model_record.specs.Graphite.{graphite_text}
+use Rattle.sd_model_record.specs.Record.{record_of}
+use Rattle.sd_model_text.specs.Lines.{samples_of}
+use Rattle.sd_model_replay.specs.Replay.{AfterMark, FaultsAfter, PlayedFlush, PlayedPacket, Run, default_settings, packet_tally, totals_of, totals_text}
+use Rattle.sd_model_replay.specs.Script.{BeginsBuilt, end_word}
+use Rattle.sd_model_replay.specs.AccountingTheorem.{Seen}
+use Rattle.sd_model_replay.specs.Run.{Replayed}
+use Rattle.sd_model_shard.specs.Shard.{Limits, State, after_samples, after_swap, answers_to, drops, table_of}
+use Rattle.sd_model_outside.proofs.OutsideLemmas.{Reads-append}
 use Rattle.sd_outside.specs.Write.{AppendsFront}
 use Rattle.sd_shard.specs.Shard.{Standing, state_of}
 use Rattle.sd_replay.specs.Ends.{end_of}

@@ -1,7 +1,7 @@
 use Rattle.std.proofs.Common.{◌≡◌, ◌≤◌, ℕ, List, Option}
-use Rattle.sd_model.specs.Outside.{Written}
-use Rattle.sd_model.specs.Desk.{Desk}
-use Rattle.sd_model.specs.Replay.{default_settings}
+use Rattle.sd_model_outside.specs.Outside.{Written}
+use Rattle.sd_model_record.specs.Desk.{Desk}
+use Rattle.sd_model_replay.specs.Replay.{default_settings}
 use Rattle.sd_shard.specs.Shard.{Standing, state_of}
 use Rattle.sd_shard.specs.Table.{Listing}
 use Rattle.sd_replay.specs.Reading.{Reading, left}

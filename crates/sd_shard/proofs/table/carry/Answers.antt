@@ -1,6 +1,6 @@
 use Rattle.std.proofs.Common.{◌+◌, List, length, refl, take, map, sym, ap, subst, ◌∙◌, arith}
 use Rattle.std.specs.FinMap.{contains_key, insert, from_entries}
-use Rattle.sd_model.specs.Shard.{RowId, Kept, Rows, row_cmp}
+use Rattle.sd_model_shard.specs.Shard.{RowId, Kept, Rows, row_cmp}
 use Rattle.sd_shard.specs.Limits.{policy_of}
 use Rattle.sd_shard.specs.Table.{Listing, row_view}
 use Rattle.sd_shard.proofs.CarryLemmas.{carried-empty, carried-absent, absent_before, step_keeps, step_drops}

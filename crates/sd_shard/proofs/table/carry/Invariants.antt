@@ -1,5 +1,5 @@
 use Rattle.std.proofs.Common.{◌≡◌, ℕ, ◌≤◌, List, length, take}
-use Rattle.sd_model.specs.Shard.{Policy, carried}
+use Rattle.sd_model_shard.specs.Shard.{Policy, carried}
 use Rattle.sd_shard.specs.Limits.{policy_of}
 use Rattle.sd_shard.specs.Table.{Listing, live_of, live_rows}
 use Rattle.sd_shard.specs.declared.table.Row.{Row}

@@ -1,7 +1,7 @@
 use Rattle.std.proofs.Common.{◌≡◌, ℕ, ◌+◌, ◌*◌, ◌^◌, ◌≤◌, ℤ, ◌+ℤ◌, List, length, drop, map, fold}
 use Rattle.std.specs.Prelude.{unsigned_abs}
-use Rattle.sd_model.specs.Numbers.{weight}
-use Rattle.sd_model.specs.Shard.{RowId, entries_of, counter_value}
+use Rattle.sd_model_text.specs.Numbers.{weight}
+use Rattle.sd_model_shard.specs.Shard.{RowId, entries_of, counter_value}
 use Rattle.sd_shard.specs.Table.{id_of, entry_view}
 use Rattle.sd_shard.specs.declared.table.Entry.{Entry}
 use Rattle.sd_shard.proofs.table.tally_of.Given as goal

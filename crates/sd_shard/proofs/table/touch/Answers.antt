@@ -1,7 +1,7 @@
 use Rattle.std.proofs.Common.{◌+◌, cond, map, sym, ap, ◌∙◌, arith, add-zero}
 use Rattle.std.specs.FinMap.{insert}
 use Rattle.std.proofs.lemmas.List.{length-map}
-use Rattle.sd_model.specs.Shard.{RowId, Kept}
+use Rattle.sd_model_shard.specs.Shard.{RowId, Kept}
 use Rattle.sd_shard.specs.Table.{id_of, row_view, live_rows}
 use Rattle.sd_shard.proofs.ListingLemmas.{place_below}
 use Rattle.sd_shard.proofs.RowChanges.{live-fresh, apart-fresh, live-new, listed_place, place_in, absent_in}

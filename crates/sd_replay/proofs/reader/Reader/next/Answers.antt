@@ -1,7 +1,7 @@
 use Rattle.std.proofs.Common.{◌≡◌, ℕ, ◌+◌, Option, None, List, take, drop, subst, sym, ap, ◌∙◌, arith}
 use Rattle.std.specs.Prelude.{IfSome}
-use Rattle.sd_model.specs.Script.{BeginsBuilt}
-use Rattle.sd_model.specs.Undecided.{IsDecided}
+use Rattle.sd_model_replay.specs.Script.{BeginsBuilt}
+use Rattle.sd_model_replay.specs.Undecided.{IsDecided}
 use Rattle.sd_replay.proofs.ReaderLemmas.{ReadsPacket-from, ReadsFlush-from}
 use Rattle.sd_replay.specs.Ahead.{held_in, left_behind}
 use Rattle.sd_replay.specs.Reading.{Reading}

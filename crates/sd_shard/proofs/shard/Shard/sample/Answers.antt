@@ -1,6 +1,6 @@
 use Rattle.std.proofs.Common.{◌≡◌, sym, subst}
 use Rattle.std.specs.Prelude.{None}
-use Rattle.sd_model.specs.Shard.{refusal}
+use Rattle.sd_model_shard.specs.Shard.{refusal}
 use Rattle.sd_shard.specs.Shard.{Standing, state_of}
 use Rattle.sd_shard.specs.ShardInside.{standing_of}
 use Rattle.sd_shard.proofs.ListingLemmas.{room_for_row}

@@ -1,5 +1,5 @@
 use Rattle.std.proofs.Common.{map, ap, ◌∙◌}
-use Rattle.sd_model.specs.Shard.{RowId, Kept}
+use Rattle.sd_model_shard.specs.Shard.{RowId, Kept}
 use Rattle.sd_shard.specs.Table.{id_of, row_view, listed_with}
 use Rattle.sd_shard.proofs.TableLemmas.{listed_by}
 use Rattle.sd_shard.proofs.table.Table.keep_row.Goals as goal

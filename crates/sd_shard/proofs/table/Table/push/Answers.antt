@@ -1,8 +1,8 @@
 use Rattle.std.proofs.Common.{◌≡◌, ◌<◌, false, length, map, sym, subst, arith}
 use Rattle.std.proofs.lemmas.List.{length-map}
 use Rattle.std.specs.FinMap.{contains_key, len}
-use Rattle.sd_model.specs.Lines.{Sample}
-use Rattle.sd_model.specs.Shard.{row_of}
+use Rattle.sd_model_text.specs.Lines.{Sample}
+use Rattle.sd_model_shard.specs.Shard.{row_of}
 use Rattle.sd_shard.specs.Table.{Listing, live_of, id_of, row_view, entry_view, listed_with}
 use Rattle.sd_shard.proofs.RowChanges.{room_left}
 use Rattle.sd_shard.proofs.TableLemmas.{room_by}

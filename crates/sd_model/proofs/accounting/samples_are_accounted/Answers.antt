@@ -1,6 +1,0 @@
--- By the records, from the first run on.
-use Rattle.sd_model.proofs.AccountingLemmas.{accounted}
-use Rattle.sd_model.proofs.accounting.samples_are_accounted.Goals as goal
-
-pub returns : goal.returns
-returns c settings played = accounted settings played

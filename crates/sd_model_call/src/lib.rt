@@ -1,0 +1,9 @@
+//! The definitions of a call: its words, what it answers and why, and what it has to come to where nothing
+//! stands in its way. The functions have no code, and each states a law of the definitions.
+#![tactic(auto)]
+
+mod completeness;
+
+pub use completeness::{
+    no_fault_no_failure, unhindered_calls_complete, unhindered_replays_complete,
+};

@@ -1,0 +1,90 @@
+-- The desk: what the server counts of itself.
+use Rattle.std.specs.Prelude.{ℕ, ◌+◌, ◌^◌, min, Bool, true, false}
+use Rattle.sd_model_record.specs.Record.{Tally}
+
+-- counts stop at 2 ^ 63
+abbrev pub counted : ℕ → ℕ → ℕ
+counted n more = min (n + more) (2 ^ 63)
+
+abbrev pub no_tally : Tally
+no_tally = record { packets = 0; lines = 0; bad = 0; dropped = 0 }
+
+abbrev pub add_tally : Tally → Tally → Tally
+add_tally a b =
+    record {
+      packets = counted a.packets b.packets;
+      lines = counted a.lines b.lines;
+      bad = counted a.bad b.bad;
+      dropped = counted a.dropped b.dropped;
+    }
+
+-- How a backend took part in a flush.
+pub data Mark : Type 0 where
+  NotUsed : Mark
+  Written : Mark
+  Fault : Mark
+
+-- the marks of a flush
+pub record Marks : Type 0 where
+  pub graphite : Mark
+  pub console : Mark
+
+-- what a mark counts as a fault
+abbrev pub fault_of : Mark → ℕ
+fault_of NotUsed = 0
+fault_of Written = 0
+fault_of Fault = 1
+
+-- whether a mark says that the whole text was written
+abbrev pub is_written : Mark → Bool
+is_written NotUsed = false
+is_written Written = true
+is_written Fault = false
+
+-- the tally since it was last taken, and the totals since the start
+pub record Desk : Type 0 where
+  pub tally : Tally
+  pub totals : Tally
+  pub rounds : ℕ
+  pub graphite_faults : ℕ
+  pub console_faults : ℕ
+
+abbrev pub new_desk : Desk
+new_desk = record { tally = no_tally; totals = no_tally; rounds = 0; graphite_faults = 0; console_faults = 0 }
+
+-- after a datagram was counted
+abbrev pub with_tally : Desk → Tally → Desk
+with_tally d t =
+    record {
+      tally = add_tally d.tally t;
+      totals = add_tally d.totals t;
+      rounds = d.rounds;
+      graphite_faults = d.graphite_faults;
+      console_faults = d.console_faults;
+    }
+
+-- after the tally was taken
+abbrev pub taken : Desk → Desk
+taken d =
+    record {
+      tally = no_tally;
+      totals = d.totals;
+      rounds = d.rounds;
+      graphite_faults = d.graphite_faults;
+      console_faults = d.console_faults;
+    }
+
+-- after the marks of a flush
+abbrev pub marked : Desk → Marks → Desk
+marked d m =
+    record {
+      tally = d.tally;
+      totals = d.totals;
+      rounds = counted d.rounds 1;
+      graphite_faults = counted d.graphite_faults (fault_of m.graphite);
+      console_faults = counted d.console_faults (fault_of m.console);
+    }
+
+-- after a flush, which takes the tally and leaves its marks
+abbrev pub with_round : Desk → Marks → Desk
+with_round d m = marked (taken d) m

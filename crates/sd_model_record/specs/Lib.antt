@@ -1,0 +1,3 @@
+pub mod Record
+pub mod Desk
+pub mod Graphite

@@ -1,0 +1,90 @@
+-- A script has one reading.
+use Rattle.std.proofs.Common.{◌≡◌, ℕ, ◌^◌, ◌<◌, List, [], ◌∷◌, ◌++◌, length, get_or, drop, decimal, refl, sym, ap, ◌∙◌, arith, append_assoc, append-nil, inl, inr}
+use Rattle.std.specs.List.{AllByRecursion}
+use Rattle.std.proofs.lemmas.Fmt.{decimal_injective}
+use Rattle.sd_model_replay.specs.Script.{Command, Packet, Flush, spelled, end_word, script_text, IsBuilt, BeginsBuilt}
+use Rattle.sd_model_text.proofs.Cuts.{same_cut, same_parts}
+use Rattle.sd_model_text.proofs.Digits.{Lacks-decimal}
+
+-- a number's text and a byte that is no digit tell the number
+number_cut : (byte m n : ℕ) (r s : List ℕ) → byte < 48 → m < 2 ^ 64 → n < 2 ^ 64 → decimal m ++ byte ∷ r ≡ decimal n ++ byte ∷ s → (m ≡ n) × (r ≡ s)
+number_cut byte m n r s low first second same =
+    let cut = same_cut byte (decimal m) r (decimal n) s (Lacks-decimal byte m low first) (Lacks-decimal byte n low second) same in
+    (decimal_injective m n first second cut.0, cut.1)
+
+-- the parts of a packet's text
+abbrev packet_text : ℕ → ℕ → List ℕ → List ℕ → List ℕ
+packet_text who moment datagram rest = decimal who ++ 32 ∷ (decimal moment ++ 32 ∷ (decimal (length datagram) ++ 10 ∷ (datagram ++ 10 ∷ rest)))
+
+packet_parts : (who moment : ℕ) (datagram rest : List ℕ) → spelled (Packet who moment datagram) ++ rest ≡ 80 ∷ 32 ∷ packet_text who moment datagram rest
+packet_parts who moment datagram rest = simp append_assoc
+
+flush_parts : (ts : ℕ) (rest : List ℕ) → spelled (Flush ts) ++ rest ≡ 70 ∷ 32 ∷ (decimal ts ++ 10 ∷ rest)
+flush_parts ts rest = simp append_assoc
+
+first_byte : (xs ys : List ℕ) → xs ≡ ys → get_or xs 0 0 ≡ get_or ys 0 0
+first_byte xs ys same = ap (λ zs. get_or zs 0 0) same
+
+one_packet : (who moment who' moment' : ℕ) (datagram datagram' r s : List ℕ) → IsBuilt (Packet who moment datagram) → IsBuilt (Packet who' moment' datagram')
+    → packet_text who moment datagram r ≡ packet_text who' moment' datagram' s → (Packet who moment datagram ≡ Packet who' moment' datagram') × (r ≡ s)
+one_packet who moment who' moment' datagram datagram' r s a b same =
+    let first = number_cut 32 who who' _ _ (omega arith) (omega (arith, a.0)) (omega (arith, b.0)) same in
+    let second = number_cut 32 moment moment' _ _ (omega arith) (omega (arith, a.1)) (omega (arith, b.1)) first.1 in
+    let third = number_cut 10 (length datagram) (length datagram') _ _ (omega arith) (omega (arith, a.2)) (omega (arith, b.2)) second.1 in
+    let parts = same_parts datagram (10 ∷ r) datagram' (10 ∷ s) third.0 third.1 in
+    let w : who ≡ who' = first.0 in
+    let m : moment ≡ moment' = second.0 in
+    let d : datagram ≡ datagram' = parts.0 in
+    let behind : 10 ∷ r ≡ 10 ∷ s = parts.1 in
+    (cc, cc)
+
+-- bytes begin with one built record at most
+pub one_record : (c d : Command) (r s : List ℕ) → IsBuilt c → IsBuilt d → spelled c ++ r ≡ spelled d ++ s → (c ≡ d) × (r ≡ s)
+one_record (Packet who moment datagram) (Packet who' moment' datagram') r s a b same =
+    one_packet who moment who' moment' datagram datagram' r s a b (ap (drop 2) (sym (packet_parts who moment datagram r) ∙ same ∙ packet_parts who' moment' datagram' s))
+one_record (Packet who moment datagram) (Flush ts) r s a b same = absurd (omega (arith, first_byte _ _ same))
+one_record (Flush ts) (Packet who moment datagram) r s a b same = absurd (omega (arith, first_byte _ _ same))
+one_record (Flush ts) (Flush ts') r s a b same =
+    let cut = number_cut 10 ts ts' r s (omega arith) (omega (arith, a)) (omega (arith, b)) (ap (drop 2) (sym (flush_parts ts r) ∙ same ∙ flush_parts ts' s)) in
+    (ap Flush cut.0, cut.1)
+
+-- no record begins as the end does
+not_end : (c : Command) (r s : List ℕ) → spelled c ++ r ≡ end_word ++ s → ⊥
+not_end (Packet who moment datagram) r s same = absurd (omega (arith, first_byte _ _ same))
+not_end (Flush ts) r s same = absurd (omega (arith, first_byte _ _ same))
+
+-- What stands behind some records of a script that is built as far as its end.
+pub record Behind (commands front : List Command) (rest left : List ℕ) : Type 0 where
+  pub behind : List Command
+  pub whole : commands ≡ front ++ behind
+  pub built : AllByRecursion IsBuilt behind
+  pub stands : left ≡ script_text behind ++ (end_word ++ rest)
+
+-- records that stand at the front of a script are its first records
+pub one_script : (commands front : List Command) (rest left : List ℕ) → AllByRecursion IsBuilt commands → AllByRecursion IsBuilt front
+    → script_text commands ++ (end_word ++ rest) ≡ script_text front ++ left → Behind commands front rest left
+one_script commands [] rest left built other same = record { behind = commands; whole = refl; built = built; stands = sym same }
+one_script [] (d ∷ front) rest left built other same = absurd (not_end d (script_text front ++ left) rest (sym (same ∙ append_assoc (spelled d) (script_text front) left)))
+one_script (c ∷ commands) (d ∷ front) rest left built other same =
+    let one = one_record c d (script_text commands ++ (end_word ++ rest)) (script_text front ++ left) built.0 other.0
+    (sym (append_assoc (spelled c) (script_text commands) (end_word ++ rest)) ∙ same ∙ append_assoc (spelled d) (script_text front) left) in
+    let h = one_script commands front rest left built.1 other.1 one.1 in
+    record { behind = h.behind; whole = ap (λ x. x ∷ commands) one.0 ∙ ap (λ xs. d ∷ xs) h.whole; built = h.built; stands = h.stands }
+
+-- and all of them where the end stands behind
+pub one_end : (commands : List Command) (rest other : List ℕ) → end_word ++ other ≡ script_text commands ++ (end_word ++ rest) → (commands ≡ []) × (other ≡ rest)
+one_end [] rest other same = (refl, ap (drop 2) same)
+one_end (c ∷ commands) rest other same = absurd (not_end c (script_text commands ++ (end_word ++ rest)) other (sym (same ∙ append_assoc (spelled c) (script_text commands) (end_word ++ rest))))
+
+-- a built record, or the end, stands behind
+pub begins : (commands : List Command) (rest : List ℕ) → AllByRecursion IsBuilt commands → BeginsBuilt (script_text commands ++ (end_word ++ rest))
+begins [] rest built = inr (rest, refl)
+begins (c ∷ commands) rest built = inl (c, script_text commands ++ (end_word ++ rest), built.0, append_assoc (spelled c) (script_text commands) (end_word ++ rest))
+
+-- two scripts that are built as far as their ends are one
+pub same_script : (commands others : List Command) (rest left : List ℕ) → AllByRecursion IsBuilt commands → AllByRecursion IsBuilt others
+    → script_text commands ++ (end_word ++ rest) ≡ script_text others ++ (end_word ++ left) → (commands ≡ others) × (rest ≡ left)
+same_script commands others rest left built other same =
+    let h = one_script commands others rest (end_word ++ left) built other same in
+    let last = one_end h.behind rest left h.stands in
+    (h.whole ∙ ap (λ cs. others ++ cs) last.0 ∙ append-nil others, sym last.1)

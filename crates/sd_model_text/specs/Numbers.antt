@@ -1,0 +1,93 @@
+-- Numbers are whole millionths: 1 stands for 0.000001.
+use Rattle.std.specs.Prelude.{ℕ, ◌+◌, ◌*◌, ◌/◌, ◌%◌, ◌^◌, ◌==◌, ◌&&◌, ◌||◌, Bool, false, nat_lt, nat_le, if◌then◌else◌, ℤ, pos, negsuc, ◌*ℤ◌, List, [], ◌∷◌, ◌++◌, length, map, Result, Ok, Err}
+use Rattle.std.proofs.Common.{suc, neg_ℤ}
+use Rattle.std.specs.Char.{is_ascii_digit}
+use Rattle.std.specs.Fmt.{decimal}
+use Rattle.std.specs.List.{list_all, before_first, after_first}
+use Rattle.std.specs.Str.Parse.{digits_value}
+use Rattle.sd_model_text.specs.Lists.{trim_end}
+
+-- the natural number nearest to a / b, and in a tie the greater one
+abbrev pub rounded : ℕ → ℕ → ℕ
+rounded a b = (2 * a + b) / (2 * b)
+
+-- the whole number nearest to a / b, and in a tie the one of greater magnitude
+abbrev pub round : ℤ → ℕ → ℤ
+round (pos a) b = pos (rounded a b)
+round (negsuc a) b = neg_ℤ (pos (rounded (suc a) b))
+
+-- the value of one sample by its own rate: v / r
+abbrev pub weight : ℤ → ℕ → ℤ
+weight v r = round (v *ℤ pos 1000000) r
+
+-- a total per second, over an interval in milliseconds
+abbrev pub per_second : ℤ → ℕ → ℤ
+per_second total interval_ms = round (total *ℤ pos 1000) interval_ms
+
+-- the six digits of a fraction of one
+abbrev pub six_digits : ℕ → List ℕ
+six_digits n = map (λ unit. 48 + n / unit % 10) (100000 ∷ 10000 ∷ 1000 ∷ 100 ∷ 10 ∷ 1 ∷ [])
+
+-- a point before the digits, or nothing where there are none
+abbrev pub behind_point : List ℕ → List ℕ
+behind_point [] = []
+behind_point (d ∷ ds) = 46 ∷ d ∷ ds
+
+-- the text of a magnitude: its whole part, and its fraction without trailing zeros
+abbrev pub magnitude_text : ℕ → List ℕ
+magnitude_text n = decimal (n / 1000000) ++ behind_point (trim_end (λ d. d == 48) (six_digits (n % 1000000)))
+
+-- the text of a number
+abbrev pub number_text : ℤ → List ℕ
+number_text (pos n) = magnitude_text n
+number_text (negsuc n) = 45 ∷ magnitude_text (suc n)
+
+-- Why a text is no number: its form, or a magnitude over 10^12.
+pub data NumberFlaw : Type 0 where
+  BadShape : NumberFlaw
+  BadRange : NumberFlaw
+
+-- the code of `.`
+abbrev pub is_point : ℕ → Bool
+is_point b = b == 46
+
+-- the number of these digits before and behind a point: the exact fraction, rounded once to millionths
+abbrev pub exact_magnitude : List ℕ → List ℕ → ℕ
+exact_magnitude whole fraction = rounded (digits_value 10 (whole ++ fraction) * 1000000) (10 ^ length fraction)
+
+-- at least one digit, and nothing else
+abbrev pub is_digits : List ℕ → Bool
+is_digits text = list_all is_ascii_digit text && nat_lt 0 (length text)
+
+-- a magnitude that is at most 10^12
+abbrev pub within_range : ℕ → Result ℕ NumberFlaw
+within_range n = if nat_le n (10 ^ 18) then Ok n else Err BadRange
+
+-- the magnitude of the two sides of a point
+abbrev pub magnitude_of_sides : List ℕ → List ℕ → Result ℕ NumberFlaw
+magnitude_of_sides whole fraction =
+    if is_digits (whole ++ fraction) then within_range (exact_magnitude whole fraction) else Err BadShape
+
+-- the magnitude of a number text without a sign: digits with at most one point among, before or after them
+abbrev pub decimal_magnitude : List ℕ → Result ℕ NumberFlaw
+decimal_magnitude text = magnitude_of_sides (before_first is_point text) (after_first is_point text)
+
+-- whether a text begins with `-`
+abbrev pub has_minus : List ℕ → Bool
+has_minus [] = false
+has_minus (b ∷ bs) = b == 45
+
+-- a text behind its sign, `+` or `-`, where it has one
+abbrev pub without_sign : List ℕ → List ℕ
+without_sign [] = []
+without_sign (b ∷ bs) = if b == 45 || b == 43 then bs else b ∷ bs
+
+-- a magnitude with its sign
+abbrev pub with_sign : Bool → Result ℕ NumberFlaw → Result ℤ NumberFlaw
+with_sign is_negative (Ok n) = Ok (if is_negative then neg_ℤ (pos n) else pos n)
+with_sign is_negative (Err flaw) = Err flaw
+
+-- The value of a number text, an optional sign before digits with at most one point: the exact decimal,
+-- rounded once to millionths, half away from zero.
+abbrev pub decimal_value : List ℕ → Result ℤ NumberFlaw
+decimal_value text = with_sign (has_minus text) (decimal_magnitude (without_sign text))
