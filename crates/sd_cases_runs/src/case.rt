@@ -1,0 +1,157 @@
+use crate::refusal::Refusal;
+use crate::text::{bytes_of, number};
+use sd_outside::{Backs, MemBackend, MemSink, MemSource};
+use sd_top::World;
+use std::alloc::Global;
+use std::str;
+
+/// The objects of a run, in memory.
+pub(crate) type MemWorld = World<MemSource, MemSink, MemBackend>;
+
+/// A call on an object.
+#[derive(Clone, Copy, Debug)]
+enum Call {
+    OpenSettings,
+    ReadSettings,
+    OpenScript,
+    ReadScript,
+    OpenGraphite,
+    Begin,
+    Write,
+    Finish,
+    WriteOutput,
+}
+
+/// A call that is to fail, by its number from 1.
+#[derive(Clone, Copy, Debug)]
+struct Failing {
+    call: Call,
+    number: u64,
+}
+
+/// What a run is given.
+#[derive(Debug, Drop)]
+pub(crate) struct Case {
+    pub words: Vec<String>,
+    pub settings: Vec<u8>,
+    pub script: Vec<u8>,
+    output_bytes: usize,
+    graphite_bytes: usize,
+    graphite_lists: usize,
+    failing: Vec<Failing>,
+}
+
+impl Case {
+    /// The case that is written as `WORDS : PARTS`. Without parts nothing is in the files, no call fails, and there
+    /// is room for 1,024 bytes of output, and 4,096 bytes in 4 lists of Graphite.
+    ///
+    /// # Errors
+    ///
+    /// `Malformed` where a part is of no form, and `OutOfMemory`.
+    pub(crate) fn of(alloc: Global, parts: &[&str]) -> Result<Case, Refusal> {
+        let mut case = Case {
+            words: Vec::new(alloc),
+            settings: Vec::new(alloc),
+            script: Vec::new(alloc),
+            output_bytes: 1024,
+            graphite_bytes: 4096,
+            graphite_lists: 4,
+            failing: Vec::new(alloc),
+        };
+        let mut are_words = true;
+        for part in parts {
+            if !are_words {
+                case.set(alloc, part)?;
+            } else if *part == ":" {
+                are_words = false;
+            } else {
+                case.words.push(word_of(alloc, part)?)?;
+            }
+        }
+        Ok(case)
+    }
+
+    /// Takes a part: `settings=TEXT`, `script=TEXT`, `output=BYTES`, `graphite=BYTES/LISTS` or `fail=CALL:NUMBER`.
+    fn set(&mut self, alloc: Global, part: &str) -> Result<(), Refusal> {
+        match part.split_once('=') {
+            Some(("settings", text)) => self.settings = bytes_of(alloc, text)?,
+            Some(("script", text)) => self.script = bytes_of(alloc, text)?,
+            Some(("output", bytes)) => self.output_bytes = number(bytes)?,
+            Some(("graphite", room)) => {
+                let (bytes, lists) = room.split_once('/').ok_or(Refusal::Malformed)?;
+                self.graphite_bytes = number(bytes)?;
+                self.graphite_lists = number(lists)?;
+            }
+            Some(("fail", failing)) => {
+                let (call, place) = failing.split_once(':').ok_or(Refusal::Malformed)?;
+                self.failing.push(Failing {
+                    call: call_of(call)?,
+                    number: number(place)?,
+                })?;
+            }
+            _ => return Err(Refusal::Malformed),
+        }
+        Ok(())
+    }
+
+    /// The objects of the run.
+    pub(crate) fn world(&self, alloc: Global) -> Result<MemWorld, Refusal> {
+        let mut world = World {
+            settings: MemSource::of(self.settings.clone()?),
+            script: MemSource::of(self.script.clone()?),
+            output: MemSink::open(alloc, self.output_bytes)?,
+            backs: Backs {
+                graphite: MemBackend::open(alloc, self.graphite_bytes, self.graphite_lists)?,
+                console: MemBackend::open(alloc, 0, 0)?,
+                graphite_used: false,
+                console_used: true,
+            },
+        };
+        for failing in &self.failing {
+            fail(&mut world, *failing)?;
+        }
+        Ok(world)
+    }
+}
+
+/// The call that a word names.
+fn call_of(word: &str) -> Result<Call, Refusal> {
+    match word {
+        "open_settings" => Ok(Call::OpenSettings),
+        "read_settings" => Ok(Call::ReadSettings),
+        "open_script" => Ok(Call::OpenScript),
+        "read_script" => Ok(Call::ReadScript),
+        "open_graphite" => Ok(Call::OpenGraphite),
+        "begin" => Ok(Call::Begin),
+        "write" => Ok(Call::Write),
+        "finish" => Ok(Call::Finish),
+        "write_output" => Ok(Call::WriteOutput),
+        _ => Err(Refusal::Malformed),
+    }
+}
+
+/// Has a call fail.
+fn fail(world: &mut MemWorld, failing: Failing) -> Result<(), Refusal> {
+    let number = failing.number;
+    match failing.call {
+        Call::OpenSettings => world.settings.fail_open.push(number)?,
+        Call::ReadSettings => world.settings.fail_call.push(number)?,
+        Call::OpenScript => world.script.fail_open.push(number)?,
+        Call::ReadScript => world.script.fail_call.push(number)?,
+        Call::OpenGraphite => world.backs.graphite.fail_open.push(number)?,
+        Call::Begin => world.backs.graphite.fail_begin.push(number)?,
+        Call::Write => world.backs.graphite.fail_call.push(number)?,
+        Call::Finish => world.backs.graphite.fail_finish.push(number)?,
+        Call::WriteOutput => world.output.fail_call.push(number)?,
+    }
+    Ok(())
+}
+
+/// The word of a command line that a word of a case stands for.
+fn word_of(alloc: Global, word: &str) -> Result<String, Refusal> {
+    let bytes = bytes_of(alloc, word)?;
+    let Ok(text) = str::from_utf8(&bytes) else {
+        return Err(Refusal::Malformed);
+    };
+    Ok(String::from_str(alloc, text)?)
+}
