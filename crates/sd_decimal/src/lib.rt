@@ -4,8 +4,6 @@
 mod number;
 mod reading;
 mod rounding;
-#[cfg(test)]
-mod tests;
 mod writing;
 
 pub use number::{Limit, Line, Micro, NumberFault, Sum};

@@ -4,7 +4,5 @@
 mod line;
 mod record;
 mod tail;
-#[cfg(test)]
-mod tests;
 
 pub use record::write_record;

@@ -14,6 +14,3 @@ pub use kind::{Kind, kinds_order};
 pub use part::has_part;
 pub use pattern::{Pattern, matches};
 pub use shard::shard_of;
-
-#[cfg(test)]
-mod tests;

@@ -9,6 +9,3 @@ mod sample;
 pub use lines::Lines;
 pub use piece::Bad;
 pub use sample::{Member, Sample};
-
-#[cfg(test)]
-mod tests;

@@ -22,6 +22,3 @@ pub use mem_source::MemSource;
 pub use opens::{Failed, Faulty, OpenRefusal, Opens};
 pub use sink::{Sink, WriteFault, fronts_join, write_all};
 pub use source::Source;
-
-#[cfg(test)]
-mod tests;

@@ -8,8 +8,6 @@ mod record;
 mod row;
 mod scratch;
 mod tally;
-#[cfg(test)]
-mod tests;
 
 pub use record::Record;
 pub use row::Row;

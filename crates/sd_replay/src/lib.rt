@@ -19,6 +19,3 @@ pub use reader::{Item, Reader};
 pub use room::ReplayRoom;
 pub use run::{ReplayEnd, replay};
 pub use totals::Totals;
-
-#[cfg(test)]
-mod tests;

@@ -8,6 +8,3 @@ mod table;
 pub use limits::{Limits, Policy, Who};
 pub use shard::{Cause, Placed, Shard, ShardBook};
 pub use table::{RowFacts, Table};
-
-#[cfg(test)]
-mod tests;

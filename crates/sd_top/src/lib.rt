@@ -7,6 +7,3 @@ mod words;
 
 pub use call::{World, statsd};
 pub use status::{Part, Status, explain};
-
-#[cfg(test)]
-mod tests;
