@@ -1,5 +1,6 @@
+use crate::answer::Answer;
 use crate::refusal::Refusal;
-use crate::text::{bytes_of, number, shown};
+use crate::text::{bytes_of, number};
 use sd_key::{Key, KeyFault, Kind, Pattern, clean, has_part, matches, shard_of};
 use std::alloc::Global;
 use std::cmp::Ordering;
@@ -45,82 +46,104 @@ pub(crate) fn yes_or_no(answer: bool) -> &'static str {
 }
 
 /// `clean NAME`: its key.
-pub(crate) fn clean_name(alloc: Global, name: &str) -> Result<String, Refusal> {
-    let bytes = bytes_of(alloc, name)?;
-    match clean(&bytes) {
-        Ok(key) => {
-            let text = shown(alloc, key.as_slice())?;
-            Ok(format!(in alloc; " = {text}")?)
-        }
-        Err(KeyFault::Empty) => Ok(String::from_str(alloc, " = fault: empty")?),
-        Err(KeyFault::Long { len }) => Ok(format!(in alloc; " = fault: long {len}")?),
+pub(crate) fn clean_name(alloc: Global, name: &str, out: &mut Answer) -> Result<(), Refusal> {
+    match clean(&bytes_of(alloc, name)?) {
+        Ok(key) => out.bytes(key.as_slice()),
+        Err(KeyFault::Empty) => out.text("fault: empty"),
+        Err(KeyFault::Long { len }) => out.count("fault: long ", len as u64),
     }
+    Ok(())
 }
 
 /// `shard_of KEY SHARDS`: its shard.
-pub(crate) fn shard_of_key(alloc: Global, key: &str, shards: &str) -> Result<String, Refusal> {
-    let key = key_of(alloc, key)?;
+pub(crate) fn shard_of_key(
+    alloc: Global,
+    key: &str,
+    shards: &str,
+    out: &mut Answer,
+) -> Result<(), Refusal> {
     let shards = number::<u16>(shards)?;
     if shards == 0 {
         return Err(Refusal::Condition);
     }
-    let shard = shard_of(&key, shards);
-    Ok(format!(in alloc; " = {shard}")?)
+    out.number(i128::from(shard_of(&key_of(alloc, key)?, shards)));
+    Ok(())
 }
 
 /// `matches PATTERN KEY`: whether it does.
-pub(crate) fn matches_key(alloc: Global, pattern: &str, key: &str) -> Result<String, Refusal> {
-    let bytes = bytes_of(alloc, pattern)?;
-    let Some(pattern) = Pattern::of(&bytes) else {
+pub(crate) fn matches_key(
+    alloc: Global,
+    pattern: &str,
+    key: &str,
+    out: &mut Answer,
+) -> Result<(), Refusal> {
+    let Some(pattern) = Pattern::of(&bytes_of(alloc, pattern)?) else {
         return Err(Refusal::Malformed);
     };
-    let key = key_of(alloc, key)?;
-    let answer = yes_or_no(matches(&pattern, &key));
-    Ok(format!(in alloc; " = {answer}")?)
+    out.text(yes_or_no(matches(&pattern, &key_of(alloc, key)?)));
+    Ok(())
 }
 
 /// `has_part KEY PART`: whether the part stands in it.
-pub(crate) fn has_part_of(alloc: Global, key: &str, part: &str) -> Result<String, Refusal> {
-    let key = key_of(alloc, key)?;
+pub(crate) fn has_part_of(
+    alloc: Global,
+    key: &str,
+    part: &str,
+    out: &mut Answer,
+) -> Result<(), Refusal> {
     let part = bytes_of(alloc, part)?;
-    let answer = yes_or_no(has_part(&key, &part));
-    Ok(format!(in alloc; " = {answer}")?)
+    out.text(yes_or_no(has_part(&key_of(alloc, key)?, &part)));
+    Ok(())
 }
 
 /// `key TEXT`: how long the key with these bytes is, whether it is empty, and the bytes of its clone.
-pub(crate) fn key_with(alloc: Global, text: &str) -> Result<String, Refusal> {
-    let bytes = bytes_of(alloc, text)?;
-    let Some(key) = Key::of(&bytes) else {
-        return Ok(String::from_str(alloc, " = none")?);
+pub(crate) fn key_with(alloc: Global, text: &str, out: &mut Answer) -> Result<(), Refusal> {
+    let Some(key) = Key::of(&bytes_of(alloc, text)?) else {
+        out.text("none");
+        return Ok(());
     };
-    let empty = yes_or_no(key.is_empty());
-    let copy = key.clone()?;
-    let text = shown(alloc, copy.as_slice())?;
-    Ok(format!(in alloc; " = len {}, empty {empty}, {text}", key.len())?)
+    show_name(key.len(), key.is_empty(), key.clone()?.as_slice(), out);
+    Ok(())
 }
 
 /// `pattern TEXT`: how long the pattern with these bytes is, whether it is empty, and the bytes of its clone.
-pub(crate) fn pattern_with(alloc: Global, text: &str) -> Result<String, Refusal> {
-    let bytes = bytes_of(alloc, text)?;
-    let Some(pattern) = Pattern::of(&bytes) else {
-        return Ok(String::from_str(alloc, " = none")?);
+pub(crate) fn pattern_with(alloc: Global, text: &str, out: &mut Answer) -> Result<(), Refusal> {
+    let Some(pattern) = Pattern::of(&bytes_of(alloc, text)?) else {
+        out.text("none");
+        return Ok(());
     };
-    let empty = yes_or_no(pattern.is_empty());
-    let copy = pattern.clone()?;
-    let text = shown(alloc, copy.as_slice())?;
-    Ok(format!(in alloc; " = len {}, empty {empty}, {text}", pattern.len())?)
+    show_name(
+        pattern.len(),
+        pattern.is_empty(),
+        pattern.clone()?.as_slice(),
+        out,
+    );
+    Ok(())
+}
+
+/// Appends a length, whether it is none, and the bytes.
+fn show_name(len: usize, is_empty: bool, bytes: &[u8], out: &mut Answer) {
+    out.count("len ", len as u64);
+    out.text(", empty ");
+    out.text(yes_or_no(is_empty));
+    out.text(", ");
+    out.bytes(bytes);
 }
 
 /// `compare_keys KEY KEY`: their order.
-pub(crate) fn compare_keys(alloc: Global, left: &str, right: &str) -> Result<String, Refusal> {
+pub(crate) fn compare_keys(
+    alloc: Global,
+    left: &str,
+    right: &str,
+    out: &mut Answer,
+) -> Result<(), Refusal> {
     let left = key_of(alloc, left)?;
-    let right = key_of(alloc, right)?;
-    let order = order_word(left.cmp(&right));
-    Ok(format!(in alloc; " = {order}")?)
+    out.text(order_word(left.cmp(&key_of(alloc, right)?)));
+    Ok(())
 }
 
 /// `compare_kinds KIND KIND`: their order.
-pub(crate) fn compare_kinds(alloc: Global, left: &str, right: &str) -> Result<String, Refusal> {
-    let order = order_word(kind_of(left)?.cmp(&kind_of(right)?));
-    Ok(format!(in alloc; " = {order}")?)
+pub(crate) fn compare_kinds(left: &str, right: &str, out: &mut Answer) -> Result<(), Refusal> {
+    out.text(order_word(kind_of(left)?.cmp(&kind_of(right)?)));
+    Ok(())
 }

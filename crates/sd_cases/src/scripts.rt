@@ -1,8 +1,8 @@
 ghost use Rattle.std.specs.Prelude.{◌<◌};
 
+use crate::answer::Answer;
 use crate::refusal::Refusal;
-use crate::sources::push_numbers;
-use crate::text::{bytes_of, number, show};
+use crate::text::{bytes_of, number};
 use sd_outside::{Address, Failed, Faulty, MemSource, OpenRefusal, Opens, Source};
 use sd_replay::{Item, Reader};
 use std::alloc::Global;
@@ -44,17 +44,21 @@ impl Source for SlowSource {
 }
 
 /// Appends what stands next, the place behind it, and the datagram, where it is a packet.
-fn show_next(reader: &Reader, item: Result<Item, Failed>, out: &mut String) -> Result<(), Refusal> {
+fn show_next(item: Result<Item, Failed>, reader: &Reader, out: &mut Answer) {
     match item {
-        Ok(Item::Packet { who, moment }) => write!(out, "packet {who} {moment}")?,
-        Ok(Item::Flush { ts }) => write!(out, "flush {ts}")?,
-        Ok(Item::End) => out.push_str("end")?,
-        Ok(Item::Unbuilt) => out.push_str("unbuilt")?,
-        Err(Failed) => out.push_str("failed")?,
+        Ok(Item::Packet { who, moment }) => {
+            out.count("packet ", u64::from(who));
+            out.count(" ", moment);
+        }
+        Ok(Item::Flush { ts }) => out.count("flush ", ts),
+        Ok(Item::End) => out.text("end"),
+        Ok(Item::Unbuilt) => out.text("unbuilt"),
+        Err(Failed) => out.text("failed"),
     }
-    write!(out, " at {} ", reader.at())?;
-    show(out, reader.datagram())?;
-    Ok(())
+    out.count(" at ", reader.at());
+    out.text(" ");
+    out.bytes(reader.datagram());
+    out.text("; ");
 }
 
 /// Carries out a step of a reader over a script.
@@ -62,58 +66,53 @@ fn step(
     reader: &mut Reader,
     source: &mut SlowSource,
     step: &str,
-    out: &mut String,
+    out: &mut Answer,
 ) -> Result<(), Refusal> {
-    match step {
-        "next" => {
-            let item = reader.next(source);
-            show_next(reader, item, out)
-        }
-        "left" => {
-            out.push_str("left ")?;
-            show(out, source.source.remaining())?;
-            Ok(())
-        }
-        _ => Err(Refusal::Malformed),
+    if step != "next" {
+        return Err(Refusal::Malformed);
     }
+    let item = reader.next(source);
+    show_next(item, reader, out);
+    Ok(())
 }
 
-/// `reader SCRIPT MOST CALLS STEPS`: what each step of a reader answers, over a source that gives at most so many
-/// bytes a call, and of which the calls fail.
-pub(crate) fn steps_of_reader(
-    alloc: Global,
-    script: &str,
-    most: &str,
-    calls: &str,
-    steps: &[&str],
-) -> Result<String, Refusal> {
-    let mut source = source_of(alloc, script, most, calls)?;
-    let mut reader = Reader::open(alloc)?;
-    let mut out = String::from_str(alloc, " = ")?;
-    for (place, word) in steps.iter().enumerate() {
-        if place > 0 {
-            out.push_str("; ")?;
-        }
-        step(&mut reader, &mut source, word, &mut out)?;
-    }
-    Ok(out)
-}
-
-/// The source of a script: `by=MOST` or `by=all`, and `fail=CALLS` or `fail=none`.
-fn source_of(alloc: Global, script: &str, most: &str, calls: &str) -> Result<SlowSource, Refusal> {
+/// The source of a script: `by=MOST` or `by=all`, and `fail=CALL` or `fail=none`.
+fn source_of(alloc: Global, script: &str, most: &str, call: &str) -> Result<SlowSource, Refusal> {
     let mut source = MemSource::of(bytes_of(alloc, script)?);
-    let most = most.strip_prefix("by=").ok_or(Refusal::Malformed)?;
-    let most = if most == "all" {
-        usize::MAX
-    } else {
-        number(most)?
-    };
+    if call != "fail=none" {
+        let call = call.strip_prefix("fail=").ok_or(Refusal::Malformed)?;
+        source.fail_call.push(number(call)?)?;
+    }
+    let most = most_of(most)?;
     if most == 0 {
         return Err(Refusal::Condition);
     }
-    let calls = calls.strip_prefix("fail=").ok_or(Refusal::Malformed)?;
-    if calls != "none" {
-        push_numbers(&mut source.fail_call, calls)?;
-    }
     Ok(SlowSource { source, most })
+}
+
+/// How many bytes a call gives at most.
+fn most_of(word: &str) -> Result<usize, Refusal> {
+    if word == "by=all" {
+        return Ok(usize::MAX);
+    }
+    number(word.strip_prefix("by=").ok_or(Refusal::Malformed)?)
+}
+
+/// `reader SCRIPT by=MOST fail=CALL STEPS`: what each `next` of a reader answers, over a source that gives at most
+/// so many bytes a call, and of which a call fails; and what the source has left in the end.
+pub(crate) fn steps_of_reader(
+    alloc: Global,
+    source: &[&str; 3],
+    steps: &[&str],
+    out: &mut Answer,
+) -> Result<(), Refusal> {
+    let [script, most, call] = *source;
+    let mut source = source_of(alloc, script, most, call)?;
+    let mut reader = Reader::open(alloc)?;
+    for word in steps {
+        step(&mut reader, &mut source, word, out)?;
+    }
+    out.text("left ");
+    out.bytes(source.source.remaining());
+    Ok(())
 }

@@ -1,12 +1,13 @@
 ghost use Rattle.std.specs.Prelude.{◌≡◌, IfOk};
 ghost use Rattle.sd_shard.specs.Limits.{limits_of, AreLimits};
 
+use crate::answer::Answer;
 use crate::names::{kind_of, kind_word, yes_or_no};
 use crate::refusal::Refusal;
 use crate::samples::sample_of;
-use crate::text::{number, show};
-use sd_shard::{Cause, Limits, Placed, Policy, RowFacts, Shard, Table, Who};
-use std::alloc::{AllocError, Global};
+use crate::text::number;
+use sd_shard::{Cause, Limits, Placed, Policy, RowFacts, Shard, ShardBook, Table, Who};
+use std::alloc::Global;
 
 // the most rows, and the most entries
 const MOST: u32 = 1 << 20;
@@ -47,10 +48,9 @@ fn policy_from(word: &str) -> Result<Policy, Refusal> {
 }
 
 /// `goes_idle KINDS KIND`: whether rows of the kind go at a swap.
-pub(crate) fn goes_idle(alloc: Global, kinds: &str, kind: &str) -> Result<String, Refusal> {
-    let policy = policy_from(kinds)?;
-    let answer = yes_or_no(policy.goes_idle(kind_of(kind)?));
-    Ok(format!(in alloc; " = {answer}")?)
+pub(crate) fn goes_idle(kinds: &str, kind: &str, out: &mut Answer) -> Result<(), Refusal> {
+    out.text(yes_or_no(policy_from(kinds)?.goes_idle(kind_of(kind)?)));
+    Ok(())
 }
 
 /// A shard, and the limits that it was opened for.
@@ -64,68 +64,73 @@ struct Bench {
 
 impl Bench {
     /// Carries out a step: `swap`, `book`, or else the sample that it writes.
-    fn step(&mut self, alloc: Global, step: &str, out: &mut String) -> Result<(), Refusal> {
+    fn step(&mut self, alloc: Global, step: &str, out: &mut Answer) -> Result<(), Refusal> {
         match step {
             "swap" => self.swap(alloc, out),
-            "book" => self.book(out),
-            _ => self.sample(alloc, step, out),
+            "book" => {
+                show_book(&self.shard.book(), out);
+                Ok(())
+            }
+            _ => {
+                let sample = sample_of(alloc, step)?;
+                show_placed(self.shard.sample(Who(0), &sample), out);
+                Ok(())
+            }
         }
-    }
-
-    /// Has a receiver bring a sample.
-    fn sample(&mut self, alloc: Global, step: &str, out: &mut String) -> Result<(), Refusal> {
-        let sample = sample_of(alloc, step)?;
-        match self.shard.sample(Who(0), &sample) {
-            Placed::Taken { number } => write!(out, "taken {number}")?,
-            Placed::Dropped(cause) => show_cause(out, cause)?,
-        }
-        Ok(())
     }
 
     /// Swaps in an empty table, and shows the one that comes out.
-    fn swap(&mut self, alloc: Global, out: &mut String) -> Result<(), Refusal> {
+    fn swap(&mut self, alloc: Global, out: &mut Answer) -> Result<(), Refusal> {
         let spare = Table::open(alloc, self.limits)?;
         let table = self.shard.swap(spare);
-        show_table(alloc, out, &table)
-    }
-
-    /// Shows the numbers.
-    fn book(&mut self, out: &mut String) -> Result<(), Refusal> {
-        let book = self.shard.book();
-        write!(
-            out,
-            "taken {}, flushed {}, deleted {}, dropped {}, held {}",
-            book.taken, book.flushed, book.deleted, book.dropped, book.held
-        )?;
-        Ok(())
+        show_table(alloc, &table, out)
     }
 }
 
-/// Appends why a sample was dropped.
-fn show_cause(out: &mut String, cause: Cause) -> Result<(), AllocError> {
-    match cause {
-        Cause::NoRow { live, limit } => write!(out, "no row, {live} of {limit}"),
-        Cause::NoEntry { held, limit } => write!(out, "no entry, {held} of {limit}"),
-        Cause::NoNumber { taken } => write!(out, "no number, {taken}"),
+/// Appends the numbers of a shard.
+fn show_book(book: &ShardBook, out: &mut Answer) {
+    out.count("taken ", book.taken);
+    out.count(", flushed ", book.flushed);
+    out.count(", deleted ", book.deleted);
+    out.count(", dropped ", book.dropped);
+    out.count(", held ", book.held);
+}
+
+/// Appends what became of a sample.
+fn show_placed(placed: Placed, out: &mut Answer) {
+    match placed {
+        Placed::Taken { number } => out.count("taken ", number),
+        Placed::Dropped(Cause::NoRow { live, limit }) => {
+            out.count("no row, ", u64::from(live));
+            out.count(" of ", u64::from(limit));
+        }
+        Placed::Dropped(Cause::NoEntry { held, limit }) => {
+            out.count("no entry, ", u64::from(held));
+            out.count(" of ", u64::from(limit));
+        }
+        Placed::Dropped(Cause::NoNumber { taken }) => out.count("no number, ", taken),
     }
 }
 
-/// Appends the rows of a table by kind and name, and how many entries it has.
-pub(crate) fn show_table(alloc: Global, out: &mut String, table: &Table) -> Result<(), Refusal> {
-    write!(out, "{} rows, {} entries", table.rows(), table.entries())?;
+/// Appends how many rows and entries a table has, and its rows by kind and name.
+pub(crate) fn show_table(alloc: Global, table: &Table, out: &mut Answer) -> Result<(), Refusal> {
+    out.count("rows ", u64::from(table.rows()));
+    out.count(", entries ", u64::from(table.entries()));
     let mut rows = Vec::new(alloc);
     for i in 0..table.rows() {
-        rows.push(row_text(alloc, table.row(i))?)?;
+        let mut row = Answer::new(alloc);
+        show_facts(table.row(i), &mut row);
+        rows.push(row.finish()?)?;
     }
     rows.sort()?;
     for row in &rows {
-        write!(out, "\n    {row}")?;
+        out.text(row);
     }
     Ok(())
 }
 
-/// What a table says of a row.
-fn row_text(alloc: Global, row: RowFacts) -> Result<String, AllocError> {
+/// Appends the line of what a table says of a row.
+fn show_facts(row: RowFacts, out: &mut Answer) {
     let RowFacts {
         kind,
         key,
@@ -134,15 +139,16 @@ fn row_text(alloc: Global, row: RowFacts) -> Result<String, AllocError> {
         samples,
         weight,
     } = row;
-    let mut out = String::from_str(alloc, kind_word(kind))?;
-    out.push_str(" ")?;
-    show(&mut out, key.as_slice())?;
-    write!(
-        &mut out,
-        ": base {}, swaps {swaps}, samples {samples}, weight {}",
-        base.0, weight.0
-    )?;
-    Ok(out)
+    out.text("\n    ");
+    out.text(kind_word(kind));
+    out.text(" ");
+    out.bytes(key.as_slice());
+    out.text(": base ");
+    out.number(i128::from(base.0));
+    out.count(", swaps ", u64::from(swaps));
+    out.count(", samples ", samples);
+    out.text(", weight ");
+    out.number(weight.0);
 }
 
 /// `shard ROWS/ENTRIES KINDS STEPS`: what each step on a new shard answers, where rows of the kinds are deleted
@@ -152,14 +158,14 @@ pub(crate) fn steps_on_shard(
     limits: &str,
     kinds: &str,
     steps: &[&str],
-) -> Result<String, Refusal> {
+    out: &mut Answer,
+) -> Result<(), Refusal> {
     let limits = limits_from(limits)?;
     let shard = Shard::open(alloc, limits, policy_from(kinds)?)?;
     let mut bench = Bench { limits, shard };
-    let mut out = String::new(alloc);
     for step in steps {
-        write!(&mut out, "\n  {step}: ")?;
-        bench.step(alloc, step, &mut out)?;
+        out.step(step);
+        bench.step(alloc, step, out)?;
     }
-    Ok(out)
+    Ok(())
 }

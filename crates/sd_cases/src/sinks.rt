@@ -1,6 +1,7 @@
+use crate::answer::Answer;
 use crate::refusal::Refusal;
 use crate::sources::{fail_on, open, show_address};
-use crate::text::{bytes_of, number, show};
+use crate::text::{bytes_of, number};
 use sd_outside::{Backend, Failed, MemBackend, MemSink, Sink, write_all};
 use std::alloc::Global;
 
@@ -9,15 +10,15 @@ fn write_once<K: Sink>(
     alloc: Global,
     sink: &mut K,
     text: &str,
-    out: &mut String,
+    out: &mut Answer,
 ) -> Result<(), Refusal> {
     let bytes = bytes_of(alloc, text)?;
     if bytes.is_empty() {
         return Err(Refusal::Condition);
     }
     match sink.write(&bytes) {
-        Ok(count) => write!(out, "{count}")?,
-        Err(Failed) => out.push_str("failed")?,
+        Ok(count) => out.count("", count as u64),
+        Err(Failed) => out.text("failed"),
     }
     Ok(())
 }
@@ -27,20 +28,16 @@ fn write_whole<K: Sink>(
     alloc: Global,
     sink: &mut K,
     text: &str,
-    out: &mut String,
+    out: &mut Answer,
 ) -> Result<(), Refusal> {
     let bytes = bytes_of(alloc, text)?;
-    let answer = write_all(sink, &bytes);
-    show_answer(answer, out)
+    show_answer(write_all(sink, &bytes), out);
+    Ok(())
 }
 
 /// Appends whether a call failed.
-fn show_answer(answer: Result<(), Failed>, out: &mut String) -> Result<(), Refusal> {
-    match answer {
-        Ok(()) => out.push_str("ok")?,
-        Err(Failed) => out.push_str("failed")?,
-    }
-    Ok(())
+fn show_answer(answer: Result<(), Failed>, out: &mut Answer) {
+    out.text(if answer.is_ok() { "ok" } else { "failed" });
 }
 
 /// Carries out a step on a sink.
@@ -48,7 +45,7 @@ fn step_on_sink(
     alloc: Global,
     sink: &mut MemSink,
     step: &str,
-    out: &mut String,
+    out: &mut Answer,
 ) -> Result<(), Refusal> {
     match step.split_once('=') {
         Some(("fail_write", calls)) => fail_on(&mut sink.fail_call, calls, out),
@@ -60,24 +57,28 @@ fn step_on_sink(
 }
 
 /// Appends what a word asks of a sink.
-fn show_sink(sink: &MemSink, word: &str, out: &mut String) -> Result<(), Refusal> {
+fn show_sink(sink: &MemSink, word: &str, out: &mut Answer) -> Result<(), Refusal> {
     match word {
-        "bytes" => show(out, sink.bytes())?,
-        "faults" => write!(out, "{}", sink.faults())?,
+        "bytes" => out.bytes(sink.bytes()),
+        "faults" => out.count("", sink.faults()),
         _ => return Err(Refusal::Malformed),
     }
     Ok(())
 }
 
 /// `sink ROOM STEPS`: what each step on an empty sink answers.
-pub(crate) fn steps_on_sink(alloc: Global, room: &str, steps: &[&str]) -> Result<String, Refusal> {
+pub(crate) fn steps_on_sink(
+    alloc: Global,
+    room: &str,
+    steps: &[&str],
+    out: &mut Answer,
+) -> Result<(), Refusal> {
     let mut sink = MemSink::open(alloc, number(room)?)?;
-    let mut out = String::new(alloc);
     for word in steps {
-        write!(&mut out, "\n  {word}: ")?;
-        step_on_sink(alloc, &mut sink, word, &mut out)?;
+        out.step(word);
+        step_on_sink(alloc, &mut sink, word, out)?;
     }
-    Ok(out)
+    Ok(())
 }
 
 /// Carries out a step on a backend.
@@ -85,7 +86,7 @@ fn step_on_backend(
     alloc: Global,
     backend: &mut MemBackend,
     step: &str,
-    out: &mut String,
+    out: &mut Answer,
 ) -> Result<(), Refusal> {
     match step.split_once('=') {
         Some(("fail_open", calls)) => fail_on(&mut backend.fail_open, calls, out),
@@ -101,38 +102,29 @@ fn step_on_backend(
 }
 
 /// Calls a backend as a word says, or appends what it asks.
-fn call_backend(backend: &mut MemBackend, word: &str, out: &mut String) -> Result<(), Refusal> {
+fn call_backend(backend: &mut MemBackend, word: &str, out: &mut Answer) -> Result<(), Refusal> {
     match word {
-        "begin" => {
-            let answer = backend.begin();
-            show_answer(answer, out)?;
-        }
-        "finish" => {
-            let answer = backend.finish();
-            show_answer(answer, out)?;
-        }
-        "lists" => show_lists(backend, out)?,
-        "opened_at" => show_address(out, backend.opened_at())?,
-        "faults" => write!(out, "{}", backend.faults())?,
+        "begin" => show_answer(backend.begin(), out),
+        "finish" => show_answer(backend.finish(), out),
+        "lists" => show_lists(backend, out),
+        "opened_at" => show_address(backend.opened_at(), out),
+        "faults" => out.count("", backend.faults()),
         _ => return Err(Refusal::Malformed),
     }
     Ok(())
 }
 
 /// Appends the lists of a backend, each with whether it was ended.
-fn show_lists(backend: &MemBackend, out: &mut String) -> Result<(), Refusal> {
-    write!(out, "{} lists", backend.lists())?;
+fn show_lists(backend: &MemBackend, out: &mut Answer) {
+    out.count("lists ", backend.lists() as u64);
     for place in 0..backend.lists() {
-        out.push_str(", ")?;
-        show(out, backend.list(place))?;
-        let end = if backend.is_ended(place) {
-            " ended"
+        out.text(if backend.is_ended(place) {
+            ", ended "
         } else {
-            " open"
-        };
-        out.push_str(end)?;
+            ", open "
+        });
+        out.bytes(backend.list(place));
     }
-    Ok(())
 }
 
 /// `backend BYTES LISTS STEPS`: what each step on a backend with room for so many bytes and lists answers.
@@ -141,12 +133,12 @@ pub(crate) fn steps_on_backend(
     bytes: &str,
     lists: &str,
     steps: &[&str],
-) -> Result<String, Refusal> {
+    out: &mut Answer,
+) -> Result<(), Refusal> {
     let mut backend = MemBackend::open(alloc, number(bytes)?, number(lists)?)?;
-    let mut out = String::new(alloc);
     for word in steps {
-        write!(&mut out, "\n  {word}: ")?;
-        step_on_backend(alloc, &mut backend, word, &mut out)?;
+        out.step(word);
+        step_on_backend(alloc, &mut backend, word, out)?;
     }
-    Ok(out)
+    Ok(())
 }

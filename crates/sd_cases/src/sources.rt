@@ -1,7 +1,8 @@
+use crate::answer::Answer;
 use crate::refusal::Refusal;
-use crate::text::{bytes_of, number, show};
+use crate::text::{bytes_of, number};
 use sd_outside::{Address, Failed, MemSource, Name, OpenRefusal, Opens, Source, fault};
-use std::alloc::{AllocError, Global};
+use std::alloc::Global;
 
 /// The name that a word stands for.
 fn name_of(alloc: Global, word: &str) -> Result<Name, Refusal> {
@@ -26,17 +27,17 @@ pub(crate) fn address_of(alloc: Global, word: &str) -> Result<Address, Refusal> 
 }
 
 /// Appends an address as a case writes it, or `nowhere`.
-pub(crate) fn show_address(out: &mut String, at: Option<&Address>) -> Result<(), AllocError> {
+pub(crate) fn show_address(at: Option<&Address>, out: &mut Answer) {
     match at {
-        None => out.push_str("nowhere"),
+        None => out.text("nowhere"),
         Some(Address::File(name)) => {
-            out.push_str("file:")?;
-            show(out, name.as_slice())
+            out.text("file:");
+            out.bytes(name.as_slice());
         }
         Some(Address::Host { host, port }) => {
-            out.push_str("host:")?;
-            show(out, host.as_slice())?;
-            write!(out, ":{port}")
+            out.text("host:");
+            out.bytes(host.as_slice());
+            out.count(":", u64::from(*port));
         }
     }
 }
@@ -46,50 +47,44 @@ pub(crate) fn open<T: Opens>(
     alloc: Global,
     object: &mut T,
     at: &str,
-    out: &mut String,
+    out: &mut Answer,
 ) -> Result<(), Refusal> {
     match object.open_at(&address_of(alloc, at)?) {
-        Ok(()) => out.push_str("ok")?,
-        Err(OpenRefusal::Failed) => out.push_str("failed")?,
-        Err(OpenRefusal::OutOfMemory) => out.push_str("out of memory")?,
+        Ok(()) => out.text("ok"),
+        Err(OpenRefusal::Failed) => out.text("failed"),
+        Err(OpenRefusal::OutOfMemory) => out.text("out of memory"),
     }
     Ok(())
 }
 
-/// Appends the numbers that a word writes, joined by commas.
-pub(crate) fn push_numbers(numbers: &mut Vec<u64>, word: &str) -> Result<(), Refusal> {
-    for part in word.split(',') {
-        numbers.push(number(part)?)?;
+/// Has the calls fail that a word writes, joined by commas.
+pub(crate) fn fail_on(
+    numbers: &mut Vec<u64>,
+    calls: &str,
+    out: &mut Answer,
+) -> Result<(), Refusal> {
+    for call in calls.split(',') {
+        numbers.push(number(call)?)?;
     }
+    out.text("set");
     Ok(())
 }
 
 /// Reads into a buffer of points, and appends how many bytes came, the buffer, and what is left.
-fn read(alloc: Global, source: &mut MemSource, len: &str, out: &mut String) -> Result<(), Refusal> {
+fn read(alloc: Global, source: &mut MemSource, len: &str, out: &mut Answer) -> Result<(), Refusal> {
     let len = number::<usize>(len)?;
     if len == 0 {
         return Err(Refusal::Condition);
     }
     let mut buf = Vec::from_elem(alloc, b'.', len)?;
     match source.read(&mut buf) {
-        Ok(count) => write!(out, "{count}")?,
-        Err(Failed) => out.push_str("failed")?,
+        Ok(count) => out.count("", count as u64),
+        Err(Failed) => out.text("failed"),
     }
-    out.push_str(", buffer ")?;
-    show(out, &buf)?;
-    out.push_str(", left ")?;
-    show(out, source.remaining())?;
-    Ok(())
-}
-
-/// Has the calls of a word fail.
-pub(crate) fn fail_on(
-    numbers: &mut Vec<u64>,
-    calls: &str,
-    out: &mut String,
-) -> Result<(), Refusal> {
-    push_numbers(numbers, calls)?;
-    out.push_str("set")?;
+    out.text(", buffer ");
+    out.bytes(&buf);
+    out.text(", left ");
+    out.bytes(source.remaining());
     Ok(())
 }
 
@@ -98,7 +93,7 @@ fn step(
     alloc: Global,
     source: &mut MemSource,
     step: &str,
-    out: &mut String,
+    out: &mut Answer,
 ) -> Result<(), Refusal> {
     match step.split_once('=') {
         Some(("fail_open", calls)) => fail_on(&mut source.fail_open, calls, out),
@@ -111,11 +106,11 @@ fn step(
 }
 
 /// Appends what a word asks of a source.
-fn show_state(source: &MemSource, word: &str, out: &mut String) -> Result<(), Refusal> {
+fn show_state(source: &MemSource, word: &str, out: &mut Answer) -> Result<(), Refusal> {
     match word {
-        "opened_at" => show_address(out, source.opened_at())?,
-        "remaining" => show(out, source.remaining())?,
-        "faults" => write!(out, "{}", source.faults())?,
+        "opened_at" => show_address(source.opened_at(), out),
+        "remaining" => out.bytes(source.remaining()),
+        "faults" => out.count("", source.faults()),
         _ => return Err(Refusal::Malformed),
     }
     Ok(())
@@ -126,19 +121,20 @@ pub(crate) fn steps_on_source(
     alloc: Global,
     text: &str,
     steps: &[&str],
-) -> Result<String, Refusal> {
+    out: &mut Answer,
+) -> Result<(), Refusal> {
     let mut source = MemSource::of(bytes_of(alloc, text)?);
-    let mut out = String::new(alloc);
     for word in steps {
-        write!(&mut out, "\n  {word}: ")?;
-        step(alloc, &mut source, word, &mut out)?;
+        out.step(word);
+        step(alloc, &mut source, word, out)?;
     }
-    Ok(out)
+    Ok(())
 }
 
 /// `fault COUNT`: the count of faults after one more.
-pub(crate) fn fault_after(alloc: Global, count: &str) -> Result<String, Refusal> {
+pub(crate) fn fault_after(count: &str, out: &mut Answer) -> Result<(), Refusal> {
     let mut faults = number::<u64>(count)?;
     let Failed = fault(&mut faults);
-    Ok(format!(in alloc; " = {faults}")?)
+    out.count("", faults);
+    Ok(())
 }
