@@ -1,3 +1,4 @@
+use crate::answer::Answer;
 use crate::case::Case;
 use crate::refusal::Refusal;
 use crate::report::report;
@@ -5,16 +6,17 @@ use crate::text::bytes_of;
 use sd_top::statsd;
 use std::alloc::Global;
 
-/// Runs the program, and answers all that came of it.
-fn answer(alloc: Global, case: &Case) -> Result<String, Refusal> {
+/// Runs the program, and appends all that came of it.
+fn carry_out(alloc: Global, case: &Case, out: &mut Answer) -> Result<(), Refusal> {
     let mut world = case.world(alloc)?;
     let status = statsd(alloc, &case.words, &mut world);
-    report(alloc, &status, &world)
+    report(&status, &world, out);
+    Ok(())
 }
 
 /// `run WORDS : PARTS`: what comes of a run.
-pub(crate) fn whole(alloc: Global, parts: &[&str]) -> Result<String, Refusal> {
-    answer(alloc, &Case::of(alloc, parts)?)
+pub(crate) fn whole(alloc: Global, parts: &[&str], out: &mut Answer) -> Result<(), Refusal> {
+    carry_out(alloc, &Case::of(alloc, parts)?, out)
 }
 
 /// `cut RECORD WORDS : PARTS`: what comes of the run whose script is that of the parts and behind it the record cut
@@ -24,18 +26,27 @@ pub(crate) fn each_truncation(
     alloc: Global,
     record: &str,
     parts: &[&str],
-) -> Result<String, Refusal> {
+    out: &mut Answer,
+) -> Result<(), Refusal> {
     let record = bytes_of(alloc, record)?;
-    let mut out = String::new(alloc);
     let mut previous = String::new(alloc);
     for len in 0..record.len() {
-        let mut case = Case::of(alloc, parts)?;
-        case.script.extend_from_slice(&record[..len])?;
-        let answer = answer(alloc, &case)?;
-        if answer != previous {
-            write!(&mut out, "\n  from {len} bytes on:{answer}")?;
-            previous = answer;
+        let report = report_of_front(alloc, &record[..len], parts)?;
+        if report != previous {
+            out.count("\n  from ", len as u64);
+            out.text(" bytes on:");
+            out.text(&report);
+            previous = report;
         }
     }
-    Ok(out)
+    Ok(())
+}
+
+/// What comes of the run where these bytes stand behind the script.
+fn report_of_front(alloc: Global, front: &[u8], parts: &[&str]) -> Result<String, Refusal> {
+    let mut case = Case::of(alloc, parts)?;
+    case.script.extend_from_slice(front)?;
+    let mut report = Answer::new(alloc);
+    carry_out(alloc, &case, &mut report)?;
+    report.finish()
 }

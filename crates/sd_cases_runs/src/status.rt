@@ -1,8 +1,8 @@
+use crate::answer::Answer;
 use crate::refusal::Refusal;
-use crate::text::{number, show};
+use crate::text::number;
 use sd_decimal::Line;
 use sd_top::{Part, Status, explain};
-use std::alloc::{AllocError, Global};
 
 /// The object that a word names.
 fn part_of(word: &str) -> Result<Part, Refusal> {
@@ -35,24 +35,19 @@ fn status_of(fields: &[&str]) -> Result<Status, Refusal> {
     }
 }
 
-/// `status WORDS`: how the program exits, and what it explains.
-pub(crate) fn texts_of(alloc: Global, fields: &[&str]) -> Result<String, Refusal> {
-    let status = status_of(fields)?;
-    let mut out = String::from_str(alloc, " = ")?;
-    show_status(&mut out, &status)?;
-    Ok(out)
+/// `status WORDS`: the status, how the program exits, and what it explains.
+pub(crate) fn texts_of(fields: &[&str], out: &mut Answer) -> Result<(), Refusal> {
+    out.text(" = ");
+    show_status(&status_of(fields)?, out);
+    Ok(())
 }
 
 /// Appends a status, the number that the program exits with, and what it explains.
-pub(crate) fn show_status(out: &mut String, status: &Status) -> Result<(), AllocError> {
+pub(crate) fn show_status(status: &Status, out: &mut Answer) {
     let mut line = Line::new();
     explain(status, &mut line);
-    write!(out, "{status:?}, exit {}, ", status.exit())?;
-    for (place, word) in line.split(|byte| *byte == b' ').enumerate() {
-        if place > 0 {
-            out.push_str(" ")?;
-        }
-        show(out, word)?;
-    }
-    Ok(())
+    out.status(status);
+    out.count(", exit ", u64::from(status.exit()));
+    out.text(", ");
+    out.words(line.as_slice());
 }

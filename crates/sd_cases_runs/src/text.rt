@@ -1,11 +1,8 @@
 ghost use Rattle.std.specs.Prelude.{◌<◌, IfOk};
 
 use crate::refusal::Refusal;
-use std::alloc::{AllocError, Global};
+use std::alloc::Global;
 use std::str::FromStr;
-
-/// How many equal bytes are shown as a repetition.
-const MANY: usize = 32;
 
 /// The bytes that a word of a case stands for: its own, but for `""`, which is no byte, the escapes `\n`, `\r`,
 /// `\t`, `\s` and `\xNN`, and `{TEXT*COUNT}`, which is the text so many times.
@@ -83,43 +80,4 @@ where
     T::Err: Drop,
 {
     word.parse::<T>().map_err(|_| Refusal::Malformed)
-}
-
-/// Appends bytes as a case writes them, where many equal bytes in a row are a repetition.
-pub(crate) fn show(out: &mut String, bytes: &[u8]) -> Result<(), AllocError> {
-    if bytes.is_empty() {
-        return out.push_str("\"\"");
-    }
-    for run in bytes.chunk_by(|a, b| a == b) {
-        if run.len() > MANY {
-            out.push_str("{")?;
-            show_byte(out, run[0])?;
-            write!(out, "*{}}}", run.len())?;
-        } else {
-            for byte in run {
-                show_byte(out, *byte)?;
-            }
-        }
-    }
-    Ok(())
-}
-
-/// Appends a byte as a case writes it.
-fn show_byte(out: &mut String, byte: u8) -> Result<(), AllocError> {
-    match byte {
-        b'\n' => out.push_str("\\n"),
-        b'\r' => out.push_str("\\r"),
-        b'\t' => out.push_str("\\t"),
-        b' ' => out.push_str("\\s"),
-        b'\\' | b'{' | b'}' => write!(out, "\\x{byte:02x}"),
-        33..=126 => out.push(char::from(byte)),
-        _ => write!(out, "\\x{byte:02x}"),
-    }
-}
-
-/// Bytes as a case writes them.
-pub(crate) fn shown(alloc: Global, bytes: &[u8]) -> Result<String, AllocError> {
-    let mut out = String::new(alloc);
-    show(&mut out, bytes)?;
-    Ok(out)
 }
