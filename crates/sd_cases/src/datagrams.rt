@@ -1,7 +1,4 @@
-use crate::answer::Answer;
-use crate::names::kind_word;
-use crate::refusal::Refusal;
-use crate::text::bytes_of;
+use sd_case::{Answer, Refusal, bytes_of, kind_word};
 use sd_line::{Bad, Lines, Sample};
 use std::alloc::Global;
 

@@ -1,35 +1,7 @@
-use crate::answer::Answer;
-use crate::refusal::Refusal;
-use crate::text::{bytes_of, number};
-use sd_key::{Key, KeyFault, Kind, Pattern, clean, has_part, matches, shard_of};
+use sd_case::{Answer, Refusal, bytes_of, key_of, kind_of, number};
+use sd_key::{Key, KeyFault, Pattern, clean, has_part, matches, shard_of};
 use std::alloc::Global;
 use std::cmp::Ordering;
-
-/// The key that a word stands for.
-pub(crate) fn key_of(alloc: Global, word: &str) -> Result<Key, Refusal> {
-    Key::of(&bytes_of(alloc, word)?).ok_or(Refusal::Malformed)
-}
-
-/// The kind that a word names.
-pub(crate) fn kind_of(word: &str) -> Result<Kind, Refusal> {
-    match word {
-        "counter" => Ok(Kind::Counter),
-        "timer" => Ok(Kind::Timer),
-        "gauge" => Ok(Kind::Gauge),
-        "set" => Ok(Kind::Set),
-        _ => Err(Refusal::Malformed),
-    }
-}
-
-/// The word that names a kind.
-pub(crate) fn kind_word(kind: Kind) -> &'static str {
-    match kind {
-        Kind::Counter => "counter",
-        Kind::Timer => "timer",
-        Kind::Gauge => "gauge",
-        Kind::Set => "set",
-    }
-}
 
 /// The word of an order.
 fn order_word(order: Ordering) -> &'static str {
@@ -38,11 +10,6 @@ fn order_word(order: Ordering) -> &'static str {
         Ordering::Equal => "equal",
         Ordering::Greater => "greater",
     }
-}
-
-/// The word of an answer.
-pub(crate) fn yes_or_no(answer: bool) -> &'static str {
-    if answer { "yes" } else { "no" }
 }
 
 /// `clean NAME`: its key.
@@ -80,7 +47,7 @@ pub(crate) fn matches_key(
     let Some(pattern) = Pattern::of(&bytes_of(alloc, pattern)?) else {
         return Err(Refusal::Malformed);
     };
-    out.text(yes_or_no(matches(&pattern, &key_of(alloc, key)?)));
+    out.yes_or_no(matches(&pattern, &key_of(alloc, key)?));
     Ok(())
 }
 
@@ -92,7 +59,7 @@ pub(crate) fn has_part_of(
     out: &mut Answer,
 ) -> Result<(), Refusal> {
     let part = bytes_of(alloc, part)?;
-    out.text(yes_or_no(has_part(&key_of(alloc, key)?, &part)));
+    out.yes_or_no(has_part(&key_of(alloc, key)?, &part));
     Ok(())
 }
 
@@ -125,7 +92,7 @@ pub(crate) fn pattern_with(alloc: Global, text: &str, out: &mut Answer) -> Resul
 fn show_name(len: usize, is_empty: bool, bytes: &[u8], out: &mut Answer) {
     out.count("len ", len as u64);
     out.text(", empty ");
-    out.text(yes_or_no(is_empty));
+    out.yes_or_no(is_empty);
     out.text(", ");
     out.bytes(bytes);
 }

@@ -1,6 +1,4 @@
-use crate::answer::Answer;
-use crate::refusal::Refusal;
-use crate::text::{bytes_of, number};
+use sd_case::{Answer, Refusal, bytes_of, number};
 use sd_decimal::{
     Line, Micro, NumberFault, Sum, per_second, ratio, read, root, weigh, write, write_whole,
 };

@@ -1,5 +1,4 @@
-use crate::refusal::Refusal;
-use crate::text::{bytes_of, number};
+use sd_case::{Refusal, bytes_of, number};
 use sd_outside::{Backs, MemBackend, MemSink, MemSource};
 use sd_top::World;
 use std::alloc::Global;

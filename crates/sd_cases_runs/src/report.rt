@@ -1,6 +1,6 @@
-use crate::answer::Answer;
 use crate::case::MemWorld;
 use crate::status::show_status;
+use sd_case::Answer;
 use sd_outside::{Address, MemBackend};
 use sd_top::Status;
 
@@ -15,14 +15,9 @@ pub(crate) fn report(status: &Status, world: &MemWorld, out: &mut Answer) {
     show_faults(world, out);
     show_places(world, out);
     out.text("\n  used: graphite ");
-    out.text(yes_or_no(world.backs.graphite_used));
+    out.yes_or_no(world.backs.graphite_used);
     out.text(", console ");
-    out.text(yes_or_no(world.backs.console_used));
-}
-
-/// The word of an answer.
-fn yes_or_no(answer: bool) -> &'static str {
-    if answer { "yes" } else { "no" }
+    out.yes_or_no(world.backs.console_used);
 }
 
 /// Appends the lists that a backend was given, each with whether it was ended.

@@ -1,8 +1,6 @@
-use crate::answer::Answer;
 use crate::case::Case;
-use crate::refusal::Refusal;
 use crate::report::report;
-use crate::text::bytes_of;
+use sd_case::{Answer, Refusal, bytes_of};
 use sd_top::statsd;
 use std::alloc::Global;
 

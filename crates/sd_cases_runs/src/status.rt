@@ -1,6 +1,4 @@
-use crate::answer::Answer;
-use crate::refusal::Refusal;
-use crate::text::number;
+use sd_case::{Answer, Refusal, number};
 use sd_decimal::Line;
 use sd_top::{Part, Status, explain};
 
@@ -46,7 +44,7 @@ pub(crate) fn texts_of(fields: &[&str], out: &mut Answer) -> Result<(), Refusal>
 pub(crate) fn show_status(status: &Status, out: &mut Answer) {
     let mut line = Line::new();
     explain(status, &mut line);
-    out.status(status);
+    out.debug(status);
     out.count(", exit ", u64::from(status.exit()));
     out.text(", ");
     out.words(line.as_slice());

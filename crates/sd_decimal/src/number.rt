@@ -1,7 +1,7 @@
 use arrayvec::ArrayVec;
 
 /// A number of a metric, a rate or a setting, in millionths.
-#[derive(Clone, Copy, Debug, PartialEq, Eq, PartialOrd, Ord)]
+#[derive(Clone, Copy, Debug, Default, PartialEq, Eq, PartialOrd, Ord)]
 pub struct Micro(pub i64);
 
 /// A total of many numbers, in millionths.
@@ -12,9 +12,10 @@ pub struct Sum(pub i128);
 pub type Line = ArrayVec<u8, 1024>;
 
 /// The upper limit of a bin of a histogram, which the bin doesn't hold.
-#[derive(Clone, Copy, Debug, PartialEq, Eq)]
+#[derive(Clone, Copy, Debug, Default, PartialEq, Eq)]
 pub enum Limit {
     Below(Micro),
+    #[default]
     Infinite,
 }
 

@@ -7,8 +7,7 @@ use Rattle.std.specs.Fmt.{decimal}
 use Rattle.sd_model_text.specs.Numbers.{number_text, per_second}
 use Rattle.sd_model_record.specs.Record.{Row, CounterRow, Tally, Record}
 use Rattle.sd_model_record.specs.Graphite.{line, row_lines, graphite_text}
-use Rattle.sd_model_outside.specs.Outside.{Written}
-use Rattle.sd_outside.specs.Write.{AppendsFront}
+use Rattle.sd_model_outside.specs.Outside.{Object, HasFailedBehind}
 use Rattle.sd_graphite.specs.Texts.{line_text, counter_text, row_text, rows_text, own_text, tail_text}
 use Rattle.sd_graphite.proofs.NumberLemmas.{number_text-whole}
 
@@ -21,9 +20,9 @@ unfolding row_text counter_text
 row_text-counter ts key count rate = refl
 
 -- what a write of a counter's lines says of its row, where it failed
-pub row_front : {E : Type 0} (result : Result (Unit {0}) E) (w v : Written) (ts : ℕ) (row : Row) (key : List ℕ) (count rate : ℤ) → OnErr result (AppendsFront w (counter_text ts key count rate) v) → row ≡ CounterRow key count rate → OnErr result (AppendsFront w (row_text ts row) v)
-row_front result w v ts row key count rate failed is =
-    subst (λ text. OnErr result (AppendsFront w text v)) (row_text-counter ts key count rate ∙ ap (row_text ts) (sym is)) failed
+pub row_front : {E : Type 0} (result : Result (Unit {0}) E) (o v : Object) (ts : ℕ) (row : Row) (key : List ℕ) (count rate : ℤ) → OnErr result (HasFailedBehind (counter_text ts key count rate) o v) → row ≡ CounterRow key count rate → OnErr result (HasFailedBehind (row_text ts row) o v)
+row_front result o v ts row key count rate failed is =
+    subst (λ text. OnErr result (HasFailedBehind text o v)) (row_text-counter ts key count rate ∙ ap (row_text ts) (sym is)) failed
 
 -- a line, as it is put together
 pub line_text-made : (start path whole spaced valued stamped timed line front name : List ℕ) (value : ℤ) (ts second : ℕ) → start ≡ [] → path ≡ start ++ front → whole ≡ path ++ name → spaced ≡ whole ++ 32 ∷ [] → valued ≡ spaced ++ number_text value → stamped ≡ valued ++ 32 ∷ [] → timed ≡ stamped ++ decimal second → second ≡ ts → line ≡ timed ++ 10 ∷ [] → line ≡ line_text front name value ts

@@ -1,7 +1,6 @@
 ghost use Rattle.std.specs.Prelude.{◌≡◌, ◌+◌, ◌≤◌, ◌++◌, length, OnOk, OnErr};
 ghost use Rattle.arrayvec.specs.ArrayVec.{array_vec_len};
-ghost use Rattle.sd_model_outside.specs.Outside.{Rose, appended};
-ghost use Rattle.sd_outside.specs.Write.{AppendsFront};
+ghost use Rattle.sd_model_outside.specs.Outside.{HasFailedBehind, given};
 ghost use Rattle.sd_graphite.specs.Texts.{line_text, counter_text};
 
 use sd_decimal::{Line, Sum, write, write_whole};
@@ -42,16 +41,8 @@ pub(crate) fn write_line<K: Sink>(
     sink: &mut K,
 ) -> Result<(), WriteFault>
     requires { length front.now + length name.now ≤ 512 }
-    ensures ok { OnOk result
-        (K.written sink.new ≡ appended (K.written sink.old)
-        (line_text front.now name.now value.0 ts)) }
-    ensures failed { OnErr result (Rose (K.faults sink.old) (K.faults sink.new)) }
-    ensures steady { OnOk result (K.faults sink.new ≡ K.faults sink.old) }
-    ensures front { OnErr result
-        (AppendsFront (K.written sink.old)
-        (line_text front.now name.now value.0 ts) (K.written sink.new)) }
-    ensures faults_stay { K.faults sink.old ≤ K.faults sink.new }
-    ensures address_stays { K.opened_at sink.new ≡ K.opened_at sink.old }
+    ensures ok { OnOk result (K.seen sink.new ≡ given (line_text front.now name.now value.0 ts) (K.seen sink.old)) }
+    ensures failed { OnErr result (HasFailedBehind (line_text front.now name.now value.0 ts) (K.seen sink.old) (K.seen sink.new)) }
 {
     match write_all(sink, line_of(front, name, value, ts).as_slice()) {
         Ok(()) => Ok(()),
@@ -68,16 +59,8 @@ pub(crate) fn write_counter<K: Sink>(
     sink: &mut K,
 ) -> Result<(), WriteFault>
     requires { length key.now ≤ 255 }
-    ensures ok { OnOk result
-        (K.written sink.new ≡ appended (K.written sink.old)
-        (counter_text ts key.now count.0 rate.0)) }
-    ensures failed { OnErr result (Rose (K.faults sink.old) (K.faults sink.new)) }
-    ensures steady { OnOk result (K.faults sink.new ≡ K.faults sink.old) }
-    ensures front { OnErr result
-        (AppendsFront (K.written sink.old)
-        (counter_text ts key.now count.0 rate.0) (K.written sink.new)) }
-    ensures faults_stay { K.faults sink.old ≤ K.faults sink.new }
-    ensures address_stays { K.opened_at sink.new ≡ K.opened_at sink.old }
+    ensures ok { OnOk result (K.seen sink.new ≡ given (counter_text ts key.now count.0 rate.0) (K.seen sink.old)) }
+    ensures failed { OnErr result (HasFailedBehind (counter_text ts key.now count.0 rate.0) (K.seen sink.old) (K.seen sink.new)) }
 {
     write_line(b"stats.", key, rate, ts, sink)?;
     write_line(b"stats_counts.", key, count, ts, sink)

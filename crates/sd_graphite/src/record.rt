@@ -1,7 +1,6 @@
-ghost use Rattle.std.specs.Prelude.{◌≡◌, ◌≤◌, OnOk, OnErr};
+ghost use Rattle.std.specs.Prelude.{◌≡◌, OnOk, OnErr};
 ghost use Rattle.sd_model_record.specs.Graphite.{graphite_text};
-ghost use Rattle.sd_model_outside.specs.Outside.{Rose, appended};
-ghost use Rattle.sd_outside.specs.Write.{AppendsFront};
+ghost use Rattle.sd_model_outside.specs.Outside.{HasFailedBehind, given};
 ghost use Rattle.sd_record.specs.Record.{record_view};
 ghost use Rattle.sd_record.specs.Row.{row_view};
 ghost use Rattle.sd_graphite.specs.Texts.{row_text, rows_text};
@@ -18,15 +17,8 @@ use sd_record::{Record, Row};
 ///
 /// `WriteFault` where the sink failed. Then a front of the text was appended.
 pub fn write_record<K: Sink>(rec: &Record<'_>, sink: &mut K) -> Result<(), WriteFault>
-    ensures ok { OnOk result
-        (K.written sink.new ≡ appended (K.written sink.old) (graphite_text (record_view rec.now))) }
-    ensures failed { OnErr result (Rose (K.faults sink.old) (K.faults sink.new)) }
-    ensures steady { OnOk result (K.faults sink.new ≡ K.faults sink.old) }
-    ensures front { OnErr result
-        (AppendsFront (K.written sink.old)
-        (graphite_text (record_view rec.now)) (K.written sink.new)) }
-    ensures faults_stay { K.faults sink.old ≤ K.faults sink.new }
-    ensures address_stays { K.opened_at sink.new ≡ K.opened_at sink.old }
+    ensures ok { OnOk result (K.seen sink.new ≡ given (graphite_text (record_view rec.now)) (K.seen sink.old)) }
+    ensures failed { OnErr result (HasFailedBehind (graphite_text (record_view rec.now)) (K.seen sink.old) (K.seen sink.new)) }
 {
     write_rows(rec, sink)?;
     write_tail(rec, sink)
@@ -34,16 +26,8 @@ pub fn write_record<K: Sink>(rec: &Record<'_>, sink: &mut K) -> Result<(), Write
 
 /// Writes the lines of the rows.
 fn write_rows<K: Sink>(rec: &Record<'_>, sink: &mut K) -> Result<(), WriteFault>
-    ensures ok { OnOk result
-        (K.written sink.new ≡ appended (K.written sink.old)
-        (rows_text (record_view rec.now).ts (record_view rec.now).rows)) }
-    ensures failed { OnErr result (Rose (K.faults sink.old) (K.faults sink.new)) }
-    ensures steady { OnOk result (K.faults sink.new ≡ K.faults sink.old) }
-    ensures front { OnErr result
-        (AppendsFront (K.written sink.old)
-        (rows_text (record_view rec.now).ts (record_view rec.now).rows) (K.written sink.new)) }
-    ensures faults_stay { K.faults sink.old ≤ K.faults sink.new }
-    ensures address_stays { K.opened_at sink.new ≡ K.opened_at sink.old }
+    ensures ok { OnOk result (K.seen sink.new ≡ given (rows_text (record_view rec.now).ts (record_view rec.now).rows) (K.seen sink.old)) }
+    ensures failed { OnErr result (HasFailedBehind (rows_text (record_view rec.now).ts (record_view rec.now).rows) (K.seen sink.old) (K.seen sink.new)) }
 {
     for i in 0..rec.rows() {
         write_row(&rec.row(i), rec.ts(), sink)?;
@@ -53,14 +37,8 @@ fn write_rows<K: Sink>(rec: &Record<'_>, sink: &mut K) -> Result<(), WriteFault>
 
 /// Writes the lines of a row.
 fn write_row<K: Sink>(row: &Row, ts: u64, sink: &mut K) -> Result<(), WriteFault>
-    ensures ok { OnOk result
-        (K.written sink.new ≡ appended (K.written sink.old) (row_text ts (row_view row.now))) }
-    ensures failed { OnErr result (Rose (K.faults sink.old) (K.faults sink.new)) }
-    ensures steady { OnOk result (K.faults sink.new ≡ K.faults sink.old) }
-    ensures front { OnErr result
-        (AppendsFront (K.written sink.old) (row_text ts (row_view row.now)) (K.written sink.new)) }
-    ensures faults_stay { K.faults sink.old ≤ K.faults sink.new }
-    ensures address_stays { K.opened_at sink.new ≡ K.opened_at sink.old }
+    ensures ok { OnOk result (K.seen sink.new ≡ given (row_text ts (row_view row.now)) (K.seen sink.old)) }
+    ensures failed { OnErr result (HasFailedBehind (row_text ts (row_view row.now)) (K.seen sink.old) (K.seen sink.new)) }
 {
     match row {
         Row::Counter { key, count, rate } => write_counter(key.as_slice(), *count, *rate, ts, sink),

@@ -1,6 +1,5 @@
 ghost use Rattle.std.specs.Prelude.{◌≡◌, ◌*◌, ◌≤◌, length, OnOk, OnErr, pos};
-ghost use Rattle.sd_model_outside.specs.Outside.{Rose, appended};
-ghost use Rattle.sd_outside.specs.Write.{AppendsFront};
+ghost use Rattle.sd_model_outside.specs.Outside.{HasFailedBehind, given};
 ghost use Rattle.sd_record.specs.Record.{record_view};
 ghost use Rattle.sd_graphite.specs.Texts.{own_text, tail_text};
 
@@ -24,16 +23,8 @@ fn write_own_counter<K: Sink>(
     sink: &mut K,
 ) -> Result<(), WriteFault>
     requires { length key.now ≤ 255 }
-    ensures ok { OnOk result
-        (K.written sink.new ≡ appended (K.written sink.old)
-        (own_text (record_view rec.now) key.now number)) }
-    ensures failed { OnErr result (Rose (K.faults sink.old) (K.faults sink.new)) }
-    ensures steady { OnOk result (K.faults sink.new ≡ K.faults sink.old) }
-    ensures front { OnErr result
-        (AppendsFront (K.written sink.old)
-        (own_text (record_view rec.now) key.now number) (K.written sink.new)) }
-    ensures faults_stay { K.faults sink.old ≤ K.faults sink.new }
-    ensures address_stays { K.opened_at sink.new ≡ K.opened_at sink.old }
+    ensures ok { OnOk result (K.seen sink.new ≡ given (own_text (record_view rec.now) key.now number) (K.seen sink.old)) }
+    ensures failed { OnErr result (HasFailedBehind (own_text (record_view rec.now) key.now number) (K.seen sink.old) (K.seen sink.new)) }
 {
     let count = whole(number);
     let rate = per_second(count, rec.interval_ms());
@@ -42,14 +33,8 @@ fn write_own_counter<K: Sink>(
 
 /// Writes the lines at the end of a record.
 pub(crate) fn write_tail<K: Sink>(rec: &Record<'_>, sink: &mut K) -> Result<(), WriteFault>
-    ensures ok { OnOk result
-        (K.written sink.new ≡ appended (K.written sink.old) (tail_text (record_view rec.now))) }
-    ensures failed { OnErr result (Rose (K.faults sink.old) (K.faults sink.new)) }
-    ensures steady { OnOk result (K.faults sink.new ≡ K.faults sink.old) }
-    ensures front { OnErr result
-        (AppendsFront (K.written sink.old) (tail_text (record_view rec.now)) (K.written sink.new)) }
-    ensures faults_stay { K.faults sink.old ≤ K.faults sink.new }
-    ensures address_stays { K.opened_at sink.new ≡ K.opened_at sink.old }
+    ensures ok { OnOk result (K.seen sink.new ≡ given (tail_text (record_view rec.now)) (K.seen sink.old)) }
+    ensures failed { OnErr result (HasFailedBehind (tail_text (record_view rec.now)) (K.seen sink.old) (K.seen sink.new)) }
 {
     let tally = rec.tally();
     write_own_counter(b"statsd.bad_lines_seen", tally.bad, rec, sink)?;

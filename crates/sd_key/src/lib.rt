@@ -13,4 +13,4 @@ pub use key::{Key, keys_order};
 pub use kind::{Kind, kinds_order};
 pub use part::has_part;
 pub use pattern::{Pattern, matches};
-pub use shard::shard_of;
+pub use shard::{fnv1a, shard_of};

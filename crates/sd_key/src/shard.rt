@@ -19,7 +19,7 @@ pub fn shard_of(key: &Key, shards: u16) -> u16
 }
 
 /// The hash FNV-1a of 64 bits.
-fn fnv1a(bytes: &[u8]) -> u64
+pub fn fnv1a(bytes: &[u8]) -> u64
     ensures { result ≡ fnv1a bytes.now }
 {
     bytes.iter().fold(

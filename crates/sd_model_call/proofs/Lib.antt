@@ -1,1 +1,3 @@
-pub mod CompletenessLemmas
+pub mod ReplayEnds
+pub mod CallEnds
+pub mod KeptFaults

@@ -1,16 +1,31 @@
 -- What the program answers to its words, and what was done by then.
-use Rattle.std.specs.Prelude.{◌≡◌, ◌≢◌, ◌⊎◌, ℕ, Bool, true, false, List, [], Option, Some, None, IfSome}
-use Rattle.sd_model_outside.specs.Outside.{Place, File, Rose, IsAtEnd}
-use Rattle.sd_model_replay.specs.Replay.{default_settings, FaultsOver}
+use Rattle.std.specs.Prelude.{◌≡◌, ◌⊎◌, ℕ, Bool, true, false, List, [], ◌∷◌, ◌++◌, Option, Some, None}
+use Rattle.std.specs.List.{AllByRecursion}
+use Rattle.sd_model_outside.specs.Outside.{Place, File, Object, HasFailed, HasRead, IsAtEnd, opened}
+use Rattle.sd_model_replay.specs.Settings.{Settings}
+use Rattle.sd_model_replay.specs.Totals.{totals_after}
 use Rattle.sd_model_replay.specs.AccountingTheorem.{Seen, Course, AccountingTheorem}
-use Rattle.sd_model_replay.specs.Run.{End, Complete, NotBuilt, ReadFailed, WriteFailed, WornOut, EndsAs, totals_after}
-use Rattle.sd_model_call.specs.Words.{Replay, form}
+use Rattle.sd_model_replay.specs.Ends.{End, Complete, NotBuilt, ReadFailed, WriteFailed, WornOut, EndsAs}
+use Rattle.sd_model_call.specs.Words.{Form, Replay, form}
+
+-- what is in force without a settings file
+abbrev pub default_settings : Settings
+default_settings =
+    record {
+      shards = 1;
+      limits = record { rows = 4096; entries = 65536 };
+      policy = record { counters = false; timers = false; gauges = false; sets = false; max_ttl = 1 };
+      plan = record { interval_ms = 10000 };
+      receivers = 2;
+      uses_graphite = true;
+      uses_console = false;
+    }
 
 -- an object that is opened
 pub data Part : Type 0 where
-  Settings : Part
-  Script : Part
-  Graphite : Part
+  OfSettings : Part
+  OfScript : Part
+  OfGraphite : Part
 
 -- How the program answers: all was done; no memory was left; the words are of no form; an object couldn't be
 -- opened; a read failed; the output failed; no built record stands at this place, or, at 0, the settings have
@@ -25,182 +40,149 @@ pub data Answer : Type 0 where
   Unbuilt : (at : ℕ) → Answer
   Worn : (turns : ℕ) → Answer
 
+-- what the program answers where a replay ends so
+abbrev pub ending : End → Answer
+ending (Complete totals) = Done
+ending (NotBuilt at) = Unbuilt at
+ending ReadFailed = NotRead OfScript
+ending WriteFailed = NotWritten
+ending (WornOut turns) = Worn turns
+
 -- Which backends are flagged as used.
 pub record Flags : Type 0 where
   pub graphite : Bool
   pub console : Bool
 
--- without a settings file, Graphite alone is used
-abbrev pub default_flags : Flags
-default_flags = record { graphite = true; console = false }
+-- the flags that settings ask for
+abbrev pub flags_of : Settings → Flags
+flags_of settings = record { graphite = settings.uses_graphite; console = settings.uses_console }
 
--- What is seen of the objects of a call: the settings and what a replay uses, where each was last opened, and which
--- backends are flagged as used.
-pub record Objects : Type 0 where
-  pub settings : Option (List ℕ)
-  pub settings_faults : ℕ
+-- What is seen of a call's objects: the settings and what a replay uses, and which backends are flagged as used.
+pub record World : Type 0 where
+  pub settings : Object
   pub seen : Seen
-  pub settings_at : Option Place
-  pub script_at : Option Place
-  pub graphite_at : Option Place
   pub flags : Flags
 
--- the words ask for a replay
-pub record AsksForReplay (words : List (List ℕ)) : Type 0 where
-  pub settings : List ℕ
-  pub script : List ℕ
-  pub form : form words ≡ Some (Replay settings script)
+-- what is seen of a part
+abbrev pub part_in : World → Part → Object
+part_in world OfSettings = world.settings
+part_in world OfScript = world.seen.script
+part_in world OfGraphite = world.seen.graphite
 
--- what the objects of a replay have and were given is as it was
-pub record SameContent (old new : Seen) : Type 0 where
-  pub script : new.script ≡ old.script
-  pub graphite : new.graphite ≡ old.graphite
-  pub output : new.output ≡ old.output
+-- a part that is opened, and where
+pub record Opening : Type 0 where
+  pub part : Part
+  pub place : Place
 
--- how often each failed is as it was
-pub record SameFaults (old new : Seen) : Type 0 where
-  pub script : new.script_faults ≡ old.script_faults
-  pub graphite : new.graphite_faults ≡ old.graphite_faults
-  pub output : new.output_faults ≡ old.output_faults
+-- What a replay opens, in this order: the settings, the script, and Graphite at the empty name.
+abbrev pub openings : List ℕ → List ℕ → List Opening
+openings settings script =
+    record { part = OfSettings; place = File settings } ∷ record { part = OfScript; place = File script } ∷ record { part = OfGraphite; place = File [] } ∷ []
 
--- the settings were opened and read, and have no byte
-abbrev pub AreEmpty : Objects → Type 0
-AreEmpty old = IsAtEnd old.settings
+-- a part was opened at its place, and nothing else of it changed
+abbrev pub IsOpened : World → World → Opening → Type 0
+IsOpened old new o = part_in new o.part ≡ opened o.place (part_in old o.part)
 
--- the settings have a byte, which is known where they tell what they have left
-abbrev pub AreNotEmpty : Objects → Type 0
-AreNotEmpty old = IfSome old.settings (λ bytes. bytes ≢ [])
+-- a part is as it was
+abbrev pub IsUntouched : World → World → Opening → Type 0
+IsUntouched old new o = part_in new o.part ≡ part_in old o.part
 
--- an object is where it was opened before, or was opened at this place
-abbrev pub IsAtMostAt : Place → Option Place → Option Place → Type 0
-IsAtMostAt place old new = (new ≡ old) ⊎ (new ≡ Some place)
+-- the settings were read to their end and have no byte, which the flags then say
+pub record TakesDefaults (old new : World) : Type 0 where
+  pub empty : IsAtEnd old.settings.told
+  pub flags : new.flags ≡ flags_of default_settings
 
--- what a replay's end is to the program
-abbrev pub ending : End → Answer
-ending (Complete totals) = Done
-ending (NotBuilt at) = Unbuilt at
-ending ReadFailed = NotRead Script
-ending WriteFailed = NotWritten
-ending (WornOut turns) = Worn turns
+-- once the first part, the settings, is opened, and before the next one is, the settings are read
+abbrev pub AreTaken : List Opening → World → World → Type 0
+AreTaken [] old new = new.flags ≡ old.flags
+AreTaken (o ∷ before) old new = TakesDefaults old new
 
--- no record was carried out
-pub record IsNothing (course : Course) : Type 0 where
+-- Some parts were opened, in their order, and those behind them are untouched.
+pub record OpensSome (parts : List Opening) (old new : World) : Type 0 where
+  pub before : List Opening
+  pub behind : List Opening
+  pub order : parts ≡ before ++ behind
+  pub opened : AllByRecursion (IsOpened old new) before
+  pub untouched : AllByRecursion (IsUntouched old new) behind
+  pub taken : AreTaken before old new
+
+-- The opening of a part failed: those before it were opened, in their order, and those behind it are untouched.
+pub record FailsToOpen (part : Part) (parts : List Opening) (old new : World) : Type 0 where
+  pub before : List Opening
+  pub place : Place
+  pub behind : List Opening
+  pub order : parts ≡ before ++ record { part = part; place = place } ∷ behind
+  pub opened : AllByRecursion (IsOpened old new) before
+  pub failed : HasFailed (part_in old part) (part_in new part)
+  pub untouched : AllByRecursion (IsUntouched old new) behind
+  pub taken : AreTaken before old new
+
+-- no part but the settings was opened, and the flags stayed
+pub record OnlySettings (old new : World) : Type 0 where
+  pub seen : new.seen ≡ old.seen
+  pub flags : new.flags ≡ old.flags
+
+-- The replay didn't begin: no record was carried out, and the output and the console are untouched.
+pub record NotBegun (course : Course) (start : Seen) (old new : World) : Type 0 where
   pub played : course.played ≡ []
   pub ahead : course.ahead ≡ []
+  pub since : start ≡ new.seen
+  pub output : new.seen.output ≡ old.seen.output
+  pub console : new.seen.console ≡ old.seen.console
 
--- the words are of no form, and nothing was opened or used
-pub record Unasked (words : List (List ℕ)) (course : Course) (old new : Objects) : Type 0 where
-  pub form : form words ≡ None
-  pub nothing : IsNothing course
-  pub unused : new ≡ old
+-- what is seen where a replay begins: a script of this name was opened, and Graphite at the empty name
+abbrev pub started : List ℕ → Seen → Seen
+started name seen = record seen { script = opened (File name) seen.script; graphite = opened (File []) seen.graphite }
 
--- the settings were empty, every object was opened at its place, and the script was carried out until this end
-pub record Ran (end : End) (words : List (List ℕ)) (course : Course) (old new : Objects) : Type 0 where
-  pub asked : AsksForReplay words
-  pub settings : AreEmpty old
-  pub settings_faults : new.settings_faults ≡ old.settings_faults
-  pub graphite_faults : FaultsOver course.played old.seen.graphite_faults new.seen.graphite_faults
-  pub ends : EndsAs end course old.seen new.seen
-  pub settings_at : new.settings_at ≡ Some (File asked.settings)
-  pub script_at : new.script_at ≡ Some (File asked.script)
-  pub graphite_at : new.graphite_at ≡ Some (File [])
-  pub flags : new.flags ≡ default_flags
+-- a replay of empty settings, and of a script that was opened, as was Graphite, ended so
+pub record Ran (end : End) (settings_name script_name : List ℕ) (course : Course) (start : Seen) (old new : World) : Type 0 where
+  pub taken : TakesDefaults old new
+  pub settings : new.settings ≡ opened (File settings_name) old.settings
+  pub since : start ≡ started script_name old.seen
+  pub ends : EndsAs default_settings end course start new.seen
 
--- the settings ended it, and nothing else was opened or used
-pub record Stopped (why : Type 0) (words : List (List ℕ)) (course : Course) (old new : Objects) : Type 0 where
-  pub asked : AsksForReplay words
-  pub cause : why
-  pub nothing : IsNothing course
-  pub unused : new.seen ≡ old.seen
-  pub script_at : new.script_at ≡ old.script_at
-  pub graphite_at : new.graphite_at ≡ old.graphite_at
-  pub flags : new.flags ≡ old.flags
-
--- the settings couldn't be opened
-pub record SettingsRefused (words : List (List ℕ)) (course : Course) (old new : Objects) : Type 0 where
-  pub stopped : Stopped (Rose old.settings_faults new.settings_faults) words course old new
-  pub content : new.settings ≡ old.settings
-  pub settings_at : new.settings_at ≡ old.settings_at
-
--- the settings were opened at the file that the words name, and a read of them failed
-pub record SettingsUnread (words : List (List ℕ)) (course : Course) (old new : Objects) : Type 0 where
-  pub stopped : Stopped (Rose old.settings_faults new.settings_faults) words course old new
-  pub content : new.settings ≡ old.settings
-  pub settings_at : new.settings_at ≡ Some (File stopped.asked.settings)
-
--- the settings were opened at the file that the words name, and have a byte
-pub record SettingsUnbuilt (at : ℕ) (words : List (List ℕ)) (course : Course) (old new : Objects) : Type 0 where
-  pub stopped : Stopped (AreNotEmpty old) words course old new
-  pub settings_faults : new.settings_faults ≡ old.settings_faults
-  pub settings_at : new.settings_at ≡ Some (File stopped.asked.settings)
+-- the settings were opened, a byte was read of them, and nothing else was opened
+pub record HasByte (at : ℕ) (settings : List ℕ) (old new : World) : Type 0 where
   pub place : at ≡ 0
+  pub byte : ℕ
+  pub read : HasRead (byte ∷ []) (opened (File settings) old.settings) new.settings
+  pub only : OnlySettings old new
 
--- the settings were empty, and an object of the replay couldn't be opened
-pub record Refused (why : Type 0) (words : List (List ℕ)) (course : Course) (old new : Objects) : Type 0 where
-  pub asked : AsksForReplay words
-  pub settings : AreEmpty old
-  pub settings_faults : new.settings_faults ≡ old.settings_faults
-  pub cause : why
-  pub nothing : IsNothing course
-  pub content : SameContent old.seen new.seen
-  pub output_faults : new.seen.output_faults ≡ old.seen.output_faults
-  pub settings_at : new.settings_at ≡ Some (File asked.settings)
-  pub graphite_at : new.graphite_at ≡ old.graphite_at
-  pub flags : new.flags ≡ default_flags
+-- the settings were opened, a read of them failed, and nothing else was opened
+pub record FailsToRead (settings : List ℕ) (old new : World) : Type 0 where
+  pub failed : HasFailed (opened (File settings) old.settings) new.settings
+  pub only : OnlySettings old new
 
--- the script couldn't be opened, and Graphite wasn't used
-pub record ScriptRefused (words : List (List ℕ)) (course : Course) (old new : Objects) : Type 0 where
-  pub refused : Refused (Rose old.seen.script_faults new.seen.script_faults) words course old new
-  pub graphite_faults : new.seen.graphite_faults ≡ old.seen.graphite_faults
-  pub script_at : new.script_at ≡ old.script_at
+-- Why the program answers so where it is asked for a replay, and what was done by then.
+abbrev pub AnswersReplay : List ℕ → List ℕ → Answer → Course → Seen → World → World → Type 0
+AnswersReplay settings script Done course start old new = Ran (Complete (totals_after default_settings course.played)) settings script course start old new
+AnswersReplay settings script NoMemory course start old new = OpensSome (openings settings script) old new × NotBegun course start old new
+AnswersReplay settings script NoForm course start old new = ⊥
+AnswersReplay settings script (NotOpened part) course start old new = FailsToOpen part (openings settings script) old new × NotBegun course start old new
+AnswersReplay settings script (NotRead OfSettings) course start old new = FailsToRead settings old new × NotBegun course start old new
+AnswersReplay settings script (NotRead OfScript) course start old new = Ran ReadFailed settings script course start old new
+AnswersReplay settings script (NotRead OfGraphite) course start old new = ⊥
+AnswersReplay settings script NotWritten course start old new = Ran WriteFailed settings script course start old new
+AnswersReplay settings script (Unbuilt at) course start old new =
+    (HasByte at settings old new × NotBegun course start old new) ⊎ Ran (NotBuilt at) settings script course start old new
+AnswersReplay settings script (Worn turns) course start old new = Ran (WornOut turns) settings script course start old new
 
--- Graphite couldn't be opened, once the script was
-pub record GraphiteRefused (words : List (List ℕ)) (course : Course) (old new : Objects) : Type 0 where
-  pub refused : Refused (Rose old.seen.graphite_faults new.seen.graphite_faults) words course old new
-  pub script_faults : new.seen.script_faults ≡ old.seen.script_faults
-  pub script_at : new.script_at ≡ Some (File refused.asked.script)
+-- words of no form are refused, and nothing is opened or used
+pub record Refuses (answer : Answer) (course : Course) (start : Seen) (old new : World) : Type 0 where
+  pub refused : answer ≡ NoForm
+  pub unused : new ≡ old
+  pub not_begun : NotBegun course start old new
 
--- no memory was left to open the settings
-pub record NothingOpened (old new : Objects) : Type 0 where
-  pub settings_at : new.settings_at ≡ old.settings_at
-  pub script_at : new.script_at ≡ old.script_at
-  pub flags : new.flags ≡ old.flags
+-- Why the program answers so, by the form of its words.
+abbrev pub Answers : Option Form → Answer → Course → Seen → World → World → Type 0
+Answers None answer course start old new = Refuses answer course start old new
+Answers (Some (Replay settings script)) answer course start old new = AnswersReplay settings script answer course start old new
 
--- the settings, of this name, were empty, and no memory was left for what comes behind them
-pub record SettingsTaken (settings script : List ℕ) (old new : Objects) : Type 0 where
-  pub empty : AreEmpty old
-  pub settings_at : new.settings_at ≡ Some (File settings)
-  pub script_at : IsAtMostAt (File script) old.script_at new.script_at
-  pub flags : new.flags ≡ default_flags
-
--- no memory was left before the first record, and nothing was read of the script or written
-pub record Exhausted (words : List (List ℕ)) (course : Course) (old new : Objects) : Type 0 where
-  pub asked : AsksForReplay words
-  pub nothing : IsNothing course
-  pub content : SameContent old.seen new.seen
-  pub faults : SameFaults old.seen new.seen
-  pub settings_faults : new.settings_faults ≡ old.settings_faults
-  pub reached : NothingOpened old new ⊎ SettingsTaken asked.settings asked.script old new
-  pub graphite_at : new.graphite_at ≡ old.graphite_at
-
--- Why the program answers so, and what was done by then.
-abbrev pub Answers : Answer → List (List ℕ) → Course → Objects → Objects → Type 0
-Answers NoForm words course old new = Unasked words course old new
-Answers NoMemory words course old new = Exhausted words course old new
-Answers (NotOpened Settings) words course old new = SettingsRefused words course old new
-Answers (NotOpened Script) words course old new = ScriptRefused words course old new
-Answers (NotOpened Graphite) words course old new = GraphiteRefused words course old new
-Answers (NotRead Settings) words course old new = SettingsUnread words course old new
-Answers (NotRead Script) words course old new = Ran ReadFailed words course old new
-Answers (NotRead Graphite) words course old new = ⊥
-Answers NotWritten words course old new = Ran WriteFailed words course old new
-Answers (Unbuilt at) words course old new = SettingsUnbuilt at words course old new ⊎ Ran (NotBuilt at) words course old new
-Answers (Worn turns) words course old new = Ran (WornOut turns) words course old new
-Answers Done words course old new = Ran (Complete (totals_after course.played)) words course old new
-
--- A call, by its words, the objects before and after it, and its answer: whatever it answers, the accounting theorem
--- holds of the records that it carried out, and the answer has its cause.
-pub record Accounts (words : List (List ℕ)) (old new : Objects) (answer : Answer) : Type 0 where
+-- A call, by its words, what is seen of its objects before and after it, and its answer: whatever it answers, the
+-- accounting theorem holds of the records that it carried out, from what was seen when the replay began; and the answer
+-- has its cause.
+pub record Accounts (words : List (List ℕ)) (old new : World) (answer : Answer) : Type 0 where
   pub course : Course
-  pub theorem : AccountingTheorem default_settings course old.seen new.seen
-  pub answers : Answers answer words course old new
+  pub start : Seen
+  pub theorem : AccountingTheorem default_settings course start new.seen
+  pub answers : Answers (form words) answer course start old new

@@ -1,59 +1,90 @@
--- What a call has to come to where nothing stands in its way.
-use Rattle.std.specs.Prelude.{◌≡◌, ◌≢◌, ◌⊎◌, ℕ, ◌^◌, ◌<◌, List, [], ◌++◌, length, map, Some, ⊤}
+-- What a call has to come to, by its words, what its objects tell, and where no fault was counted.
+use Rattle.std.specs.Prelude.{◌≡◌, ◌⊎◌, ℕ, ◌<◌, Bool, IsTrue, if◌then◌else◌, List, [], ◌++◌, length, map, Some}
 use Rattle.std.specs.List.{AllByRecursion}
-use Rattle.sd_model_outside.specs.Outside.{Rose, appended}
-use Rattle.sd_model_record.specs.Desk.{NotUsed, Written}
-use Rattle.sd_model_replay.specs.Script.{Command, Packet, Flush, end_word, script_text, IsBuilt}
-use Rattle.sd_model_replay.specs.Replay.{Played, PlayedPacket, PlayedFlush, command_of, default_settings, first_run, graphite_deliveries, AfterDeliveries, FaultsOver, totals_text}
-use Rattle.sd_model_replay.specs.AccountingTheorem.{Seen, Course, AccountingTheorem}
-use Rattle.sd_model_replay.specs.Run.{behind, totals_after}
-use Rattle.sd_model_call.specs.Call.{Objects, Answer, Done, NoMemory, NotOpened, Graphite, AsksForReplay}
+use Rattle.sd_model_outside.specs.Outside.{Left, Rose, given}
+use Rattle.sd_model_record.specs.Desk.{Mark, NotUsed, Written}
+use Rattle.sd_model_replay.specs.Settings.{Settings}
+use Rattle.sd_model_replay.specs.Backends.{Backend, AfterDeliveries, is_used}
+use Rattle.sd_model_replay.specs.Script.{Command, Packet, Flush, end_word, script_text, IsBuilt, BeginsBuilt}
+use Rattle.sd_model_replay.specs.Replay.{Played, quiet, deliveries, output_of}
+use Rattle.sd_model_replay.specs.Totals.{totals_after, totals_text}
+use Rattle.sd_model_replay.specs.AccountingTheorem.{Seen, Course, AccountingTheorem, seen_at}
+use Rattle.sd_model_replay.specs.Ends.{most_records, behind}
+use Rattle.sd_model_call.specs.Words.{Replay, form}
+use Rattle.sd_model_call.specs.Call.{World, Answer, NoMemory, NotOpened, NotRead, Unbuilt, OfSettings, OfGraphite}
 
--- The script tells that it has these built records, fewer than there may be, the word that ends a script, and then the
--- rest; and no fault was counted of the script or the output.
-pub record IsUnhinderedReplay (old new : Seen) (commands : List Command) (rest : List ℕ) : Type 0 where
-  pub script : old.script ≡ Some (script_text commands ++ (end_word ++ rest))
-  pub built : AllByRecursion IsBuilt commands
-  pub few : length commands < 2 ^ 62
-  pub script_faults : ¬ Rose old.script_faults new.script_faults
-  pub output_faults : ¬ Rose old.output_faults new.output_faults
+-- The script tells that it has these built records and then these bytes, and no fault was counted of it.
+pub record IsSteady (settings : Settings) (old new : Seen) (commands : List Command) (bytes : List ℕ) : Type 0 where
+  pub script : old.script.told ≡ Left (script_text commands ++ bytes)
+  pub built : AllByRecursion (IsBuilt settings.receivers) commands
+  pub script_faults : ¬ Rose old.script.faults new.script.faults
 
--- The words ask for a replay; the settings tell that they have no byte, and no fault was counted of them; and nothing
--- stands in the way of the replay.
-pub record IsUnhindered (words : List (List ℕ)) (old new : Objects) (commands : List Command) (rest : List ℕ) : Type 0 where
-  pub asked : AsksForReplay words
-  pub settings : old.settings ≡ Some []
-  pub settings_faults : ¬ Rose old.settings_faults new.settings_faults
-  pub replay : IsUnhinderedReplay old.seen new.seen commands rest
+-- nothing hinders a replay of these records: they are fewer than there may be, behind them stands the word that ends the
+-- script, and then the rest, and no fault was counted of the output
+pub record IsUnhindered (settings : Settings) (old new : Seen) (commands : List Command) (rest : List ℕ) : Type 0 where
+  pub steady : IsSteady settings old new commands (end_word ++ rest)
+  pub few : length commands < most_records
+  pub output_faults : ¬ Rose old.output.faults new.output.faults
 
--- the answers of such a call, where Graphite counted no fault either
-abbrev pub IsWholeAnswer : Answer → Type 0
-IsWholeAnswer answer = (answer ≡ Done) ⊎ (answer ≡ NoMemory)
+-- fewer records than there may be, and behind them bytes that begin with no built record
+pub record IsCutOff (settings : Settings) (old new : Seen) (commands : List Command) (bytes : List ℕ) : Type 0 where
+  pub steady : IsSteady settings old new commands bytes
+  pub few : length commands < most_records
+  pub other : ¬ BeginsBuilt settings.receivers bytes
 
--- the answers of such a call
-abbrev pub IsFullAnswer : Answer → Type 0
-IsFullAnswer answer = IsWholeAnswer answer ⊎ (answer ≡ NotOpened Graphite)
+-- as many records as there may be
+pub record IsLongest (settings : Settings) (old new : Seen) (commands : List Command) (bytes : List ℕ) : Type 0 where
+  pub steady : IsSteady settings old new commands bytes
+  pub most : length commands ≡ most_records
+
+-- The words ask for a replay, and the settings tell that they have these bytes.
+pub record Asks (words : List (List ℕ)) (old new : World) (bytes : List ℕ) : Type 0 where
+  pub settings : List ℕ
+  pub script : List ℕ
+  pub form : form words ≡ Some (Replay settings script)
+  pub told : old.settings.told ≡ Left bytes
+
+-- such a call whose settings have no byte, and no fault was counted of them
+pub record AsksPlainly (words : List (List ℕ)) (old new : World) : Type 0 where
+  pub asks : Asks words old new []
+  pub settings_faults : ¬ Rose old.settings.faults new.settings.faults
+
+-- no fault was counted of a backend that is used
+abbrev pub NoneMissed : Settings → Seen → Seen → Type 0
+NoneMissed settings old new = (back : Backend) → IsTrue (is_used settings back) → ¬ Rose (seen_at back old).faults (seen_at back new).faults
+
+-- the answer that is expected, or that no memory was left
+abbrev pub IsWhole : Answer → Answer → Type 0
+IsWhole ended answer = (answer ≡ ended) ⊎ (answer ≡ NoMemory)
+
+-- besides, that Graphite couldn't be opened
+abbrev pub IsFull : Answer → Answer → Type 0
+IsFull ended answer = IsWhole ended answer ⊎ (answer ≡ NotOpened OfGraphite)
+
+-- the answers of a call whose settings have a byte
+abbrev pub IsBlocked : Answer → Type 0
+IsBlocked answer = IsWhole (Unbuilt 0) answer ⊎ (answer ≡ NotOpened OfSettings) ⊎ (answer ≡ NotRead OfSettings)
 
 -- these records were carried out, all and no others, the rest wasn't, and the output has the totals
-pub record CarriedOut (old new : Seen) (commands : List Command) (rest : List ℕ) : Type 0 where
+pub record CarriedOut (settings : Settings) (old new : Seen) (commands : List Command) (rest : List ℕ) : Type 0 where
   pub course : Course
-  pub theorem : AccountingTheorem default_settings course old new
-  pub graphite_faults : FaultsOver course.played old.graphite_faults new.graphite_faults
-  pub all : map command_of course.played ≡ commands
-  pub left : behind course new ≡ Some (end_word ++ rest)
-  pub output : new.output ≡ appended old.output (totals_text (totals_after course.played))
+  pub theorem : AccountingTheorem settings course old new
+  pub all : map (λ p. p.command) course.played ≡ commands
+  pub left : behind course new ≡ Left (end_word ++ rest)
+  pub output : new.output ≡ given (output_of settings course.played ++ totals_text (totals_after settings course.played)) old.output
 
--- a flush that Graphite was used in was written to it
-abbrev pub WrittenWhereUsed : Played → Type 0
-WrittenWhereUsed (PlayedPacket who moment datagram) = ⊤
-WrittenWhereUsed (PlayedFlush ts marks) = marks.graphite ≢ NotUsed → marks.graphite ≡ Written
+-- the mark of a backend at a flush with no fault
+abbrev pub well_mark : Bool → Mark
+well_mark used = if used then Written else NotUsed
 
 -- a record carried out with no fault
-abbrev pub well : Command → Played
-well (Packet who moment datagram) = PlayedPacket who moment datagram
-well (Flush ts) = PlayedFlush ts (record { graphite = Written; console = NotUsed })
+abbrev pub well : Settings → Command → Played
+well settings (Packet who moment datagram) = record { command = Packet who moment datagram; outcome = quiet }
+well settings (Flush ts) =
+    record { command = Flush ts; outcome = record { marks = record { graphite = well_mark settings.uses_graphite; console = well_mark settings.uses_console } } }
 
--- Graphite got the text of each flush of these records, and the output their totals, with no fault
-pub record CarriedOutWell (old new : Seen) (commands : List Command) : Type 0 where
-  pub graphite : AfterDeliveries (graphite_deliveries default_settings first_run (map well commands)) old.graphite new.graphite
-  pub output : new.output ≡ appended old.output (totals_text (totals_after (map well commands)))
+-- each backend that is used got the whole text of each flush of these records, each other one is untouched, and the output
+-- got their totals
+pub record CarriedOutWell (settings : Settings) (old new : Seen) (commands : List Command) : Type 0 where
+  pub backends : (back : Backend) → AfterDeliveries (deliveries settings back (map (well settings) commands)) (seen_at back old) (seen_at back new)
+  pub output : (let played = map (well settings) commands in new.output ≡ given (output_of settings played ++ totals_text (totals_after settings played)) old.output)

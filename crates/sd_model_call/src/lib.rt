@@ -5,5 +5,5 @@
 mod completeness;
 
 pub use completeness::{
-    no_fault_no_failure, unhindered_calls_complete, unhindered_replays_complete,
+    blocked_calls_stop, faults_are_kept, unhindered_calls_complete, unhindered_replays_complete,
 };

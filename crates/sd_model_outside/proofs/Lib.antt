@@ -1,1 +1,2 @@
 pub mod OutsideLemmas
+pub mod WriteLemmas

@@ -1,7 +1,6 @@
--- What the program may know of the objects outside it: how often they failed, and what a reader had
--- left or a writer was given, where they tell it.
-use Rattle.std.specs.Prelude.{◌≡◌, ℕ, ◌+◌, ◌-◌, ◌^◌, ◌≤◌, min, Bool, true, false, List, [], ◌∷◌, ◌++◌, length, Option, Some, None, IfSome}
-use Rattle.std.specs.Option.{option_map}
+-- What the program may know of the objects outside it: what they tell of their content, how often they failed, and
+-- where they were opened.
+use Rattle.std.specs.Prelude.{◌≡◌, ℕ, ◌+◌, ◌-◌, ◌^◌, ◌<◌, ◌≤◌, min, take, Bool, true, false, List, [], ◌∷◌, ◌++◌, length, Option, Some, None, IfSome, ⊤}
 
 -- Where an object is opened: at a file by its name, or at a host and a port.
 pub data Place : Type 0 where
@@ -16,7 +15,7 @@ last_count = 2 ^ 64 - 1
 abbrev pub raised : ℕ → ℕ
 raised n = min (n + 1) last_count
 
--- a count of faults has risen by n, or stands at its end
+-- a count of faults has risen by n or more, or stands at its end
 abbrev pub RoseBy : ℕ → ℕ → ℕ → Type 0
 RoseBy n before now = min (before + n) last_count ≤ now
 
@@ -24,42 +23,95 @@ RoseBy n before now = min (before + n) last_count ≤ now
 abbrev pub Rose : ℕ → ℕ → Type 0
 Rose before now = RoseBy 1 before now
 
--- a source that had old left gave these bytes, and has new left
-abbrev pub Reads : Option (List ℕ) → List ℕ → Option (List ℕ) → Type 0
-Reads old bytes new = old ≡ option_map (λ rest. bytes ++ rest) new
-
--- a source that tells what it has left has nothing left
-abbrev pub IsAtEnd : Option (List ℕ) → Type 0
-IsAtEnd left = IfSome left (λ bytes. bytes ≡ [])
-
 -- one list of bytes that a backend was given, and whether it was ended
 pub record Round : Type 0 where
   pub bytes : List ℕ
   pub is_ended : Bool
 
--- What a sink tells of what it was given: nothing; how many bytes, up to the last count; the bytes; or,
--- for a backend, a list of bytes for each round, those that no write goes to any more and then the open one.
-pub data Written : Type 0 where
-  Untold : Written
-  Number : ℕ → Written
-  Bytes : List ℕ → Written
-  Rounds : List Round → Option (List ℕ) → Written
+-- What an object tells of its content: nothing; of a source the bytes that it has left; of a sink how many bytes it was
+-- given, up to the last count, or which; of a backend a list of bytes for each round, those that no write goes to any
+-- more and then the open one.
+pub data Told : Type 0 where
+  Untold : Told
+  Left : (bytes : List ℕ) → Told
+  Number : (n : ℕ) → Told
+  Bytes : (bytes : List ℕ) → Told
+  Rounds : (rounds : List Round) (open_list : Option (List ℕ)) → Told
+
+-- What is seen of an object: what it tells, how often it failed, and where it was last opened, if it was.
+pub record Object : Type 0 where
+  pub told : Told
+  pub faults : ℕ
+  pub opened_at : Option Place
+
+-- an object that tells this instead
+abbrev pub telling : Told → Object → Object
+telling told o = record o { told = told }
+
+-- an object that was opened here
+abbrev pub opened : Place → Object → Object
+opened place o = record o { opened_at = Some place }
+
+-- An object was used, and no more is said: it is where it was last opened, and its count of faults hasn't fallen.
+pub record Used (old new : Object) : Type 0 where
+  pub faults : old.faults ≤ new.faults
+  pub opened_at : new.opened_at ≡ old.opened_at
+
+-- A call on an object failed: it was used, its count of faults rose, and it tells what it told.
+pub record HasFailed (old new : Object) : Type 0 where
+  pub used : Used old new
+  pub rose : Rose old.faults new.faults
+  pub told : new.told ≡ old.told
+
+-- the bytes that a source has left, where it tells them
+abbrev pub left_in : Told → Option (List ℕ)
+left_in (Left bytes) = Some bytes
+left_in told = None
+
+-- these bytes before what a source has left
+abbrev pub put_back : List ℕ → Told → Told
+put_back bytes (Left rest) = Left (bytes ++ rest)
+put_back bytes told = told
+
+-- a source that had old left gave these bytes, and has new left
+abbrev pub Reads : Told → List ℕ → Told → Type 0
+Reads old bytes new = old ≡ put_back bytes new
+
+-- these bytes were read of a source, and nothing else of it changed
+abbrev pub HasRead : List ℕ → Object → Object → Type 0
+HasRead bytes old new = old ≡ telling (put_back bytes new.told) new
+
+-- a source that tells what it has left has nothing left
+abbrev pub IsAtEnd : Told → Type 0
+IsAtEnd told = IfSome (left_in told) (λ bytes. bytes ≡ [])
 
 -- a number that is told isn't above the last count
-abbrev pub FitsLastCount : Written → Type 0
-FitsLastCount Untold = Unit {0}
+abbrev pub FitsLastCount : Told → Type 0
 FitsLastCount (Number n) = n ≤ last_count
-FitsLastCount (Bytes ys) = Unit {0}
-FitsLastCount (Rounds rounds open_list) = Unit {0}
+FitsLastCount told = ⊤
 
 -- after a write of these bytes, which begins a list where none is open
-abbrev pub appended : Written → List ℕ → Written
-appended Untold xs = Untold
+abbrev pub appended : Told → List ℕ → Told
 appended (Number n) xs = Number (min (n + length xs) last_count)
 appended (Bytes ys) xs = Bytes (ys ++ xs)
 appended (Rounds rounds (Some ys)) xs = Rounds rounds (Some (ys ++ xs))
 appended (Rounds rounds None) [] = Rounds rounds None
 appended (Rounds rounds None) (x ∷ xs) = Rounds rounds (Some (x ∷ xs))
+appended told xs = told
+
+-- an object after a write of these bytes
+abbrev pub given : List ℕ → Object → Object
+given bytes o = telling (appended o.told bytes) o
+
+-- a front of the bytes was appended, and not all of them
+abbrev pub AppendsFront : Told → List ℕ → Told → Type 0
+AppendsFront old bytes new = (n : ℕ) × (n < length bytes) × (new ≡ appended old (take n bytes))
+
+-- An object was used and failed, once it was given a front of these bytes, and not all of them.
+pub record HasFailedBehind (bytes : List ℕ) (old new : Object) : Type 0 where
+  pub used : Used old new
+  pub rose : Rose old.faults new.faults
+  pub front : AppendsFront old.told bytes new.told
 
 -- the lists of a backend, with one that is open
 abbrev pub lists_of : List Round → Option (List ℕ) → List Round
@@ -67,23 +119,16 @@ lists_of rounds None = rounds
 lists_of rounds (Some bytes) = rounds ++ record { bytes = bytes; is_ended = false } ∷ []
 
 -- after `begin`, which leaves an open list as it stands
-abbrev pub begun : Written → Written
+abbrev pub begun : Told → Told
 begun (Rounds rounds open_list) = Rounds (lists_of rounds open_list) (Some [])
-begun Untold = Untold
-begun (Number n) = Number n
-begun (Bytes ys) = Bytes ys
+begun told = told
 
 -- after `finish`, which ends the open list, if there is one
-abbrev pub ended : Written → Written
+abbrev pub ended : Told → Told
 ended (Rounds rounds (Some bytes)) = Rounds (rounds ++ record { bytes = bytes; is_ended = true } ∷ []) None
-ended (Rounds rounds None) = Rounds rounds None
-ended Untold = Untold
-ended (Number n) = Number n
-ended (Bytes ys) = Bytes ys
+ended told = told
 
 -- the lists that a backend tells, the open one last
-abbrev pub told_lists : Written → Option (List Round)
+abbrev pub told_lists : Told → Option (List Round)
 told_lists (Rounds rounds open_list) = Some (lists_of rounds open_list)
-told_lists Untold = None
-told_lists (Number n) = None
-told_lists (Bytes ys) = None
+told_lists told = None

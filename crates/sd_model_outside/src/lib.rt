@@ -4,4 +4,4 @@
 
 mod outside;
 
-pub use outside::{empty_write, whole_round, writes_join};
+pub use outside::{empty_write, fronts_join, reads_join, whole_round, writes_join};

@@ -1,14 +1,14 @@
 ghost use Rattle.std.specs.Prelude.{◌≡◌, ℕ, ◌+◌, List, [], ◌∷◌, ◌++◌, length, Option, min, true};
-ghost use Rattle.sd_model_outside.specs.Outside.{Round, Written, Untold, Number, Bytes, Rounds, FitsLastCount, appended, begun, ended, lists_of, last_count};
+ghost use Rattle.sd_model_outside.specs.Outside.{AppendsFront, Round, Told, Untold, Number, Bytes, Rounds, FitsLastCount, Reads, appended, begun, ended, lists_of, last_count};
 
 /// Two writes one after the other are one write.
 pub fn writes_join()
-    ensures { (w : Written) (xs ys : List ℕ) → appended (appended w xs) ys ≡ appended w (xs ++ ys) }
+    ensures { (w : Told) (xs ys : List ℕ) → appended (appended w xs) ys ≡ appended w (xs ++ ys) }
 {}
 
 /// A write of nothing changes nothing.
 pub fn empty_write()
-    ensures { (w : Written) → FitsLastCount w → appended w [] ≡ w }
+    ensures { (w : Told) → FitsLastCount w → appended w [] ≡ w }
 {}
 
 /// `begin`, the writes of a text and `finish` add one ended list, which is that text. A list that was open
@@ -21,4 +21,16 @@ pub fn whole_round()
     ensures number { (n : ℕ) (text : List ℕ)
         → ended (appended (begun (Number n)) text) ≡ Number (min (n + length text) last_count) }
     ensures untold { (text : List ℕ) → ended (appended (begun Untold) text) ≡ Untold }
+{}
+
+/// Two reads one after the other are one read.
+pub fn reads_join()
+    ensures { (old mid new : Told) (xs ys : List ℕ) → Reads old xs mid → Reads mid ys new → Reads old (xs ++ ys) new }
+{}
+
+/// What a write of two texts one after the other leaves, where one of the two fails.
+pub fn fronts_join()
+    ensures longer { (w v : Told) (xs ys : List ℕ) → AppendsFront w xs v → AppendsFront w (xs ++ ys) v }
+    ensures later { (w v : Told) (xs ys : List ℕ)
+        → AppendsFront (appended w xs) ys v → AppendsFront w (xs ++ ys) v }
 {}

@@ -1,3 +1,4 @@
 pub mod Record
 pub mod Desk
 pub mod Graphite
+pub mod Console

@@ -1,2 +1,2 @@
-//! The definitions of a flush: its record, what the server counts of itself, and the text that Graphite gets.
+//! The definitions of a flush: its record, what the server counts of itself, and the texts that backends get.
 #![tactic(auto)]

@@ -1,5 +1,5 @@
 pub mod AccountingLemmas
-pub mod ListsTold
-pub mod ReplayLemmas
-pub mod StatisticsLemmas
+pub mod DeliveryLemmas
+pub mod HistoryLemmas
 pub mod ReadingLemmas
+pub mod ReplayLemmas

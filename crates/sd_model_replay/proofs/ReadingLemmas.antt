@@ -1,5 +1,5 @@
 -- A script has one reading.
-use Rattle.std.proofs.Common.{◌≡◌, ℕ, ◌^◌, ◌<◌, List, [], ◌∷◌, ◌++◌, length, get_or, drop, decimal, refl, sym, ap, ◌∙◌, arith, append_assoc, append-nil, inl, inr}
+use Rattle.std.proofs.Common.{◌≡◌, ◌⊎◌, ℕ, ◌^◌, ◌<◌, List, [], ◌∷◌, ◌++◌, length, get_or, drop, decimal, refl, sym, ap, ◌∙◌, arith, append_assoc, append-nil, inl, inr}
 use Rattle.std.specs.List.{AllByRecursion}
 use Rattle.std.proofs.lemmas.Fmt.{decimal_injective}
 use Rattle.sd_model_replay.specs.Script.{Command, Packet, Flush, spelled, end_word, script_text, IsBuilt, BeginsBuilt}
@@ -25,66 +25,96 @@ flush_parts ts rest = simp append_assoc
 first_byte : (xs ys : List ℕ) → xs ≡ ys → get_or xs 0 0 ≡ get_or ys 0 0
 first_byte xs ys same = ap (λ zs. get_or zs 0 0) same
 
-one_packet : (who moment who' moment' : ℕ) (datagram datagram' r s : List ℕ) → IsBuilt (Packet who moment datagram) → IsBuilt (Packet who' moment' datagram')
-    → packet_text who moment datagram r ≡ packet_text who' moment' datagram' s → (Packet who moment datagram ≡ Packet who' moment' datagram') × (r ≡ s)
-one_packet who moment who' moment' datagram datagram' r s a b same =
-    let first = number_cut 32 who who' _ _ (omega arith) (omega (arith, a.0)) (omega (arith, b.0)) same in
-    let second = number_cut 32 moment moment' _ _ (omega arith) (omega (arith, a.1)) (omega (arith, b.1)) first.1 in
-    let third = number_cut 10 (length datagram) (length datagram') _ _ (omega arith) (omega (arith, a.2)) (omega (arith, b.2)) second.1 in
-    let parts = same_parts datagram (10 ∷ r) datagram' (10 ∷ s) third.0 third.1 in
-    let w : who ≡ who' = first.0 in
-    let m : moment ≡ moment' = second.0 in
-    let d : datagram ≡ datagram' = parts.0 in
-    let behind : 10 ∷ r ≡ 10 ∷ s = parts.1 in
-    (cc, cc)
-
--- bytes begin with one built record at most
-pub one_record : (c d : Command) (r s : List ℕ) → IsBuilt c → IsBuilt d → spelled c ++ r ≡ spelled d ++ s → (c ≡ d) × (r ≡ s)
-one_record (Packet who moment datagram) (Packet who' moment' datagram') r s a b same =
-    one_packet who moment who' moment' datagram datagram' r s a b (ap (drop 2) (sym (packet_parts who moment datagram r) ∙ same ∙ packet_parts who' moment' datagram' s))
-one_record (Packet who moment datagram) (Flush ts) r s a b same = absurd (omega (arith, first_byte _ _ same))
-one_record (Flush ts) (Packet who moment datagram) r s a b same = absurd (omega (arith, first_byte _ _ same))
-one_record (Flush ts) (Flush ts') r s a b same =
-    let cut = number_cut 10 ts ts' r s (omega arith) (omega (arith, a)) (omega (arith, b)) (ap (drop 2) (sym (flush_parts ts r) ∙ same ∙ flush_parts ts' s)) in
-    (ap Flush cut.0, cut.1)
-
 -- no record begins as the end does
-not_end : (c : Command) (r s : List ℕ) → spelled c ++ r ≡ end_word ++ s → ⊥
+pub not_end : (c : Command) (r s : List ℕ) → spelled c ++ r ≡ end_word ++ s → ⊥
 not_end (Packet who moment datagram) r s same = absurd (omega (arith, first_byte _ _ same))
 not_end (Flush ts) r s same = absurd (omega (arith, first_byte _ _ same))
 
--- What stands behind some records of a script that is built as far as its end.
-pub record Behind (commands front : List Command) (rest left : List ℕ) : Type 0 where
-  pub behind : List Command
-  pub whole : commands ≡ front ++ behind
-  pub built : AllByRecursion IsBuilt behind
-  pub stands : left ≡ script_text behind ++ (end_word ++ rest)
+module _ (receivers : ℕ) where
+  one_packet : (who moment who' moment' : ℕ) (datagram datagram' r s : List ℕ) → IsBuilt receivers (Packet who moment datagram) → IsBuilt receivers (Packet who' moment' datagram')
+      → packet_text who moment datagram r ≡ packet_text who' moment' datagram' s → (Packet who moment datagram ≡ Packet who' moment' datagram') × (r ≡ s)
+  one_packet who moment who' moment' datagram datagram' r s a b same =
+      let first = number_cut 32 who who' _ _ (omega arith) (omega (arith, a.0)) (omega (arith, b.0)) same in
+      let second = number_cut 32 moment moment' _ _ (omega arith) (omega (arith, a.1)) (omega (arith, b.1)) first.1 in
+      let third = number_cut 10 (length datagram) (length datagram') _ _ (omega arith) (omega (arith, a.2)) (omega (arith, b.2)) second.1 in
+      let parts = same_parts datagram (10 ∷ r) datagram' (10 ∷ s) third.0 third.1 in
+      let w : who ≡ who' = first.0 in
+      let m : moment ≡ moment' = second.0 in
+      let d : datagram ≡ datagram' = parts.0 in
+      let behind : 10 ∷ r ≡ 10 ∷ s = parts.1 in
+      (cc, cc)
 
--- records that stand at the front of a script are its first records
-pub one_script : (commands front : List Command) (rest left : List ℕ) → AllByRecursion IsBuilt commands → AllByRecursion IsBuilt front
-    → script_text commands ++ (end_word ++ rest) ≡ script_text front ++ left → Behind commands front rest left
-one_script commands [] rest left built other same = record { behind = commands; whole = refl; built = built; stands = sym same }
-one_script [] (d ∷ front) rest left built other same = absurd (not_end d (script_text front ++ left) rest (sym (same ∙ append_assoc (spelled d) (script_text front) left)))
-one_script (c ∷ commands) (d ∷ front) rest left built other same =
-    let one = one_record c d (script_text commands ++ (end_word ++ rest)) (script_text front ++ left) built.0 other.0
-    (sym (append_assoc (spelled c) (script_text commands) (end_word ++ rest)) ∙ same ∙ append_assoc (spelled d) (script_text front) left) in
-    let h = one_script commands front rest left built.1 other.1 one.1 in
-    record { behind = h.behind; whole = ap (λ x. x ∷ commands) one.0 ∙ ap (λ xs. d ∷ xs) h.whole; built = h.built; stands = h.stands }
+  -- bytes begin with one built record at most
+  pub one_record : (c d : Command) (r s : List ℕ) → IsBuilt receivers c → IsBuilt receivers d → spelled c ++ r ≡ spelled d ++ s → (c ≡ d) × (r ≡ s)
+  one_record (Packet who moment datagram) (Packet who' moment' datagram') r s a b same =
+      one_packet who moment who' moment' datagram datagram' r s a b (ap (drop 2) (sym (packet_parts who moment datagram r) ∙ same ∙ packet_parts who' moment' datagram' s))
+  one_record (Packet who moment datagram) (Flush ts) r s a b same = absurd (omega (arith, first_byte _ _ same))
+  one_record (Flush ts) (Packet who moment datagram) r s a b same = absurd (omega (arith, first_byte _ _ same))
+  one_record (Flush ts) (Flush ts') r s a b same =
+      let cut = number_cut 10 ts ts' r s (omega arith) (omega (arith, a)) (omega (arith, b)) (ap (drop 2) (sym (flush_parts ts r) ∙ same ∙ flush_parts ts' s)) in
+      (ap Flush cut.0, cut.1)
 
--- and all of them where the end stands behind
-pub one_end : (commands : List Command) (rest other : List ℕ) → end_word ++ other ≡ script_text commands ++ (end_word ++ rest) → (commands ≡ []) × (other ≡ rest)
-one_end [] rest other same = (refl, ap (drop 2) same)
-one_end (c ∷ commands) rest other same = absurd (not_end c (script_text commands ++ (end_word ++ rest)) other (sym (same ∙ append_assoc (spelled c) (script_text commands) (end_word ++ rest))))
+  -- a built record stands at the front
+  abbrev pub BeginsRecord : List ℕ → Type 0
+  BeginsRecord bytes = (command : Command) × (rest : List ℕ) × IsBuilt receivers command × (bytes ≡ spelled command ++ rest)
 
--- a built record, or the end, stands behind
-pub begins : (commands : List Command) (rest : List ℕ) → AllByRecursion IsBuilt commands → BeginsBuilt (script_text commands ++ (end_word ++ rest))
-begins [] rest built = inr (rest, refl)
-begins (c ∷ commands) rest built = inl (c, script_text commands ++ (end_word ++ rest), built.0, append_assoc (spelled c) (script_text commands) (end_word ++ rest))
+  -- what stands behind some records of a script
+  pub record Behind (commands front : List Command) (bytes left : List ℕ) : Type 0 where
+    pub behind : List Command
+    pub whole : commands ≡ front ++ behind
+    pub built : AllByRecursion (IsBuilt receivers) behind
+    pub stands : left ≡ script_text behind ++ bytes
 
--- two scripts that are built as far as their ends are one
-pub same_script : (commands others : List Command) (rest left : List ℕ) → AllByRecursion IsBuilt commands → AllByRecursion IsBuilt others
-    → script_text commands ++ (end_word ++ rest) ≡ script_text others ++ (end_word ++ left) → (commands ≡ others) × (rest ≡ left)
-same_script commands others rest left built other same =
-    let h = one_script commands others rest (end_word ++ left) built other same in
-    let last = one_end h.behind rest left h.stands in
-    (h.whole ∙ ap (λ cs. others ++ cs) last.0 ∙ append-nil others, sym last.1)
+  -- Records at the front of a script are its first records; or they are all of those that the script is known to have,
+  -- and more, so that a record stands behind these.
+  pub one_script : (commands front : List Command) (bytes left : List ℕ) → AllByRecursion (IsBuilt receivers) commands → AllByRecursion (IsBuilt receivers) front
+      → script_text commands ++ bytes ≡ script_text front ++ left → Behind commands front bytes left ⊎ ((length commands < length front) × BeginsRecord bytes)
+  one_script commands [] bytes left built other same = inl (record { behind = commands; whole = refl; built = built; stands = sym same })
+  one_script [] (d ∷ front) bytes left built other same = inr (omega arith, (d, script_text front ++ left, other.0, same ∙ append_assoc (spelled d) (script_text front) left))
+  one_script (c ∷ commands) (d ∷ front) bytes left built other same =
+      let one = one_record c d (script_text commands ++ bytes) (script_text front ++ left) built.0 other.0
+      (sym (append_assoc (spelled c) (script_text commands) bytes) ∙ same ∙ append_assoc (spelled d) (script_text front) left) in
+      elim (one_script commands front bytes left built.1 other.1 one.1) [
+        | inl h ↦ inl (record { behind = h.behind; whole = ap (λ x. x ∷ commands) one.0 ∙ ap (λ xs. d ∷ xs) h.whole; built = h.built; stands = h.stands })
+        | inr h ↦ inr (omega (arith, h.0), h.1)
+      ]
+
+  -- a script that is built as far as its end has the records at its front as its first ones
+  pub ended_script : (commands front : List Command) (rest left : List ℕ) → AllByRecursion (IsBuilt receivers) commands → AllByRecursion (IsBuilt receivers) front
+      → script_text commands ++ (end_word ++ rest) ≡ script_text front ++ left → Behind commands front (end_word ++ rest) left
+  ended_script commands front rest left built other same =
+      elim (one_script commands front (end_word ++ rest) left built other same) [
+        | inl h ↦ h
+        | inr h ↦ absurd (not_end h.1.0 h.1.1 rest (sym h.1.3))
+      ]
+
+  -- and so has one that is cut off by bytes that begin with no built record
+  pub cut_script : (commands front : List Command) (bytes left : List ℕ) → ¬ BeginsBuilt receivers bytes → AllByRecursion (IsBuilt receivers) commands → AllByRecursion (IsBuilt receivers) front
+      → script_text commands ++ bytes ≡ script_text front ++ left → Behind commands front bytes left
+  cut_script commands front bytes left other built more same =
+      elim (one_script commands front bytes left built more same) [
+        | inl h ↦ h
+        | inr h ↦ absurd (other (inl h.1))
+      ]
+
+  -- all of them are carried out where the end stands behind
+  pub one_end : (commands : List Command) (bytes other : List ℕ) → end_word ++ other ≡ script_text commands ++ bytes → (commands ≡ []) × (bytes ≡ end_word ++ other)
+  one_end [] bytes other same = (refl, sym same)
+  one_end (c ∷ commands) bytes other same = absurd (not_end c (script_text commands ++ bytes) other (sym (same ∙ append_assoc (spelled c) (script_text commands) bytes)))
+
+  -- a built record, or the end, stands behind
+  pub begins : (commands : List Command) (rest : List ℕ) → AllByRecursion (IsBuilt receivers) commands → BeginsBuilt receivers (script_text commands ++ (end_word ++ rest))
+  begins [] rest built = inr (rest, refl)
+  begins (c ∷ commands) rest built = inl (c, script_text commands ++ (end_word ++ rest), built.0, append_assoc (spelled c) (script_text commands) (end_word ++ rest))
+
+  -- a built record stands behind, where one is left
+  pub begins_record : (c : Command) (commands : List Command) (bytes : List ℕ) → AllByRecursion (IsBuilt receivers) (c ∷ commands) → BeginsBuilt receivers (script_text (c ∷ commands) ++ bytes)
+  begins_record c commands bytes built = inl (c, script_text commands ++ bytes, built.0, append_assoc (spelled c) (script_text commands) bytes)
+
+  -- two scripts that are built as far as their ends are one
+  pub same_script : (commands others : List Command) (rest left : List ℕ) → AllByRecursion (IsBuilt receivers) commands → AllByRecursion (IsBuilt receivers) others
+      → script_text commands ++ (end_word ++ rest) ≡ script_text others ++ (end_word ++ left) → (commands ≡ others) × (rest ≡ left)
+  same_script commands others rest left built other same =
+      let h = ended_script commands others rest (end_word ++ left) built other same in
+      let last = one_end h.behind (end_word ++ rest) left h.stands in
+      (h.whole ∙ ap (λ cs. others ++ cs) last.0 ∙ append-nil others, ap (drop 2) last.1)

@@ -1,6 +1,7 @@
+pub mod Settings
+pub mod Backends
 pub mod Script
-pub mod Undecided
 pub mod Replay
-pub mod Accounting
+pub mod Totals
 pub mod AccountingTheorem
-pub mod Run
+pub mod Ends

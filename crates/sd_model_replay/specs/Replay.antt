@@ -1,211 +1,144 @@
--- What a replay does: the state after the records of a script, the texts of its flushes, and the totals.
-use Rattle.std.specs.Prelude.{◌≡◌, ℕ, ◌+◌, ◌≤◌, true, false, if◌then◌else◌, List, [], ◌∷◌, ◌++◌, length, take, codes, decimal, ◌⊎◌, ◌≢◌, ⊤, Some}
-use Rattle.sd_model_outside.specs.Outside.{Round, Written as Told, Rose, RoseBy, appended, begun, ended, told_lists}
-use Rattle.sd_model_text.specs.Lines.{samples_of, pieces}
-use Rattle.sd_model_shard.specs.Shard.{State, empty_state, Limits, Policy, after_samples, answers_to, drops, after_swap, table_of}
+-- What a replay does: what its records ask of each shard, the state after them, and what is made of it.
+use Rattle.std.specs.Prelude.{◌≡◌, ℕ, List, [], ◌∷◌, length, map, fold, flat_map, filter_map, sum_by, Option, Some, None}
+use Rattle.std.specs.List.{range_with_len}
+use Rattle.sd_model_text.specs.Names.{shard}
+use Rattle.sd_model_text.specs.Lines.{Sample, samples_of, pieces}
+use Rattle.sd_model_shard.specs.Shard.{State, empty_state, Submit, Swap, Reply, table_of}
+use Rattle.sd_model_shard.specs.History.{Asked, History, after_all, answered, part_of}
+use Rattle.sd_model_shard.specs.Whereabouts.{Arrival, dropped_in}
 use Rattle.sd_model_record.specs.Record.{Tally, Record, record_of}
-use Rattle.sd_model_record.specs.Graphite.{graphite_text}
-use Rattle.sd_model_record.specs.Desk.{Desk, new_desk, with_tally, with_round, Mark, NotUsed, Written, Fault, Marks, fault_of, is_written}
+use Rattle.sd_model_record.specs.Desk.{Desk, new_desk, with_tally, with_round, Marks, NotUsed}
+use Rattle.sd_model_replay.specs.Settings.{Settings}
+use Rattle.sd_model_replay.specs.Backends.{Backend, Delivery, FitsUse, text_of, mark_of, is_used}
 use Rattle.sd_model_replay.specs.Script.{Command, Packet, Flush}
 
--- the settings that a replay goes by
-pub record Settings : Type 0 where
-  pub limits : Limits
-  pub policy : Policy
-  pub interval_ms : ℕ
+-- What the outside did to a record: how each backend took part, which is told of a flush.
+pub record Outcome : Type 0 where
+  pub marks : Marks
 
--- what is in force without a settings file
-abbrev pub default_settings : Settings
-default_settings =
-    record {
-      limits = record { rows = 4096; entries = 65536 };
-      policy = record { counters = false; timers = false; gauges = false; sets = false; max_ttl = 1 };
-      interval_ms = 10000;
-    }
+-- no backend took part
+abbrev pub quiet : Outcome
+quiet = record { marks = record { graphite = NotUsed; console = NotUsed } }
 
--- A record as a replay carried it out: a flush with the marks that it left.
-pub data Played : Type 0 where
-  PlayedPacket : (who moment : ℕ) (datagram : List ℕ) → Played
-  PlayedFlush : (ts : ℕ) (marks : Marks) → Played
+-- what the outside may do to a record: at a flush just those backends take part that the settings name, and at a packet
+-- none
+abbrev pub IsOutcome : Settings → Command → Outcome → Type 0
+IsOutcome settings (Packet who moment datagram) outcome = outcome ≡ quiet
+IsOutcome settings (Flush ts) outcome = (back : Backend) → FitsUse (is_used settings back) (mark_of back outcome.marks)
 
--- the record that was carried out
-abbrev pub command_of : Played → Command
-command_of (PlayedPacket who moment datagram) = Packet who moment datagram
-command_of (PlayedFlush ts marks) = Flush ts
+-- A record of a script as it was carried out.
+pub record Played : Type 0 where
+  pub command : Command
+  pub outcome : Outcome
 
--- the state of a replay
+-- the number of the caller that flushes
+abbrev pub flusher : ℕ
+flusher = 100
+
+-- the shard of a sample
+abbrev pub home_of : Settings → Sample → ℕ
+home_of settings s = shard s.key settings.shards
+
+-- what a record asks of shard i: it is given the samples whose keys belong there, or is swapped
+abbrev pub events_in : Settings → ℕ → Command → List Asked
+events_in settings i (Packet who moment datagram) =
+    map (λ s. record { who = who; event = Submit s }) (part_of (home_of settings) i (samples_of datagram))
+events_in settings i (Flush ts) = record { who = flusher; event = Swap } ∷ []
+
+-- what records ask of shard i
+abbrev pub events_at : Settings → ℕ → List Played → List Asked
+events_at settings i played = flat_map (λ p. events_in settings i p.command) played
+
+-- the history of shard i: what the records ask of it, with the replies of the step
+abbrev pub history_at : Settings → ℕ → List Played → History
+history_at settings i played = answered settings.limits settings.policy empty_state (events_at settings i played)
+
+-- the good samples of a record, and who brought each
+abbrev pub samples_in : Command → List Arrival
+samples_in (Packet who moment datagram) = map (λ s. record { who = who; sample = s }) (samples_of datagram)
+samples_in (Flush ts) = []
+
+-- those of records
+abbrev pub samples_at : List Played → List Arrival
+samples_at played = flat_map (λ p. samples_in p.command) played
+
+-- The state of a replay: that of each shard, by its number, and the desk's.
 pub record Run : Type 0 where
-  pub shard : State
+  pub shards : ℕ → State
   pub desk : Desk
 
+-- nothing was carried out
 abbrev pub first_run : Run
-first_run = record { shard = empty_state; desk = new_desk }
+first_run = record { shards = λ i. empty_state; desk = new_desk }
+
+-- what a record adds to the history of shard i
+abbrev pub acts_in : Settings → Run → ℕ → Command → History
+acts_in settings run i c = answered settings.limits settings.policy (run.shards i) (events_in settings i c)
+
+-- what all shards answer to a record, shard by shard
+abbrev pub replies_to : Settings → Run → Command → List Reply
+replies_to settings run c = flat_map (λ i. map (λ a. a.reply) (acts_in settings run i c)) (range_with_len 0 settings.shards)
 
 -- what a datagram adds to the tally; every piece is good so far
 abbrev pub packet_tally : List ℕ → ℕ → Tally
 packet_tally datagram dropped = record { packets = 1; lines = length (pieces datagram); bad = 0; dropped = dropped }
 
+-- the desk after a record, with what the shards answered and what the outside did
+abbrev pub desk_after : Desk → Command → List Reply → Outcome → Desk
+desk_after desk (Packet who moment datagram) replies outcome = with_tally desk (packet_tally datagram (sum_by dropped_in replies))
+desk_after desk (Flush ts) replies outcome = with_round desk outcome.marks
+
 -- the state after a record
 abbrev pub play : Settings → Run → Played → Run
-play settings run (PlayedPacket who moment datagram) =
-    let samples = samples_of datagram in
+play settings run p =
     record {
-      shard = after_samples settings.limits who run.shard samples;
-      desk = with_tally run.desk (packet_tally datagram (drops (answers_to settings.limits who run.shard samples)));
+      shards = λ i. after_all settings.limits settings.policy (run.shards i) (acts_in settings run i p.command);
+      desk = desk_after run.desk p.command (replies_to settings run p.command) p.outcome;
     }
-play settings run (PlayedFlush ts marks) =
-    record { shard = after_swap settings.policy run.shard; desk = with_round run.desk marks }
 
 -- the state after records
 abbrev pub run_of : Settings → Run → List Played → Run
-run_of settings run [] = run
-run_of settings run (p ∷ played) = run_of settings (play settings run p) played
+run_of settings run played = fold (play settings) run played
 
--- the record of a flush in this state
-abbrev pub flush_record : Settings → Run → ℕ → Record
-flush_record settings run ts = record_of settings.interval_ms (table_of run.shard ∷ []) run.desk.tally ts
+-- a record, and the state before it
+pub record Moment : Type 0 where
+  pub before : Run
+  pub played : Played
 
--- A flush's text and its mark.
-pub record Delivery : Type 0 where
-  pub text : List ℕ
-  pub mark : Mark
+-- the records, each with the state before it
+abbrev pub moments : Settings → Run → List Played → List Moment
+moments settings run [] = []
+moments settings run (p ∷ played) = record { before = run; played = p } ∷ moments settings (play settings run p) played
 
--- the records of the flushes, in order
-abbrev pub records : Settings → Run → List Played → List Record
-records settings run [] = []
-records settings run (PlayedPacket who moment datagram ∷ played) = records settings (play settings run (PlayedPacket who moment datagram)) played
-records settings run (PlayedFlush ts marks ∷ played) = flush_record settings run ts ∷ records settings (play settings run (PlayedFlush ts marks)) played
+-- a flush: its Unix second, its marks, and the state before it
+pub record FlushMoment : Type 0 where
+  pub before : Run
+  pub ts : ℕ
+  pub marks : Marks
 
--- how Graphite took part in the flushes
-abbrev pub graphite_marks : List Played → List Mark
-graphite_marks [] = []
-graphite_marks (PlayedPacket who moment datagram ∷ played) = graphite_marks played
-graphite_marks (PlayedFlush ts marks ∷ played) = marks.graphite ∷ graphite_marks played
+-- the flush that a record is, if it is one
+abbrev pub flush_by : Run → Command → Outcome → Option FlushMoment
+flush_by before (Packet who moment datagram) outcome = None
+flush_by before (Flush ts) outcome = Some (record { before = before; ts = ts; marks = outcome.marks })
 
--- the text of each record, with its mark
-abbrev pub deliveries_of : List Record → List Mark → List Delivery
-deliveries_of [] marks = []
-deliveries_of (r ∷ records) [] = []
-deliveries_of (r ∷ records) (m ∷ marks) = record { text = graphite_text r; mark = m } ∷ deliveries_of records marks
+-- the flushes among records
+abbrev pub flushes : Settings → Run → List Played → List FlushMoment
+flushes settings run played = filter_map (λ m. flush_by m.before m.played.command m.played.outcome) (moments settings run played)
 
--- what the flushes have for Graphite, in order: the text of each record
-abbrev pub graphite_deliveries : Settings → Run → List Played → List Delivery
-graphite_deliveries settings run played = deliveries_of (records settings run played) (graphite_marks played)
+-- the record of a flush: of the tables of all shards, and of the tally since the last one
+abbrev pub record_at : Settings → FlushMoment → Record
+record_at settings f =
+    record_of settings.plan (map (λ i. table_of (f.before.shards i)) (range_with_len 0 settings.shards)) f.before.desk.tally f.ts
 
--- What a flush does to a backend, by its mark: a list is begun, gets the whole text and is ended; nothing, or
--- a list is begun and gets a front of the text, and isn't ended; nothing.
-abbrev pub AfterMark : Mark → List ℕ → Told → Told → Type 0
-AfterMark Written text old new = new ≡ ended (appended (begun old) text)
-AfterMark NotUsed text old new = new ≡ old
-AfterMark Fault text old new = (new ≡ old) ⊎ ((n : ℕ) × (n ≤ length text) × (new ≡ appended (begun old) (take n text)))
+-- the records of the flushes
+abbrev pub records : Settings → List Played → List Record
+records settings played = map (record_at settings) (flushes settings first_run played)
 
--- what a flush does to a backend's count of faults: it rises where the flush is marked as failed, and else stays
-abbrev pub FaultsAfter : Mark → ℕ → ℕ → Type 0
-FaultsAfter NotUsed had has = has ≡ had
-FaultsAfter Written had has = has ≡ had
-FaultsAfter Fault had has = Rose had has
+-- what the flushes have for a backend: the text of each record, with its mark
+abbrev pub deliveries : Settings → Backend → List Played → List Delivery
+deliveries settings back played =
+    map (λ f. record { text = text_of back (record_at settings f); mark = mark_of back f.marks }) (flushes settings first_run played)
 
--- what flushes do to a backend, one after another
-abbrev pub AfterDeliveries : List Delivery → Told → Told → Type 0
-AfterDeliveries [] old new = new ≡ old
-AfterDeliveries (d ∷ deliveries) old new = (mid : Told) × AfterMark d.mark d.text old mid × AfterDeliveries deliveries mid new
-
--- the list that a whole text is, begun and ended
-abbrev pub whole_list : List ℕ → Round
-whole_list text = record { bytes = text; is_ended = true }
-
--- the lists that a flush leaves to a backend which tells its lists: its whole text; a front of it that isn't ended,
--- or none; none
-abbrev pub LeavesLists : Mark → List ℕ → List Round → Type 0
-LeavesLists Written text lists = lists ≡ whole_list text ∷ []
-LeavesLists NotUsed text lists = lists ≡ []
-LeavesLists Fault text lists = (lists ≡ []) ⊎ ((n : ℕ) × (n ≤ length text) × (lists ≡ record { bytes = take n text; is_ended = false } ∷ []))
-
--- the lists that flushes leave, one after another
-abbrev pub LeaveLists : List Delivery → List Round → Type 0
-LeaveLists [] lists = lists ≡ []
-LeaveLists (d ∷ deliveries) lists =
-    (first : List Round) × (others : List Round) × LeavesLists d.mark d.text first × LeaveLists deliveries others × (lists ≡ first ++ others)
-
--- a backend has these lists, and behind them those that flushes left
-abbrev pub HasLists : List Delivery → List Round → Told → Type 0
-HasLists deliveries before now =
-    (lists : List Round) × LeaveLists deliveries lists × (told_lists now ≡ Some (before ++ lists))
-
--- the texts of the flushes that were written whole
-abbrev pub texts_written : List Delivery → List (List ℕ)
-texts_written [] = []
-texts_written (d ∷ deliveries) = if is_written d.mark then d.text ∷ texts_written deliveries else texts_written deliveries
-
--- a flush that Graphite was used in, and the console wasn't
-abbrev pub UsesGraphite : Played → Type 0
-UsesGraphite (PlayedPacket who moment datagram) = ⊤
-UsesGraphite (PlayedFlush ts marks) = (marks.graphite ≢ NotUsed) × (marks.console ≡ NotUsed)
-
--- how many flushes failed at Graphite
-abbrev pub graphite_failures : List Played → ℕ
-graphite_failures [] = 0
-graphite_failures (PlayedPacket who moment datagram ∷ played) = graphite_failures played
-graphite_failures (PlayedFlush ts marks ∷ played) = fault_of marks.graphite + graphite_failures played
-
--- What a replay counted.
-pub record Totals : Type 0 where
-  pub packets : ℕ
-  pub lines : ℕ
-  pub bad : ℕ
-  pub taken : ℕ
-  pub dropped : ℕ
-  pub flushed : ℕ
-  pub held : ℕ
-  pub deleted : ℕ
-  pub rounds : ℕ
-  pub graphite_faults : ℕ
-  pub console_faults : ℕ
-  pub repeater_faults : ℕ
-  pub admin_faults : ℕ
-
--- the totals in this state
-abbrev pub totals_of : Run → Totals
-totals_of run =
-    record {
-      packets = run.desk.totals.packets;
-      lines = run.desk.totals.lines;
-      bad = run.desk.totals.bad;
-      taken = run.shard.taken;
-      dropped = run.shard.dropped;
-      flushed = run.shard.flushed;
-      held = length run.shard.held;
-      deleted = run.shard.deleted;
-      rounds = run.desk.rounds;
-      graphite_faults = run.desk.graphite_faults;
-      console_faults = run.desk.console_faults;
-      repeater_faults = 0;
-      admin_faults = 0;
-    }
-
--- Graphite's count of faults over these records: it rose by as many as flushes are marked as failed there, or by more;
--- and where none is, it stayed.
-pub record FaultsOver (played : List Played) (had has : ℕ) : Type 0 where
-  pub rose : RoseBy (graphite_failures played) had has
-  pub steady : graphite_failures played ≡ 0 → has ≡ had
-
--- a line of the totals: a name, a space, a number and a newline
-abbrev pub total_line : List ℕ → ℕ → List ℕ
-total_line name n = name ++ 32 ∷ decimal n ++ 10 ∷ []
-
--- the lines of the totals
-abbrev pub totals_text : Totals → List ℕ
-totals_text t =
-    total_line (codes "packets") t.packets
-    ++ total_line (codes "lines") t.lines
-    ++ total_line (codes "bad") t.bad
-    ++ total_line (codes "taken") t.taken
-    ++ total_line (codes "dropped") t.dropped
-    ++ total_line (codes "flushed") t.flushed
-    ++ total_line (codes "held") t.held
-    ++ total_line (codes "deleted") t.deleted
-    ++ total_line (codes "rounds") t.rounds
-    ++ total_line (codes "graphite_faults") t.graphite_faults
-    ++ total_line (codes "console_faults") t.console_faults
-    ++ total_line (codes "repeater_faults") t.repeater_faults
-    ++ total_line (codes "admin_faults") t.admin_faults
+-- what the records write to the output, before the totals: nothing so far
+abbrev pub output_of : Settings → List Played → List ℕ
+output_of settings played = []

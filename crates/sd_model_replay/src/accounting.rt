@@ -1,32 +1,45 @@
-ghost use Rattle.std.specs.Prelude.{◌≡◌, ℕ, List, filter, map, Contains, IsTrue, Option};
-ghost use Rattle.std.specs.FinMap.{contains_key, empty};
-ghost use Rattle.sd_model_outside.specs.Outside.{Round, Rounds, Written, lists_of};
-ghost use Rattle.sd_model_shard.specs.Shard.{Entry, Rows, row_of};
-ghost use Rattle.sd_model_replay.specs.Replay.{AfterDeliveries, Delivery, HasLists, LeaveLists, Played, Run, Settings, first_run, records, texts_written, whole_list};
-ghost use Rattle.sd_model_replay.specs.Accounting.{Accounted, AreDocumented, flush_times, journals, rows_with};
+ghost use Rattle.std.specs.Prelude.{◌≡◌, ◌≢◌, ℕ, List, filter, map, Option};
+ghost use Rattle.sd_model_outside.specs.Outside.{Object, Rose, RoseBy, Round, Rounds, Used, lists_of};
+ghost use Rattle.sd_model_record.specs.Desk.{Mark, NotUsed, Written};
+ghost use Rattle.sd_model_replay.specs.Settings.{Settings};
+ghost use Rattle.sd_model_replay.specs.Backends.{AfterDeliveries, AfterMark, Delivery, HasLists, LeaveLists, missed, texts_written, whole_list};
+ghost use Rattle.sd_model_replay.specs.Replay.{Played, first_run, flushes, records};
+ghost use Rattle.sd_model_replay.specs.AccountingTheorem.{AreAccounted, AreDocumented};
 
-/// Each good sample of a replay is in the journal of one flush, among the entries held, or dropped.
+/// Each good sample of records is submitted to the shard of its key and to no other, and stands there in one place: the
+/// journal of one flush, the entries held, or a drop.
 pub fn samples_are_accounted()
-    ensures { (settings : Settings) (played : List Played) → Accounted settings played }
+    ensures { (settings : Settings) (played : List Played) (i : ℕ) → AreAccounted settings played i }
 {}
 
-/// The rows of each flush's record are those carried in and those of its own journal, each with its statistics
-/// over that journal; each entry of the journal is of such a row; and each record is at the second of its flush.
+/// Each flush's record has the statistics of its own journal over the rows carried in, and is at the flush's second.
 pub fn records_are_documented()
-    ensures statistics { (settings : Settings) (played : List Played)
-        → AreDocumented settings empty (journals settings first_run played) (records settings first_run played) }
-    ensures rows { (live : Rows) (journal : List Entry) (e : Entry)
-        → Contains journal e → IsTrue (contains_key (rows_with live journal) (row_of e.sample)) }
-    ensures times { (settings : Settings) (run : Run) (played : List Played)
-        → map (λ r. r.ts) (records settings run played) ≡ flush_times played }
+    ensures statistics { (settings : Settings) (played : List Played) → AreDocumented settings played }
+    ensures times { (settings : Settings) (played : List Played)
+        → map (λ r. r.ts) (records settings played) ≡ map (λ f. f.ts) (flushes settings first_run played) }
 {}
 
 /// A backend that tells its lists has those of the flushes behind those that it had: the whole text of each flush
 /// that was written, ended; and of each that failed a front of its text, not ended, or none. So its ended lists
-/// are just the texts of the flushes that were written.
+/// are just the texts of the flushes that were written. Its count of faults rose by as many as failed there, or by more;
+/// and where none did, it stayed.
 pub fn deliveries_are_lists()
-    ensures lists { (deliveries : List Delivery) (rounds : List Round) (open_list : Option (List ℕ)) (now : Written)
-        → AfterDeliveries deliveries (Rounds rounds open_list) now → HasLists deliveries (lists_of rounds open_list) now }
+    ensures lists { (deliveries : List Delivery) (rounds : List Round) (open_list : Option (List ℕ)) (old new : Object)
+        → old.told ≡ Rounds rounds open_list → AfterDeliveries deliveries old new → HasLists deliveries (lists_of rounds open_list) new.told }
     ensures written { (deliveries : List Delivery) (lists : List Round)
         → LeaveLists deliveries lists → filter (λ list. list.is_ended) lists ≡ map whole_list (texts_written deliveries) }
+    ensures used { (deliveries : List Delivery) (old new : Object) → AfterDeliveries deliveries old new → Used old new }
+    ensures faults { (deliveries : List Delivery) (old new : Object)
+        → AfterDeliveries deliveries old new → RoseBy (missed deliveries) old.faults new.faults }
+    ensures steady { (deliveries : List Delivery) (old new : Object)
+        → AfterDeliveries deliveries old new → missed deliveries ≡ 0 → new.faults ≡ old.faults }
+{}
+
+/// No fault, no failure. Of a flush: where a backend is used and its count of faults doesn't rise in that flush, the
+/// flush is marked as written. Of several: where the count doesn't rise, none is missed.
+pub fn no_fault_no_failure()
+    ensures flush { (mark : Mark) (text : List ℕ) (old new : Object)
+        → mark ≢ NotUsed → ¬ Rose old.faults new.faults → AfterMark mark text old new → mark ≡ Written }
+    ensures flushes { (deliveries : List Delivery) (old new : Object)
+        → ¬ Rose old.faults new.faults → AfterDeliveries deliveries old new → missed deliveries ≡ 0 }
 {}

@@ -1,9 +1,11 @@
-//! The definitions of a replay: the script, what its records do, where each good sample is, what was
+//! The definitions of a replay: its settings, the script, what its records do, where each good sample is, what was
 //! written, and how it ends. The functions have no code, and each states a law of the definitions.
 #![tactic(auto)]
 
 mod accounting;
 mod script;
 
-pub use accounting::{deliveries_are_lists, records_are_documented, samples_are_accounted};
+pub use accounting::{
+    deliveries_are_lists, no_fault_no_failure, records_are_documented, samples_are_accounted,
+};
 pub use script::scripts_have_one_reading;

@@ -1,1 +1,4 @@
 pub mod Shard
+pub mod Statistics
+pub mod History
+pub mod Whereabouts

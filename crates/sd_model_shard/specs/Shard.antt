@@ -1,12 +1,11 @@
 -- A shard: its rows and entries, and what one event does to them.
-use Rattle.std.specs.Prelude.{ℕ, ◌+◌, ◌^◌, min, nat_lt, Bool, not, ◌&&◌, ℤ, pos, ◌+ℤ◌, List, [], ◌∷◌, ◌++◌, length, filter, fold, map, if◌then◌else◌, Option, Some, None, option_map, unwrap_or}
+use Rattle.std.specs.Prelude.{ℕ, ◌+◌, ◌^◌, min, nat_lt, Bool, not, ◌&&◌, ℤ, pos, List, [], ◌∷◌, ◌++◌, length, if◌then◌else◌, Option, Some, None, option_map, unwrap_or}
 use Rattle.std.specs.declared.cmp.Ordering.{Ordering}
-use Rattle.std.specs.Ordering.{nat_cmp, ordering_then, is_eq}
+use Rattle.std.specs.Ordering.{nat_cmp, ordering_then}
 use Rattle.std.specs.Cmp.Lexicographic.{slice_cmp}
 use Rattle.std.specs.FinMap.{FinMap, get, contains_key, insert, retain_keys, empty, len}
 use Rattle.sd_model_text.specs.Names.{Kind, Counter, Timer, Gauge, Set, rank}
 use Rattle.sd_model_text.specs.Lines.{Sample}
-use Rattle.sd_model_text.specs.Numbers.{weight}
 
 -- what a row is known by
 pub record RowId : Type 0 where
@@ -17,7 +16,8 @@ pub record RowId : Type 0 where
 abbrev pub row_cmp : RowId → RowId → Ordering
 row_cmp a b = ordering_then (nat_cmp (rank a.kind) (rank b.kind)) (slice_cmp nat_cmp a.key b.key)
 
--- what a row keeps from swap to swap: a gauge's value at the last swap, and the swaps since its last sample
+-- what a row keeps from swap to swap: a gauge's value at the last swap, and the swaps since its last sample; both stay 0 so
+-- far
 pub record Kept : Type 0 where
   pub base : ℤ
   pub swaps : ℕ
@@ -50,7 +50,7 @@ pub record Limits : Type 0 where
   pub rows : ℕ
   pub entries : ℕ
 
--- which kinds go at a swap when idle, and after how many swaps a gauge does
+-- which kinds go at a swap, and after how many swaps a gauge does; so far all rows of such a kind go
 pub record Policy : Type 0 where
   pub counters : Bool
   pub timers : Bool
@@ -92,61 +92,20 @@ touched live id = insert live id (record { base = base_of live id; swaps = 0 })
 -- the state after a sample that fits
 abbrev pub with_sample : State → ℕ → Sample → State
 with_sample state who s =
-    record {
+    record state {
       live = touched state.live (row_of s);
       held = state.held ++ record { who = who; number = state.taken; sample = s } ∷ [];
       taken = state.taken + 1;
-      flushed = state.flushed;
-      deleted = state.deleted;
-      dropped = state.dropped;
     }
 
 -- the state after a sample that doesn't fit
 abbrev pub with_drop : State → State
-with_drop state =
-    record {
-      live = state.live;
-      held = state.held;
-      taken = state.taken;
-      flushed = state.flushed;
-      deleted = state.deleted;
-      dropped = min (state.dropped + 1) last_number;
-    }
+with_drop state = record state { dropped = min (state.dropped + 1) last_number }
 
 -- The answer to a sample: its number, or why it was dropped.
 pub data Placed : Type 0 where
   Taken : (number : ℕ) → Placed
   Dropped : (cause : Cause) → Placed
-
--- the state after a sample, and the answer
-abbrev pub after_sample : State → ℕ → Sample → Option Cause → State
-after_sample state who s None = with_sample state who s
-after_sample state who s (Some cause) = with_drop state
-
-abbrev pub placed : State → Option Cause → Placed
-placed state None = Taken state.taken
-placed state (Some cause) = Dropped cause
-
--- the state after samples of one caller, one after another
-abbrev pub after_samples : Limits → ℕ → State → List Sample → State
-after_samples limits who state [] = state
-after_samples limits who state (s ∷ samples) = after_samples limits who (after_sample state who s (refusal limits state s)) samples
-
--- the answers to them
-abbrev pub answers_to : Limits → ℕ → State → List Sample → List Placed
-answers_to limits who state [] = []
-answers_to limits who state (s ∷ samples) =
-    placed state (refusal limits state s) ∷ answers_to limits who (after_sample state who s (refusal limits state s)) samples
-
--- 1 for a drop, and else 0
-abbrev pub drop_of : Placed → ℕ
-drop_of (Taken number) = 0
-drop_of (Dropped cause) = 1
-
--- how many samples were dropped
-abbrev pub drops : List Placed → ℕ
-drops [] = 0
-drops (a ∷ answers) = drop_of a + drops answers
 
 -- whether a kind goes at a swap
 abbrev pub goes_idle : Policy → Kind → Bool
@@ -155,9 +114,9 @@ goes_idle policy Timer = policy.timers
 goes_idle policy Gauge = policy.gauges
 goes_idle policy Set = policy.sets
 
--- Carry-over: the rows that stay at a swap.
-abbrev pub carried : Policy → Rows → Rows
-carried policy live = retain_keys live (λ id. not (goes_idle policy id.kind))
+-- Carry-over: the rows that stay at a swap, which took this journal; so far they stay as they are, whatever it has.
+abbrev pub carried : Policy → Rows → List Entry → Rows
+carried policy live journal = retain_keys live (λ id. not (goes_idle policy id.kind))
 
 -- the rows and entries that a swap hands out
 pub record Table : Type 0 where
@@ -167,14 +126,7 @@ pub record Table : Type 0 where
 -- the state after a swap
 abbrev pub after_swap : Policy → State → State
 after_swap policy state =
-    record {
-      live = carried policy state.live;
-      held = [];
-      taken = state.taken;
-      flushed = state.flushed + length state.held;
-      deleted = state.deleted;
-      dropped = state.dropped;
-    }
+    record state { live = carried policy state.live state.held; held = []; flushed = state.flushed + length state.held }
 
 -- the table that a swap answers
 abbrev pub table_of : State → Table
@@ -185,33 +137,22 @@ pub data Event : Type 0 where
   Submit : (sample : Sample) → Event
   Swap : Event
 
--- What a shard answers.
+-- What a shard answers: what became of a sample; the table that it hands out.
 pub data Reply : Type 0 where
   Answered : (placed : Placed) → Reply
   Swapped : (table : Table) → Reply
 
--- the state after an event of a caller
-abbrev pub state_after : Limits → Policy → State → ℕ → Event → State
-state_after limits policy state who (Submit s) = after_sample state who s (refusal limits state s)
-state_after limits policy state who Swap = after_swap policy state
+-- a state, and the reply that led there
+pub record Stepped : Type 0 where
+  pub state : State
+  pub reply : Reply
 
--- the answer to an event
-abbrev pub reply_to : Limits → State → Event → Reply
-reply_to limits state (Submit s) = Answered (placed state (refusal limits state s))
-reply_to limits state Swap = Swapped (table_of state)
+-- a sample is taken under the next number, or is dropped with its cause
+abbrev pub admitted : State → ℕ → Sample → Option Cause → Stepped
+admitted state who s None = record { state = with_sample state who s; reply = Answered (Taken state.taken) }
+admitted state who s (Some cause) = record { state = with_drop state; reply = Answered (Dropped cause) }
 
--- whether two rows are one
-abbrev pub is_same_row : RowId → RowId → Bool
-is_same_row a b = is_eq (row_cmp a b)
-
--- the entries of a row
-abbrev pub entries_of : RowId → List Entry → List Entry
-entries_of id held = filter (λ e. is_same_row id (row_of e.sample)) held
-
--- a sum of whole numbers
-abbrev pub total : List ℤ → ℤ
-total xs = fold ◌+ℤ◌ (pos 0) xs
-
--- a counter's count: the weights of its samples added up
-abbrev pub counter_value : RowId → List Entry → ℤ
-counter_value id held = total (map (λ e. weight e.sample.value e.sample.rate) (entries_of id held))
+-- The step: the state after an event of a caller, and the reply.
+abbrev pub step : Limits → Policy → State → ℕ → Event → Stepped
+step limits policy state who (Submit s) = admitted state who s (refusal limits state s)
+step limits policy state who Swap = record { state = after_swap policy state; reply = Swapped (table_of state) }

@@ -47,7 +47,7 @@ pub data NumberFlaw : Type 0 where
   BadShape : NumberFlaw
   BadRange : NumberFlaw
 
--- the code of `.`
+-- whether a byte is `.`
 abbrev pub is_point : ℕ → Bool
 is_point b = b == 46
 

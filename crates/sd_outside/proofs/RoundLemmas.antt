@@ -2,7 +2,7 @@
 use Rattle.std.proofs.Common.{◌≡◌, ℕ, suc, ◌-◌, ◌<◌, ◌≤◌, List, [], ◌∷◌, ◌++◌, Option, None, Some, unwrap_or, All, length, map, drop, refl, ap, arith, length-drop}
 use Rattle.std.specs.Option.{ForSome, option_map}
 use Rattle.std.proofs.lemmas.List.{drop-append-le, take-append-le, drop_at}
-use Rattle.sd_model_outside.specs.Outside.{Written, Rounds, appended}
+use Rattle.sd_model_outside.specs.Outside.{Told, Rounds, appended}
 use Rattle.sd_outside.specs.declared.round_store.Span.{Span}
 use Rattle.sd_outside.specs.RoundStore.{round_at}
 
@@ -11,7 +11,7 @@ abbrev pub IsWithin : ℕ → Span → Type 0
 IsWithin n span = (span.start ≤ span.end) × (span.end ≤ n)
 
 -- what a store of these parts tells
-abbrev pub told_at : List ℕ → List Span → Option ℕ → Written
+abbrev pub told_at : List ℕ → List Span → Option ℕ → Told
 told_at bytes spans open_from = Rounds (map (round_at bytes) spans) (option_map (λ start. drop start bytes) open_from)
 
 -- a list before what was appended

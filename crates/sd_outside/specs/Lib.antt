@@ -2,5 +2,5 @@ pub mod ByteStore
 pub mod MemBackend
 pub mod MemSink
 pub mod MemSource
+pub mod Places
 pub mod RoundStore
-pub mod Write

@@ -1,13 +1,13 @@
 -- What a backend in memory has, and what its calls leave.
 use Rattle.std.specs.Prelude.{◌≡◌, ℕ, ◌+◌, ◌<◌, ◌⊎◌, List, Option, IsNone, OnSome, IfNone, length, take, min}
-use Rattle.sd_model_outside.specs.Outside.{Round, Written, appended, begun, ended, raised}
+use Rattle.sd_model_outside.specs.Outside.{Round, Object, HasFailed, begun, ended, given, last_count, raised, telling}
 use Rattle.sd_outside.specs.RoundStore as store
-use Rattle.sd_outside.specs.declared.address.Address.{Address}
+use Rattle.sd_outside.specs.Places.{last_place}
 use Rattle.sd_outside.specs.declared.mem_backend.MemBackend.{MemBackend}
 
--- what it tells
-abbrev pub told_by : MemBackend → Written
-told_by b = store.told_by b.store
+-- what is seen of it
+abbrev pub seen_of : MemBackend → Object
+seen_of b = record { told = store.told_by b.store; faults = min b.faults last_count; opened_at = last_place b.opened_at }
 
 -- the open list, if there is one
 abbrev pub open_in : MemBackend → Option (List ℕ)
@@ -29,14 +29,6 @@ list_room_in b = store.list_room_in b.store
 abbrev pub HasNoRoom : MemBackend → Type 0
 HasNoRoom b = (byte_room_in b ≡ 0) ⊎ (IsNone (open_in b) × (list_room_in b ≡ 0))
 
--- the address at which it was last opened, if it was
-abbrev pub address_of : MemBackend → Option Address
-address_of b = b.opened_at
-
--- how often it failed, up to the last count
-abbrev pub faults_of : MemBackend → ℕ
-faults_of b = b.faults
-
 -- how often each call was asked for, up to the last count
 pub record Calls : Type 0 where
   pub openings : ℕ
@@ -51,36 +43,33 @@ calls_of b = record { openings = b.openings; writes = b.writes; begins = b.begin
 pub record Takes (old new : MemBackend) (xs : List ℕ) (n : ℕ) : Type 0 where
   pub count : n ≡ min (length xs) (byte_room_in old)
   pub some : 0 < n
-  pub content : told_by new ≡ appended (told_by old) (take n xs)
+  pub content : seen_of new ≡ given (take n xs) (seen_of old)
   pub byte_room : byte_room_in new + n ≡ byte_room_in old
   pub list_room : OnSome (open_in old) (list_room_in new ≡ list_room_in old)
   pub new_list : IfNone (open_in old) (list_room_in new + 1 ≡ list_room_in old)
-  pub faults : faults_of new ≡ faults_of old
 
 -- a list was started
 pub record Begins (old new : MemBackend) : Type 0 where
-  pub content : told_by new ≡ begun (told_by old)
+  pub content : seen_of new ≡ telling (begun (seen_of old).told) (seen_of old)
   pub byte_room : byte_room_in new ≡ byte_room_in old
   pub list_room : list_room_in new + 1 ≡ list_room_in old
-  pub faults : faults_of new ≡ faults_of old
 
 -- the open list was ended
 pub record Finishes (old new : MemBackend) : Type 0 where
-  pub content : told_by new ≡ ended (told_by old)
-  pub byte_room : byte_room_in new ≡ byte_room_in old
-  pub list_room : list_room_in new ≡ list_room_in old
-  pub faults : faults_of new ≡ faults_of old
-
--- the lists and the room are as they were
-pub record SameContent (old new : MemBackend) : Type 0 where
-  pub content : told_by new ≡ told_by old
+  pub content : seen_of new ≡ telling (ended (seen_of old).told) (seen_of old)
   pub byte_room : byte_room_in new ≡ byte_room_in old
   pub list_room : list_room_in new ≡ list_room_in old
 
--- a call failed
+-- the room is as it was
+pub record SameRoom (old new : MemBackend) : Type 0 where
+  pub byte_room : byte_room_in new ≡ byte_room_in old
+  pub list_room : list_room_in new ≡ list_room_in old
+
+-- a call failed, which was counted
 pub record Fails (old new : MemBackend) : Type 0 where
-  pub same : SameContent old new
-  pub faults : faults_of new ≡ raised (faults_of old)
+  pub failed : HasFailed (seen_of old) (seen_of new)
+  pub faults : (seen_of new).faults ≡ raised (seen_of old).faults
+  pub room : SameRoom old new
 
 -- the calls that are to fail are as they were
 pub record SameFailures (old new : MemBackend) : Type 0 where

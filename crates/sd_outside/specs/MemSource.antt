@@ -1,20 +1,16 @@
 -- What a source in memory has, and what its calls leave.
-use Rattle.std.specs.Prelude.{◌≡◌, ℕ, ◌≤◌, List, ◌++◌, Option, drop, take, length, min}
-use Rattle.sd_model_outside.specs.Outside.{raised}
-use Rattle.sd_outside.specs.declared.address.Address.{Address}
+use Rattle.std.specs.Prelude.{◌≡◌, ℕ, ◌≤◌, List, drop, length, take, min}
+use Rattle.sd_model_outside.specs.Outside.{Object, Left, HasFailed, HasRead, last_count, raised}
+use Rattle.sd_outside.specs.Places.{last_place}
 use Rattle.sd_outside.specs.declared.mem_source.MemSource.{MemSource}
 
 -- the bytes that it has left
-abbrev pub left_in : MemSource → List ℕ
-left_in s = drop s.taken s.bytes.items
+abbrev pub left_of : MemSource → List ℕ
+left_of s = drop s.taken s.bytes.items
 
--- the address at which it was last opened, if it was
-abbrev pub address_of : MemSource → Option Address
-address_of s = s.opened_at
-
--- how often it failed, up to the last count
-abbrev pub faults_of : MemSource → ℕ
-faults_of s = s.faults
+-- what is seen of it
+abbrev pub seen_of : MemSource → Object
+seen_of s = record { told = Left (left_of s); faults = min s.faults last_count; opened_at = last_place s.opened_at }
 
 -- how often each call was asked for, up to the last count
 pub record Calls : Type 0 where
@@ -26,16 +22,15 @@ calls_of s = record { openings = s.openings; reads = s.reads }
 
 -- a read put the next n bytes into the front of a buffer, as many as there were and as it had room for
 pub record Gives (old new : MemSource) (buf filled : List ℕ) (n : ℕ) : Type 0 where
-  pub count : n ≡ min (length buf) (length (left_in old))
+  pub count : n ≡ min (length buf) (length (left_of old))
   pub within : n ≤ length filled
-  pub content : left_in old ≡ take n filled ++ left_in new
+  pub content : HasRead (take n filled) (seen_of old) (seen_of new)
   pub rest : drop n filled ≡ drop n buf
-  pub faults : faults_of new ≡ faults_of old
 
--- a call failed
+-- a call failed, which was counted
 pub record Fails (old new : MemSource) : Type 0 where
-  pub content : left_in new ≡ left_in old
-  pub faults : faults_of new ≡ raised (faults_of old)
+  pub failed : HasFailed (seen_of old) (seen_of new)
+  pub faults : (seen_of new).faults ≡ raised (seen_of old).faults
 
 -- the calls that are to fail are as they were
 pub record SameFailures (old new : MemSource) : Type 0 where

@@ -1,7 +1,7 @@
 -- What a store of lists of bytes has.
 use Rattle.std.specs.Prelude.{ℕ, ◌-◌, Bool, List, [], ◌∷◌, ◌++◌, length, map, drop, Option, None, Some, slice_range}
 use Rattle.std.specs.Option.{option_map}
-use Rattle.sd_model_outside.specs.Outside.{Round, Written, Rounds, lists_of}
+use Rattle.sd_model_outside.specs.Outside.{Round, Told, Rounds, lists_of}
 use Rattle.sd_outside.specs.ByteStore.{bytes_in, room_in}
 use Rattle.sd_outside.specs.declared.round_store.Span.{Span}
 use Rattle.sd_outside.specs.declared.round_store.RoundStore.{RoundStore}
@@ -19,7 +19,7 @@ abbrev pub open_in : RoundStore → Option (List ℕ)
 open_in s = option_map (λ start. drop start (bytes_in s.bytes)) s.open_from
 
 -- what it tells
-abbrev pub told_by : RoundStore → Written
+abbrev pub told_by : RoundStore → Told
 told_by s = Rounds (rounds_in s) (open_in s)
 
 -- its lists, with the one that is open

@@ -1,5 +1,5 @@
-ghost use Rattle.std.specs.Prelude.{◌≡◌, ◌≤◌, OnOk, OnErr};
-ghost use Rattle.sd_model_outside.specs.Outside.{Rose, begun, ended};
+ghost use Rattle.std.specs.Prelude.{◌≡◌, OnOk, OnErr};
+ghost use Rattle.sd_model_outside.specs.Outside.{HasFailed, begun, ended, telling};
 
 use crate::opens::{Failed, Opens};
 use crate::sink::Sink;
@@ -12,12 +12,8 @@ pub trait Backend: Sink + Opens {
     ///
     /// `Failed` where the backend failed. Then no list was started.
     fn begin(&mut self) -> Result<(), Failed>
-        ensures ok { OnOk result (Self.written self.new ≡ begun (Self.written self.old)) }
-        ensures failed { OnErr result (Rose (Self.faults self.old) (Self.faults self.new)) }
-        ensures steady { OnOk result (Self.faults self.new ≡ Self.faults self.old) }
-        ensures kept { OnErr result (Self.written self.new ≡ Self.written self.old) }
-        ensures faults_stay { Self.faults self.old ≤ Self.faults self.new }
-        ensures address_stays { Self.opened_at self.new ≡ Self.opened_at self.old };
+        ensures ok { OnOk result (Self.seen self.new ≡ telling (begun (Self.seen self.old).told) (Self.seen self.old)) }
+        ensures failed { OnErr result (HasFailed (Self.seen self.old) (Self.seen self.new)) };
 
     /// Ends the last list. Where none is open it changes nothing.
     ///
@@ -25,15 +21,8 @@ pub trait Backend: Sink + Opens {
     ///
     /// `Failed` where the backend failed. Then the list wasn't ended.
     fn finish(&mut self) -> Result<(), Failed>
-        ensures ok { OnOk result (Self.written self.new ≡ ended (Self.written self.old)) }
-        ensures failed { OnErr result (Rose (Self.faults self.old) (Self.faults self.new)) }
-        ensures steady { OnOk result (Self.faults self.new ≡ Self.faults self.old) }
-        ensures kept { OnErr result (Self.written self.new ≡ Self.written self.old) }
-        ensures faults_stay { Self.faults self.old ≤ Self.faults self.new }
-        ensures address_stays { Self.opened_at self.new ≡ Self.opened_at self.old };
-
-    /// Opening leaves what was written.
-    ghost opening_keeps: { (old new : Self) → Self.same_content old new → Self.written new ≡ Self.written old };
+        ensures ok { OnOk result (Self.seen self.new ≡ telling (ended (Self.seen self.old).told) (Self.seen self.old)) }
+        ensures failed { OnErr result (HasFailed (Self.seen self.old) (Self.seen self.new)) };
 }
 
 /// The backends that a record is written to, each with whether it is used.

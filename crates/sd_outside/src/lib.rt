@@ -20,5 +20,5 @@ pub use mem_backend::MemBackend;
 pub use mem_sink::MemSink;
 pub use mem_source::MemSource;
 pub use opens::{Failed, Faulty, OpenRefusal, Opens};
-pub use sink::{Sink, WriteFault, fronts_join, write_all};
+pub use sink::{Sink, WriteFault, write_all};
 pub use source::Source;

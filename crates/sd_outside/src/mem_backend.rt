@@ -31,6 +31,7 @@ impl MemBackend {
     ghost use Rattle.std.specs.Option.{option_map};
     ghost use Rattle.sd_model_outside.specs.Outside.{Rounds};
     ghost use Rattle.sd_outside.specs.MemBackend.{HasNoRoom, Calls, byte_room_in, calls_of, list_room_in, lists_in};
+    ghost use Rattle.sd_outside.specs.Places.{last_place};
 
     /// A backend with no list, and room for that many bytes in all its lists together and for that many
     /// lists, of which no call is to fail.
@@ -39,11 +40,9 @@ impl MemBackend {
     ///
     /// Where no memory is left for the room.
     pub fn open(alloc: Global, bytes: usize, rounds: usize) -> Result<MemBackend, AllocError>
-        ensures content { IfOk result (λ b. ⟦<MemBackend as Sink>⟧.written b ≡ Rounds [] None) }
+        ensures seen { IfOk result (λ b. ⟦<MemBackend as Faulty>⟧.seen b ≡ record { told = Rounds [] None; faults = 0; opened_at = None }) }
         ensures byte_room { IfOk result (λ b. byte_room_in b ≡ bytes) }
         ensures list_room { IfOk result (λ b. list_room_in b ≡ rounds) }
-        ensures no_faults { IfOk result (λ b. ⟦<MemBackend as Faulty>⟧.faults b ≡ 0) }
-        ensures not_opened { IfOk result (λ b. ⟦<MemBackend as Faulty>⟧.opened_at b ≡ None) }
         ensures no_calls { IfOk result
             (λ b. calls_of b ≡ record { openings = 0; writes = 0; begins = 0; finishes = 0 }) }
         ensures fails_no_opening { IfOk result (λ b. b.fail_open.items ≡ []) }
@@ -91,14 +90,14 @@ impl MemBackend {
 
     /// How often it failed.
     pub fn faults(&self) -> u64
-        ensures { result ≡ ⟦<MemBackend as Faulty>⟧.faults self.now }
+        ensures { result ≡ (⟦<MemBackend as Faulty>⟧.seen self.now).faults }
     {
         self.faults
     }
 
     /// The address at which it was last opened, if it was.
     pub fn opened_at(&self) -> Option<&Address>
-        ensures { option_copied result ≡ ⟦<MemBackend as Faulty>⟧.opened_at self.now }
+        ensures { last_place (option_copied result) ≡ (⟦<MemBackend as Faulty>⟧.seen self.now).opened_at }
     {
         self.opened_at.as_ref()
     }
@@ -117,29 +116,26 @@ impl MemBackend {
 }
 
 impl Faulty for MemBackend {
-    ghost use Rattle.sd_outside.specs.MemBackend.{address_of, faults_of};
+    ghost use Rattle.std.proofs.Common.{arith};
+    ghost use Rattle.sd_outside.specs.MemBackend.{seen_of};
 
-    ghost faults = { faults_of };
+    ghost seen = { seen_of };
 
-    ghost opened_at = { address_of };
+    ghost faults_fit = { λ s. Prim.omega arith };
 }
 
 impl Opens for MemBackend {
-    ghost use Rattle.std.specs.Prelude.{◌≡◌, ◌≤◌, ◌↔◌, Some, OnOk, OnErr, IfErr, IsErr, Contains};
-    ghost use Rattle.sd_model_outside.specs.Outside.{raised};
-    ghost use Rattle.sd_outside.specs.MemBackend.{Calls, Fails, SameContent, SameFailures, address_of, calls_of, faults_of, told_by};
-
-    ghost same_content = { λ old new. told_by new ≡ told_by old };
+    ghost use Rattle.std.specs.Prelude.{◌≡◌, ◌↔◌, OnOk, OnErr, IfErr, IsErr, Contains};
+    ghost use Rattle.sd_model_outside.specs.Outside.{opened, raised};
+    ghost use Rattle.sd_outside.specs.MemBackend.{Calls, Fails, SameFailures, SameRoom, calls_of, seen_of};
+    ghost use Rattle.sd_outside.specs.Places.{place_of};
 
     fn open_at(&mut self, at: &Address) -> Result<(), OpenRefusal>
-        ensures address { OnOk result (address_of self.new ≡ Some at.now) }
-        ensures no_fault { OnOk result (faults_of self.new ≡ faults_of self.old) }
+        ensures ok { OnOk result (seen_of self.new ≡ opened (place_of at.now) (seen_of self.old)) }
         ensures fails { OnErr result (Fails self.old self.new) }
-        ensures old_address { OnErr result (address_of self.new ≡ address_of self.old) }
         ensures refusal { IfErr result (λ refusal. refusal ≡ OpenRefusal.Failed) }
         ensures cause { IsErr result ↔ Contains self.old.fail_open.items (calls_of self.new).openings }
-        ensures faults_stay { faults_of self.old ≤ faults_of self.new }
-        ensures content { SameContent self.old self.new }
+        ensures room { SameRoom self.old self.new }
         ensures counted { calls_of self.new
             ≡ record (calls_of self.old) { openings = raised (calls_of self.old).openings } }
         ensures failures_stay { SameFailures self.old self.new }
@@ -154,11 +150,9 @@ impl Opens for MemBackend {
 }
 
 impl Sink for MemBackend {
-    ghost use Rattle.std.specs.Prelude.{◌≡◌, ◌<◌, ◌≤◌, ◌⊎◌, ◌↔◌, length, IfOk, OnErr, IsErr, Contains};
+    ghost use Rattle.std.specs.Prelude.{◌≡◌, ◌<◌, ◌⊎◌, ◌↔◌, length, IfOk, OnErr, IsErr, Contains};
     ghost use Rattle.sd_model_outside.specs.Outside.{raised};
-    ghost use Rattle.sd_outside.specs.MemBackend.{Calls, Takes, Fails, HasNoRoom, SameFailures, address_of, calls_of, faults_of, told_by};
-
-    ghost written = { told_by };
+    ghost use Rattle.sd_outside.specs.MemBackend.{Calls, Takes, Fails, HasNoRoom, SameFailures, calls_of};
 
     fn write(&mut self, bytes: &[u8]) -> Result<usize, Failed>
         requires { 0 < length bytes.now }
@@ -166,8 +160,6 @@ impl Sink for MemBackend {
         ensures fails { OnErr result (Fails self.old self.new) }
         ensures cause { IsErr result
             ↔ (Contains self.old.fail_call.items (calls_of self.new).writes ⊎ HasNoRoom self.old) }
-        ensures faults_stay { faults_of self.old ≤ faults_of self.new }
-        ensures address_stays { address_of self.new ≡ address_of self.old }
         ensures counted { calls_of self.new
             ≡ record (calls_of self.old) { writes = raised (calls_of self.old).writes } }
         ensures failures_stay { SameFailures self.old self.new }
@@ -184,17 +176,15 @@ impl Sink for MemBackend {
 }
 
 impl Backend for MemBackend {
-    ghost use Rattle.std.specs.Prelude.{◌≡◌, ◌≤◌, ◌⊎◌, ◌↔◌, OnOk, OnErr, IsErr, Contains};
+    ghost use Rattle.std.specs.Prelude.{◌≡◌, ◌⊎◌, ◌↔◌, OnOk, OnErr, IsErr, Contains};
     ghost use Rattle.sd_model_outside.specs.Outside.{raised};
-    ghost use Rattle.sd_outside.specs.MemBackend.{Begins, Calls, Fails, Finishes, SameFailures, address_of, calls_of, faults_of, list_room_in};
+    ghost use Rattle.sd_outside.specs.MemBackend.{Begins, Calls, Fails, Finishes, SameFailures, calls_of, list_room_in};
 
     fn begin(&mut self) -> Result<(), Failed>
         ensures begins { OnOk result (Begins self.old self.new) }
         ensures fails { OnErr result (Fails self.old self.new) }
         ensures cause { IsErr result
             ↔ (Contains self.old.fail_begin.items (calls_of self.new).begins ⊎ (list_room_in self.old ≡ 0)) }
-        ensures faults_stay { faults_of self.old ≤ faults_of self.new }
-        ensures address_stays { address_of self.new ≡ address_of self.old }
         ensures counted { calls_of self.new
             ≡ record (calls_of self.old) { begins = raised (calls_of self.old).begins } }
         ensures failures_stay { SameFailures self.old self.new }
@@ -210,8 +200,6 @@ impl Backend for MemBackend {
         ensures finishes { OnOk result (Finishes self.old self.new) }
         ensures fails { OnErr result (Fails self.old self.new) }
         ensures cause { IsErr result ↔ Contains self.old.fail_finish.items (calls_of self.new).finishes }
-        ensures faults_stay { faults_of self.old ≤ faults_of self.new }
-        ensures address_stays { address_of self.new ≡ address_of self.old }
         ensures counted { calls_of self.new
             ≡ record (calls_of self.old) { finishes = raised (calls_of self.old).finishes } }
         ensures failures_stay { SameFailures self.old self.new }
@@ -222,6 +210,4 @@ impl Backend for MemBackend {
         self.store.finish();
         Ok(())
     }
-
-    ghost opening_keeps = { λ _ _ same. same };
 }

@@ -25,10 +25,8 @@ impl MemSink {
     ///
     /// Where no memory is left for the room.
     pub fn open(alloc: Global, bytes: usize) -> Result<MemSink, AllocError>
-        ensures content { IfOk result (λ s. ⟦<MemSink as Sink>⟧.written s ≡ Bytes []) }
+        ensures seen { IfOk result (λ s. ⟦<MemSink as Faulty>⟧.seen s ≡ record { told = Bytes []; faults = 0; opened_at = None }) }
         ensures room { IfOk result (λ s. room_in s ≡ bytes) }
-        ensures no_faults { IfOk result (λ s. ⟦<MemSink as Faulty>⟧.faults s ≡ 0) }
-        ensures not_opened { IfOk result (λ s. ⟦<MemSink as Faulty>⟧.opened_at s ≡ None) }
         ensures no_writes { IfOk result (λ s. writes_of s ≡ 0) }
         ensures fails_no_write { IfOk result (λ s. s.fail_call.items ≡ []) }
     {
@@ -42,34 +40,32 @@ impl MemSink {
 
     /// The bytes that it was given.
     pub fn bytes(&self) -> &[u8]
-        ensures { ⟦<MemSink as Sink>⟧.written self.now ≡ Bytes result.now }
+        ensures { (⟦<MemSink as Faulty>⟧.seen self.now).told ≡ Bytes result.now }
     {
         self.store.as_slice()
     }
 
     /// How often it failed.
     pub fn faults(&self) -> u64
-        ensures { result ≡ ⟦<MemSink as Faulty>⟧.faults self.now }
+        ensures { result ≡ (⟦<MemSink as Faulty>⟧.seen self.now).faults }
     {
         self.faults
     }
 }
 
 impl Faulty for MemSink {
-    ghost use Rattle.std.specs.Prelude.{None};
-    ghost use Rattle.sd_outside.specs.MemSink.{faults_of};
+    ghost use Rattle.std.proofs.Common.{arith};
+    ghost use Rattle.sd_outside.specs.MemSink.{seen_of};
 
-    ghost faults = { faults_of };
+    ghost seen = { seen_of };
 
-    ghost opened_at = { λ _. None };
+    ghost faults_fit = { λ s. Prim.omega arith };
 }
 
 impl Sink for MemSink {
-    ghost use Rattle.std.specs.Prelude.{◌≡◌, ◌<◌, ◌≤◌, ◌⊎◌, ◌↔◌, length, IfOk, OnErr, IsErr, Contains};
-    ghost use Rattle.sd_model_outside.specs.Outside.{Bytes, raised};
-    ghost use Rattle.sd_outside.specs.MemSink.{Takes, Fails, faults_of, given_to, room_in, writes_of};
-
-    ghost written = { λ s. Bytes (given_to s) };
+    ghost use Rattle.std.specs.Prelude.{◌≡◌, ◌<◌, ◌⊎◌, ◌↔◌, length, IfOk, OnErr, IsErr, Contains};
+    ghost use Rattle.sd_model_outside.specs.Outside.{raised};
+    ghost use Rattle.sd_outside.specs.MemSink.{Takes, Fails, room_in, writes_of};
 
     fn write(&mut self, bytes: &[u8]) -> Result<usize, Failed>
         requires { 0 < length bytes.now }
@@ -77,7 +73,6 @@ impl Sink for MemSink {
         ensures fails { OnErr result (Fails self.old self.new) }
         ensures cause { IsErr result
             ↔ (Contains self.old.fail_call.items (writes_of self.new) ⊎ (room_in self.old ≡ 0)) }
-        ensures faults_stay { faults_of self.old ≤ faults_of self.new }
         ensures counted { writes_of self.new ≡ raised (writes_of self.old) }
         ensures list_stays { self.new.fail_call ≡ self.old.fail_call }
     {

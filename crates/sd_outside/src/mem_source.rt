@@ -22,14 +22,14 @@ pub struct MemSource {
 }
 
 impl MemSource {
-    ghost use Rattle.std.specs.Prelude.{◌≡◌, None, Some, [], option_copied};
+    ghost use Rattle.std.specs.Prelude.{◌≡◌, None, [], option_copied};
+    ghost use Rattle.sd_model_outside.specs.Outside.{Left};
     ghost use Rattle.sd_outside.specs.MemSource.{calls_of};
+    ghost use Rattle.sd_outside.specs.Places.{last_place};
 
     /// A source that has the bytes left, and of which no call is to fail.
     pub fn of(bytes: Vec<u8>) -> MemSource
-        ensures content { ⟦<MemSource as Source>⟧.remaining result ≡ Some bytes.items }
-        ensures no_faults { ⟦<MemSource as Faulty>⟧.faults result ≡ 0 }
-        ensures not_opened { ⟦<MemSource as Faulty>⟧.opened_at result ≡ None }
+        ensures seen { ⟦<MemSource as Faulty>⟧.seen result ≡ record { told = Left bytes.items; faults = 0; opened_at = None } }
         ensures no_calls { calls_of result ≡ record { openings = 0; reads = 0 } }
         ensures fails_no_opening { result.fail_open.items ≡ [] }
         ensures fails_no_read { result.fail_call.items ≡ [] }
@@ -49,50 +49,46 @@ impl MemSource {
 
     /// The bytes that it has left.
     pub fn remaining(&self) -> &[u8]
-        ensures { ⟦<MemSource as Source>⟧.remaining self.now ≡ Some result.now }
+        ensures { (⟦<MemSource as Faulty>⟧.seen self.now).told ≡ Left result.now }
     {
         &self.bytes[self.taken..]
     }
 
     /// How often it failed.
     pub fn faults(&self) -> u64
-        ensures { result ≡ ⟦<MemSource as Faulty>⟧.faults self.now }
+        ensures { result ≡ (⟦<MemSource as Faulty>⟧.seen self.now).faults }
     {
         self.faults
     }
 
     /// The address at which it was last opened, if it was.
     pub fn opened_at(&self) -> Option<&Address>
-        ensures { option_copied result ≡ ⟦<MemSource as Faulty>⟧.opened_at self.now }
+        ensures { last_place (option_copied result) ≡ (⟦<MemSource as Faulty>⟧.seen self.now).opened_at }
     {
         self.opened_at.as_ref()
     }
 }
 
 impl Faulty for MemSource {
-    ghost use Rattle.sd_outside.specs.MemSource.{address_of, faults_of};
+    ghost use Rattle.std.proofs.Common.{arith};
+    ghost use Rattle.sd_outside.specs.MemSource.{seen_of};
 
-    ghost faults = { faults_of };
+    ghost seen = { seen_of };
 
-    ghost opened_at = { address_of };
+    ghost faults_fit = { λ s. Prim.omega arith };
 }
 
 impl Opens for MemSource {
-    ghost use Rattle.std.specs.Prelude.{◌≡◌, ◌≤◌, ◌↔◌, Some, OnOk, OnErr, IfErr, IsErr, Contains};
-    ghost use Rattle.sd_model_outside.specs.Outside.{raised};
-    ghost use Rattle.sd_outside.specs.MemSource.{Calls, Fails, SameFailures, address_of, calls_of, faults_of, left_in};
-
-    ghost same_content = { λ old new. left_in new ≡ left_in old };
+    ghost use Rattle.std.specs.Prelude.{◌≡◌, ◌↔◌, OnOk, OnErr, IfErr, IsErr, Contains};
+    ghost use Rattle.sd_model_outside.specs.Outside.{opened, raised};
+    ghost use Rattle.sd_outside.specs.MemSource.{Calls, Fails, SameFailures, calls_of, seen_of};
+    ghost use Rattle.sd_outside.specs.Places.{place_of};
 
     fn open_at(&mut self, at: &Address) -> Result<(), OpenRefusal>
-        ensures address { OnOk result (address_of self.new ≡ Some at.now) }
-        ensures no_fault { OnOk result (faults_of self.new ≡ faults_of self.old) }
+        ensures ok { OnOk result (seen_of self.new ≡ opened (place_of at.now) (seen_of self.old)) }
         ensures fails { OnErr result (Fails self.old self.new) }
         ensures refusal { IfErr result (λ refusal. refusal ≡ OpenRefusal.Failed) }
-        ensures old_address { OnErr result (address_of self.new ≡ address_of self.old) }
         ensures cause { IsErr result ↔ Contains self.old.fail_open.items (calls_of self.new).openings }
-        ensures faults_stay { faults_of self.old ≤ faults_of self.new }
-        ensures content { left_in self.new ≡ left_in self.old }
         ensures counted { calls_of self.new
             ≡ record (calls_of self.old) { openings = raised (calls_of self.old).openings } }
         ensures failures_stay { SameFailures self.old self.new }
@@ -107,12 +103,9 @@ impl Opens for MemSource {
 }
 
 impl Source for MemSource {
-    ghost use Rattle.std.specs.Prelude.{◌≡◌, ◌<◌, ◌≤◌, ◌↔◌, Some, length, IfOk, OnErr, IsErr, Contains};
-    ghost use Rattle.std.proofs.Common.{ap};
+    ghost use Rattle.std.specs.Prelude.{◌≡◌, ◌<◌, ◌↔◌, length, IfOk, OnErr, IsErr, Contains};
     ghost use Rattle.sd_model_outside.specs.Outside.{raised};
-    ghost use Rattle.sd_outside.specs.MemSource.{Calls, Gives, Fails, SameFailures, address_of, calls_of, faults_of, left_in};
-
-    ghost remaining = { λ s. Some (left_in s) };
+    ghost use Rattle.sd_outside.specs.MemSource.{Calls, Gives, Fails, SameFailures, calls_of};
 
     fn read(&mut self, buf: &mut [u8]) -> Result<usize, Failed>
         requires { 0 < length buf.old }
@@ -120,8 +113,6 @@ impl Source for MemSource {
         ensures fails { OnErr result (Fails self.old self.new) }
         ensures buffer_stays { OnErr result (buf.new ≡ buf.old) }
         ensures cause { IsErr result ↔ Contains self.old.fail_call.items (calls_of self.new).reads }
-        ensures faults_stay { faults_of self.old ≤ faults_of self.new }
-        ensures address_stays { address_of self.new ≡ address_of self.old }
         ensures counted { calls_of self.new
             ≡ record (calls_of self.old) { reads = raised (calls_of self.old).reads } }
         ensures failures_stay { SameFailures self.old self.new }
@@ -135,6 +126,4 @@ impl Source for MemSource {
         self.taken += count;
         Ok(count)
     }
-
-    ghost opening_keeps = { λ old new same. ap Some same };
 }

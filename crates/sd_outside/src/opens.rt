@@ -1,6 +1,6 @@
-ghost use Rattle.std.specs.Prelude.{◌≡◌, ℕ, ◌≤◌, Option, OnOk, OnErr, IsErrOf};
-ghost use Rattle.sd_model_outside.specs.Outside.{Rose};
-ghost use Rattle.sd_outside.specs.declared.address.Address.{Address as Place};
+ghost use Rattle.std.specs.Prelude.{◌≡◌, ◌≤◌, OnOk, IsErrOf};
+ghost use Rattle.sd_model_outside.specs.Outside.{Object, HasFailed, opened, last_count};
+ghost use Rattle.sd_outside.specs.Places.{place_of};
 
 use crate::address::Address;
 
@@ -19,30 +19,23 @@ pub enum OpenRefusal {
 
 /// An object that may fail. It counts its faults up to 2^64 - 1, where the count stays.
 pub trait Faulty {
-    /// How often it failed.
-    ghost faults: { Self → ℕ };
+    /// What is seen of it: what it tells of its content, how often it failed, and where it was last opened.
+    ghost seen: { Self → Object };
 
-    /// The address at which it was last opened, if it was.
-    ghost opened_at: { Self → Option Place };
+    /// Its count of faults isn't above the last count.
+    ghost faults_fit: { (s : Self) → (seen s).faults ≤ last_count };
 }
 
 /// An object that is opened at an address.
 pub trait Opens: Faulty {
-    /// The second has the content of the first.
-    ghost same_content: { Self → Self → Type 0 };
-
-    /// Makes the object ready.
+    /// Makes the object ready. Its content is as it was.
     ///
     /// # Errors
     ///
     /// `Failed` where the object failed, and `OutOfMemory` where memory ran out, which isn't a fault. In
     /// both cases it is where it was last opened before.
     fn open_at(&mut self, at: &Address) -> Result<(), OpenRefusal>
-        ensures ok { OnOk result (Self.opened_at self.new ≡ Some at.now) }
-        ensures content { same_content self.old self.new }
-        ensures failed { IsErrOf result OpenRefusal.Failed → Rose (Self.faults self.old) (Self.faults self.new) }
-        ensures steady { OnOk result (Self.faults self.new ≡ Self.faults self.old) }
-        ensures out_of_memory { IsErrOf result OpenRefusal.OutOfMemory → Self.faults self.new ≡ Self.faults self.old }
-        ensures address_stays { OnErr result (Self.opened_at self.new ≡ Self.opened_at self.old) }
-        ensures faults_stay { Self.faults self.old ≤ Self.faults self.new };
+        ensures ok { OnOk result (Self.seen self.new ≡ opened (place_of at.now) (Self.seen self.old)) }
+        ensures failed { IsErrOf result OpenRefusal.Failed → HasFailed (Self.seen self.old) (Self.seen self.new) }
+        ensures out_of_memory { IsErrOf result OpenRefusal.OutOfMemory → Self.seen self.new ≡ Self.seen self.old };
 }

@@ -1,6 +1,5 @@
-ghost use Rattle.std.specs.Prelude.{◌≡◌, ℕ, ◌<◌, ◌≤◌, List, ◌++◌, length, take, IfOk, OnOk, OnErr};
-ghost use Rattle.sd_model_outside.specs.Outside.{Rose, Written, FitsLastCount, appended};
-ghost use Rattle.sd_outside.specs.Write.{AppendsFront};
+ghost use Rattle.std.specs.Prelude.{◌≡◌, ◌<◌, ◌≤◌, length, take, IfOk, OnOk, OnErr};
+ghost use Rattle.sd_model_outside.specs.Outside.{HasFailed, HasFailedBehind, FitsLastCount, given};
 
 use crate::opens::{Failed, Faulty};
 
@@ -8,11 +7,8 @@ use crate::opens::{Failed, Faulty};
 #[derive(Clone, Copy, Debug, PartialEq, Eq)]
 pub struct WriteFault;
 
-/// An object that bytes are written to.
+/// An object that bytes are written to. It tells what it was given, or nothing.
 pub trait Sink: Faulty {
-    /// What it tells of what it was given.
-    ghost written: { Self → Written };
-
     /// Appends bytes from the front of those given, and answers their number.
     ///
     /// # Errors
@@ -21,15 +17,11 @@ pub trait Sink: Faulty {
     fn write(&mut self, bytes: &[u8]) -> Result<usize, Failed>
         requires { 0 < length bytes.now }
         ensures count { IfOk result (λ n. (0 < n) × (n ≤ length bytes.now)) }
-        ensures appended { IfOk result (λ n. written self.new ≡ appended (written self.old) (take n bytes.now)) }
-        ensures failed { OnErr result (Rose (Self.faults self.old) (Self.faults self.new)) }
-        ensures steady { OnOk result (Self.faults self.new ≡ Self.faults self.old) }
-        ensures kept { OnErr result (written self.new ≡ written self.old) }
-        ensures faults_stay { Self.faults self.old ≤ Self.faults self.new }
-        ensures address_stays { Self.opened_at self.new ≡ Self.opened_at self.old };
+        ensures appended { IfOk result (λ n. Self.seen self.new ≡ given (take n bytes.now) (Self.seen self.old)) }
+        ensures failed { OnErr result (HasFailed (Self.seen self.old) (Self.seen self.new)) };
 
     /// A number that it tells isn't above the last count.
-    ghost number_fits: { (s : Self) → FitsLastCount (written s) };
+    ghost number_fits: { (s : Self) → FitsLastCount (Self.seen s).told };
 }
 
 /// Writes all of the bytes, in as many calls as the sink takes.
@@ -38,12 +30,8 @@ pub trait Sink: Faulty {
 ///
 /// `Failed` where a call failed. Then a front of the bytes was appended.
 pub fn write_all<K: Sink>(sink: &mut K, bytes: &[u8]) -> Result<(), Failed>
-    ensures ok { OnOk result (K.written sink.new ≡ appended (K.written sink.old) bytes.now) }
-    ensures failed { OnErr result (Rose (K.faults sink.old) (K.faults sink.new)) }
-    ensures steady { OnOk result (K.faults sink.new ≡ K.faults sink.old) }
-    ensures front { OnErr result (AppendsFront (K.written sink.old) bytes.now (K.written sink.new)) }
-    ensures faults_stay { K.faults sink.old ≤ K.faults sink.new }
-    ensures address_stays { K.opened_at sink.new ≡ K.opened_at sink.old }
+    ensures ok { OnOk result (K.seen sink.new ≡ given bytes.now (K.seen sink.old)) }
+    ensures failed { OnErr result (HasFailedBehind bytes.now (K.seen sink.old) (K.seen sink.new)) }
 {
     let mut rest = bytes;
     while !rest.is_empty() {
@@ -52,10 +40,3 @@ pub fn write_all<K: Sink>(sink: &mut K, bytes: &[u8]) -> Result<(), Failed>
     }
     Ok(())
 }
-
-/// What a write of two texts one after the other leaves, where one of the two fails.
-pub fn fronts_join()
-    ensures longer { (w v : Written) (xs ys : List ℕ) → AppendsFront w xs v → AppendsFront w (xs ++ ys) v }
-    ensures later { (w v : Written) (xs ys : List ℕ)
-        → AppendsFront (appended w xs) ys v → AppendsFront w (xs ++ ys) v }
-{}

@@ -7,7 +7,8 @@ use Rattle.std.specs.Cmp.Lexicographic.{slice_cmp}
 use Rattle.std.proofs.lemmas.List.{map-append, take_more, length-map, get_or-map}
 use Rattle.std.proofs.lemmas.List.Sorted.{IsPermutation-map}
 use Rattle.std.proofs.lemmas.Option.{slice_get_within, get_or_from_slice_get}
-use Rattle.sd_model_shard.specs.Shard.{RowId, row_cmp, Kept, counter_value}
+use Rattle.sd_model_shard.specs.Shard.{RowId, row_cmp, Kept}
+use Rattle.sd_model_shard.specs.Statistics.{weight_of}
 use Rattle.sd_model_shard.proofs.RowLemmas.{rows_total, rows_exact}
 use Rattle.sd_model_shard.proofs.EntryLemmas.{StandApart, StandApart-keyed, keyed-entries, entries-sorted}
 use Rattle.sd_shard.specs.Table.{Listing, AreApart, table_of}
@@ -44,7 +45,7 @@ sorted_rows (row ∷ rows) up = λ k d low high.
 -- the counted rows of a table, sorted, are those of the definitions
 pub counted-sorted : (t : Listing) (rows sorted : List CountedRow) → AreApart t.listed → map counted_view rows ≡ counts_of t → IsPermutation rows sorted → IsSortedByKey (λ e. e.0) row_cmp (map counted_view sorted) → map counted_view sorted ≡ counted (table_of t)
 counted-sorted t rows sorted apart all moved up =
-    let f : RowId → ℤ = λ id. counter_value id t.held in
+    let f : RowId → ℤ = λ id. weight_of id t.held in
     let moved_counts : IsPermutation (counts_of t) (map counted_view sorted) = subst (λ es. IsPermutation es (map counted_view sorted)) all (IsPermutation-map counted_view rows sorted moved) in
     sym (keyed-entries row_cmp f rows_total rows_exact t.listed ∙ entries-sorted rows_total rows_exact (counts_of t) (map counted_view sorted) (StandApart-keyed row_cmp f t.listed (apart_rows t.listed apart)) moved_counts up)
 

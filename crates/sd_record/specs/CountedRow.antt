@@ -1,6 +1,7 @@
 -- What a row of the scratch stands for.
 use Rattle.std.specs.Prelude.{ℤ, List, map}
-use Rattle.sd_model_shard.specs.Shard.{RowId, counter_value}
+use Rattle.sd_model_shard.specs.Shard.{RowId}
+use Rattle.sd_model_shard.specs.Statistics.{weight_of}
 use Rattle.sd_shard.specs.Table.{Listing, id_of}
 use Rattle.sd_record.specs.declared.counted_row.CountedRow.{CountedRow}
 
@@ -10,4 +11,4 @@ counted_view c = (id_of c.kind c.key, c.count.0)
 
 -- the ids and counts of a table's rows, as they are listed
 abbrev pub counts_of : Listing → List (RowId × ℤ)
-counts_of t = map (λ e. (e.0, counter_value e.0 t.held)) t.listed
+counts_of t = map (λ e. (e.0, weight_of e.0 t.held)) t.listed

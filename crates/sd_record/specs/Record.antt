@@ -8,6 +8,10 @@ use Rattle.sd_record.specs.Counts.{Counts}
 use Rattle.sd_record.specs.Tally.{tally_of}
 use Rattle.sd_record.specs.declared.record.Record.{Record}
 
+-- the plan of records over this interval
+abbrev pub plan_of : ℕ → model.Plan
+plan_of interval_ms = record { interval_ms = interval_ms }
+
 -- the row of a counted row
 abbrev pub record_row : ℕ → RowId × ℤ → model.Row
 record_row interval_ms e = model.CounterRow e.0.key e.1 (per_second e.1 interval_ms)

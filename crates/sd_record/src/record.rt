@@ -21,7 +21,7 @@ pub struct Record<'a> {
 }
 
 impl<'a> Record<'a> {
-    ghost use Rattle.sd_record.specs.Record.{record_view, room_of, Borrows};
+    ghost use Rattle.sd_record.specs.Record.{plan_of, record_view, room_of, Borrows};
 
     /// The record of a table's rows, which are put in order in the scratch. No memory is taken. The
     /// scratch is free again where the record ends, and has its room then.
@@ -35,7 +35,7 @@ impl<'a> Record<'a> {
         requires room { length table.now.listed ≤ scratch.old.room }
         requires interval { 0 < interval_ms }
         ensures record { record_view result
-            ≡ record_of interval_ms (table_of table.now ∷ []) (tally_of tally) ts }
+            ≡ record_of (plan_of interval_ms) (table_of table.now ∷ []) (tally_of tally) ts }
         ensures room { room_of result ≡ scratch.old.room }
         ensures same_scratch { Borrows result scratch.entry }
     {

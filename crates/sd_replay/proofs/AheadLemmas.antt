@@ -1,11 +1,12 @@
 -- Bytes held in a part of the room.
-use Rattle.std.proofs.Common.{◌≡◌, ℕ, ◌+◌, ◌-◌, ◌≤◌, List, ◌++◌, Vec, Option, Some, None, length, take, drop, refl, sym, ap, ◌∙◌, arith, append_assoc, length-append, length-drop, length-take}
+use Rattle.std.proofs.Common.{◌≡◌, ℕ, ◌+◌, ◌-◌, ◌≤◌, List, ◌++◌, Vec, [], Option, Some, None, length, take, drop, refl, sym, ap, ◌∙◌, arith, append_assoc, length-append, length-drop, length-take}
 use Rattle.std.specs.Prelude.{slice_range, min, IfSome}
 use Rattle.std.proofs.lemmas.List.{take-append-le, drop-append-le, drop-take, drop-drop, length-take-le, take_at, with_items_is, take_min, append-nil}
 use Rattle.std.proofs.Math.Seq.{take-append-add}
 use Rattle.std.specs.Vec.{with_items}
 use borrow.Rule.Slice.PartMut.{post_of}
-use Rattle.sd_model_outside.specs.Outside.{Reads, IsAtEnd}
+use Rattle.sd_model_outside.specs.Outside.{Told, Untold, Left, Number, Bytes, Rounds, Reads, left_in, put_back}
+use Rattle.sd_model_outside.proofs.OutsideLemmas.{put_back-append}
 use Rattle.sd_replay.specs.Ahead.{left_behind}
 use Rattle.sd_replay.specs.Fields.{Lacks}
 
@@ -44,9 +45,16 @@ slice_range-same xs zs i j order inside =
     ∙ take_at (slice_range xs i j) zs (j - i) (length-slice_range xs i j order inside)
 
 -- bytes that came are no longer left in the source, but held
-pub left-reads : (held more : List ℕ) (old new : Option (List ℕ)) → Reads old more new → left_behind (held ++ more) new ≡ left_behind held old
-left-reads held more old None reads = rw reads refl
-left-reads held more old (Some rest) reads = rw reads (ap Some (append_assoc held more rest))
+pub left-reads : (held more : List ℕ) (old new : Told) → Reads old more new → put_back (held ++ more) new ≡ put_back held old
+left-reads held more old new reads = sym (put_back-append held more new) ∙ ap (put_back held) (sym reads)
+
+-- what is left behind what is held, where it is told
+pub told_left : (P : List ℕ → Type 0) (held : List ℕ) (told : Told) → IfSome (left_behind held (left_in told)) P → IfSome (left_in (put_back held told)) P
+told_left P held Untold h = tt
+told_left P held (Left bytes) h = h
+told_left P held (Number n) h = tt
+told_left P held (Bytes bytes) h = tt
+told_left P held (Rounds rounds open_list) h = tt
 
 -- the room xs with ys written behind the place j
 abbrev written : List ℕ → List ℕ → ℕ → List ℕ
@@ -81,6 +89,6 @@ Lacks-enough byte most held None lacks enough = tt
 Lacks-enough byte most held (Some rest) lacks enough = rw (take-append-le most held rest enough) lacks
 
 -- all bytes that are left are held
-pub Lacks-end : (byte most : ℕ) (held : List ℕ) (remaining : Option (List ℕ)) → Lacks byte (take most held) → IsAtEnd remaining → IfSome (left_behind held remaining) (λ bytes. Lacks byte (take most bytes))
+pub Lacks-end : (byte most : ℕ) (held : List ℕ) (remaining : Option (List ℕ)) → Lacks byte (take most held) → IfSome remaining (λ bytes. bytes ≡ []) → IfSome (left_behind held remaining) (λ bytes. Lacks byte (take most bytes))
 Lacks-end byte most held None lacks end = tt
 Lacks-end byte most held (Some rest) lacks end = rw (end, append-nil held) lacks

@@ -6,7 +6,7 @@ use Rattle.sd_replay.specs.declared.head.Head.TheVariants.{Packet}
 use Rattle.sd_replay.proofs.Cuts.{cut_is, uncut}
 use Rattle.sd_model_text.proofs.Digits.{Lacks-decimal}
 
-module _ (fields : List ℕ) (who moment len : ℕ) (legal : IsLegal (Packet who moment len)) (same : fields ≡ decimal who ++ 32 ∷ decimal moment ++ 32 ∷ decimal len) where
+module _ (receivers : ℕ) (fields : List ℕ) (who moment len : ℕ) (legal : IsLegal receivers (Packet who moment len)) (same : fields ≡ decimal who ++ 32 ∷ decimal moment ++ 32 ∷ decimal len) where
   regrouped : fields ≡ decimal who ++ 32 ∷ (decimal moment ++ 32 ∷ decimal len)
   regrouped = same ∙ append_assoc (decimal who) (32 ∷ decimal moment) (32 ∷ decimal len)
 
@@ -15,12 +15,12 @@ module _ (fields : List ℕ) (who moment len : ℕ) (legal : IsLegal (Packet who
 
   module _ (first rest : List ℕ) (cut : IsCut 32 fields first rest) where
     first_cut : (first ≡ decimal who) × (rest ≡ decimal moment ++ 32 ∷ decimal len)
-    first_cut = cut_is 32 fields first rest (decimal who) (decimal moment ++ 32 ∷ decimal len) cut (Lacks-decimal 32 who (omega arith) (omega (arith, legal))) regrouped
+    first_cut = cut_is 32 fields first rest (decimal who) (decimal moment ++ 32 ∷ decimal len) cut (Lacks-decimal 32 who (omega arith) (omega (arith, legal.0.1))) regrouped
 
     pub two_fields : Lacks 32 rest → ⊥
     two_fields lacks = uncut 32 rest (decimal moment) (decimal len) lacks first_cut.1
 
     pub three_fields : (second third : List ℕ) → IsCut 32 rest second third → (first ≡ decimal who) × (second ≡ decimal moment) × (third ≡ decimal len)
     three_fields second third next =
-        let parts = cut_is 32 rest second third (decimal moment) (decimal len) next (Lacks-decimal 32 moment (omega arith) (omega (arith, legal))) first_cut.1 in
+        let parts = cut_is 32 rest second third (decimal moment) (decimal len) next (Lacks-decimal 32 moment (omega arith) (omega (arith, legal.1))) first_cut.1 in
         (first_cut.0, parts.0, parts.1)

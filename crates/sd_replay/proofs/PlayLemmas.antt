@@ -1,253 +1,342 @@
 -- A replay so far, and one record more.
-use Rattle.std.proofs.Common.{◌≡◌, ◌≢◌, ℕ, ◌+◌, ◌<◌, ◌^◌, min, List, [], ◌∷◌, ◌++◌, length, map, refl, sym, ap, subst, ◌∙◌, Option, Some, None, option_map, length-append, arith}
+use Rattle.std.proofs.Math.Nat.{mod-one}
+use Rattle.std.proofs.Common.{◌≡◌, ◌≢◌, ℕ, zero, suc, cond, ◌+◌, ◌<◌, ◌^◌, min, Bool, true, false, eqb, List, [], ◌∷◌, ◌++◌, length, map, refl, sym, ap, subst, ◌∙◌, append-nil, length-append, arith}
+use Rattle.std.specs.Prelude.{sum_by, filter}
+use Rattle.std.specs.List.{AllByRecursion, cons_option}
 use Rattle.std.proofs.lemmas.List.{map-append}
-use Rattle.std.specs.FinMap.{empty}
-use Rattle.std.specs.List.{AllByRecursion}
-use Rattle.std.specs.Prelude.{IfSome}
-use Rattle.sd_model_outside.specs.Outside.{Written as Told, Reads, Rose, appended, last_count}
-use Rattle.sd_outside.specs.Write.{AppendsFront}
-use Rattle.sd_model_text.specs.Lines.{samples_of}
-use Rattle.sd_model_shard.specs.Shard.{State, after_samples, answers_to, drops, after_swap, table_of}
-use Rattle.sd_model_record.specs.Desk.{Desk, Marks, NotUsed, with_tally, with_round}
+use Rattle.std.proofs.lemmas.List.Sums.{sum_by-cons}
+use Rattle.sd_model_text.specs.Names.{shard}
+use Rattle.sd_model_text.specs.Lines.{Sample, samples_of}
+use Rattle.sd_model_outside.specs.Outside.{Told, Object, Reads, Used, Rose, HasFailedBehind, FitsLastCount, appended, given, last_count, put_back, telling}
+use Rattle.sd_model_outside.proofs.OutsideLemmas.{appended-nil, Reads-nil, Reads-append, put_back-append}
+use Rattle.sd_model_shard.specs.Shard.{State, Limits, Policy, Reply, Submit, after_swap, step, table_of}
+use Rattle.sd_model_shard.specs.History.{Act, Asked, History, after_all, answered, part_of}
+use Rattle.sd_model_shard.specs.Whereabouts.{dropped_in}
+use Rattle.sd_model_record.specs.Desk.{Desk, Mark, Marks, NotUsed, with_tally, with_round}
 use Rattle.sd_model_record.specs.Graphite.{graphite_text}
-use Rattle.sd_model_replay.specs.Script.{Command, Packet, Flush, end_word, spelled, script_text, IsBuilt, BeginsBuilt}
 use Rattle.sd_model_record.specs.Record.{record_of}
-use Rattle.sd_model_replay.specs.Replay.{default_settings, first_run, Played, PlayedPacket, PlayedFlush, command_of, packet_tally, play, graphite_deliveries, graphite_marks, AfterMark, FaultsAfter, FaultsOver, AfterDeliveries, UsesGraphite, Totals, totals_of, totals_text}
-use Rattle.sd_model_replay.specs.AccountingTheorem.{Seen, Course, AccountingTheorem}
-use Rattle.sd_model_replay.specs.Run.{Complete, NotBuilt, ReadFailed, WriteFailed, WornOut, Replayed, state_after_all, text_length}
-use Rattle.sd_model_replay.specs.Undecided.{IsUndecided, IsDecided}
+use Rattle.sd_model_replay.specs.Settings as model
+use Rattle.sd_model_replay.specs.Backends.{Backend, Graphite, Console, Delivery, FitsUse, AfterMark, AfterDeliveries, is_used, mark_of}
+use Rattle.sd_model_replay.specs.Script.{Command, Packet, Flush, Unbuilt, MayStandNext, end_word, spelled, script_text, IsBuilt, IsUndecided, IsDecided}
+use Rattle.sd_model_replay.specs.Replay.{Played, Outcome, IsOutcome, quiet, home_of, events_in, acts_in, replies_to, packet_tally, Run, first_run, play, run_of, FlushMoment, deliveries}
+use Rattle.sd_model_replay.specs.Totals.{Totals, totals_of, totals_after, totals_text}
+use Rattle.sd_model_replay.specs.AccountingTheorem.{Seen, Course, AccountingTheorem, seen_at}
+use Rattle.sd_model_replay.specs.Ends.{End, Complete, NotBuilt, ReadFailed, WriteFailed, WornOut, Replayed, EndsAs, text_length}
+use Rattle.sd_model_replay.proofs.AccountingLemmas.{are_accounted, are_documented}
+use Rattle.sd_model_replay.proofs.DeliveryLemmas.{AfterDeliveries-push}
+use Rattle.sd_model_replay.proofs.ReplayLemmas.{run_of-push, deliveries-push, flush_at, delivery_of, script_text-end, AllByRecursion-push}
+use Rattle.sd_replay.specs.Filed.{filed, lost}
 use Rattle.sd_replay.specs.Reading.{Reading, left}
-use Rattle.sd_model_replay.proofs.AccountingLemmas.{accounted}
-use Rattle.sd_model_outside.proofs.OutsideLemmas.{Reads-nil, Reads-append}
-use Rattle.sd_model_replay.proofs.StatisticsLemmas.{documented}
-use Rattle.sd_model_replay.proofs.ReplayLemmas.{run_of-push, deliveries-packet, deliveries-flush, delivery_of, AfterDeliveries-push, FaultsAfterAll, FaultsOver-all, faults-packet, faults-flush, script_text-push, script_text-end, AllByRecursion-push}
+use Rattle.sd_replay.specs.Settings.{settings_of}
+use Rattle.sd_replay.specs.Totals.{totals_of_one}
+use Rattle.sd_replay.specs.declared.settings.Settings.{Settings}
+
+-- the records that were carried out
+abbrev commands_of : List Played → List Command
+commands_of played = map (λ p. p.command) played
 
 -- what a replay has done since it began
-pub record Progress (script left : Option (List ℕ)) (old new : Told) (had has : ℕ) (shard : State) (desk : Desk) (at turn : ℕ) : Type 0 where
+pub record Progress (settings : model.Settings) (script left : Told) (old new : Object) (shard : State) (desk : Desk) (at turn : ℕ) : Type 0 where
   pub played : List Played
-  pub read : Reads script (script_text (map command_of played)) left
-  pub built : AllByRecursion IsBuilt (map command_of played)
-  pub used : AllByRecursion UsesGraphite played
-  pub texts : AfterDeliveries (graphite_deliveries default_settings first_run played) old new
-  pub faults : FaultsAfterAll (graphite_marks played) had has
-  pub same_shard : shard ≡ (state_after_all played).shard
-  pub same_desk : desk ≡ (state_after_all played).desk
+  pub read : Reads script (script_text (commands_of played)) left
+  pub built : AllByRecursion (λ p. IsBuilt settings.receivers p.command) played
+  pub used : AllByRecursion (λ p. IsOutcome settings p.command p.outcome) played
+  pub texts : AfterDeliveries (deliveries settings Graphite played) old new
+  pub unused : (o : Object) → AfterDeliveries (deliveries settings Console played) o o
+  pub same_shard : shard ≡ (run_of settings first_run played).shards 0
+  pub same_desk : desk ≡ (run_of settings first_run played).desk
   pub same_place : at ≡ text_length played
   pub turns : length played ≡ turn
 
-same_run : {script left : Option (List ℕ)} {old new : Told} {had has : ℕ} {shard : State} {desk : Desk} {at turn : ℕ} → (so_far : Progress script left old new had has shard desk at turn) → record { shard = shard; desk = desk } ≡ state_after_all so_far.played
-same_run {desk = desk} so_far = ap (λ s. record { shard = s; desk = desk }) so_far.same_shard ∙ ap (λ d. record { shard = (state_after_all so_far.played).shard; desk = d }) so_far.same_desk
-
--- a reader that has read nothing ahead leaves what the source has
-pub nothing_ahead : (reader : Reading) (script : Option (List ℕ)) → reader.pending ≡ [] → left reader script ≡ script
-nothing_ahead reader script e = ap (λ bytes. option_map (λ (rest : List ℕ). bytes ++ rest) script) e ∙ sym (Reads-nil script)
-
--- what was carried out, where these bytes were read behind it
-record Ended (old new : Seen) (ahead : List ℕ) (shard : State) (desk : Desk) (at turn : ℕ) : Type 0 where
-  course : Course
-  theorem : AccountingTheorem default_settings course old new
-  faults : FaultsOver course.played old.graphite_faults new.graphite_faults
-  same_run : record { shard = shard; desk = desk } ≡ state_after_all course.played
-  same_ahead : course.ahead ≡ ahead
-  same_place : at ≡ text_length course.played
-  turns : length course.played ≡ turn
-
-module _ (old new : Seen) (left : Option (List ℕ)) (shard : State) (desk : Desk) (at turn : ℕ) (so_far : Progress old.script left old.graphite new.graphite old.graphite_faults new.graphite_faults shard desk at turn) (ahead : List ℕ) (behind : Reads left ahead new.script) where
-  course_of : Ended old new ahead shard desk at turn
-  course_of =
-      record {
-        course = record { played = so_far.played; ahead = ahead };
-        theorem = record {
-          read = Reads-append old.script left new.script (script_text (map command_of so_far.played)) ahead so_far.read behind;
-          built = so_far.built;
-          places = accounted default_settings so_far.played;
-          statistics = documented default_settings first_run empty so_far.played refl;
-          used = so_far.used;
-          texts = so_far.texts;
-        };
-        faults = FaultsOver-all so_far.played old.graphite_faults new.graphite_faults so_far.faults;
-        same_run = same_run so_far;
-        same_ahead = refl;
-        same_place = so_far.same_place;
-        turns = so_far.turns;
-      }
-
-  -- the script counted no fault
-  module _ (script_faults : new.script_faults ≡ old.script_faults) where
-    -- the word was read, and these totals were written
-    pub completes : (totals : Totals) (rest : List ℕ) → turn < 2 ^ 62 → ahead ≡ end_word ++ rest → totals ≡ totals_of (record { shard = shard; desk = desk })
-        → new.output ≡ appended old.output (totals_text totals) → new.output_faults ≡ old.output_faults → Replayed (Complete totals) old new
-    completes totals rest few word counts written output_faults =
-        let e = course_of in
-        record {
-          course = e.course;
-          theorem = e.theorem;
-          graphite_faults = e.faults;
-          ends = record {
-            few = omega (arith, few, e.turns);
-            word = (rest, e.same_ahead ∙ word);
-            counts = counts ∙ ap totals_of e.same_run;
-            output = written;
-            script_faults = script_faults;
-            output_faults = output_faults;
-          };
-        }
-
-    -- the word was read, and a write of the totals failed
-    pub writes_part : (rest : List ℕ) → turn < 2 ^ 62 → ahead ≡ end_word ++ rest → Rose old.output_faults new.output_faults
-        → AppendsFront old.output (totals_text (totals_of (record { shard = shard; desk = desk }))) new.output → Replayed WriteFailed old new
-    writes_part rest few word rose front =
-        let e = course_of in
-        record {
-          course = e.course;
-          theorem = e.theorem;
-          graphite_faults = e.faults;
-          ends = record {
-            few = omega (arith, few, e.turns);
-            word = (rest, e.same_ahead ∙ word);
-            output = subst (λ run. AppendsFront old.output (totals_text (totals_of run)) new.output) e.same_run front;
-            script_faults = script_faults;
-            output_faults = rose;
-          };
-        }
-
-    -- no built record stands next
-    pub finds_unbuilt : (place : ℕ) → place ≡ at → turn < 2 ^ 62 → IsDecided ahead new.script → IfSome (option_map (λ rest. ahead ++ rest) new.script) (λ bytes. ¬ BeginsBuilt bytes)
-        → new.output ≡ old.output → new.output_faults ≡ old.output_faults → Replayed (NotBuilt place) old new
-    finds_unbuilt place here few decided other same output_faults =
-        let e = course_of in
-        record {
-          course = e.course;
-          theorem = e.theorem;
-          graphite_faults = e.faults;
-          ends = record {
-            few = omega (arith, few, e.turns);
-            decided = subst (λ bytes. IsDecided bytes new.script) (sym e.same_ahead) decided;
-            other = subst (λ bytes. IfSome (option_map (λ rest. bytes ++ rest) new.script) (λ all. ¬ BeginsBuilt all)) (sym e.same_ahead) other;
-            place = here ∙ e.same_place;
-            output = same;
-            script_faults = script_faults;
-            output_faults = output_faults;
-          };
-        }
-
-    -- as many records were carried out as there may be
-    pub wears_out : (turns : ℕ) → turns ≡ 2 ^ 62 → turn ≡ 2 ^ 62 → new.output ≡ old.output → new.output_faults ≡ old.output_faults → Replayed (WornOut turns) old new
-    wears_out turns most full same output_faults =
-        let e = course_of in
-        record {
-          course = e.course;
-          theorem = e.theorem;
-          graphite_faults = e.faults;
-          ends = record { most = most; all = e.turns ∙ full; output = same; script_faults = script_faults; output_faults = output_faults };
-        }
-
-  -- a read failed while the bytes at hand didn't decide what stands next
-  pub fails_to_read : turn < 2 ^ 62 → IsUndecided ahead → Rose old.script_faults new.script_faults → new.output ≡ old.output → new.output_faults ≡ old.output_faults → Replayed ReadFailed old new
-  fails_to_read few undecided rose same output_faults =
-      let e = course_of in
-      record {
-        course = e.course;
-        theorem = e.theorem;
-        graphite_faults = e.faults;
-        ends = record {
-          few = omega (arith, few, e.turns);
-          undecided = subst IsUndecided (sym e.same_ahead) undecided;
-          output = same;
-          script_faults = rose;
-          output_faults = output_faults;
-        };
-      }
-
 -- nothing was done yet
-pub nothing_played : (script : Option (List ℕ)) (w : Told) (had : ℕ) (shard : State) (desk : Desk) (at : ℕ) → shard ≡ first_run.shard → desk ≡ first_run.desk → at ≡ 0 → Progress script script w w had had shard desk at 0
-nothing_played script w had shard desk at s d a =
-    record {
-      played = [];
-      read = Reads-nil script;
-      built = tt;
-      used = tt;
-      texts = refl;
-      faults = refl;
-      same_shard = s;
-      same_desk = d;
-      same_place = a;
-      turns = refl;
-    }
+pub nothing_played : (settings : model.Settings) (script : Told) (o : Object) (shard : State) (desk : Desk) (at : ℕ) → shard ≡ first_run.shards 0 → desk ≡ first_run.desk → at ≡ 0 → Progress settings script script o o shard desk at 0
+nothing_played settings script o shard desk at s d a = record {
+  played = [];
+  read = Reads-nil script;
+  built = tt;
+  used = tt;
+  texts = refl;
+  unused = λ _. refl;
+  same_shard = s;
+  same_desk = d;
+  same_place = a;
+  turns = refl;
+}
 
-read_on : (commands : List Command) (c : Command) (left : Option (List ℕ)) → option_map (λ rest. script_text commands ++ rest) (option_map (λ rest. spelled c ++ rest) left) ≡ option_map (λ rest. script_text (commands ++ c ∷ []) ++ rest) left
-read_on commands c None = refl
-read_on commands c (Some rest) = ap (λ (text : List ℕ). Some text) (sym (script_text-push commands c rest))
+-- a sum over the one shard
+alone : (g : ℕ → ℕ) → sum_by g (0 ∷ []) ≡ g 0
+alone g = omega (arith, sum_by-cons g 0 [])
+
+-- samples of one caller, as they are asked of a shard
+abbrev asked_of : ℕ → List Sample → List Asked
+asked_of who samples = map (λ s. record { who = who; event = Submit s }) samples
+
+filed_is : (limits : Limits) (policy : Policy) (who : ℕ) (state : State) (samples : List Sample) → filed limits policy who state samples ≡ after_all limits policy state (answered limits policy state (asked_of who samples))
+filed_is limits policy who state [] = refl
+filed_is limits policy who state (s ∷ samples) = filed_is limits policy who (step limits policy state who (Submit s)).state samples
+
+lost_is : (limits : Limits) (policy : Policy) (who : ℕ) (state : State) (samples : List Sample) → lost limits policy who state samples ≡ sum_by dropped_in (map (λ a. a.reply) (answered limits policy state (asked_of who samples)))
+lost_is limits policy who state [] = refl
+lost_is limits policy who state (s ∷ samples) =
+    let one = step limits policy state who (Submit s) in
+    let rest = map (λ (a : Act). a.reply) (answered limits policy one.state (asked_of who samples)) in
+    omega (arith, lost_is limits policy who one.state samples, sum_by-cons dropped_in one.reply rest)
+
+-- What a record does to the one shard of such settings.
+module _ (settings : Settings) (run : Run) where
+  -- of one shard, that is 0, every sample is its own
+  all_at_home : (samples : List Sample) → part_of (home_of (settings_of settings)) 0 samples ≡ samples
+  all_at_home [] = refl
+  all_at_home (s ∷ samples) = kept (home_of (settings_of settings) s) (mod-one _) (all_at_home samples) where
+    kept : (n : ℕ) → n ≡ 0 → part_of (home_of (settings_of settings)) 0 samples ≡ samples → cond (eqb 0 n) (s ∷ part_of (home_of (settings_of settings)) 0 samples) (part_of (home_of (settings_of settings)) 0 samples) ≡ s ∷ samples
+    kept zero is h = ap (λ (xs : List Sample). s ∷ xs) h
+    kept (suc n) is h = absurd (omega (arith, is))
+
+  acts_of_packet : (who moment : ℕ) (datagram : List ℕ) → acts_in (settings_of settings) run 0 (Packet who moment datagram)
+      ≡ answered (settings_of settings).limits (settings_of settings).policy (run.shards 0) (asked_of who (samples_of datagram))
+  acts_of_packet who moment datagram =
+      ap (λ (samples : List Sample). answered (settings_of settings).limits (settings_of settings).policy (run.shards 0) (asked_of who samples)) (all_at_home (samples_of datagram))
+
+  packet_shard : (who moment : ℕ) (datagram : List ℕ) (outcome : Outcome)
+      → filed (settings_of settings).limits (settings_of settings).policy who (run.shards 0) (samples_of datagram) ≡ (play (settings_of settings) run (record { command = Packet who moment datagram; outcome = outcome })).shards 0
+  packet_shard who moment datagram outcome =
+      let limits = (settings_of settings).limits in
+      let policy = (settings_of settings).policy in
+      filed_is limits policy who (run.shards 0) (samples_of datagram)
+      ∙ ap (after_all limits policy (run.shards 0)) (sym (acts_of_packet who moment datagram))
+
+  packet_desk : (who moment : ℕ) (datagram : List ℕ) (outcome : Outcome)
+      → with_tally run.desk (packet_tally datagram (lost (settings_of settings).limits (settings_of settings).policy who (run.shards 0) (samples_of datagram)))
+      ≡ (play (settings_of settings) run (record { command = Packet who moment datagram; outcome = outcome })).desk
+  packet_desk who moment datagram outcome =
+      let limits = (settings_of settings).limits in
+      let policy = (settings_of settings).policy in
+      let replies : List Act → List Reply = map (λ (a : Act). a.reply) in
+      ap (λ n. with_tally run.desk (packet_tally datagram n)) (
+      lost_is limits policy who (run.shards 0) (samples_of datagram)
+      ∙ ap (λ (acts : History). sum_by dropped_in (replies acts)) (sym (acts_of_packet who moment datagram))
+      ∙ ap (sum_by dropped_in) (sym (append-nil (replies (acts_in (settings_of settings) run 0 (Packet who moment datagram))))))
+
+  totals_one : totals_of_one (run.shards 0) run.desk ≡ totals_of (settings_of settings) run
+  totals_one =
+      let taken = sym (alone (λ i. (run.shards i).taken)) in
+      let dropped = sym (alone (λ i. (run.shards i).dropped)) in
+      let flushed = sym (alone (λ i. (run.shards i).flushed)) in
+      let held = sym (alone (λ i. length (run.shards i).held)) in
+      let deleted = sym (alone (λ i. (run.shards i).deleted)) in
+      λ i. record {
+        packets = run.desk.totals.packets;
+        lines = run.desk.totals.lines;
+        bad = run.desk.totals.bad;
+        taken = taken i;
+        dropped = dropped i;
+        flushed = flushed i;
+        held = held i;
+        deleted = deleted i;
+        rounds = run.desk.rounds;
+        graphite_faults = run.desk.graphite_faults;
+        console_faults = run.desk.console_faults;
+        repeater_faults = 0;
+        admin_faults = 0;
+      }
 
 longer : (commands : List Command) (c : Command) (at : ℕ) → at ≡ min (length (script_text commands)) last_count → min (at + length (spelled c)) last_count ≡ min (length (script_text (commands ++ c ∷ []))) last_count
 longer commands c at e =
     let whole = ap length (script_text-end commands c) in
     omega (arith, e, whole, length-append (script_text commands) (spelled c))
 
-module _ (script left left' : Option (List ℕ)) (old new new' : Told) (had has has' : ℕ) (shard shard' : State) (desk desk' : Desk) (at at' turn : ℕ) (so_far : Progress script left old new had has shard desk at turn) (p : Played) where
-  -- one record more, whose text was read, and which left what it leaves
-  one_more : left ≡ option_map (λ rest. spelled (command_of p) ++ rest) left' → IsBuilt (command_of p) → UsesGraphite p
-      → AfterDeliveries (graphite_deliveries default_settings first_run (so_far.played ++ p ∷ [])) old new' → FaultsAfterAll (graphite_marks (so_far.played ++ p ∷ [])) had has'
-      → shard' ≡ (play default_settings (state_after_all so_far.played) p).shard → desk' ≡ (play default_settings (state_after_all so_far.played) p).desk
-      → at' ≡ min (at + length (spelled (command_of p))) last_count → Progress script left' old new' had has' shard' desk' at' (turn + 1)
-  one_more text built used after faults s d a =
+-- One record more.
+module _ (settings : Settings) (script left left' : Told) (old new new' : Object) (shard shard' : State) (desk desk' : Desk) (at at' turn : ℕ) (so_far : Progress (settings_of settings) script left old new shard desk at turn) where
+  run : Run
+  run = run_of (settings_of settings) first_run so_far.played
+
+  -- whose text was read, and which left what it leaves
+  one_more : (p : Played) → Reads left (spelled p.command) left' → IsBuilt settings.receivers p.command → IsOutcome (settings_of settings) p.command p.outcome
+      → AfterDeliveries (deliveries (settings_of settings) Graphite (so_far.played ++ p ∷ [])) old new'
+      → ((o : Object) → AfterDeliveries (deliveries (settings_of settings) Console (so_far.played ++ p ∷ [])) o o)
+      → shard' ≡ (play (settings_of settings) run p).shards 0 → desk' ≡ (play (settings_of settings) run p).desk
+      → at' ≡ min (at + length (spelled p.command)) last_count → Progress (settings_of settings) script left' old new' shard' desk' at' (turn + 1)
+  unfolding run
+  one_more p text built used after unused s d a =
       let ps = so_far.played in
-      let commands : map command_of (ps ++ p ∷ []) ≡ map command_of ps ++ command_of p ∷ [] = map-append command_of ps (p ∷ []) in
+      let commands : commands_of (ps ++ p ∷ []) ≡ commands_of ps ++ p.command ∷ [] = map-append (λ (q : Played). q.command) ps (p ∷ []) in
       record {
         played = ps ++ p ∷ [];
-        read = so_far.read ∙ ap (option_map (λ rest. script_text (map command_of ps) ++ rest)) text ∙ read_on (map command_of ps) (command_of p) left'
-            ∙ ap (λ cs. option_map (λ rest. script_text cs ++ rest) left') (sym commands);
-        built = subst (AllByRecursion IsBuilt) (sym commands) (AllByRecursion-push IsBuilt (map command_of ps) (command_of p) so_far.built built);
-        used = AllByRecursion-push UsesGraphite ps p so_far.used used;
+        read = so_far.read ∙ ap (put_back (script_text (commands_of ps))) text ∙ put_back-append (script_text (commands_of ps)) (spelled p.command) left'
+            ∙ ap (λ (bytes : List ℕ). put_back bytes left') (sym (script_text-end (commands_of ps) p.command))
+            ∙ ap (λ cs. put_back (script_text cs) left') (sym commands);
+        built = AllByRecursion-push (λ (q : Played). IsBuilt settings.receivers q.command) ps p so_far.built built;
+        used = AllByRecursion-push (λ (q : Played). IsOutcome (settings_of settings) q.command q.outcome) ps p so_far.used used;
         texts = after;
-        faults = faults;
-        same_shard = s ∙ ap (λ r. r.shard) (sym (run_of-push default_settings first_run ps p));
-        same_desk = d ∙ ap (λ r. r.desk) (sym (run_of-push default_settings first_run ps p));
-        same_place = a ∙ longer (map command_of ps) (command_of p) at so_far.same_place ∙ ap (λ cs. min (length (script_text cs)) last_count) (sym commands);
+        unused = unused;
+        same_shard = s ∙ ap (λ (r : Run). r.shards 0) (sym (run_of-push (settings_of settings) ps p));
+        same_desk = d ∙ ap (λ (r : Run). r.desk) (sym (run_of-push (settings_of settings) ps p));
+        same_place = a ∙ longer (commands_of ps) p.command at so_far.same_place ∙ ap (λ cs. min (length (script_text cs)) last_count) (sym commands);
         turns = omega (arith, so_far.turns, length-append ps (p ∷ []));
       }
 
   -- a packet more: its samples are filed, and it is counted
-  pub packet_more : (who moment : ℕ) (datagram : List ℕ) → p ≡ PlayedPacket who moment datagram → left ≡ option_map (λ rest. spelled (Packet who moment datagram) ++ rest) left' → IsBuilt (Packet who moment datagram)
-      → shard' ≡ after_samples default_settings.limits who shard (samples_of datagram)
-      → desk' ≡ with_tally desk (packet_tally datagram (drops (answers_to default_settings.limits who shard (samples_of datagram))))
-      → at' ≡ min (at + length (spelled (Packet who moment datagram))) last_count → new' ≡ new → has' ≡ has → Progress script left' old new' had has' shard' desk' at' (turn + 1)
-  packet_more who moment datagram is text built s d a kept stays =
-      let run = state_after_all so_far.played in
-      let lost : State → ℕ = λ state. drops (answers_to default_settings.limits who state (samples_of datagram)) in
-      one_more
-      (text ∙ ap (λ q. option_map (λ rest. spelled (command_of q) ++ rest) left') (sym is))
-      (subst (λ q. IsBuilt (command_of q)) (sym is) built)
-      (subst UsesGraphite (sym is) tt)
-      (subst (λ q. AfterDeliveries (graphite_deliveries default_settings first_run (so_far.played ++ q ∷ [])) old new') (sym is)
-      (subst (λ all. AfterDeliveries all old new') (sym (deliveries-packet default_settings first_run so_far.played who moment datagram))
-      (subst (λ w. AfterDeliveries (graphite_deliveries default_settings first_run so_far.played) old w) (sym kept) so_far.texts)))
-      (subst (λ q. FaultsAfterAll (graphite_marks (so_far.played ++ q ∷ [])) had has') (sym is) (faults-packet so_far.played who moment datagram had has has' so_far.faults stays))
-      (s ∙ ap (λ state. after_samples default_settings.limits who state (samples_of datagram)) so_far.same_shard ∙ ap (λ q. (play default_settings run q).shard) (sym is))
-      (d ∙ ap (λ state. with_tally desk (packet_tally datagram (lost state))) so_far.same_shard
-      ∙ ap (λ e. with_tally e (packet_tally datagram (lost run.shard))) so_far.same_desk ∙ ap (λ q. (play default_settings run q).desk) (sym is))
-      (a ∙ ap (λ q. min (at + length (spelled (command_of q))) last_count) (sym is))
+  pub packet_more : (who moment : ℕ) (datagram : List ℕ) → Reads left (spelled (Packet who moment datagram)) left' → IsBuilt settings.receivers (Packet who moment datagram)
+      → shard' ≡ filed (settings_of settings).limits (settings_of settings).policy who shard (samples_of datagram)
+      → desk' ≡ with_tally desk (packet_tally datagram (lost (settings_of settings).limits (settings_of settings).policy who shard (samples_of datagram)))
+      → at' ≡ min (at + length (spelled (Packet who moment datagram))) last_count → new' ≡ new → Progress (settings_of settings) script left' old new' shard' desk' at' (turn + 1)
+  unfolding run
+  packet_more who moment datagram text built s d a kept =
+      let p : Played = record { command = Packet who moment datagram; outcome = quiet } in
+      let limits = (settings_of settings).limits in
+      let policy = (settings_of settings).policy in
+      let same : (back : Backend) → deliveries (settings_of settings) back (so_far.played ++ p ∷ []) ≡ deliveries (settings_of settings) back so_far.played =
+      λ back. deliveries-push (settings_of settings) back so_far.played p ∙ append-nil (deliveries (settings_of settings) back so_far.played) in
+      one_more p text built refl
+      (subst (λ ds. AfterDeliveries ds old new') (sym (same Graphite)) (subst (λ (o : Object). AfterDeliveries (deliveries (settings_of settings) Graphite so_far.played) old o) (sym kept) so_far.texts))
+      (λ o. subst (λ ds. AfterDeliveries ds o o) (sym (same Console)) (so_far.unused o))
+      (s ∙ ap (λ (state : State). filed limits policy who state (samples_of datagram)) so_far.same_shard ∙ packet_shard settings run who moment datagram quiet)
+      (d ∙ ap (λ (state : State). with_tally desk (packet_tally datagram (lost limits policy who state (samples_of datagram)))) so_far.same_shard
+      ∙ ap (λ (e : Desk). with_tally e (packet_tally datagram (lost limits policy who (run.shards 0) (samples_of datagram)))) so_far.same_desk ∙ packet_desk settings run who moment datagram quiet)
+      a
 
   -- a flush more: the shard is swapped, the tally is taken, and Graphite was given the text
-  pub flush_more : (ts : ℕ) (marks : Marks) → p ≡ PlayedFlush ts marks → left ≡ option_map (λ rest. spelled (Flush ts) ++ rest) left' → IsBuilt (Flush ts)
+  pub flush_more : (ts : ℕ) (marks : Marks) → Reads left (spelled (Flush ts)) left' → IsBuilt settings.receivers (Flush ts)
       → marks.graphite ≢ NotUsed → marks.console ≡ NotUsed
-      → AfterMark marks.graphite (graphite_text (record_of default_settings.interval_ms (table_of shard ∷ []) desk.tally ts)) new new'
-      → shard' ≡ after_swap default_settings.policy shard → desk' ≡ with_round desk marks
-      → at' ≡ min (at + length (spelled (Flush ts))) last_count → FaultsAfter marks.graphite has has' → Progress script left' old new' had has' shard' desk' at' (turn + 1)
-  flush_more ts marks is text built graphite console after s d a rose =
-      let run = state_after_all so_far.played in
-      let text_of : State → Desk → List ℕ = λ state e. graphite_text (record_of default_settings.interval_ms (table_of state ∷ []) e.tally ts) in
-      let delivered : AfterMark marks.graphite (text_of run.shard run.desk) new new' =
-      subst (λ e. AfterMark marks.graphite (text_of run.shard e) new new') so_far.same_desk
+      → AfterMark marks.graphite (graphite_text (record_of (settings_of settings).plan (table_of shard ∷ []) desk.tally ts)) new new'
+      → shard' ≡ after_swap (settings_of settings).policy shard → desk' ≡ with_round desk marks
+      → at' ≡ min (at + length (spelled (Flush ts))) last_count → Progress (settings_of settings) script left' old new' shard' desk' at' (turn + 1)
+  unfolding run
+  flush_more ts marks text built graphite console after s d a =
+      let p : Played = record { command = Flush ts; outcome = record { marks = marks } } in
+      let plan = (settings_of settings).plan in
+      let text_of : State → Desk → List ℕ = λ state e. graphite_text (record_of plan (table_of state ∷ []) e.tally ts) in
+      let delivered : AfterMark marks.graphite (text_of (run.shards 0) run.desk) new new' =
+      subst (λ e. AfterMark marks.graphite (text_of (run.shards 0) e) new new') so_far.same_desk
       (subst (λ state. AfterMark marks.graphite (text_of state desk) new new') so_far.same_shard after) in
-      one_more
-      (text ∙ ap (λ q. option_map (λ rest. spelled (command_of q) ++ rest) left') (sym is))
-      (subst (λ q. IsBuilt (command_of q)) (sym is) built)
-      (subst UsesGraphite (sym is) (graphite, console))
-      (subst (λ q. AfterDeliveries (graphite_deliveries default_settings first_run (so_far.played ++ q ∷ [])) old new') (sym is)
-      (subst (λ all. AfterDeliveries all old new') (sym (deliveries-flush default_settings first_run so_far.played ts marks))
-      (AfterDeliveries-push (graphite_deliveries default_settings first_run so_far.played) (delivery_of default_settings run ts marks) old new new' so_far.texts delivered)))
-      (subst (λ q. FaultsAfterAll (graphite_marks (so_far.played ++ q ∷ [])) had has') (sym is) (faults-flush so_far.played ts marks had has has' so_far.faults rose))
-      (s ∙ ap (after_swap default_settings.policy) so_far.same_shard ∙ ap (λ q. (play default_settings run q).shard) (sym is))
-      (d ∙ ap (λ e. with_round e marks) so_far.same_desk ∙ ap (λ q. (play default_settings run q).desk) (sym is))
-      (a ∙ ap (λ q. min (at + length (spelled (command_of q))) last_count) (sym is))
+      let f : FlushMoment = record { before = run; ts = ts; marks = marks } in
+      let untouched : (o : Object) → AfterMark marks.console (delivery_of (settings_of settings) Console f).text o o =
+      λ o. subst (λ (m : Mark). AfterMark m (delivery_of (settings_of settings) Console f).text o o) (sym console) refl in
+      one_more p text built (uses graphite console)
+      (subst (λ ds. AfterDeliveries ds old new') (sym (deliveries-push (settings_of settings) Graphite so_far.played p))
+      (AfterDeliveries-push (deliveries (settings_of settings) Graphite so_far.played) (delivery_of (settings_of settings) Graphite f) old new new' so_far.texts delivered))
+      (λ o. subst (λ ds. AfterDeliveries ds o o) (sym (deliveries-push (settings_of settings) Console so_far.played p))
+      (AfterDeliveries-push (deliveries (settings_of settings) Console so_far.played) (delivery_of (settings_of settings) Console f) o o o (so_far.unused o) (untouched o)))
+      (s ∙ ap (after_swap (settings_of settings).policy) so_far.same_shard)
+      (d ∙ ap (λ (e : Desk). with_round e marks) so_far.same_desk)
+      a where
+        uses : marks.graphite ≢ NotUsed → marks.console ≡ NotUsed → (back : Backend) → FitsUse (is_used (settings_of settings) back) (mark_of back marks)
+        uses graphite console Graphite = graphite
+        uses graphite console Console = console
+
+-- what was carried out, where these bytes were read behind it
+record Ended (settings : Settings) (old new : Seen) (ahead : List ℕ) (shard : State) (desk : Desk) (at turn : ℕ) : Type 0 where
+  course : Course
+  theorem : AccountingTheorem (settings_of settings) course old new
+  same_totals : totals_of_one shard desk ≡ totals_after (settings_of settings) course.played
+  same_ahead : course.ahead ≡ ahead
+  same_place : at ≡ text_length course.played
+  turns : length course.played ≡ turn
+
+-- an object that was given nothing
+ungiven : (old new : Object) → FitsLastCount old.told → new ≡ old → new ≡ given [] old
+ungiven old new fits same = same ∙ ap (λ told. telling told old) (sym (appended-nil old.told fits))
+
+module _ (settings : Settings) (old new : Seen) (left : Told) (shard : State) (desk : Desk) (at turn : ℕ) (so_far : Progress (settings_of settings) old.script.told left old.graphite new.graphite shard desk at turn) (ahead : List ℕ) (behind : Reads left ahead new.script.told) (console : new.console ≡ old.console) (used : Used old.script new.script) where
+  course_of : Ended settings old new ahead shard desk at turn
+  course_of =
+      let played = so_far.played in
+      let run = run_of (settings_of settings) first_run played in
+      record {
+        course = record { played = played; ahead = ahead };
+        theorem = record {
+          read = Reads-append old.script.told left new.script.told (script_text (commands_of played)) ahead so_far.read behind;
+          built = so_far.built;
+          places = λ i below. are_accounted (settings_of settings) played i;
+          statistics = are_documented (settings_of settings) played;
+          used = so_far.used;
+          texts = texts;
+        };
+        same_totals = ap (λ (state : State). totals_of_one state desk) so_far.same_shard ∙ ap (totals_of_one (run.shards 0)) so_far.same_desk ∙ totals_one settings run;
+        same_ahead = refl;
+        same_place = so_far.same_place;
+        turns = so_far.turns;
+      } where
+        texts : (back : Backend) → AfterDeliveries (deliveries (settings_of settings) back so_far.played) (seen_at back old) (seen_at back new)
+        texts Graphite = so_far.texts
+        texts Console = subst (λ (o : Object). AfterDeliveries (deliveries (settings_of settings) Console so_far.played) old.console o) (sym console) (so_far.unused old.console)
+
+  -- the script counted no fault
+  module _ (script_faults : new.script.faults ≡ old.script.faults) where
+    -- the word was read, and these totals were written
+    pub completes : (totals : Totals) (rest : List ℕ) → turn < 2 ^ 62 → ahead ≡ end_word ++ rest → totals ≡ totals_of_one shard desk
+        → new.output ≡ given (totals_text totals) old.output → Replayed (settings_of settings) (Complete totals) old new
+    completes totals rest few word counts written =
+        let e = course_of in
+        record {
+          course = e.course;
+          theorem = e.theorem;
+          ends = record {
+            read = (omega (arith, few, e.turns), (rest, e.same_ahead ∙ word), counts ∙ e.same_totals);
+            script = used;
+            script_faults = script_faults;
+            output = written;
+          };
+        }
+
+    -- the word was read, and a write of the totals failed
+    pub writes_part : (rest : List ℕ) → turn < 2 ^ 62 → ahead ≡ end_word ++ rest
+        → HasFailedBehind (totals_text (totals_of_one shard desk)) old.output new.output → Replayed (settings_of settings) WriteFailed old new
+    writes_part rest few word failed =
+        let e = course_of in
+        record {
+          course = e.course;
+          theorem = e.theorem;
+          ends = record {
+            read = (omega (arith, few, e.turns), (rest, e.same_ahead ∙ word));
+            script = used;
+            script_faults = script_faults;
+            output = subst (λ totals. HasFailedBehind (totals_text totals) old.output new.output) e.same_totals failed;
+          };
+        }
+
+    -- no built record stands next
+    pub finds_unbuilt : (place : ℕ) → FitsLastCount old.output.told → place ≡ at → turn < 2 ^ 62 → IsDecided settings.receivers ahead new.script.told → MayStandNext settings.receivers Unbuilt (put_back ahead new.script.told)
+        → new.output ≡ old.output → Replayed (settings_of settings) (NotBuilt place) old new
+    finds_unbuilt place fits here few decided other same =
+        let e = course_of in
+        record {
+          course = e.course;
+          theorem = e.theorem;
+          ends = record {
+            read = record {
+              few = omega (arith, few, e.turns);
+              decided = subst (λ bytes. IsDecided settings.receivers bytes new.script.told) (sym e.same_ahead) decided;
+              other = subst (λ bytes. MayStandNext settings.receivers Unbuilt (put_back bytes new.script.told)) (sym e.same_ahead) other;
+              place = here ∙ e.same_place;
+            };
+            script = used;
+            script_faults = script_faults;
+            output = ungiven old.output new.output fits same;
+          };
+        }
+
+    -- as many records were carried out as there may be
+    pub wears_out : (turns : ℕ) → FitsLastCount old.output.told → turns ≡ 2 ^ 62 → turn ≡ 2 ^ 62 → new.output ≡ old.output → Replayed (settings_of settings) (WornOut turns) old new
+    wears_out turns fits most full same =
+        let e = course_of in
+        record {
+          course = e.course;
+          theorem = e.theorem;
+          ends = record { read = (most, e.turns ∙ full); script = used; script_faults = script_faults; output = ungiven old.output new.output fits same };
+        }
+
+  -- a read failed while the bytes at hand didn't decide what stands next
+  pub fails_to_read : FitsLastCount old.output.told → turn < 2 ^ 62 → IsUndecided settings.receivers ahead → Rose old.script.faults new.script.faults → new.output ≡ old.output → Replayed (settings_of settings) ReadFailed old new
+  fails_to_read fits few undecided rose same =
+      let e = course_of in
+      record {
+        course = e.course;
+        theorem = e.theorem;
+        ends = record {
+          read = (omega (arith, few, e.turns), subst (IsUndecided settings.receivers) (sym e.same_ahead) undecided);
+          script = used;
+          script_faults = rose;
+          output = ungiven old.output new.output fits same;
+        };
+      }

@@ -6,7 +6,7 @@ use Rattle.sd_replay.specs.declared.ahead.Ahead.{Ahead}
 abbrev pub held_in : Ahead → List ℕ
 held_in a = slice_range a.room.items a.start a.end
 
--- what is left to read: the bytes held, and what the source has left, where it tells it
+-- what is left to read: the bytes held, and what the source has left, where these are told
 abbrev pub left_behind : List ℕ → Option (List ℕ) → Option (List ℕ)
 left_behind held remaining = option_map (λ rest. held ++ rest) remaining
 

@@ -1,5 +1,5 @@
 -- How a replay of the code ends, as the definitions have it.
-use Rattle.sd_model_replay.specs.Run.{End, Complete, NotBuilt, ReadFailed, WriteFailed, WornOut}
+use Rattle.sd_model_replay.specs.Ends.{End, Complete, NotBuilt, ReadFailed, WriteFailed, WornOut}
 use Rattle.sd_replay.specs.Totals.{totals_view}
 use Rattle.sd_replay.specs.declared.run.ReplayEnd.{ReplayEnd}
 use Rattle.sd_replay.specs.declared.run.ReplayEnd.TheVariants.{Ok, Unbuilt, ReadFault, WriteFault, Worn}

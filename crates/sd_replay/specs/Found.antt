@@ -35,8 +35,8 @@ pub record BeginsWithLine (head : Head) (bytes : List ℕ) : Type 0 where
   pub whole : bytes ≡ head_line head ++ 10 ∷ rest
 
 -- the bytes begin with a built record
-pub record BeginsWith (found : Found) (bytes : List ℕ) : Type 0 where
-  pub legal : IsLegal found.head
+pub record BeginsWith (receivers : ℕ) (found : Found) (bytes : List ℕ) : Type 0 where
+  pub legal : IsLegal receivers found.head
   pub line : found.line ≡ length (head_line found.head) + 1
   pub front : BeginsWithLine found.head bytes
   pub body : HasBody found.head found.line bytes

@@ -2,6 +2,7 @@ pub mod Ahead
 pub mod Desk
 pub mod Ends
 pub mod Fields
+pub mod Filed
 pub mod Found
 pub mod Head
 pub mod Marks
@@ -10,4 +11,6 @@ pub mod Reading
 pub mod Reads
 pub mod Room
 pub mod RoomInside
+pub mod Seen
+pub mod Settings
 pub mod Totals

@@ -17,7 +17,7 @@ pending_of (Some len) held = drop (len + 1) held
 
 -- what contracts see of the reader
 abbrev pub reading_of : Inside → Reading
-reading_of r = record { at = r.at; datagram = datagram_of r.packet (held_in r.ahead); pending = pending_of r.packet (held_in r.ahead) }
+reading_of r = record { receivers = r.receivers; at = r.at; datagram = datagram_of r.packet (held_in r.ahead); pending = pending_of r.packet (held_in r.ahead) }
 
 -- the datagram and its newline are held
 abbrev pub IsReader : Inside → Type 0

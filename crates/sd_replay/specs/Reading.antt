@@ -1,12 +1,14 @@
--- A reader of a script: how many bytes it has read, the datagram of the record that it read last, and the
--- bytes that it took from the source ahead of what it read.
-use Rattle.std.specs.Prelude.{ℕ, List, ◌++◌, Option, option_map}
+-- A reader of a script: of how many receivers it reads, how many bytes it has read, the datagram of the record that it
+-- read last, and the bytes that it took from the source ahead of what it read.
+use Rattle.std.specs.Prelude.{ℕ, List}
+use Rattle.sd_model_outside.specs.Outside.{Told, put_back}
 
 pub record Reading : Type 0 where
+  pub receivers : ℕ
   pub at : ℕ
   pub datagram : List ℕ
   pub pending : List ℕ
 
--- the bytes that are left to read, where the source tells what it has left
-abbrev pub left : Reading → Option (List ℕ) → Option (List ℕ)
-left reader remaining = option_map (λ rest. reader.pending ++ rest) remaining
+-- what is left to read, where the source tells what it has left
+abbrev pub left : Reading → Told → Told
+left reader told = put_back reader.pending told

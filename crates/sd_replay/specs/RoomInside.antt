@@ -1,23 +1,27 @@
 -- What a replay works on, before the first record.
-use Rattle.std.specs.Prelude.{◌≡◌, ◌≤◌, [], ⊤}
+use Rattle.std.specs.Prelude.{◌≡◌, ◌<◌, ◌≤◌, []}
 use Rattle.sd_model_shard.specs.Shard.{empty_state}
 use Rattle.sd_model_record.specs.Desk.{new_desk}
-use Rattle.sd_model_replay.specs.Replay.{default_settings}
+use Rattle.sd_model_replay.specs.Settings as model
+use Rattle.sd_shard.specs.Limits.{limits_of, policy_of}
 use Rattle.sd_shard.specs.Shard.{state_of}
 use Rattle.sd_replay.specs.Room.{IsSpareFor}
+use Rattle.sd_replay.specs.Settings.{settings_of}
 use Rattle.sd_replay.specs.declared.room.ReplayRoom.TheInside.{Inside}
 
--- it tells nothing
-abbrev pub untold : Inside → ⊤
-untold room = tt
+-- the settings that it was opened for
+abbrev pub settings_in : Inside → model.Settings
+settings_in room = settings_of room.settings
 
--- it was opened for the default settings, and nothing was done yet
+-- nothing was done yet
 pub record IsFresh (room : Inside) : Type 0 where
   pub state : state_of room.shard ≡ empty_state
-  pub limits : room.shard.table.limits ≡ default_settings.limits
-  pub policy : room.shard.policy ≡ default_settings.policy
-  pub spare : IsSpareFor default_settings.limits room.spare
+  pub limits : room.shard.table.limits ≡ limits_of room.settings.limits
+  pub policy : room.shard.policy ≡ policy_of room.settings.policy
+  pub spare : IsSpareFor (limits_of room.settings.limits) room.spare
   pub desk : room.desk ≡ new_desk
-  pub scratch : default_settings.limits.rows ≤ room.scratch.room
+  pub scratch : room.settings.limits.rows ≤ room.scratch.room
+  pub interval : 0 < room.settings.interval_ms
   pub pending : room.reader.pending ≡ []
   pub start : room.reader.at ≡ 0
+  pub receivers : room.reader.receivers ≡ room.settings.receivers

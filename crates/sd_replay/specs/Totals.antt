@@ -1,5 +1,8 @@
 -- The totals of the code, as the definitions have them.
-use Rattle.sd_model_replay.specs.Replay as model
+use Rattle.std.specs.Prelude.{length}
+use Rattle.sd_model_shard.specs.Shard.{State}
+use Rattle.sd_model_record.specs.Desk.{Desk}
+use Rattle.sd_model_replay.specs.Totals as model
 use Rattle.sd_replay.specs.declared.totals.Totals.{Totals}
 
 abbrev pub totals_view : Totals → model.Totals
@@ -18,4 +21,23 @@ totals_view t =
       console_faults = t.console_faults;
       repeater_faults = t.repeater_faults;
       admin_faults = t.admin_faults;
+    }
+
+-- the totals of one shard and a desk
+abbrev pub totals_of_one : State → Desk → model.Totals
+totals_of_one state desk =
+    record {
+      packets = desk.totals.packets;
+      lines = desk.totals.lines;
+      bad = desk.totals.bad;
+      taken = state.taken;
+      dropped = state.dropped;
+      flushed = state.flushed;
+      held = length state.held;
+      deleted = state.deleted;
+      rounds = desk.rounds;
+      graphite_faults = desk.graphite_faults;
+      console_faults = desk.console_faults;
+      repeater_faults = 0;
+      admin_faults = 0;
     }

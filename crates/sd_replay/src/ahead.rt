@@ -34,12 +34,12 @@ fn zeros(alloc: Global, len: usize) -> Result<Vec<u8>, AllocError>
 }
 
 impl Ahead {
-    ghost use Rattle.std.specs.Prelude.{◌≡◌, ◌<◌, ◌≤◌, [], drop, length, take, IfOk, OnOk, OnErr, MatchBool, MatchOption, IfSome, IfNone};
+    ghost use Rattle.std.specs.Prelude.{◌≡◌, ℕ, ◌<◌, ◌≤◌, [], drop, length, take, IfOk, OnOk, OnErr, MatchBool, MatchOption, IfSome, IfNone};
     ghost use Rattle.std.specs.Bool.{OnFalse};
-    ghost use Rattle.sd_model_outside.specs.Outside.{Rose, IsAtEnd};
+    ghost use Rattle.sd_model_outside.specs.Outside.{Rose, IsAtEnd, Used, left_in, put_back};
     ghost use Rattle.sd_replay.specs.Fields.{Lacks, IsFirstPlace};
     ghost use Rattle.sd_replay.specs.Ahead.{held_in, left_behind, Grows, GrowsBy};
-    ghost use Rattle.sd_model_replay.specs.Undecided.{IsPartOfLine, IsDecided};
+    ghost use Rattle.sd_model_replay.specs.Script.{IsPartOfLine, IsDecided};
 
     /// Takes the room, which holds no bytes yet.
     ///
@@ -85,14 +85,13 @@ impl Ahead {
     fn ask<R: Source>(&mut self, script: &mut R) -> Result<usize, Failed>
         requires { self.old.end < ROOM }
         ensures grows { IfOk result (λ n. GrowsBy n (held_in self.old) (held_in self.new)) }
-        ensures left_stays { left_behind (held_in self.new) (R.remaining script.new)
-            ≡ left_behind (held_in self.old) (R.remaining script.old) }
-        ensures end { IfOk result (λ n. n ≡ 0 → IsAtEnd (R.remaining script.new)) }
+        ensures left_stays { put_back (held_in self.new) (R.seen script.new).told
+            ≡ put_back (held_in self.old) (R.seen script.old).told }
+        ensures end { IfOk result (λ n. n ≡ 0 → IsAtEnd (R.seen script.new).told) }
         ensures kept { OnErr result (held_in self.new ≡ held_in self.old) }
-        ensures failed { OnErr result (Rose (R.faults script.old) (R.faults script.new)) }
-        ensures steady { OnOk result (R.faults script.new ≡ R.faults script.old) }
-        ensures faults_stay { R.faults script.old ≤ R.faults script.new }
-        ensures address_stays { R.opened_at script.new ≡ R.opened_at script.old }
+        ensures failed { OnErr result (Rose (R.seen script.old).faults (R.seen script.new).faults) }
+        ensures steady { OnOk result ((R.seen script.new).faults ≡ (R.seen script.old).faults) }
+        ensures used { Used (R.seen script.old) (R.seen script.new) }
     {
         let count = script.read(&mut self.room[self.end..])?;
         self.end += count;
@@ -104,14 +103,13 @@ impl Ahead {
         requires more { length (held_in self.old) < need }
         requires room { need ≤ ROOM }
         ensures grows { IfOk result (λ n. GrowsBy n (held_in self.old) (held_in self.new)) }
-        ensures left_stays { left_behind (held_in self.new) (R.remaining script.new)
-            ≡ left_behind (held_in self.old) (R.remaining script.old) }
-        ensures end { IfOk result (λ n. n ≡ 0 → IsAtEnd (R.remaining script.new)) }
+        ensures left_stays { put_back (held_in self.new) (R.seen script.new).told
+            ≡ put_back (held_in self.old) (R.seen script.old).told }
+        ensures end { IfOk result (λ n. n ≡ 0 → IsAtEnd (R.seen script.new).told) }
         ensures kept { OnErr result (held_in self.new ≡ held_in self.old) }
-        ensures failed { OnErr result (Rose (R.faults script.old) (R.faults script.new)) }
-        ensures steady { OnOk result (R.faults script.new ≡ R.faults script.old) }
-        ensures faults_stay { R.faults script.old ≤ R.faults script.new }
-        ensures address_stays { R.opened_at script.new ≡ R.opened_at script.old }
+        ensures failed { OnErr result (Rose (R.seen script.old).faults (R.seen script.new).faults) }
+        ensures steady { OnOk result ((R.seen script.new).faults ≡ (R.seen script.old).faults) }
+        ensures used { Used (R.seen script.old) (R.seen script.new) }
     {
         if ROOM - self.start < need {
             self.move_to_front();
@@ -123,16 +121,15 @@ impl Ahead {
     pub(crate) fn hold<R: Source>(&mut self, script: &mut R, need: usize) -> Result<bool, Failed>
         requires { need ≤ ROOM }
         ensures held { IfOk result (λ b. MatchBool b (need ≤ length (held_in self.new))
-            (IfSome (left_behind (held_in self.new) (R.remaining script.new)) (λ bytes. length bytes < need))) }
-        ensures end { IfOk result (λ b. OnFalse b (IsAtEnd (R.remaining script.new))) }
+            (IfSome (left_behind (held_in self.new) (left_in (R.seen script.new).told)) (λ bytes. length bytes < need))) }
+        ensures end { IfOk result (λ b. OnFalse b (IsAtEnd (R.seen script.new).told)) }
         ensures asked { OnErr result (length (held_in self.new) < need) }
         ensures grows { Grows (held_in self.old) (held_in self.new) }
-        ensures left_stays { left_behind (held_in self.new) (R.remaining script.new)
-            ≡ left_behind (held_in self.old) (R.remaining script.old) }
-        ensures failed { OnErr result (Rose (R.faults script.old) (R.faults script.new)) }
-        ensures steady { OnOk result (R.faults script.new ≡ R.faults script.old) }
-        ensures faults_stay { R.faults script.old ≤ R.faults script.new }
-        ensures address_stays { R.opened_at script.new ≡ R.opened_at script.old }
+        ensures left_stays { put_back (held_in self.new) (R.seen script.new).told
+            ≡ put_back (held_in self.old) (R.seen script.old).told }
+        ensures failed { OnErr result (Rose (R.seen script.old).faults (R.seen script.new).faults) }
+        ensures steady { OnOk result ((R.seen script.new).faults ≡ (R.seen script.old).faults) }
+        ensures used { Used (R.seen script.old) (R.seen script.new) }
     {
         while self.bytes().len() < need {
             if self.read(script, need)? == 0 {
@@ -146,16 +143,15 @@ impl Ahead {
     /// the source is at its end. Answers the newline's place, where there is one.
     pub(crate) fn hold_line<R: Source>(&mut self, script: &mut R) -> Result<Option<usize>, Failed>
         ensures line { IfOk result (λ place. MatchOption place
-            (IfSome (left_behind (held_in self.new) (R.remaining script.new)) (λ bytes. Lacks 10 (take LINE bytes)))
+            (IfSome (left_behind (held_in self.new) (left_in (R.seen script.new).told)) (λ bytes. Lacks 10 (take LINE bytes)))
             (IsFirstPlace 10 (take LINE (held_in self.new)))) }
-        ensures decided { IfOk result (λ place. IfNone place (IsDecided (held_in self.new) (R.remaining script.new))) }
+        ensures decided { IfOk result (λ place. IfNone place ((receivers : ℕ) → IsDecided receivers (held_in self.new) (R.seen script.new).told)) }
         ensures asked { OnErr result (IsPartOfLine (held_in self.new)) }
-        ensures left_stays { left_behind (held_in self.new) (R.remaining script.new)
-            ≡ left_behind (held_in self.old) (R.remaining script.old) }
-        ensures failed { OnErr result (Rose (R.faults script.old) (R.faults script.new)) }
-        ensures steady { OnOk result (R.faults script.new ≡ R.faults script.old) }
-        ensures faults_stay { R.faults script.old ≤ R.faults script.new }
-        ensures address_stays { R.opened_at script.new ≡ R.opened_at script.old }
+        ensures left_stays { put_back (held_in self.new) (R.seen script.new).told
+            ≡ put_back (held_in self.old) (R.seen script.old).told }
+        ensures failed { OnErr result (Rose (R.seen script.old).faults (R.seen script.new).faults) }
+        ensures steady { OnOk result ((R.seen script.new).faults ≡ (R.seen script.old).faults) }
+        ensures used { Used (R.seen script.old) (R.seen script.new) }
     {
         loop {
             let bytes = self.bytes();

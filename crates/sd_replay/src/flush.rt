@@ -1,16 +1,16 @@
-ghost use Rattle.std.specs.Prelude.{◌≡◌, ◌≢◌, ◌≤◌, [], ◌∷◌};
+ghost use Rattle.std.specs.Prelude.{◌≡◌, ◌≢◌, ◌<◌, ◌≤◌, [], ◌∷◌};
 ghost use Rattle.sd_model_record.specs.Desk.{NotUsed, with_round};
 ghost use Rattle.sd_model_record.specs.Graphite.{graphite_text};
 ghost use Rattle.sd_model_record.specs.Record.{record_of};
-ghost use Rattle.sd_model_replay.specs.Replay.{AfterMark, FaultsAfter};
+ghost use Rattle.sd_model_replay.specs.Backends.{AfterMark};
 ghost use Rattle.sd_model_shard.specs.Shard.{after_swap, table_of};
+ghost use Rattle.sd_record.specs.Record.{plan_of};
 ghost use Rattle.sd_shard.specs.Shard.{state_of};
 ghost use Rattle.sd_replay.specs.Marks.{mark_of, marks_of};
 ghost use Rattle.sd_replay.specs.Room.{IsSpareFor};
 
-use crate::deliver::deliver;
+use crate::delivery::deliver;
 use crate::desk::{Desk, Mark, RoundMarks};
-use crate::room::INTERVAL_MS;
 use sd_outside::Backend;
 use sd_record::{Record, RecordScratch};
 use sd_shard::{Shard, Table};
@@ -22,17 +22,19 @@ pub(crate) struct Flushed {
     pub spare: Table,
 }
 
-/// Swaps the shard, takes the tally, and gives Graphite the record's text.
+/// Swaps the shard, takes the tally, and gives Graphite the text of the record over this interval.
 pub(crate) fn flush<B: Backend>(
     shard: &mut Shard,
     spare: Table,
     desk: &mut Desk,
     scratch: &mut RecordScratch,
+    interval_ms: u32,
     ts: u64,
     back: &mut B,
 ) -> Flushed
     requires spare { IsSpareFor shard.old.table.limits spare }
     requires room { shard.old.table.limits.rows ≤ scratch.old.room }
+    requires interval { 0 < interval_ms }
     ensures state { state_of shard.new ≡ after_swap shard.old.policy (state_of shard.old) }
     ensures limits { shard.new.table.limits ≡ shard.old.table.limits }
     ensures policy { shard.new.policy ≡ shard.old.policy }
@@ -41,17 +43,14 @@ pub(crate) fn flush<B: Backend>(
     ensures room { scratch.new.room ≡ scratch.old.room }
     ensures console { result.marks.console ≡ Mark.NotUsed }
     ensures used { mark_of result.marks.graphite ≢ NotUsed }
-    ensures text { AfterMark (mark_of result.marks.graphite)
-        (graphite_text (record_of 10000 (table_of (state_of shard.old) ∷ []) (desk.old).tally ts))
-        (B.written back.old) (B.written back.new) }
-    ensures faults { FaultsAfter (mark_of result.marks.graphite) (B.faults back.old) (B.faults back.new) }
-    ensures faults_stay { B.faults back.old ≤ B.faults back.new }
-    ensures address_stays { B.opened_at back.new ≡ B.opened_at back.old }
+    ensures delivery { AfterMark (mark_of result.marks.graphite)
+        (graphite_text (record_of (plan_of interval_ms) (table_of (state_of shard.old) ∷ []) (desk.old).tally ts))
+        (B.seen back.old) (B.seen back.new) }
 {
     let mut table = shard.swap(spare);
     let tally = desk.take();
     let graphite = {
-        let record = Record::over(&table, INTERVAL_MS, scratch, tally, ts);
+        let record = Record::over(&table, interval_ms, scratch, tally, ts);
         deliver(&record, back)
     };
     let marks = RoundMarks {

@@ -18,13 +18,13 @@ pub(crate) enum Head {
     End,
 }
 
-/// The head that a line without its newline is, where it is a legal one.
-pub(crate) fn parse_line(line: &[u8]) -> Option<Head>
-    ensures head { IfSome result (IsLineOf line.now) }
-    ensures other { IfNone result ((head : AnyHead) → IsLegal head → line.now ≢ head_line head) }
+/// The head that a line without its newline is, where it is a legal one with so many receivers.
+pub(crate) fn parse_line(line: &[u8], receivers: u16) -> Option<Head>
+    ensures head { IfSome result (IsLineOf receivers line.now) }
+    ensures other { IfNone result ((head : AnyHead) → IsLegal receivers head → line.now ≢ head_line head) }
 {
     match line {
-        [b'P', b' ', fields @ ..] => packet_head(fields),
+        [b'P', b' ', fields @ ..] => packet_head(fields, receivers),
         [b'F', b' ', digits @ ..] => Some(Head::Flush {
             ts: number(digits, 18)?,
         }),
@@ -34,17 +34,17 @@ pub(crate) fn parse_line(line: &[u8]) -> Option<Head>
 }
 
 /// The head of a packet, of its three fields.
-fn packet_head(fields: &[u8]) -> Option<Head>
-    ensures head { IfSome result (λ head. IsLineOf (80 ∷ 32 ∷ fields.now) head) }
+fn packet_head(fields: &[u8], receivers: u16) -> Option<Head>
+    ensures head { IfSome result (λ head. IsLineOf receivers (80 ∷ 32 ∷ fields.now) head) }
     ensures other { IfNone result
-        ((who moment len : ℕ) → IsLegal (AnyHead.Packet who moment len) → fields.now ≢ decimal who ++ 32 ∷ decimal moment ++ 32 ∷ decimal len) }
+        ((who moment len : ℕ) → IsLegal receivers (AnyHead.Packet who moment len) → fields.now ≢ decimal who ++ 32 ∷ decimal moment ++ 32 ∷ decimal len) }
 {
     let (who, rest) = first_field(fields)?;
     let (moment, len) = first_field(rest)?;
-    let who = number(who, 1)?;
+    let who = number(who, 2)?;
     let moment = number(moment, 18)?;
     let len = number(len, 5)?;
-    if who > 1 || len > LONGEST as u64 {
+    if who >= u64::from(receivers) || len > LONGEST as u64 {
         return None;
     }
     Some(Head::Packet {

@@ -2,7 +2,7 @@
 #![tactic(auto)]
 
 mod ahead;
-mod deliver;
+mod delivery;
 mod desk;
 mod fields;
 mod flush;
@@ -12,10 +12,13 @@ mod reader;
 mod record;
 mod room;
 mod run;
+mod settings;
 mod totals;
 
+pub use delivery::deliver;
 pub use desk::{Mark, RoundMarks};
 pub use reader::{Item, Reader};
 pub use room::ReplayRoom;
 pub use run::{ReplayEnd, replay};
+pub use settings::Settings;
 pub use totals::Totals;

@@ -1,7 +1,8 @@
 ghost use Rattle.std.specs.Prelude.{◌≡◌, ◌≤◌, length};
 ghost use Rattle.sd_model_text.specs.Lines.{pieces, samples_of};
-ghost use Rattle.sd_model_shard.specs.Shard.{refusal, placed, after_sample, after_samples, answers_to, drop_of, drops};
+ghost use Rattle.sd_model_shard.specs.Whereabouts.{dropped_in};
 ghost use Rattle.sd_shard.specs.Shard.{state_of};
+ghost use Rattle.sd_replay.specs.Filed.{filed, filing, lost};
 
 use sd_line::{Lines, Sample};
 use sd_shard::{Placed, Shard, Who};
@@ -15,9 +16,8 @@ pub(crate) struct Filed {
 
 /// Files a sample, and answers how many were dropped: it, or none.
 fn file_sample(shard: &mut Shard, who: Who, s: &Sample) -> u64
-    ensures dropped { result ≡ drop_of (placed (state_of shard.old) (refusal shard.old.table.limits (state_of shard.old) s.now)) }
-    ensures state { state_of shard.new ≡ after_sample (state_of shard.old) who.0 s.now
-        (refusal shard.old.table.limits (state_of shard.old) s.now) }
+    ensures dropped { result ≡ dropped_in (filing shard.old.table.limits shard.old.policy who.0 (state_of shard.old) s.now).reply }
+    ensures state { state_of shard.new ≡ (filing shard.old.table.limits shard.old.policy who.0 (state_of shard.old) s.now).state }
     ensures limits { shard.new.table.limits ≡ shard.old.table.limits }
     ensures policy { shard.new.policy ≡ shard.old.policy }
 {
@@ -30,8 +30,8 @@ fn file_sample(shard: &mut Shard, who: Who, s: &Sample) -> u64
 /// Files the samples of a datagram, in order.
 pub(crate) fn file_packet(shard: &mut Shard, who: Who, datagram: &[u8]) -> Filed
     requires { length datagram.now ≤ 65507 }
-    ensures state { state_of shard.new ≡ after_samples shard.old.table.limits who.0 (state_of shard.old) (samples_of datagram.now) }
-    ensures dropped { result.dropped ≡ drops (answers_to shard.old.table.limits who.0 (state_of shard.old) (samples_of datagram.now)) }
+    ensures state { state_of shard.new ≡ filed shard.old.table.limits shard.old.policy who.0 (state_of shard.old) (samples_of datagram.now) }
+    ensures dropped { result.dropped ≡ lost shard.old.table.limits shard.old.policy who.0 (state_of shard.old) (samples_of datagram.now) }
     ensures lines { result.lines ≡ length (pieces datagram.now) }
     ensures few { result.dropped ≤ result.lines }
     ensures small { result.lines ≤ 65508 }

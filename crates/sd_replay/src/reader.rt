@@ -21,6 +21,7 @@ pub enum Item {
 /// Reads the records of a script in room that was taken when it was opened.
 #[derive(Drop)]
 pub struct Reader {
+    receivers: u16,
     ahead: Ahead,
     at: u64,
     packet: Option<usize>,
@@ -40,19 +41,20 @@ impl Model for Reader {
 
 impl Reader {
     ghost use Rattle.std.specs.Prelude.{◌≡◌, ◌≤◌, [], IfOk, OnOk, OnErr};
-    ghost use Rattle.sd_model_outside.specs.Outside.{Rose};
+    ghost use Rattle.sd_model_outside.specs.Outside.{Rose, Used};
+    ghost use Rattle.sd_model_replay.specs.Script.{IsUndecided};
     ghost use Rattle.sd_replay.specs.Reads.{ReadsItem, Stays};
-    ghost use Rattle.sd_model_replay.specs.Undecided.{IsUndecided};
 
-    /// A reader that has read nothing yet.
+    /// A reader that has read nothing yet, of the datagrams of so many receivers, which are counted from 0.
     ///
     /// # Errors
     ///
     /// Where no memory is left for the room.
-    pub fn open(alloc: Global) -> Result<Reader, AllocError>
-        ensures { IfOk result (λ r. r ≡ record { at = 0; datagram = []; pending = [] }) }
+    pub fn open(alloc: Global, receivers: u16) -> Result<Reader, AllocError>
+        ensures { IfOk result (λ r. r ≡ record { receivers = receivers; at = 0; datagram = []; pending = [] }) }
     {
         Ok(Reader {
+            receivers,
             ahead: Ahead::open(alloc)?,
             at: 0,
             packet: None,
@@ -85,19 +87,18 @@ impl Reader {
     /// `Failed` where the source failed. Then nothing was read.
     pub fn next<R: Source>(&mut self, script: &mut R) -> Result<Item, Failed>
         ensures item { IfOk result
-            (λ item. ReadsItem item self.old (R.remaining script.old) self.new (R.remaining script.new)) }
-        ensures failed { OnErr result (Rose (R.faults script.old) (R.faults script.new)) }
-        ensures steady { OnOk result (R.faults script.new ≡ R.faults script.old) }
-        ensures stays { OnErr result (Stays self.old (R.remaining script.old) self.new (R.remaining script.new)) }
-        ensures asked { OnErr result (IsUndecided (self.new).pending) }
-        ensures faults_stay { R.faults script.old ≤ R.faults script.new }
-        ensures address_stays { R.opened_at script.new ≡ R.opened_at script.old }
+            (λ item. ReadsItem item self.old (R.seen script.old).told self.new (R.seen script.new).told) }
+        ensures failed { OnErr result (Rose (R.seen script.old).faults (R.seen script.new).faults) }
+        ensures steady { OnOk result ((R.seen script.new).faults ≡ (R.seen script.old).faults) }
+        ensures stays { OnErr result (Stays self.old (R.seen script.old).told self.new (R.seen script.new).told) }
+        ensures asked { OnErr result (IsUndecided self.old.receivers self.new.pending) }
+        ensures used { Used (R.seen script.old) (R.seen script.new) }
     {
         if let Some(len) = self.packet {
             self.ahead.take(len + 1);
             self.packet = None;
         }
-        let Some(found) = next_record(&mut self.ahead, script)? else {
+        let Some(found) = next_record(&mut self.ahead, script, self.receivers)? else {
             return Ok(Item::Unbuilt);
         };
         self.ahead.take(found.line);

@@ -1,31 +1,17 @@
+ghost use Rattle.std.specs.Prelude.{◌≡◌, ◌<◌, IfOk};
+
 use crate::desk::Desk;
 use crate::reader::Reader;
+use crate::settings::Settings;
 use sd_record::RecordScratch;
-use sd_shard::{Limits, Policy, Shard, Table};
+use sd_shard::{Shard, Table};
 use std::alloc::{AllocError, Global};
 use std::marker::Model;
 
-/// How long the time between flushes is, in milliseconds.
-pub(crate) const INTERVAL_MS: u32 = 10_000;
-
-/// How many rows and entries the shard may have.
-const LIMITS: Limits = Limits {
-    rows: 4096,
-    entries: 65_536,
-};
-
-/// No kind is deleted when idle.
-const POLICY: Policy = Policy {
-    counters: false,
-    timers: false,
-    gauges: false,
-    sets: false,
-    max_ttl: 1,
-};
-
-/// All that a replay works on, in room taken when it was opened. Nothing was done yet.
+/// All that a replay works on, in room taken when it was opened for its settings. Nothing was done yet.
 #[derive(Drop)]
 pub struct ReplayRoom {
+    pub(crate) settings: Settings,
     pub(crate) shard: Shard,
     pub(crate) spare: Table,
     pub(crate) desk: Desk,
@@ -34,30 +20,38 @@ pub struct ReplayRoom {
 }
 
 impl Model for ReplayRoom {
-    ghost use Rattle.std.specs.Prelude.{⊤};
+    ghost use Rattle.sd_model_replay.specs.Settings.{Settings as Value'};
 
-    ghost Value = { ⊤ };
+    ghost Value = { Value' };
 
-    ghost use Rattle.sd_replay.specs.RoomInside.{untold, IsFresh};
+    ghost use Rattle.sd_replay.specs.RoomInside.{settings_in, IsFresh};
 
-    ghost view = { untold };
+    ghost view = { settings_in };
 
     ghost invariant = { IsFresh };
 }
 
 impl ReplayRoom {
+    ghost use Rattle.sd_shard.specs.Limits.{limits_of, AreLimits};
+    ghost use Rattle.sd_replay.specs.Settings.{settings_of};
+
     /// Takes the room.
     ///
     /// # Errors
     ///
     /// Where no memory is left for it.
-    pub fn open(alloc: Global) -> Result<ReplayRoom, AllocError> {
+    pub fn open(alloc: Global, settings: Settings) -> Result<ReplayRoom, AllocError>
+        requires limits { AreLimits (limits_of settings.limits) }
+        requires interval { 0 < settings.interval_ms }
+        ensures { IfOk result (λ room. room ≡ settings_of settings) }
+    {
         Ok(ReplayRoom {
-            shard: Shard::open(alloc, LIMITS, POLICY)?,
-            spare: Table::open(alloc, LIMITS)?,
+            settings,
+            shard: Shard::open(alloc, settings.limits, settings.policy)?,
+            spare: Table::open(alloc, settings.limits)?,
             desk: Desk::new(),
-            scratch: RecordScratch::open(alloc, LIMITS)?,
-            reader: Reader::open(alloc)?,
+            scratch: RecordScratch::open(alloc, settings.limits)?,
+            reader: Reader::open(alloc, settings.receivers)?,
         })
     }
 }

@@ -1,15 +1,15 @@
-ghost use Rattle.std.specs.Prelude.{◌≡◌, ◌≤◌, length, OnOk, OnErr, IfOk};
+ghost use Rattle.std.specs.Prelude.{◌≡◌, ◌≤◌, length, OnErr, IfOk};
 ghost use Rattle.sd_model_text.specs.Lines.{samples_of};
-ghost use Rattle.sd_model_shard.specs.Shard.{after_samples, answers_to, drops};
+ghost use Rattle.sd_model_outside.specs.Outside.{HasFailedBehind, given};
 ghost use Rattle.sd_model_record.specs.Desk.{with_tally};
-ghost use Rattle.sd_model_outside.specs.Outside.{Rose, appended};
-ghost use Rattle.sd_model_replay.specs.Replay.{packet_tally, totals_of as totals_in, totals_text};
-ghost use Rattle.sd_model_replay.specs.AccountingTheorem.{seen_of};
-ghost use Rattle.sd_model_replay.specs.Run.{Replayed};
-ghost use Rattle.sd_outside.specs.Write.{AppendsFront};
+ghost use Rattle.sd_model_replay.specs.Replay.{packet_tally};
+ghost use Rattle.sd_model_replay.specs.Totals.{totals_text};
+ghost use Rattle.sd_model_replay.specs.Ends.{Replayed};
 ghost use Rattle.sd_shard.specs.Shard.{state_of};
 ghost use Rattle.sd_replay.specs.Ends.{end_of};
-ghost use Rattle.sd_replay.specs.Totals.{totals_view};
+ghost use Rattle.sd_replay.specs.Filed.{filed, lost};
+ghost use Rattle.sd_replay.specs.Seen.{seen_of};
+ghost use Rattle.sd_replay.specs.Totals.{totals_of_one, totals_view};
 
 use crate::desk::Desk;
 use crate::flush::flush;
@@ -17,7 +17,7 @@ use crate::packet::file_packet;
 use crate::reader::Item;
 use crate::room::ReplayRoom;
 use crate::totals::{Totals, write_totals};
-use sd_outside::{Backend, Sink, Source, WriteFault};
+use sd_outside::{Backend, Backs, Sink, Source, WriteFault};
 use sd_record::Tally;
 use sd_shard::{Shard, Who};
 
@@ -41,7 +41,7 @@ pub enum ReplayEnd {
 
 /// The totals of a shard and a desk.
 fn totals_of(shard: &Shard, desk: &Desk) -> Totals
-    ensures { totals_view result ≡ totals_in (record { shard = state_of shard.now; desk = desk.now }) }
+    ensures { totals_view result ≡ totals_of_one (state_of shard.now) desk.now }
 {
     let book = shard.book();
     let facts = desk.facts();
@@ -65,8 +65,9 @@ fn totals_of(shard: &Shard, desk: &Desk) -> Totals
 /// Files the samples of a datagram, and counts it.
 fn play_packet(shard: &mut Shard, desk: &mut Desk, who: u16, datagram: &[u8])
     requires { length datagram.now ≤ 65507 }
-    ensures state { state_of shard.new ≡ after_samples shard.old.table.limits who (state_of shard.old) (samples_of datagram.now) }
-    ensures desk { desk.new ≡ with_tally desk.old (packet_tally datagram.now (drops (answers_to shard.old.table.limits who (state_of shard.old) (samples_of datagram.now)))) }
+    ensures state { state_of shard.new ≡ filed shard.old.table.limits shard.old.policy who (state_of shard.old) (samples_of datagram.now) }
+    ensures desk { desk.new ≡ with_tally desk.old
+        (packet_tally datagram.now (lost shard.old.table.limits shard.old.policy who (state_of shard.old) (samples_of datagram.now))) }
     ensures limits { shard.new.table.limits ≡ shard.old.table.limits }
     ensures policy { shard.new.policy ≡ shard.old.policy }
 {
@@ -85,13 +86,9 @@ fn play_packet(shard: &mut Shard, desk: &mut Desk, who: u16, datagram: &[u8])
 ///
 /// `WriteFault` where the output failed. Then a front of their text was written.
 fn finish<O: Sink>(shard: &Shard, desk: &Desk, output: &mut O) -> Result<Totals, WriteFault>
-    ensures totals { IfOk result (λ totals. totals_view totals ≡ totals_in (record { shard = state_of shard.now; desk = desk.now })) }
-    ensures written { IfOk result (λ totals. O.written output.new ≡ appended (O.written output.old) (totals_text (totals_view totals))) }
-    ensures failed { OnErr result (Rose (O.faults output.old) (O.faults output.new)) }
-    ensures steady { OnOk result (O.faults output.new ≡ O.faults output.old) }
-    ensures front { OnErr result (AppendsFront (O.written output.old) (totals_text (totals_in (record { shard = state_of shard.now; desk = desk.now }))) (O.written output.new)) }
-    ensures faults_stay { O.faults output.old ≤ O.faults output.new }
-    ensures address_stays { O.opened_at output.new ≡ O.opened_at output.old }
+    ensures totals { IfOk result (λ totals. totals_view totals ≡ totals_of_one (state_of shard.now) desk.now) }
+    ensures written { IfOk result (λ totals. O.seen output.new ≡ given (totals_text (totals_view totals)) (O.seen output.old)) }
+    ensures failed { OnErr result (HasFailedBehind (totals_text (totals_of_one (state_of shard.now) desk.now)) (O.seen output.old) (O.seen output.new)) }
 {
     let totals = totals_of(shard, desk);
     write_totals(&totals, output)?;
@@ -99,24 +96,22 @@ fn finish<O: Sink>(shard: &Shard, desk: &Desk, output: &mut O) -> Result<Totals,
 }
 
 /// Carries out a script, record by record. Graphite gets each flush's text, and the
-/// output gets the totals at the end.
+/// output gets the totals at the end. The console isn't used.
 pub fn replay<R: Source, O: Sink, B: Backend>(
     room: ReplayRoom,
     script: &mut R,
     output: &mut O,
-    graphite: &mut B,
+    backs: &mut Backs<B>,
 ) -> ReplayEnd
-    ensures end { Replayed (end_of result)
-        (seen_of R.remaining R.faults B.written B.faults O.written O.faults script.old graphite.old output.old)
-        (seen_of R.remaining R.faults B.written B.faults O.written O.faults script.new graphite.new output.new) }
-    ensures script_faults_stay { R.faults script.old ≤ R.faults script.new }
-    ensures output_faults_stay { O.faults output.old ≤ O.faults output.new }
-    ensures graphite_faults_stay { B.faults graphite.old ≤ B.faults graphite.new }
-    ensures script_address_stays { R.opened_at script.new ≡ R.opened_at script.old }
-    ensures output_address_stays { O.opened_at output.new ≡ O.opened_at output.old }
-    ensures graphite_address_stays { B.opened_at graphite.new ≡ B.opened_at graphite.old }
+    ensures end { Replayed room (end_of result)
+        (seen_of R.seen O.seen B.seen script.old output.old backs.old)
+        (seen_of R.seen O.seen B.seen script.new output.new backs.new) }
+    ensures console { backs.new.console ≡ backs.old.console }
+    ensures graphite_flag { backs.new.graphite_used ≡ backs.old.graphite_used }
+    ensures console_flag { backs.new.console_used ≡ backs.old.console_used }
 {
     let ReplayRoom {
+        settings,
         mut shard,
         mut spare,
         mut desk,
@@ -130,7 +125,15 @@ pub fn replay<R: Source, O: Sink, B: Backend>(
         match item {
             Item::Packet { who, .. } => play_packet(&mut shard, &mut desk, who, reader.datagram()),
             Item::Flush { ts } => {
-                let flushed = flush(&mut shard, spare, &mut desk, &mut scratch, ts, graphite);
+                let flushed = flush(
+                    &mut shard,
+                    spare,
+                    &mut desk,
+                    &mut scratch,
+                    settings.interval_ms,
+                    ts,
+                    &mut backs.graphite,
+                );
                 spare = flushed.spare;
             }
             Item::End => {

@@ -1,7 +1,6 @@
 ghost use Rattle.std.specs.Prelude.{◌≡◌, ◌+◌, ◌≤◌, ◌++◌, length, OnOk, OnErr};
-ghost use Rattle.sd_model_outside.specs.Outside.{Rose, appended};
-ghost use Rattle.sd_model_replay.specs.Replay.{total_line, totals_text as lines_of};
-ghost use Rattle.sd_outside.specs.Write.{AppendsFront};
+ghost use Rattle.sd_model_outside.specs.Outside.{HasFailedBehind, given};
+ghost use Rattle.sd_model_replay.specs.Totals.{total_line, totals_text as lines_of};
 ghost use Rattle.sd_replay.specs.Totals.{totals_view};
 
 use sd_decimal::{Line, write_whole};
@@ -64,12 +63,8 @@ fn totals_text(totals: &Totals) -> Line
 ///
 /// `WriteFault` where the sink failed. Then a front of the text was written.
 pub(crate) fn write_totals<O: Sink>(totals: &Totals, output: &mut O) -> Result<(), WriteFault>
-    ensures ok { OnOk result (O.written output.new ≡ appended (O.written output.old) (lines_of (totals_view totals.now))) }
-    ensures failed { OnErr result (Rose (O.faults output.old) (O.faults output.new)) }
-    ensures steady { OnOk result (O.faults output.new ≡ O.faults output.old) }
-    ensures front { OnErr result (AppendsFront (O.written output.old) (lines_of (totals_view totals.now)) (O.written output.new)) }
-    ensures faults_stay { O.faults output.old ≤ O.faults output.new }
-    ensures address_stays { O.opened_at output.new ≡ O.opened_at output.old }
+    ensures ok { OnOk result (O.seen output.new ≡ given (lines_of (totals_view totals.now)) (O.seen output.old)) }
+    ensures failed { OnErr result (HasFailedBehind (lines_of (totals_view totals.now)) (O.seen output.old) (O.seen output.new)) }
 {
     let text = totals_text(totals);
     match write_all(output, text.as_slice()) {

@@ -2,7 +2,8 @@
 use Rattle.std.proofs.Common.{◌≡◌, ℕ, zero, suc, ◌<◌, Bool, true, false, cond, not, ◌||◌, List, [], ◌∷◌, ◌++◌, length, get_or, take, map, ◌+◌, refl, sym, ap, subst, ◌∙◌, Option, Some, None, is_some, arith}
 use Rattle.std.specs.FinMap.{empty, get-empty, get, insert, from_entries, contains_key, same_map, get-insert, get-from_entries, get-retain_keys}
 use Rattle.std.specs.Cmp.{eq_by_cmp_equiv}
-use Rattle.sd_model_shard.specs.Shard.{RowId, row_cmp, Rows, Kept, is_same_row, Policy, goes_idle, carried}
+use Rattle.sd_model_shard.specs.Shard.{RowId, row_cmp, Rows, Kept, Policy, goes_idle, carried}
+use Rattle.sd_model_shard.specs.Statistics.{is_same_row}
 use Rattle.sd_model_shard.proofs.RowLemmas.{rows_total, rows_exact}
 use Rattle.std.proofs.lemmas.List.{length-map, take_more, take-map}
 use Rattle.std.proofs.Math.ListN.{get_or-map}
@@ -14,7 +15,7 @@ use Rattle.sd_shard.proofs.ListingLemmas.{same_row, not_found}
 stays : Policy → RowId → Bool
 stays policy id = not (goes_idle policy id.kind)
 
-carried-get : (policy : Policy) (m : Rows) (q : RowId) → get (carried policy m) q ≡ cond (stays policy q) (get m q) None
+carried-get : (policy : Policy) (m : Rows) (q : RowId) → get (carried policy m []) q ≡ cond (stays policy q) (get m q) None
 unfolding stays
 carried-get policy m q = get-retain_keys m (λ id. not (goes_idle policy id.kind)) q (λ x e. ap (λ (id : RowId). not (goes_idle policy id.kind)) (sym (rows_exact q x e)))
 
@@ -28,15 +29,15 @@ outside true true v o h = absurd (cc (h refl))
 outside true false v o h = refl
 outside false t v o h = refl
 
-pub carried-keeps : (policy : Policy) (m : Rows) (id : RowId) (v : Kept) → goes_idle policy id.kind ≡ false → carried policy (insert m id v) ≡ insert (carried policy m) id v
+pub carried-keeps : (policy : Policy) (m : Rows) (id : RowId) (v : Kept) → goes_idle policy id.kind ≡ false → carried policy (insert m id v) [] ≡ insert (carried policy m []) id v
 unfolding stays
 carried-keeps policy m id v h =
     same_map rows_total rows_exact _ _ (λ q.
     carried-get policy (insert m id v) q ∙ ap (λ o. cond (stays policy q) o None) (get-insert rows_total m id v q)
     ∙ inside (stays policy q) (is_same_row q id) v (get m q) (λ e. ap (λ (r : RowId). not (goes_idle policy r.kind)) (same_row q id e) ∙ ap not h)
-    ∙ ap (cond (is_same_row q id) (Some v)) (sym (carried-get policy m q)) ∙ sym (get-insert rows_total (carried policy m) id v q))
+    ∙ ap (cond (is_same_row q id) (Some v)) (sym (carried-get policy m q)) ∙ sym (get-insert rows_total (carried policy m []) id v q))
 
-pub carried-drops : (policy : Policy) (m : Rows) (id : RowId) (v : Kept) → goes_idle policy id.kind ≡ true → carried policy (insert m id v) ≡ carried policy m
+pub carried-drops : (policy : Policy) (m : Rows) (id : RowId) (v : Kept) → goes_idle policy id.kind ≡ true → carried policy (insert m id v) [] ≡ carried policy m []
 unfolding stays
 carried-drops policy m id v h =
     same_map rows_total rows_exact _ _ (λ q.
@@ -66,7 +67,7 @@ none_of true o h = ap is_some h
 none_of false o h = refl
 
 -- what isn't listed isn't carried either
-pub carried-absent : (policy : Policy) (id : RowId) (es : List (RowId × Kept)) → listed_with id es ≡ false → contains_key (carried policy (from_entries es)) id ≡ false
+pub carried-absent : (policy : Policy) (id : RowId) (es : List (RowId × Kept)) → listed_with id es ≡ false → contains_key (carried policy (from_entries es) []) id ≡ false
 carried-absent policy id es h =
     ap is_some (carried-get policy (from_entries es) id) ∙ none_of (stays policy id) (get (from_entries es) id) (get-from_entries rows_total es id ∙ not_found id es h)
 
@@ -78,7 +79,7 @@ either_none true = refl
 either_none false = refl
 
 -- nothing stays of nothing
-pub carried-empty : (policy : Policy) → carried policy empty ≡ empty
+pub carried-empty : (policy : Policy) → carried policy empty [] ≡ empty
 unfolding no_kept
 carried-empty policy =
     same_map rows_total rows_exact _ _ (λ q. carried-get policy empty q ∙ ap (λ o. cond (stays policy q) o None) (get-empty row_cmp q) ∙ either_none (stays policy q) ∙ sym (get-empty row_cmp q))
@@ -98,8 +99,8 @@ module _ (rows : List Row) (i : ℕ) (row : Row) (below : i < length rows) (is :
       ap (λ (front : List Row). live_rows front) (take_more rows i row below ∙ ap (λ r. take i rows ++ r ∷ []) (sym is))
       ∙ live-push (take i rows) row absent_before
 
-  pub step_keeps : (policy : Policy) → goes_idle policy (row_view row).0.kind ≡ false → carried policy (live_rows (take (i + 1) rows)) ≡ insert (carried policy (live_rows (take i rows))) (row_view row).0 (row_view row).1
-  step_keeps policy h = ap (carried policy) next_rows ∙ carried-keeps policy (live_rows (take i rows)) (row_view row).0 (row_view row).1 h
+  pub step_keeps : (policy : Policy) → goes_idle policy (row_view row).0.kind ≡ false → carried policy (live_rows (take (i + 1) rows)) [] ≡ insert (carried policy (live_rows (take i rows)) []) (row_view row).0 (row_view row).1
+  step_keeps policy h = ap (λ (m : Rows). carried policy m []) next_rows ∙ carried-keeps policy (live_rows (take i rows)) (row_view row).0 (row_view row).1 h
 
-  pub step_drops : (policy : Policy) → goes_idle policy (row_view row).0.kind ≡ true → carried policy (live_rows (take (i + 1) rows)) ≡ carried policy (live_rows (take i rows))
-  step_drops policy h = ap (carried policy) next_rows ∙ carried-drops policy (live_rows (take i rows)) (row_view row).0 (row_view row).1 h
+  pub step_drops : (policy : Policy) → goes_idle policy (row_view row).0.kind ≡ true → carried policy (live_rows (take (i + 1) rows)) [] ≡ carried policy (live_rows (take i rows)) []
+  step_drops policy h = ap (λ (m : Rows). carried policy m []) next_rows ∙ carried-drops policy (live_rows (take i rows)) (row_view row).0 (row_view row).1 h

@@ -7,7 +7,8 @@ use Rattle.std.specs.FinMap.{find, insert, from_entries, len, contains_key, same
 use Rattle.std.specs.Prelude.{nat_lt}
 use Rattle.std.proofs.lemmas.Bool.{ltb-true}
 use Rattle.sd_model_text.specs.Lines.{Sample}
-use Rattle.sd_model_shard.specs.Shard.{RowId, row_cmp, Kept, is_same_row, row_of, State, Limits, Cause, NoRow, NoEntry, NoNumber, refusal, last_number}
+use Rattle.sd_model_shard.specs.Shard.{RowId, row_cmp, Kept, row_of, State, Limits, Cause, NoRow, NoEntry, NoNumber, refusal, last_number}
+use Rattle.sd_model_shard.specs.Statistics.{is_same_row}
 use Rattle.sd_model_shard.proofs.RowLemmas.{rows_exact, rows_total}
 use Rattle.sd_shard.specs.Table.{AreApart, IsPlace, listed_with, row_view}
 use Rattle.sd_shard.specs.declared.table.Row.{Row}

@@ -3,7 +3,8 @@ use Rattle.std.proofs.Common.{◌≡◌, ℕ, zero, suc, ◌+◌, ◌<◌, ◌�
 use Rattle.std.proofs.lemmas.List.{map-append, map-set}
 use Rattle.std.proofs.Math.ListN.{get_or-map}
 use Rattle.std.specs.FinMap.{insert, from_entries, get-from_entries}
-use Rattle.sd_model_shard.specs.Shard.{RowId, row_cmp, Kept, is_same_row, touched, base_of}
+use Rattle.sd_model_shard.specs.Shard.{RowId, row_cmp, Kept, touched, base_of}
+use Rattle.sd_model_shard.specs.Statistics.{is_same_row}
 use Rattle.sd_model_shard.proofs.RowLemmas.{rows_total}
 use Rattle.sd_shard.specs.Table.{AreApart, IsPlace, listed_with, row_view, live_rows}
 use Rattle.sd_shard.specs.declared.table.Row.{Row}

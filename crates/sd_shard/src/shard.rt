@@ -1,9 +1,8 @@
-ghost use Rattle.std.specs.Prelude.{◌≡◌, ◌+◌, ◌≤◌, [], length, option_map, IfOk};
-ghost use Rattle.sd_model_shard.specs.Shard.{empty_state, refusal, after_sample, after_swap, placed};
+ghost use Rattle.std.specs.Prelude.{◌≡◌, ℕ, ◌+◌, ◌≤◌, [], length, option_map, IfOk};
+ghost use Rattle.sd_model_shard.specs.Shard.{empty_state, refusal, step, Answered, Submit, Swap, Swapped};
 ghost use Rattle.sd_shard.specs.Limits.{limits_of, policy_of, AreLimits};
 ghost use Rattle.sd_shard.specs.Table.{table_of};
 ghost use Rattle.sd_shard.specs.Shard.{state_of, cause_of, placed_of};
-ghost use Rattle.sd_model_shard.specs.Shard.{table_of as model_table_of};
 
 use crate::limits::{Limits, Policy, Who};
 use crate::table::Table;
@@ -113,9 +112,10 @@ impl Shard {
 
     /// Takes a sample of a caller, or drops it where the shard is full.
     pub fn sample(&mut self, who: Who, s: &Sample) -> Placed
-        ensures state { state_of self.new ≡ after_sample (state_of self.old) who.0 s.now
-            (refusal self.old.table.limits (state_of self.old) s.now) }
-        ensures answer { placed_of result ≡ placed (state_of self.old) (refusal self.old.table.limits (state_of self.old) s.now) }
+        ensures state { state_of self.new
+            ≡ (step self.old.table.limits self.old.policy (state_of self.old) who.0 (Submit s.now)).state }
+        ensures answer { Answered (placed_of result)
+            ≡ (step self.old.table.limits self.old.policy (state_of self.old) who.0 (Submit s.now)).reply }
         ensures limits { self.new.table.limits ≡ self.old.table.limits }
         ensures policy { self.new.policy ≡ self.old.policy }
     {
@@ -134,10 +134,12 @@ impl Shard {
         requires limits { spare.limits ≡ self.old.table.limits }
         requires no_rows { spare.listed ≡ [] }
         requires no_entries { spare.held ≡ [] }
-        ensures table { table_of result ≡ model_table_of (state_of self.old) }
+        ensures table { (who : ℕ) → Swapped (table_of result)
+            ≡ (step self.old.table.limits self.old.policy (state_of self.old) who Swap).reply }
         ensures table_limits { result.limits ≡ self.old.table.limits }
         ensures table_rows { length result.listed ≤ result.limits.rows }
-        ensures state { state_of self.new ≡ after_swap self.old.policy (state_of self.old) }
+        ensures state { (who : ℕ) → state_of self.new
+            ≡ (step self.old.table.limits self.old.policy (state_of self.old) who Swap).state }
         ensures limits { self.new.table.limits ≡ self.old.table.limits }
         ensures policy { self.new.policy ≡ self.old.policy }
     {

@@ -1,7 +1,8 @@
 ghost use Rattle.std.specs.Prelude.{◌≡◌, ◌+◌, ◌*◌, ◌^◌, ◌<◌, ◌≤◌, ◌+ℤ◌, unsigned_abs, slice_get, false, [], ◌∷◌, ◌++◌, length, map, vec_len, vec_capacity, IfOk, MatchOption, if◌then◌else◌};
 ghost use Rattle.std.specs.FinMap.{len, contains_key, insert};
-ghost use Rattle.sd_model_shard.specs.Shard.{row_of, touched, is_same_row, entries_of, counter_value, carried};
-ghost use Rattle.sd_model_text.specs.Numbers.{weight};
+ghost use Rattle.sd_model_shard.specs.Shard.{row_of, touched, carried};
+ghost use Rattle.sd_model_shard.specs.Statistics.{is_same_row, entries_of, sample_weight, weight_of};
+ghost use Rattle.sd_key.specs.Kind.{kind_of};
 ghost use Rattle.sd_shard.specs.Limits.{limits_of, policy_of, AreLimits};
 ghost use Rattle.sd_shard.specs.Table.{live_of, live_rows, AreApart, row_view, entry_view, id_of, listed_with, IsPlace};
 
@@ -11,6 +12,9 @@ use sd_key::{Key, Kind};
 use sd_line::Sample;
 use std::alloc::{AllocError, Global};
 use std::marker::Model;
+
+/// The value 1.
+const ONE: Micro = Micro(1_000_000);
 
 /// A row: what it is known by, and what it keeps from swap to swap.
 #[derive(Clone, Debug, Drop)]
@@ -101,7 +105,7 @@ impl Table {
         requires { i < length self.now.listed }
         ensures listed { slice_get self.now.listed i ≡ Some (id_of result.kind result.key, record { base = result.base.0; swaps = result.swaps }) }
         ensures samples { result.samples ≡ length (entries_of (id_of result.kind result.key) self.now.held) }
-        ensures weight { result.weight.0 ≡ counter_value (id_of result.kind result.key) self.now.held }
+        ensures weight { result.weight.0 ≡ weight_of (id_of result.kind result.key) self.now.held }
         ensures bound { unsigned_abs result.weight.0 ≤ 2 ^ 20 * 10 ^ 24 }
     {
         let row = &self.rows[i as usize];
@@ -120,7 +124,7 @@ impl Table {
     pub(crate) fn carry_to(&self, policy: &Policy, into: &mut Table)
         requires limits { into.old.limits ≡ self.now.limits }
         requires no_rows { into.old.listed ≡ [] }
-        ensures live { live_of into.new ≡ carried (policy_of policy.now) (live_of self.now) }
+        ensures live { live_of into.new ≡ carried (policy_of policy.now) (live_of self.now) self.now.held }
         ensures limits { into.new.limits ≡ into.old.limits }
         ensures held { into.new.held ≡ into.old.held }
         ensures within { length self.now.listed ≤ self.now.limits.rows }
@@ -168,7 +172,7 @@ fn carry(rows: &[Row], policy: &Policy, into: &mut Table)
     requires apart { AreApart (map row_view rows.now) }
     requires no_rows { into.old.listed ≡ [] }
     requires room { length rows.now ≤ into.old.limits.rows }
-    ensures live { live_of into.new ≡ carried (policy_of policy.now) (live_rows rows.now) }
+    ensures live { live_of into.new ≡ carried (policy_of policy.now) (live_rows rows.now) [] }
     ensures limits { into.new.limits ≡ into.old.limits }
     ensures held { into.new.held ≡ into.old.held }
 {
@@ -186,15 +190,27 @@ struct RowTally {
     weight: Sum,
 }
 
-/// The tally with a sample more.
-fn with_sample(tally: RowTally, s: &Sample) -> RowTally
+/// How much a sample weighs in a row of this kind.
+fn sample_weight(kind: Kind, s: &Sample) -> Sum
+    ensures value { result.0 ≡ sample_weight (kind_of kind) s.now }
+    ensures bound { unsigned_abs result.0 ≤ 10 ^ 24 }
+{
+    match kind {
+        Kind::Counter => weigh(s.value, s.rate),
+        Kind::Timer => weigh(ONE, s.rate),
+        Kind::Gauge | Kind::Set => Sum(0),
+    }
+}
+
+/// The tally of a row of this kind with a sample more.
+fn with_sample(tally: RowTally, kind: Kind, s: &Sample) -> RowTally
     requires samples { tally.samples < 2 ^ 20 }
     requires weight { unsigned_abs tally.weight.0 ≤ tally.samples * 10 ^ 24 }
     ensures samples { result.samples ≡ tally.samples + 1 }
-    ensures weight { result.weight.0 ≡ tally.weight.0 +ℤ weight s.now.value s.now.rate }
+    ensures weight { result.weight.0 ≡ tally.weight.0 +ℤ sample_weight (kind_of kind) s.now }
     ensures bound { unsigned_abs result.weight.0 ≤ result.samples * 10 ^ 24 }
 {
-    let weight = weigh(s.value, s.rate);
+    let weight = sample_weight(kind, s);
     RowTally {
         samples: tally.samples + 1,
         weight: Sum(tally.weight.0 + weight.0),
@@ -212,7 +228,7 @@ fn is_of(s: &Sample, kind: Kind, key: &Key) -> bool
 fn tally_of(entries: &[Entry], kind: Kind, key: &Key) -> RowTally
     requires { length entries.now ≤ 2 ^ 20 }
     ensures samples { result.samples ≡ length (entries_of (id_of kind key.now) (map entry_view entries.now)) }
-    ensures weight { result.weight.0 ≡ counter_value (id_of kind key.now) (map entry_view entries.now) }
+    ensures weight { result.weight.0 ≡ weight_of (id_of kind key.now) (map entry_view entries.now) }
     ensures bound { unsigned_abs result.weight.0 ≤ 2 ^ 20 * 10 ^ 24 }
 {
     let mut tally = RowTally {
@@ -221,7 +237,7 @@ fn tally_of(entries: &[Entry], kind: Kind, key: &Key) -> RowTally
     };
     for entry in entries {
         if is_of(&entry.sample, kind, key) {
-            tally = with_sample(tally, &entry.sample);
+            tally = with_sample(tally, kind, &entry.sample);
         }
     }
     tally

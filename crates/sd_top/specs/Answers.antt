@@ -6,9 +6,9 @@ use Rattle.sd_top.specs.declared.status.Status.{Status}
 use Rattle.sd_top.specs.declared.status.Status.TheVariants.{Ok, OutOfMemory, Usage, ReadFault, WriteFault, OpenFault, Worn, Unbuilt}
 
 abbrev pub part_of : Part → model.Part
-part_of Settings = model.Settings
-part_of Script = model.Script
-part_of Graphite = model.Graphite
+part_of Settings = model.OfSettings
+part_of Script = model.OfScript
+part_of Graphite = model.OfGraphite
 
 abbrev pub answer_of : Status → model.Answer
 answer_of Ok = model.Done

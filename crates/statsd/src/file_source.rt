@@ -25,16 +25,17 @@ impl<'a> FileSource<'a> {
 }
 
 impl<'a> Faulty for FileSource<'a> {
-    ghost faults = { λ s. s.faults };
+    ghost use Rattle.std.specs.Prelude.{min};
+    ghost use Rattle.std.proofs.Common.{arith};
+    ghost use Rattle.sd_model_outside.specs.Outside.{Untold, last_count};
+    ghost use Rattle.sd_outside.specs.Places.{last_place};
 
-    ghost opened_at = { λ s. s.opened_at };
+    ghost seen = { λ s. record { told = Untold; faults = min s.faults last_count; opened_at = last_place s.opened_at } };
+
+    ghost faults_fit = { λ s. omega arith };
 }
 
 impl<'a> Opens for FileSource<'a> {
-    ghost use Rattle.std.specs.Prelude.{⊤};
-
-    ghost same_content = { λ old new. ⊤ };
-
     fn open_at(&mut self, at: &Address) -> Result<(), OpenRefusal> {
         let Address::File(name) = at else {
             fault(&mut self.faults);
@@ -60,11 +61,6 @@ impl<'a> Opens for FileSource<'a> {
 }
 
 impl<'a> Source for FileSource<'a> {
-    ghost use Rattle.std.specs.Prelude.{None};
-    ghost use Rattle.std.proofs.Common.{refl};
-
-    ghost remaining = { λ s. None };
-
     fn read(&mut self, buf: &mut [u8]) -> Result<usize, Failed> {
         let Some(file) = &mut self.file else {
             return Err(fault(&mut self.faults));
@@ -74,6 +70,4 @@ impl<'a> Source for FileSource<'a> {
             Err(_) => Err(fault(&mut self.faults)),
         }
     }
-
-    ghost opening_keeps = { λ old new same. refl };
 }

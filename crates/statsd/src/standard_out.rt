@@ -1,6 +1,6 @@
 ghost use Rattle.std.specs.Prelude.{◌≡◌, ◌↔◌, [], IsTrue};
 ghost use Rattle.sd_model_outside.specs.Outside.{File};
-ghost use Rattle.sd_top.specs.Places.{place_of};
+ghost use Rattle.sd_outside.specs.Places.{place_of};
 
 use sd_outside::{Address, Backend, Failed, Faulty, OpenRefusal, Opens, Sink, fault};
 use std::io::{self, Write};
@@ -34,16 +34,17 @@ impl<'a> StandardOut<'a> {
 }
 
 impl<'a> Faulty for StandardOut<'a> {
-    ghost faults = { λ s. s.faults };
+    ghost use Rattle.std.specs.Prelude.{min};
+    ghost use Rattle.std.proofs.Common.{arith};
+    ghost use Rattle.sd_model_outside.specs.Outside.{Untold, last_count};
+    ghost use Rattle.sd_outside.specs.Places.{last_place};
 
-    ghost opened_at = { λ s. s.opened_at };
+    ghost seen = { λ s. record { told = Untold; faults = min s.faults last_count; opened_at = last_place s.opened_at } };
+
+    ghost faults_fit = { λ s. omega arith };
 }
 
 impl<'a> Opens for StandardOut<'a> {
-    ghost use Rattle.std.specs.Prelude.{⊤};
-
-    ghost same_content = { λ old new. ⊤ };
-
     /// Opens at the file with the empty name, and nowhere else.
     fn open_at(&mut self, at: &Address) -> Result<(), OpenRefusal> {
         if !is_standard(at) {
@@ -56,10 +57,6 @@ impl<'a> Opens for StandardOut<'a> {
 }
 
 impl<'a> Sink for StandardOut<'a> {
-    ghost use Rattle.sd_model_outside.specs.Outside.{Untold};
-
-    ghost written = { λ s. Untold };
-
     fn write(&mut self, bytes: &[u8]) -> Result<usize, Failed> {
         match self.rt.stdout().write(bytes) {
             Ok(0) | Err(_) => Err(fault(&mut self.faults)),
@@ -71,8 +68,6 @@ impl<'a> Sink for StandardOut<'a> {
 }
 
 impl<'a> Backend for StandardOut<'a> {
-    ghost use Rattle.std.proofs.Common.{refl};
-
     fn begin(&mut self) -> Result<(), Failed> {
         Ok(())
     }
@@ -80,6 +75,4 @@ impl<'a> Backend for StandardOut<'a> {
     fn finish(&mut self) -> Result<(), Failed> {
         Ok(())
     }
-
-    ghost opening_keeps = { λ old new same. refl };
 }

@@ -4,15 +4,15 @@ use Rattle.sd_graphite.proofs.TextLemmas.{graphite_text-parts}
 use Rattle.sd_graphite.proofs.WriteSteps.{next_part, next_front, front_front}
 use Rattle.sd_graphite.proofs.record.write_record.Goals as goal
 
-pub returns-in_err-write_rows-clause-front : goal.returns-in_err-write_rows-clause-front
-returns-in_err-write_rows-clause-front g c =
+pub returns-in_err-write_rows-clause-failed : goal.returns-in_err-write_rows-clause-failed
+returns-in_err-write_rows-clause-failed g c =
     let failed = err_from_is_err_and c.from_residual.result c.from_residual.ensures.1 in
-    rw failed.1 (front_front _ _ _ _ _ (graphite_text-parts (record_view c.args.rec.now)) c.in_err-write_rows.ensures.front)
+    rw failed.1 (front_front _ _ _ _ _ (graphite_text-parts (record_view c.args.rec.now)) c.in_err-write_rows.ensures.failed)
 
 pub returns-clause-ok : goal.returns-clause-ok
 returns-clause-ok g c =
     on_ok_weaker _ (next_part _ _ _ _ _ _ c.in_ok-write_rows.ensures.ok (graphite_text-parts (record_view c.args.rec.now))) c.write_tail.ensures.ok
 
-pub returns-clause-front : goal.returns-clause-front
-returns-clause-front g c =
-    on_err_weaker _ (next_front _ _ _ _ _ _ c.in_ok-write_rows.ensures.ok (graphite_text-parts (record_view c.args.rec.now))) c.write_tail.ensures.front
+pub returns-clause-failed : goal.returns-clause-failed
+returns-clause-failed g c =
+    on_err_weaker _ (next_front _ _ _ _ _ _ c.in_ok-write_rows.ensures.ok (graphite_text-parts (record_view c.args.rec.now))) c.write_tail.ensures.failed

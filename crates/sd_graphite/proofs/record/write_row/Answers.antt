@@ -7,5 +7,5 @@ pub returns-clause-ok : goal.returns-clause-ok
 unfolding row_text counter_text
 returns-clause-ok g c = search rules
 
-pub returns-clause-front : goal.returns-clause-front
-returns-clause-front g c = row_front _ _ _ _ _ _ _ _ c.write_counter.ensures.front (search rules)
+pub returns-clause-failed : goal.returns-clause-failed
+returns-clause-failed g c = row_front _ _ _ _ _ _ _ _ c.write_counter.ensures.failed (search rules)

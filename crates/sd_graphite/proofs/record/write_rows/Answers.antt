@@ -10,13 +10,13 @@ pub loop-i-init : goal.loop-i-init
 unfolding rows_text
 loop-i-init g c = search rules
 
-pub returns-in_err-write_row-clause-front : goal.returns-in_err-write_row-clause-front
-returns-in_err-write_row-clause-front g c =
+pub returns-in_err-write_row-clause-failed : goal.returns-in_err-write_row-clause-failed
+returns-in_err-write_row-clause-failed g c =
     let r = record_view c.args.rec.now in
     let failed = err_from_is_err_and c.from_residual.result c.from_residual.ensures.1 in
     let more = rows_text-more r.ts _ r.rows c.loop-i.i _ c.row.ensures c.ts.ensures in
     let first = rows_text r.ts (take c.loop-i.i r.rows) in
-    let front = next_front _ _ _ first _ _ c.loop-i.invariant.written more c.in_err-write_row.ensures.front in
+    let front = next_front _ _ _ first _ _ c.loop-i.invariant.written more c.in_err-write_row.ensures.failed in
     rw failed.1 (front_front _ _ _ _ _ (rows_text-split r.ts r.rows (c.loop-i.i + 1)) front)
 
 pub loop-i-preserved : goal.loop-i-preserved
@@ -26,6 +26,4 @@ loop-i-preserved g c =
     record {
       written = next_part _ _ _ first _ _ c.loop-i.invariant.written (rows_text-more r.ts _ r.rows c.loop-i.i _ c.row.ensures c.ts.ensures) c.in_ok-write_row.ensures.ok;
       all = c.loop-i.invariant.all;
-      faults = c.in_ok-write_row.ensures.steady ∙ c.loop-i.invariant.faults;
-      address = cc;
     }

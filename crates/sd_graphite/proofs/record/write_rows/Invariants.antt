@@ -1,13 +1,11 @@
 use Rattle.std.proofs.Common.{◌≡◌, length, take}
-use Rattle.sd_model_outside.specs.Outside.{appended}
+use Rattle.sd_model_outside.specs.Outside.{given}
 use Rattle.sd_record.specs.Record.{record_view}
 use Rattle.sd_graphite.specs.Texts.{rows_text}
 use Rattle.sd_graphite.proofs.record.write_rows.Given as goal
 
 abbrev pub invariant-loop-i : goal.invariant-loop-i
 invariant-loop-i g l = record {
-  written : g.K.Sink.written l.sink ≡ appended (g.K.Sink.written l.initial.sink) (rows_text (record_view l.rec).ts (take l.i (record_view l.rec).rows));
+  written : g.K.Faulty.seen l.sink ≡ given (rows_text (record_view l.rec).ts (take l.i (record_view l.rec).rows)) (g.K.Faulty.seen l.initial.sink);
   all : l.i-end ≡ length (record_view l.rec).rows;
-  faults : g.K.Faulty.faults l.sink ≡ g.K.Faulty.faults l.initial.sink;
-  address : g.K.Faulty.opened_at l.sink ≡ g.K.Faulty.opened_at l.initial.sink;
 }

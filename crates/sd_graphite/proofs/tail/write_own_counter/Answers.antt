@@ -9,7 +9,7 @@ returns-clause-ok g c =
     on_ok_weaker _ (same_part _ _ _ _ (own_text-counter (record_view c.args.rec.now) c.args.key.now c.args.number _ _ _ _ c.ts.ensures c.interval_ms.ensures.value c.whole-count.ensures c.per_second-rate.ensures))
     c.write_counter.ensures.ok
 
-pub returns-clause-front : goal.returns-clause-front
-returns-clause-front g c =
+pub returns-clause-failed : goal.returns-clause-failed
+returns-clause-failed g c =
     on_err_weaker _ (same_front _ _ _ _ (own_text-counter (record_view c.args.rec.now) c.args.key.now c.args.number _ _ _ _ c.ts.ensures c.interval_ms.ensures.value c.whole-count.ensures c.per_second-rate.ensures))
-    c.write_counter.ensures.front
+    c.write_counter.ensures.failed

@@ -1,16 +1,12 @@
-use Rattle.std.proofs.Common.{◌∙◌, rules}
+use Rattle.std.proofs.Common.{rules}
 use Rattle.std.proofs.lemmas.Result.{err_from_is_err_and}
-use Rattle.sd_outside.proofs.WriteLemmas.{AppendsFront-before, HasWritten-next}
+use Rattle.sd_outside.proofs.WriteLemmas.{HasGiven-next, fails_behind}
 use Rattle.sd_outside.proofs.sink.write_all.Goals as goal
 
-pub returns-in_err-taken-clause-front : goal.returns-in_err-taken-clause-front
-returns-in_err-taken-clause-front g c =
+pub returns-in_err-taken-clause-failed : goal.returns-in_err-taken-clause-failed
+returns-in_err-taken-clause-failed g c =
     let failed = err_from_is_err_and c.from_residual.result c.from_residual.ensures.1 in
-    rw failed.1 (AppendsFront-before _ _ _ _ _ c.loop-rest.invariant.front (search rules) c.in_err-taken.ensures.kept)
+    rw failed.1 (fails_behind _ _ _ _ _ c.loop-rest.invariant (search rules) c.in_err-taken.ensures.failed)
 
 pub loop-rest-preserved : goal.loop-rest-preserved
-loop-rest-preserved g c = record {
-  front = HasWritten-next _ _ _ _ _ _ c.loop-rest.invariant.front c.in_ok-taken.ensures.appended;
-  faults = c.in_ok-taken.ensures.steady ∙ c.loop-rest.invariant.faults;
-  address = cc;
-}
+loop-rest-preserved g c = HasGiven-next _ _ _ _ _ _ c.loop-rest.invariant c.in_ok-taken.ensures.appended

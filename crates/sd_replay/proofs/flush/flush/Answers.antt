@@ -1,17 +1,28 @@
 use Rattle.std.proofs.Common.{◌≡◌, [], ◌∷◌, subst, ap, ◌∙◌}
 use Rattle.sd_model_record.specs.Graphite.{graphite_text}
 use Rattle.sd_model_record.specs.Record.{record_of}
-use Rattle.sd_model_replay.specs.Replay.{AfterMark}
-use Rattle.sd_model_shard.specs.Shard.{table_of}
-use Rattle.sd_record.specs.Record.{record_view}
+use Rattle.sd_model_replay.specs.Backends.{AfterMark}
+use Rattle.sd_model_shard.specs.Shard.{Table, Reply, Swapped, table_of}
+use Rattle.sd_record.specs.Record.{record_view, plan_of}
 use Rattle.sd_record.specs.Tally.{tally_of}
 use Rattle.sd_shard.specs.Shard.{state_of}
 use Rattle.sd_replay.specs.Marks.{mark_of}
 use Rattle.sd_replay.proofs.flush.flush.Goals as goal
 
+pub returns-clause-state : goal.returns-clause-state
+returns-clause-state g c = c.swap-table.ensures.state 0
+
+table_in : Table → Reply → Table
+table_in other (Swapped table) = table
+table_in other reply = other
+
 -- the record of the table that was swapped out, and of the tally that was taken
-pub returns-clause-text : goal.returns-clause-text
-returns-clause-text g c =
-    let same : record_view c.over-record.result ≡ record_of 10000 (table_of (state_of c.args.shard.now) ∷ []) c.args.desk.now.tally c.args.ts =
-    c.over-record.ensures.record ∙ ap (λ t. record_of 10000 (t ∷ []) (tally_of c.take-tally.result) c.args.ts) c.swap-table.ensures.table ∙ ap (λ t. record_of 10000 (table_of (state_of c.args.shard.now) ∷ []) t c.args.ts) c.take-tally.ensures.tally in
-    subst (λ r. AfterMark (mark_of c.deliver-graphite.result) (graphite_text r) (g.B.Sink.written c.args.back.now) (g.B.Sink.written c.deliver-graphite.new.back)) same c.deliver-graphite.ensures.text
+pub returns-clause-delivery : goal.returns-clause-delivery
+unfolding table_in
+returns-clause-delivery g c =
+    let plan = plan_of c.args.interval_ms in
+    let state = state_of c.args.shard.now in
+    let table = ap (table_in (table_of state)) (c.swap-table.ensures.table 0) in
+    let same : record_view c.over-record.result ≡ record_of plan (table_of state ∷ []) c.args.desk.now.tally c.args.ts =
+    c.over-record.ensures.record ∙ ap (λ t. record_of plan (t ∷ []) (tally_of c.take-tally.result) c.args.ts) table ∙ ap (λ t. record_of plan (table_of state ∷ []) t c.args.ts) c.take-tally.ensures.tally in
+    subst (λ r. AfterMark (mark_of c.deliver-graphite.result) (graphite_text r) (g.B.Faulty.seen c.args.back.now) (g.B.Faulty.seen c.deliver-graphite.new.back)) same c.deliver-graphite.ensures.delivery

@@ -1,14 +1,14 @@
 use Rattle.std.proofs.Common.{◌≡◌, ℕ, ◌+◌, ◌≤◌, List, length}
 use Rattle.std.specs.Prelude.{filter_map}
 use Rattle.sd_model_text.specs.Lines.{pieces, samples_of, sample_of}
-use Rattle.sd_model_shard.specs.Shard.{after_samples, answers_to, drops}
 use Rattle.sd_shard.specs.Shard.{Standing, state_of}
+use Rattle.sd_replay.specs.Filed.{filed, lost}
 use Rattle.sd_replay.proofs.packet.file_packet.Given as goal
 
 -- the samples filed so far and those that are left make the whole
 pub record Files (first now : Standing) (who lines dropped : ℕ) (left : List (List ℕ)) (datagram : List ℕ) : Type 0 where
-  pub state : after_samples first.table.limits who (state_of now) (filter_map sample_of left) ≡ after_samples first.table.limits who (state_of first) (samples_of datagram)
-  pub lost : dropped + drops (answers_to first.table.limits who (state_of now) (filter_map sample_of left)) ≡ drops (answers_to first.table.limits who (state_of first) (samples_of datagram))
+  pub state : filed first.table.limits first.policy who (state_of now) (filter_map sample_of left) ≡ filed first.table.limits first.policy who (state_of first) (samples_of datagram)
+  pub missed : dropped + lost first.table.limits first.policy who (state_of now) (filter_map sample_of left) ≡ lost first.table.limits first.policy who (state_of first) (samples_of datagram)
   pub count : lines + length left ≡ length (pieces datagram)
   pub few : dropped ≤ lines
   pub limits : now.table.limits ≡ first.table.limits

@@ -3,21 +3,21 @@ use Rattle.std.proofs.lemmas.Result.{err_from_is_err_and}
 use Rattle.sd_replay.specs.Ahead.{held_in}
 use Rattle.sd_replay.specs.Head.{head_line, IsLegal}
 use Rattle.sd_replay.specs.declared.head.Head.{Head}
-use Rattle.sd_replay.proofs.BuiltLemmas.{no_line_left, Line-of, no_head, no_body, length-found, BeginsWithLine-grown, part_of_packet, line_decided, body_decided}
+use Rattle.sd_replay.proofs.BuiltLemmas.{no_line_left, Line-of, no_head, no_body, length-found, BeginsWithLine-grown, part_of_packet, line_decided, body_decided, short_body}
 use Rattle.sd_replay.proofs.record.next_record.Goals as goal
 
 pub returns-in_default-clause-found : goal.returns-in_default-clause-found
 returns-in_default-clause-found g c =
-    no_line_left (held_in c.hold_line.new.self) _ (rw c.in_default.is at c.in_ok-end.ensures.line)
+    no_line_left c.args.receivers (held_in c.hold_line.new.self) _ (rw c.in_default.is at c.in_ok-end.ensures.line)
 
 pub returns-in_default-clause-decided : goal.returns-in_default-clause-decided
-returns-in_default-clause-decided g c = rw c.in_default.is at c.in_ok-end.ensures.decided
+returns-in_default-clause-decided g c = (rw c.in_default.is at c.in_ok-end.ensures.decided) c.args.receivers
 
 pub returns-in_default-parse_line-clause-decided : goal.returns-in_default-parse_line-clause-decided
 returns-in_default-parse_line-clause-decided g c =
     let line = Line-of (held_in c.hold_line.new.self) _ c.in-Some.end _ c.in-Some.is c.in_ok-end.ensures.line in
-    inl (line_decided (held_in c.hold_line.new.self) c.in-Some.end line
-    (subst (λ xs. (head : Head) → IsLegal head → take c.in-Some.end xs ≢ head_line head) c.bytes.ensures c.in_default-parse_line.ensures.other))
+    inl (line_decided c.args.receivers (held_in c.hold_line.new.self) c.in-Some.end line
+    (subst (λ xs. (head : Head) → IsLegal c.args.receivers head → take c.in-Some.end xs ≢ head_line head) c.bytes.ensures c.in_default-parse_line.ensures.other))
 
 pub returns-then-not-branch-clause-decided : goal.returns-then-not-branch-clause-decided
 returns-then-not-branch-clause-decided g c =
@@ -29,7 +29,7 @@ returns-then-not-branch-clause-decided g c =
     let same : take end held ≡ head_line head = ap (take end) (sym c.bytes.ensures) ∙ c.in-Some-parse_line.ensures.head.0 in
     let front = BeginsWithLine-grown held end head line same new c.in_ok-body_follows.ensures.grows in
     elim (rw c.if-not-branch.true at c.in_ok-body_follows.ensures.decided) [
-      | inl long ↦ inl (body_decided head (end + 1) new c.in-Some-parse_line.ensures.head.1 (length-found held end head line same) front long)
+      | inl long ↦ inl (body_decided c.args.receivers head (end + 1) new c.in-Some-parse_line.ensures.head.1 (length-found held end head line same) front long)
       | inr end ↦ inr end
     ]
 
@@ -41,8 +41,8 @@ slice_bounds-parse_line-end g c =
 pub returns-in_default-parse_line-clause-found : goal.returns-in_default-parse_line-clause-found
 returns-in_default-parse_line-clause-found g c =
     let line = Line-of (held_in c.hold_line.new.self) _ c.in-Some.end _ c.in-Some.is c.in_ok-end.ensures.line in
-    no_head (held_in c.hold_line.new.self) _ c.in-Some.end line
-    (subst (λ xs. (head : Head) → IsLegal head → take c.in-Some.end xs ≢ head_line head) c.bytes.ensures c.in_default-parse_line.ensures.other)
+    no_head c.args.receivers (held_in c.hold_line.new.self) _ c.in-Some.end line
+    (subst (λ xs. (head : Head) → IsLegal c.args.receivers head → take c.in-Some.end xs ≢ head_line head) c.bytes.ensures c.in_default-parse_line.ensures.other)
 
 pub overflow_add-line : goal.overflow_add-line
 overflow_add-line g c =
@@ -63,7 +63,7 @@ returns-then-not-branch-clause-found g c =
     let line = Line-of held _ end _ c.in-Some.is c.in_ok-end.ensures.line in
     let same : take end held ≡ head_line head = ap (take end) (sym c.bytes.ensures) ∙ c.in-Some-parse_line.ensures.head.0 in
     let front = BeginsWithLine-grown held end head line same new c.in_ok-body_follows.ensures.grows in
-    no_body new _ head c.in-Some-parse_line.ensures.head.1 front
+    no_body c.args.receivers new _ head c.in-Some-parse_line.ensures.head.1 front
     (rw (length-found held end head line same) at (rw c.if-not-branch.true at c.in_ok-body_follows.ensures.body))
 
 pub returns-clause-found : goal.returns-clause-found
@@ -91,5 +91,8 @@ returns-in_err-body_follows-clause-asked g c =
     let same : take end held ≡ head_line head = ap (take end) (sym c.bytes.ensures) ∙ c.in-Some-parse_line.ensures.head.0 in
     let failed = err_from_is_err_and c.from_residual-in_err-body_follows.result c.from_residual-in_err-body_follows.ensures.1 in
     rw failed.1
-    (part_of_packet head (end + 1) new c.in-Some-parse_line.ensures.head.1 (length-found held end head line same)
+    (part_of_packet c.args.receivers head (end + 1) new c.in-Some-parse_line.ensures.head.1 (length-found held end head line same)
     (BeginsWithLine-grown held end head line same new c.in_err-body_follows.ensures.grows) c.in_err-body_follows.ensures.asked)
+
+pub body_follows-requires-clause-short : goal.body_follows-requires-clause-short
+body_follows-requires-clause-short g c = short_body c.args.receivers c.in-Some-parse_line.head c.in-Some-parse_line.ensures.head.1

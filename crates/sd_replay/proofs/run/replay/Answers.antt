@@ -1,154 +1,172 @@
-use Rattle.std.proofs.Common.{◌≡◌, ◌≤◌, ℕ, List, [], ◌∷◌, ◌++◌, sym, subst, ap, ◌∙◌, refl, arith}
-use Rattle.std.specs.Prelude.{IfSome}
+use Rattle.std.proofs.Common.{◌≡◌, ◌≤◌, ◌<◌, ℕ, ◌^◌, List, [], ◌∷◌, ◌++◌, sym, subst, ap, ◌∙◌, refl, arith}
+use Rattle.sd_model_outside.specs.Outside.{Object, Used, Rose, HasFailedBehind, given, put_back}
+use Rattle.sd_model_outside.proofs.OutsideLemmas.{Reads-append, Reads-nil}
+use Rattle.sd_model_text.specs.Lines.{samples_of}
+use Rattle.sd_model_shard.specs.Shard.{Limits, Policy, State, after_swap, table_of}
 use Rattle.sd_model_record.specs.Desk.{Desk, with_tally}
-use Rattle.sd_model_outside.specs.Outside.{Rose, appended}
 use Rattle.sd_model_record.specs.Graphite.{graphite_text}
 use Rattle.sd_model_record.specs.Record.{record_of}
-use Rattle.sd_model_text.specs.Lines.{samples_of}
-use Rattle.sd_model_replay.specs.Replay.{AfterMark, FaultsAfter, PlayedFlush, PlayedPacket, Run, default_settings, packet_tally, totals_of, totals_text}
-use Rattle.sd_model_replay.specs.Script.{BeginsBuilt, end_word}
+use Rattle.sd_model_replay.specs.Backends.{AfterMark}
+use Rattle.sd_model_replay.specs.Replay.{packet_tally}
+use Rattle.sd_model_replay.specs.Script.{Packet, Flush, MayStandNext, Unbuilt, IsBuilt, IsDecided, IsUndecided, end_word}
+use Rattle.sd_model_replay.specs.Totals.{totals_text}
 use Rattle.sd_model_replay.specs.AccountingTheorem.{Seen}
-use Rattle.sd_model_replay.specs.Run.{Replayed}
-use Rattle.sd_model_shard.specs.Shard.{Limits, State, after_samples, after_swap, answers_to, drops, table_of}
-use Rattle.sd_model_outside.proofs.OutsideLemmas.{Reads-append}
-use Rattle.sd_outside.specs.Write.{AppendsFront}
+use Rattle.sd_model_replay.specs.Ends.{Replayed, Complete, NotBuilt, ReadFailed, WriteFailed, WornOut}
+use Rattle.sd_record.specs.Record.{plan_of}
+use Rattle.sd_shard.specs.Limits.{limits_of, policy_of}
 use Rattle.sd_shard.specs.Shard.{Standing, state_of}
 use Rattle.sd_replay.specs.Ends.{end_of}
+use Rattle.sd_replay.specs.Filed.{filed, lost}
 use Rattle.sd_replay.specs.Marks.{mark_of, marks_of}
 use Rattle.sd_replay.specs.Reading.{left}
 use Rattle.sd_replay.specs.Reads.{ReadsItem}
 use Rattle.sd_replay.specs.Room.{IsSpareFor}
-use Rattle.sd_replay.specs.Totals.{totals_view}
+use Rattle.sd_replay.specs.Seen.{seen_of}
+use Rattle.sd_replay.specs.Totals.{totals_of_one, totals_view}
+use Rattle.sd_outside.specs.declared.backend.Backs.{Backs}
 use Rattle.sd_replay.specs.declared.reader.Item.{Item}
-use Rattle.sd_replay.proofs.PlayLemmas.{Progress, nothing_ahead, nothing_played, completes, writes_part, finds_unbuilt, fails_to_read, wears_out, packet_more, flush_more}
+use Rattle.sd_replay.proofs.PlayLemmas.{completes, writes_part, finds_unbuilt, fails_to_read, wears_out, packet_more, flush_more}
 use Rattle.sd_replay.proofs.run.replay.Goals as goal
 use Rattle.sd_replay.proofs.run.replay.Goals.{in-Ok-finish, in-Err, in-Packet, in-Flush}
 
-pub loop-turn-init : goal.loop-turn-init
-loop-turn-init g c =
-    let room = c.room.inside in
-    let script = g.R.Source.remaining c.args.script.now in
-    let graphite = g.B.Sink.written c.args.graphite.now in
-    let faults = g.B.Faulty.faults c.args.graphite.now in (
-      record {
-        progress = subst (λ o. Progress script o graphite graphite faults faults (state_of room.shard) room.desk room.reader.at 0) (sym (nothing_ahead room.reader script c.room.invariant.pending))
-            (nothing_played script graphite faults (state_of room.shard) room.desk room.reader.at c.room.invariant.state c.room.invariant.desk c.room.invariant.start);
-        limits = c.room.invariant.limits;
-        policy = c.room.invariant.policy;
-        spare = c.room.invariant.spare;
-        room = c.room.invariant.scratch;
-      },
-      refl,
-      omega arith,
-      refl,
-      refl,
-      refl,
-    )
-
-pub returns-in-End-clause-end : goal.returns-in-End-clause-end
-returns-in-End-clause-end g c =
-    let so_far = c.loop-turn.invariant.0.progress in
-    let reads = subst (λ item. ReadsItem item c.loop-turn.reader (g.R.Source.remaining c.loop-turn.script) c.next.new.self (g.R.Source.remaining c.next.new.script)) c.in-End.is c.in-Ok.ensures.item in
-    let same : c.loop-turn.output ≡ c.args.output.now = c.loop-turn.invariant.5 in
-    let ahead = end_word ++ c.next.new.self.pending in
-    let behind = Reads-append _ _ (g.R.Source.remaining c.next.new.script) end_word c.next.new.self.pending reads.taken.left refl in
-    let run : Run = record { shard = state_of c.loop-turn.shard; desk = c.loop-turn.desk } in
-    let script_faults : g.R.Faulty.faults c.next.new.script ≡ g.R.Faulty.faults c.args.script.now = c.in-Ok.ensures.steady ∙ c.loop-turn.invariant.1 in
-    let was : Seen =
-    record {
-      script = g.R.Source.remaining c.args.script.now;
-      script_faults = g.R.Faulty.faults c.args.script.now;
-      graphite = g.B.Sink.written c.args.graphite.now;
-      graphite_faults = g.B.Faulty.faults c.args.graphite.now;
-      output = g.O.Sink.written c.args.output.now;
-      output_faults = g.O.Faulty.faults c.args.output.now;
-    } in
-    let is : Seen =
-    record {
-      script = g.R.Source.remaining c.next.new.script;
-      script_faults = g.R.Faulty.faults c.next.new.script;
-      graphite = g.B.Sink.written c.loop-turn.graphite;
-      graphite_faults = g.B.Faulty.faults c.loop-turn.graphite;
-      output = g.O.Sink.written c.finish.new.output;
-      output_faults = g.O.Faulty.faults c.finish.new.output;
-    } in
-    elim c.match-finish.branch [
-      | in-Ok-finish w ↦ subst (λ r. Replayed (end_of r) was is) (sym w.result-is)
-          (completes was is _ _ _ _ _ so_far ahead behind script_faults (totals_view w.in-Ok-finish.totals) c.next.new.self.pending c.loop-turn-test.true refl w.in-Ok-finish.ensures.totals
-          (subst (λ o. g.O.Sink.written c.finish.new.output ≡ appended (g.O.Sink.written o) (totals_text (totals_view w.in-Ok-finish.totals))) same w.in-Ok-finish.ensures.written)
-          (w.in-Ok-finish.ensures.steady ∙ ap (λ o. g.O.Faulty.faults o) same))
-      | in-Err w ↦ subst (λ r. Replayed (end_of r) was is) (sym w.result-is)
-          (writes_part was is _ _ _ _ _ so_far ahead behind script_faults c.next.new.self.pending c.loop-turn-test.true refl
-          (subst (λ o. Rose (g.O.Faulty.faults o) (g.O.Faulty.faults c.finish.new.output)) same w.in-Err.ensures.failed)
-          (subst (λ o. AppendsFront (g.O.Sink.written o) (totals_text (totals_of run)) (g.O.Sink.written c.finish.new.output)) same w.in-Err.ensures.front))
-    ]
+-- the script was used since the replay began
+used_since : (first now next : Object) → now.faults ≡ first.faults → now.opened_at ≡ first.opened_at → Used now next → Used first next
+used_since first now next faults place used = record { faults = omega (arith, faults, used.faults); opened_at = used.opened_at ∙ place }
 
 pub returns-in_default-clause-end : goal.returns-in_default-clause-end
 returns-in_default-clause-end g c =
-    fails_to_read _ _ _ _ _ _ _ c.loop-turn.invariant.0.progress c.next.new.self.pending (sym c.in_default.ensures.stays.left) c.loop-turn-test.true c.in_default.ensures.asked
-    (omega (arith, c.in_default.ensures.failed, c.loop-turn.invariant.1)) (ap (λ o. g.O.Sink.written o) c.loop-turn.invariant.5) (ap (λ o. g.O.Faulty.faults o) c.loop-turn.invariant.5)
+    let settings = c.room.inside.settings in
+    let stands = c.loop-turn.invariant.0 in
+    let seen : _ → _ → _ → Seen = seen_of g.R.Faulty.seen g.O.Faulty.seen g.B.Faulty.seen in
+    let old = seen c.args.script.now c.args.output.now c.args.backs.now in
+    let new = seen c.next.new.script c.loop-turn.output c.loop-turn.backs in
+    let pending = c.next.new.self.pending in
+    subst (λ s. Replayed s ReadFailed old new) c.room.view_is
+    (fails_to_read settings old new _ _ _ _ _ stands.progress pending (sym c.in_default.ensures.stays.left) (ap g.B.Faulty.seen c.loop-turn.invariant.2)
+    (used_since old.script (g.R.Faulty.seen c.loop-turn.script) new.script stands.faults stands.place c.in_default.ensures.used)
+    (g.met.O.Sink.number_fits c.args.output.now) c.loop-turn-test.true (subst (λ n. IsUndecided n pending) stands.receivers c.in_default.ensures.asked)
+    (subst (λ n. Rose n new.script.faults) stands.faults c.in_default.ensures.failed) (ap g.O.Faulty.seen c.loop-turn.invariant.1))
+
+pub returns-in-End-clause-end : goal.returns-in-End-clause-end
+returns-in-End-clause-end g c =
+    let settings = c.room.inside.settings in
+    let stands = c.loop-turn.invariant.0 in
+    let seen : _ → _ → _ → Seen = seen_of g.R.Faulty.seen g.O.Faulty.seen g.B.Faulty.seen in
+    let old = seen c.args.script.now c.args.output.now c.args.backs.now in
+    let new = seen c.next.new.script c.finish.new.output c.loop-turn.backs in
+    let pending = c.next.new.self.pending in
+    let told = new.script.told in
+    let state = state_of c.loop-turn.shard in
+    let reads = subst (λ item. ReadsItem item c.loop-turn.reader (g.R.Faulty.seen c.loop-turn.script).told c.next.new.self told) c.in-End.is c.in-Ok.ensures.item in
+    let behind = Reads-append _ (put_back pending told) told end_word pending reads.stands.1 refl in
+    let console = ap g.B.Faulty.seen c.loop-turn.invariant.2 in
+    let used = used_since old.script (g.R.Faulty.seen c.loop-turn.script) new.script stands.faults stands.place c.in-Ok.ensures.used in
+    let faults : new.script.faults ≡ old.script.faults = c.in-Ok.ensures.steady ∙ stands.faults in
+    let same = ap g.O.Faulty.seen c.loop-turn.invariant.1 in
+    elim c.match-finish.branch [
+      | in-Ok-finish w ↦ subst (λ r. Replayed c.args.room (end_of r) old new) (sym w.result-is)
+          (subst (λ s. Replayed s (Complete (totals_view w.in-Ok-finish.totals)) old new) c.room.view_is
+          (completes settings old new _ _ _ _ _ stands.progress (end_word ++ pending) behind console used faults (totals_view w.in-Ok-finish.totals) pending c.loop-turn-test.true refl
+          w.in-Ok-finish.ensures.totals (w.in-Ok-finish.ensures.written ∙ ap (given (totals_text (totals_view w.in-Ok-finish.totals))) same)))
+      | in-Err w ↦ subst (λ r. Replayed c.args.room (end_of r) old new) (sym w.result-is)
+          (subst (λ s. Replayed s WriteFailed old new) c.room.view_is
+          (writes_part settings old new _ _ _ _ _ stands.progress (end_word ++ pending) behind console used faults pending c.loop-turn-test.true refl
+          (subst (λ (o : Object). HasFailedBehind (totals_text (totals_of_one state c.loop-turn.desk)) o new.output) same w.in-Err.ensures.failed)))
+    ]
 
 pub returns-in-Unbuilt-clause-end : goal.returns-in-Unbuilt-clause-end
 returns-in-Unbuilt-clause-end g c =
-    let reads = subst (λ item. ReadsItem item c.loop-turn.reader (g.R.Source.remaining c.loop-turn.script) c.next.new.self (g.R.Source.remaining c.next.new.script)) c.in-Unbuilt.is c.in-Ok.ensures.item in
-    finds_unbuilt _ _ _ _ _ _ _ c.loop-turn.invariant.0.progress c.next.new.self.pending (sym reads.stays.left) (c.in-Ok.ensures.steady ∙ c.loop-turn.invariant.1) _ (c.at.ensures ∙ reads.stays.at) c.loop-turn-test.true reads.decided
-    (subst (λ o. IfSome o (λ bytes. ¬ BeginsBuilt bytes)) (sym reads.stays.left) reads.unbuilt) (ap (λ o. g.O.Sink.written o) c.loop-turn.invariant.5) (ap (λ o. g.O.Faulty.faults o) c.loop-turn.invariant.5)
+    let settings = c.room.inside.settings in
+    let stands = c.loop-turn.invariant.0 in
+    let seen : _ → _ → _ → Seen = seen_of g.R.Faulty.seen g.O.Faulty.seen g.B.Faulty.seen in
+    let old = seen c.args.script.now c.args.output.now c.args.backs.now in
+    let new = seen c.next.new.script c.loop-turn.output c.loop-turn.backs in
+    let pending = c.next.new.self.pending in
+    let told = new.script.told in
+    let reads = subst (λ item. ReadsItem item c.loop-turn.reader (g.R.Faulty.seen c.loop-turn.script).told c.next.new.self told) c.in-Unbuilt.is c.in-Ok.ensures.item in
+    let behind = reads.stands.1 ∙ sym (Reads-nil (put_back pending told)) in
+    subst (λ s. Replayed s (NotBuilt c.at.result) old new) c.room.view_is
+    (finds_unbuilt settings old new _ _ _ _ _ stands.progress pending behind (ap g.B.Faulty.seen c.loop-turn.invariant.2)
+    (used_since old.script (g.R.Faulty.seen c.loop-turn.script) new.script stands.faults stands.place c.in-Ok.ensures.used)
+    (c.in-Ok.ensures.steady ∙ stands.faults) c.at.result (g.met.O.Sink.number_fits c.args.output.now) (c.at.ensures ∙ reads.at) c.loop-turn-test.true
+    (subst (λ n. IsDecided n pending told) stands.receivers reads.decides)
+    (subst (λ n. MayStandNext n Unbuilt (put_back pending told)) stands.receivers (subst (MayStandNext c.loop-turn.reader.receivers Unbuilt) behind reads.stands.0))
+    (ap g.O.Faulty.seen c.loop-turn.invariant.1))
 
 pub returns-clause-end : goal.returns-clause-end
 returns-clause-end g c =
-    wears_out _ _ _ _ _ _ _ c.loop-turn.invariant.0.progress c.loop-turn.reader.pending refl c.loop-turn.invariant.1 _ refl (omega arith) (ap (λ o. g.O.Sink.written o) c.loop-turn.invariant.5) (ap (λ o. g.O.Faulty.faults o) c.loop-turn.invariant.5)
+    let settings = c.room.inside.settings in
+    let stands = c.loop-turn.invariant.0 in
+    let seen : _ → _ → _ → Seen = seen_of g.R.Faulty.seen g.O.Faulty.seen g.B.Faulty.seen in
+    let old = seen c.args.script.now c.args.output.now c.args.backs.now in
+    let new = seen c.loop-turn.script c.loop-turn.output c.loop-turn.backs in
+    subst (λ s. Replayed s (WornOut (2 ^ 62)) old new) c.room.view_is
+    (wears_out settings old new _ _ _ _ _ stands.progress c.loop-turn.reader.pending refl (ap g.B.Faulty.seen c.loop-turn.invariant.2)
+    (record { faults = omega (arith, stands.faults); opened_at = stands.place }) stands.faults (2 ^ 62) (g.met.O.Sink.number_fits c.args.output.now) refl (omega arith)
+    (ap g.O.Faulty.seen c.loop-turn.invariant.1))
 
 pub loop-turn-preserved : goal.loop-turn-preserved
 loop-turn-preserved g c =
+    let settings = c.room.inside.settings in
     let stands = c.loop-turn.invariant.0 in
     let before = state_of c.loop-turn.shard in
-    let reads : Item → Type 0 = λ item. ReadsItem item c.loop-turn.reader (g.R.Source.remaining c.loop-turn.script) c.next.new.self (g.R.Source.remaining c.next.new.script) in
-    let script_faults : g.R.Faulty.faults c.next.new.script ≡ g.R.Faulty.faults c.args.script.now = c.in-Ok.ensures.steady ∙ c.loop-turn.invariant.1 in
-    let script_address : g.R.Faulty.opened_at c.next.new.script ≡ g.R.Faulty.opened_at c.args.script.now = c.next.ensures.address_stays ∙ c.loop-turn.invariant.3 in
+    let had = (g.R.Faulty.seen c.loop-turn.script).told in
+    let has = (g.R.Faulty.seen c.next.new.script).told in
+    let reads : Item → Type 0 = λ item. ReadsItem item c.loop-turn.reader had c.next.new.self has in
+    let faults = c.in-Ok.ensures.steady ∙ stands.faults in
+    let place = c.in-Ok.ensures.used.opened_at ∙ stands.place in
     elim c.match-item.branch [
       | in-Packet w ↦
           let read = subst reads w.in-Packet.is c.in-Ok.ensures.item in
-          let filed : Limits → List ℕ → State = λ limits bytes. after_samples limits w.in-Packet.who before (samples_of bytes) in
-          let tallied : Limits → List ℕ → Desk = λ limits bytes. with_tally c.loop-turn.desk (packet_tally bytes (drops (answers_to limits w.in-Packet.who before (samples_of bytes)))) in
-          let more = packet_more _ _ (left c.next.new.self (g.R.Source.remaining c.next.new.script)) _ _ (g.B.Sink.written c.match-item.graphite) _ _ (g.B.Faulty.faults c.match-item.graphite) _ (state_of c.match-item.shard) _ c.match-item.desk _ c.next.new.self.at _ stands.progress
-          (PlayedPacket w.in-Packet.who w.in-Packet.moment c.next.new.self.datagram) w.in-Packet.who w.in-Packet.moment c.next.new.self.datagram refl read.taken.left read.built
-          (ap state_of w.shard-is ∙ w.play_packet.ensures.state ∙ ap (λ limits. filed limits w.datagram.result.now) stands.limits ∙ ap (filed default_settings.limits) w.datagram.ensures)
-          (w.desk-is ∙ w.play_packet.ensures.desk ∙ ap (λ limits. tallied limits w.datagram.result.now) stands.limits ∙ ap (tallied default_settings.limits) w.datagram.ensures)
-          read.taken.at (ap (λ b. g.B.Sink.written b) w.graphite-is) (ap (λ b. g.B.Faulty.faults b) w.graphite-is) in (
+          let who = w.in-Packet.who in
+          let datagram = c.next.new.self.datagram in
+          let filing : Limits → Policy → List ℕ → State = λ limits policy bytes. filed limits policy who before (samples_of bytes) in
+          let tallied : Limits → Policy → List ℕ → Desk = λ limits policy bytes. with_tally c.loop-turn.desk (packet_tally bytes (lost limits policy who before (samples_of bytes))) in
+          let more = packet_more settings _ _ (left c.next.new.self has) _ _ (g.B.Faulty.seen c.match-item.backs.graphite) _ (state_of c.match-item.shard) _ c.match-item.desk _ c.next.new.self.at _ stands.progress
+          who w.in-Packet.moment datagram read.stands.1 (subst (λ n. IsBuilt n (Packet who w.in-Packet.moment datagram)) stands.receivers read.stands.0)
+          (ap state_of w.shard-is ∙ w.play_packet.ensures.state ∙ ap (λ limits. filing limits c.loop-turn.shard.policy w.datagram.result.now) stands.limits
+          ∙ ap (λ policy. filing (limits_of settings.limits) policy w.datagram.result.now) stands.policy ∙ ap (filing (limits_of settings.limits) (policy_of settings.policy)) w.datagram.ensures)
+          (w.desk-is ∙ w.play_packet.ensures.desk ∙ ap (λ limits. tallied limits c.loop-turn.shard.policy w.datagram.result.now) stands.limits
+          ∙ ap (λ policy. tallied (limits_of settings.limits) policy w.datagram.result.now) stands.policy ∙ ap (tallied (limits_of settings.limits) (policy_of settings.policy)) w.datagram.ensures)
+          read.at (ap (λ (b : Backs _). g.B.Faulty.seen b.graphite) w.backs-is) in (
             record {
               progress = more;
               limits = ap (λ (s : Standing). s.table.limits) w.shard-is ∙ w.play_packet.ensures.limits ∙ stands.limits;
               policy = ap (λ (s : Standing). s.policy) w.shard-is ∙ w.play_packet.ensures.policy ∙ stands.policy;
-              spare = subst (IsSpareFor default_settings.limits) (sym w.spare-is) stands.spare;
-              room = subst (λ s. default_settings.limits.rows ≤ s.room) (sym w.scratch-is) stands.room;
+              spare = subst (IsSpareFor (limits_of settings.limits)) (sym w.spare-is) stands.spare;
+              room = subst (λ s. settings.limits.rows ≤ s.room) (sym w.scratch-is) stands.room;
+              receivers = read.receivers ∙ stands.receivers;
+              faults = faults;
+              place = place;
             },
-            script_faults,
-            subst (λ b. g.B.Faulty.faults c.args.graphite.now ≤ g.B.Faulty.faults b) (sym w.graphite-is) c.loop-turn.invariant.2,
-            script_address,
-            ap (λ b. g.B.Faulty.opened_at b) w.graphite-is ∙ c.loop-turn.invariant.4,
-            c.loop-turn.invariant.5,
+            c.loop-turn.invariant.1,
+            ap (λ (b : Backs _). b.console) w.backs-is ∙ c.loop-turn.invariant.2,
+            ap (λ (b : Backs _). b.graphite_used) w.backs-is ∙ c.loop-turn.invariant.3,
+            ap (λ (b : Backs _). b.console_used) w.backs-is ∙ c.loop-turn.invariant.4,
           )
       | in-Flush w ↦
           let read = subst reads w.in-Flush.is c.in-Ok.ensures.item in
-          let text = graphite_text (record_of default_settings.interval_ms (table_of before ∷ []) c.loop-turn.desk.tally w.in-Flush.ts) in
+          let plan = plan_of settings.interval_ms in
+          let text = graphite_text (record_of plan (table_of before ∷ []) c.loop-turn.desk.tally w.in-Flush.ts) in
           let marks = marks_of w.flush-flushed.result.marks in
-          let more = flush_more _ _ (left c.next.new.self (g.R.Source.remaining c.next.new.script)) _ _ (g.B.Sink.written c.match-item.graphite) _ _ (g.B.Faulty.faults c.match-item.graphite) _ (state_of c.match-item.shard) _ c.match-item.desk _ c.next.new.self.at _ stands.progress
-          (PlayedFlush w.in-Flush.ts marks) w.in-Flush.ts marks refl read.taken.left read.built w.flush-flushed.ensures.used (ap mark_of w.flush-flushed.ensures.console)
-          (subst (AfterMark marks.graphite text (g.B.Sink.written c.loop-turn.graphite)) (ap (λ b. g.B.Sink.written b) (sym w.graphite-is)) w.flush-flushed.ensures.text)
+          let more = flush_more settings _ _ (left c.next.new.self has) _ _ (g.B.Faulty.seen c.match-item.backs.graphite) _ (state_of c.match-item.shard) _ c.match-item.desk _ c.next.new.self.at _ stands.progress
+          w.in-Flush.ts marks read.stands.1 (subst (λ n. IsBuilt n (Flush w.in-Flush.ts)) stands.receivers read.stands.0) w.flush-flushed.ensures.used (ap mark_of w.flush-flushed.ensures.console)
+          (subst (AfterMark marks.graphite text (g.B.Faulty.seen c.loop-turn.backs.graphite)) (ap (λ (b : Backs _). g.B.Faulty.seen b.graphite) (sym w.backs-is)) w.flush-flushed.ensures.delivery)
           (ap state_of w.shard-is ∙ w.flush-flushed.ensures.state ∙ ap (λ policy. after_swap policy before) stands.policy)
-          (w.desk-is ∙ w.flush-flushed.ensures.desk) read.taken.at
-          (subst (λ b. FaultsAfter marks.graphite (g.B.Faulty.faults c.loop-turn.graphite) (g.B.Faulty.faults b)) (sym w.graphite-is) w.flush-flushed.ensures.faults) in (
+          (w.desk-is ∙ w.flush-flushed.ensures.desk) read.at in (
             record {
               progress = more;
               limits = ap (λ (s : Standing). s.table.limits) w.shard-is ∙ w.flush-flushed.ensures.limits ∙ stands.limits;
               policy = ap (λ (s : Standing). s.policy) w.shard-is ∙ w.flush-flushed.ensures.policy ∙ stands.policy;
-              spare = subst (IsSpareFor default_settings.limits) (sym w.spare-is) (subst (λ limits. IsSpareFor limits w.flush-flushed.result.spare) stands.limits w.flush-flushed.ensures.spare);
-              room = subst (λ s. default_settings.limits.rows ≤ s.room) (sym w.scratch-is) (omega (arith, stands.room, w.flush-flushed.ensures.room));
+              spare = subst (IsSpareFor (limits_of settings.limits)) (sym w.spare-is) (subst (λ limits. IsSpareFor limits w.flush-flushed.result.spare) stands.limits w.flush-flushed.ensures.spare);
+              room = subst (λ s. settings.limits.rows ≤ s.room) (sym w.scratch-is) (omega (arith, stands.room, w.flush-flushed.ensures.room));
+              receivers = read.receivers ∙ stands.receivers;
+              faults = faults;
+              place = place;
             },
-            script_faults,
-            subst (λ b. g.B.Faulty.faults c.args.graphite.now ≤ g.B.Faulty.faults b) (sym w.graphite-is) (omega (arith, c.loop-turn.invariant.2, w.flush-flushed.ensures.faults_stay)),
-            script_address,
-            ap (λ b. g.B.Faulty.opened_at b) w.graphite-is ∙ w.flush-flushed.ensures.address_stays ∙ c.loop-turn.invariant.4,
-            c.loop-turn.invariant.5,
+            c.loop-turn.invariant.1,
+            ap (λ (b : Backs _). b.console) w.backs-is ∙ c.loop-turn.invariant.2,
+            ap (λ (b : Backs _). b.graphite_used) w.backs-is ∙ c.loop-turn.invariant.3,
+            ap (λ (b : Backs _). b.console_used) w.backs-is ∙ c.loop-turn.invariant.4,
           )
     ]

@@ -1,7 +1,7 @@
 use Rattle.std.proofs.Common.{◌≡◌, ℕ, ◌+◌, ◌*◌, ◌^◌, ◌≤◌, ℤ, ◌+ℤ◌, List, length, drop, map, fold}
 use Rattle.std.specs.Prelude.{unsigned_abs}
-use Rattle.sd_model_text.specs.Numbers.{weight}
-use Rattle.sd_model_shard.specs.Shard.{RowId, entries_of, counter_value}
+use Rattle.sd_model_shard.specs.Shard.{RowId}
+use Rattle.sd_model_shard.specs.Statistics.{entries_of, sample_weight, weight_of}
 use Rattle.sd_shard.specs.Table.{id_of, entry_view}
 use Rattle.sd_shard.specs.declared.table.Entry.{Entry}
 use Rattle.sd_shard.proofs.table.tally_of.Given as goal
@@ -9,7 +9,7 @@ use Rattle.sd_shard.proofs.table.tally_of.Given as goal
 -- the tally so far and the entries that are left make the whole
 pub record Counts (samples : ℕ) (sum : ℤ) (id : RowId) (index : ℕ) (entries : List Entry) : Type 0 where
   pub count : samples + length (entries_of id (map entry_view (drop index entries))) ≡ length (entries_of id (map entry_view entries))
-  pub weights : fold ◌+ℤ◌ sum (map (λ e. weight e.sample.value e.sample.rate) (entries_of id (map entry_view (drop index entries)))) ≡ counter_value id (map entry_view entries)
+  pub weights : fold ◌+ℤ◌ sum (map (λ e. sample_weight id.kind e.sample) (entries_of id (map entry_view (drop index entries)))) ≡ weight_of id (map entry_view entries)
   pub few : samples ≤ index
   pub small : unsigned_abs sum ≤ samples * 10 ^ 24
 

@@ -1,5 +1,7 @@
-use Rattle.std.proofs.Common.{arith, length, drop, ◌≡◌, ◌∙◌, length-append, length-take-le, refl}
+use Rattle.std.proofs.Common.{arith, length, drop, ℕ, List, min, ap, ◌≡◌, ◌∙◌, length-append, length-take-le}
 use Rattle.std.proofs.lemmas.List.{take_rest, drop_at}
+use Rattle.sd_model_outside.specs.Outside.{Left, last_count}
+use Rattle.sd_outside.specs.Places.{last_place}
 use Rattle.sd_outside.proofs.ReadLemmas.{take-copied}
 use Rattle.sd_outside.proofs.mem_source.MemSourceSource.read.Goals as goal
 
@@ -14,7 +16,6 @@ returns-clause-gives c =
     record {
       count = omega (arith, count);
       within = omega (arith, length-append c.copy_from_slice.new.self rest);
-      content = take-copied s.bytes.items rest _ s.taken n is fits;
+      content = ap (λ (bytes : List ℕ). record { told = Left bytes; faults = min s.faults last_count; opened_at = last_place s.opened_at }) (take-copied s.bytes.items rest _ s.taken n is fits);
       rest = drop_at _ rest n fits;
-      faults = refl;
     }

@@ -1,7 +1,7 @@
-use Rattle.std.proofs.Common.{◌≤◌, take, length, arith, ap, ◌∙◌}
+use Rattle.std.proofs.Common.{◌≤◌, List, ℕ, take, length, arith, ap, ◌∙◌}
 use Rattle.std.proofs.lemmas.List.{length-take-le}
 use Rattle.std.proofs.lemmas.Result.{err_from_is_err_and}
-use Rattle.sd_replay.specs.Ahead.{left_behind}
+use Rattle.sd_model_outside.specs.Outside.{Object, put_back}
 use Rattle.sd_replay.proofs.AheadLemmas.{ahead-kept, ahead-grown, left-reads}
 use Rattle.sd_replay.proofs.ahead.Ahead.ask.Goals as goal
 
@@ -11,7 +11,7 @@ returns-in_err-count-clause-left_stays g c =
     let xs = c.deref_mut.result.now in
     let inside : a.end ≤ length xs = omega (arith, c.deref_mut.ensures.len, a.full, c.requires) in
     let kept = ahead-kept a.room xs c.read.new.buf a.start a.end c.deref_mut.ensures.value c.deref_mut.ensures.len a.ordered inside c.read.auto.buf in
-    rw c.in_err-count.ensures.kept (ap (λ held. left_behind held (g.R.Source.remaining c.args.script.now)) kept)
+    ap (put_back _) c.in_err-count.ensures.failed.told ∙ ap (λ (held : List ℕ). put_back held (g.R.Faulty.seen c.args.script.now).told) kept
 
 pub returns-in_err-count-clause-kept : goal.returns-in_err-count-clause-kept
 returns-in_err-count-clause-kept g c =
@@ -35,5 +35,5 @@ returns-clause-grows g c =
 pub returns-clause-left_stays : goal.returns-clause-left_stays
 unfolding returns-clause-grows
 returns-clause-left_stays g c =
-    ap (λ held. left_behind held (g.R.Source.remaining c.read.new.self)) (returns-clause-grows g c).2
-    ∙ left-reads _ (take c.in_ok-count.count c.read.new.buf) _ _ c.in_ok-count.ensures.next
+    ap (λ (held : List ℕ). put_back held (g.R.Faulty.seen c.read.new.self).told) (returns-clause-grows g c).2
+    ∙ left-reads _ (take c.in_ok-count.count c.read.new.buf) _ _ (ap (λ (o : Object). o.told) c.in_ok-count.ensures.next)

@@ -1,13 +1,14 @@
 use Rattle.std.proofs.Common.{◌≡◌, ◌-◌, length}
-use Rattle.sd_replay.specs.Ahead.{held_in, left_behind, Grows}
+use Rattle.sd_model_outside.specs.Outside.{put_back}
+use Rattle.sd_replay.specs.Ahead.{held_in, Grows}
 use Rattle.sd_replay.proofs.ahead.Ahead.hold.Given as goal
 
 abbrev pub invariant-loop-self : goal.invariant-loop-self
 invariant-loop-self g l = record {
   grows : Grows (held_in l.initial.self) (held_in l.self);
-  left : left_behind (held_in l.self) (g.R.Source.remaining l.script) ≡ left_behind (held_in l.initial.self) (g.R.Source.remaining l.initial.script);
-  faults : g.R.Faulty.faults l.script ≡ g.R.Faulty.faults l.initial.script;
-  address : g.R.Faulty.opened_at l.script ≡ g.R.Faulty.opened_at l.initial.script;
+  left : put_back (held_in l.self) (g.R.Faulty.seen l.script).told ≡ put_back (held_in l.initial.self) (g.R.Faulty.seen l.initial.script).told;
+  faults : (g.R.Faulty.seen l.script).faults ≡ (g.R.Faulty.seen l.initial.script).faults;
+  place : (g.R.Faulty.seen l.script).opened_at ≡ (g.R.Faulty.seen l.initial.script).opened_at;
 }
 
 abbrev pub decreases-loop-self : goal.decreases-loop-self

@@ -1,6 +1,7 @@
 use Rattle.std.proofs.Common.{◌≡◌, [], ◌++◌, inl, arith, length, length-take, subst, ap, ◌∙◌}
 use Rattle.std.proofs.lemmas.List.{nil_from_length, append-nil}
 use Rattle.sd_replay.specs.Fields.{Lacks, IsFirstPlace}
+use Rattle.sd_model_outside.specs.Outside.{left_in}
 use Rattle.sd_replay.specs.Ahead.{held_in}
 use Rattle.sd_replay.proofs.AheadLemmas.{take-front, Lacks-enough, Lacks-end}
 use Rattle.sd_replay.proofs.BuiltLemmas.{forty_decided}
@@ -15,7 +16,7 @@ pub returns-then-front-eq-LINE-clause-line : goal.returns-then-front-eq-LINE-cla
 returns-then-front-eq-LINE-clause-line g c =
     let held = held_in c.loop-place.self in
     let front = take-front c.bytes-bytes.result.now held 40 c.min.result c.bytes-bytes.ensures c.min.ensures in
-    Lacks-enough 10 40 held (g.R.Source.remaining c.loop-place.script) (subst (Lacks 10) front c.in_default.ensures)
+    Lacks-enough 10 40 held (left_in (g.R.Faulty.seen c.loop-place.script).told) (subst (Lacks 10) front c.in_default.ensures)
     (omega (arith, ap length front, length-take 40 held))
 
 pub returns-then-branch-eq0-clause-line : goal.returns-then-branch-eq0-clause-line
@@ -31,4 +32,4 @@ pub returns-then-front-eq-LINE-clause-decided : goal.returns-then-front-eq-LINE-
 returns-then-front-eq-LINE-clause-decided g c =
     let held = held_in c.loop-place.self in
     let front = take-front c.bytes-bytes.result.now held 40 c.min.result c.bytes-bytes.ensures c.min.ensures in
-    inl (forty_decided held (omega (arith, ap length front, length-take 40 held)) (subst (Lacks 10) front c.in_default.ensures))
+    λ receivers. inl (forty_decided receivers held (omega (arith, ap length front, length-take 40 held)) (subst (Lacks 10) front c.in_default.ensures))

@@ -1,12 +1,13 @@
 use Rattle.std.proofs.Common.{◌≡◌, ◌-◌, length}
-use Rattle.sd_replay.specs.Ahead.{held_in, left_behind}
+use Rattle.sd_model_outside.specs.Outside.{put_back}
+use Rattle.sd_replay.specs.Ahead.{held_in}
 use Rattle.sd_replay.proofs.ahead.Ahead.hold_line.Given as goal
 
 abbrev pub invariant-loop-place : goal.invariant-loop-place
 invariant-loop-place g l = record {
-  left : left_behind (held_in l.self) (g.R.Source.remaining l.script) ≡ left_behind (held_in l.initial.self) (g.R.Source.remaining l.initial.script);
-  faults : g.R.Faulty.faults l.script ≡ g.R.Faulty.faults l.initial.script;
-  address : g.R.Faulty.opened_at l.script ≡ g.R.Faulty.opened_at l.initial.script;
+  left : put_back (held_in l.self) (g.R.Faulty.seen l.script).told ≡ put_back (held_in l.initial.self) (g.R.Faulty.seen l.initial.script).told;
+  faults : (g.R.Faulty.seen l.script).faults ≡ (g.R.Faulty.seen l.initial.script).faults;
+  place : (g.R.Faulty.seen l.script).opened_at ≡ (g.R.Faulty.seen l.initial.script).opened_at;
 }
 
 abbrev pub decreases-loop-place : goal.decreases-loop-place

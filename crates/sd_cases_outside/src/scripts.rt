@@ -1,0 +1,110 @@
+ghost use Rattle.std.specs.Prelude.{◌<◌};
+
+use sd_case::{Answer, Refusal, bytes_of, number};
+use sd_outside::{Address, Failed, Faulty, MemSource, OpenRefusal, Opens, Source};
+use sd_replay::{Item, Reader};
+use std::alloc::Global;
+
+/// How many receivers the scripts of cases have.
+const RECEIVERS: u16 = 2;
+
+/// A source in memory that gives at most so many bytes a call.
+#[derive(Drop)]
+struct SlowSource {
+    source: MemSource,
+    most: usize,
+    ghost some: { 0 < most },
+}
+
+impl Faulty for SlowSource {
+    ghost seen = { λ s. ⟦<MemSource as Faulty>⟧.seen s.source };
+
+    ghost faults_fit = { λ s. ⟦<MemSource as Faulty>⟧.faults_fit s.source };
+}
+
+impl Opens for SlowSource {
+    fn open_at(&mut self, at: &Address) -> Result<(), OpenRefusal> {
+        self.source.open_at(at)
+    }
+}
+
+impl Source for SlowSource {
+    fn read(&mut self, buf: &mut [u8]) -> Result<usize, Failed> {
+        let count = self.most.min(buf.len());
+        self.source.read(&mut buf[..count])
+    }
+}
+
+/// Appends what stands next, the place behind it, and the datagram, where it is a packet.
+fn show_next(item: Result<Item, Failed>, reader: &Reader, out: &mut Answer) {
+    match item {
+        Ok(Item::Packet { who, moment }) => {
+            out.count("packet ", u64::from(who));
+            out.count(" ", moment);
+        }
+        Ok(Item::Flush { ts }) => out.count("flush ", ts),
+        Ok(Item::End) => out.text("end"),
+        Ok(Item::Unbuilt) => out.text("unbuilt"),
+        Err(Failed) => out.text("failed"),
+    }
+    out.count(" at ", reader.at());
+    out.text(" ");
+    out.bytes(reader.datagram());
+    out.text("; ");
+}
+
+/// Carries out a step of a reader over a script.
+fn step(
+    reader: &mut Reader,
+    source: &mut SlowSource,
+    step: &str,
+    out: &mut Answer,
+) -> Result<(), Refusal> {
+    if step != "next" {
+        return Err(Refusal::Malformed);
+    }
+    let item = reader.next(source);
+    show_next(item, reader, out);
+    Ok(())
+}
+
+/// The source of a script: `by=MOST` or `by=all`, and `fail=CALL` or `fail=none`.
+fn source_of(alloc: Global, script: &str, most: &str, call: &str) -> Result<SlowSource, Refusal> {
+    let mut source = MemSource::of(bytes_of(alloc, script)?);
+    if call != "fail=none" {
+        let call = call.strip_prefix("fail=").ok_or(Refusal::Malformed)?;
+        source.fail_call.push(number(call)?)?;
+    }
+    let most = most_of(most)?;
+    if most == 0 {
+        return Err(Refusal::Condition);
+    }
+    Ok(SlowSource { source, most })
+}
+
+/// How many bytes a call gives at most.
+fn most_of(word: &str) -> Result<usize, Refusal> {
+    if word == "by=all" {
+        return Ok(usize::MAX);
+    }
+    number(word.strip_prefix("by=").ok_or(Refusal::Malformed)?)
+}
+
+/// `reader SCRIPT by=MOST fail=CALL STEPS`: what each `next` of a reader answers, over a source that gives at most
+/// so many bytes a call, and of which a call fails; and what the source has left in the end.
+pub(crate) fn steps_of_reader(
+    alloc: Global,
+    source: &[&str; 3],
+    steps: &[&str],
+    out: &mut Answer,
+) -> Result<(), Refusal> {
+    let [script, most, call] = *source;
+    let mut source = source_of(alloc, script, most, call)?;
+    let mut reader = Reader::open(alloc, RECEIVERS)?;
+    for word in steps {
+        step(&mut reader, &mut source, word, out)?;
+    }
+    out.text("left ");
+    out.bytes(source.source.remaining());
+    Ok(())
+}

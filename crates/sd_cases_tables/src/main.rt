@@ -1,0 +1,32 @@
+//! Cases of tables: reads a call and its arguments from each line, makes the call on a shard or a table, and prints the
+//! line with its answer.
+#![tactic(auto)]
+
+mod samples;
+mod shards;
+mod tables;
+
+use sd_case::{Answer, Refusal, answer_cases};
+use std::alloc::Global;
+use std::io;
+
+/// Makes the call of a case.
+fn call(alloc: Global, words: &[&str], out: &mut Answer) -> Result<(), Refusal> {
+    match words {
+        ["shard", limits, kinds, steps @ ..] => {
+            shards::steps_on_shard(alloc, limits, kinds, steps, out)
+        }
+        ["table", limits, interval, ts, tally, steps @ ..] => {
+            tables::steps_on_table(alloc, limits, &[interval, ts, tally], steps, out)
+        }
+        ["goes_idle", kinds, kind] => {
+            out.text(" = ");
+            shards::goes_idle(kinds, kind, out)
+        }
+        _ => Err(Refusal::UnknownCall),
+    }
+}
+
+fn main(rt: HostRuntime) -> io::Result<()> {
+    answer_cases(&rt, rt.alloc(), call)
+}

@@ -1,0 +1,168 @@
+ghost use Rattle.std.specs.Prelude.{◌≡◌, IfOk};
+ghost use Rattle.sd_shard.specs.Limits.{limits_of, AreLimits};
+
+use crate::samples::sample_of;
+use sd_case::{Answer, Refusal, kind_of, kind_word, number};
+use sd_shard::{Cause, Limits, Placed, Policy, RowFacts, Shard, ShardBook, Table, Who};
+use std::alloc::Global;
+
+// the most rows, and the most entries
+const MOST: u32 = 1 << 20;
+
+/// The limits that a word writes as `ROWS/ENTRIES`.
+pub(crate) fn limits_from(word: &str) -> Result<Limits, Refusal>
+    ensures { IfOk result (λ limits. AreLimits (limits_of limits)) }
+{
+    let (rows, entries) = word.split_once('/').ok_or(Refusal::Malformed)?;
+    let rows = number::<u32>(rows)?;
+    let entries = number::<u32>(entries)?;
+    if rows == 0 || rows > MOST || entries == 0 || entries > MOST {
+        return Err(Refusal::Condition);
+    }
+    Ok(Limits { rows, entries })
+}
+
+/// The policy that deletes the kinds of a word when idle, which are joined by `+`. `none` is none.
+fn policy_from(word: &str) -> Result<Policy, Refusal> {
+    let mut policy = Policy {
+        counters: false,
+        timers: false,
+        gauges: false,
+        sets: false,
+        max_ttl: 1,
+    };
+    for kind in word.split('+') {
+        match kind {
+            "counters" => policy.counters = true,
+            "timers" => policy.timers = true,
+            "gauges" => policy.gauges = true,
+            "sets" => policy.sets = true,
+            "none" => (),
+            _ => return Err(Refusal::Malformed),
+        }
+    }
+    Ok(policy)
+}
+
+/// `goes_idle KINDS KIND`: whether rows of the kind go at a swap.
+pub(crate) fn goes_idle(kinds: &str, kind: &str, out: &mut Answer) -> Result<(), Refusal> {
+    out.yes_or_no(policy_from(kinds)?.goes_idle(kind_of(kind)?));
+    Ok(())
+}
+
+/// A shard, and the limits that it was opened for.
+#[derive(Drop)]
+struct Bench {
+    limits: Limits,
+    shard: Shard,
+    ghost allowed: { AreLimits (limits_of limits) },
+    ghost opened: { shard.table.limits ≡ limits_of limits },
+}
+
+impl Bench {
+    /// Carries out a step: `swap`, `book`, or else the sample that it writes.
+    fn step(&mut self, alloc: Global, step: &str, out: &mut Answer) -> Result<(), Refusal> {
+        match step {
+            "swap" => self.swap(alloc, out),
+            "book" => {
+                show_book(&self.shard.book(), out);
+                Ok(())
+            }
+            _ => {
+                let sample = sample_of(alloc, step)?;
+                show_placed(self.shard.sample(Who(0), &sample), out);
+                Ok(())
+            }
+        }
+    }
+
+    /// Swaps in an empty table, and shows the one that comes out.
+    fn swap(&mut self, alloc: Global, out: &mut Answer) -> Result<(), Refusal> {
+        let spare = Table::open(alloc, self.limits)?;
+        let table = self.shard.swap(spare);
+        show_table(alloc, &table, out)
+    }
+}
+
+/// Appends the numbers of a shard.
+fn show_book(book: &ShardBook, out: &mut Answer) {
+    out.count("taken ", book.taken);
+    out.count(", flushed ", book.flushed);
+    out.count(", deleted ", book.deleted);
+    out.count(", dropped ", book.dropped);
+    out.count(", held ", book.held);
+}
+
+/// Appends what became of a sample.
+fn show_placed(placed: Placed, out: &mut Answer) {
+    match placed {
+        Placed::Taken { number } => out.count("taken ", number),
+        Placed::Dropped(Cause::NoRow { live, limit }) => {
+            out.count("no row, ", u64::from(live));
+            out.count(" of ", u64::from(limit));
+        }
+        Placed::Dropped(Cause::NoEntry { held, limit }) => {
+            out.count("no entry, ", u64::from(held));
+            out.count(" of ", u64::from(limit));
+        }
+        Placed::Dropped(Cause::NoNumber { taken }) => out.count("no number, ", taken),
+    }
+}
+
+/// Appends how many rows and entries a table has, and its rows by kind and name.
+pub(crate) fn show_table(alloc: Global, table: &Table, out: &mut Answer) -> Result<(), Refusal> {
+    out.count("rows ", u64::from(table.rows()));
+    out.count(", entries ", u64::from(table.entries()));
+    let mut rows = Vec::new(alloc);
+    for i in 0..table.rows() {
+        let mut row = Answer::new(alloc);
+        show_facts(table.row(i), &mut row);
+        rows.push(row.finish()?)?;
+    }
+    rows.sort()?;
+    for row in &rows {
+        out.text(row);
+    }
+    Ok(())
+}
+
+/// Appends the line of what a table says of a row.
+fn show_facts(row: RowFacts, out: &mut Answer) {
+    let RowFacts {
+        kind,
+        key,
+        base,
+        swaps,
+        samples,
+        weight,
+    } = row;
+    out.text("\n    ");
+    out.text(kind_word(kind));
+    out.text(" ");
+    out.bytes(key.as_slice());
+    out.text(": base ");
+    out.number(i128::from(base.0));
+    out.count(", swaps ", u64::from(swaps));
+    out.count(", samples ", samples);
+    out.text(", weight ");
+    out.number(weight.0);
+}
+
+/// `shard ROWS/ENTRIES KINDS STEPS`: what each step on a new shard answers, where rows of the kinds are deleted
+/// when idle.
+pub(crate) fn steps_on_shard(
+    alloc: Global,
+    limits: &str,
+    kinds: &str,
+    steps: &[&str],
+    out: &mut Answer,
+) -> Result<(), Refusal> {
+    let limits = limits_from(limits)?;
+    let shard = Shard::open(alloc, limits, policy_from(kinds)?)?;
+    let mut bench = Bench { limits, shard };
+    for step in steps {
+        out.step(step);
+        bench.step(alloc, step, out)?;
+    }
+    Ok(())
+}

@@ -1,0 +1,235 @@
+-- How a replay ends whose script tells its records, where no fault was counted.
+use Rattle.std.proofs.Common.{◌≡◌, ℕ, ◌+◌, ◌<◌, Bool, true, false, IsTrue, List, [], ◌∷◌, ◌++◌, length, map, min, refl, sym, ap, subst, ◌∙◌, arith, append_assoc, append-nil, length-append, inl, inr}
+use Rattle.std.specs.Prelude.{IfSome}
+use Rattle.std.specs.List.{AllByRecursion}
+use Rattle.std.proofs.lemmas.List.{length-map}
+use Rattle.std.proofs.lemmas.List.Sums.{sum_by-cons}
+use Rattle.sd_model_outside.specs.Outside.{Told, Untold, Left, Number, Bytes, Rounds, left_in, put_back, given, last_count}
+use Rattle.sd_model_record.specs.Desk.{Mark, fault_of}
+use Rattle.sd_model_replay.specs.Settings.{Settings}
+use Rattle.sd_model_replay.specs.Backends.{Backend, Graphite, Console, Delivery, AfterDeliveries, FitsUse, is_used, mark_of, missed}
+use Rattle.sd_model_replay.specs.Script.{Command, Packet, Flush, spelled, end_word, script_text, IsBuilt, BeginsBuilt}
+use Rattle.sd_model_replay.specs.Replay.{Outcome, Played, Run, IsOutcome, first_run, play, flushes, deliveries, output_of}
+use Rattle.sd_model_replay.specs.Totals.{Totals, totals_after, totals_text}
+use Rattle.sd_model_replay.specs.AccountingTheorem.{Seen, Course, AccountingTheorem, seen_at}
+use Rattle.sd_model_replay.specs.Ends.{End, Complete, NotBuilt, ReadFailed, WriteFailed, WornOut, most_records, IsNotBuilt, EndsAs, Replayed, behind}
+use Rattle.sd_model_call.specs.Completeness.{IsSteady, IsUnhindered, IsCutOff, IsLongest, CarriedOut, CarriedOutWell, NoneMissed, well, well_mark}
+use Rattle.sd_model_replay.proofs.ReadingLemmas.{Behind, BeginsRecord, ended_script, cut_script, one_script, one_end, not_end, begins, begins_record}
+use Rattle.sd_model_replay.proofs.DeliveryLemmas.{all_counts, none_missed, written_mark}
+use Rattle.sd_model_replay.proofs.ReplayLemmas.{delivery_of}
+
+-- what a script tells that it has left, where it told what it had
+pub record LeftBehind (front whole : List ℕ) (told : Told) : Type 0 where
+  pub bytes : List ℕ
+  pub is : told ≡ Left bytes
+  pub stands : whole ≡ front ++ bytes
+
+pub left_behind : (front whole : List ℕ) (told : Told) → Left whole ≡ put_back front told → LeftBehind front whole told
+left_behind front whole (Left bytes) same = record { bytes = bytes; is = refl; stands = cc }
+left_behind front whole Untold same = absurd (cc)
+left_behind front whole (Number n) same = absurd (cc)
+left_behind front whole (Bytes bytes) same = absurd (cc)
+left_behind front whole (Rounds rounds open_list) same = absurd (cc)
+
+abbrev commands_of : List Played → List Command
+commands_of played = map (λ p. p.command) played
+
+all_built : (receivers : ℕ) (played : List Played) → AllByRecursion (λ p. IsBuilt receivers p.command) played → AllByRecursion (IsBuilt receivers) (commands_of played)
+all_built receivers [] built = tt
+all_built receivers (p ∷ played) built = (built.0, all_built receivers played built.1)
+
+-- what stands behind in a script where nothing that begins as a record or as the end does
+stops : (receivers : ℕ) (commands front : List Command) (bytes left : List ℕ) → Behind receivers commands front bytes left → ¬ BeginsBuilt receivers left → commands ≡ front
+stops receivers commands front bytes left h none = stops_by h.behind h.whole h.built h.stands where
+  stops_by : (behind : List Command) → commands ≡ front ++ behind → AllByRecursion (IsBuilt receivers) behind → left ≡ script_text behind ++ bytes → commands ≡ front
+  stops_by [] whole built stands = whole ∙ append-nil front
+  stops_by (c ∷ behind) whole built stands = absurd (none (subst (BeginsBuilt receivers) (sym stands) (begins_record receivers c behind bytes built)))
+
+module _ (settings : Settings) (old new : Seen) (commands : List Command) (bytes : List ℕ) (steady : IsSteady settings old new commands bytes) (course : Course) (theorem : AccountingTheorem settings course old new) where
+  abbrev carried_out : List Command
+  carried_out = commands_of course.played
+
+  abbrev built : AllByRecursion (IsBuilt settings.receivers) carried_out
+  built = all_built settings.receivers course.played theorem.built
+
+  -- what the script has left, and how its text goes on behind the records that were carried out
+  record Reached : Type 0 where
+    left : List ℕ
+    told : behind course new ≡ Left (course.ahead ++ left)
+    same : script_text commands ++ bytes ≡ script_text carried_out ++ (course.ahead ++ left)
+
+  reached : Reached
+  reached =
+      let l = left_behind (script_text carried_out ++ course.ahead) (script_text commands ++ bytes) new.script.told (sym steady.script ∙ theorem.read) in
+      record {
+        left = l.bytes;
+        told = ap (put_back course.ahead) l.is;
+        same = l.stands ∙ append_assoc (script_text carried_out) course.ahead l.bytes;
+      }
+
+  -- no record begins where the replay stopped for it
+  nothing_begins : (r : Reached) (at : ℕ) → IsNotBuilt settings at course new → ¬ BeginsBuilt settings.receivers (course.ahead ++ r.left)
+  nothing_begins r at ends = subst (λ told. IfSome (left_in told) (λ bs. ¬ BeginsBuilt settings.receivers bs)) r.told ends.other
+
+  -- where the replay came to the end, the end stands behind
+  end_stands : (r : Reached) (rest : List ℕ) → course.ahead ≡ end_word ++ rest → end_word ++ (rest ++ r.left) ≡ course.ahead ++ r.left
+  end_stands r rest word = sym (append_assoc end_word rest r.left) ∙ ap (λ bs. bs ++ r.left) (sym word)
+
+  -- no fault, no failure
+  no_read_failed : EndsAs settings ReadFailed course old new → ⊥
+  no_read_failed ends = absurd (steady.script_faults ends.script_faults)
+
+-- of a script that ends behind its records
+module _ (settings : Settings) (old new : Seen) (commands : List Command) (rest : List ℕ) (free : IsUnhindered settings old new commands rest) (course : Course) (theorem : AccountingTheorem settings course old new) where
+  ended_behind : (r : Reached settings old new commands (end_word ++ rest) free.steady course theorem)
+      → Behind settings.receivers commands (commands_of course.played) (end_word ++ rest) (course.ahead ++ r.left)
+  ended_behind r =
+      ended_script settings.receivers commands (commands_of course.played) rest (course.ahead ++ r.left) free.steady.built (all_built settings.receivers course.played theorem.built) r.same
+
+  reached_end : Reached settings old new commands (end_word ++ rest) free.steady course theorem
+  reached_end = reached settings old new commands (end_word ++ rest) free.steady course theorem
+
+  ends_complete : (end : End) → EndsAs settings end course old new → (totals : Totals) × (end ≡ Complete totals)
+  ends_complete (Complete totals) ends = (totals, refl)
+  ends_complete (NotBuilt at) ends =
+      let r = reached_end in
+      let h = ended_behind r in
+      absurd (nothing_begins settings old new commands (end_word ++ rest) free.steady course theorem r at ends.read
+      (subst (BeginsBuilt settings.receivers) (sym h.stands) (begins settings.receivers h.behind rest h.built)))
+  ends_complete ReadFailed ends = absurd (no_read_failed settings old new commands (end_word ++ rest) free.steady course theorem ends)
+  ends_complete WriteFailed ends = absurd (free.output_faults ends.output.rose)
+  ends_complete (WornOut turns) ends =
+      let h = ended_behind reached_end in
+      absurd (omega (arith, free.few, ends.read.1, ap length h.whole, length-append (commands_of course.played) h.behind, length-map course.played (λ (p : Played). p.command)))
+
+  pub carries_out : EndsAs settings (Complete (totals_after settings course.played)) course old new → CarriedOut settings old new commands rest
+  carries_out ends =
+      let r = reached_end in
+      let h = ended_behind r in
+      let word = ends.read.1 in
+      let last = one_end settings.receivers h.behind (end_word ++ rest) (word.0 ++ r.left) (end_stands settings old new commands (end_word ++ rest) free.steady course theorem r word.0 word.1 ∙ h.stands) in
+      record {
+        course = course;
+        theorem = theorem;
+        all = sym (h.whole ∙ ap (λ cs. commands_of course.played ++ cs) last.0 ∙ append-nil (commands_of course.played));
+        left = r.told ∙ ap Left (h.stands ∙ ap (λ cs. script_text cs ++ (end_word ++ rest)) last.0);
+        output = ends.output;
+      }
+
+pub replay_completes : (settings : Settings) (old new : Seen) (commands : List Command) (rest : List ℕ) (end : End) → IsUnhindered settings old new commands rest → Replayed settings end old new → (totals : Totals) × (end ≡ Complete totals)
+replay_completes settings old new commands rest end free h = ends_complete settings old new commands rest free h.course h.theorem end h.ends
+
+-- of a script that is cut off behind its records
+module _ (settings : Settings) (old new : Seen) (commands : List Command) (bytes : List ℕ) (cut : IsCutOff settings old new commands bytes) (course : Course) (theorem : AccountingTheorem settings course old new) where
+  reached_cut : Reached settings old new commands bytes cut.steady course theorem
+  reached_cut = reached settings old new commands bytes cut.steady course theorem
+
+  cut_behind : (r : Reached settings old new commands bytes cut.steady course theorem) → Behind settings.receivers commands (commands_of course.played) bytes (course.ahead ++ r.left)
+  cut_behind r =
+      cut_script settings.receivers commands (commands_of course.played) bytes (course.ahead ++ r.left) cut.other cut.steady.built (all_built settings.receivers course.played theorem.built) r.same
+
+  no_end_there : (rest : List ℕ) → course.ahead ≡ end_word ++ rest → ⊥
+  no_end_there rest word =
+      let r = reached_cut in
+      let h = cut_behind r in
+      let last = one_end settings.receivers h.behind bytes (rest ++ r.left) (end_stands settings old new commands bytes cut.steady course theorem r rest word ∙ h.stands) in
+      absurd (cut.other (inr (rest ++ r.left, last.1)))
+
+  ends_cut : (end : End) → EndsAs settings end course old new → end ≡ NotBuilt (min (length (script_text commands)) last_count)
+  ends_cut (Complete totals) ends = absurd (no_end_there ends.read.1.0 ends.read.1.1)
+  ends_cut (NotBuilt at) ends =
+      let r = reached_cut in
+      let all = stops settings.receivers commands (commands_of course.played) bytes (course.ahead ++ r.left) (cut_behind r) (nothing_begins settings old new commands bytes cut.steady course theorem r at ends.read) in
+      ap NotBuilt (ends.read.place ∙ ap (λ cs. min (length (script_text cs)) last_count) (sym all))
+  ends_cut ReadFailed ends = absurd (no_read_failed settings old new commands bytes cut.steady course theorem ends)
+  ends_cut WriteFailed ends = absurd (no_end_there ends.read.1.0 ends.read.1.1)
+  ends_cut (WornOut turns) ends =
+      let h = cut_behind reached_cut in
+      absurd (omega (arith, cut.few, ends.read.1, ap length h.whole, length-append (commands_of course.played) h.behind, length-map course.played (λ (p : Played). p.command)))
+
+pub replay_stops : (settings : Settings) (old new : Seen) (commands : List Command) (bytes : List ℕ) (end : End) → IsCutOff settings old new commands bytes → Replayed settings end old new → end ≡ NotBuilt (min (length (script_text commands)) last_count)
+replay_stops settings old new commands bytes end cut h = ends_cut settings old new commands bytes cut h.course h.theorem end h.ends
+
+-- of a script of as many records as there may be
+module _ (settings : Settings) (old new : Seen) (commands : List Command) (bytes : List ℕ) (longest : IsLongest settings old new commands bytes) (course : Course) (theorem : AccountingTheorem settings course old new) where
+  reached_more : Reached settings old new commands bytes longest.steady course theorem
+  reached_more = reached settings old new commands bytes longest.steady course theorem
+
+  -- a record stands behind fewer of them
+  record_behind : (r : Reached settings old new commands bytes longest.steady course theorem) → length course.played < most_records → BeginsRecord settings.receivers (course.ahead ++ r.left)
+  record_behind r few =
+      let counted = length-map course.played (λ (p : Played). p.command) in
+      elim (one_script settings.receivers commands (commands_of course.played) bytes (course.ahead ++ r.left) longest.steady.built (all_built settings.receivers course.played theorem.built) r.same) [
+        | inl h ↦ one_behind h.behind h.built h.stands (omega (arith, few, longest.most, ap length h.whole, length-append (commands_of course.played) h.behind, counted))
+        | inr h ↦ absurd (omega (arith, few, longest.most, h.0, counted))
+      ] where
+        one_behind : (behind : List Command) → AllByRecursion (IsBuilt settings.receivers) behind → course.ahead ++ r.left ≡ script_text behind ++ bytes → 0 < length behind → BeginsRecord settings.receivers (course.ahead ++ r.left)
+        one_behind [] all stands some = absurd (omega (arith, some))
+        one_behind (c ∷ behind) all stands some = (c, script_text behind ++ bytes, all.0, stands ∙ append_assoc (spelled c) (script_text behind) bytes)
+
+  no_end_behind : (rest : List ℕ) → length course.played < most_records → course.ahead ≡ end_word ++ rest → ⊥
+  no_end_behind rest few word =
+      let r = reached_more in
+      let one = record_behind r few in
+      absurd (not_end one.0 one.1 (rest ++ r.left) (sym one.3 ∙ sym (end_stands settings old new commands bytes longest.steady course theorem r rest word)))
+
+  ends_worn : (end : End) → EndsAs settings end course old new → end ≡ WornOut most_records
+  ends_worn (Complete totals) ends = absurd (no_end_behind ends.read.1.0 ends.read.0 ends.read.1.1)
+  ends_worn (NotBuilt at) ends =
+      let r = reached_more in
+      absurd (nothing_begins settings old new commands bytes longest.steady course theorem r at ends.read (inl (record_behind r ends.read.few)))
+  ends_worn ReadFailed ends = absurd (no_read_failed settings old new commands bytes longest.steady course theorem ends)
+  ends_worn WriteFailed ends = absurd (no_end_behind ends.read.1.0 ends.read.0 ends.read.1.1)
+  ends_worn (WornOut turns) ends = ap WornOut ends.read.0
+
+pub replay_wears_out : (settings : Settings) (old new : Seen) (commands : List Command) (bytes : List ℕ) (end : End) → IsLongest settings old new commands bytes → Replayed settings end old new → end ≡ WornOut most_records
+replay_wears_out settings old new commands bytes end longest h = ends_worn settings old new commands bytes longest h.course h.theorem end h.ends
+
+-- Records carried out where no backend that is used missed a flush.
+module _ (settings : Settings) where
+  -- what flushes have for a backend, from a state on
+  abbrev deliveries_from : Run → Backend → List Played → List Delivery
+  deliveries_from run back played = map (delivery_of settings back) (flushes settings run played)
+
+  -- no backend that is used missed one
+  abbrev IsMet : Run → List Played → Type 0
+  IsMet run played = (back : Backend) → IsTrue (is_used settings back) → missed (deliveries_from run back played) ≡ 0
+
+  written_or_unused : (used : Bool) (mark : Mark) → FitsUse used mark → (IsTrue used → fault_of mark ≡ 0) → mark ≡ well_mark used
+  written_or_unused true mark fits none = written_mark mark (none refl) fits
+  written_or_unused false mark fits none = fits
+
+  -- a flush more, before others
+  missed-flush : (run : Run) (ts : ℕ) (outcome : Outcome) (played : List Played) (back : Backend) → missed (deliveries_from run back (record { command = Flush ts; outcome = outcome } ∷ played))
+      ≡ fault_of (mark_of back outcome.marks) + missed (deliveries_from (play settings run (record { command = Flush ts; outcome = outcome })) back played)
+  missed-flush run ts outcome played back =
+      sum_by-cons (λ (d : Delivery). fault_of d.mark) (delivery_of settings back (record { before = run; ts = ts; marks = outcome.marks }))
+      (deliveries_from (play settings run (record { command = Flush ts; outcome = outcome })) back played)
+
+  -- one record, before others that were carried out well
+  one_well : (run : Run) (c : Command) (outcome : Outcome) (played : List Played) → IsOutcome settings c outcome → IsMet run (record { command = c; outcome = outcome } ∷ played)
+      → (IsMet (play settings run (record { command = c; outcome = outcome })) played → played ≡ map (well settings) (commands_of played))
+      → record { command = c; outcome = outcome } ∷ played ≡ well settings c ∷ map (well settings) (commands_of played)
+  one_well run (Packet who moment datagram) outcome played is met others =
+      ap (λ o. record { command = Packet who moment datagram; outcome = o } ∷ played) is
+      ∙ ap (λ ps. well settings (Packet who moment datagram) ∷ ps) (others met)
+  one_well run (Flush ts) outcome played is met others =
+      let graphite = written_or_unused settings.uses_graphite outcome.marks.graphite (is Graphite) (λ on. omega (arith, met Graphite on, missed-flush run ts outcome played Graphite)) in
+      let console = written_or_unused settings.uses_console outcome.marks.console (is Console) (λ on. omega (arith, met Console on, missed-flush run ts outcome played Console)) in
+      ap (λ ps. record { command = Flush ts; outcome = outcome } ∷ ps) (others (λ back on. omega (arith, met back on, missed-flush run ts outcome played back)))
+      ∙ (λ i. record { command = Flush ts; outcome = record { marks = record { graphite = graphite i; console = console i } } } ∷ map (well settings) (commands_of played))
+
+  all_well : (run : Run) (played : List Played) → AllByRecursion (λ p. IsOutcome settings p.command p.outcome) played → IsMet run played → played ≡ map (well settings) (commands_of played)
+  all_well run [] used met = refl
+  all_well run (p ∷ played) used met = one_well run p.command p.outcome played used.0 met (all_well (play settings run p) played used.1)
+
+pub carries_out_well : (settings : Settings) (old new : Seen) (commands : List Command) (rest : List ℕ) → NoneMissed settings old new → CarriedOut settings old new commands rest → CarriedOutWell settings old new commands
+carries_out_well settings old new commands rest none out =
+    let played = out.course.played in
+    let met : IsMet settings first_run played = λ back on. none_missed (missed (deliveries settings back played)) (seen_at back old) (seen_at back new) (none back on)
+    (all_counts (deliveries settings back played) (seen_at back old) (seen_at back new) (out.theorem.texts back)) in
+    let alike : played ≡ map (well settings) commands = all_well settings first_run played out.theorem.used met ∙ ap (map (well settings)) out.all in
+    record {
+      backends = λ back. subst (λ ps. AfterDeliveries (deliveries settings back ps) (seen_at back old) (seen_at back new)) alike (out.theorem.texts back);
+      output = subst (λ ps. new.output ≡ given (output_of settings ps ++ totals_text (totals_after settings ps)) old.output) alike out.output;
+    }

@@ -1,0 +1,17 @@
+use Rattle.sd_model_call.proofs.KeptFaults.{kept}
+use Rattle.sd_model_call.proofs.completeness.faults_are_kept.Goals as goal
+
+pub returns-clause-settings : goal.returns-clause-settings
+returns-clause-settings c words old new answer h = (kept words old new answer h).settings
+
+pub returns-clause-script : goal.returns-clause-script
+returns-clause-script c words old new answer h = (kept words old new answer h).script
+
+pub returns-clause-graphite : goal.returns-clause-graphite
+returns-clause-graphite c words old new answer h = (kept words old new answer h).graphite
+
+pub returns-clause-output : goal.returns-clause-output
+returns-clause-output c words old new answer h = (kept words old new answer h).output
+
+pub returns-clause-console : goal.returns-clause-console
+returns-clause-console c words old new answer h = (kept words old new answer h).console

@@ -1,0 +1,104 @@
+-- What records ask of a shard: the samples and the tables of its history.
+use Rattle.std.proofs.Common.{◌≡◌, ℕ, Bool, true, false, cond, eqb, List, [], ◌∷◌, ◌++◌, map, refl, sym, ap, ◌∙◌}
+use Rattle.std.specs.Prelude.{filter_map, Option, None, Some}
+use Rattle.std.proofs.lemmas.List.Elements.{filter_map-append, filter-append}
+use Rattle.std.proofs.lemmas.List.Sums.{fold-append}
+use Rattle.sd_model_text.specs.Lines.{Sample, samples_of}
+use Rattle.sd_model_shard.specs.Shard.{State, empty_state, Cause, Limits, Policy, Submit, Table, table_of, admitted, refusal}
+use Rattle.sd_model_shard.specs.History.{Act, History, Asked, after, after_all, answered, part_of, state_after}
+use Rattle.sd_model_shard.specs.Whereabouts.{Arrival, arrivals, arrival_in, tables, table_in}
+use Rattle.sd_model_shard.proofs.AnsweredLemmas.{answered-append, arrivals-answered}
+use Rattle.sd_model_replay.specs.Settings.{Settings}
+use Rattle.sd_model_replay.specs.Script.{Command, Packet, Flush}
+use Rattle.sd_model_replay.specs.Replay.{Outcome, Played, home_of, events_in, events_at, history_at, samples_in, samples_at, Run, first_run, acts_in, play, run_of, Moment, moments, FlushMoment, flush_by, flushes}
+
+abbrev arrivals_asked : List Asked → List Arrival
+arrivals_asked asked = filter_map (λ q. arrival_in q.who q.event) asked
+
+abbrev at_shard : Settings → Arrival → ℕ
+at_shard settings a = home_of settings a.sample
+
+packet_part : (settings : Settings) (i who : ℕ) (samples : List Sample)
+    → arrivals_asked (map (λ s. record { who = who; event = Submit s }) (part_of (home_of settings) i samples)) ≡ part_of (at_shard settings) i (map (λ s. record { who = who; sample = s }) samples)
+packet_part settings i who [] = refl
+packet_part settings i who (s ∷ samples) = by_test (eqb i (home_of settings s)) (packet_part settings i who samples) where
+  by_test : (b : Bool)
+      → arrivals_asked (map (λ s. record { who = who; event = Submit s }) (part_of (home_of settings) i samples)) ≡ part_of (at_shard settings) i (map (λ s. record { who = who; sample = s }) samples)
+      → arrivals_asked (map (λ s. record { who = who; event = Submit s }) (cond b (s ∷ part_of (home_of settings) i samples) (part_of (home_of settings) i samples)))
+      ≡ cond b (record { who = who; sample = s } ∷ part_of (at_shard settings) i (map (λ s. record { who = who; sample = s }) samples)) (part_of (at_shard settings) i (map (λ s. record { who = who; sample = s }) samples))
+  by_test true h = ap (λ (rest : List Arrival). record { who = who; sample = s } ∷ rest) h
+  by_test false h = h
+
+command_part : (settings : Settings) (i : ℕ) (c : Command) → arrivals_asked (events_in settings i c) ≡ part_of (at_shard settings) i (samples_in c)
+command_part settings i (Packet who moment datagram) = packet_part settings i who (samples_of datagram)
+command_part settings i (Flush ts) = refl
+
+records_part : (settings : Settings) (i : ℕ) (played : List Played) → arrivals_asked (events_at settings i played) ≡ part_of (at_shard settings) i (samples_at played)
+records_part settings i [] = refl
+records_part settings i (p ∷ played) =
+    let here = arrivals_asked (events_in settings i p.command) in
+    filter_map-append (λ (q : Asked). arrival_in q.who q.event) (events_in settings i p.command) (events_at settings i played)
+    ∙ ap (λ (rest : List Arrival). here ++ rest) (records_part settings i played)
+    ∙ ap (λ (front : List Arrival). front ++ part_of (at_shard settings) i (samples_at played)) (command_part settings i p.command)
+    ∙ sym (filter-append (λ (a : Arrival). eqb i (at_shard settings a)) (samples_in p.command) (samples_at played))
+
+-- the samples submitted to a shard are those of the records that belong there
+pub arrivals-history_at : (settings : Settings) (i : ℕ) (played : List Played) → arrivals (history_at settings i played) ≡ part_of (at_shard settings) i (samples_at played)
+arrivals-history_at settings i played = arrivals-answered settings.limits settings.policy empty_state (events_at settings i played) ∙ records_part settings i played
+
+-- samples are answered with no table
+no_table : (state : State) (who : ℕ) (s : Sample) (answer : Option Cause) (acts : History) → tables (record { who = who; event = Submit s; reply = (admitted state who s answer).reply } ∷ acts) ≡ tables acts
+no_table state who s None acts = refl
+no_table state who s (Some cause) acts = refl
+
+no_tables : (limits : Limits) (policy : Policy) (state : State) (who : ℕ) (samples : List Sample) → tables (answered limits policy state (map (λ s. record { who = who; event = Submit s }) samples)) ≡ []
+no_tables limits policy state who [] = refl
+no_tables limits policy state who (s ∷ samples) =
+    let next = (admitted state who s (refusal limits state s)).state in
+    no_table state who s (refusal limits state s) (answered limits policy next (map (λ s. record { who = who; event = Submit s }) samples)) ∙ no_tables limits policy next who samples
+
+-- the tables of shard i at the flushes among records
+abbrev pub tables_at : ℕ → List FlushMoment → List Table
+tables_at i fs = map (λ f. table_of (f.before.shards i)) fs
+
+flushes_of : Run → Command → Outcome → List Moment → List FlushMoment
+flushes_of run c outcome ms = filter_map (λ (m : Moment). flush_by m.before m.played.command m.played.outcome) (record { before = run; played = record { command = c; outcome = outcome } } ∷ ms)
+
+one_table : (settings : Settings) (i : ℕ) (run : Run) (c : Command) (outcome : Outcome) (ms : List Moment)
+    → tables (acts_in settings run i c) ++ tables_at i (filter_map (λ (m : Moment). flush_by m.before m.played.command m.played.outcome) ms) ≡ tables_at i (flushes_of run c outcome ms)
+unfolding flushes_of
+one_table settings i run (Packet who moment datagram) outcome ms =
+    ap (λ (ts : List Table). ts ++ tables_at i (filter_map (λ (m : Moment). flush_by m.before m.played.command m.played.outcome) ms))
+    (no_tables settings.limits settings.policy (run.shards i) who (part_of (home_of settings) i (samples_of datagram)))
+one_table settings i run (Flush ts) outcome ms = refl
+
+tables_from : (settings : Settings) (i : ℕ) (run : Run) (played : List Played) → tables (answered settings.limits settings.policy (run.shards i) (events_at settings i played)) ≡ tables_at i (flushes settings run played)
+unfolding flushes_of
+tables_from settings i run [] = refl
+tables_from settings i run (p ∷ played) =
+    let acts = acts_in settings run i p.command in
+    let next = play settings run p in
+    let rest = answered settings.limits settings.policy (next.shards i) (events_at settings i played) in
+    ap tables (answered-append settings.limits settings.policy (run.shards i) (events_in settings i p.command) (events_at settings i played))
+    ∙ filter_map-append (λ (a : Act). table_in a.reply) acts rest
+    ∙ ap (λ (ts : List Table). tables acts ++ ts) (tables_from settings i next played)
+    ∙ one_table settings i run p.command p.outcome (moments settings next played)
+
+-- a shard answers its table at each flush
+pub tables-history_at : (settings : Settings) (i : ℕ) (played : List Played) → tables (history_at settings i played) ≡ tables_at i (flushes settings first_run played)
+tables-history_at settings i played = tables_from settings i first_run played
+
+-- the state of a shard after records, from a state on, is the one after the acts that they ask
+state_from : (settings : Settings) (i : ℕ) (run : Run) (played : List Played)
+    → (run_of settings run played).shards i ≡ after_all settings.limits settings.policy (run.shards i) (answered settings.limits settings.policy (run.shards i) (events_at settings i played))
+state_from settings i run [] = refl
+state_from settings i run (p ∷ played) =
+    let acts = acts_in settings run i p.command in
+    let next = play settings run p in
+    let rest = answered settings.limits settings.policy (next.shards i) (events_at settings i played) in
+    state_from settings i next played
+    ∙ sym (fold-append (after settings.limits settings.policy) (run.shards i) acts rest)
+    ∙ ap (after_all settings.limits settings.policy (run.shards i)) (sym (answered-append settings.limits settings.policy (run.shards i) (events_in settings i p.command) (events_at settings i played)))
+
+pub state-history_at : (settings : Settings) (i : ℕ) (played : List Played) → (run_of settings first_run played).shards i ≡ state_after settings.limits settings.policy (history_at settings i played)
+state-history_at settings i played = state_from settings i first_run played

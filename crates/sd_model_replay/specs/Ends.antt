@@ -1,0 +1,86 @@
+-- How a replay ends, and what was done by then.
+use Rattle.std.specs.Prelude.{◌≡◌, ◌<◌, ◌^◌, ℕ, min, List, ◌++◌, length, map}
+use Rattle.sd_model_outside.specs.Outside.{Told, Object, Used, HasFailedBehind, Rose, given, last_count, put_back}
+use Rattle.sd_model_replay.specs.Settings.{Settings}
+use Rattle.sd_model_replay.specs.Script.{script_text, Ending, Unbuilt, next_text, MayStandNext, IsUndecided, IsDecided}
+use Rattle.sd_model_replay.specs.Replay.{Played, output_of}
+use Rattle.sd_model_replay.specs.Totals.{Totals, totals_after, totals_text}
+use Rattle.sd_model_replay.specs.AccountingTheorem.{Seen, Course, AccountingTheorem}
+
+-- Why a replay ends: it came to the word that ends the script and wrote these totals; at a place of the script no
+-- built record stands; a read of the script failed; a write of the totals failed; it has carried out as many
+-- records as it may.
+pub data End : Type 0 where
+  Complete : (totals : Totals) → End
+  NotBuilt : (at : ℕ) → End
+  ReadFailed : End
+  WriteFailed : End
+  WornOut : (turns : ℕ) → End
+
+-- how many bytes the text of records has, up to the last count
+abbrev pub text_length : List Played → ℕ
+text_length played = min (length (script_text (map (λ p. p.command) played))) last_count
+
+-- how many records a replay carries out at most
+abbrev pub most_records : ℕ
+most_records = 2 ^ 62
+
+-- fewer records than that
+abbrev pub AreFew : List Played → Type 0
+AreFew played = length played < most_records
+
+-- the word that ends a script stands at the front
+abbrev pub BeginsEnd : List ℕ → Type 0
+BeginsEnd bytes = (rest : List ℕ) × (bytes ≡ next_text Ending ++ rest)
+
+-- what stands in a script behind the records of a course, where it tells: the bytes read behind them, and what it has
+-- left
+abbrev pub behind : Course → Seen → Told
+behind course now = put_back course.ahead now.script.told
+
+-- Where the script tells its bytes: what was read by then decides what stands behind the records carried out, or the script
+-- was at its end; and that is neither a built record nor the word that ends a script.
+pub record IsNotBuilt (settings : Settings) (at : ℕ) (course : Course) (new : Seen) : Type 0 where
+  pub few : AreFew course.played
+  pub decided : IsDecided settings.receivers course.ahead new.script.told
+  pub other : MayStandNext settings.receivers Unbuilt (behind course new)
+  pub place : at ≡ text_length course.played
+
+-- what stands behind the records where a replay ends so: the word that ends the script, with the totals of the records
+-- before; what isn't built; what doesn't decide what stands next; as many records as there may be
+abbrev pub StandsBehind : Settings → End → Course → Seen → Type 0
+StandsBehind settings (Complete totals) course new = AreFew course.played × BeginsEnd course.ahead × (totals ≡ totals_after settings course.played)
+StandsBehind settings (NotBuilt at) course new = IsNotBuilt settings at course new
+StandsBehind settings ReadFailed course new = AreFew course.played × IsUndecided settings.receivers course.ahead
+StandsBehind settings WriteFailed course new = AreFew course.played × BeginsEnd course.ahead
+StandsBehind settings (WornOut turns) course new = (turns ≡ most_records) × (length course.played ≡ most_records)
+
+-- whether a read of the script failed
+abbrev pub ScriptFaults : End → ℕ → ℕ → Type 0
+ScriptFaults ReadFailed had has = Rose had has
+ScriptFaults (Complete totals) had has = has ≡ had
+ScriptFaults (NotBuilt at) had has = has ≡ had
+ScriptFaults WriteFailed had has = has ≡ had
+ScriptFaults (WornOut turns) had has = has ≡ had
+
+-- what the output was given by then: what the records write, and then the totals, whole, or as far as a write that
+-- failed; or no totals
+abbrev pub OutputAfter : Settings → End → List Played → Object → Object → Type 0
+OutputAfter settings (Complete totals) played old new = new ≡ given (output_of settings played ++ totals_text totals) old
+OutputAfter settings WriteFailed played old new = HasFailedBehind (output_of settings played ++ totals_text (totals_after settings played)) old new
+OutputAfter settings (NotBuilt at) played old new = new ≡ given (output_of settings played) old
+OutputAfter settings ReadFailed played old new = new ≡ given (output_of settings played) old
+OutputAfter settings (WornOut turns) played old new = new ≡ given (output_of settings played) old
+
+-- What stands of a course where a replay ends so.
+pub record EndsAs (settings : Settings) (end : End) (course : Course) (old new : Seen) : Type 0 where
+  pub read : StandsBehind settings end course new
+  pub script : Used old.script new.script
+  pub script_faults : ScriptFaults end old.script.faults new.script.faults
+  pub output : OutputAfter settings end course.played old.output new.output
+
+-- A replay: what it carried out, of which the accounting theorem holds, and how it ended.
+pub record Replayed (settings : Settings) (end : End) (old new : Seen) : Type 0 where
+  pub course : Course
+  pub theorem : AccountingTheorem settings course old new
+  pub ends : EndsAs settings end course old new

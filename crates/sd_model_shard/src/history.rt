@@ -1,0 +1,43 @@
+ghost use Rattle.std.specs.Prelude.{◌≡◌, ℕ, ◌<◌, List, [], ◌∷◌, ◌++◌, filter_map, not, ◌||◌, None, if◌then◌else◌};
+ghost use Rattle.std.specs.FinMap.{contains_key, empty, get};
+ghost use Rattle.std.specs.List.{list_any};
+ghost use Rattle.sd_model_shard.specs.Shard.{State, empty_state, Limits, Policy, Event, RowId, Rows, Entry, carried, goes_idle, row_of, step};
+ghost use Rattle.sd_model_shard.specs.Statistics.{is_same_row};
+ghost use Rattle.sd_model_shard.specs.History.{Act, Asked, History, Legal, StandsAt, act_of, after, after_all, answered, state_after};
+ghost use Rattle.sd_model_shard.specs.Whereabouts.{Accounted, RowsAreCarried, StandsOnce, arrival_in, arrivals, rows_with};
+
+/// Each sample of a legal history is in one place: the journal of one swap, among the entries held, or dropped. The
+/// rows that each swap answers are those carried in and those of its own journal.
+pub fn histories_are_accounted()
+    ensures places { (limits : Limits) (policy : Policy) (acts : History) → Legal limits policy acts → Accounted limits policy acts }
+    ensures once { (limits : Limits) (policy : Policy) (acts : History) → Legal limits policy acts
+        → (number : ℕ) → number < (state_after limits policy acts).taken → StandsOnce limits policy acts number }
+    ensures rows { (limits : Limits) (policy : Policy) (acts : History) → Legal limits policy acts → RowsAreCarried policy empty acts }
+{}
+
+/// A history is legal where its front is and each act behind it is a step; and events with the replies of the step
+/// are a legal history.
+pub fn histories_grow()
+    ensures front { (limits : Limits) (policy : Policy) (front back : History) → Legal limits policy (front ++ back) → Legal limits policy front }
+    ensures one_more { (limits : Limits) (policy : Policy) (acts : History) (a : Act) → Legal limits policy acts
+        → a.reply ≡ (step limits policy (state_after limits policy acts) a.who a.event).reply → Legal limits policy (acts ++ a ∷ []) }
+    ensures last { (limits : Limits) (policy : Policy) (acts : History) (a : Act) → Legal limits policy (acts ++ a ∷ [])
+        → a.reply ≡ (step limits policy (state_after limits policy acts) a.who a.event).reply }
+    ensures stands { (limits : Limits) (policy : Policy) (acts : History) (state : State) (who : ℕ) (event : Event) → StandsAt limits policy acts state
+        → StandsAt limits policy (acts ++ act_of limits policy state who event ∷ []) (step limits policy state who event).state }
+    ensures state { (limits : Limits) (policy : Policy) (acts : History) (a : Act)
+        → state_after limits policy (acts ++ a ∷ []) ≡ after limits policy (state_after limits policy acts) a }
+    ensures joined { (limits : Limits) (policy : Policy) (state : State) (xs ys : List Asked) → answered limits policy state (xs ++ ys)
+        ≡ answered limits policy state xs ++ answered limits policy (after_all limits policy state (answered limits policy state xs)) ys }
+    ensures arrivals { (limits : Limits) (policy : Policy) (state : State) (asked : List Asked)
+        → arrivals (answered limits policy state asked) ≡ filter_map (λ q. arrival_in q.who q.event) asked }
+    ensures answered { (limits : Limits) (policy : Policy) (asked : List Asked) → Legal limits policy (answered limits policy empty_state asked) }
+{}
+
+/// The rows behind samples are those that were there and those of the samples; and what a swap leaves of a row.
+pub fn rows_are_told()
+    ensures rows { (live : Rows) (journal : List Entry) (id : RowId) → contains_key (rows_with live journal) id
+        ≡ (contains_key live id || list_any (λ e. is_same_row id (row_of e.sample)) journal) }
+    ensures carried { (policy : Policy) (live : Rows) (journal : List Entry) (id : RowId) → get (carried policy live journal) id
+        ≡ (if not (goes_idle policy id.kind) then get live id else None) }
+{}

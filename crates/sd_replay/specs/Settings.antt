@@ -1,0 +1,18 @@
+-- Settings of the code, as the definitions have them.
+use Rattle.std.specs.Prelude.{true, false}
+use Rattle.sd_model_replay.specs.Settings as model
+use Rattle.sd_shard.specs.Limits.{limits_of, policy_of}
+use Rattle.sd_record.specs.Record.{plan_of}
+use Rattle.sd_replay.specs.declared.settings.Settings.{Settings}
+
+abbrev pub settings_of : Settings → model.Settings
+settings_of s =
+    record {
+      shards = 1;
+      limits = limits_of s.limits;
+      policy = policy_of s.policy;
+      plan = plan_of s.interval_ms;
+      receivers = s.receivers;
+      uses_graphite = true;
+      uses_console = false;
+    }
