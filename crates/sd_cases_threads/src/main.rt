@@ -1,0 +1,109 @@
+//! Cases of values behind a turn: each line of the input names one and two numbers, and is printed
+//! with its answer, which is the same whatever the order of the threads.
+#![tactic(auto)]
+
+mod book;
+mod meter;
+mod puts;
+mod register;
+
+use book::add_both;
+use puts::{Done, put_both};
+use std::alloc::{AllocError, Global};
+use std::io;
+use std::sync::Wait;
+use std::sync::atomic::AtomicU64;
+use std::sync::atomic::Ordering::SeqCst;
+use std::thread::Threads;
+
+// How often each seat stands in the log.
+fn by_seat(log: &[u16], number: u16) -> usize {
+    log.iter().filter(|&&n| n == number).count()
+}
+
+fn added_up(answers: &[u64]) -> u64 {
+    answers.iter().fold(0, |sum: u64, &n| sum.wrapping_add(n))
+}
+
+fn rise(answers: &[u64]) -> bool {
+    let mut last = None;
+    for &n in answers {
+        if Some(n) <= last {
+            return false;
+        }
+        last = Some(n);
+    }
+    true
+}
+
+// The first seat adds 1 each time, and the second 3. What is called inside the turn counts too.
+fn ledger_case<R: Threads + Wait + Sync>(
+    rt: &R,
+    alloc: Global,
+    first: u32,
+    second: u32,
+) -> Result<String, AllocError> {
+    let inside = AtomicU64::new(0);
+    let meter = add_both(rt, alloc, &inside, first, second)?;
+    let counted = inside.load(SeqCst);
+    format!(in alloc;
+        "total {}, calls {}, counted inside {counted}",
+        meter.total, meter.calls
+    )
+}
+
+// Each seat puts 1 each time, and is answered the sum before it.
+fn turn_case<R: Threads + Wait + Sync>(
+    rt: &R,
+    alloc: Global,
+    first: u32,
+    second: u32,
+) -> Result<String, AllocError> {
+    let inside = AtomicU64::new(0);
+    let Done {
+        register,
+        first,
+        second,
+    } = put_both(rt, alloc, &inside, first, second)?;
+    let counted = inside.load(SeqCst);
+    let log = register.log.as_slice();
+    let answers = added_up(first.as_slice()).wrapping_add(added_up(second.as_slice()));
+    let order = if rise(first.as_slice()) && rise(second.as_slice()) {
+        "in order"
+    } else {
+        "out of order"
+    };
+    format!(in alloc;
+        "sum {}, in the log {} and {}, answers {} and {}, which add up to {answers}, {order}, counted inside {counted}",
+        register.sum,
+        by_seat(log, 0),
+        by_seat(log, 1),
+        first.len(),
+        second.len()
+    )
+}
+
+fn answer<R: Threads + Wait + Sync>(
+    rt: &R,
+    alloc: Global,
+    line: &str,
+) -> Result<String, AllocError> {
+    let mut words = line.split(' ');
+    let name = words.next().unwrap_or("");
+    let first = words.next().unwrap_or("").parse::<u32>();
+    let second = words.next().unwrap_or("").parse::<u32>();
+    match (name, first, second) {
+        ("ledger", Ok(first), Ok(second)) => ledger_case(rt, alloc, first, second),
+        ("turn", Ok(first), Ok(second)) => turn_case(rt, alloc, first, second),
+        _ => format!(in alloc; "no such case"),
+    }
+}
+
+fn main(rt: HostRuntime) -> io::Result<()> {
+    for line in rt.lines(rt.alloc()) {
+        let line = line?;
+        let text = answer(&rt, rt.alloc(), line.as_str())?;
+        println!(rt; "{line}: {text}")?;
+    }
+    Ok(())
+}

@@ -1,0 +1,111 @@
+//! Two threads over one register.
+ghost use Rattle.std.specs.Prelude.{◌≡◌, false, List, map, IfOk};
+ghost use Rattle.sd_turn.specs.Turn.{IsSeatOf, number_of};
+ghost use Rattle.sd_cases_threads.specs.Puts.{IsLegal, sum_after};
+ghost use Rattle.sd_cases_threads.specs.declared.register.Event.{Event};
+
+use crate::book::count_up;
+use crate::register::{Put, Register, Was};
+use sd_turn::{Turn, TurnSeat};
+use std::alloc::{AllocError, Global};
+use std::sync::Wait;
+use std::sync::atomic::AtomicU64;
+use std::thread::{Threads, join};
+
+/// A seat, and the sums that it was answered, in order.
+#[derive(Drop)]
+pub struct Putter {
+    seat: TurnSeat<Register>,
+    found: Vec<u64>,
+}
+
+// Puts 1 so many times. The list goes along with each, and has the answers in the end.
+fn put_often<R: Wait>(
+    rt: &R,
+    turn: &Turn<Register>,
+    putter: Putter,
+    inside: &AtomicU64,
+    times: u32,
+) -> Putter
+    requires { IsSeatOf turn.now putter.seat }
+    ensures { IsSeatOf turn.now result.seat }
+{
+    let Putter {
+        mut seat,
+        found: mut list,
+    } = putter;
+    for _ in 0..times {
+        let Was { sum, list: back } = turn.with_turn(
+            rt,
+            &mut seat,
+            Put { more: 1, list },
+            || count_up(inside),
+        );
+        list = back;
+        // No memory for an answer shows in what is printed.
+        let _ = list.push(sum);
+    }
+    Putter { seat, found: list }
+}
+
+/// What two threads did: the register, and the answers that each got.
+#[derive(Drop)]
+pub struct Done {
+    pub register: Register,
+    pub first: Vec<u64>,
+    pub second: Vec<u64>,
+}
+
+/// Two threads put into one register. There is one legal history that leaves its sum, and its log
+/// is that of the history.
+pub fn put_both<R: Threads + Wait + Sync>(
+    rt: &R,
+    alloc: Global,
+    inside: &AtomicU64,
+    first: u32,
+    second: u32,
+) -> Result<Done, AllocError>
+    ensures history { IfOk result (λ d. (log : List Event) × IsLegal 0 log × (d.register.sum ≡ sum_after 0 log) × (d.register.missed ≡ false → d.register.log.items ≡ map (λ (e : Event). e.who) log)) }
+{
+    let empty = Register {
+        seats: 2,
+        sum: 0,
+        log: Vec::new(alloc),
+        missed: false,
+    };
+    let (turn, mut seats) = Turn::open(alloc, empty, 2)?;
+    let Some(seat) = seats.pop() else {
+        unreachable!()
+    };
+    let two = Putter {
+        seat,
+        found: Vec::new(alloc),
+    };
+    let Some(seat) = seats.pop() else {
+        unreachable!()
+    };
+    let one = Putter {
+        seat,
+        found: Vec::new(alloc),
+    };
+    let shared = &turn;
+    let (one, two) = join(
+        rt,
+        move || -> Putter
+            requires { IsSeatOf shared.now one.seat }
+            ensures { IsSeatOf shared.entry.now result.seat }
+        { put_often(rt, shared, one, inside, first) },
+        move || -> Putter
+            requires { IsSeatOf shared.now two.seat }
+            ensures { IsSeatOf shared.entry.now result.seat }
+        { put_often(rt, shared, two, inside, second) },
+    );
+    let mut back = Vec::new(alloc);
+    back.push(one.seat)?;
+    back.push(two.seat)?;
+    Ok(Done {
+        register: turn.close(back),
+        first: one.found,
+        second: two.found,
+    })
+}

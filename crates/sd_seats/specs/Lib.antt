@@ -1,0 +1,4 @@
+pub mod Lists
+pub mod Views
+pub mod Rule
+pub mod TurnTable

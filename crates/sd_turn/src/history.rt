@@ -1,0 +1,45 @@
+//! What is behind a turn with a history, and what its own steps tell.
+ghost use Rattle.sd_turn.specs.History.{history_terms, history_laws, noted, gave};
+
+use crate::stepped::Stepped;
+use atomic_table::Play;
+use sd_seats::{Behind, View};
+use std::marker::{Brand, PhantomData};
+
+/// The rule of a turn with a history.
+pub struct History;
+
+impl<V: Stepped> Behind<V, V::Noted, V::Fixed> for History {
+    ghost terms = { history_terms V.fixed V.stands V.legal V.who };
+
+    ghost laws = { history_laws V.fixed V.stands V.legal V.who };
+}
+
+/// Picks the entries that a step notes. Each call picks them for itself.
+pub trait Chosen<N> {
+    ghost use Rattle.std.specs.Prelude.{List};
+
+    ghost chosen: { List N };
+}
+
+impl<N> Chosen<N> for Brand {
+    ghost use Rattle.std.specs.Prelude.{[]};
+
+    ghost chosen = { [] };
+}
+
+// The entries that were picked are noted.
+pub(crate) struct Note<E> {
+    of: PhantomData<E>,
+}
+
+impl<S, N, F, E: Chosen<N>> Play<S, View<N, F>> for Note<E> {
+    ghost then = { noted E.chosen };
+}
+
+// The turn and the value are given back.
+pub(crate) struct Give;
+
+impl<S, N, F> Play<S, View<N, F>> for Give {
+    ghost then = { gave };
+}
