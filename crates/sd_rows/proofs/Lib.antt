@@ -1,0 +1,4 @@
+pub mod IndexLemmas
+pub mod MapLemmas
+pub mod RankingLemmas
+pub mod RowsLemmas

@@ -1,0 +1,5 @@
+pub mod Index
+pub mod Ranking
+pub mod Rows
+pub mod RowsInside
+pub mod RowMap

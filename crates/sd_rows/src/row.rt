@@ -1,0 +1,46 @@
+ghost use Rattle.std.specs.Prelude.{◌≡◌, ◌↔◌, ◌<◌, IsTrue};
+ghost use Rattle.sd_rows.specs.Rows.{home_of};
+
+use sd_decimal::Micro;
+use sd_key::{Key, Kind, fnv1a};
+
+/// A row: the kind and key that it is known by, and what it keeps from swap to swap.
+#[derive(Clone, Debug, Drop)]
+pub struct Row {
+    pub kind: Kind,
+    pub key: Key,
+    /// A gauge's value at the last swap, in millionths.
+    pub base: Micro,
+    /// The swaps since the last sample.
+    pub swaps: u32,
+}
+
+/// Whether the row is of this kind and key.
+pub(crate) fn is_of(row: &Row, kind: Kind, key: &Key) -> bool
+    ensures { IsTrue result ↔ ((row.now.kind ≡ kind) × (row.now.key ≡ key.now)) }
+{
+    row.kind == kind && row.key == *key
+}
+
+/// The first cell that a row of this kind and key may stand in, of so many.
+pub(crate) fn home_of(kind: Kind, key: &Key, homes: u64) -> u64
+    requires { 0 < homes }
+    ensures home { result ≡ home_of kind key.now homes }
+    ensures below { result < homes }
+{
+    // All keys of one shard have one residue of the hash by the number of shards, which is at most 16. Without the
+    // division they would begin at one cell in 16, for as many homes.
+    (fnv1a(key.as_slice()) / 16 + kind as u64) % homes
+}
+
+/// The same row, in memory of its own.
+pub(crate) fn copy_of(row: &Row) -> Row
+    ensures { result ≡ row.now }
+{
+    Row {
+        kind: row.kind,
+        key: row.key.clone().unwrap(),
+        base: row.base,
+        swaps: row.swaps,
+    }
+}

@@ -1,0 +1,41 @@
+ghost use Rattle.std.specs.Prelude.{◌≡◌, ◌+◌, ◌<◌, ℕ};
+
+use std::marker::Model;
+use std::sync::ledger::{Blank, Book, Ledger, Share};
+
+/// How many rows were copied. It takes no bytes and no time: only contracts see the number.
+///
+/// One copied row is one step, and nothing else is.
+#[derive(Drop)]
+pub struct Steps<L: Ledger> {
+    book: Book<L>,
+    share: Share<L>,
+}
+
+impl<L: Ledger> Model for Steps<L> {
+    ghost Value = { ℕ };
+
+    ghost view = { λ s. s.book.total };
+
+    ghost invariant = { λ s. 0 < s.share.parts };
+}
+
+impl<L: Ledger> Steps<L> {
+    /// No steps so far, counted in the ledger of the blank.
+    pub fn new(blank: Blank) -> Steps<L>
+        requires name { blank.name ≡ L.name }
+        requires parts { blank.parts ≡ L.parts }
+        requires some { 0 < blank.parts }
+        ensures { result ≡ 0 }
+    {
+        let (book, share) = blank.open::<L>();
+        Steps { book, share }
+    }
+
+    /// One more step.
+    pub(crate) fn tick(&mut self)
+        ensures { self.new ≡ self.old + 1 }
+    {
+        self.book.add(&mut self.share, 1);
+    }
+}
