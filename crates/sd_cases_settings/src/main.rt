@@ -1,0 +1,157 @@
+//! Cases: reads a call and its arguments from each line, makes the call, and prints the line with its answer. Most
+//! read a settings file, which stands on the line, and ask for values.
+#![tactic(auto)]
+
+mod answer;
+mod refusal;
+mod text;
+mod values;
+
+use answer::Answer;
+use refusal::Refusal;
+use sd_config::{ConfigFault, Names, Reckoning, Settings};
+use sd_outside::Name;
+use std::alloc::Global;
+use std::io::{self, BufRead, BufReader};
+use text::bytes_of;
+use values::{CALLS, show_histogram, show_names, show_thresholds, show_value};
+
+/// Makes the call of a case.
+fn call(alloc: Global, words: &[&str], out: &mut Answer) -> Result<(), Refusal> {
+    match words {
+        ["plain"] => show_plain(out),
+        [call, file, calls @ ..] => match Settings::read(alloc, &bytes_of(alloc, file)?) {
+            Ok(settings) => show_settings(&settings, call, calls, out),
+            Err(fault) => show_fault(&fault, out),
+        },
+        _ => Err(Refusal::UnknownCall),
+    }
+}
+
+/// Appends what is asked for of settings.
+fn show_settings(
+    settings: &Settings,
+    call: &str,
+    calls: &[&str],
+    out: &mut Answer,
+) -> Result<(), Refusal> {
+    match call {
+        "read" => show_some(settings, calls, out),
+        "all" => show_all(settings, out),
+        "config" => {
+            show_config(settings, out);
+            Ok(())
+        }
+        "plan" => {
+            out.text(" = ");
+            show_plan(settings.plan(), out);
+            Ok(())
+        }
+        "names" => {
+            out.text(" = ");
+            show_names(&Names::of(settings), out);
+            Ok(())
+        }
+        _ => Err(Refusal::UnknownCall),
+    }
+}
+
+/// Appends what some read calls answer, or `ok` where none is asked for.
+fn show_some(settings: &Settings, calls: &[&str], out: &mut Answer) -> Result<(), Refusal> {
+    out.text(" =");
+    if calls.is_empty() {
+        out.text(" ok");
+    }
+    for call in calls {
+        out.text(" ");
+        show_value(settings, call, out)?;
+    }
+    Ok(())
+}
+
+/// Appends what all read calls answer, each on a line.
+fn show_all(settings: &Settings, out: &mut Answer) -> Result<(), Refusal> {
+    for call in CALLS {
+        out.text("\n  ");
+        out.text(call);
+        out.text(": ");
+        show_value(settings, call, out)?;
+    }
+    Ok(())
+}
+
+/// Appends the lines of the reply to `config`, each on a line.
+fn show_config(settings: &Settings, out: &mut Answer) {
+    for place in 0..usize::MAX {
+        match settings.config_line(place) {
+            Some(line) => {
+                out.text("\n  ");
+                out.bytes(line.as_slice());
+            }
+            None => break,
+        }
+    }
+}
+
+/// Appends what a record is reckoned by.
+fn show_plan(plan: &Reckoning, out: &mut Answer) {
+    out.number(plan.interval_ms);
+    out.text(" ");
+    show_thresholds(plan.thresholds.as_slice(), out);
+    out.text(" ");
+    show_histogram(plan.histograms.as_slice(), out);
+}
+
+/// Appends what the defaults make.
+fn show_plain(out: &mut Answer) -> Result<(), Refusal> {
+    out.text(" = ");
+    show_plan(&Reckoning::plain(), out);
+    out.text("; ");
+    show_names(&Names::plain(), out);
+    Ok(())
+}
+
+/// Appends why a file sets nothing.
+fn show_fault(fault: &ConfigFault, out: &mut Answer) -> Result<(), Refusal> {
+    match fault {
+        ConfigFault::OutOfMemory => return Err(Refusal::OutOfMemory),
+        ConfigFault::NotToml => out.text(" = not TOML"),
+        ConfigFault::Unknown { name } => show_name(" = unknown ", name, out),
+        ConfigFault::WrongKind { name } => show_name(" = wrong kind ", name, out),
+        ConfigFault::OutOfRange { name } => show_name(" = out of range ", name, out),
+    }
+    Ok(())
+}
+
+/// Appends a fault with its name.
+fn show_name(fault: &str, name: &Name, out: &mut Answer) {
+    out.text(fault);
+    out.bytes(name.as_slice());
+}
+
+/// What a case answers.
+fn answer_of(alloc: Global, case: &str) -> Result<String, Refusal> {
+    let words: Vec<&str> = case.split(' ').collect(alloc)?;
+    let mut answer = Answer::new(alloc);
+    call(alloc, &words, &mut answer)?;
+    answer.finish()
+}
+
+/// Prints a case with its answer. A heading and an empty line stand as they are.
+fn print_case(rt: &impl Print, alloc: Global, case: &str) -> io::Result<()> {
+    if case.is_empty() || case.starts_with('#') {
+        return println!(rt; "{case}");
+    }
+    match answer_of(alloc, case) {
+        Ok(answer) => println!(rt; "{case}{answer}"),
+        Err(refusal) => println!(rt; "{case} ? {refusal}"),
+    }
+}
+
+fn main(rt: HostRuntime) -> io::Result<()> {
+    let alloc = rt.alloc();
+    for line in BufReader::new(alloc, rt.reader())?.lines(alloc) {
+        print_case(&rt, alloc, &line?)?;
+    }
+    Ok(())
+}

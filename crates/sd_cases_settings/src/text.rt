@@ -1,0 +1,83 @@
+ghost use Rattle.std.specs.Prelude.{◌<◌, IfOk};
+
+use crate::refusal::Refusal;
+use std::alloc::Global;
+use std::str::FromStr;
+
+/// The bytes that a word of a case stands for: its own, but for `""`, which is no byte, the escapes `\n`, `\r`,
+/// `\t`, `\s` and `\xNN`, and `{TEXT*COUNT}`, which is the text so many times.
+///
+/// # Errors
+///
+/// `Malformed` where an escape or a repetition is none of these, and `OutOfMemory`.
+pub(crate) fn bytes_of(alloc: Global, word: &str) -> Result<Vec<u8>, Refusal> {
+    let mut bytes = Vec::new(alloc);
+    if word == "\"\"" {
+        return Ok(bytes);
+    }
+    for (place, part) in word.split('{').enumerate() {
+        if place == 0 {
+            push_plain(&mut bytes, part)?;
+        } else {
+            push_repeated(&mut bytes, part)?;
+        }
+    }
+    Ok(bytes)
+}
+
+/// Appends what stands behind an opening brace: a repetition, and the plain text behind it.
+fn push_repeated(bytes: &mut Vec<u8>, part: &str) -> Result<(), Refusal> {
+    let (repetition, plain) = part.split_once('}').ok_or(Refusal::Malformed)?;
+    let (text, count) = repetition.split_once('*').ok_or(Refusal::Malformed)?;
+    let count = number::<u32>(count)?;
+    for _ in 0..count {
+        push_plain(bytes, text)?;
+    }
+    push_plain(bytes, plain)
+}
+
+/// Appends a text with escapes.
+fn push_plain(bytes: &mut Vec<u8>, text: &str) -> Result<(), Refusal> {
+    for (place, part) in text.split('\\').enumerate() {
+        if place == 0 {
+            bytes.extend_from_slice(part.as_bytes())?;
+        } else {
+            push_escaped(bytes, part.as_bytes())?;
+        }
+    }
+    Ok(())
+}
+
+/// Appends what stands behind a backslash: the byte that it stands for, and the text behind it.
+fn push_escaped(bytes: &mut Vec<u8>, part: &[u8]) -> Result<(), Refusal> {
+    let (byte, rest) = match part {
+        [b'n', rest @ ..] => (b'\n', rest),
+        [b'r', rest @ ..] => (b'\r', rest),
+        [b't', rest @ ..] => (b'\t', rest),
+        [b's', rest @ ..] => (b' ', rest),
+        [b'x', high, low, rest @ ..] => (hex_digit(*high)? * 16 + hex_digit(*low)?, rest),
+        _ => return Err(Refusal::Malformed),
+    };
+    bytes.push(byte)?;
+    bytes.extend_from_slice(rest)?;
+    Ok(())
+}
+
+/// The value of a hexadecimal digit.
+fn hex_digit(digit: u8) -> Result<u8, Refusal>
+    ensures { IfOk result (λ value. value < 16) }
+{
+    match digit {
+        b'0'..=b'9' => Ok(digit - b'0'),
+        b'a'..=b'f' => Ok(digit - b'a' + 10),
+        _ => Err(Refusal::Malformed),
+    }
+}
+
+/// The number that a word writes.
+pub(crate) fn number<T: FromStr>(word: &str) -> Result<T, Refusal>
+where
+    T::Err: Drop,
+{
+    word.parse::<T>().map_err(|_| Refusal::Malformed)
+}

@@ -1,0 +1,197 @@
+use crate::answer::Answer;
+use crate::refusal::Refusal;
+use sd_config::{Classes, Names, Node, Settings, Target};
+use sd_decimal::Micro;
+use sd_outside::Name;
+
+/// The read calls in the order of the settings.
+pub(crate) const CALLS: [&str; 32] = [
+    "port",
+    "mgmt_port",
+    "flush_interval",
+    "percent_threshold",
+    "delete_idle_stats",
+    "delete_counters",
+    "delete_timers",
+    "delete_sets",
+    "delete_gauges",
+    "prefix_stats",
+    "address",
+    "mgmt_address",
+    "backends",
+    "graphite_host",
+    "graphite_port",
+    "legacy_namespace",
+    "global_prefix",
+    "prefix_counter",
+    "prefix_timer",
+    "prefix_gauge",
+    "prefix_set",
+    "global_suffix",
+    "histogram",
+    "repeater",
+    "nodes",
+    "check_interval",
+    "cache_size",
+    "shards",
+    "rows",
+    "entries",
+    "receivers",
+    "run_flushes",
+];
+
+/// Appends what a read call answers.
+pub(crate) fn show_value(settings: &Settings, call: &str, out: &mut Answer) -> Result<(), Refusal> {
+    if let Some(number) = number_of(settings, call) {
+        out.number(number);
+    } else if let Some(flag) = flag_of(settings, call) {
+        out.flag(flag);
+    } else if let Some(name) = name_of(settings, call) {
+        out.bytes(name.as_slice());
+    } else {
+        return show_list(settings, call, out);
+    }
+    Ok(())
+}
+
+/// What a read call of a number answers.
+fn number_of(settings: &Settings, call: &str) -> Option<u32> {
+    match call {
+        "port" => Some(settings.port()),
+        "mgmt_port" => Some(settings.mgmt_port()),
+        "flush_interval" => Some(settings.flush_interval()),
+        "graphite_port" => Some(settings.graphite_port()),
+        "check_interval" => Some(settings.check_interval()),
+        "cache_size" => Some(settings.cache_size()),
+        "shards" => Some(settings.shards()),
+        "rows" => Some(settings.rows()),
+        "entries" => Some(settings.entries()),
+        "receivers" => Some(settings.receivers()),
+        "run_flushes" => Some(settings.run_flushes()),
+        _ => None,
+    }
+}
+
+/// What a read call of a boolean answers.
+fn flag_of(settings: &Settings, call: &str) -> Option<bool> {
+    match call {
+        "delete_idle_stats" => Some(settings.delete_idle_stats()),
+        "delete_counters" => Some(settings.delete_counters()),
+        "delete_timers" => Some(settings.delete_timers()),
+        "delete_sets" => Some(settings.delete_sets()),
+        "delete_gauges" => Some(settings.delete_gauges()),
+        "legacy_namespace" => Some(settings.legacy_namespace()),
+        _ => None,
+    }
+}
+
+/// What a read call of a text answers.
+fn name_of<'a>(settings: &'a Settings, call: &str) -> Option<&'a Name> {
+    match call {
+        "prefix_stats" => Some(settings.prefix_stats()),
+        "address" => Some(settings.address()),
+        "mgmt_address" => Some(settings.mgmt_address()),
+        "graphite_host" => Some(settings.graphite_host()),
+        "global_prefix" => Some(settings.global_prefix()),
+        "prefix_counter" => Some(settings.prefix_counter()),
+        "prefix_timer" => Some(settings.prefix_timer()),
+        "prefix_gauge" => Some(settings.prefix_gauge()),
+        "prefix_set" => Some(settings.prefix_set()),
+        "global_suffix" => Some(settings.global_suffix()),
+        _ => None,
+    }
+}
+
+/// Appends what a read call of a list answers.
+fn show_list(settings: &Settings, call: &str, out: &mut Answer) -> Result<(), Refusal> {
+    match call {
+        "percent_threshold" => show_thresholds(settings.percent_threshold(), out),
+        "backends" => show_backends(settings.backends(), out),
+        "histogram" => show_histogram(settings.histogram(), out),
+        "repeater" => show_repeater(settings.repeater(), out),
+        "nodes" => show_nodes(settings.nodes(), out),
+        _ => return Err(Refusal::UnknownCall),
+    }
+    Ok(())
+}
+
+/// Appends `none` for a list that is empty.
+fn show_none(is_empty: bool, out: &mut Answer) {
+    if is_empty {
+        out.text("none");
+    }
+}
+
+/// Appends thresholds, parted by commas.
+pub(crate) fn show_thresholds(thresholds: &[Micro], out: &mut Answer) {
+    show_none(thresholds.is_empty(), out);
+    for (place, threshold) in thresholds.iter().enumerate() {
+        out.comma(place);
+        out.micro(*threshold);
+    }
+}
+
+/// Appends backends, parted by commas.
+fn show_backends(backends: &[Name], out: &mut Answer) {
+    show_none(backends.is_empty(), out);
+    for (place, backend) in backends.iter().enumerate() {
+        out.comma(place);
+        out.bytes(backend.as_slice());
+    }
+}
+
+/// Appends entries of `histogram`, each as `METRIC(LIMITS)`.
+pub(crate) fn show_histogram(histogram: &[Classes], out: &mut Answer) {
+    show_none(histogram.is_empty(), out);
+    for (place, classes) in histogram.iter().enumerate() {
+        out.comma(place);
+        out.bytes(classes.metric.as_slice());
+        out.text("(");
+        for (place, limit) in classes.limits.as_slice().iter().enumerate() {
+            out.comma(place);
+            out.limit(*limit);
+        }
+        out.text(")");
+    }
+}
+
+/// Appends entries of `repeater`, each as `HOST:PORT`.
+fn show_repeater(targets: &[Target], out: &mut Answer) {
+    show_none(targets.is_empty(), out);
+    for (place, target) in targets.iter().enumerate() {
+        out.comma(place);
+        out.bytes(target.host.as_slice());
+        out.text(":");
+        out.number(u32::from(target.port));
+    }
+}
+
+/// Appends entries of `nodes`, each as `HOST:PORT:ADMINPORT`.
+fn show_nodes(nodes: &[Node], out: &mut Answer) {
+    show_none(nodes.is_empty(), out);
+    for (place, node) in nodes.iter().enumerate() {
+        out.comma(place);
+        out.bytes(node.host.as_slice());
+        out.text(":");
+        out.number(u32::from(node.port));
+        out.text(":");
+        out.number(u32::from(node.adminport));
+    }
+}
+
+/// Appends what Graphite's names are made of.
+pub(crate) fn show_names(names: &Names, out: &mut Answer) {
+    out.flag(names.legacy_namespace());
+    for name in [
+        names.global_prefix(),
+        names.prefix_counter(),
+        names.prefix_timer(),
+        names.prefix_gauge(),
+        names.prefix_set(),
+        names.global_suffix(),
+        names.prefix_stats(),
+    ] {
+        out.text(" ");
+        out.bytes(name.as_slice());
+    }
+}

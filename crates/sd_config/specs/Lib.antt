@@ -1,0 +1,5 @@
+pub mod Answers
+pub mod Values
+pub mod Entries
+pub mod Groups
+pub mod Plan

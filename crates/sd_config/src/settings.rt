@@ -1,0 +1,413 @@
+ghost use Rattle.std.specs.Prelude.{◌≡◌, ◌<◌, ◌≤◌, length, map};
+ghost use Rattle.toml.specs.View.{table_view};
+ghost use Rattle.sd_model_settings.specs.Settings.{top, settings_in, document, settings};
+ghost use Rattle.sd_model_settings.specs.Defaults.{plan_of};
+ghost use Rattle.sd_model_settings.specs.Ranges.{IsWithin, IsPrefix, IsHost, AreThresholds, AreBackends, AreHistograms, AreTargets, AreNodes, InRange};
+ghost use Rattle.sd_config.specs.Answers.{Gives};
+ghost use Rattle.sd_config.specs.Values.{micros, name_bytes};
+ghost use Rattle.sd_config.specs.Entries.{classes_view, target_view, node_view};
+ghost use Rattle.sd_config.specs.Plan.{plan_view};
+
+use crate::entries::{Classes, Node, Target};
+use crate::fault::{ConfigFault, shown};
+use crate::groups::{
+    Addresses, Deletions, EntryLists, Namespace, Server, Sizes, addresses_in, deletions_in,
+    entry_lists_in, namespace_in, server_in, sizes_in,
+};
+use crate::known_names::unknown;
+use crate::reckoning::{Histograms, Reckoning};
+use crate::section::Section;
+use crate::thresholds::Thresholds;
+use arrayvec::ArrayVec;
+use sd_decimal::Micro;
+use sd_outside::Name;
+use std::alloc::Global;
+use std::marker::Model;
+use toml::Table;
+
+// The largest file, in bytes.
+const LONGEST: usize = 65_536;
+
+/// The settings in force. No call but `read` takes memory.
+#[derive(Debug, Drop)]
+pub struct Settings {
+    port: u32,
+    mgmt_port: u32,
+    plan: Reckoning,
+    deletions: Deletions,
+    addresses: Addresses,
+    namespace: Namespace,
+    repeater: ArrayVec<Target, 16>,
+    nodes: ArrayVec<Node, 64>,
+    sizes: Sizes,
+}
+
+impl Model for Settings {
+    ghost use Rattle.std.specs.Prelude.{map};
+    ghost use Rattle.sd_model_settings.specs.Settings.{Settings as ModelSettings};
+    ghost use Rattle.sd_model_settings.specs.Ranges.{IsWithin, AddressesInRange, NamespaceInRange, AreTargets, AreNodes, SizesInRange};
+    ghost use Rattle.sd_config.specs.Entries.{target_view, node_view};
+    ghost use Rattle.sd_config.specs.Groups.{deletions_view, addresses_view, namespace_view, sizes_view};
+
+    ghost Value = { ModelSettings };
+
+    ghost view = { λ s. record {
+      server = record {
+        port = s.port;
+        mgmt_port = s.mgmt_port;
+        flush_interval = s.plan.interval_ms;
+        percent_threshold = s.plan.thresholds;
+      };
+      deletions = deletions_view s.deletions;
+      addresses = addresses_view s.addresses;
+      namespace = namespace_view s.namespace;
+      lists = record {
+        histogram = s.plan.histograms;
+        repeater = map target_view s.repeater.items;
+        nodes = map node_view s.nodes.items;
+      };
+      sizes = sizes_view s.sizes;
+    } };
+
+    // the ranges of what the plan has are kept by its own fields
+    ghost invariant = { λ s. (IsWithin 1 65535 s.port × IsWithin 1 65535 s.mgmt_port)
+        × AddressesInRange (addresses_view s.addresses)
+        × NamespaceInRange (namespace_view s.namespace)
+        × AreTargets (map target_view s.repeater.items)
+        × AreNodes (map node_view s.nodes.items)
+        × SizesInRange (sizes_view s.sizes) };
+}
+
+#[tactic(auto, unfolding(sd_model_settings::specs::Settings::settings_in))]
+fn settings_in(table: &Table) -> Result<Settings, ConfigFault>
+    ensures { Gives (λ s. s) result (settings_in (top (table_view table.now))) }
+{
+    let top = Section {
+        prefix: "",
+        table: Some(table),
+    };
+    let Server {
+        port,
+        mgmt_port,
+        flush_interval,
+        percent_threshold,
+    } = server_in(&top)?;
+    let deletions = deletions_in(&top)?;
+    let addresses = addresses_in(&top)?;
+    let namespace = namespace_in(&top)?;
+    let EntryLists {
+        histogram,
+        repeater,
+        nodes,
+    } = entry_lists_in(&top)?;
+    let sizes = sizes_in(&top)?;
+    let plan = Reckoning {
+        interval_ms: flush_interval,
+        thresholds: Thresholds::of(percent_threshold),
+        histograms: Histograms::of(histogram),
+    };
+    Ok(Settings {
+        port,
+        mgmt_port,
+        plan,
+        deletions,
+        addresses,
+        namespace,
+        repeater,
+        nodes,
+        sizes,
+    })
+}
+
+// The table that bytes are.
+#[tactic(auto, unfolding(sd_model_settings::specs::Settings::document))]
+fn document(alloc: Global, text: &[u8]) -> Result<Table, ConfigFault>
+    ensures { Gives table_view result (document text.now) }
+{
+    match toml::table_from_slice(alloc, text) {
+        Ok(table) => Ok(table),
+        Err(error) if error.is_memory() => Err(ConfigFault::OutOfMemory),
+        Err(_) => Err(ConfigFault::NotToml),
+    }
+}
+
+impl Settings {
+    /// The settings that a file sets.
+    ///
+    /// # Errors
+    ///
+    /// The file's first fault, or `OutOfMemory`, which alone may come whatever the file is.
+    #[tactic(auto, unfolding(sd_model_settings::specs::Settings::settings))]
+    pub fn read(alloc: Global, text: &[u8]) -> Result<Settings, ConfigFault>
+        ensures exact { Gives (λ s. s) result (settings text.now) }
+    {
+        if text.len() > LONGEST {
+            return Err(ConfigFault::OutOfRange {
+                name: shown("", "file"),
+            });
+        }
+        let table = document(alloc, text)?;
+        match unknown(&table) {
+            Some(name) => Err(ConfigFault::Unknown { name }),
+            None => settings_in(&table),
+        }
+    }
+
+    /// What a record is reckoned by.
+    pub fn plan(&self) -> &Reckoning
+        ensures { plan_view result.now ≡ plan_of self.now }
+    {
+        &self.plan
+    }
+
+    /// The port of datagrams.
+    pub fn port(&self) -> u32
+        ensures value { result ≡ self.now.server.port }
+        ensures range { IsWithin 1 65535 result }
+    {
+        self.port
+    }
+
+    /// The port of admin sessions.
+    pub fn mgmt_port(&self) -> u32
+        ensures value { result ≡ self.now.server.mgmt_port }
+        ensures range { IsWithin 1 65535 result }
+    {
+        self.mgmt_port
+    }
+
+    /// The time between two flushes, in milliseconds.
+    pub fn flush_interval(&self) -> u32
+        ensures value { result ≡ self.now.server.flush_interval }
+        ensures range { IsWithin 1 86400000 result }
+    {
+        self.plan.interval_ms
+    }
+
+    /// The port of Graphite.
+    pub fn graphite_port(&self) -> u32
+        ensures value { result ≡ self.now.addresses.graphite_port }
+        ensures range { IsWithin 1 65535 result }
+    {
+        self.addresses.graphite_port
+    }
+
+    /// The time between two checks of the nodes, in milliseconds.
+    pub fn check_interval(&self) -> u32
+        ensures value { result ≡ self.now.sizes.check_interval }
+        ensures range { IsWithin 1 86400000 result }
+    {
+        self.sizes.check_interval
+    }
+
+    /// How many keys the proxy keeps the owners of.
+    pub fn cache_size(&self) -> u32
+        ensures value { result ≡ self.now.sizes.cache_size }
+        ensures range { IsWithin 1 1000000 result }
+    {
+        self.sizes.cache_size
+    }
+
+    /// The number of shards.
+    pub fn shards(&self) -> u32
+        ensures value { result ≡ self.now.sizes.shards }
+        ensures range { IsWithin 1 16 result }
+    {
+        self.sizes.shards
+    }
+
+    /// The number of rows of a shard.
+    pub fn rows(&self) -> u32
+        ensures value { result ≡ self.now.sizes.rows }
+        ensures range { IsWithin 1 16384 result }
+    {
+        self.sizes.rows
+    }
+
+    /// The number of entries of a shard.
+    pub fn entries(&self) -> u32
+        ensures value { result ≡ self.now.sizes.entries }
+        ensures range { IsWithin 1 65536 result }
+    {
+        self.sizes.entries
+    }
+
+    /// The number of receivers.
+    pub fn receivers(&self) -> u32
+        ensures value { result ≡ self.now.sizes.receivers }
+        ensures range { IsWithin 1 16 result }
+    {
+        self.sizes.receivers
+    }
+
+    /// After how many flushes a run ends; 0 is never.
+    pub fn run_flushes(&self) -> u32
+        ensures value { result ≡ self.now.sizes.run_flushes }
+        ensures range { result ≤ 1000000000 }
+    {
+        self.sizes.run_flushes
+    }
+
+    /// Whether idle rows are deleted, unless their kind has a setting of its own.
+    pub fn delete_idle_stats(&self) -> bool
+        ensures { result ≡ self.now.deletions.idle_stats }
+    {
+        self.deletions.idle_stats
+    }
+
+    /// Whether idle counters are deleted.
+    pub fn delete_counters(&self) -> bool
+        ensures { result ≡ self.now.deletions.counters }
+    {
+        self.deletions.counters
+    }
+
+    /// Whether idle timers are deleted.
+    pub fn delete_timers(&self) -> bool
+        ensures { result ≡ self.now.deletions.timers }
+    {
+        self.deletions.timers
+    }
+
+    /// Whether idle sets are deleted.
+    pub fn delete_sets(&self) -> bool
+        ensures { result ≡ self.now.deletions.sets }
+    {
+        self.deletions.sets
+    }
+
+    /// Whether idle gauges are deleted.
+    pub fn delete_gauges(&self) -> bool
+        ensures { result ≡ self.now.deletions.gauges }
+    {
+        self.deletions.gauges
+    }
+
+    /// Whether Graphite's names have their older form.
+    pub fn legacy_namespace(&self) -> bool
+        ensures { result ≡ self.now.namespace.legacy }
+    {
+        self.namespace.legacy
+    }
+
+    /// The prefix of the server's own metrics, which isn't empty.
+    pub fn prefix_stats(&self) -> &Name
+        ensures value { result.now.items ≡ self.now.addresses.prefix_stats }
+        ensures range { IsPrefix result.now.items }
+        ensures some { 0 < length result.now.items }
+    {
+        &self.addresses.prefix_stats
+    }
+
+    /// The address of datagrams.
+    pub fn address(&self) -> &Name
+        ensures value { result.now.items ≡ self.now.addresses.address }
+        ensures range { IsHost result.now.items }
+    {
+        &self.addresses.address
+    }
+
+    /// The address of admin sessions.
+    pub fn mgmt_address(&self) -> &Name
+        ensures value { result.now.items ≡ self.now.addresses.mgmt_address }
+        ensures range { IsHost result.now.items }
+    {
+        &self.addresses.mgmt_address
+    }
+
+    /// The host of Graphite.
+    pub fn graphite_host(&self) -> &Name
+        ensures value { result.now.items ≡ self.now.addresses.graphite_host }
+        ensures range { IsHost result.now.items }
+    {
+        &self.addresses.graphite_host
+    }
+
+    /// The prefix of all of Graphite's names.
+    pub fn global_prefix(&self) -> &Name
+        ensures value { result.now.items ≡ self.now.namespace.global_prefix }
+        ensures range { IsPrefix result.now.items }
+    {
+        &self.namespace.global_prefix
+    }
+
+    /// The prefix of counters.
+    pub fn prefix_counter(&self) -> &Name
+        ensures value { result.now.items ≡ self.now.namespace.prefix_counter }
+        ensures range { IsPrefix result.now.items }
+    {
+        &self.namespace.prefix_counter
+    }
+
+    /// The prefix of timers.
+    pub fn prefix_timer(&self) -> &Name
+        ensures value { result.now.items ≡ self.now.namespace.prefix_timer }
+        ensures range { IsPrefix result.now.items }
+    {
+        &self.namespace.prefix_timer
+    }
+
+    /// The prefix of gauges.
+    pub fn prefix_gauge(&self) -> &Name
+        ensures value { result.now.items ≡ self.now.namespace.prefix_gauge }
+        ensures range { IsPrefix result.now.items }
+    {
+        &self.namespace.prefix_gauge
+    }
+
+    /// The prefix of sets.
+    pub fn prefix_set(&self) -> &Name
+        ensures value { result.now.items ≡ self.now.namespace.prefix_set }
+        ensures range { IsPrefix result.now.items }
+    {
+        &self.namespace.prefix_set
+    }
+
+    /// What stands behind all of Graphite's names.
+    pub fn global_suffix(&self) -> &Name
+        ensures value { result.now.items ≡ self.now.namespace.global_suffix }
+        ensures range { IsPrefix result.now.items }
+    {
+        &self.namespace.global_suffix
+    }
+
+    /// The thresholds of timers.
+    pub fn percent_threshold(&self) -> &[Micro]
+        ensures value { micros result.now ≡ self.now.server.percent_threshold }
+        ensures range { AreThresholds (micros result.now) }
+    {
+        self.plan.thresholds.as_slice()
+    }
+
+    /// The backends that are used.
+    pub fn backends(&self) -> &[Name]
+        ensures value { name_bytes result.now ≡ self.now.addresses.backends }
+        ensures range { AreBackends (name_bytes result.now) }
+    {
+        self.addresses.backends.as_slice()
+    }
+
+    /// The bins of timers by parts of their names.
+    pub fn histogram(&self) -> &[Classes]
+        ensures value { map classes_view result.now ≡ self.now.lists.histogram }
+        ensures range { AreHistograms (map classes_view result.now) }
+    {
+        self.plan.histograms.as_slice()
+    }
+
+    /// Where packets are repeated to.
+    pub fn repeater(&self) -> &[Target]
+        ensures value { map target_view result.now ≡ self.now.lists.repeater }
+        ensures range { AreTargets (map target_view result.now) }
+    {
+        self.repeater.as_slice()
+    }
+
+    /// The servers behind the proxy.
+    pub fn nodes(&self) -> &[Node]
+        ensures value { map node_view result.now ≡ self.now.lists.nodes }
+        ensures range { AreNodes (map node_view result.now) }
+    {
+        self.nodes.as_slice()
+    }
+}

@@ -1,0 +1,100 @@
+ghost use Rattle.std.specs.Prelude.{◌≡◌};
+ghost use Rattle.std.specs.List.{list_all};
+ghost use Rattle.std.specs.Ordering.{int_eq};
+ghost use Rattle.toml.specs.View.{view};
+ghost use Rattle.sd_model_settings.specs.Entries.{is_threshold, are_thresholds, thresholds};
+ghost use Rattle.sd_config.specs.Answers.{seen_by};
+ghost use Rattle.sd_config.specs.Values.{micros};
+
+use crate::fault::ValueFault;
+use crate::lists::{Element, are_distinct, each, one_or_list};
+use crate::values;
+use arrayvec::ArrayVec;
+use sd_decimal::Micro;
+use std::marker::Model;
+use toml::Value;
+
+/// The thresholds of timers, in the order of the file: at most 16, each from -100 to 100 and not 0, and no two
+/// equal.
+#[derive(Debug, Drop)]
+pub struct Thresholds {
+    numbers: ArrayVec<Micro, 16>,
+}
+
+impl Model for Thresholds {
+    ghost use Rattle.std.specs.Prelude.{ℤ, List};
+    ghost use Rattle.sd_model_settings.specs.Ranges.{AreThresholds};
+    ghost use Rattle.sd_config.specs.Values.{micros};
+
+    ghost Value = { List ℤ };
+
+    ghost view = { λ t. micros t.numbers.items };
+
+    ghost invariant = { λ t. AreThresholds (micros t.numbers.items) };
+}
+
+impl Thresholds {
+    ghost use Rattle.sd_model_settings.specs.Ranges.{AreThresholds};
+
+    /// Thresholds that are in range.
+    pub(crate) fn of(numbers: ArrayVec<Micro, 16>) -> Thresholds
+        requires { AreThresholds (micros numbers.items) }
+        ensures { result ≡ micros numbers.items }
+    {
+        Thresholds { numbers }
+    }
+
+    /// The numbers.
+    pub fn as_slice(&self) -> &[Micro]
+        ensures numbers { micros result.now ≡ self.now }
+        ensures range { AreThresholds self.now }
+    {
+        self.numbers.as_slice()
+    }
+}
+
+impl Element for Micro {
+    ghost use Rattle.std.specs.Prelude.{ℤ};
+    ghost use Rattle.sd_model_settings.specs.Values.{decimal};
+
+    ghost Seen = { ℤ };
+
+    ghost seen = { λ m. m.0 };
+
+    ghost reads = { decimal };
+
+    fn read(value: &Value) -> Result<Micro, ValueFault> {
+        values::decimal(value)
+    }
+}
+
+fn is_threshold(number: &Micro) -> bool
+    ensures { result ≡ is_threshold number.now.0 }
+{
+    number.0.unsigned_abs() <= 100_000_000 && number.0 != 0
+}
+
+fn each_is_threshold(numbers: &[Micro]) -> bool
+    ensures { result ≡ list_all (λ m. is_threshold m.0) numbers.now }
+{
+    numbers.iter().all(is_threshold)
+}
+
+#[tactic(auto, using(crate::proofs::Micros::list_all_micros, crate::proofs::Micros::are_distinct_micros))]
+fn are_thresholds(numbers: &[Micro]) -> bool
+    ensures { result ≡ are_thresholds (micros numbers.now) }
+{
+    each_is_threshold(numbers) && are_distinct(numbers)
+}
+
+/// Decimals as thresholds: one alone, or a list.
+pub(crate) fn thresholds_in(value: &Value) -> Result<ArrayVec<Micro, 16>, ValueFault>
+    ensures { seen_by (λ v. micros v.items) result ≡ thresholds (view value.now) }
+{
+    let numbers: ArrayVec<Micro, 16> = each(one_or_list(value))?;
+    if are_thresholds(numbers.as_slice()) {
+        Ok(numbers)
+    } else {
+        Err(ValueFault::Range)
+    }
+}

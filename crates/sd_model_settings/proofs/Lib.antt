@@ -1,0 +1,5 @@
+pub mod OnLiterals
+pub mod ValuesInRange
+pub mod EntriesInRange
+pub mod SettingsInRange
+pub mod DefaultsInRange

@@ -1,0 +1,123 @@
+-- Settings that are lists: thresholds, backends, and the entries of `histogram`, `repeater` and `nodes`.
+use Rattle.std.specs.Prelude.{ℕ, ◌^◌, ◌==◌, ◌&&◌, ◌||◌, Bool, true, false, not, nat_le, if◌then◌else◌, ℤ, pos, unsigned_abs, int_lt, int_le, List, [], ◌∷◌, codes, Result, Ok, Err}
+use Rattle.std.specs.List.{list_any, list_all}
+use Rattle.std.specs.Str.{bytes_eq}
+use Rattle.std.specs.Ordering.{int_eq}
+use Rattle.toml.specs.Data.{Data, string, array, table, Items, no_items, item, Members, get_member}
+use Rattle.sd_model_settings.specs.Values.{ValueFlaw, OtherKind, both, mapped, ranged, whole, text, is_host, is_metric, decimal, each, are_at_most, listed, one_or_list, are_distinct, required, optional}
+
+-- a threshold in millionths: from -100 to 100, and not 0
+abbrev pub is_threshold : ℤ → Bool
+is_threshold z = nat_le (unsigned_abs z) 100000000 && not (unsigned_abs z == 0)
+
+-- thresholds, no two of them equal
+abbrev pub are_thresholds : List ℤ → Bool
+are_thresholds xs = list_all is_threshold xs && are_distinct int_eq xs
+
+-- at most 16 thresholds, in a list or one alone
+abbrev pub thresholds : Data → Result (List ℤ) ValueFlaw
+thresholds d = ranged are_thresholds (ranged (are_at_most 16) (each decimal (one_or_list d)))
+
+-- the name of a backend
+abbrev pub is_backend : List ℕ → Bool
+is_backend s = list_any (bytes_eq s) (codes "graphite" ∷ codes "console" ∷ codes "repeater" ∷ [])
+
+-- a list of backends, each at most once
+abbrev pub backends : Data → Result (List (List ℕ)) ValueFlaw
+backends d = ranged (are_distinct bytes_eq) (listed 3 (text is_backend) d)
+
+-- The upper limit of a bin, in millionths, or none.
+pub data Limit : Type 0 where
+  Below : ℤ → Limit
+  Infinite : Limit
+
+-- The bins of the timers whose names have a part.
+pub record Classes : Type 0 where
+  pub metric : List ℕ
+  pub limits : List Limit
+
+-- the string `inf`
+abbrev pub is_inf : Data → Bool
+is_inf (string s) = bytes_eq s (codes "inf")
+is_inf _ = false
+
+-- a limit: `inf`, or a decimal
+abbrev pub limit : Data → Result Limit ValueFlaw
+limit d = if is_inf d then Ok Infinite else mapped Below (decimal d)
+
+-- `inf` stands before another item
+abbrev pub has_early_inf : Items → Bool
+has_early_inf no_items = false
+has_early_inf (item d no_items) = false
+has_early_inf (item d (item e ds)) = is_inf d || has_early_inf (item e ds)
+
+-- a limit above 0 and at most 10^10
+abbrev pub is_limit : Limit → Bool
+is_limit (Below z) = int_lt (pos 0) z && int_le z (pos (10 ^ 16))
+is_limit Infinite = true
+
+-- the order of limits
+abbrev pub limit_lt : Limit → Limit → Bool
+limit_lt (Below a) (Below b) = int_lt a b
+limit_lt (Below a) Infinite = true
+limit_lt Infinite b = false
+
+-- each limit is less than the next
+abbrev pub ascends : List Limit → Bool
+ascends [] = true
+ascends (a ∷ []) = true
+ascends (a ∷ b ∷ rest) = limit_lt a b && ascends (b ∷ rest)
+
+-- limits in range that ascend
+abbrev pub are_limits : List Limit → Bool
+are_limits limits = list_all is_limit limits && ascends limits
+
+-- at most 64 limits, of which the last alone may be `inf`; elsewhere that is of another kind
+abbrev pub bins_of : Items → Result (List Limit) ValueFlaw
+bins_of ds = if has_early_inf ds then Err OtherKind else ranged are_limits (ranged (are_at_most 64) (each limit ds))
+
+abbrev pub bins : Data → Result (List Limit) ValueFlaw
+bins (array ds) = bins_of ds
+bins _ = Err OtherKind
+
+-- an entry of `histogram`: a table with `metric` and `bins`
+abbrev pub classes_of : Members → Result Classes ValueFlaw
+classes_of ms =
+    mapped (λ p. record { metric = p.0; limits = p.1 })
+    (both (required (text is_metric) (get_member (codes "metric") ms)) (required bins (get_member (codes "bins") ms)))
+
+abbrev pub classes : Data → Result Classes ValueFlaw
+classes (table ms) = classes_of ms
+classes _ = Err OtherKind
+
+-- Where packets are repeated to.
+pub record Target : Type 0 where
+  pub host : List ℕ
+  pub port : ℕ
+
+-- an entry of `repeater`: a table with `host` and `port`
+abbrev pub target_of : Members → Result Target ValueFlaw
+target_of ms =
+    mapped (λ p. record { host = p.0; port = p.1 })
+    (both (required (text is_host) (get_member (codes "host") ms)) (required (whole 1 65535) (get_member (codes "port") ms)))
+
+abbrev pub target : Data → Result Target ValueFlaw
+target (table ms) = target_of ms
+target _ = Err OtherKind
+
+-- A server behind the proxy, with the port at which it answers about itself.
+pub record Node : Type 0 where
+  pub host : List ℕ
+  pub port : ℕ
+  pub adminport : ℕ
+
+-- an entry of `nodes`: a table with `host`, `port` and, by default 8126, `adminport`
+abbrev pub node_of : Members → Result Node ValueFlaw
+node_of ms =
+    mapped (λ p. record { host = p.0.0; port = p.0.1; adminport = p.1 })
+    (both (both (required (text is_host) (get_member (codes "host") ms)) (required (whole 1 65535) (get_member (codes "port") ms)))
+    (optional (whole 1 65535) 8126 (get_member (codes "adminport") ms)))
+
+abbrev pub node : Data → Result Node ValueFlaw
+node (table ms) = node_of ms
+node _ = Err OtherKind

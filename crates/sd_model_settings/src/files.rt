@@ -1,0 +1,87 @@
+ghost use Rattle.std.specs.Prelude.{◌≡◌, ◌∷◌, [], pos, codes, Ok, Err, true, false};
+ghost use Rattle.sd_model_settings.specs.Settings.{settings, Unknown, WrongKind, OutOfRange, NotToml};
+ghost use Rattle.sd_model_settings.specs.Defaults.{default_settings};
+ghost use Rattle.sd_model_settings.specs.Entries.{Below, Infinite};
+ghost use Rattle.sd_model_settings.specs.ConfigText.{server_lines, deletion_lines, address_lines, namespace_lines, size_lines, histogram_line, repeater_line, node_line};
+
+/// What files set.
+#[tactic(auto, unfolding(crate::proofs::OnLiterals::settings_on_literals))]
+pub fn accepted_files()
+    ensures empty { settings [] ≡ Ok default_settings }
+    ensures the_default { settings (codes "shards = 4\n") ≡ Ok default_settings }
+    ensures a_comment { settings (codes "# nothing\n") ≡ Ok default_settings }
+    ensures a_decimal { settings (codes "percentThreshold = \"99.9\"\n")
+        ≡ Ok (record default_settings {
+          server = record default_settings.server { percent_threshold = pos 99900000 ∷ [] };
+        }) }
+    ensures a_deletion { settings (codes "deleteIdleStats = true\ndeleteGauges = false\n")
+        ≡ Ok (record default_settings {
+          deletions = record { idle_stats = true; counters = true; timers = true; sets = true; gauges = false };
+        }) }
+{}
+
+/// The first faults of files.
+#[tactic(auto, unfolding(crate::proofs::OnLiterals::settings_on_literals))]
+pub fn refused_files()
+    ensures a_float { settings (codes "percentThreshold = 99.9\n") ≡ Err (WrongKind (codes "percentThreshold")) }
+    ensures other_letters { settings (codes "flushinterval = 5\n") ≡ Err (Unknown (codes "flushinterval")) }
+    ensures too_many { settings (codes "shards = 17\n") ≡ Err (OutOfRange (codes "shards")) }
+    ensures no_value { settings (codes "port = ") ≡ Err NotToml }
+    ensures twice { settings (codes "port = 1\nport = 1\n") ≡ Err NotToml }
+    ensures unknown_first { settings (codes "zz = 1\nport = 0\n") ≡ Err (Unknown (codes "zz")) }
+    ensures inside { settings (codes "[graphite]\nport = 0\n") ≡ Err (Unknown (codes "graphite.port")) }
+    ensures kind_first { settings (codes "percentThreshold = [0, true]\n") ≡ Err (WrongKind (codes "percentThreshold")) }
+    ensures rounded_first { settings (codes "percentThreshold = [1, \"1.0000001\"]\n")
+        ≡ Err (OutOfRange (codes "percentThreshold")) }
+    ensures early_inf { settings (codes "histogram = [{metric = '', bins = ['inf', 1]}]\n")
+        ≡ Err (WrongKind (codes "histogram")) }
+{}
+
+/// The lines of the reply to `config` where nothing is set, and of entries.
+#[tactic(auto, unfolding(crate::proofs::OnLiterals::digits_on_literals))]
+pub fn config_lines_of_files()
+    ensures server_defaults { server_lines default_settings.server
+        ≡ codes "port: 8125\n"
+        ∷ codes "mgmt_port: 8126\n"
+        ∷ codes "flushInterval: 10000\n"
+        ∷ codes "percentThreshold: 90\n"
+        ∷ [] }
+    ensures deletion_defaults { deletion_lines default_settings.deletions
+        ≡ codes "deleteIdleStats: false\n"
+        ∷ codes "deleteCounters: false\n"
+        ∷ codes "deleteTimers: false\n"
+        ∷ codes "deleteSets: false\n"
+        ∷ codes "deleteGauges: false\n"
+        ∷ [] }
+    ensures address_defaults { address_lines default_settings.addresses
+        ≡ codes "prefixStats: statsd\n"
+        ∷ codes "address: 0.0.0.0\n"
+        ∷ codes "mgmt_address: 0.0.0.0\n"
+        ∷ codes "backends: graphite\n"
+        ∷ codes "graphiteHost: 127.0.0.1\n"
+        ∷ codes "graphitePort: 2003\n"
+        ∷ [] }
+    ensures namespace_defaults { namespace_lines default_settings.namespace
+        ≡ codes "graphite.legacyNamespace: true\n"
+        ∷ codes "graphite.globalPrefix: stats\n"
+        ∷ codes "graphite.prefixCounter: counters\n"
+        ∷ codes "graphite.prefixTimer: timers\n"
+        ∷ codes "graphite.prefixGauge: gauges\n"
+        ∷ codes "graphite.prefixSet: sets\n"
+        ∷ codes "graphite.globalSuffix: \n"
+        ∷ [] }
+    ensures size_defaults { size_lines default_settings.sizes
+        ≡ codes "checkInterval: 10000\n"
+        ∷ codes "cacheSize: 10000\n"
+        ∷ codes "shards: 4\n"
+        ∷ codes "rows: 4096\n"
+        ∷ codes "entries: 65536\n"
+        ∷ codes "receivers: 2\n"
+        ∷ codes "runFlushes: 0\n"
+        ∷ [] }
+    ensures a_histogram { histogram_line (record { metric = codes "web"; limits = Below (pos 2500000) ∷ Infinite ∷ [] })
+        ≡ codes "histogram: web 2.5,inf\n" }
+    ensures no_limits { histogram_line (record { metric = codes "web"; limits = [] }) ≡ codes "histogram: web \n" }
+    ensures a_target { repeater_line (record { host = codes "h"; port = 8125 }) ≡ codes "repeater: h:8125\n" }
+    ensures a_node { node_line (record { host = codes "h"; port = 8125; adminport = 8126 }) ≡ codes "nodes: h:8125:8126\n" }
+{}
