@@ -2,6 +2,7 @@
 //! line with its answer.
 #![tactic(auto)]
 
+mod rooms;
 mod samples;
 mod shards;
 mod tables;
@@ -22,6 +23,10 @@ fn call(alloc: Global, words: &[&str], out: &mut Answer) -> Result<(), Refusal> 
         ["goes_idle", kinds, kind] => {
             out.text(" = ");
             shards::goes_idle(kinds, kind, out)
+        }
+        ["room", limits, kinds, interval, receivers] => {
+            out.text(" = ");
+            rooms::open_room(alloc, limits, kinds, &[interval, receivers], out)
         }
         _ => Err(Refusal::UnknownCall),
     }

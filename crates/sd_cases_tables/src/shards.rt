@@ -23,7 +23,7 @@ pub(crate) fn limits_from(word: &str) -> Result<Limits, Refusal>
 }
 
 /// The policy that deletes the kinds of a word when idle, which are joined by `+`. `none` is none.
-fn policy_from(word: &str) -> Result<Policy, Refusal> {
+pub(crate) fn policy_from(word: &str) -> Result<Policy, Refusal> {
     let mut policy = Policy {
         counters: false,
         timers: false,
