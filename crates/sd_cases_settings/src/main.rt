@@ -2,18 +2,13 @@
 //! read a settings file, which stands on the line, and ask for values.
 #![tactic(auto)]
 
-mod answer;
-mod refusal;
-mod text;
 mod values;
 
-use answer::Answer;
-use refusal::Refusal;
+use sd_case::{Answer, Refusal, answer_cases, bytes_of, number};
 use sd_config::{ConfigFault, Names, Reckoning, Settings};
-use sd_outside::Name;
+use sd_outside::{Failed, MemSink, Name};
 use std::alloc::Global;
-use std::io::{self, BufRead, BufReader};
-use text::bytes_of;
+use std::io;
 use values::{CALLS, show_histogram, show_names, show_thresholds, show_value};
 
 /// Makes the call of a case.
@@ -21,7 +16,7 @@ fn call(alloc: Global, words: &[&str], out: &mut Answer) -> Result<(), Refusal> 
     match words {
         ["plain"] => show_plain(out),
         [call, file, calls @ ..] => match Settings::read(alloc, &bytes_of(alloc, file)?) {
-            Ok(settings) => show_settings(&settings, call, calls, out),
+            Ok(settings) => show_settings(alloc, &settings, call, calls, out),
             Err(fault) => show_fault(&fault, out),
         },
         _ => Err(Refusal::UnknownCall),
@@ -30,6 +25,7 @@ fn call(alloc: Global, words: &[&str], out: &mut Answer) -> Result<(), Refusal> 
 
 /// Appends what is asked for of settings.
 fn show_settings(
+    alloc: Global,
     settings: &Settings,
     call: &str,
     calls: &[&str],
@@ -42,6 +38,7 @@ fn show_settings(
             show_config(settings, out);
             Ok(())
         }
+        "config_text" => show_config_text(alloc, settings, calls, out),
         "plan" => {
             out.text(" = ");
             show_plan(settings.plan(), out);
@@ -93,9 +90,29 @@ fn show_config(settings: &Settings, out: &mut Answer) {
     }
 }
 
+/// Appends whether the reply to `config` could be written whole to a sink in memory with so much room, and what it was
+/// given.
+fn show_config_text(
+    alloc: Global,
+    settings: &Settings,
+    words: &[&str],
+    out: &mut Answer,
+) -> Result<(), Refusal> {
+    let [room] = words else {
+        return Err(Refusal::Malformed);
+    };
+    let mut sink = MemSink::open(alloc, number::<u32>(room)? as usize)?;
+    match settings.config_text(&mut sink) {
+        Ok(()) => out.text(" = ok"),
+        Err(Failed) => out.text(" = fault"),
+    }
+    out.lines(sink.bytes());
+    Ok(())
+}
+
 /// Appends what a record is reckoned by.
 fn show_plan(plan: &Reckoning, out: &mut Answer) {
-    out.number(plan.interval_ms);
+    out.number(i128::from(plan.interval_ms));
     out.text(" ");
     show_thresholds(plan.thresholds.as_slice(), out);
     out.text(" ");
@@ -129,29 +146,6 @@ fn show_name(fault: &str, name: &Name, out: &mut Answer) {
     out.bytes(name.as_slice());
 }
 
-/// What a case answers.
-fn answer_of(alloc: Global, case: &str) -> Result<String, Refusal> {
-    let words: Vec<&str> = case.split(' ').collect(alloc)?;
-    let mut answer = Answer::new(alloc);
-    call(alloc, &words, &mut answer)?;
-    answer.finish()
-}
-
-/// Prints a case with its answer. A heading and an empty line stand as they are.
-fn print_case(rt: &impl Print, alloc: Global, case: &str) -> io::Result<()> {
-    if case.is_empty() || case.starts_with('#') {
-        return println!(rt; "{case}");
-    }
-    match answer_of(alloc, case) {
-        Ok(answer) => println!(rt; "{case}{answer}"),
-        Err(refusal) => println!(rt; "{case} ? {refusal}"),
-    }
-}
-
 fn main(rt: HostRuntime) -> io::Result<()> {
-    let alloc = rt.alloc();
-    for line in BufReader::new(alloc, rt.reader())?.lines(alloc) {
-        print_case(&rt, alloc, &line?)?;
-    }
-    Ok(())
+    answer_cases(&rt, rt.alloc(), call)
 }

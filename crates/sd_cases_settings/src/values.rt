@@ -1,7 +1,6 @@
-use crate::answer::Answer;
-use crate::refusal::Refusal;
+use sd_case::{Answer, Refusal};
 use sd_config::{Classes, Names, Node, Settings, Target};
-use sd_decimal::Micro;
+use sd_decimal::{Limit, Micro};
 use sd_outside::Name;
 
 /// The read calls in the order of the settings.
@@ -43,9 +42,9 @@ pub(crate) const CALLS: [&str; 32] = [
 /// Appends what a read call answers.
 pub(crate) fn show_value(settings: &Settings, call: &str, out: &mut Answer) -> Result<(), Refusal> {
     if let Some(number) = number_of(settings, call) {
-        out.number(number);
+        out.number(i128::from(number));
     } else if let Some(flag) = flag_of(settings, call) {
-        out.flag(flag);
+        out.yes_or_no(flag);
     } else if let Some(name) = name_of(settings, call) {
         out.bytes(name.as_slice());
     } else {
@@ -122,12 +121,33 @@ fn show_none(is_empty: bool, out: &mut Answer) {
     }
 }
 
+/// Appends a comma, but before the first of a list.
+fn show_comma(place: usize, out: &mut Answer) {
+    if place > 0 {
+        out.text(",");
+    }
+}
+
+/// Appends millionths.
+fn show_micro(micro: Micro, out: &mut Answer) {
+    let Micro(millionths) = micro;
+    out.number(i128::from(millionths));
+}
+
+/// Appends a limit in millionths, or `inf`.
+fn show_limit(limit: Limit, out: &mut Answer) {
+    match limit {
+        Limit::Below(number) => show_micro(number, out),
+        Limit::Infinite => out.text("inf"),
+    }
+}
+
 /// Appends thresholds, parted by commas.
 pub(crate) fn show_thresholds(thresholds: &[Micro], out: &mut Answer) {
     show_none(thresholds.is_empty(), out);
     for (place, threshold) in thresholds.iter().enumerate() {
-        out.comma(place);
-        out.micro(*threshold);
+        show_comma(place, out);
+        show_micro(*threshold, out);
     }
 }
 
@@ -135,7 +155,7 @@ pub(crate) fn show_thresholds(thresholds: &[Micro], out: &mut Answer) {
 fn show_backends(backends: &[Name], out: &mut Answer) {
     show_none(backends.is_empty(), out);
     for (place, backend) in backends.iter().enumerate() {
-        out.comma(place);
+        show_comma(place, out);
         out.bytes(backend.as_slice());
     }
 }
@@ -144,12 +164,12 @@ fn show_backends(backends: &[Name], out: &mut Answer) {
 pub(crate) fn show_histogram(histogram: &[Classes], out: &mut Answer) {
     show_none(histogram.is_empty(), out);
     for (place, classes) in histogram.iter().enumerate() {
-        out.comma(place);
+        show_comma(place, out);
         out.bytes(classes.metric.as_slice());
         out.text("(");
         for (place, limit) in classes.limits.as_slice().iter().enumerate() {
-            out.comma(place);
-            out.limit(*limit);
+            show_comma(place, out);
+            show_limit(*limit, out);
         }
         out.text(")");
     }
@@ -159,10 +179,10 @@ pub(crate) fn show_histogram(histogram: &[Classes], out: &mut Answer) {
 fn show_repeater(targets: &[Target], out: &mut Answer) {
     show_none(targets.is_empty(), out);
     for (place, target) in targets.iter().enumerate() {
-        out.comma(place);
+        show_comma(place, out);
         out.bytes(target.host.as_slice());
         out.text(":");
-        out.number(u32::from(target.port));
+        out.number(i128::from(target.port));
     }
 }
 
@@ -170,18 +190,18 @@ fn show_repeater(targets: &[Target], out: &mut Answer) {
 fn show_nodes(nodes: &[Node], out: &mut Answer) {
     show_none(nodes.is_empty(), out);
     for (place, node) in nodes.iter().enumerate() {
-        out.comma(place);
+        show_comma(place, out);
         out.bytes(node.host.as_slice());
         out.text(":");
-        out.number(u32::from(node.port));
+        out.number(i128::from(node.port));
         out.text(":");
-        out.number(u32::from(node.adminport));
+        out.number(i128::from(node.adminport));
     }
 }
 
 /// Appends what Graphite's names are made of.
 pub(crate) fn show_names(names: &Names, out: &mut Answer) {
-    out.flag(names.legacy_namespace());
+    out.yes_or_no(names.legacy_namespace());
     for name in [
         names.global_prefix(),
         names.prefix_counter(),
