@@ -1,4 +1,6 @@
 use sd_case::{Answer, Refusal, bytes_of, kind_word};
+use sd_decimal::NumberFault;
+use sd_key::KeyFault;
 use sd_line::{Bad, Lines, Sample};
 use std::alloc::Global;
 
@@ -14,7 +16,7 @@ fn show_pieces(datagram: &[u8], out: &mut Answer) {
     for _ in 0..=datagram.len() {
         match lines.next() {
             Some(Ok(sample)) => show_sample(&sample, out),
-            Some(Err(Bad::Unbuilt)) => out.text("unbuilt; "),
+            Some(Err(bad)) => show_bad(bad, out),
             None => break,
         }
     }
@@ -24,6 +26,24 @@ fn show_pieces(datagram: &[u8], out: &mut Answer) {
     } else {
         "more"
     });
+}
+
+/// Appends why a piece has no sample.
+fn show_bad(bad: Bad, out: &mut Answer) {
+    match bad {
+        Bad::NoValue => out.text("no value"),
+        Bad::NoType => out.text("no type"),
+        Bad::UnknownType => out.text("unknown type"),
+        Bad::Number(NumberFault::Shape) => out.text("number: shape"),
+        Bad::Number(NumberFault::Range) => out.text("number: range"),
+        Bad::Rate => out.text("rate"),
+        Bad::NegativeTimer => out.text("negative timer"),
+        Bad::Key(KeyFault::Empty) => out.text("key: empty"),
+        Bad::Key(KeyFault::Long { len }) => out.count("key: long ", len as u64),
+        Bad::MemberLong => out.text("member long"),
+        Bad::ExtraField => out.text("extra field"),
+    }
+    out.text("; ");
 }
 
 /// Appends the fields of a sample: its kind, key, value and rate, the word `signed` where it is, and its member,

@@ -1,3 +1,5 @@
 mod CutLemmas
+mod FieldLemmas
 mod LineLemmas
+mod NameLemmas
 mod PieceLemmas

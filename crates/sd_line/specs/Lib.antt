@@ -1,3 +1,6 @@
 pub mod Cut
+pub mod Named
+pub mod Parts
+pub mod Piece
 pub mod Pieces
 pub mod Sample

@@ -1,4 +1,4 @@
-ghost use Rattle.std.specs.Prelude.{◌≡◌, ◌+◌, length, IfSome, option_map};
+ghost use Rattle.std.specs.Prelude.{◌≡◌, ◌<◌, ◌+◌, length, take, drop, IfSome, MatchOption, None, Some, option_map};
 ghost use Rattle.sd_model_text.specs.Lists.{cut_at, trim_end, is_white_space as is_space};
 ghost use Rattle.sd_line.specs.Cut.{cut_view};
 
@@ -9,20 +9,41 @@ pub(crate) struct Cut<'a> {
     pub rest: &'a [u8],
 }
 
+/// The place of the first separator, where there is one.
+// A call of its own keeps the loop small, which goes over most bytes of a datagram.
+#[inline(never)]
+fn place_of(bytes: &[u8], separator: u8) -> Option<usize>
+    ensures cut { option_map (λ i. record { part = take i bytes.now; rest = drop (i + 1) bytes.now }) result
+        ≡ cut_at separator bytes.now }
+    ensures inside { IfSome result (λ i. i < length bytes.now) }
+{
+    for (i, byte) in bytes.iter().enumerate() {
+        if *byte == separator {
+            return Some(i);
+        }
+    }
+    None
+}
+
+/// The bytes cut around the one at this place.
+pub(crate) fn cut_around(bytes: &[u8], place: usize) -> Cut<'_>
+    requires { place < length bytes.now }
+    ensures part { result.part.now ≡ take place bytes.now }
+    ensures rest { result.rest.now ≡ drop (place + 1) bytes.now }
+{
+    Cut {
+        part: &bytes[..place],
+        rest: &bytes[place + 1..],
+    }
+}
+
 /// The bytes cut at their first separator, where they have one.
 pub(crate) fn first_cut(bytes: &[u8], separator: u8) -> Option<Cut<'_>>
     ensures cut { option_map cut_view result ≡ cut_at separator bytes.now }
     ensures whole { IfSome result (λ c. length c.part.now + length c.rest.now + 1 ≡ length bytes.now) }
 {
-    for (i, byte) in bytes.iter().enumerate() {
-        if *byte == separator {
-            return Some(Cut {
-                part: &bytes[..i],
-                rest: &bytes[i + 1..],
-            });
-        }
-    }
-    None
+    let place = place_of(bytes, separator)?;
+    Some(cut_around(bytes, place))
 }
 
 /// White space: the bytes 9 to 13 and 32.

@@ -2,7 +2,10 @@
 #![tactic(auto)]
 
 mod cut;
+mod fields;
 mod lines;
+mod named;
+mod parts;
 mod piece;
 mod sample;
 

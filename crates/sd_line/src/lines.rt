@@ -1,9 +1,10 @@
 ghost use Rattle.std.specs.Prelude.{◌≡◌, ℕ, ◌<◌, List, [], ◌∷◌, length, IsNone, IfSome, MatchOption};
 ghost use Rattle.sd_model_text.specs.Lines.{pieces};
-ghost use Rattle.sd_line.specs.Pieces.{with_line, Answers};
+ghost use Rattle.sd_line.specs.Piece.{Answers};
+ghost use Rattle.sd_line.specs.Pieces.{with_line};
 
 use crate::cut::{Cut, first_cut, trimmed};
-use crate::piece::{Bad, built_sample};
+use crate::piece::{Bad, parts_of};
 use crate::sample::Sample;
 use std::marker::Model;
 
@@ -63,7 +64,7 @@ impl<'a> Lines<'a> {
         Lines { rest: datagram }
     }
 
-    /// The next piece: its sample, or why it isn't taken. None at the end.
+    /// The next piece: its sample, or why it has none. None at the end.
     pub fn next(&mut self) -> Option<Result<Sample, Bad>>
         ensures end { IsNone result → (self.old ≡ []) × (self.new ≡ []) }
         ensures next { IfSome result (λ answer. (piece : List ℕ) × (self.old ≡ piece ∷ self.new) × Answers piece answer) }
@@ -71,7 +72,10 @@ impl<'a> Lines<'a> {
         match next_piece(self.rest) {
             Some(piece) => {
                 self.rest = piece.rest;
-                Some(built_sample(piece.part).ok_or(Bad::Unbuilt))
+                match parts_of(piece.part) {
+                    Ok(parts) => Some(Ok(parts.sample())),
+                    Err(bad) => Some(Err(bad)),
+                }
             }
             None => {
                 self.rest = &[];

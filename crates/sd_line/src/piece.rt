@@ -1,108 +1,190 @@
-ghost use Rattle.std.specs.Prelude.{◌≡◌, ℕ, ◌*◌, ◌^◌, ◌<◌, ◌≤◌, pos, true, false, length, IsTrue, MatchOption, MatchResult};
-ghost use Rattle.std.specs.List.{list_all};
-ghost use Rattle.std.specs.Str.Parse.{digits_value};
-ghost use Rattle.std.specs.Char.{is_ascii_digit as is_digit};
-ghost use Rattle.sd_model_text.specs.Names.{is_name_byte};
-ghost use Rattle.sd_model_text.specs.Lines.{is_key, is_count, sample_of, sample_of_fields};
+ghost use Rattle.std.specs.Prelude.{◌≡◌, ◌^◌, ◌≤◌, ◌<◌, ℤ, pos, ◌≤ℤ◌, length, map, nat_lt, unsigned_abs, IfOk, IfSome, option_map, ok_or, true, Ok};
 ghost use Rattle.sd_model_text.specs.Lists.{split};
+ghost use Rattle.sd_model_text.specs.Numbers as numbers;
+ghost use Rattle.sd_model_text.specs.Names as names;
+ghost use Rattle.sd_model_text.specs.Lines as model;
+ghost use Rattle.sd_decimal.specs.NumberFault.{seen_by as number_seen_by};
+ghost use Rattle.sd_key.specs.Kind.{kind_of as kind_view};
+ghost use Rattle.sd_line.specs.Piece.{Gives};
 
-use crate::cut::first_cut;
-use crate::sample::{Member, Sample};
-use sd_decimal::Micro;
-use sd_key::{Key, Kind};
+use crate::fields::Fields;
+use crate::named::{Named, name_of};
+use crate::parts::{ONE, Parts, has_sign};
+use sd_decimal::{Micro, NumberFault, read};
+use sd_key::{KeyFault, Kind, clean};
 
-/// Why a piece isn't taken.
+/// Why a piece has no sample: the first of these that holds.
 #[derive(Clone, Copy, Debug, PartialEq, Eq)]
 pub enum Bad {
-    /// The piece isn't of the one form that is built, `KEY:DIGITS|c`.
-    Unbuilt,
+    /// The piece has no colon.
+    NoValue,
+    /// There is no second field, or it is empty.
+    NoType,
+    /// The second field isn't `c`, `ms`, `g` or `s`.
+    UnknownType,
+    /// The value is no number, and the type isn't `s`. A timer's is out of range over 10^10.
+    Number(NumberFault),
+    /// The third field isn't empty, and isn't `@` and a number without a sign from 0.000001 to 1000.
+    Rate,
+    /// A timer's value is below 0.
+    NegativeTimer,
+    /// The name has no key.
+    Key(KeyFault),
+    /// A set's member has more than 128 bytes.
+    MemberLong,
+    /// There is a fourth field, or a further colon.
+    ExtraField,
 }
 
-/// The most that a number is.
-const LARGEST: u64 = 1_000_000_000_000;
+/// The most that a rate is.
+const LARGEST_RATE: i64 = 1_000_000_000;
 
-/// How many millionths one has.
-const ONE: i64 = 1_000_000;
+/// The most that a timer's value is.
+const LARGEST_TIMER: u64 = 10_000_000_000_000_000;
 
-/// Whether a byte may stand in a clean name.
-fn may_stand_in_name(byte: u8) -> bool
-    ensures { result ≡ is_name_byte byte }
+/// The most bytes that a member has.
+const LONGEST_MEMBER: usize = 128;
+
+/// The kind that a type names.
+fn kind_of(kind: &[u8]) -> Result<Kind, Bad>
+    ensures { Gives kind_view result (model.typed kind.now) }
 {
-    byte.is_ascii_alphanumeric() || matches!(byte, b'_' | b'-' | b'.')
+    if kind.is_empty() {
+        Err(Bad::NoType)
+    } else if kind == b"c".as_slice() {
+        Ok(Kind::Counter)
+    } else if kind == b"ms".as_slice() {
+        Ok(Kind::Timer)
+    } else if kind == b"g".as_slice() {
+        Ok(Kind::Gauge)
+    } else if kind == b"s".as_slice() {
+        Ok(Kind::Set)
+    } else {
+        Err(Bad::UnknownType)
+    }
 }
 
-/// Whether each byte may stand in a clean name.
-fn is_clean(name: &[u8]) -> bool
-    ensures { result ≡ list_all is_name_byte name.now }
+/// A timer's value, which is at most 10^10.
+fn timer_value(text: &[u8]) -> Result<Micro, NumberFault>
+    ensures value { number_seen_by (λ v. v.0) result ≡ model.value_of names.Timer text.now }
+    ensures bound { IfOk result (λ v. unsigned_abs v.0 ≤ 10 ^ 16) }
 {
-    name.iter().all(|b| may_stand_in_name(*b))
+    let value = read(text)?;
+    if value.0.unsigned_abs() > LARGEST_TIMER {
+        return Err(NumberFault::Range);
+    }
+    Ok(value)
 }
 
-/// The key that a name is as it stands, where it is one.
-fn key_of(name: &[u8]) -> Option<Key>
-    ensures { MatchOption result (is_key name.now ≡ false) (λ key. (is_key name.now ≡ true) × (key ≡ name.now)) }
+/// The number of a value; a set's is 0.
+fn value_of(kind: Kind, text: &[u8]) -> Result<Micro, Bad>
+    ensures value { Gives (λ v. v.0) result (model.valued (model.value_of (kind_view kind) text.now)) }
+    ensures bound { IfOk result (λ v. unsigned_abs v.0 ≤ 10 ^ 18) }
+    ensures timer { kind_view kind ≡ names.Timer → IfOk result (λ v. unsigned_abs v.0 ≤ 10 ^ 16) }
 {
-    if name.is_empty() || !is_clean(name) {
+    match kind {
+        Kind::Counter | Kind::Gauge => read(text).map_err(|fault| Bad::Number(fault)),
+        Kind::Timer => timer_value(text).map_err(|fault| Bad::Number(fault)),
+        Kind::Set => Ok(Micro(0)),
+    }
+}
+
+/// The rate of a field: 1 where it is empty, and else `@` and a number without a sign from 0.000001 to 1000.
+fn rate_in(field: &[u8]) -> Option<Micro>
+    ensures rate { option_map (λ r. unsigned_abs r.0) result ≡ model.rate_of field.now }
+    ensures low { IfSome result (λ r. pos 1 ≤ℤ r.0) }
+    ensures high { IfSome result (λ r. r.0 ≤ℤ pos (10 ^ 9)) }
+{
+    let [sign, text @ ..] = field else {
+        return Some(ONE);
+    };
+    if *sign != b'@' || has_sign(text) {
         return None;
     }
-    Key::of(name)
-}
-
-/// The number that 1 to 13 digits stand for.
-fn number_of(digits: &[u8]) -> Option<u64>
-    requires { length digits.now ≤ 13 }
-    ensures { MatchOption result (list_all is_digit digits.now ≡ false)
-        (λ n. (list_all is_digit digits.now ≡ true) × (n ≡ digits_value 10 digits.now)) }
-{
-    let mut number = 0u64;
-    for digit in digits {
-        if !digit.is_ascii_digit() {
-            return None;
-        }
-        number = number * 10 + u64::from(*digit - b'0');
-    }
-    Some(number)
-}
-
-/// The value of a counter's digits, where they are of a number that is taken.
-fn count_of(digits: &[u8]) -> Option<Micro>
-    ensures { MatchOption result (is_count digits.now ≡ false)
-        (λ v. (is_count digits.now ≡ true) × (v.0 ≡ pos (digits_value 10 digits.now * 1000000))) }
-{
-    if digits.is_empty() || digits.len() > 13 {
+    let rate = read(text).ok()?;
+    if rate.0 < 1 || rate.0 > LARGEST_RATE {
         return None;
     }
-    let number = number_of(digits)?;
-    if number > LARGEST {
-        return None;
-    }
-    Some(Micro(number as i64 * ONE))
+    Some(rate)
 }
 
-/// The sample of a name and the fields behind its colon, where they are those of a counter.
-fn sample_of_name(name: &[u8], fields: &[u8]) -> Option<Sample>
-    ensures { result ≡ sample_of_fields name.now (split 124 fields.now) }
+/// The rate of a field, where it has one.
+fn rate_of(field: &[u8]) -> Result<Micro, Bad>
+    ensures rate { Gives (λ r. unsigned_abs r.0) result (ok_or (model.rate_of field.now) model.BadRate) }
+    ensures low { IfOk result (λ r. pos 1 ≤ℤ r.0) }
+    ensures high { IfOk result (λ r. r.0 ≤ℤ pos (10 ^ 9)) }
 {
-    let field = first_cut(fields, b'|')?;
-    if field.rest != b"c".as_slice() {
-        return None;
-    }
-    let key = key_of(name)?;
-    let value = count_of(field.part)?;
-    Some(Sample {
-        kind: Kind::Counter,
-        key,
-        value,
-        rate: Micro(ONE),
-        signed: false,
-        member: Member::new(),
-    })
+    rate_in(field).ok_or(Bad::Rate)
 }
 
-/// The sample of a piece, where it is of the form that is built.
-pub(crate) fn built_sample(piece: &[u8]) -> Option<Sample>
-    ensures { result ≡ sample_of piece.now }
+/// A timer's value isn't below 0.
+fn not_below_zero(kind: Kind, value: Micro) -> Result<(), Bad>
+    ensures { Gives (λ _. tt) result (model.unless_so (model.is_below_zero (kind_view kind) value.0) model.NegativeTimer) }
 {
-    let named = first_cut(piece, b':')?;
-    sample_of_name(named.part, named.rest)
+    match kind {
+        Kind::Timer if value.0 < 0 => Err(Bad::NegativeTimer),
+        _ => Ok(()),
+    }
+}
+
+/// A name has a key.
+fn has_key(named: &Named<'_>) -> Result<(), Bad>
+    requires { named.now.is_key ≡ true → names.clean named.now.name.now ≡ Ok named.now.name.now }
+    ensures { Gives (λ _. names.cleaned named.now.name.now) result (model.named (names.clean named.now.name.now)) }
+{
+    if named.is_key {
+        return Ok(());
+    }
+    match clean(named.name) {
+        Ok(_) => Ok(()),
+        Err(fault) => Err(Bad::Key(fault)),
+    }
+}
+
+/// A set's member hasn't too many bytes.
+fn not_long(kind: Kind, text: &[u8]) -> Result<(), Bad>
+    ensures { Gives (λ _. tt) result (model.unless_so (model.is_long_member (kind_view kind) text.now) model.LongMember) }
+{
+    match kind {
+        Kind::Set if text.len() > LONGEST_MEMBER => Err(Bad::MemberLong),
+        _ => Ok(()),
+    }
+}
+
+/// There is no fourth field and no further colon.
+fn not_over(fields: &Fields<'_>, rest: &[u8]) -> Result<(), Bad>
+    requires { fields.now.has_more ≡ nat_lt 3 (length (split 124 rest.now)) }
+    ensures { Gives (λ _. tt) result (model.unless_so (model.is_over (split 124 rest.now) rest.now) model.ExtraField) }
+{
+    if fields.has_more || rest.contains(&b':') {
+        return Err(Bad::ExtraField);
+    }
+    Ok(())
+}
+
+/// What a name and what stands behind its colon say, or why they say nothing.
+#[tactic(auto, unfolding(sd_model_text::specs::Lines::reading_behind))]
+fn parts_behind<'a>(named: &Named<'a>) -> Result<Parts<'a>, Bad>
+    requires { named.now.is_key ≡ true → names.clean named.now.name.now ≡ Ok named.now.name.now }
+    ensures { Gives (λ p. p) result (model.reading_behind named.now.name.now named.now.rest.now (split 124 named.now.rest.now)) }
+{
+    let fields = Fields::of(named.rest);
+    let kind = kind_of(fields.kind)?;
+    let value = value_of(kind, fields.value)?;
+    let rate = rate_of(fields.rate)?;
+    not_below_zero(kind, value)?;
+    has_key(named)?;
+    not_long(kind, fields.value)?;
+    not_over(&fields, named.rest)?;
+    Ok(Parts::of(kind, named, fields.value, value, rate))
+}
+
+/// What a piece says, or why it says nothing.
+pub(crate) fn parts_of(piece: &[u8]) -> Result<Parts<'_>, Bad>
+    ensures { Gives (λ p. p) result (model.reading piece.now) }
+{
+    match name_of(piece) {
+        Some(named) => parts_behind(&named),
+        None => Err(Bad::NoValue),
+    }
 }

@@ -2,7 +2,7 @@
 use Rattle.std.specs.Prelude.{◌≡◌, ℕ, List, [], ◌∷◌, length, map, fold, flat_map, filter_map, sum_by, Option, Some, None}
 use Rattle.std.specs.List.{range_with_len}
 use Rattle.sd_model_text.specs.Names.{shard}
-use Rattle.sd_model_text.specs.Lines.{Sample, samples_of, pieces}
+use Rattle.sd_model_text.specs.Lines.{Sample, samples_of, pieces, bad_of}
 use Rattle.sd_model_shard.specs.Shard.{State, empty_state, Submit, Swap, Reply, table_of}
 use Rattle.sd_model_shard.specs.History.{Asked, History, after_all, answered, part_of}
 use Rattle.sd_model_shard.specs.Whereabouts.{Arrival, dropped_in}
@@ -79,9 +79,9 @@ acts_in settings run i c = answered settings.limits settings.policy (run.shards 
 abbrev pub replies_to : Settings → Run → Command → List Reply
 replies_to settings run c = flat_map (λ i. map (λ a. a.reply) (acts_in settings run i c)) (range_with_len 0 settings.shards)
 
--- what a datagram adds to the tally; every piece is good so far
+-- what a datagram adds to the tally
 abbrev pub packet_tally : List ℕ → ℕ → Tally
-packet_tally datagram dropped = record { packets = 1; lines = length (pieces datagram); bad = 0; dropped = dropped }
+packet_tally datagram dropped = record { packets = 1; lines = length (pieces datagram); bad = bad_of datagram; dropped = dropped }
 
 -- the desk after a record, with what the shards answered and what the outside did
 abbrev pub desk_after : Desk → Command → List Reply → Outcome → Desk

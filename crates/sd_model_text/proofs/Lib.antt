@@ -1,5 +1,8 @@
+pub mod CutLemmas
 pub mod Cuts
 pub mod Digits
+pub mod GoodLemmas
+pub mod GrammarLemmas
 pub mod ListLemmas
 pub mod NamesLemmas
 pub mod PieceCounts

@@ -1,12 +1,11 @@
 -- Datagrams and lines: the pieces of a datagram, and the sample of a piece. The form of a line is that of
--- StatsD, `NAME:VALUE|TYPE`.
-use Rattle.std.specs.Prelude.{ℕ, ◌*◌, ◌^◌, ◌==◌, ◌&&◌, Bool, true, false, not, nat_lt, nat_le, ℤ, pos, List, [], ◌∷◌, length, map, filter, if◌then◌else◌, Option, Some, None, option_and_then, filter_map}
-use Rattle.std.specs.List.{list_all}
-use Rattle.std.specs.Char.{is_ascii_digit}
-use Rattle.std.specs.Str.Parse.{digits_value}
-use Rattle.std.specs.Cmp.Lexicographic.{pointwise}
-use Rattle.sd_model_text.specs.Lists.{is_white_space, trim_end, split, cut_at}
-use Rattle.sd_model_text.specs.Names.{Kind, Counter, is_name_byte}
+-- StatsD, `NAME:VALUE|TYPE`, with or without `|@RATE` behind it.
+use Rattle.std.specs.Prelude.{ℕ, ◌+◌, ◌^◌, ◌==◌, ◌&&◌, ◌||◌, Bool, true, false, not, nat_lt, nat_le, ℤ, pos, negsuc, unsigned_abs, int_lt, List, [], ◌∷◌, length, map, filter, if◌then◌else◌, Option, Some, None, Result, Ok, Err, slice_get, unwrap_or, ok_or, filter_map, count_by, codes}
+use Rattle.std.specs.List.{list_any}
+use Rattle.std.specs.Str.{bytes_eq}
+use Rattle.sd_model_text.specs.Lists.{is_white_space, trim_end, split, cut_at, Cut}
+use Rattle.sd_model_text.specs.Names.{Kind, Counter, Timer, Gauge, Set, KeyFault, clean}
+use Rattle.sd_model_text.specs.Numbers.{NumberFlaw, BadRange, decimal_value, has_sign}
 
 -- A sample. The value and the rate are millionths; a set has a member, and no other kind has one.
 pub record Sample : Type 0 where
@@ -17,6 +16,19 @@ pub record Sample : Type 0 where
   pub is_signed : Bool
   pub member : List ℕ
 
+-- Why a piece has no sample: it has no colon; no type; a type of no kind; a value that is no number; a rate that is
+-- none; a timer below 0; a name that has no key; a member of over 128 bytes; a fourth field or a further colon.
+pub data Flaw : Type 0 where
+  NoValue : Flaw
+  NoType : Flaw
+  UnknownType : Flaw
+  BadNumber : (flaw : NumberFlaw) → Flaw
+  BadRate : Flaw
+  NegativeTimer : Flaw
+  BadKey : (fault : KeyFault) → Flaw
+  LongMember : Flaw
+  ExtraField : Flaw
+
 -- whether a list has no element
 abbrev pub is_empty : {A : Type 0} → List A → Bool
 is_empty [] = true
@@ -26,32 +38,143 @@ is_empty (x ∷ xs) = false
 abbrev pub pieces : List ℕ → List (List ℕ)
 pieces datagram = filter (λ piece. not (is_empty piece)) (map (trim_end is_white_space) (split 10 datagram))
 
--- a name that is a key as it stands: 1 to 255 bytes of names
-abbrev pub is_key : List ℕ → Bool
-is_key name = list_all is_name_byte name && nat_lt 0 (length name) && nat_le (length name) 255
+-- the type of each kind
+abbrev pub type_text : Kind → List ℕ
+type_text Counter = codes "c"
+type_text Timer = codes "ms"
+type_text Gauge = codes "g"
+type_text Set = codes "s"
 
--- the digits of a counter's value: 1 to 13 of them, of a value of at most 10 ^ 12
-abbrev pub is_count : List ℕ → Bool
-is_count digits = list_all is_ascii_digit digits && nat_lt 0 (length digits) && nat_le (length digits) 13 && nat_le (digits_value 10 digits) (10 ^ 12)
+-- the kind of a type, where there is one
+abbrev pub kind_named : List ℕ → Option Kind
+kind_named type =
+    if bytes_eq type (type_text Counter) then Some Counter
+    else (if bytes_eq type (type_text Timer) then Some Timer
+    else (if bytes_eq type (type_text Gauge) then Some Gauge
+    else (if bytes_eq type (type_text Set) then Some Set else None)))
 
--- a counter's sample of rate 1
-abbrev pub counter_sample : List ℕ → List ℕ → Sample
-counter_sample name digits =
-    record { kind = Counter; key = name; value = pos (digits_value 10 digits * 1000000); rate = 1000000; is_signed = false; member = [] }
+-- the i-th field of a line, from 0; one that isn't there has no byte
+abbrev pub field : ℕ → List (List ℕ) → List ℕ
+field i fields = unwrap_or (slice_get fields i) []
 
--- the sample of a name and the fields behind its colon, where they are those of a counter
-abbrev pub sample_of_fields : List ℕ → List (List ℕ) → Option Sample
-sample_of_fields name (value ∷ kind ∷ []) =
-    if is_key name && is_count value && pointwise ◌==◌ kind (99 ∷ []) then Some (counter_sample name value) else None
-sample_of_fields name [] = None
-sample_of_fields name (value ∷ []) = None
-sample_of_fields name (value ∷ kind ∷ field ∷ fields) = None
+-- a timer's value is at most 10^10
+abbrev pub within_timer : ℤ → Result ℤ NumberFlaw
+within_timer v = if nat_le (unsigned_abs v) (10 ^ 16) then Ok v else Err BadRange
 
--- The sample of a piece, where the piece is built: `KEY:DIGITS|c` so far. The name stands before the first
--- colon, and the fields behind it stand between bars.
-abbrev pub sample_of : List ℕ → Option Sample
-sample_of piece = option_and_then (λ c. sample_of_fields c.part (split 124 c.rest)) (cut_at 58 piece)
+-- a number of a timer, where it is one
+abbrev pub timer_value : Result ℤ NumberFlaw → Result ℤ NumberFlaw
+timer_value (Ok v) = within_timer v
+timer_value (Err flaw) = Err flaw
+
+-- the number of a value; a set's is 0
+abbrev pub value_of : Kind → List ℕ → Result ℤ NumberFlaw
+value_of Counter text = decimal_value text
+value_of Timer text = timer_value (decimal_value text)
+value_of Gauge text = decimal_value text
+value_of Set text = Ok (pos 0)
+
+-- a rate is from 0.000001 to 1000
+abbrev pub within_rate : Result ℤ NumberFlaw → Option ℕ
+within_rate (Ok (pos n)) = if nat_le 1 n && nat_le n (10 ^ 9) then Some n else None
+within_rate (Ok (negsuc n)) = None
+within_rate (Err flaw) = None
+
+-- the rate of a field: `@` and a number without a sign; 1 where the field is empty
+abbrev pub rate_of : List ℕ → Option ℕ
+rate_of [] = Some 1000000
+rate_of (b ∷ text) = if b == 64 && not (has_sign text) then within_rate (decimal_value text) else None
+
+-- the member of a value; an empty one is `0`
+abbrev pub member_of : List ℕ → List ℕ
+member_of [] = codes "0"
+member_of (b ∷ text) = b ∷ text
+
+-- The sample of a key with what its fields say: only a counter and a timer are weighed by their rate, a gauge may
+-- have a sign, and a set's value is its member.
+abbrev pub sample : Kind → List ℕ → List ℕ → ℤ → ℕ → Sample
+sample Counter key text v rate = record { kind = Counter; key = key; value = v; rate = rate; is_signed = false; member = [] }
+sample Timer key text v rate = record { kind = Timer; key = key; value = v; rate = rate; is_signed = false; member = [] }
+sample Gauge key text v rate = record { kind = Gauge; key = key; value = v; rate = 1000000; is_signed = has_sign text; member = [] }
+sample Set key text v rate = record { kind = Set; key = key; value = v; rate = 1000000; is_signed = false; member = member_of text }
+
+-- what follows where nothing is wrong; the first flaw decides
+infixl 10 ◌>>=◌
+abbrev pub ◌>>=◌ : {A B : Type 0} → Result A Flaw → (A → Result B Flaw) → Result B Flaw
+(Ok x) >>= f = f x
+(Err flaw) >>= f = Err flaw
+
+-- the kind of the field behind the value
+abbrev pub typed : List ℕ → Result Kind Flaw
+typed [] = Err NoType
+typed (b ∷ bytes) = ok_or (kind_named (b ∷ bytes)) UnknownType
+
+-- a value that was read, or that it is no number
+abbrev pub valued : Result ℤ NumberFlaw → Result ℤ Flaw
+valued (Ok v) = Ok v
+valued (Err flaw) = Err (BadNumber flaw)
+
+-- a key that was cleaned, or that there is none
+abbrev pub named : Result (List ℕ) KeyFault → Result (List ℕ) Flaw
+named (Ok key) = Ok key
+named (Err fault) = Err (BadKey fault)
+
+-- whether a timer's value is below 0
+abbrev pub is_below_zero : Kind → ℤ → Bool
+is_below_zero Timer v = int_lt v (pos 0)
+is_below_zero kind v = false
+
+-- whether a set's member has over 128 bytes
+abbrev pub is_long_member : Kind → List ℕ → Bool
+is_long_member Set text = nat_lt 128 (length text)
+is_long_member kind text = false
+
+-- whether a byte stands in a list
+abbrev pub has_byte : ℕ → List ℕ → Bool
+has_byte byte xs = list_any (λ x. x == byte) xs
+
+-- whether there is a fourth field, or a further colon
+abbrev pub is_over : List (List ℕ) → List ℕ → Bool
+is_over fields rest = nat_lt 3 (length fields) || has_byte 58 rest
+
+-- a flaw, where it holds
+abbrev pub unless_so : Bool → Flaw → Result (Unit {0}) Flaw
+unless_so holds flaw = if holds then Err flaw else Ok tt
+
+-- the sample of a name and what stands behind its colon, cut into fields, or the first flaw
+unfoldable pub reading_behind : List ℕ → List ℕ → List (List ℕ) → Result Sample Flaw
+reading_behind name rest fields = do
+  kind ← typed (field 1 fields)
+  v ← valued (value_of kind (field 0 fields))
+  rate ← ok_or (rate_of (field 2 fields)) BadRate
+  above ← unless_so (is_below_zero kind v) NegativeTimer
+  key ← named (clean name)
+  short ← unless_so (is_long_member kind (field 0 fields)) LongMember
+  whole ← unless_so (is_over fields rest) ExtraField
+  Ok (sample kind key (field 0 fields) v rate)
+
+-- the name stands before the first colon, and the fields behind it stand between bars
+abbrev pub reading_cut : Option Cut → Result Sample Flaw
+reading_cut None = Err NoValue
+reading_cut (Some c) = reading_behind c.part c.rest (split 124 c.rest)
+
+-- What a piece is read as: its sample, or why it has none.
+abbrev pub reading : List ℕ → Result Sample Flaw
+reading piece = reading_cut (cut_at 58 piece)
+
+-- the sample of a reading, where it has one
+abbrev pub good : Result Sample Flaw → Option Sample
+good (Ok s) = Some s
+good (Err flaw) = None
+
+-- whether a reading has no sample
+abbrev pub is_bad : Result Sample Flaw → Bool
+is_bad (Ok s) = false
+is_bad (Err flaw) = true
 
 -- the samples of a datagram, in order
 abbrev pub samples_of : List ℕ → List Sample
-samples_of datagram = filter_map sample_of (pieces datagram)
+samples_of datagram = filter_map (λ piece. good (reading piece)) (pieces datagram)
+
+-- how many pieces of a datagram are bad
+abbrev pub bad_of : List ℕ → ℕ
+bad_of datagram = count_by (λ piece. is_bad (reading piece)) (pieces datagram)

@@ -77,6 +77,11 @@ abbrev pub has_minus : List ℕ → Bool
 has_minus [] = false
 has_minus (b ∷ bs) = b == 45
 
+-- whether a text begins with `+` or `-`
+abbrev pub has_sign : List ℕ → Bool
+has_sign [] = false
+has_sign (b ∷ bs) = b == 45 || b == 43
+
 -- a text behind its sign, `+` or `-`, where it has one
 abbrev pub without_sign : List ℕ → List ℕ
 without_sign [] = []

@@ -8,6 +8,7 @@ ghost use Rattle.sd_model_replay.specs.Script.{BeginsBuilt, IsUndecided, IsDecid
 
 use crate::ahead::{Ahead, LINE};
 use crate::head::{Head, parse_line};
+use sd_key::Kind;
 use sd_line::Lines;
 use sd_outside::{Failed, Source};
 
@@ -19,13 +20,15 @@ pub(crate) struct Found {
     pub line: usize,
 }
 
-/// Whether each piece of a datagram is built.
+/// Whether each good piece of a datagram is built.
 fn is_built(datagram: &[u8]) -> bool
     ensures { IsTrue result ↔ HasBuiltPieces datagram.now }
 {
     let mut lines = Lines::new(datagram);
     while let Some(piece) = lines.next() {
-        if piece.is_err() {
+        if let Ok(sample) = piece
+            && !matches!(sample.kind, Kind::Counter)
+        {
             return false;
         }
     }

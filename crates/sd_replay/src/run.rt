@@ -75,7 +75,7 @@ fn play_packet(shard: &mut Shard, desk: &mut Desk, who: u16, datagram: &[u8])
     desk.add(Tally {
         packets: 1,
         lines: filed.lines,
-        bad: 0,
+        bad: filed.bad,
         dropped: filed.dropped,
     });
 }

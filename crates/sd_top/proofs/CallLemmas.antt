@@ -1,16 +1,12 @@
 -- What a call answers, by the step that ended it.
-use Rattle.std.proofs.Common.{◌≡◌, ◌⊎◌, List, ℕ, [], ◌∷◌, Option, Some, None, inl, inr, refl, sym, ap, subst}
-use Rattle.sd_model_outside.specs.Outside.{Object, File, IsAtEnd, HasFailed, opened}
-use Rattle.sd_model_replay.specs.Backends.{Backend, Graphite, Console}
-use Rattle.sd_model_replay.specs.Totals.{totals_after}
+use Rattle.std.proofs.Common.{◌≡◌, List, ℕ, [], ◌∷◌, Option, Some, None, inl, inr, refl, sym, ap, subst}
+use Rattle.sd_model_outside.specs.Outside.{File, opened}
 use Rattle.sd_model_replay.specs.AccountingTheorem.{Seen, Course, AccountingTheorem}
 use Rattle.sd_model_replay.specs.Ends.{End, Complete, NotBuilt, ReadFailed, WriteFailed, WornOut, Replayed}
 use Rattle.sd_model_call.specs.Words.{Form, Replay, form}
-use Rattle.sd_model_call.specs.Call.{World, OfSettings, OfScript, OfGraphite, Answers, AnswersReplay, Accounts, NoForm, NotBegun, OpensSome, FailsToOpen, Ran, TakesDefaults, Answer, default_settings, ending, openings, started}
+use Rattle.sd_model_call.specs.Call.{World, OfSettings, OfScript, OfGraphite, Answers, AnswersReplay, Accounts, NoForm, NotBegun, Ran, TakesDefaults, Answer, default_settings, ending, openings, started}
 use Rattle.sd_model_outside.proofs.OutsideLemmas.{Reads-nil}
 use Rattle.sd_model_replay.proofs.AccountingLemmas.{are_accounted, are_documented}
-use Rattle.sd_replay.specs.Ends.{end_of}
-use Rattle.sd_replay.specs.declared.run.ReplayEnd.{ReplayEnd}
 use Rattle.sd_top.specs.declared.status.Status.{Status}
 use Rattle.sd_top.specs.Answers.{answer_of}
 use Rattle.sd_top.specs.Causes.{NotTaken, NotStarted}

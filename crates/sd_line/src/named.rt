@@ -1,0 +1,62 @@
+ghost use Rattle.std.specs.Prelude.{◌≡◌, ◌<◌, ◌≤◌, ◌+◌, length, take, true, false, IfSome, option_map, Ok};
+ghost use Rattle.std.specs.List.{prefix_len};
+ghost use Rattle.sd_model_text.specs.Lists.{cut_at};
+ghost use Rattle.sd_model_text.specs.Names.{is_name_byte as is_name, clean};
+ghost use Rattle.sd_line.specs.Named.{named_view};
+
+use crate::cut::{cut_around, first_cut};
+
+/// The name before the first colon of a piece, and what stands behind it. `is_key` says that the name is a key
+/// as it stands, where that is known.
+#[derive(Clone, Copy)]
+pub(crate) struct Named<'a> {
+    pub name: &'a [u8],
+    pub rest: &'a [u8],
+    pub is_key: bool,
+}
+
+/// Whether a key may have the byte.
+fn is_name_byte(b: u8) -> bool
+    ensures { result ≡ is_name b }
+{
+    b.is_ascii_alphanumeric() || matches!(b, b'_' | b'-' | b'.')
+}
+
+/// How many bytes of names a piece begins with.
+fn plain_len(piece: &[u8]) -> usize
+    ensures { result ≡ prefix_len is_name piece.now }
+{
+    for (i, byte) in piece.iter().enumerate() {
+        if !is_name_byte(*byte) {
+            return i;
+        }
+    }
+    piece.len()
+}
+
+/// The name of a piece, where it has one. Most names are keys as they stand, and end at the first byte that no key
+/// has.
+pub(crate) fn name_of(piece: &[u8]) -> Option<Named<'_>>
+    ensures cut { option_map named_view result ≡ cut_at 58 piece.now }
+    ensures key { IfSome result (λ n. n.is_key ≡ true → clean n.name.now ≡ Ok n.name.now) }
+{
+    let len = plain_len(piece);
+    match piece.get(len) {
+        Some(b':') if 0 < len && len <= 255 => {
+            let cut = cut_around(piece, len);
+            Some(Named {
+                name: cut.part,
+                rest: cut.rest,
+                is_key: true,
+            })
+        }
+        _ => {
+            let cut = first_cut(piece, b':')?;
+            Some(Named {
+                name: cut.part,
+                rest: cut.rest,
+                is_key: false,
+            })
+        }
+    }
+}
