@@ -6,9 +6,9 @@ use Rattle.std.proofs.lemmas.Bool.{and_parts, or_cases, false≢true}
 use Rattle.std.specs.List.{AllPass}
 use Rattle.std.proofs.lemmas.Bool.Decides.{nat_tests}
 use Rattle.sd_model_text.specs.Lists.{trim_end, unless_last}
-use Rattle.sd_model_text.specs.Numbers.{six_digits, behind_point, magnitude_text, number_text}
+use Rattle.sd_model_text.specs.Numbers.{six_digits, behind_point, magnitude_text, number_text, Limit, Below, Infinite}
 use Rattle.sd_decimal.proofs.Decimals.{length-decimal-whole}
-use Rattle.sd_model_settings.specs.Entries.{Limit, Below, Infinite, is_limit, is_backend}
+use Rattle.sd_model_settings.specs.Entries.{is_limit, is_backend}
 use Rattle.sd_model_settings.specs.Ranges.{IsThreshold, AreThresholds, AreBackends, AreLimits}
 use Rattle.sd_model_settings.specs.ConfigText.{joined, limit_text}
 use Rattle.sd_decimal.specs.declared.number.Micro.{Micro}

@@ -2,16 +2,17 @@
 use Rattle.std.specs.Prelude.{List, map}
 use Rattle.sd_decimal.specs.declared.number.Limit.{Limit}
 use Rattle.sd_decimal.specs.declared.number.Limit.TheVariants.{Below, Infinite}
+use Rattle.sd_model_text.specs.Numbers as numbers
 use Rattle.sd_model_settings.specs.Entries as model
 use Rattle.sd_config.specs.declared.entries.Classes.{Classes}
 use Rattle.sd_config.specs.declared.entries.Target.{Target}
 use Rattle.sd_config.specs.declared.entries.Node.{Node}
 
-abbrev pub limit_of : Limit → model.Limit
-limit_of (Below m) = model.Below m.0
-limit_of Infinite = model.Infinite
+abbrev pub limit_of : Limit → numbers.Limit
+limit_of (Below m) = numbers.Below m.0
+limit_of Infinite = numbers.Infinite
 
-abbrev pub limits_of : List Limit → List model.Limit
+abbrev pub limits_of : List Limit → List numbers.Limit
 limits_of = map limit_of
 
 abbrev pub classes_view : Classes → model.Classes

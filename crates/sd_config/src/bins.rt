@@ -3,7 +3,8 @@ ghost use Rattle.std.specs.List.{list_all};
 ghost use Rattle.toml.specs.Data.{get_member};
 ghost use Rattle.toml.specs.View.{view, items_view, table_view};
 ghost use Rattle.sd_model_settings.specs.Values.{required};
-ghost use Rattle.sd_model_settings.specs.Entries.{is_inf, has_early_inf, is_limit, ascends, are_limits, bins_of, bins, limit_lt};
+ghost use Rattle.sd_model_text.specs.Numbers.{ascends, limit_lt};
+ghost use Rattle.sd_model_settings.specs.Entries.{is_inf, has_early_inf, is_limit, are_limits, bins_of, bins};
 ghost use Rattle.sd_config.specs.Answers.{seen_by};
 ghost use Rattle.sd_config.specs.Entries.{limit_of, limits_of};
 
@@ -29,7 +30,8 @@ fn is_inf(value: &Value) -> bool
 }
 
 impl Element for Limit {
-    ghost use Rattle.sd_model_settings.specs.Entries.{Limit as ModelLimit, limit};
+    ghost use Rattle.sd_model_text.specs.Numbers.{Limit as ModelLimit};
+    ghost use Rattle.sd_model_settings.specs.Entries.{limit};
     ghost use Rattle.sd_config.specs.Entries.{limit_of};
 
     ghost Seen = { ModelLimit };

@@ -1,8 +1,8 @@
 -- The reply to `config`: a line for each setting in force, in the order and under the names of the file.
 use Rattle.std.specs.Prelude.{ℕ, Bool, if◌then◌else◌, List, [], ◌∷◌, ◌++◌, map, codes, decimal}
 use Rattle.std.specs.List.{concat, join_with_byte}
-use Rattle.sd_model_text.specs.Numbers.{number_text}
-use Rattle.sd_model_settings.specs.Entries.{Limit, Below, Infinite, Classes, Target, Node}
+use Rattle.sd_model_text.specs.Numbers.{number_text, Limit, Below, Infinite}
+use Rattle.sd_model_settings.specs.Entries.{Classes, Target, Node}
 use Rattle.sd_model_settings.specs.Settings.{Server, Deletions, Addresses, Namespace, Sizes, Settings}
 
 -- a line: a name, a colon, a space and a value

@@ -4,6 +4,7 @@ use Rattle.std.specs.List.{list_any, list_all}
 use Rattle.std.specs.Str.{bytes_eq}
 use Rattle.std.specs.Ordering.{int_eq}
 use Rattle.toml.specs.Data.{Data, string, array, table, Items, no_items, item, Members, get_member}
+use Rattle.sd_model_text.specs.Numbers.{Limit, Below, Infinite, ascends}
 use Rattle.sd_model_settings.specs.Values.{ValueFlaw, OtherKind, both, mapped, ranged, whole, text, is_host, is_metric, decimal, each, are_at_most, listed, one_or_list, are_distinct, required, optional}
 
 -- a threshold in millionths: from -100 to 100, and not 0
@@ -25,11 +26,6 @@ is_backend s = list_any (bytes_eq s) (codes "graphite" ∷ codes "console" ∷ c
 -- a list of backends, each at most once
 abbrev pub backends : Data → Result (List (List ℕ)) ValueFlaw
 backends d = ranged (are_distinct bytes_eq) (listed 3 (text is_backend) d)
-
--- The upper limit of a bin, in millionths, or none.
-pub data Limit : Type 0 where
-  Below : ℤ → Limit
-  Infinite : Limit
 
 -- The bins of the timers whose names have a part.
 pub record Classes : Type 0 where
@@ -55,18 +51,6 @@ has_early_inf (item d (item e ds)) = is_inf d || has_early_inf (item e ds)
 abbrev pub is_limit : Limit → Bool
 is_limit (Below z) = int_lt (pos 0) z && int_le z (pos (10 ^ 16))
 is_limit Infinite = true
-
--- the order of limits
-abbrev pub limit_lt : Limit → Limit → Bool
-limit_lt (Below a) (Below b) = int_lt a b
-limit_lt (Below a) Infinite = true
-limit_lt Infinite b = false
-
--- each limit is less than the next
-abbrev pub ascends : List Limit → Bool
-ascends [] = true
-ascends (a ∷ []) = true
-ascends (a ∷ b ∷ rest) = limit_lt a b && ascends (b ∷ rest)
 
 -- limits in range that ascend
 abbrev pub are_limits : List Limit → Bool

@@ -5,7 +5,8 @@ use Rattle.std.specs.Ordering.{int_eq}
 use Rattle.std.specs.Str.{bytes_eq}
 use Rattle.sd_model_text.specs.Names.{is_name_byte}
 use Rattle.sd_model_settings.specs.Values.{is_host_byte, are_distinct}
-use Rattle.sd_model_settings.specs.Entries.{is_backend, Limit, is_limit, ascends, Classes, Target, Node}
+use Rattle.sd_model_text.specs.Numbers.{Limit, ascends}
+use Rattle.sd_model_settings.specs.Entries.{is_backend, is_limit, Classes, Target, Node}
 use Rattle.sd_model_settings.specs.Settings.{Server, Addresses, Namespace, EntryLists, Sizes, Settings}
 
 -- a number from least to most

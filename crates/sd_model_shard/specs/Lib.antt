@@ -1,4 +1,5 @@
 pub mod Shard
 pub mod Statistics
+pub mod Values
 pub mod History
 pub mod Whereabouts

@@ -1,5 +1,5 @@
 -- Numbers are whole millionths: 1 stands for 0.000001.
-use Rattle.std.specs.Prelude.{ℕ, ◌+◌, ◌*◌, ◌/◌, ◌%◌, ◌^◌, ◌==◌, ◌&&◌, ◌||◌, Bool, false, nat_lt, nat_le, if◌then◌else◌, ℤ, pos, negsuc, ◌*ℤ◌, List, [], ◌∷◌, ◌++◌, length, map, Result, Ok, Err}
+use Rattle.std.specs.Prelude.{ℕ, ◌+◌, ◌*◌, ◌/◌, ◌%◌, ◌^◌, ◌==◌, ◌&&◌, ◌||◌, Bool, true, false, nat_lt, nat_le, int_lt, if◌then◌else◌, ℤ, pos, negsuc, ◌*ℤ◌, List, [], ◌∷◌, ◌++◌, length, map, Result, Ok, Err}
 use Rattle.std.proofs.Common.{suc, neg_ℤ}
 use Rattle.std.specs.Char.{is_ascii_digit}
 use Rattle.std.specs.Fmt.{decimal}
@@ -96,3 +96,20 @@ with_sign is_negative (Err flaw) = Err flaw
 -- rounded once to millionths, half away from zero.
 abbrev pub decimal_value : List ℕ → Result ℤ NumberFlaw
 decimal_value text = with_sign (has_minus text) (decimal_magnitude (without_sign text))
+
+-- The upper limit of a bin of a histogram, which the bin doesn't hold, or none.
+pub data Limit : Type 0 where
+  Below : ℤ → Limit
+  Infinite : Limit
+
+-- the order of limits
+abbrev pub limit_lt : Limit → Limit → Bool
+limit_lt (Below a) (Below b) = int_lt a b
+limit_lt (Below a) Infinite = true
+limit_lt Infinite b = false
+
+-- each limit is less than the next
+abbrev pub ascends : List Limit → Bool
+ascends [] = true
+ascends (a ∷ []) = true
+ascends (a ∷ b ∷ rest) = limit_lt a b && ascends (b ∷ rest)
