@@ -4,3 +4,6 @@ pub mod EntryLemmas
 pub mod HistoryLemmas
 pub mod OrderLemmas
 pub mod RowLemmas
+pub mod SortedLemmas
+pub mod ValuesLemmas
+pub mod PartLemmas

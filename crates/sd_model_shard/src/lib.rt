@@ -1,8 +1,13 @@
 //! The definitions of a shard: its rows and entries, what one event does to them, and its history: who asked what of
-//! it, what it answered, and where each sample is. The functions have no code, and each states a law of the
-//! definitions.
+//! it, what it answered, and where each sample is; and what a list of values comes to. The functions have no code, and each
+//! states a law of the definitions.
 #![tactic(auto)]
 
 mod history;
+mod values;
 
 pub use history::{histories_are_accounted, histories_grow, rows_are_told};
+pub use values::{
+    bins_add_up, deviations_are_largest, lists_are_sorted, means_lie_between,
+    parts_of_hundred_are_whole,
+};

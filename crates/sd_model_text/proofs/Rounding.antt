@@ -1,5 +1,5 @@
 -- What the nearest whole number to a quotient is.
-use Rattle.std.proofs.Common.{◌≡◌, ℕ, zero, suc, ◌+◌, ◌-◌, ◌*◌, ◌/◌, ◌<◌, ◌≤◌, ℤ, pos, negsuc, ◌*ℤ◌, ◌-ℤ◌, ◌≤ℤ◌, neg_ℤ, unsigned_abs, refl, sym, ◌∙◌, arith}
+use Rattle.std.proofs.Common.{◌≡◌, ℕ, zero, suc, ◌+◌, ◌-◌, ◌*◌, ◌/◌, ◌<◌, ◌≤◌, ℤ, pos, negsuc, ◌*ℤ◌, ◌-ℤ◌, ◌≤ℤ◌, neg_ℤ, unsigned_abs, refl, sym, ap, ◌∙◌, arith}
 use Rattle.std.proofs.Math.IntN.{neg_ℤ-neg_ℤ}
 use Rattle.std.proofs.Math.Nat.{add-mul-div_right, lt-div-mul-add}
 use Rattle.std.proofs.lemmas.Int.{ints}
@@ -39,6 +39,11 @@ pub round_symmetric : (a : ℤ) (b : ℕ) → 0 < b → round (neg_ℤ a) b ≡ 
 round_symmetric (pos zero) b positive = rw rounded_zero
 round_symmetric (pos (suc n)) b positive = refl
 round_symmetric (negsuc n) b positive = sym (neg_ℤ-neg_ℤ (pos (rounded (suc n) b)))
+
+-- a whole result is exact
+pub round_exact : (q : ℤ) (b : ℕ) → 0 < b → round (q *ℤ pos b) b ≡ q
+round_exact (pos q) b positive = ap pos (rounded-exact q b positive)
+round_exact (negsuc q) b positive = round_symmetric (pos (suc q * b)) b positive ∙ ap (λ n. neg_ℤ (pos n)) (rounded-exact (suc q) b positive)
 
 apart : (x y b : ℕ) → 2 * x ≤ 2 * y + b → 2 * y ≤ 2 * x + b → 2 * unsigned_abs (pos x -ℤ pos y) ≤ b
 apart x y b low high = omega (arith, ints)
