@@ -20,9 +20,9 @@ fn call(alloc: Global, words: &[&str], out: &mut Answer) -> Result<(), Refusal> 
         ["table", limits, interval, ts, tally, steps @ ..] => {
             tables::steps_on_table(alloc, limits, &[interval, ts, tally], steps, out)
         }
-        ["goes_idle", kinds, kind] => {
+        ["goes_idle", kinds, kind, swaps] => {
             out.text(" = ");
-            shards::goes_idle(kinds, kind, out)
+            shards::goes_idle(kinds, kind, swaps, out)
         }
         ["room", limits, kinds, interval, receivers] => {
             out.text(" = ");

@@ -25,7 +25,7 @@ pub(crate) fn sample_of(alloc: Global, word: &str) -> Result<Sample, Refusal> {
     let rate = decimal(rate)?;
     match letters {
         "c" => sample_with(Kind::Counter, key, decimal(value)?, rate),
-        "g" => sample_with(Kind::Gauge, key, decimal(value)?, rate),
+        "g" => gauge_sample(key, value, rate),
         "ms" => timer_sample(key, decimal(value)?, rate),
         "s" => set_sample(alloc, key, value, rate),
         _ => Err(Refusal::Malformed),
@@ -37,7 +37,7 @@ fn decimal(word: &str) -> Result<Micro, Refusal> {
     read(word.as_bytes()).map_err(|_| Refusal::Malformed)
 }
 
-/// A sample of a counter, gauge or set.
+/// A sample of a counter, gauge or set, without a sign or member.
 fn sample_with(kind: Kind, key: Key, value: Micro, rate: Micro) -> Result<Sample, Refusal>
     requires { kind ≢ Kind.Timer }
 {
@@ -56,6 +56,13 @@ fn sample_with(kind: Kind, key: Key, value: Micro, rate: Micro) -> Result<Sample
         signed: false,
         member: Member::new(),
     })
+}
+
+/// A sample of a gauge, which a value with a sign is added to.
+fn gauge_sample(key: Key, value: &str, rate: Micro) -> Result<Sample, Refusal> {
+    let mut sample = sample_with(Kind::Gauge, key, decimal(value)?, rate)?;
+    sample.signed = value.starts_with('+') || value.starts_with('-');
+    Ok(sample)
 }
 
 /// A sample of a timer.

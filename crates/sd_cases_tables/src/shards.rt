@@ -1,9 +1,11 @@
-ghost use Rattle.std.specs.Prelude.{◌≡◌, IfOk};
-ghost use Rattle.sd_shard.specs.Limits.{limits_of, AreLimits};
+ghost use Rattle.std.specs.Prelude.{◌≡◌, ◌<◌, length, IfOk};
+ghost use Rattle.sd_epoch.specs.Limits.{limits_of, AreLimits};
 
 use crate::samples::sample_of;
 use sd_case::{Answer, Refusal, kind_of, kind_word, number};
-use sd_shard::{Cause, Limits, Placed, Policy, RowFacts, Shard, ShardBook, Table, Who};
+use sd_epoch::{Limits, RowFacts, Table, Who};
+use sd_key::{Key, Kind};
+use sd_shard::{Cause, Placed, Policy, Shard, ShardBook};
 use std::alloc::Global;
 
 // the most rows, and the most entries
@@ -22,7 +24,8 @@ pub(crate) fn limits_from(word: &str) -> Result<Limits, Refusal>
     Ok(Limits { rows, entries })
 }
 
-/// The policy that deletes the kinds of a word when idle, which are joined by `+`. `none` is none.
+/// The policy that deletes the kinds of a word when idle, which are joined by `+`, and gauges at the swap that
+/// `gauges=SWAPS` says. `none` is none.
 pub(crate) fn policy_from(word: &str) -> Result<Policy, Refusal> {
     let mut policy = Policy {
         counters: false,
@@ -32,10 +35,14 @@ pub(crate) fn policy_from(word: &str) -> Result<Policy, Refusal> {
         max_ttl: 1,
     };
     for kind in word.split('+') {
+        let (kind, swaps) = kind.split_once('=').unwrap_or((kind, "1"));
         match kind {
             "counters" => policy.counters = true,
             "timers" => policy.timers = true,
-            "gauges" => policy.gauges = true,
+            "gauges" => {
+                policy.gauges = true;
+                policy.max_ttl = number(swaps)?;
+            }
             "sets" => policy.sets = true,
             "none" => (),
             _ => return Err(Refusal::Malformed),
@@ -44,9 +51,14 @@ pub(crate) fn policy_from(word: &str) -> Result<Policy, Refusal> {
     Ok(policy)
 }
 
-/// `goes_idle KINDS KIND`: whether rows of the kind go at a swap.
-pub(crate) fn goes_idle(kinds: &str, kind: &str, out: &mut Answer) -> Result<(), Refusal> {
-    out.yes_or_no(policy_from(kinds)?.goes_idle(kind_of(kind)?));
+/// `goes_idle KINDS KIND SWAPS`: whether a row of the kind goes at a swap so many swaps behind its last sample.
+pub(crate) fn goes_idle(
+    kinds: &str,
+    kind: &str,
+    swaps: &str,
+    out: &mut Answer,
+) -> Result<(), Refusal> {
+    out.yes_or_no(policy_from(kinds)?.goes_idle(kind_of(kind)?, number(swaps)?));
     Ok(())
 }
 
@@ -116,17 +128,33 @@ pub(crate) fn show_table(alloc: Global, table: &Table, out: &mut Answer) -> Resu
     let mut rows = Vec::new(alloc);
     for i in 0..table.rows() {
         let mut row = Answer::new(alloc);
-        show_facts(table.row(i), &mut row);
+        show_row(table, i, &mut row);
         rows.push(row.finish()?)?;
     }
-    rows.sort()?;
-    for row in &rows {
-        out.text(row);
+    show_sorted(rows, out)
+}
+
+/// Appends lines in their order.
+pub(crate) fn show_sorted(mut lines: Vec<String>, out: &mut Answer) -> Result<(), Refusal> {
+    lines.sort()?;
+    for line in &lines {
+        out.text(line);
     }
     Ok(())
 }
 
-/// Appends the line of what a table says of a row.
+/// Appends the line of a table's row.
+fn show_row(table: &Table, i: u32, out: &mut Answer)
+    requires { i < length table.now.listed }
+{
+    show_facts(table.row(i), out);
+    if table.get(i).kind == Kind::Gauge {
+        out.text(", value ");
+        out.number(i128::from(table.gauge_of(i).0));
+    }
+}
+
+/// Appends what a table says of a row.
 fn show_facts(row: RowFacts, out: &mut Answer) {
     let RowFacts {
         kind,
@@ -136,16 +164,21 @@ fn show_facts(row: RowFacts, out: &mut Answer) {
         samples,
         weight,
     } = row;
-    out.text("\n    ");
-    out.text(kind_word(kind));
-    out.text(" ");
-    out.bytes(key.as_slice());
+    show_name(kind, &key, out);
     out.text(": base ");
     out.number(i128::from(base.0));
     out.count(", swaps ", u64::from(swaps));
     out.count(", samples ", samples);
     out.text(", weight ");
     out.number(weight.0);
+}
+
+/// Begins the line of a row.
+pub(crate) fn show_name(kind: Kind, key: &Key, out: &mut Answer) {
+    out.text("\n    ");
+    out.text(kind_word(kind));
+    out.text(" ");
+    out.bytes(key.as_slice());
 }
 
 /// `shard ROWS/ENTRIES KINDS STEPS`: what each step on a new shard answers, where rows of the kinds are deleted

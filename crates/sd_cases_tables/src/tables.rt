@@ -1,15 +1,15 @@
 ghost use Rattle.std.specs.Prelude.{◌≡◌, ◌≤◌, ◌<◌, length, IfOk};
-ghost use Rattle.sd_shard.specs.Limits.{limits_of, AreLimits};
+ghost use Rattle.sd_epoch.specs.Limits.{limits_of, AreLimits};
 
 use crate::samples::sample_of;
-use crate::shards::{limits_from, show_table};
+use crate::shards::{limits_from, show_name, show_sorted, show_table};
 use sd_case::{Answer, Refusal, key_of, number};
 use sd_decimal::Micro;
+use sd_epoch::{Limits, Scratch, Table, Who};
 use sd_graphite::write_record;
 use sd_key::Kind;
 use sd_outside::{MemSink, WriteFault};
 use sd_record::{Record, RecordScratch, Row, Tally};
-use sd_shard::{Limits, Table, Who};
 use std::alloc::Global;
 
 // the largest count of a tally
@@ -23,13 +23,22 @@ struct Flush {
     tally: Tally,
 }
 
-/// A table and the room of its record, for the same limits.
+/// What of a row's samples is shown.
+#[derive(Clone, Copy)]
+enum Part {
+    Values,
+    Members,
+}
+
+/// A table, the room for what its rows have, and that of its record, for the same limits.
 #[derive(Drop)]
 struct Bench {
     limits: Limits,
     table: Table,
+    gathered: Scratch,
     scratch: RecordScratch,
     ghost opened: { table.limits ≡ limits_of limits },
+    ghost sample_room: { gathered.room ≡ limits.entries },
     ghost room: { scratch.room ≡ limits.rows },
 }
 
@@ -86,6 +95,8 @@ impl Bench {
         match step {
             "record" => self.record(flush, out),
             "rows" => show_table(alloc, &self.table, out),
+            "values" => show_parts(alloc, &self.table, Part::Values, &mut self.gathered, out),
+            "members" => show_parts(alloc, &self.table, Part::Members, &mut self.gathered, out),
             "limits" => {
                 self.show_limits(out);
                 Ok(())
@@ -162,6 +173,55 @@ impl Bench {
         let mut sink = sink_from(alloc, sink)?;
         show_text(&self.table, &mut self.scratch, flush, &mut sink, out);
         Ok(())
+    }
+}
+
+/// Appends the line of each row of a table, with its values or its members.
+fn show_parts(
+    alloc: Global,
+    table: &Table,
+    part: Part,
+    gathered: &mut Scratch,
+    out: &mut Answer,
+) -> Result<(), Refusal>
+    requires { table.now.limits.entries ≤ gathered.old.room }
+    ensures { gathered.new.room ≡ gathered.old.room }
+{
+    let _entries = table.entries();
+    let mut lines = Vec::new(alloc);
+    for i in 0..table.rows() {
+        let row = table.get(i);
+        let mut line = Answer::new(alloc);
+        show_name(row.kind, &row.key, &mut line);
+        show_part(table, i, part, gathered, &mut line);
+        lines.push(line.finish()?)?;
+    }
+    show_sorted(lines, out)
+}
+
+/// Appends the values or the members of a table's row, in the order in which they came.
+fn show_part(table: &Table, i: u32, part: Part, gathered: &mut Scratch, out: &mut Answer)
+    requires place { i < length table.now.listed }
+    requires room { length table.now.held ≤ gathered.old.room }
+    ensures { gathered.new.room ≡ gathered.old.room }
+{
+    match part {
+        Part::Values => {
+            out.text(": values");
+            table.values_of(i, gathered);
+            for value in gathered.values() {
+                out.text(" ");
+                out.number(i128::from(value.0));
+            }
+        }
+        Part::Members => {
+            out.text(": members");
+            table.members_of(i, gathered);
+            for member in gathered.members() {
+                out.text(" ");
+                out.bytes(member.as_slice());
+            }
+        }
     }
 }
 
@@ -254,6 +314,7 @@ pub(crate) fn steps_on_table(
     let mut bench = Bench {
         limits,
         table: Table::open(alloc, limits)?,
+        gathered: Scratch::open(alloc, limits)?,
         scratch: RecordScratch::open(alloc, limits)?,
     };
     for step in steps {

@@ -2,7 +2,8 @@
 use Rattle.std.specs.Prelude.{ℕ, ℤ, List, map, flat_map}
 use Rattle.std.specs.FinMap.{entries, from_entries}
 use Rattle.sd_model_text.specs.Numbers.{per_second}
-use Rattle.sd_model_shard.specs.Shard.{RowId, row_cmp, Kept, Entry, Table}
+use Rattle.sd_model_shard.specs.Rows.{RowId, row_cmp, Kept, Entry}
+use Rattle.sd_model_shard.specs.Shard.{Table}
 use Rattle.sd_model_shard.specs.Statistics.{weight_of}
 
 -- A row of a record: a counter with its count and its count per second.

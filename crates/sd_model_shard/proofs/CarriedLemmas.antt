@@ -1,16 +1,17 @@
 -- The rows that a swap answers are those carried in and those of its own journal.
 use Rattle.std.proofs.Common.{◌≡◌, ℕ, Bool, true, false, cond, List, [], ◌∷◌, refl, sym, ap, subst, ◌∙◌}
-use Rattle.std.specs.Prelude.{Option, Some, None, not, is_some, ◌||◌}
+use Rattle.std.specs.Prelude.{Option, Some, None, is_some, option_and_then, ◌||◌}
 use Rattle.std.specs.Ordering.{eq_by_cmp}
-use Rattle.std.specs.FinMap.{empty, get, contains_key, get-insert, get-retain_keys}
+use Rattle.std.specs.FinMap.{empty, get, contains_key, get-insert}
 use Rattle.std.specs.List.{list_any}
 use Rattle.std.proofs.lemmas.List.Sums.{fold_push}
 use Rattle.sd_model_text.specs.Lines.{Sample}
-use Rattle.sd_model_shard.specs.Shard.{State, empty_state, RowId, row_cmp, Rows, Kept, Entry, Cause, Limits, Policy, Event, Submit, Swap, step, admitted, refusal, row_of, base_of, touched, carried, goes_idle}
-use Rattle.sd_model_shard.specs.Statistics.{is_same_row}
+use Rattle.sd_model_shard.specs.Rows.{RowId, row_cmp, Rows, Kept, Entry, row_of, base_of, touched, is_same_row}
+use Rattle.sd_model_shard.specs.Shard.{State, empty_state, Cause, Limits, Policy, Event, Submit, Swap, step, admitted, refusal, carried, left_of}
 use Rattle.sd_model_shard.specs.History.{History, Asked, Legal, answered}
 use Rattle.sd_model_shard.specs.Whereabouts.{rows_with, RowsAreCarried}
 use Rattle.sd_model_shard.proofs.RowLemmas.{rows_exact, rows_total}
+use Rattle.sd_model_shard.proofs.EntryLemmas.{get-left}
 use Rattle.sd_model_shard.proofs.HistoryLemmas.{asked_in, legal_is_answered}
 
 -- the rows of a shard are those carried in and those of its entries
@@ -43,9 +44,9 @@ carries limits policy carried_in state (q ∷ asked) h =
 pub rows_carried : (limits : Limits) (policy : Policy) (acts : History) → Legal limits policy acts → RowsAreCarried policy empty acts
 rows_carried limits policy acts h = subst (RowsAreCarried policy empty) (legal_is_answered limits policy empty_state acts h) (carries limits policy empty empty_state (asked_in acts) refl)
 
--- what a row is carried as
-pub get-carried : (policy : Policy) (live : Rows) (journal : List Entry) (q : RowId) → get (carried policy live journal) q ≡ cond (not (goes_idle policy q.kind)) (get live q) None
-get-carried policy live journal q = get-retain_keys live (λ id. not (goes_idle policy id.kind)) q (λ x tie. ap (λ (id : RowId). not (goes_idle policy id.kind)) (sym (rows_exact q x tie)))
+-- what is left of a row
+pub get-carried : (policy : Policy) (live : Rows) (journal : List Entry) (q : RowId) → get (carried policy live journal) q ≡ option_and_then (left_of policy journal q) (get live q)
+get-carried policy live journal q = get-left rows_total rows_exact (left_of policy journal) live q
 
 -- the rows of entries are those that were there, and those of the entries
 pub contains_key-rows_with : (live : Rows) (journal : List Entry) (q : RowId) → contains_key (rows_with live journal) q ≡ (contains_key live q || list_any (λ (e : Entry). is_same_row q (row_of e.sample)) journal)

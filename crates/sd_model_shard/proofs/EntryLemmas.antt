@@ -1,12 +1,12 @@
 -- Maps that are made from lists of entries, and their entries in order.
 use Rattle.std.proofs.Common.{◌≡◌, ℕ, zero, suc, ◌+◌, ◌<◌, ◌≤◌, Bool, true, false, cond, ◌&&◌, ◌||◌, T, List, [], ◌∷◌, length, get_or, map, refl, sym, ap, subst, ◌∙◌, Option, Some, None, is_some, option_map, Contains, IsPermutation, IsSortedByKey, sum_by, arith}
-use Rattle.std.specs.Prelude.{⊤}
-use Rattle.std.specs.List.{list_any}
+use Rattle.std.specs.Prelude.{⊤, filter_map, option_and_then}
+use Rattle.std.specs.List.{list_any, cons_option}
 use Rattle.std.specs.declared.cmp.Ordering.{Ordering}
 use Rattle.std.specs.declared.cmp.Ordering.TheVariants.{Less, Equal, Greater}
 use Rattle.std.specs.Ordering.{is_lt, is_eq, eq_by_cmp, ordering_reverse}
 use Rattle.std.specs.Cmp.{IsTotalOrder, eq_by_cmp_equiv}
-use Rattle.std.specs.FinMap.{IsAntisymmetric, find, is_sorted, entries, entries_sorted, from_entries, from_sorted, get-entries, get-from_entries, get-from_sorted, entries-from_sorted, same_map}
+use Rattle.std.specs.FinMap.{FinMap, IsAntisymmetric, find, get, is_sorted, entries, entries_sorted, from_entries, from_sorted, get-entries, get-from_entries, get-from_sorted, entries-from_sorted, same_map}
 use Rattle.std.specs.FinMap.Entries.{below_all, is_some-find}
 use Rattle.std.proofs.lemmas.List.Sorted.{Contains-permutation, IsPermutation-sym, IsPermutation-map, list_any-IsPermutation, sum_by-IsPermutation}
 use Rattle.std.proofs.lemmas.List.Sums.{sum_by-cons}
@@ -204,3 +204,42 @@ module _ {K X Y : Type 0} (R : K → K → Ordering) (f : K → Y) where
         ∙ ap entries (same_map o exact (from_entries {R = R} (keyed f (entries m))) (from_entries {R = R} (keyed f es)) (λ q.
         get-from_entries o (keyed f (entries m)) q ∙ find-keyed q (entries m) ∙ ap (option_map (λ _. f q)) (sym (get-entries m q) ∙ get-from_entries o es q)
         ∙ sym (find-keyed q es) ∙ sym (get-from_entries o (keyed f es) q)))
+
+-- entries that rise stand apart
+pub StandApart-sorted : {K X : Type 0} (R : K → K → Ordering) (es : List (K × X)) → T (is_sorted R es) → StandApart R es
+StandApart-sorted R [] h = tt
+StandApart-sorted {K = K} {X = X} R (e ∷ es) h = (apart e.0 es (and_first _ _ h), StandApart-sorted R es (and_second _ _ h)) where
+  apart : (x : K) (ds : List (K × X)) → T (below_all R x ds) → list_any (λ other. eq_by_cmp R x other.0) ds ≡ false
+  apart x [] h = refl
+  apart x (d ∷ ds) h = ap (λ o. is_eq o || list_any (λ other. eq_by_cmp R x other.0) ds) (is_less (R x d.0) (and_first _ _ h)) ∙ apart x ds (and_second _ _ h)
+
+-- entries with what is left of each value, where something is
+abbrev pub left : {K X Y : Type 0} → (K → X → Option Y) → List (K × X) → List (K × Y)
+left f es = filter_map (λ e. option_map (λ y. (e.0, y)) (f e.0 e.1)) es
+
+alike_any : {K X : Type 0} (p : K → Bool) (es : List (K × X)) → list_any p (map (λ e. e.0) es) ≡ list_any (λ e. p e.0) es
+alike_any p [] = refl
+alike_any p (e ∷ es) = ap (λ b. p e.0 || b) (alike_any p es)
+
+module _ {K X Y : Type 0} {R : K → K → Ordering} (o : IsTotalOrder R) (exact : IsAntisymmetric R) (f : K → X → Option Y) where
+  -- what is found behind an entry of the same key
+  none_behind : (q : K) (e : K × X) (es : List (K × X)) → StandApart R (e ∷ es) → eq_by_cmp R q e.0 ≡ true → find R q es ≡ None
+  none_behind q e es a t = none_of (find R q es) (is_some-find R q es ∙ alike_any (eq_by_cmp R q) es ∙ any_alike o q e.0 es t ∙ a.0)
+
+  left_here : (q : K) (e : K × X) → eq_by_cmp R q e.0 ≡ true → f e.0 e.1 ≡ f q e.1
+  left_here q e t = ap (λ k. f k e.1) (sym (exact q e.0 (is_tie (R q e.0) t)))
+
+  -- what is found of what is left is what is left of what is found
+  pub find-left : (q : K) (es : List (K × X)) → StandApart R es → find R q (left f es) ≡ option_and_then (f q) (find R q es)
+  find-left q [] a = refl
+  find-left q (e ∷ es) a = by_left (f e.0 e.1) refl (eq_by_cmp R q e.0) refl (find-left q es a.1) where
+    by_left : (r : Option Y) → f e.0 e.1 ≡ r → (b : Bool) → eq_by_cmp R q e.0 ≡ b → find R q (left f es) ≡ option_and_then (f q) (find R q es)
+        → find R q (cons_option (option_map (λ y. (e.0, y)) r) (left f es)) ≡ option_and_then (f q) (cond b (Some e.1) (find R q es))
+    by_left None is true t rest = rest ∙ ap (option_and_then (f q)) (none_behind q e es a t) ∙ sym is ∙ left_here q e t
+    by_left None is false t rest = rest
+    by_left (Some y) is true t rest = ap (λ b. cond b (Some y) (find R q (left f es))) t ∙ sym is ∙ left_here q e t
+    by_left (Some y) is false t rest = ap (λ b. cond b (Some y) (find R q (left f es))) t ∙ rest
+
+  -- the map of what is left of a map
+  pub get-left : (m : FinMap R X) (q : K) → get (from_entries {R = R} (left f (entries m))) q ≡ option_and_then (f q) (get m q)
+  get-left m q = get-from_entries o (left f (entries m)) q ∙ find-left q (entries m) (StandApart-sorted R (entries m) (entries_sorted m)) ∙ ap (option_and_then (f q)) (sym (get-entries m q))

@@ -9,7 +9,8 @@ use Rattle.std.proofs.lemmas.List.Sums.{fold_push, sum_by-append}
 use Rattle.std.proofs.lemmas.List.Sorted.{sum_by-IsPermutation}
 use Rattle.sd_model_shard.proofs.OrderLemmas.{Rises, Rises-append, Rises-increasing, weighed_once, sum_by-flat_map, sum_by-map}
 use Rattle.sd_model_text.specs.Lines.{Sample}
-use Rattle.sd_model_shard.specs.Shard.{State, empty_state, Entry, Cause, Limits, Policy, Event, Submit, Swap, step, admitted, refusal, after_swap, table_of, Swapped, last_number}
+use Rattle.sd_model_shard.specs.Rows.{Entry}
+use Rattle.sd_model_shard.specs.Shard.{State, empty_state, Cause, Limits, Policy, Event, Submit, Swap, step, admitted, refusal, after_swap, table_of, Swapped, last_number}
 use Rattle.sd_model_shard.specs.History.{History, Act, Asked, after, after_all, state_after, LegalFrom, Legal, StandsAt, act_of, answered, acts_from}
 use Rattle.sd_model_shard.specs.Whereabouts.{arrivals, fates, filed, causes, journaled, deleted_from, deletions, tables, taken_out, Accounted, StandsOnce}
 

@@ -5,7 +5,7 @@ use Rattle.std.specs.List.{range_with_len}
 use Rattle.std.specs.List.Sorted.{IsStrictlyIncreasing}
 use Rattle.std.proofs.lemmas.List.Sums.{sum_by-append, sum_by-cons}
 use Rattle.std.proofs.lemmas.Bool.Decides.{nat_tests}
-use Rattle.sd_model_shard.specs.Shard.{Entry}
+use Rattle.sd_model_shard.specs.Rows.{Entry}
 
 -- the numbers rise from low on, and are below high
 abbrev pub Rises : ℕ → List Entry → ℕ → Type 0

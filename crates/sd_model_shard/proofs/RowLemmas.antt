@@ -6,7 +6,7 @@ use Rattle.std.specs.Cmp.Lexicographic.{slice_cmp, nat_list_cmp_total}
 use Rattle.std.specs.FinMap.{IsAntisymmetric, nat_cmp-IsAntisymmetric, slice_cmp-IsAntisymmetric}
 use Rattle.std.proofs.lemmas.Map.Lookups.{exact_pairs, exact_unsigned}
 use Rattle.sd_model_text.specs.Names.{Kind, Counter, Timer, Gauge, Set, rank}
-use Rattle.sd_model_shard.specs.Shard.{RowId, row_cmp}
+use Rattle.sd_model_shard.specs.Rows.{RowId, row_cmp}
 
 kind_at : ℕ → Kind
 kind_at n = cond (eqb n 0) Counter (cond (eqb n 1) Timer (cond (eqb n 2) Gauge Set))

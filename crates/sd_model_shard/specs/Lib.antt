@@ -1,3 +1,4 @@
+pub mod Rows
 pub mod Shard
 pub mod Statistics
 pub mod Values

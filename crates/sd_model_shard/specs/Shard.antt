@@ -1,36 +1,10 @@
 -- A shard: its rows and entries, and what one event does to them.
-use Rattle.std.specs.Prelude.{ℕ, ◌+◌, ◌^◌, min, nat_lt, Bool, not, ◌&&◌, ℤ, pos, List, [], ◌∷◌, ◌++◌, length, if◌then◌else◌, Option, Some, None, option_map, unwrap_or}
-use Rattle.std.specs.declared.cmp.Ordering.{Ordering}
-use Rattle.std.specs.Ordering.{nat_cmp, ordering_then}
-use Rattle.std.specs.Cmp.Lexicographic.{slice_cmp}
-use Rattle.std.specs.FinMap.{FinMap, get, contains_key, insert, retain_keys, empty, len}
-use Rattle.sd_model_text.specs.Names.{Kind, Counter, Timer, Gauge, Set, rank}
+use Rattle.std.specs.Prelude.{ℕ, ◌+◌, ◌^◌, min, nat_lt, nat_le, Bool, not, ◌&&◌, List, [], ◌∷◌, ◌++◌, length, filter_map, if◌then◌else◌, Option, Some, None, option_map}
+use Rattle.std.specs.FinMap.{contains_key, empty, entries, from_entries, len}
+use Rattle.sd_model_text.specs.Names.{Kind, Counter, Timer, Gauge, Set}
 use Rattle.sd_model_text.specs.Lines.{Sample}
-
--- what a row is known by
-pub record RowId : Type 0 where
-  pub kind : Kind
-  pub key : List ℕ
-
--- the order of rows: by kind, and then by the bytes of the key
-abbrev pub row_cmp : RowId → RowId → Ordering
-row_cmp a b = ordering_then (nat_cmp (rank a.kind) (rank b.kind)) (slice_cmp nat_cmp a.key b.key)
-
--- what a row keeps from swap to swap: a gauge's value at the last swap, and the swaps since its last sample; both stay 0 so
--- far
-pub record Kept : Type 0 where
-  pub base : ℤ
-  pub swaps : ℕ
-
--- rows, none of them twice; their order is that of the ids
-abbrev pub Rows : Type 0
-Rows = FinMap row_cmp Kept
-
--- a sample that was taken, who brought it, and its number in the shard
-pub record Entry : Type 0 where
-  pub who : ℕ
-  pub number : ℕ
-  pub sample : Sample
+use Rattle.sd_model_shard.specs.Rows.{RowId, Kept, Rows, Entry, row_of, touched}
+use Rattle.sd_model_shard.specs.Statistics.{gauge_value}
 
 -- A shard's state. The entries stand in the order in which they came.
 pub record State : Type 0 where
@@ -50,7 +24,7 @@ pub record Limits : Type 0 where
   pub rows : ℕ
   pub entries : ℕ
 
--- which kinds go at a swap, and after how many swaps a gauge does; so far all rows of such a kind go
+-- which kinds go when idle: a gauge after so many swaps without a sample, and rows of the other kinds at every swap
 pub record Policy : Type 0 where
   pub counters : Bool
   pub timers : Bool
@@ -68,10 +42,6 @@ pub data Cause : Type 0 where
   NoEntry : (held limit : ℕ) → Cause
   NoNumber : (taken : ℕ) → Cause
 
--- the row of a sample
-abbrev pub row_of : Sample → RowId
-row_of s = record { kind = s.kind; key = s.key }
-
 -- Admission: the first of three tests that fails, if one does.
 abbrev pub refusal : Limits → State → Sample → Option Cause
 refusal limits state s =
@@ -80,14 +50,6 @@ refusal limits state s =
     else (if not (nat_lt (length state.held) limits.entries)
     then Some (NoEntry (length state.held) limits.entries)
     else (if nat_lt state.taken last_number then None else Some (NoNumber state.taken)))
-
--- the base of a row, 0 where the row is absent
-abbrev pub base_of : Rows → RowId → ℤ
-base_of live id = unwrap_or (option_map (λ kept. kept.base) (get live id)) (pos 0)
-
--- the rows after a sample of this row
-abbrev pub touched : Rows → RowId → Rows
-touched live id = insert live id (record { base = base_of live id; swaps = 0 })
 
 -- the state after a sample that fits
 abbrev pub with_sample : State → ℕ → Sample → State
@@ -107,16 +69,34 @@ pub data Placed : Type 0 where
   Taken : (number : ℕ) → Placed
   Dropped : (cause : Cause) → Placed
 
--- whether a kind goes at a swap
-abbrev pub goes_idle : Policy → Kind → Bool
-goes_idle policy Counter = policy.counters
-goes_idle policy Timer = policy.timers
-goes_idle policy Gauge = policy.gauges
-goes_idle policy Set = policy.sets
+-- where the swaps of a row end
+abbrev pub last_swaps : ℕ
+last_swaps = 10 ^ 9
 
--- Carry-over: the rows that stay at a swap, which took this journal; so far they stay as they are, whatever it has.
+-- what a row of a kind keeps at a swap that took this journal: a gauge's base becomes its value, and its swaps grow by 1;
+-- other rows stay as they are
+abbrev pub kept_by : Kind → List Entry → RowId → Kept → Kept
+kept_by Gauge journal id kept =
+    record { base = gauge_value id kept.base journal; swaps = min (kept.swaps + 1) last_swaps }
+kept_by kind journal id kept = kept
+
+-- whether a row of a kind with so many swaps since its last sample goes: a gauge once they reach a number, others at once
+abbrev pub goes_idle : Policy → Kind → ℕ → Bool
+goes_idle policy Counter swaps = policy.counters
+goes_idle policy Timer swaps = policy.timers
+goes_idle policy Gauge swaps = policy.gauges && nat_le policy.max_ttl swaps
+goes_idle policy Set swaps = policy.sets
+
+-- what is left of a row at a swap that took this journal
+abbrev pub left_of : Policy → List Entry → RowId → Kept → Option Kept
+left_of policy journal id kept =
+    let next = kept_by id.kind journal id kept in
+    if goes_idle policy id.kind next.swaps then None else Some next
+
+-- Carry-over: the rows that stay at a swap that took this journal, each as what is left of it.
 abbrev pub carried : Policy → Rows → List Entry → Rows
-carried policy live journal = retain_keys live (λ id. not (goes_idle policy id.kind))
+carried policy live journal =
+    from_entries (filter_map (λ row. option_map (λ kept. (row.0, kept)) (left_of policy journal row.0 row.1)) (entries live))
 
 -- the rows and entries that a swap hands out
 pub record Table : Type 0 where

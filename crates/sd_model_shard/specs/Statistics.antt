@@ -1,18 +1,10 @@
 -- What the entries of a row come to.
-use Rattle.std.specs.Prelude.{Bool, ℤ, pos, ◌+ℤ◌, List, filter, fold, map}
-use Rattle.std.specs.Ordering.{is_eq}
+use Rattle.std.specs.Prelude.{ℕ, ◌^◌, Bool, ℤ, pos, ◌+ℤ◌, neg_ℤ, List, fold, map, if◌then◌else◌}
+use Rattle.std.specs.Int.{int_min, int_max}
 use Rattle.sd_model_text.specs.Names.{Kind, Counter, Timer, Gauge, Set}
 use Rattle.sd_model_text.specs.Lines.{Sample}
 use Rattle.sd_model_text.specs.Numbers.{weight}
-use Rattle.sd_model_shard.specs.Shard.{RowId, row_cmp, row_of, Entry}
-
--- whether two rows are one
-abbrev pub is_same_row : RowId → RowId → Bool
-is_same_row a b = is_eq (row_cmp a b)
-
--- the entries of a row
-abbrev pub entries_of : RowId → List Entry → List Entry
-entries_of id held = filter (λ e. is_same_row id (row_of e.sample)) held
+use Rattle.sd_model_shard.specs.Rows.{RowId, Entry, entries_of}
 
 -- a sum of whole numbers
 abbrev pub total : List ℤ → ℤ
@@ -29,3 +21,27 @@ sample_weight Set s = pos 0
 -- how much the samples of a row weigh together: a counter's count
 abbrev pub weight_of : RowId → List Entry → ℤ
 weight_of id held = total (map (λ e. sample_weight id.kind e.sample) (entries_of id held))
+
+-- the values of a row's samples, in the order in which they came
+abbrev pub values_of : RowId → List Entry → List ℤ
+values_of id held = map (λ e. e.sample.value) (entries_of id held)
+
+-- the members of a row's samples, in the order in which they came
+abbrev pub members_of : RowId → List Entry → List (List ℕ)
+members_of id held = map (λ e. e.sample.member) (entries_of id held)
+
+-- the greatest magnitude of a gauge, 10 ^ 12, in millionths
+abbrev pub gauge_limit : ℕ
+gauge_limit = 10 ^ 18
+
+-- a value limited to what a gauge holds
+abbrev pub limited : ℤ → ℤ
+limited value = int_max (neg_ℤ (pos gauge_limit)) (int_min value (pos gauge_limit))
+
+-- a gauge after a sample: a value without a sign sets it, and one with a sign is added to it
+abbrev pub gauge_after : ℤ → Sample → ℤ
+gauge_after value s = limited (if s.is_signed then value +ℤ s.value else s.value)
+
+-- the value of a gauge, from its base on
+abbrev pub gauge_value : RowId → ℤ → List Entry → ℤ
+gauge_value id base held = fold (λ value e. gauge_after value e.sample) base (entries_of id held)

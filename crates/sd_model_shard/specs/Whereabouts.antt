@@ -3,7 +3,8 @@ use Rattle.std.specs.Prelude.{◌≡◌, ℕ, ◌+◌, ◌==◌, min, sum_by, co
 use Rattle.std.specs.List.{range_with_len}
 use Rattle.std.specs.List.Sorted.{IsPermutation, IsStrictlyIncreasing}
 use Rattle.sd_model_text.specs.Lines.{Sample}
-use Rattle.sd_model_shard.specs.Shard.{State, empty_state, Limits, Policy, Rows, Entry, Placed, Taken, Dropped, Cause, Table, Event, Submit, Swap, Reply, Answered, Swapped, row_of, touched, carried, last_number}
+use Rattle.sd_model_shard.specs.Rows.{Rows, Entry, row_of, touched}
+use Rattle.sd_model_shard.specs.Shard.{State, empty_state, Limits, Policy, Placed, Taken, Dropped, Cause, Table, Event, Submit, Swap, Reply, Answered, Swapped, carried, last_number}
 use Rattle.sd_model_shard.specs.History.{History, acts_from, state_after}
 
 -- a good sample, and who brought it

@@ -1,8 +1,8 @@
-ghost use Rattle.std.specs.Prelude.{◌≡◌, ℕ, ◌<◌, List, [], ◌∷◌, ◌++◌, filter_map, not, ◌||◌, None, if◌then◌else◌};
+ghost use Rattle.std.specs.Prelude.{◌≡◌, ℕ, ◌<◌, List, [], ◌∷◌, ◌++◌, filter_map, option_and_then, ◌||◌};
 ghost use Rattle.std.specs.FinMap.{contains_key, empty, get};
 ghost use Rattle.std.specs.List.{list_any};
-ghost use Rattle.sd_model_shard.specs.Shard.{State, empty_state, Limits, Policy, Event, RowId, Rows, Entry, carried, goes_idle, row_of, step};
-ghost use Rattle.sd_model_shard.specs.Statistics.{is_same_row};
+ghost use Rattle.sd_model_shard.specs.Rows.{RowId, Rows, Entry, row_of, is_same_row};
+ghost use Rattle.sd_model_shard.specs.Shard.{State, empty_state, Limits, Policy, Event, carried, left_of, step};
 ghost use Rattle.sd_model_shard.specs.History.{Act, Asked, History, Legal, StandsAt, act_of, after, after_all, answered, state_after};
 ghost use Rattle.sd_model_shard.specs.Whereabouts.{Accounted, RowsAreCarried, StandsOnce, arrival_in, arrivals, rows_with};
 
@@ -39,5 +39,5 @@ pub fn rows_are_told()
     ensures rows { (live : Rows) (journal : List Entry) (id : RowId) → contains_key (rows_with live journal) id
         ≡ (contains_key live id || list_any (λ e. is_same_row id (row_of e.sample)) journal) }
     ensures carried { (policy : Policy) (live : Rows) (journal : List Entry) (id : RowId) → get (carried policy live journal) id
-        ≡ (if not (goes_idle policy id.kind) then get live id else None) }
+        ≡ option_and_then (left_of policy journal id) (get live id) }
 {}

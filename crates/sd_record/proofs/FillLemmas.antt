@@ -7,11 +7,11 @@ use Rattle.std.specs.Cmp.Lexicographic.{slice_cmp}
 use Rattle.std.proofs.lemmas.List.{map-append, take_more, length-map, get_or-map}
 use Rattle.std.proofs.lemmas.List.Sorted.{IsPermutation-map}
 use Rattle.std.proofs.lemmas.Option.{slice_get_within, get_or_from_slice_get}
-use Rattle.sd_model_shard.specs.Shard.{RowId, row_cmp, Kept}
+use Rattle.sd_model_shard.specs.Rows.{RowId, row_cmp, Kept}
 use Rattle.sd_model_shard.specs.Statistics.{weight_of}
 use Rattle.sd_model_shard.proofs.RowLemmas.{rows_total, rows_exact}
 use Rattle.sd_model_shard.proofs.EntryLemmas.{StandApart, StandApart-keyed, keyed-entries, entries-sorted}
-use Rattle.sd_shard.specs.Table.{Listing, AreApart, table_of}
+use Rattle.sd_epoch.specs.Table.{Listing, AreApart, table_of}
 use Rattle.sd_model_text.specs.Names.{rank}
 use Rattle.sd_key.specs.Kind.{kind_of}
 use Rattle.sd_key.specs.declared.kind.Kind.{Kind}

@@ -5,7 +5,8 @@ use Rattle.std.specs.FinMap.{entries, from_entries, entries_sorted}
 use Rattle.std.proofs.lemmas.Simd.{map-map}
 use Rattle.std.proofs.lemmas.Option.{slice_get-map, slice_get_read}
 use Rattle.sd_model_record.specs.Record.{Row, Tally, Record, row_value, table_rows, record_rows, record_of}
-use Rattle.sd_model_shard.specs.Shard.{RowId, row_cmp, Kept, Table}
+use Rattle.sd_model_shard.specs.Rows.{RowId, row_cmp, Kept}
+use Rattle.sd_model_shard.specs.Shard.{Table}
 use Rattle.sd_model_shard.specs.Statistics.{weight_of}
 use Rattle.sd_model_shard.proofs.RowLemmas.{rows_total, rows_exact}
 use Rattle.sd_model_shard.proofs.EntryLemmas.{is_sorted-keyed, entries-from_entries}

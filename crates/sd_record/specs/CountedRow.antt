@@ -1,8 +1,8 @@
 -- What a row of the scratch stands for.
 use Rattle.std.specs.Prelude.{ℤ, List, map}
-use Rattle.sd_model_shard.specs.Shard.{RowId}
+use Rattle.sd_model_shard.specs.Rows.{RowId}
 use Rattle.sd_model_shard.specs.Statistics.{weight_of}
-use Rattle.sd_shard.specs.Table.{Listing, id_of}
+use Rattle.sd_epoch.specs.Table.{Listing, id_of}
 use Rattle.sd_record.specs.declared.counted_row.CountedRow.{CountedRow}
 
 -- the id and the count

@@ -1,7 +1,8 @@
 -- What a contract sees of the room for a record's rows.
 use Rattle.std.specs.Prelude.{ℕ, ℤ, List, map}
 use Rattle.std.specs.FinMap.{entries}
-use Rattle.sd_model_shard.specs.Shard.{RowId, Table}
+use Rattle.sd_model_shard.specs.Rows.{RowId}
+use Rattle.sd_model_shard.specs.Shard.{Table}
 use Rattle.sd_model_shard.specs.Statistics.{weight_of}
 
 -- for how many rows there is room, and the rows that stand there with their counts

@@ -3,7 +3,7 @@ use Rattle.std.specs.Prelude.{◌≡◌, ℕ, ℤ, map}
 use Rattle.std.specs.Borrow.{MutBor}
 use Rattle.sd_model_record.specs.Record as model
 use Rattle.sd_model_text.specs.Numbers.{per_second}
-use Rattle.sd_model_shard.specs.Shard.{RowId}
+use Rattle.sd_model_shard.specs.Rows.{RowId}
 use Rattle.sd_record.specs.Counts.{Counts}
 use Rattle.sd_record.specs.Tally.{tally_of}
 use Rattle.sd_record.specs.declared.record.Record.{Record}

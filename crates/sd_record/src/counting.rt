@@ -1,9 +1,9 @@
 ghost use Rattle.std.specs.Prelude.{◌≡◌, ◌<◌, ◌≤◌, ◌+◌, ◌^◌, length, map, slice_get, vec_len, vec_capacity, Some};
-ghost use Rattle.sd_shard.specs.Table.{AreApart};
+ghost use Rattle.sd_epoch.specs.Table.{AreApart};
 ghost use Rattle.sd_record.specs.CountedRow.{counted_view, counts_of};
 
 use crate::counted_row::CountedRow;
-use sd_shard::{RowFacts, Table};
+use sd_epoch::{RowFacts, Table};
 
 /// The i-th row of a table, counted.
 fn counted_row(table: &Table, i: u32) -> CountedRow

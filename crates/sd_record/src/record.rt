@@ -1,6 +1,6 @@
 ghost use Rattle.std.specs.Prelude.{◌≡◌, ◌<◌, ◌≤◌, [], ◌∷◌, length, slice_get, Some};
 ghost use Rattle.sd_model_record.specs.Record.{record_of};
-ghost use Rattle.sd_shard.specs.Table.{table_of};
+ghost use Rattle.sd_epoch.specs.Table.{table_of};
 ghost use Rattle.sd_record.specs.Tally.{tally_of};
 ghost use Rattle.sd_record.specs.Row.{row_view};
 
@@ -8,7 +8,7 @@ use crate::interval::Interval;
 use crate::row::Row;
 use crate::scratch::RecordScratch;
 use crate::tally::Tally;
-use sd_shard::Table;
+use sd_epoch::Table;
 
 /// The record of a flush: the rows of a table by kind and key, the tally, the Unix second, and the
 /// interval that the rates are over. Contracts see it through `record_view`.

@@ -1,10 +1,10 @@
 ghost use Rattle.std.specs.Prelude.{◌≡◌, ◌≤◌, [], length, IfOk};
-ghost use Rattle.sd_shard.specs.Table.{table_of};
+ghost use Rattle.sd_epoch.specs.Table.{table_of};
 ghost use Rattle.sd_record.specs.Counts.{counted};
 
 use crate::counted_row::CountedRow;
 use crate::counting::count_rows;
-use sd_shard::{Limits, Table};
+use sd_epoch::{Limits, Table};
 use std::alloc::{AllocError, Global};
 use std::marker::Model;
 

@@ -7,8 +7,7 @@ use Rattle.std.specs.Cmp.{eq_by_cmp_equiv}
 use Rattle.std.specs.FinMap.{find, get, insert, remove, empty, len, contains_key, from_entries, same_map, get-insert, get-remove, get-from_entries, len-insert, len-empty}
 use Rattle.std.proofs.lemmas.List.{set-get_or}
 use Rattle.sd_model_text.specs.Names as model
-use Rattle.sd_model_shard.specs.Shard.{RowId, row_cmp, Kept}
-use Rattle.sd_model_shard.specs.Statistics.{is_same_row}
+use Rattle.sd_model_shard.specs.Rows.{RowId, row_cmp, Kept, is_same_row}
 use Rattle.sd_model_shard.proofs.RowLemmas.{rows_exact, rows_total}
 use Rattle.sd_key.specs.Kind.{kind_of}
 use Rattle.sd_key.specs.declared.kind.Kind.{Kind}

@@ -1,9 +1,8 @@
 -- Rows in places as the definitions of a shard have them: a finite map from ids, which are a kind and a key, to what a row keeps.
 use Rattle.std.specs.Prelude.{ℕ, Bool, false, if◌then◌else◌, List, [], ◌∷◌, Option, Some, None}
 use Rattle.std.specs.FinMap.{from_entries}
-use Rattle.sd_model_shard.specs.Shard as model
-use Rattle.sd_model_shard.specs.Shard.{RowId, Kept}
-use Rattle.sd_model_shard.specs.Statistics.{is_same_row}
+use Rattle.sd_model_shard.specs.Rows as model
+use Rattle.sd_model_shard.specs.Rows.{RowId, Kept, is_same_row}
 use Rattle.sd_key.specs.Kind.{kind_of}
 use Rattle.sd_key.specs.declared.kind.Kind.{Kind}
 use Rattle.sd_rows.specs.declared.row.Row.{Row}

@@ -1,4 +1,2 @@
 mod CarryLemmas
-mod ListingLemmas
-mod RowChanges
-mod TableLemmas
+mod RoomLemmas

@@ -1,11 +1,13 @@
 ghost use Rattle.std.specs.Prelude.{◌≡◌, ℕ, ◌+◌, ◌≤◌, [], length, option_map, IfOk};
 ghost use Rattle.sd_model_shard.specs.Shard.{empty_state, refusal, step, Answered, Submit, Swap, Swapped};
-ghost use Rattle.sd_shard.specs.Limits.{limits_of, policy_of, AreLimits};
-ghost use Rattle.sd_shard.specs.Table.{table_of};
+ghost use Rattle.sd_epoch.specs.Limits.{limits_of, AreLimits};
+ghost use Rattle.sd_epoch.specs.Table.{table_of};
+ghost use Rattle.sd_shard.specs.Policy.{policy_of};
 ghost use Rattle.sd_shard.specs.Shard.{state_of, cause_of, placed_of};
 
-use crate::limits::{Limits, Policy, Who};
-use crate::table::Table;
+use crate::carry::carry;
+use crate::policy::Policy;
+use sd_epoch::{Limits, Table, Who};
 use sd_line::Sample;
 use std::alloc::{AllocError, Global};
 use std::marker::Model;
@@ -144,7 +146,7 @@ impl Shard {
         ensures policy { self.new.policy ≡ self.old.policy }
     {
         let table = mem::replace(&mut self.table, spare);
-        table.carry_to(&self.policy, &mut self.table);
+        carry(&table, &self.policy, &mut self.table);
         self.flushed += u64::from(table.entries());
         table
     }

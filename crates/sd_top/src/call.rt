@@ -3,7 +3,7 @@ ghost use Rattle.sd_model_outside.specs.Outside.{File, IsAtEnd, opened};
 ghost use Rattle.sd_model_replay.specs.Ends.{Replayed};
 ghost use Rattle.sd_model_call.specs.Call.{Accounts, default_settings, ending, started};
 ghost use Rattle.sd_outside.specs.Places.{place_of};
-ghost use Rattle.sd_shard.specs.Limits.{limits_of, AreLimits};
+ghost use Rattle.sd_epoch.specs.Limits.{limits_of, AreLimits};
 ghost use Rattle.sd_replay.specs.Ends.{end_of};
 ghost use Rattle.sd_replay.specs.Seen.{seen_of};
 ghost use Rattle.sd_replay.specs.Settings.{settings_of};
@@ -13,9 +13,10 @@ ghost use Rattle.sd_top.specs.World.{world_of};
 
 use crate::status::{Part, Status};
 use crate::words::form_of;
+use sd_epoch::Limits;
 use sd_outside::{Address, Backend, Backs, Failed, Name, OpenRefusal, Opens, Sink, Source};
 use sd_replay::{ReplayEnd, ReplayRoom, Settings, replay};
-use sd_shard::{Limits, Policy};
+use sd_shard::Policy;
 use std::alloc::Global;
 
 /// The objects that the program uses. None is opened yet.

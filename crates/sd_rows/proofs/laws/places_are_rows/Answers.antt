@@ -1,6 +1,6 @@
 use Rattle.std.proofs.Common.{◌≡◌, refl, sym, ap, ◌∙◌, option_map}
 use Rattle.std.specs.FinMap.{get, insert, remove}
-use Rattle.sd_model_shard.specs.Shard.{RowId}
+use Rattle.sd_model_shard.specs.Rows.{RowId}
 use Rattle.sd_rows.specs.RowMap.{id_of, kept_of, rows_of}
 use Rattle.sd_rows.proofs.RowsLemmas.{holds_row}
 use Rattle.sd_rows.proofs.MapLemmas.{map-none, map-found, map-absent, map-not_there, map-add, map-set, map-remove, map-count}

@@ -3,7 +3,7 @@ use Rattle.std.specs.Prelude.{None}
 use Rattle.sd_model_shard.specs.Shard.{refusal}
 use Rattle.sd_shard.specs.Shard.{Standing, state_of}
 use Rattle.sd_shard.specs.ShardInside.{standing_of}
-use Rattle.sd_shard.proofs.ListingLemmas.{room_for_row}
+use Rattle.sd_shard.proofs.RoomLemmas.{room_for_row}
 use Rattle.sd_shard.proofs.shard.Shard.sample.Goals as goal
 
 pub push-requires-clause-row_room : goal.push-requires-clause-row_room

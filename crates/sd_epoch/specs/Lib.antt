@@ -1,0 +1,6 @@
+pub mod Limits
+pub mod Scratch
+pub mod ScratchInside
+pub mod ScratchLends
+pub mod Table
+pub mod TableInside
