@@ -1,7 +1,7 @@
 -- Tables that a shard can be swapped for.
 use Rattle.std.specs.Prelude.{◌≡◌, []}
 use Rattle.sd_model_shard.specs.Shard.{Limits}
-use Rattle.sd_shard.specs.Table.{Listing}
+use Rattle.sd_epoch.specs.Table.{Listing}
 
 -- an empty table of these limits
 pub record IsSpareFor (most : Limits) (spare : Listing) : Type 0 where

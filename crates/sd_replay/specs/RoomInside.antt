@@ -3,7 +3,8 @@ use Rattle.std.specs.Prelude.{◌≡◌, ◌<◌, ◌≤◌, []}
 use Rattle.sd_model_shard.specs.Shard.{empty_state}
 use Rattle.sd_model_record.specs.Desk.{new_desk}
 use Rattle.sd_model_replay.specs.Settings as model
-use Rattle.sd_shard.specs.Limits.{limits_of, policy_of}
+use Rattle.sd_epoch.specs.Limits.{limits_of}
+use Rattle.sd_shard.specs.Policy.{policy_of}
 use Rattle.sd_shard.specs.Shard.{state_of}
 use Rattle.sd_replay.specs.Room.{IsSpareFor}
 use Rattle.sd_replay.specs.Settings.{settings_of}

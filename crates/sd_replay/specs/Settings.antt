@@ -1,7 +1,8 @@
 -- Settings of the code, as the definitions have them.
 use Rattle.std.specs.Prelude.{true, false}
 use Rattle.sd_model_replay.specs.Settings as model
-use Rattle.sd_shard.specs.Limits.{limits_of, policy_of}
+use Rattle.sd_epoch.specs.Limits.{limits_of}
+use Rattle.sd_shard.specs.Policy.{policy_of}
 use Rattle.sd_record.specs.Record.{plan_of}
 use Rattle.sd_replay.specs.declared.settings.Settings.{Settings}
 

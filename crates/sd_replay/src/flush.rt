@@ -11,9 +11,10 @@ ghost use Rattle.sd_replay.specs.Room.{IsSpareFor};
 
 use crate::delivery::deliver;
 use crate::desk::{Desk, Mark, RoundMarks};
+use sd_epoch::Table;
 use sd_outside::Backend;
 use sd_record::{Record, RecordScratch};
-use sd_shard::{Shard, Table};
+use sd_shard::Shard;
 
 /// What a flush left: its marks, and an empty table for the next one.
 #[derive(Drop)]

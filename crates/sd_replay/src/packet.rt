@@ -4,8 +4,9 @@ ghost use Rattle.sd_model_shard.specs.Whereabouts.{dropped_in};
 ghost use Rattle.sd_shard.specs.Shard.{state_of};
 ghost use Rattle.sd_replay.specs.Filed.{filed, filing, lost};
 
+use sd_epoch::Who;
 use sd_line::{Lines, Sample};
-use sd_shard::{Placed, Shard, Who};
+use sd_shard::{Placed, Shard};
 
 /// What became of a datagram: how many pieces it had, how many of them were bad, and how many samples were dropped.
 #[derive(Clone, Copy, Debug, PartialEq, Eq)]

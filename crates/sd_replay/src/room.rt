@@ -3,8 +3,9 @@ ghost use Rattle.std.specs.Prelude.{◌≡◌, ◌<◌, IfOk};
 use crate::desk::Desk;
 use crate::reader::Reader;
 use crate::settings::Settings;
+use sd_epoch::Table;
 use sd_record::RecordScratch;
-use sd_shard::{Shard, Table};
+use sd_shard::Shard;
 use std::alloc::{AllocError, Global};
 use std::marker::Model;
 
@@ -32,7 +33,7 @@ impl Model for ReplayRoom {
 }
 
 impl ReplayRoom {
-    ghost use Rattle.sd_shard.specs.Limits.{limits_of, AreLimits};
+    ghost use Rattle.sd_epoch.specs.Limits.{limits_of, AreLimits};
     ghost use Rattle.sd_replay.specs.Settings.{settings_of};
 
     /// Takes the room.

@@ -17,9 +17,10 @@ use crate::packet::file_packet;
 use crate::reader::Item;
 use crate::room::ReplayRoom;
 use crate::totals::{Totals, write_totals};
+use sd_epoch::Who;
 use sd_outside::{Backend, Backs, Sink, Source, WriteFault};
 use sd_record::Tally;
-use sd_shard::{Shard, Who};
+use sd_shard::Shard;
 
 /// How many records a replay carries out at most.
 const MOST_TURNS: u64 = 1 << 62;

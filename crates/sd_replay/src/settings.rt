@@ -1,4 +1,5 @@
-use sd_shard::{Limits, Policy};
+use sd_epoch::Limits;
+use sd_shard::Policy;
 
 /// The settings that a replay goes by. One shard runs, and Graphite is the one backend that is used.
 #[derive(Clone, Copy, Debug)]

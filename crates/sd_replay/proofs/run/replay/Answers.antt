@@ -13,7 +13,8 @@ use Rattle.sd_model_replay.specs.Totals.{totals_text}
 use Rattle.sd_model_replay.specs.AccountingTheorem.{Seen}
 use Rattle.sd_model_replay.specs.Ends.{Replayed, Complete, NotBuilt, ReadFailed, WriteFailed, WornOut}
 use Rattle.sd_record.specs.Record.{plan_of}
-use Rattle.sd_shard.specs.Limits.{limits_of, policy_of}
+use Rattle.sd_epoch.specs.Limits.{limits_of}
+use Rattle.sd_shard.specs.Policy.{policy_of}
 use Rattle.sd_shard.specs.Shard.{Standing, state_of}
 use Rattle.sd_replay.specs.Ends.{end_of}
 use Rattle.sd_replay.specs.Filed.{filed, lost}

@@ -1,9 +1,10 @@
 use Rattle.std.proofs.Common.{◌≡◌, ◌≤◌, ℕ}
 use Rattle.sd_model_outside.specs.Outside.{Told, Object}
 use Rattle.sd_model_record.specs.Desk.{Desk}
-use Rattle.sd_shard.specs.Limits.{limits_of, policy_of}
+use Rattle.sd_epoch.specs.Limits.{limits_of}
+use Rattle.sd_shard.specs.Policy.{policy_of}
 use Rattle.sd_shard.specs.Shard.{Standing, state_of}
-use Rattle.sd_shard.specs.Table.{Listing}
+use Rattle.sd_epoch.specs.Table.{Listing}
 use Rattle.sd_replay.specs.Reading.{Reading, left}
 use Rattle.sd_replay.specs.Room.{IsSpareFor}
 use Rattle.sd_replay.specs.Settings.{settings_of}
