@@ -1,0 +1,3 @@
+pub mod BinLemmas
+pub mod NumberLemmas
+pub mod RunLemmas
