@@ -1,11 +1,19 @@
 -- The console's text of a record: the flush, its rows, the server's own counts, and the end.
 use Rattle.std.specs.Prelude.{ℕ, List, [], ◌∷◌, ◌++◌, length, flat_map, codes, decimal}
 use Rattle.sd_model_text.specs.Numbers.{number_text}
-use Rattle.sd_model_record.specs.Record.{Row, CounterRow, Record}
+use Rattle.sd_model_record.specs.Record.{Row, CounterRow, TimerRow, GaugeRow, SetRow, Record}
+use Rattle.sd_model_record.specs.Figures.{Figure, figures_of}
 
--- the line of a row
+-- the line of a timer's figure
+abbrev pub console_figure : List ℕ → Figure → List ℕ
+console_figure key f = codes "timer " ++ key ++ 32 ∷ f.name ++ 32 ∷ number_text f.value ++ 10 ∷ []
+
+-- the lines of a row
 abbrev pub console_row : Row → List ℕ
 console_row (CounterRow key count rate) = codes "counter " ++ key ++ 32 ∷ number_text count ++ 32 ∷ number_text rate ++ 10 ∷ []
+console_row (TimerRow key timer) = flat_map (console_figure key) (figures_of timer)
+console_row (GaugeRow key value) = codes "gauge " ++ key ++ 32 ∷ number_text value ++ 10 ∷ []
+console_row (SetRow key count) = codes "set " ++ key ++ 32 ∷ decimal count ++ 10 ∷ []
 
 -- the line of one of the server's own counts
 abbrev pub console_count : List ℕ → ℕ → List ℕ

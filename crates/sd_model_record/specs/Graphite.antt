@@ -1,36 +1,76 @@
--- Graphite's text of a record: lines of a path, a value and a Unix second (Graphite's plaintext protocol),
--- under StatsD's legacy names.
-use Rattle.std.specs.Prelude.{ℕ, ◌*◌, ℤ, pos, List, [], ◌∷◌, ◌++◌, length, flat_map, codes, decimal}
+-- Graphite's text of a record: lines of a path, a value and a Unix second (Graphite's plaintext protocol), under StatsD's
+-- names, the legacy ones or those of its namespace (docs/namespacing.md).
+use Rattle.std.specs.Prelude.{ℕ, ◌*◌, ℤ, pos, List, [], ◌∷◌, ◌++◌, length, flat_map, if◌then◌else◌, codes, decimal}
 use Rattle.sd_model_text.specs.Numbers.{number_text, per_second}
-use Rattle.sd_model_record.specs.Record.{Row, CounterRow, Record}
+use Rattle.sd_model_settings.specs.Defaults.{Names}
+use Rattle.sd_model_record.specs.Record.{Row, CounterRow, TimerRow, GaugeRow, SetRow, TimerFigures, Record}
+use Rattle.sd_model_record.specs.Figures.{Figure, whole_number, figures_of}
 
--- a line: path, value and second
-abbrev pub line : List ℕ → List ℕ → ℕ → List ℕ
-line path value ts = path ++ 32 ∷ value ++ 32 ∷ decimal ts ++ 10 ∷ []
+-- a part of a path, with the point behind it; an empty one is left out with its point
+abbrev pub dotted : List ℕ → List ℕ
+dotted [] = []
+dotted (b ∷ part) = (b ∷ part) ++ codes "."
+
+-- what stands behind each path: the suffix behind a point, where there is one
+abbrev pub suffix : Names → List ℕ
+suffix names = suffix_of names.namespace.global_suffix
+  where
+    suffix_of : List ℕ → List ℕ
+    suffix_of [] = []
+    suffix_of (b ∷ text) = 46 ∷ b ∷ text
+
+-- what stands before the key in a path: in the legacy namespace this, and otherwise the prefix of all, and this prefix
+abbrev pub front : Names → List ℕ → List ℕ → List ℕ
+front names legacy prefix =
+    if names.namespace.legacy then legacy else dotted names.namespace.global_prefix ++ dotted prefix
+
+-- a line: path and suffix, value and second
+abbrev pub line : Names → List ℕ → List ℕ → ℕ → List ℕ
+line names path value ts = path ++ suffix names ++ 32 ∷ value ++ 32 ∷ decimal ts ++ 10 ∷ []
+
+-- what stands behind a counter's key outside of the legacy namespace
+abbrev pub counter_back : Names → List ℕ → List ℕ
+counter_back names back = if names.namespace.legacy then [] else back
 
 -- a counter's two lines
-abbrev pub counter_lines : ℕ → List ℕ → ℤ → ℤ → List ℕ
-counter_lines ts key count rate =
-    line (codes "stats." ++ key) (number_text rate) ts ++ line (codes "stats_counts." ++ key) (number_text count) ts
+abbrev pub counter_lines : Names → ℕ → List ℕ → ℤ → ℤ → List ℕ
+counter_lines names ts key count rate =
+    line names (front names (codes "stats.") names.namespace.prefix_counter ++ key ++ counter_back names (codes ".rate")) (number_text rate) ts
+    ++ line names (front names (codes "stats_counts.") names.namespace.prefix_counter ++ key ++ counter_back names (codes ".count")) (number_text count) ts
+
+-- the line of a timer's figure
+abbrev pub figure_line : Names → ℕ → List ℕ → Figure → List ℕ
+figure_line names ts key f =
+    line names (front names (codes "stats.timers.") names.namespace.prefix_timer ++ key ++ 46 ∷ f.name) (number_text f.value) ts
 
 -- the lines of a row
-abbrev pub row_lines : ℕ → Row → List ℕ
-row_lines ts (CounterRow key count rate) = counter_lines ts key count rate
+abbrev pub row_lines : Names → ℕ → Row → List ℕ
+row_lines names ts (CounterRow key count rate) = counter_lines names ts key count rate
+row_lines names ts (TimerRow key timer) = flat_map (figure_line names ts key) (figures_of timer)
+row_lines names ts (GaugeRow key value) =
+    line names (front names (codes "stats.gauges.") names.namespace.prefix_gauge ++ key) (number_text value) ts
+row_lines names ts (SetRow key count) =
+    line names (front names (codes "stats.sets.") names.namespace.prefix_set ++ key ++ codes ".count") (decimal count) ts
 
 -- one of the server's own counters, by its name and number
-abbrev pub own_counter : ℕ → ℕ → List ℕ → ℕ → List ℕ
-own_counter interval_ms ts name number =
-    let count = pos (number * 1000000) in counter_lines ts (codes "statsd." ++ name) count (per_second count interval_ms)
+abbrev pub own_counter : Names → Record → List ℕ → ℕ → List ℕ
+own_counter names r name number =
+    let count = whole_number number in
+    counter_lines names r.ts (names.prefix_stats ++ 46 ∷ name) count (per_second count r.interval_ms)
+
+-- what stands before the number of rows
+abbrev pub rows_front : Names → List ℕ
+rows_front names = if names.namespace.legacy then [] else dotted names.namespace.global_prefix
 
 -- the lines at the end of a record: the server's own counters, and the number of rows
-abbrev pub tail_lines : Record → List ℕ
-tail_lines r =
-    own_counter r.interval_ms r.ts (codes "bad_lines_seen") r.tally.bad
-    ++ own_counter r.interval_ms r.ts (codes "packets_received") r.tally.packets
-    ++ own_counter r.interval_ms r.ts (codes "metrics_received") r.tally.lines
-    ++ own_counter r.interval_ms r.ts (codes "samples_dropped") r.tally.dropped
-    ++ line (codes "statsd.numStats") (decimal (length r.rows)) r.ts
+abbrev pub tail_lines : Names → Record → List ℕ
+tail_lines names r =
+    own_counter names r (codes "bad_lines_seen") r.tally.bad
+    ++ own_counter names r (codes "packets_received") r.tally.packets
+    ++ own_counter names r (codes "metrics_received") r.tally.lines
+    ++ own_counter names r (codes "samples_dropped") r.tally.dropped
+    ++ line names (rows_front names ++ names.prefix_stats ++ codes ".numStats") (decimal (length r.rows)) r.ts
 
 -- the text of a record
-abbrev pub graphite_text : Record → List ℕ
-graphite_text r = flat_map (row_lines r.ts) r.rows ++ tail_lines r
+abbrev pub graphite_text : Names → Record → List ℕ
+graphite_text names r = flat_map (row_lines names r.ts) r.rows ++ tail_lines names r

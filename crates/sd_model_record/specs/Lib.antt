@@ -1,3 +1,4 @@
+pub mod Figures
 pub mod Record
 pub mod Desk
 pub mod Graphite

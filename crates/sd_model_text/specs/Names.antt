@@ -70,6 +70,11 @@ abbrev pub matches : List ℕ → List ℕ → Bool
 matches pattern key =
     if ends_with nat_eq pattern (46 ∷ 42 ∷ []) then starts_with nat_eq key (take (length pattern - 1) pattern) else bytes_eq key pattern
 
+-- whether a part stands somewhere in a key, by the places where it may begin
+abbrev pub is_part : List ℕ → List ℕ → Bool
+is_part part [] = starts_with nat_eq [] part
+is_part part (b ∷ key) = starts_with nat_eq (b ∷ key) part || is_part part key
+
 -- a part stands somewhere in a key
 abbrev pub HasPart : List ℕ → List ℕ → Type 0
 HasPart key part = (front : List ℕ) × (back : List ℕ) × (key ≡ front ++ part ++ back)
