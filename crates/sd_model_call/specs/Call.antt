@@ -1,8 +1,9 @@
 -- What the program answers to its words, and what was done by then.
-use Rattle.std.specs.Prelude.{◌≡◌, ◌⊎◌, ℕ, Bool, true, false, List, [], ◌∷◌, ◌++◌, Option, Some, None}
+use Rattle.std.specs.Prelude.{◌≡◌, ◌⊎◌, ℕ, Bool, List, [], ◌∷◌, ◌++◌, Option, Some, None}
 use Rattle.std.specs.List.{AllByRecursion}
 use Rattle.sd_model_outside.specs.Outside.{Place, File, Object, HasFailed, HasRead, IsAtEnd, opened}
-use Rattle.sd_model_replay.specs.Settings.{Settings}
+use Rattle.sd_model_settings.specs.Defaults as defaults
+use Rattle.sd_model_replay.specs.Settings.{Settings, goes_by}
 use Rattle.sd_model_replay.specs.Totals.{totals_after}
 use Rattle.sd_model_replay.specs.AccountingTheorem.{Seen, Course, AccountingTheorem}
 use Rattle.sd_model_replay.specs.Ends.{End, Complete, NotBuilt, ReadFailed, WriteFailed, WornOut, EndsAs}
@@ -10,16 +11,7 @@ use Rattle.sd_model_call.specs.Words.{Form, Replay, form}
 
 -- what is in force without a settings file
 abbrev pub default_settings : Settings
-default_settings =
-    record {
-      shards = 1;
-      limits = record { rows = 4096; entries = 65536 };
-      policy = record { counters = false; timers = false; gauges = false; sets = false; max_ttl = 1 };
-      plan = record { interval_ms = 10000 };
-      receivers = 2;
-      uses_graphite = true;
-      uses_console = false;
-    }
+default_settings = goes_by defaults.default_settings
 
 -- an object that is opened
 pub data Part : Type 0 where

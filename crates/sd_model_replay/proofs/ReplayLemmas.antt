@@ -29,7 +29,7 @@ flushes-push settings played p =
 
 -- what a flush has for a backend
 abbrev pub delivery_of : Settings → Backend → FlushMoment → Delivery
-delivery_of settings back f = record { text = text_of back (record_at settings f); mark = mark_of back f.marks }
+delivery_of settings back f = record { text = text_of settings back (record_at settings f); mark = mark_of back f.marks }
 
 pub deliveries-push : (settings : Settings) (back : Backend) (played : List Played) (p : Played)
     → deliveries settings back (played ++ p ∷ []) ≡ deliveries settings back played ++ map (delivery_of settings back) (cons_option (flush_at (run_of settings first_run played) p) [])

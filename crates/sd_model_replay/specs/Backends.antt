@@ -13,9 +13,9 @@ pub data Backend : Type 0 where
   Console : Backend
 
 -- the text of a flush's record for a backend
-abbrev pub text_of : Backend → Record → List ℕ
-text_of Graphite r = graphite_text r
-text_of Console r = console_text r
+abbrev pub text_of : Settings → Backend → Record → List ℕ
+text_of settings Graphite r = graphite_text settings.names r
+text_of settings Console r = console_text r
 
 -- how it took part in a flush
 abbrev pub mark_of : Backend → Marks → Mark

@@ -137,7 +137,7 @@ records settings played = map (record_at settings) (flushes settings first_run p
 -- what the flushes have for a backend: the text of each record, with its mark
 abbrev pub deliveries : Settings → Backend → List Played → List Delivery
 deliveries settings back played =
-    map (λ f. record { text = text_of back (record_at settings f); mark = mark_of back f.marks }) (flushes settings first_run played)
+    map (λ f. record { text = text_of settings back (record_at settings f); mark = mark_of back f.marks }) (flushes settings first_run played)
 
 -- what the records write to the output, before the totals: nothing so far
 abbrev pub output_of : Settings → List Played → List ℕ

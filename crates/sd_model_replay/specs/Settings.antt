@@ -1,15 +1,52 @@
 -- The settings that a replay goes by.
-use Rattle.std.specs.Prelude.{ℕ, Bool}
+use Rattle.std.specs.Prelude.{ℕ, Bool, List, codes}
+use Rattle.std.specs.List.{list_any}
+use Rattle.std.specs.Str.{bytes_eq}
+use Rattle.sd_model_settings.specs.Settings as file
+use Rattle.sd_model_settings.specs.Defaults.{Plan, Names, plan_of, names_of}
 use Rattle.sd_model_shard.specs.Shard.{Limits, Policy}
-use Rattle.sd_model_record.specs.Record.{Plan}
 
--- How many shards run; how many rows and entries each may have, and what goes when idle; how records are made; how many
--- receivers there are; and which backends are used.
+-- How many shards run; how many rows and entries each may have, and what goes when idle; how records are made, and
+-- Graphite's names; how many receivers there are; and which backends are used.
 pub record Settings : Type 0 where
   pub shards : ℕ
   pub limits : Limits
   pub policy : Policy
   pub plan : Plan
+  pub names : Names
   pub receivers : ℕ
   pub uses_graphite : Bool
   pub uses_console : Bool
+
+-- how many rows and entries a shard may have
+abbrev pub limits_of : file.Settings → Limits
+limits_of s = record { rows = s.sizes.rows; entries = s.sizes.entries }
+
+-- which kinds go when idle; so far a gauge that goes does so at its first swap
+abbrev pub policy_of : file.Settings → Policy
+policy_of s =
+    record {
+      counters = s.deletions.counters;
+      timers = s.deletions.timers;
+      gauges = s.deletions.gauges;
+      sets = s.deletions.sets;
+      max_ttl = 1;
+    }
+
+-- whether a backend is named
+abbrev pub names_backend : List ℕ → file.Settings → Bool
+names_backend name s = list_any (bytes_eq name) s.addresses.backends
+
+-- What a replay goes by, as a file's settings say it; so far one shard runs, whatever they say.
+abbrev pub goes_by : file.Settings → Settings
+goes_by s =
+    record {
+      shards = 1;
+      limits = limits_of s;
+      policy = policy_of s;
+      plan = plan_of s;
+      names = names_of s;
+      receivers = s.sizes.receivers;
+      uses_graphite = names_backend (codes "graphite") s;
+      uses_console = names_backend (codes "console") s;
+    }

@@ -198,14 +198,15 @@ module _ (settings : Settings) (script left left' : Told) (old new new' : Object
   -- a flush more: the shard is swapped, the tally is taken, and Graphite was given the text
   pub flush_more : (ts : ℕ) (marks : Marks) → Reads left (spelled (Flush ts)) left' → IsBuilt settings.receivers (Flush ts)
       → marks.graphite ≢ NotUsed → marks.console ≡ NotUsed
-      → AfterMark marks.graphite (graphite_text (record_of (settings_of settings).plan (table_of shard ∷ []) desk.tally ts)) new new'
+      → AfterMark marks.graphite (graphite_text (settings_of settings).names (record_of (settings_of settings).plan (table_of shard ∷ []) desk.tally ts)) new new'
       → shard' ≡ after_swap (settings_of settings).policy shard → desk' ≡ with_round desk marks
       → at' ≡ min (at + length (spelled (Flush ts))) last_count → Progress (settings_of settings) script left' old new' shard' desk' at' (turn + 1)
   unfolding run
   flush_more ts marks text built graphite console after s d a =
       let p : Played = record { command = Flush ts; outcome = record { marks = marks } } in
       let plan = (settings_of settings).plan in
-      let text_of : State → Desk → List ℕ = λ state e. graphite_text (record_of plan (table_of state ∷ []) e.tally ts) in
+      let names = (settings_of settings).names in
+      let text_of : State → Desk → List ℕ = λ state e. graphite_text names (record_of plan (table_of state ∷ []) e.tally ts) in
       let delivered : AfterMark marks.graphite (text_of (run.shards 0) run.desk) new new' =
       subst (λ e. AfterMark marks.graphite (text_of (run.shards 0) e) new new') so_far.same_desk
       (subst (λ state. AfterMark marks.graphite (text_of state desk) new new') so_far.same_shard after) in

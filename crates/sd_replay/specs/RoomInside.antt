@@ -1,5 +1,5 @@
 -- What a replay works on, before the first record.
-use Rattle.std.specs.Prelude.{◌≡◌, ◌<◌, ◌≤◌, []}
+use Rattle.std.specs.Prelude.{◌≡◌, ◌≤◌, []}
 use Rattle.sd_model_shard.specs.Shard.{empty_state}
 use Rattle.sd_model_record.specs.Desk.{new_desk}
 use Rattle.sd_model_replay.specs.Settings as model
@@ -22,7 +22,6 @@ pub record IsFresh (room : Inside) : Type 0 where
   pub spare : IsSpareFor (limits_of room.settings.limits) room.spare
   pub desk : room.desk ≡ new_desk
   pub scratch : room.settings.limits.rows ≤ room.scratch.room
-  pub interval : 0 < room.settings.interval_ms
   pub pending : room.reader.pending ≡ []
   pub start : room.reader.at ≡ 0
   pub receivers : room.reader.receivers ≡ room.settings.receivers

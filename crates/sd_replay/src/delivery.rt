@@ -7,21 +7,22 @@ ghost use Rattle.sd_record.specs.Record.{record_view};
 ghost use Rattle.sd_replay.specs.Marks.{mark_of};
 
 use crate::desk::Mark;
+use sd_config::Names;
 use sd_graphite::write_record;
 use sd_outside::{Backend, Failed};
 use sd_record::Record;
 
 /// Gives a backend Graphite's text of a record, in a list that is begun and ended. After the first call that fails it
 /// isn't called again. Where its count of faults doesn't rise, the text was written.
-pub fn deliver<B: Backend>(rec: &Record<'_>, back: &mut B) -> Mark
+pub fn deliver<B: Backend>(rec: &mut Record<'_>, names: &Names, back: &mut B) -> Mark
     ensures used { mark_of result ≢ NotUsed }
-    ensures delivery { AfterMark (mark_of result) (graphite_text (record_view rec.now)) (B.seen back.old) (B.seen back.new) }
+    ensures delivery { AfterMark (mark_of result) (graphite_text names.now (record_view rec.old)) (B.seen back.old) (B.seen back.new) }
     ensures written { ¬ Rose (B.seen back.old).faults (B.seen back.new).faults → result ≡ Mark.Written }
 {
     let Ok(()) = back.begin() else {
         return Mark::Fault;
     };
-    let Ok(()) = write_record(rec, back) else {
+    let Ok(()) = write_record(rec, names, back) else {
         return Mark::Fault;
     };
     match back.finish() {

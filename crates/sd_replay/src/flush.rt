@@ -4,17 +4,19 @@ ghost use Rattle.sd_model_record.specs.Graphite.{graphite_text};
 ghost use Rattle.sd_model_record.specs.Record.{record_of};
 ghost use Rattle.sd_model_replay.specs.Backends.{AfterMark};
 ghost use Rattle.sd_model_shard.specs.Shard.{after_swap, table_of};
-ghost use Rattle.sd_record.specs.Record.{plan_of};
+ghost use Rattle.sd_config.specs.Plan.{plan_view};
 ghost use Rattle.sd_shard.specs.Shard.{state_of};
 ghost use Rattle.sd_replay.specs.Marks.{mark_of, marks_of};
 ghost use Rattle.sd_replay.specs.Room.{IsSpareFor};
 
 use crate::delivery::deliver;
 use crate::desk::{Desk, Mark, RoundMarks};
+use sd_config::{Names, Reckoning};
 use sd_epoch::Table;
 use sd_outside::Backend;
 use sd_record::{Record, RecordScratch};
 use sd_shard::Shard;
+use std::slice;
 
 /// What a flush left: its marks, and an empty table for the next one.
 #[derive(Drop)]
@@ -23,19 +25,19 @@ pub(crate) struct Flushed {
     pub spare: Table,
 }
 
-/// Swaps the shard, takes the tally, and gives Graphite the text of the record over this interval.
+/// Swaps the shard, takes the tally, and gives Graphite the text of the record that the plan makes.
 pub(crate) fn flush<B: Backend>(
     shard: &mut Shard,
     spare: Table,
     desk: &mut Desk,
     scratch: &mut RecordScratch,
-    interval_ms: u32,
+    plan: &Reckoning,
+    names: &Names,
     ts: u64,
     back: &mut B,
 ) -> Flushed
     requires spare { IsSpareFor shard.old.table.limits spare }
     requires room { shard.old.table.limits.rows ≤ scratch.old.room }
-    requires interval { 0 < interval_ms }
     ensures state { state_of shard.new ≡ after_swap shard.old.policy (state_of shard.old) }
     ensures limits { shard.new.table.limits ≡ shard.old.table.limits }
     ensures policy { shard.new.policy ≡ shard.old.policy }
@@ -45,14 +47,14 @@ pub(crate) fn flush<B: Backend>(
     ensures console { result.marks.console ≡ Mark.NotUsed }
     ensures used { mark_of result.marks.graphite ≢ NotUsed }
     ensures delivery { AfterMark (mark_of result.marks.graphite)
-        (graphite_text (record_of (plan_of interval_ms) (table_of (state_of shard.old) ∷ []) (desk.old).tally ts))
+        (graphite_text names.now (record_of (plan_view plan.now) (table_of (state_of shard.old) ∷ []) (desk.old).tally ts))
         (B.seen back.old) (B.seen back.new) }
 {
     let mut table = shard.swap(spare);
     let tally = desk.take();
     let graphite = {
-        let record = Record::over(&table, interval_ms, scratch, tally, ts);
-        deliver(&record, back)
+        let mut record = Record::over(slice::from_ref(&table), plan, scratch, tally, ts);
+        deliver(&mut record, names, back)
     };
     let marks = RoundMarks {
         graphite,

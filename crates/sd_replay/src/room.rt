@@ -1,4 +1,4 @@
-ghost use Rattle.std.specs.Prelude.{◌≡◌, ◌<◌, IfOk};
+ghost use Rattle.std.specs.Prelude.{◌≡◌, IfOk};
 
 use crate::desk::Desk;
 use crate::reader::Reader;
@@ -8,6 +8,9 @@ use sd_record::RecordScratch;
 use sd_shard::Shard;
 use std::alloc::{AllocError, Global};
 use std::marker::Model;
+
+/// How many shards run.
+const SHARDS: u16 = 1;
 
 /// All that a replay works on, in room taken when it was opened for its settings. Nothing was done yet.
 #[derive(Drop)]
@@ -43,16 +46,15 @@ impl ReplayRoom {
     /// Where no memory is left for it.
     pub fn open(alloc: Global, settings: Settings) -> Result<ReplayRoom, AllocError>
         requires limits { AreLimits (limits_of settings.limits) }
-        requires interval { 0 < settings.interval_ms }
         ensures { IfOk result (λ room. room ≡ settings_of settings) }
     {
         Ok(ReplayRoom {
-            settings,
             shard: Shard::open(alloc, settings.limits, settings.policy)?,
             spare: Table::open(alloc, settings.limits)?,
             desk: Desk::new(),
-            scratch: RecordScratch::open(alloc, settings.limits)?,
+            scratch: RecordScratch::open(alloc, settings.limits, SHARDS)?,
             reader: Reader::open(alloc, settings.receivers)?,
+            settings,
         })
     }
 }

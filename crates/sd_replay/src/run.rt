@@ -131,7 +131,8 @@ pub fn replay<R: Source, O: Sink, B: Backend>(
                     spare,
                     &mut desk,
                     &mut scratch,
-                    settings.interval_ms,
+                    &settings.plan,
+                    &settings.names,
                     ts,
                     &mut backs.graphite,
                 );

@@ -13,6 +13,7 @@ ghost use Rattle.sd_top.specs.World.{world_of};
 
 use crate::status::{Part, Status};
 use crate::words::form_of;
+use sd_config::{Names, Reckoning};
 use sd_epoch::Limits;
 use sd_outside::{Address, Backend, Backs, Failed, Name, OpenRefusal, Opens, Sink, Source};
 use sd_replay::{ReplayEnd, ReplayRoom, Settings, replay};
@@ -45,7 +46,8 @@ fn defaults() -> Settings
             sets: false,
             max_ttl: 1,
         },
-        interval_ms: 10000,
+        plan: Reckoning::plain(),
+        names: Names::plain(),
         receivers: 2,
     }
 }

@@ -19,4 +19,4 @@ missed_behind text old begun_now given_now new first then failed =
 
 pub returns-in-Err-clause-delivery : goal.returns-in-Err-clause-delivery
 returns-in-Err-clause-delivery g c =
-    missed_behind (graphite_text (record_view c.args.rec.now)) _ _ _ _ c.in-Ok.ensures.ok c.in-Ok-write_record.ensures.ok c.in-Err.ensures.failed
+    missed_behind (graphite_text c.args.names.now (record_view c.args.rec.now)) _ _ _ _ c.in-Ok.ensures.ok c.in-Ok-write_record.ensures.ok c.in-Err.ensures.failed

@@ -3,7 +3,8 @@ use Rattle.sd_model_record.specs.Graphite.{graphite_text}
 use Rattle.sd_model_record.specs.Record.{record_of}
 use Rattle.sd_model_replay.specs.Backends.{AfterMark}
 use Rattle.sd_model_shard.specs.Shard.{Table, Reply, Swapped, table_of}
-use Rattle.sd_record.specs.Record.{record_view, plan_of}
+use Rattle.sd_config.specs.Plan.{plan_view}
+use Rattle.sd_record.specs.Record.{record_view}
 use Rattle.sd_record.specs.Tally.{tally_of}
 use Rattle.sd_shard.specs.Shard.{state_of}
 use Rattle.sd_replay.specs.Marks.{mark_of}
@@ -20,9 +21,9 @@ table_in other reply = other
 pub returns-clause-delivery : goal.returns-clause-delivery
 unfolding table_in
 returns-clause-delivery g c =
-    let plan = plan_of c.args.interval_ms in
+    let plan = plan_view c.args.plan.now in
     let state = state_of c.args.shard.now in
     let table = ap (table_in (table_of state)) (c.swap-table.ensures.table 0) in
     let same : record_view c.over-record.result ≡ record_of plan (table_of state ∷ []) c.args.desk.now.tally c.args.ts =
     c.over-record.ensures.record ∙ ap (λ t. record_of plan (t ∷ []) (tally_of c.take-tally.result) c.args.ts) table ∙ ap (λ t. record_of plan (table_of state ∷ []) t c.args.ts) c.take-tally.ensures.tally in
-    subst (λ r. AfterMark (mark_of c.deliver-graphite.result) (graphite_text r) (g.B.Faulty.seen c.args.back.now) (g.B.Faulty.seen c.deliver-graphite.new.back)) same c.deliver-graphite.ensures.delivery
+    subst (λ r. AfterMark (mark_of c.deliver-graphite.result) (graphite_text c.args.names.now r) (g.B.Faulty.seen c.args.back.now) (g.B.Faulty.seen c.deliver-graphite.new.back)) same c.deliver-graphite.ensures.delivery

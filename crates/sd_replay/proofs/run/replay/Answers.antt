@@ -12,7 +12,7 @@ use Rattle.sd_model_replay.specs.Script.{Packet, Flush, MayStandNext, Unbuilt, I
 use Rattle.sd_model_replay.specs.Totals.{totals_text}
 use Rattle.sd_model_replay.specs.AccountingTheorem.{Seen}
 use Rattle.sd_model_replay.specs.Ends.{Replayed, Complete, NotBuilt, ReadFailed, WriteFailed, WornOut}
-use Rattle.sd_record.specs.Record.{plan_of}
+use Rattle.sd_config.specs.Plan.{plan_view}
 use Rattle.sd_epoch.specs.Limits.{limits_of}
 use Rattle.sd_shard.specs.Policy.{policy_of}
 use Rattle.sd_shard.specs.Shard.{Standing, state_of}
@@ -147,8 +147,8 @@ loop-turn-preserved g c =
           )
       | in-Flush w ↦
           let read = subst reads w.in-Flush.is c.in-Ok.ensures.item in
-          let plan = plan_of settings.interval_ms in
-          let text = graphite_text (record_of plan (table_of before ∷ []) c.loop-turn.desk.tally w.in-Flush.ts) in
+          let plan = plan_view settings.plan in
+          let text = graphite_text settings.names (record_of plan (table_of before ∷ []) c.loop-turn.desk.tally w.in-Flush.ts) in
           let marks = marks_of w.flush-flushed.result.marks in
           let more = flush_more settings _ _ (left c.next.new.self has) _ _ (g.B.Faulty.seen c.match-item.backs.graphite) _ (state_of c.match-item.shard) _ c.match-item.desk _ c.next.new.self.at _ stands.progress
           w.in-Flush.ts marks read.stands.1 (subst (λ n. IsBuilt n (Flush w.in-Flush.ts)) stands.receivers read.stands.0) w.flush-flushed.ensures.used (ap mark_of w.flush-flushed.ensures.console)
