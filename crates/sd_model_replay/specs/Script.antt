@@ -1,9 +1,6 @@
 -- Scripts: the records that a replay carries out, their text, and what stands next in bytes.
 use Rattle.std.specs.Prelude.{◌≡◌, ◌⊎◌, ℕ, ◌^◌, ◌<◌, ◌≤◌, List, [], ◌∷◌, ◌++◌, length, flat_map, decimal, IfSome, ⊤}
-use Rattle.std.specs.List.{AllByRecursion}
 use Rattle.sd_model_text.specs.Lists.{Lacks}
-use Rattle.sd_model_text.specs.Names.{Counter}
-use Rattle.sd_model_text.specs.Lines.{samples_of}
 use Rattle.sd_model_outside.specs.Outside.{Told, IsAtEnd, Reads, left_in}
 
 -- A datagram that a receiver got at a moment, or a flush at a Unix second.
@@ -29,10 +26,10 @@ script_text commands = flat_map spelled commands
 abbrev pub IsReceiver : ℕ → ℕ → Type 0
 IsReceiver receivers who = (who < receivers) × (who < 10 ^ 2)
 
--- A record that is legal where there are so many receivers, and whose good pieces are all counters, which are built so far.
+-- A record that is legal where there are so many receivers.
 abbrev pub IsBuilt : ℕ → Command → Type 0
 IsBuilt receivers (Packet who moment datagram) =
-    IsReceiver receivers who × (moment < 10 ^ 18) × (length datagram ≤ 65507) × AllByRecursion (λ s. s.kind ≡ Counter) (samples_of datagram)
+    IsReceiver receivers who × (moment < 10 ^ 18) × (length datagram ≤ 65507)
 IsBuilt receivers (Flush ts) = ts < 10 ^ 18
 
 -- bytes that begin with a built record, or with the word that ends a script

@@ -8,7 +8,7 @@ use Rattle.std.proofs.lemmas.List.{take_at, drop_at, get_or-take, get_or-append-
 use Rattle.sd_model_replay.specs.Script.{Command, Packet as PacketRecord, Flush as FlushRecord, spelled, IsBuilt, BeginsBuilt, IsUndecided}
 use Rattle.sd_replay.specs.Ahead.{left_behind, Grows}
 use Rattle.sd_replay.specs.Fields.{Lacks, IsFirstPlace}
-use Rattle.sd_replay.specs.Found.{HasBuiltPieces, HasDatagram, HasBody, IsCutShort, BeginsWithLine}
+use Rattle.sd_replay.specs.Found.{HasDatagram, HasBody, IsCutShort, BeginsWithLine}
 use Rattle.sd_replay.specs.Head.{head_line, IsLegal, IsShort}
 use Rattle.sd_replay.specs.declared.head.Head.{Head}
 use Rattle.sd_replay.specs.declared.head.Head.TheVariants.{Packet, Flush, End}
@@ -17,23 +17,16 @@ use Rattle.sd_replay.proofs.Cuts.{inside_cut}
 use Rattle.sd_model_text.proofs.Digits.{Lacks-decimal}
 
 -- a datagram that stands behind the front
-HasDatagram-behind : (front datagram rest : List ℕ) → HasBuiltPieces datagram → HasDatagram (length front) (length datagram) (front ++ (datagram ++ 10 ∷ rest))
-HasDatagram-behind front datagram rest built =
-    let n = length datagram in
-    let size : (length front + n) - length front ≡ n = omega arith in
-    let same : slice_range (front ++ (datagram ++ 10 ∷ rest)) (length front) (length front + n) ≡ datagram =
-    ap (take ((length front + n) - length front)) (drop_at front (datagram ++ 10 ∷ rest) (length front) refl)
-    ∙ take_at datagram (10 ∷ rest) ((length front + n) - length front) (sym size) in
-    record {
-      inside = omega (arith, length-append front (datagram ++ 10 ∷ rest), length-append datagram (10 ∷ rest));
-      newline = get_or-append-add front (datagram ++ 10 ∷ rest) n 0 ∙ at_cut 10 datagram rest;
-      pieces = subst HasBuiltPieces (sym same) built;
-    }
+HasDatagram-behind : (front datagram rest : List ℕ) → HasDatagram (length front) (length datagram) (front ++ (datagram ++ 10 ∷ rest))
+HasDatagram-behind front datagram rest = record {
+  inside = omega (arith, length-append front (datagram ++ 10 ∷ rest), length-append datagram (10 ∷ rest));
+  newline = get_or-append-add front (datagram ++ 10 ∷ rest) (length datagram) 0 ∙ at_cut 10 datagram rest;
+}
 
 -- the same behind a line
-HasDatagram-line : (line datagram rest : List ℕ) → HasBuiltPieces datagram → HasDatagram (length line + 1) (length datagram) (line ++ 10 ∷ (datagram ++ 10 ∷ rest))
-HasDatagram-line line datagram rest built =
-    let behind = HasDatagram-behind (line ++ 10 ∷ []) datagram rest built in
+HasDatagram-line : (line datagram rest : List ℕ) → HasDatagram (length line + 1) (length datagram) (line ++ 10 ∷ (datagram ++ 10 ∷ rest))
+HasDatagram-line line datagram rest =
+    let behind = HasDatagram-behind (line ++ 10 ∷ []) datagram rest in
     let moved = subst (λ n. HasDatagram n (length datagram) ((line ++ 10 ∷ []) ++ (datagram ++ 10 ∷ rest))) (length_push line 10) behind in
     subst (HasDatagram (length line + 1) (length datagram)) (append_assoc line (10 ∷ []) (datagram ++ 10 ∷ rest)) moved
 
@@ -123,7 +116,7 @@ module _ (receivers : ℕ) where
         head = head;
         legal = (built.0, built.1, built.2);
         line = record { rest = datagram ++ 10 ∷ rest; whole = whole };
-        body = subst (HasDatagram (length (head_line head) + 1) (length datagram)) (sym whole) (HasDatagram-line (head_line head) datagram rest built.3);
+        body = subst (HasDatagram (length (head_line head) + 1) (length datagram)) (sym whole) (HasDatagram-line (head_line head) datagram rest);
       }
   Opens-command bytes (FlushRecord ts) rest built same = record {
     head = Flush ts;

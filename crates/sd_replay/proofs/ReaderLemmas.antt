@@ -5,7 +5,7 @@ use Rattle.std.proofs.lemmas.List.{drop_at, length_push, take-append-drop, drop_
 use Rattle.sd_model_outside.specs.Outside.{Told, Reads, last_count, put_back}
 use Rattle.sd_model_outside.proofs.OutsideLemmas.{put_back-append}
 use Rattle.sd_model_replay.specs.Script.{Command, Packet as PacketRecord, Flush as FlushRecord, Carried, StandsNext, spelled, IsBuilt}
-use Rattle.sd_replay.specs.Found.{HasBuiltPieces, HasDatagram, BeginsWith, BeginsWithLine}
+use Rattle.sd_replay.specs.Found.{HasDatagram, BeginsWith, BeginsWithLine}
 use Rattle.sd_replay.specs.Head.{head_line}
 use Rattle.sd_replay.specs.Reading.{Reading, left}
 use Rattle.sd_replay.specs.declared.head.Head.{Head}
@@ -62,7 +62,6 @@ reads_packet receivers who moment len line held old had has at datagram pending 
     let rest = drop line held in
     let d = take len rest in
     let long : length d ≡ len = length-take-le len rest (omega (arith, begins.body.inside, length-drop line held)) in
-    let body : slice_range held line (line + len) ≡ d = ap (λ k. take k rest) (omega arith) in
     let text = spelled (PacketRecord who moment d) in
     let exact : head_line (Packet who moment (length d)) ≡ head_line head = ap (λ k. head_line (Packet who moment k)) long in
     let whole : held ≡ text ++ drop (len + 1) rest =
@@ -73,7 +72,7 @@ reads_packet receivers who moment len line held old had has at datagram pending 
     let size : length text ≡ line + (len + 1) =
     omega (arith, length-append (head_line (Packet who moment (length d)) ++ 10 ∷ d) (10 ∷ []), length-append (head_line (Packet who moment (length d))) (10 ∷ d), ap length exact, begins.line, long) in
     let built : IsBuilt receivers (PacketRecord who moment d) =
-    (begins.legal.0, begins.legal.1, omega (arith, begins.legal.2, long), subst HasBuiltPieces body begins.body.pieces) in
+    (begins.legal.0, begins.legal.1, omega (arith, begins.legal.2, long)) in
     let read : IsRead receivers (PacketRecord who moment d) old had at pending has =
     record { stands = (built, read_off text held pending old had has same (whole ∙ ap (λ xs. text ++ xs) (sym behind))); counts = omega (arith, counts, size) } in
     subst (λ xs. IsRead receivers (PacketRecord who moment xs) old had at pending has) (sym lent) read

@@ -1,22 +1,14 @@
 -- A record that stands at the front of bytes.
-use Rattle.std.specs.Prelude.{◌≡◌, ℕ, ◌+◌, ◌<◌, ◌≤◌, List, ◌∷◌, ◌++◌, length, slice_index, slice_range}
-use Rattle.std.specs.List.{AllByRecursion}
-use Rattle.sd_model_text.specs.Names.{Counter}
-use Rattle.sd_model_text.specs.Lines.{samples_of}
+use Rattle.std.specs.Prelude.{◌≡◌, ℕ, ◌+◌, ◌<◌, ◌≤◌, List, ◌∷◌, ◌++◌, length, slice_index}
 use Rattle.sd_replay.specs.Head.{head_line, IsLegal}
 use Rattle.sd_replay.specs.declared.head.Head.{Head}
 use Rattle.sd_replay.specs.declared.head.Head.TheVariants.{Packet, Flush, End}
 use Rattle.sd_replay.specs.declared.record.Found.{Found}
 
--- each good piece of the datagram is built
-abbrev pub HasBuiltPieces : List ℕ → Type 0
-HasBuiltPieces datagram = AllByRecursion (λ s. s.kind ≡ Counter) (samples_of datagram)
-
--- at a place a datagram of that many bytes stands whose good pieces are built, and a newline behind it
+-- at a place a datagram of that many bytes stands, and a newline behind it
 pub record HasDatagram (from len : ℕ) (bytes : List ℕ) : Type 0 where
   pub inside : from + len < length bytes
   pub newline : slice_index bytes (from + len) ≡ 10
-  pub pieces : HasBuiltPieces (slice_range bytes from (from + len))
 
 -- what stands behind the line of a head
 abbrev pub HasBody : Head → ℕ → List ℕ → Type 0

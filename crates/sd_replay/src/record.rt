@@ -3,13 +3,11 @@ ghost use Rattle.std.specs.Bool.{OnFalse};
 ghost use Rattle.sd_model_outside.specs.Outside.{Rose, IsAtEnd, Used, left_in, put_back};
 ghost use Rattle.sd_replay.specs.Ahead.{held_in, left_behind, Grows};
 ghost use Rattle.sd_replay.specs.Head.{IsShort};
-ghost use Rattle.sd_replay.specs.Found.{HasBuiltPieces, HasDatagram, HasBody, IsCutShort, BeginsWith};
+ghost use Rattle.sd_replay.specs.Found.{HasDatagram, HasBody, IsCutShort, BeginsWith};
 ghost use Rattle.sd_model_replay.specs.Script.{BeginsBuilt, IsUndecided, IsDecided};
 
 use crate::ahead::{Ahead, LINE};
 use crate::head::{Head, parse_line};
-use sd_key::Kind;
-use sd_line::Lines;
 use sd_outside::{Failed, Source};
 
 /// A record that stands at the front of bytes.
@@ -20,30 +18,15 @@ pub(crate) struct Found {
     pub line: usize,
 }
 
-/// Whether each good piece of a datagram is built.
-fn is_built(datagram: &[u8]) -> bool
-    ensures { IsTrue result ↔ HasBuiltPieces datagram.now }
-{
-    let mut lines = Lines::new(datagram);
-    while let Some(piece) = lines.next() {
-        if let Ok(sample) = piece
-            && !matches!(sample.kind, Kind::Counter)
-        {
-            return false;
-        }
-    }
-    true
-}
-
-/// Whether the datagram of that many bytes that stands at a place is built, and a newline stands behind it.
+/// Whether a newline stands behind the datagram of that many bytes at a place.
 fn has_datagram(bytes: &[u8], from: usize, len: usize) -> bool
     requires { from + len < length bytes.now }
     ensures { IsTrue result ↔ HasDatagram from len bytes.now }
 {
-    bytes[from + len] == b'\n' && is_built(&bytes[from..from + len])
+    bytes[from + len] == b'\n'
 }
 
-/// Reads on until what follows the line of a head is held, and answers whether it is right and built.
+/// Reads on until what follows the line of a head is held, and answers whether it is right.
 fn body_follows<R: Source>(
     ahead: &mut Ahead,
     script: &mut R,
