@@ -2,10 +2,10 @@ ghost use Rattle.std.specs.Prelude.{◌≡◌, ◌<◌, length, IfOk};
 ghost use Rattle.sd_epoch.specs.Limits.{limits_of, AreLimits};
 
 use crate::samples::sample_of;
-use sd_case::{Answer, Refusal, kind_of, kind_word, number};
+use sd_case::{Answer, Refusal, bytes_of, kind_of, kind_word, number};
 use sd_epoch::{Limits, RowFacts, Table, Who};
-use sd_key::{Key, Kind};
-use sd_shard::{Cause, Placed, Policy, Shard, ShardBook};
+use sd_key::{Key, Kind, Pattern};
+use sd_shard::{Cause, Dump, Keys, Placed, Policy, Shard, ShardBook};
 use std::alloc::Global;
 
 // the most rows, and the most entries
@@ -72,8 +72,18 @@ struct Bench {
 }
 
 impl Bench {
-    /// Carries out a step: `swap`, `book`, or else the sample that it writes.
+    /// Carries out a step: `delete=KIND/PATTERN`, `dump=KIND`, or one without an argument.
     fn step(&mut self, alloc: Global, step: &str, out: &mut Answer) -> Result<(), Refusal> {
+        match step.split_once('=') {
+            Some(("delete", what)) => self.delete(alloc, what, out),
+            Some(("dump", kind)) => self.dump(alloc, kind, out),
+            Some(_) => Err(Refusal::Malformed),
+            None => self.plain_step(alloc, step, out),
+        }
+    }
+
+    /// Carries out a step without an argument: `swap`, `book`, or else the sample that it writes.
+    fn plain_step(&mut self, alloc: Global, step: &str, out: &mut Answer) -> Result<(), Refusal> {
         match step {
             "swap" => self.swap(alloc, out),
             "book" => {
@@ -94,6 +104,45 @@ impl Bench {
         let table = self.shard.swap(spare);
         show_table(alloc, &table, out)
     }
+
+    /// Deletes rows, and shows how many rows and entries went, and the keys in order.
+    fn delete(&mut self, alloc: Global, what: &str, out: &mut Answer) -> Result<(), Refusal> {
+        let (kind, pattern) = what.split_once('/').ok_or(Refusal::Malformed)?;
+        let kind = kind_of(kind)?;
+        let pattern = pattern_from(alloc, pattern)?;
+        let mut keys = Keys::open(alloc, self.shard.rows())?;
+        let deleted = self.shard.delete(kind, &pattern, &mut keys);
+        keys.sort();
+        out.count("rows ", u64::from(deleted.rows));
+        out.count(", entries ", deleted.samples);
+        for i in 0..keys.len() {
+            out.text("\n    ");
+            out.bytes(keys.get(i).as_slice());
+        }
+        Ok(())
+    }
+
+    /// Shows the rows of a kind in order, with what their samples come to.
+    fn dump(&mut self, alloc: Global, kind: &str, out: &mut Answer) -> Result<(), Refusal> {
+        let mut dump = Dump::open(alloc, self.shard.rows())?;
+        self.shard.dump(kind_of(kind)?, &mut dump);
+        dump.sort();
+        out.count("rows ", dump.len() as u64);
+        for i in 0..dump.len() {
+            let row = dump.get(i);
+            out.text("\n    ");
+            out.bytes(row.key.as_slice());
+            out.count(": samples ", row.samples);
+            out.text(", amount ");
+            out.number(row.amount.0);
+        }
+        Ok(())
+    }
+}
+
+/// The pattern that a word writes.
+fn pattern_from(alloc: Global, word: &str) -> Result<Pattern, Refusal> {
+    Pattern::of(&bytes_of(alloc, word)?).ok_or(Refusal::Malformed)
 }
 
 /// Appends the numbers of a shard.

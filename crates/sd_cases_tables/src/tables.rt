@@ -3,7 +3,7 @@ ghost use Rattle.sd_epoch.specs.Limits.{limits_of, AreLimits};
 
 use crate::samples::sample_of;
 use crate::shards::{limits_from, show_name, show_sorted, show_table};
-use sd_case::{Answer, Refusal, key_of, number};
+use sd_case::{Answer, Refusal, key_of, kind_of, number};
 use sd_decimal::Micro;
 use sd_epoch::{Limits, Scratch, Table, Who};
 use sd_graphite::write_record;
@@ -28,6 +28,7 @@ struct Flush {
 enum Part {
     Values,
     Members,
+    Amount,
 }
 
 /// A table, the room for what its rows have, and that of its record, for the same limits.
@@ -78,6 +79,7 @@ impl Bench {
         match step.split_once('=') {
             Some(("keep", name)) => self.keep(alloc, name, out),
             Some(("has", name)) => self.has(alloc, name, out),
+            Some(("forget", what)) => self.forget(alloc, what, out),
             Some(("text", sink)) => self.text(alloc, flush, sink, out),
             Some(_) => Err(Refusal::Malformed),
             None => self.plain_step(alloc, flush, step, out),
@@ -97,6 +99,7 @@ impl Bench {
             "rows" => show_table(alloc, &self.table, out),
             "values" => show_parts(alloc, &self.table, Part::Values, &mut self.gathered, out),
             "members" => show_parts(alloc, &self.table, Part::Members, &mut self.gathered, out),
+            "amounts" => show_parts(alloc, &self.table, Part::Amount, &mut self.gathered, out),
             "limits" => {
                 self.show_limits(out);
                 Ok(())
@@ -148,6 +151,14 @@ impl Bench {
         Ok(())
     }
 
+    /// Takes the row that is written as `KIND/NAME` out, and appends how many entries went.
+    fn forget(&mut self, alloc: Global, what: &str, out: &mut Answer) -> Result<(), Refusal> {
+        let (kind, name) = what.split_once('/').ok_or(Refusal::Malformed)?;
+        let key = key_of(alloc, name)?;
+        out.count("", self.table.forget_row(kind_of(kind)?, &key));
+        Ok(())
+    }
+
     /// Appends the record of the table.
     fn record(&mut self, flush: &Flush, out: &mut Answer) -> Result<(), Refusal> {
         if flush.interval_ms == 0 {
@@ -176,7 +187,7 @@ impl Bench {
     }
 }
 
-/// Appends the line of each row of a table, with its values or its members.
+/// Appends the line of each row of a table, with a part of its samples.
 fn show_parts(
     alloc: Global,
     table: &Table,
@@ -199,7 +210,7 @@ fn show_parts(
     show_sorted(lines, out)
 }
 
-/// Appends the values or the members of a table's row, in the order in which they came.
+/// Appends the values or the members of a table's row, in the order in which they came, or what they come to.
 fn show_part(table: &Table, i: u32, part: Part, gathered: &mut Scratch, out: &mut Answer)
     requires place { i < length table.now.listed }
     requires room { length table.now.held ≤ gathered.old.room }
@@ -221,6 +232,10 @@ fn show_part(table: &Table, i: u32, part: Part, gathered: &mut Scratch, out: &mu
                 out.text(" ");
                 out.bytes(member.as_slice());
             }
+        }
+        Part::Amount => {
+            out.text(": amount ");
+            out.number(table.amount_of(i).0);
         }
     }
 }

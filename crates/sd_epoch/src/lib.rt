@@ -1,7 +1,9 @@
 //! The rows and entries of one epoch of a shard, and room for the values and members of a row.
 #![tactic(auto)]
 
+mod amount;
 mod entry;
+mod forget;
 mod gauge;
 mod limits;
 mod row;

@@ -1,10 +1,12 @@
 ghost use Rattle.std.specs.Prelude.{◌≡◌, ◌+◌, ◌<◌, false, map, vec_len, vec_capacity, MatchOption, if◌then◌else◌};
 ghost use Rattle.std.specs.FinMap.{insert};
 ghost use Rattle.sd_model_shard.specs.Rows.{touched, is_same_row};
+ghost use Rattle.sd_model_shard.specs.Commands.{is_hit};
+ghost use Rattle.sd_key.specs.Kind.{kind_of};
 ghost use Rattle.sd_epoch.specs.Table.{live_rows, AreApart, row_view, id_of, listed_with, IsPlace};
 
 use sd_decimal::{Micro, Sum};
-use sd_key::{Key, Kind};
+use sd_key::{Key, Kind, Pattern, matches};
 
 /// A row: what it is known by, and what it keeps from swap to swap.
 #[derive(Clone, Debug, Drop)]
@@ -17,7 +19,29 @@ pub struct Row {
     pub swaps: u32,
 }
 
+impl Row {
+    ghost use Rattle.std.specs.Prelude.{◌≡◌};
+    ghost use Rattle.sd_model_shard.specs.Commands.{is_hit, is_of_kind};
+    ghost use Rattle.sd_key.specs.Kind.{kind_of};
+    ghost use Rattle.sd_epoch.specs.Table.{row_view};
+
+    /// Whether it is of the kind.
+    pub fn is_of_kind(&self, kind: Kind) -> bool
+        ensures { result ≡ is_of_kind (kind_of kind) (row_view self.now).0 }
+    {
+        self.kind == kind
+    }
+
+    /// Whether it is of the kind, and the pattern matches its key.
+    pub fn is_hit(&self, kind: Kind, pattern: &Pattern) -> bool
+        ensures { result ≡ is_hit (kind_of kind) pattern.now (row_view self.now).0 }
+    {
+        is_hit(kind, pattern, self.kind, &self.key)
+    }
+}
+
 /// What a table says of one of its rows.
+#[derive(Debug, Drop)]
 pub struct RowFacts {
     pub kind: Kind,
     pub key: Key,
@@ -72,6 +96,13 @@ pub(crate) fn is_same_id(kind: Kind, key: &Key, other_kind: Kind, other_key: &Ke
     ensures { result ≡ is_same_row (id_of kind key.now) (id_of other_kind other_key.now) }
 {
     kind.cmp(&other_kind).then(key.cmp(other_key)).is_eq()
+}
+
+/// Whether a row is of the kind, and the pattern matches its key.
+pub(crate) fn is_hit(kind: Kind, pattern: &Pattern, row_kind: Kind, key: &Key) -> bool
+    ensures { result ≡ is_hit (kind_of kind) pattern.now (id_of row_kind key.now) }
+{
+    row_kind == kind && matches(pattern, key)
 }
 
 /// The place of the row, where it is there.

@@ -1,19 +1,23 @@
-ghost use Rattle.std.specs.Prelude.{◌≡◌, ◌+◌, ◌*◌, ◌^◌, ◌<◌, ◌≤◌, unsigned_abs, slice_get, false, [], ◌∷◌, ◌++◌, length, IfOk, IfSome, Some};
-ghost use Rattle.std.specs.FinMap.{len, contains_key, insert};
-ghost use Rattle.sd_model_shard.specs.Rows.{row_of, touched, entries_of};
-ghost use Rattle.sd_model_shard.specs.Statistics.{weight_of, gauge_value, values_of, members_of};
+ghost use Rattle.std.specs.Prelude.{◌≡◌, ◌+◌, ◌*◌, ◌^◌, ◌<◌, ◌≤◌, unsigned_abs, slice_get, false, not, filter, [], ◌∷◌, ◌++◌, length, IfOk, IfSome, Some};
+ghost use Rattle.std.specs.FinMap.{len, contains_key, insert, remove};
+ghost use Rattle.sd_model_shard.specs.Rows.{row_of, touched, entries_of, is_same_row};
+ghost use Rattle.sd_model_shard.specs.Commands.{rows_left, entries_left, entries_taken_out};
+ghost use Rattle.sd_model_shard.specs.Statistics.{weight_of, gauge_value, values_of, members_of, amount_of};
+ghost use Rattle.sd_key.specs.Kind.{kind_of};
 ghost use Rattle.sd_epoch.specs.Limits.{limits_of, AreLimits};
 ghost use Rattle.sd_epoch.specs.Scratch.{micros, texts};
 ghost use Rattle.sd_epoch.specs.Table.{live_of, AreApart, row_view, id_of};
 
+use crate::amount::amount_of;
 use crate::entry::{Entry, new_entry};
+use crate::forget::{drop_entries, drop_entries_hit, drop_row, drop_rows_hit};
 use crate::gauge::gauge_over;
 use crate::limits::{Limits, Who};
 use crate::row::{Row, RowFacts, add_row, new_row, place_of, touch};
 use crate::scratch::Scratch;
 use crate::tally::tally_of;
-use sd_decimal::Micro;
-use sd_key::{Key, Kind};
+use sd_decimal::{Micro, Sum};
+use sd_key::{Key, Kind, Pattern};
 use sd_line::Sample;
 use std::alloc::{AllocError, Global};
 use std::marker::Model;
@@ -144,6 +148,41 @@ impl Table {
     {
         let row = &self.rows[i as usize];
         out.put_members(&self.entries, row.kind, &row.key);
+    }
+
+    /// What the samples of its i-th row come to: a counter's count, the sum of a timer's values, a gauge's value, or how
+    /// many members of a set differ, as whole units. For a set it takes time with the square of its samples.
+    pub fn amount_of(&self, i: u32) -> Sum
+        requires { i < length self.now.listed }
+        ensures { IfSome (slice_get self.now.listed i) (λ row. result.0 ≡ amount_of row.0 row.1.base self.now.held) }
+    {
+        amount_of(&self.entries, &self.rows[i as usize])
+    }
+
+    /// Takes a row and its entries out, and answers how many entries those are: 0 where it is absent.
+    pub fn forget_row(&mut self, kind: Kind, key: &Key) -> u64
+        ensures live { live_of self.new ≡ remove (live_of self.old) (id_of kind key.now) }
+        ensures held { self.new.held ≡ filter (λ e. not (is_same_row (id_of kind key.now) (row_of e.sample))) self.old.held }
+        ensures count { result ≡ length (entries_of (id_of kind key.now) self.old.held) }
+        ensures limits { self.new.limits ≡ self.old.limits }
+    {
+        let before = self.entries.len();
+        drop_row(&mut self.rows, kind, key);
+        drop_entries(&mut self.entries, kind, key);
+        (before - self.entries.len()) as u64
+    }
+
+    /// Takes the rows of a kind that a pattern matches out, and their entries, and answers how many entries those are.
+    pub fn forget_rows(&mut self, kind: Kind, pattern: &Pattern) -> u64
+        ensures live { live_of self.new ≡ rows_left (kind_of kind) pattern.now (live_of self.old) }
+        ensures held { self.new.held ≡ entries_left (kind_of kind) pattern.now self.old.held }
+        ensures count { result ≡ length (entries_taken_out (kind_of kind) pattern.now self.old.held) }
+        ensures limits { self.new.limits ≡ self.old.limits }
+    {
+        let before = self.entries.len();
+        drop_rows_hit(&mut self.rows, kind, pattern);
+        drop_entries_hit(&mut self.entries, kind, pattern);
+        (before - self.entries.len()) as u64
     }
 
     /// Makes a row that is absent.

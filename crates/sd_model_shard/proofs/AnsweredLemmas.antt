@@ -1,7 +1,7 @@
 -- Histories of events one after another, and the samples of their events.
 use Rattle.std.proofs.Common.{◌≡◌, ℕ, List, [], ◌∷◌, ◌++◌, refl, ap}
 use Rattle.std.specs.Prelude.{filter_map}
-use Rattle.sd_model_shard.specs.Shard.{State, Limits, Policy, Event, Submit, Swap, step}
+use Rattle.sd_model_shard.specs.Shard.{State, Limits, Policy, Event, Submit, Swap, Delete, Dump, step}
 use Rattle.sd_model_shard.specs.History.{History, Asked, after_all, answered}
 use Rattle.sd_model_shard.specs.Whereabouts.{arrivals, arrival_in}
 
@@ -22,3 +22,5 @@ arrivals-answered limits policy state (q ∷ asked) = by_event q.who q.event (ar
       → arrivals (answered limits policy state (record { who = who; event = event } ∷ asked)) ≡ filter_map (λ q. arrival_in q.who q.event) (record { who = who; event = event } ∷ asked)
   by_event who (Submit s) h = ap (λ rest. record { who = who; sample = s } ∷ rest) h
   by_event who Swap h = h
+  by_event who (Delete kind pattern) h = h
+  by_event who (Dump kind) h = h

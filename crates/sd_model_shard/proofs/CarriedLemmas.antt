@@ -1,4 +1,4 @@
--- The rows that a swap answers are those carried in and those of its own journal.
+-- The rows that a swap answers are those carried in, without those deleted, and those of its own journal.
 use Rattle.std.proofs.Common.{◌≡◌, ℕ, Bool, true, false, cond, List, [], ◌∷◌, refl, sym, ap, subst, ◌∙◌}
 use Rattle.std.specs.Prelude.{Option, Some, None, is_some, option_and_then, ◌||◌}
 use Rattle.std.specs.Ordering.{eq_by_cmp}
@@ -7,11 +7,13 @@ use Rattle.std.specs.List.{list_any}
 use Rattle.std.proofs.lemmas.List.Sums.{fold_push}
 use Rattle.sd_model_text.specs.Lines.{Sample}
 use Rattle.sd_model_shard.specs.Rows.{RowId, row_cmp, Rows, Kept, Entry, row_of, base_of, touched, is_same_row}
-use Rattle.sd_model_shard.specs.Shard.{State, empty_state, Cause, Limits, Policy, Event, Submit, Swap, step, admitted, refusal, carried, left_of}
+use Rattle.sd_model_shard.specs.Shard.{State, empty_state, Cause, Limits, Policy, Event, Submit, Swap, Delete, Dump, step, admitted, refusal, carried, left_of}
 use Rattle.sd_model_shard.specs.History.{History, Asked, Legal, answered}
 use Rattle.sd_model_shard.specs.Whereabouts.{rows_with, RowsAreCarried}
 use Rattle.sd_model_shard.proofs.RowLemmas.{rows_exact, rows_total}
+use Rattle.sd_model_shard.specs.Commands.{rows_left}
 use Rattle.sd_model_shard.proofs.EntryLemmas.{get-left}
+use Rattle.sd_model_shard.proofs.DeletionLemmas.{rows_left-rows_with}
 use Rattle.sd_model_shard.proofs.HistoryLemmas.{asked_in, legal_is_answered}
 
 -- the rows of a shard are those carried in and those of its entries
@@ -40,6 +42,9 @@ carries limits policy carried_in state (q ∷ asked) h =
           let answer = refusal limits state s in
           sample_carries policy carried_in state who s answer (answered limits policy (admitted state who s answer).state asked) (rest carried_in (StandsOn-sample carried_in state who s answer h))
       carries_by limits policy carried_in state who Swap asked h rest = (h, rest (carried policy state.live state.held) refl)
+      carries_by limits policy carried_in state who (Delete kind pattern) asked h rest =
+          (tt, rest (rows_left kind pattern carried_in) (ap (rows_left kind pattern) h ∙ rows_left-rows_with kind pattern carried_in state.held))
+      carries_by limits policy carried_in state who (Dump kind) asked h rest = (tt, rest carried_in h)
 
 pub rows_carried : (limits : Limits) (policy : Policy) (acts : History) → Legal limits policy acts → RowsAreCarried policy empty acts
 rows_carried limits policy acts h = subst (RowsAreCarried policy empty) (legal_is_answered limits policy empty_state acts h) (carries limits policy empty empty_state (asked_in acts) refl)

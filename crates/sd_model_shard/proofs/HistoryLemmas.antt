@@ -1,16 +1,18 @@
 -- Histories that grow, and where the samples of a legal history are.
-use Rattle.std.proofs.Common.{◌≡◌, ℕ, ◌+◌, ◌≤◌, ◌<◌, min, cond, eqb, List, [], ◌∷◌, ◌++◌, length, map, refl, sym, ap, subst, ◌∙◌, append_assoc, append-nil, length-append, arith}
+use Rattle.std.proofs.Common.{◌≡◌, ℕ, ◌+◌, ◌≤◌, ◌<◌, min, cond, eqb, List, [], ◌∷◌, ◌++◌, length, map, refl, sym, ap, subst, ◌∙◌, append_assoc, append-nil, length-append, not, arith}
 use Rattle.std.specs.Prelude.{Option, Some, None}
 use Rattle.std.specs.List.{range_with_len}
 use Rattle.std.specs.List.Sorted.{IsPermutation}
-use Rattle.std.proofs.lemmas.List.Sorted.{IsPermutation-refl, IsPermutation-append_right, length_permutation}
+use Rattle.std.proofs.lemmas.List.Sorted.{IsPermutation-refl, IsPermutation-trans, IsPermutation-append_left, IsPermutation-append_right, IsPermutation-append_comm, IsPermutation-filter_both, length_permutation}
 use Rattle.std.specs.Prelude.{sum_by}
 use Rattle.std.proofs.lemmas.List.Sums.{fold_push, sum_by-append}
 use Rattle.std.proofs.lemmas.List.Sorted.{sum_by-IsPermutation}
-use Rattle.sd_model_shard.proofs.OrderLemmas.{Rises, Rises-append, Rises-increasing, weighed_once, sum_by-flat_map, sum_by-map}
+use Rattle.sd_model_shard.proofs.OrderLemmas.{Rises, Rises-append, Rises-filter, Rises-increasing, weighed_once, sum_by-flat_map, sum_by-map}
+use Rattle.sd_model_text.specs.Names.{Kind}
 use Rattle.sd_model_text.specs.Lines.{Sample}
-use Rattle.sd_model_shard.specs.Rows.{Entry}
-use Rattle.sd_model_shard.specs.Shard.{State, empty_state, Cause, Limits, Policy, Event, Submit, Swap, step, admitted, refusal, after_swap, table_of, Swapped, last_number}
+use Rattle.sd_model_shard.specs.Commands.{is_hit, entries_taken_out, entries_left}
+use Rattle.sd_model_shard.specs.Rows.{Entry, row_of}
+use Rattle.sd_model_shard.specs.Shard.{State, empty_state, Cause, Limits, Policy, Event, Submit, Swap, Delete, Dump, step, admitted, refusal, after_swap, after_delete, deletion_of, table_of, Swapped, last_number}
 use Rattle.sd_model_shard.specs.History.{History, Act, Asked, after, after_all, state_after, LegalFrom, Legal, StandsAt, act_of, answered, acts_from}
 use Rattle.sd_model_shard.specs.Whereabouts.{arrivals, fates, filed, causes, journaled, deleted_from, deletions, tables, taken_out, Accounted, StandsOnce}
 
@@ -108,6 +110,38 @@ swap_goes policy old new who acts gone h = record {
   dropped = h.dropped;
 }
 
+-- entries that go out in front stand behind those of the journals
+moved_behind : (held left out entries journals gone last : List Entry) → IsPermutation held (out ++ left) → IsPermutation (left ++ entries) (journals ++ gone ++ last) → IsPermutation (held ++ entries) (journals ++ (out ++ gone) ++ last)
+moved_behind held left out entries journals gone last parts h =
+    let one : IsPermutation (held ++ entries) ((out ++ left) ++ entries) = IsPermutation-append_left entries held (out ++ left) parts in
+    let two : IsPermutation (out ++ (left ++ entries)) (out ++ (journals ++ gone ++ last)) = IsPermutation-append_right out (left ++ entries) (journals ++ gone ++ last) h in
+    let three : IsPermutation ((out ++ journals) ++ (gone ++ last)) ((journals ++ out) ++ (gone ++ last)) = IsPermutation-append_left (gone ++ last) (out ++ journals) (journals ++ out) (IsPermutation-append_comm out journals) in
+    let middle : out ++ (journals ++ gone ++ last) ≡ (out ++ journals) ++ (gone ++ last) = simp append_assoc in
+    let end : (journals ++ out) ++ (gone ++ last) ≡ journals ++ (out ++ gone) ++ last = simp append_assoc in
+    IsPermutation-trans (held ++ entries) ((out ++ left) ++ entries) (journals ++ (out ++ gone) ++ last) one
+    (subst (λ xs. IsPermutation xs (journals ++ (out ++ gone) ++ last)) (sym (append_assoc out left entries))
+    (IsPermutation-trans (out ++ (left ++ entries)) ((out ++ journals) ++ (gone ++ last)) (journals ++ (out ++ gone) ++ last) (subst (IsPermutation (out ++ (left ++ entries))) middle two)
+    (subst (IsPermutation ((out ++ journals) ++ (gone ++ last))) end three)))
+
+-- a deletion before them
+delete_goes : (kind : Kind) (pattern : List ℕ) (old new : State) (who : ℕ) (acts : History) (gone : List Entry)
+    → Goes (after_delete kind pattern old) new acts gone
+    → Goes old new (record { who = who; event = Delete kind pattern; reply = deletion_of kind pattern old } ∷ acts) (entries_taken_out kind pattern old.held ++ gone)
+delete_goes kind pattern old new who acts gone h =
+    let out = entries_taken_out kind pattern old.held in
+    let left = entries_left kind pattern old.held in
+    let parts : IsPermutation old.held (out ++ left) = IsPermutation-filter_both (λ e. is_hit kind pattern (row_of e.sample)) (λ e. not (is_hit kind pattern (row_of e.sample))) (λ e. refl) old.held in
+    record {
+      one_fate = h.one_fate;
+      numbers = h.numbers;
+      order = λ low rises. h.order low (Rises-filter (λ e. not (is_hit kind pattern (row_of e.sample))) low old.taken old.held rises);
+      places = moved_behind old.held left out (filed acts) (journaled acts) gone new.held parts h.places;
+      taken = h.taken;
+      flushed = h.flushed;
+      deleted = omega (arith, h.deleted, length-append out gone);
+      dropped = h.dropped;
+    }
+
 goes : (limits : Limits) (policy : Policy) (state : State) (asked : List Asked)
     → Goes state (after_all limits policy state (answered limits policy state asked)) (answered limits policy state asked) (deleted_from limits policy state (answered limits policy state asked))
 goes limits policy state [] = record {
@@ -133,6 +167,20 @@ goes limits policy state (q ∷ asked) = goes_by limits policy state q.who q.eve
       let next = after_swap policy state in
       let acts = answered limits policy next asked in
       swap_goes policy state (after_all limits policy next acts) who acts (deleted_from limits policy next acts) h
+  goes_by limits policy state who (Delete kind pattern) asked h =
+      let next = after_delete kind pattern state in
+      let acts = answered limits policy next asked in
+      delete_goes kind pattern state (after_all limits policy next acts) who acts (deleted_from limits policy next acts) h
+  goes_by limits policy state who (Dump kind) asked h = record {
+    one_fate = h.one_fate;
+    numbers = h.numbers;
+    order = h.order;
+    places = h.places;
+    taken = h.taken;
+    flushed = h.flushed;
+    deleted = h.deleted;
+    dropped = h.dropped;
+  }
 
 accounted_from : (limits : Limits) (policy : Policy) (acts : History) → Goes empty_state (state_after limits policy acts) acts (deletions limits policy acts) → Accounted limits policy acts
 accounted_from limits policy acts h =

@@ -1,9 +1,12 @@
 pub mod AnsweredLemmas
 pub mod CarriedLemmas
+pub mod DeletionLemmas
+pub mod ListedLemmas
 pub mod EntryLemmas
 pub mod HistoryLemmas
 pub mod OrderLemmas
 pub mod RowLemmas
 pub mod SortedLemmas
+pub mod ToldLemmas
 pub mod ValuesLemmas
 pub mod PartLemmas

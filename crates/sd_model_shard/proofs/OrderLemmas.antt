@@ -1,5 +1,5 @@
 -- Entries whose numbers rise, and numbers that stand once.
-use Rattle.std.proofs.Common.{◌≡◌, ℕ, zero, suc, ◌+◌, ◌<◌, ◌≤◌, Bool, true, false, cond, eqb, List, [], ◌∷◌, ◌++◌, map, refl, sym, subst, ◌∙◌, arith}
+use Rattle.std.proofs.Common.{◌≡◌, ℕ, zero, suc, ◌+◌, ◌<◌, ◌≤◌, Bool, true, false, cond, eqb, List, [], ◌∷◌, ◌++◌, map, filter, refl, sym, subst, ◌∙◌, arith}
 use Rattle.std.specs.Prelude.{sum_by, flat_map, slice_index}
 use Rattle.std.specs.List.{range_with_len}
 use Rattle.std.specs.List.Sorted.{IsStrictlyIncreasing}
@@ -19,6 +19,14 @@ Rises-lower low mid high (e ∷ entries) below h = (omega (arith, h.0), h.1)
 pub Rises-append : (low mid high : ℕ) (xs ys : List Entry) → Rises low xs mid → Rises mid ys high → Rises low (xs ++ ys) high
 Rises-append low mid high [] ys h rest = Rises-lower low mid high ys h rest
 Rises-append low mid high (e ∷ xs) ys h rest = (h.0, Rises-append (e.number + 1) mid high xs ys h.1 rest)
+
+kept_or_not : (low high : ℕ) (e : Entry) (entries : List Entry) (b : Bool) → low ≤ e.number → Rises (e.number + 1) entries high → Rises low (cond b (e ∷ entries) entries) high
+kept_or_not low high e entries true first h = (first, h)
+kept_or_not low high e entries false first h = Rises-lower low (e.number + 1) high entries (omega arith) h
+
+pub Rises-filter : (p : Entry → Bool) (low high : ℕ) (entries : List Entry) → Rises low entries high → Rises low (filter p entries) high
+Rises-filter p low high [] h = h
+Rises-filter p low high (e ∷ entries) h = kept_or_not low high e (filter p entries) (p e) h.0 (Rises-filter p (e.number + 1) high entries h.1)
 
 pub Rises-increasing : (low high : ℕ) (entries : List Entry) → Rises low entries high → IsStrictlyIncreasing (map (λ e. e.number) entries)
 Rises-increasing low high [] h k below = absurd (omega arith)

@@ -1,4 +1,5 @@
 pub mod Rows
+pub mod Commands
 pub mod Shard
 pub mod Statistics
 pub mod Values

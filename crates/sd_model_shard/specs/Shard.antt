@@ -5,6 +5,7 @@ use Rattle.sd_model_text.specs.Names.{Kind, Counter, Timer, Gauge, Set}
 use Rattle.sd_model_text.specs.Lines.{Sample}
 use Rattle.sd_model_shard.specs.Rows.{RowId, Kept, Rows, Entry, row_of, touched}
 use Rattle.sd_model_shard.specs.Statistics.{gauge_value}
+use Rattle.sd_model_shard.specs.Commands.{DumpRow, keys_of, rows_taken_out, rows_left, entries_taken_out, entries_left, dump_of}
 
 -- A shard's state. The entries stand in the order in which they came.
 pub record State : Type 0 where
@@ -112,15 +113,29 @@ after_swap policy state =
 abbrev pub table_of : State → Table
 table_of state = record { live = state.live; held = state.held }
 
+-- the state after a deletion
+abbrev pub after_delete : Kind → List ℕ → State → State
+after_delete kind pattern state =
+    record state {
+      live = rows_left kind pattern state.live;
+      held = entries_left kind pattern state.held;
+      deleted = state.deleted + length (entries_taken_out kind pattern state.held);
+    }
+
 -- What can happen to a shard.
 pub data Event : Type 0 where
   Submit : (sample : Sample) → Event
   Swap : Event
+  Delete : (kind : Kind) (pattern : List ℕ) → Event
+  Dump : (kind : Kind) → Event
 
--- What a shard answers: what became of a sample; the table that it hands out.
+-- What a shard answers: what became of a sample; the table that it hands out; the keys of the rows that a deletion took
+-- out, how many rows and how many entries those are; the rows that a dump tells.
 pub data Reply : Type 0 where
   Answered : (placed : Placed) → Reply
   Swapped : (table : Table) → Reply
+  Deleted : (keys : List (List ℕ)) (rows samples : ℕ) → Reply
+  Dumped : (rows : List DumpRow) → Reply
 
 -- a state, and the reply that led there
 pub record Stepped : Type 0 where
@@ -132,7 +147,16 @@ abbrev pub admitted : State → ℕ → Sample → Option Cause → Stepped
 admitted state who s None = record { state = with_sample state who s; reply = Answered (Taken state.taken) }
 admitted state who s (Some cause) = record { state = with_drop state; reply = Answered (Dropped cause) }
 
+-- what a deletion answers in a state
+abbrev pub deletion_of : Kind → List ℕ → State → Reply
+deletion_of kind pattern state =
+    let keys = keys_of (rows_taken_out kind pattern state.live) in
+    Deleted keys (length keys) (length (entries_taken_out kind pattern state.held))
+
 -- The step: the state after an event of a caller, and the reply.
 abbrev pub step : Limits → Policy → State → ℕ → Event → Stepped
 step limits policy state who (Submit s) = admitted state who s (refusal limits state s)
 step limits policy state who Swap = record { state = after_swap policy state; reply = Swapped (table_of state) }
+step limits policy state who (Delete kind pattern) =
+    record { state = after_delete kind pattern state; reply = deletion_of kind pattern state }
+step limits policy state who (Dump kind) = record { state = state; reply = Dumped (dump_of kind state.live state.held) }

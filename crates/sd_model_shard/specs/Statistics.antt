@@ -1,14 +1,11 @@
 -- What the entries of a row come to.
-use Rattle.std.specs.Prelude.{ℕ, ◌^◌, Bool, ℤ, pos, ◌+ℤ◌, neg_ℤ, List, fold, map, if◌then◌else◌}
+use Rattle.std.specs.Prelude.{ℕ, ◌*◌, ◌^◌, ℤ, pos, ◌+ℤ◌, neg_ℤ, List, fold, map, if◌then◌else◌}
 use Rattle.std.specs.Int.{int_min, int_max}
 use Rattle.sd_model_text.specs.Names.{Kind, Counter, Timer, Gauge, Set}
 use Rattle.sd_model_text.specs.Lines.{Sample}
 use Rattle.sd_model_text.specs.Numbers.{weight}
 use Rattle.sd_model_shard.specs.Rows.{RowId, Entry, entries_of}
-
--- a sum of whole numbers
-abbrev pub total : List ℤ → ℤ
-total xs = fold ◌+ℤ◌ (pos 0) xs
+use Rattle.sd_model_shard.specs.Values.{total, distinct}
 
 -- how much a sample weighs in a row of its kind: of a counter its value by its rate, of a timer 1 by its rate; a gauge's
 -- and a set's have no weight
@@ -45,3 +42,15 @@ gauge_after value s = limited (if s.is_signed then value +ℤ s.value else s.val
 -- the value of a gauge, from its base on
 abbrev pub gauge_value : RowId → ℤ → List Entry → ℤ
 gauge_value id base held = fold (λ value e. gauge_after value e.sample) base (entries_of id held)
+
+-- what the samples of a row of a kind come to: a counter's count, the sum of a timer's values, a gauge's value, or how many
+-- members of a set differ, as whole units
+abbrev pub amount_by : Kind → RowId → ℤ → List Entry → ℤ
+amount_by Counter id base held = weight_of id held
+amount_by Timer id base held = total (values_of id held)
+amount_by Gauge id base held = gauge_value id base held
+amount_by Set id base held = pos (distinct (members_of id held) * 1000000)
+
+-- what the samples of a row come to
+abbrev pub amount_of : RowId → ℤ → List Entry → ℤ
+amount_of id base held = amount_by id.kind id base held

@@ -4,7 +4,8 @@ use Rattle.std.specs.List.{range_with_len}
 use Rattle.std.specs.List.Sorted.{IsPermutation, IsStrictlyIncreasing}
 use Rattle.sd_model_text.specs.Lines.{Sample}
 use Rattle.sd_model_shard.specs.Rows.{Rows, Entry, row_of, touched}
-use Rattle.sd_model_shard.specs.Shard.{State, empty_state, Limits, Policy, Placed, Taken, Dropped, Cause, Table, Event, Submit, Swap, Reply, Answered, Swapped, carried, last_number}
+use Rattle.sd_model_shard.specs.Shard.{State, empty_state, Limits, Policy, Placed, Taken, Dropped, Cause, Table, Event, Submit, Swap, Delete, Reply, Answered, Swapped, carried, last_number}
+use Rattle.sd_model_shard.specs.Commands.{rows_left, entries_taken_out}
 use Rattle.sd_model_shard.specs.History.{History, acts_from, state_after}
 
 -- a good sample, and who brought it
@@ -20,7 +21,7 @@ pub record Fate : Type 0 where
 -- the arrival in an event, if it is one
 abbrev pub arrival_in : ℕ → Event → Option Arrival
 arrival_in who (Submit s) = Some (record { who = who; sample = s })
-arrival_in who Swap = None
+arrival_in who event = None
 
 -- the samples submitted, in order
 abbrev pub arrivals : History → List Arrival
@@ -68,10 +69,10 @@ journaled acts = flat_map (λ t. t.held) (tables acts)
 
 -- the entries that an event deletes
 abbrev pub taken_out : State → Event → List Entry
-taken_out state (Submit s) = []
-taken_out state Swap = []
+taken_out state (Delete kind pattern) = entries_taken_out kind pattern state.held
+taken_out state event = []
 
--- the entries that deletions took out, from a state on; no event deletes so far
+-- the entries that deletions took out, from a state on
 abbrev pub deleted_from : Limits → Policy → State → History → List Entry
 deleted_from limits policy state acts = flat_map (λ m. taken_out m.before m.act.event) (acts_from limits policy state acts)
 
@@ -116,9 +117,10 @@ StandsOnce limits policy acts number =
 abbrev pub rows_with : Rows → List Entry → Rows
 rows_with live entries = fold (λ rows e. touched rows (row_of e.sample)) live entries
 
--- what is carried on after an act: a swap carries what its policy says
+-- what is carried on after an act: a swap carries what its policy says, and a deletion leaves what it doesn't take out
 abbrev pub carried_on : Policy → Rows → Event → Reply → Rows
 carried_on policy carried_in Swap (Swapped table) = carried policy table.live table.held
+carried_on policy carried_in (Delete kind pattern) reply = rows_left kind pattern carried_in
 carried_on policy carried_in event reply = carried_in
 
 -- a table has the rows carried in and those of its own journal
@@ -126,7 +128,8 @@ abbrev pub HasRows : Rows → Option Table → Type 0
 HasRows carried_in None = ⊤
 HasRows carried_in (Some table) = table.live ≡ rows_with carried_in table.held
 
--- The rows that each swap answers are those that the swap before left, and those of its own journal.
+-- The rows that each swap answers are those that the swap before left, without those deleted since, and those of its own
+-- journal.
 abbrev pub RowsAreCarried : Policy → Rows → History → Type 0
 RowsAreCarried policy carried_in [] = ⊤
 RowsAreCarried policy carried_in (a ∷ acts) =

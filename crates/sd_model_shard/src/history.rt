@@ -1,13 +1,16 @@
-ghost use Rattle.std.specs.Prelude.{◌≡◌, ℕ, ◌<◌, List, [], ◌∷◌, ◌++◌, filter_map, option_and_then, ◌||◌};
+ghost use Rattle.std.specs.Prelude.{◌≡◌, ℕ, ◌<◌, List, [], ◌∷◌, ◌++◌, filter_map, option_and_then, not, ◌||◌, if◌then◌else◌, None};
 ghost use Rattle.std.specs.FinMap.{contains_key, empty, get};
 ghost use Rattle.std.specs.List.{list_any};
 ghost use Rattle.sd_model_shard.specs.Rows.{RowId, Rows, Entry, row_of, is_same_row};
+ghost use Rattle.sd_model_text.specs.Names.{Kind};
+ghost use Rattle.sd_model_shard.specs.Commands.{is_hit, rows_left};
 ghost use Rattle.sd_model_shard.specs.Shard.{State, empty_state, Limits, Policy, Event, carried, left_of, step};
 ghost use Rattle.sd_model_shard.specs.History.{Act, Asked, History, Legal, StandsAt, act_of, after, after_all, answered, state_after};
 ghost use Rattle.sd_model_shard.specs.Whereabouts.{Accounted, RowsAreCarried, StandsOnce, arrival_in, arrivals, rows_with};
 
-/// Each sample of a legal history is in one place: the journal of one swap, among the entries held, or dropped. The
-/// rows that each swap answers are those carried in and those of its own journal.
+/// Each sample of a legal history is in one place: the journal of one swap, what one deletion took out, among the
+/// entries held, or dropped. The rows that each swap answers are those carried in, without those deleted since, and
+/// those of its own journal.
 pub fn histories_are_accounted()
     ensures places { (limits : Limits) (policy : Policy) (acts : History) → Legal limits policy acts → Accounted limits policy acts }
     ensures once { (limits : Limits) (policy : Policy) (acts : History) → Legal limits policy acts
@@ -34,10 +37,13 @@ pub fn histories_grow()
     ensures answered { (limits : Limits) (policy : Policy) (asked : List Asked) → Legal limits policy (answered limits policy empty_state asked) }
 {}
 
-/// The rows behind samples are those that were there and those of the samples; and what a swap leaves of a row.
+/// The rows behind samples are those that were there and those of the samples; and what a swap and a deletion leave of
+/// a row.
 pub fn rows_are_told()
     ensures rows { (live : Rows) (journal : List Entry) (id : RowId) → contains_key (rows_with live journal) id
         ≡ (contains_key live id || list_any (λ e. is_same_row id (row_of e.sample)) journal) }
     ensures carried { (policy : Policy) (live : Rows) (journal : List Entry) (id : RowId) → get (carried policy live journal) id
         ≡ option_and_then (left_of policy journal id) (get live id) }
+    ensures left { (kind : Kind) (pattern : List ℕ) (live : Rows) (id : RowId) → get (rows_left kind pattern live) id
+        ≡ (if not (is_hit kind pattern id) then get live id else None) }
 {}

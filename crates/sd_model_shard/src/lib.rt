@@ -3,9 +3,11 @@
 //! states a law of the definitions.
 #![tactic(auto)]
 
+mod commands;
 mod history;
 mod values;
 
+pub use commands::answers_have_one_order;
 pub use history::{histories_are_accounted, histories_grow, rows_are_told};
 pub use values::{
     bins_add_up, deviations_are_largest, lists_are_sorted, means_lie_between,

@@ -1,2 +1,4 @@
 mod CarryLemmas
+mod CommandLemmas
+mod DumpLemmas
 mod RoomLemmas

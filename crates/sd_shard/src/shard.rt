@@ -1,13 +1,18 @@
 ghost use Rattle.std.specs.Prelude.{◌≡◌, ℕ, ◌+◌, ◌≤◌, [], length, option_map, IfOk};
-ghost use Rattle.sd_model_shard.specs.Shard.{empty_state, refusal, step, Answered, Submit, Swap, Swapped};
+ghost use Rattle.sd_model_shard.specs.Shard.{empty_state, refusal, step, Answered, Submit, Swap, Swapped, Delete, Dump as DumpOf};
+ghost use Rattle.sd_key.specs.Kind.{kind_of};
 ghost use Rattle.sd_epoch.specs.Limits.{limits_of, AreLimits};
 ghost use Rattle.sd_epoch.specs.Table.{table_of};
 ghost use Rattle.sd_shard.specs.Policy.{policy_of};
-ghost use Rattle.sd_shard.specs.Shard.{state_of, cause_of, placed_of};
+ghost use Rattle.sd_shard.specs.Shard.{state_of, cause_of, placed_of, IsDeletion, IsDump};
 
 use crate::carry::carry;
+use crate::commands::{push_keys, push_rows};
+use crate::dump::Dump;
+use crate::keys::Keys;
 use crate::policy::Policy;
 use sd_epoch::{Limits, Table, Who};
+use sd_key::{Kind, Pattern};
 use sd_line::Sample;
 use std::alloc::{AllocError, Global};
 use std::marker::Model;
@@ -34,6 +39,13 @@ pub enum Placed {
     Taken { number: u64 },
     /// It was dropped. Nothing but the number of drops changed.
     Dropped(Cause),
+}
+
+/// What a deletion took out: so many rows, and so many entries of theirs.
+#[derive(Clone, Copy, Debug, PartialEq, Eq)]
+pub struct Deleted {
+    pub rows: u32,
+    pub samples: u64,
 }
 
 /// The numbers of a shard.
@@ -149,6 +161,43 @@ impl Shard {
         carry(&table, &self.policy, &mut self.table);
         self.flushed += u64::from(table.entries());
         table
+    }
+
+    /// Takes the rows of a kind that a pattern matches out, with all their entries, and appends their keys.
+    pub fn delete(&mut self, kind: Kind, pattern: &Pattern, out: &mut Keys) -> Deleted
+        requires { length out.old.keys + length self.old.table.listed ≤ out.old.room }
+        ensures state { (who : ℕ) → state_of self.new
+            ≡ (step self.old.table.limits self.old.policy (state_of self.old) who (Delete (kind_of kind) pattern.now)).state }
+        ensures answer { (who : ℕ) → IsDeletion (step self.old.table.limits self.old.policy (state_of self.old) who (Delete (kind_of kind) pattern.now)).reply
+            out.old.keys out.new.keys result }
+        ensures room { out.new.room ≡ out.old.room }
+        ensures limits { self.new.table.limits ≡ self.old.table.limits }
+        ensures policy { self.new.policy ≡ self.old.policy }
+    {
+        let rows = push_keys(&self.table, kind, pattern, out);
+        let samples = self.table.forget_rows(kind, pattern);
+        self.deleted += samples;
+        Deleted { rows, samples }
+    }
+
+    /// Appends each row of a kind with what its samples come to.
+    pub fn dump(&self, kind: Kind, out: &mut Dump)
+        requires { length out.old.rows + length self.now.table.listed ≤ out.old.room }
+        ensures state { (who : ℕ) → state_of self.now
+            ≡ (step self.now.table.limits self.now.policy (state_of self.now) who (DumpOf (kind_of kind))).state }
+        ensures answer { (who : ℕ) → IsDump (step self.now.table.limits self.now.policy (state_of self.now) who (DumpOf (kind_of kind))).reply
+            out.old.rows out.new.rows }
+        ensures room { out.new.room ≡ out.old.room }
+    {
+        push_rows(&self.table, kind, out);
+    }
+
+    /// How many rows it has.
+    pub fn rows(&self) -> u32
+        ensures listed { result ≡ length self.now.table.listed }
+        ensures within { result ≤ self.now.table.limits.rows }
+    {
+        self.table.rows()
     }
 
     /// The numbers as they stand.

@@ -1,0 +1,40 @@
+use Rattle.std.proofs.Common.{ℕ, Bool, List, [], ◌∷◌, ◌++◌, length, filter, map, take, sym, ap, ◌∙◌, length-append, arith}
+use Rattle.sd_key.specs.Kind.{kind_of}
+use Rattle.sd_model_shard.specs.Rows.{RowId, Kept}
+use Rattle.sd_model_shard.specs.Commands.{is_hit}
+use Rattle.sd_epoch.specs.Table.{row_view}
+use Rattle.sd_shard.specs.Keys.{KeyList}
+use Rattle.sd_shard.proofs.CommandLemmas.{filter-hit, filter-miss, told-push}
+use Rattle.sd_shard.proofs.commands.push_keys.Goals as goal
+use Rattle.sd_shard.proofs.commands.push_keys.Goals.{then-is_hit, else-is_hit}
+
+pub loop-i-preserved : goal.loop-i-preserved
+loop-i-preserved c =
+    let p : RowId × Kept → Bool = λ row. is_hit (kind_of c.args.kind) c.args.pattern.now row.0 in
+    let key : RowId × Kept → List ℕ = λ row. row.0.key in
+    let listed = c.args.table.now.listed in
+    let i = c.loop-i.i in
+    let row = row_view c.get-row.result.now in
+    let old = c.args.out.now.keys in
+    let inv = c.loop-i.invariant in
+    elim c.if-is_hit.branch [
+      | then-is_hit w ↦
+          let more = filter-hit p listed i row c.get-row.ensures (sym c.is_hit.ensures ∙ w.if-is_hit.true) in
+          record {
+            keys = ap (λ (o : KeyList). o.keys) w.out-is ∙ w.push.ensures.keys ∙ ap (λ (ks : List (List ℕ)). ks ++ key row ∷ []) inv.keys
+                ∙ told-push key old (filter p (take i listed)) row ∙ ap (λ (rows : List (RowId × Kept)). old ++ map key rows) (sym more);
+            count = omega (arith, w.rows-is, inv.count, ap length more, length-append (filter p (take i listed)) (row ∷ []));
+            few = omega (arith, w.rows-is, inv.few);
+            all = inv.all;
+            room = ap (λ (o : KeyList). o.room) w.out-is ∙ w.push.ensures.room ∙ inv.room;
+          }
+      | else-is_hit w ↦
+          let same = filter-miss p listed i row c.get-row.ensures (sym c.is_hit.ensures ∙ w.if-is_hit.false) in
+          record {
+            keys = ap (λ (o : KeyList). o.keys) w.out-is ∙ inv.keys ∙ ap (λ (rows : List (RowId × Kept)). old ++ map key rows) (sym same);
+            count = omega (arith, w.rows-is, inv.count, ap length same);
+            few = omega (arith, w.rows-is, inv.few);
+            all = inv.all;
+            room = ap (λ (o : KeyList). o.room) w.out-is ∙ inv.room;
+          }
+    ]

@@ -1,0 +1,56 @@
+ghost use Rattle.std.specs.Prelude.{◌≡◌, ◌+◌, ◌<◌, ◌≤◌, ◌++◌, filter, length, map, slice_get, IfSome};
+ghost use Rattle.sd_model_shard.specs.Commands.{is_hit, is_of_kind, dump_row};
+ghost use Rattle.sd_key.specs.Kind.{kind_of};
+ghost use Rattle.sd_epoch.specs.Table.{AreApart};
+ghost use Rattle.sd_shard.specs.Dump.{dump_row_of};
+
+use crate::dump::{Dump, DumpRow};
+use crate::keys::Keys;
+use sd_epoch::Table;
+use sd_key::{Kind, Pattern};
+
+/// Appends the keys of the rows of a kind that a pattern matches, and answers how many those are.
+pub(crate) fn push_keys(table: &Table, kind: Kind, pattern: &Pattern, out: &mut Keys) -> u32
+    requires { length out.old.keys + length table.now.listed ≤ out.old.room }
+    ensures keys { out.new.keys ≡ out.old.keys ++ map (λ row. row.0.key) (filter (λ row. is_hit (kind_of kind) pattern.now row.0) table.now.listed) }
+    ensures count { result ≡ length (filter (λ row. is_hit (kind_of kind) pattern.now row.0) table.now.listed) }
+    ensures room { out.new.room ≡ out.old.room }
+    ensures apart { AreApart table.now.listed }
+{
+    let mut rows = 0;
+    for i in 0..table.rows() {
+        let row = table.get(i);
+        if row.is_hit(kind, pattern) {
+            out.push(&row.key);
+            rows += 1;
+        }
+    }
+    rows
+}
+
+/// A table's i-th row as a dump tells it.
+fn dump_row(table: &Table, i: u32) -> DumpRow
+    requires { i < length table.now.listed }
+    ensures { IfSome (slice_get table.now.listed i) (λ row. dump_row_of result ≡ dump_row table.now.held row) }
+{
+    let facts = table.row(i);
+    DumpRow {
+        key: facts.key,
+        samples: facts.samples,
+        amount: table.amount_of(i),
+    }
+}
+
+/// Appends the rows of a kind.
+pub(crate) fn push_rows(table: &Table, kind: Kind, out: &mut Dump)
+    requires { length out.old.rows + length table.now.listed ≤ out.old.room }
+    ensures rows { out.new.rows ≡ out.old.rows ++ map (dump_row table.now.held) (filter (λ row. is_of_kind (kind_of kind) row.0) table.now.listed) }
+    ensures room { out.new.room ≡ out.old.room }
+    ensures apart { AreApart table.now.listed }
+{
+    for i in 0..table.rows() {
+        if table.get(i).is_of_kind(kind) {
+            out.push(dump_row(table, i));
+        }
+    }
+}
