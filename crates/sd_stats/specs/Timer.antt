@@ -20,12 +20,16 @@ pub record IsTimerValue (v : Micro) : Type 0 where
   pub low : pos 0 ≤ℤ v.0
   pub high : v.0 ≤ℤ pos (10 ^ 16)
 
--- There are 1 to 2 ^ 20 values of timers in rising order, a weight that has a rate, and an interval.
+-- values that a timer may have: at most 2 ^ 20
+pub record AreTimerValues (values : List Micro) : Type 0 where
+  pub range : All IsTimerValue values
+  pub many : length values ≤ 2 ^ 20
+
+-- There are values of a timer in rising order, a weight that has a rate, and an interval.
 pub record IsTimer (values : List Micro) (weight : Sum) (interval_ms : ℕ) : Type 0 where
   pub rises : IsSortedByKey (λ v. v.0) int_cmp values
-  pub range : All IsTimerValue values
+  pub within : AreTimerValues values
   pub some : 0 < length values
-  pub many : length values ≤ 2 ^ 20
   pub small : unsigned_abs weight.0 ≤ 10 ^ 34
   pub lasts : 0 < interval_ms
 

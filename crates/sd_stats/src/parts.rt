@@ -1,9 +1,9 @@
-ghost use Rattle.std.specs.Prelude.{◌≡◌, ◌^◌, ◌<◌, ◌≤◌, unsigned_abs, length, All, if◌then◌else◌};
+ghost use Rattle.std.specs.Prelude.{◌≡◌, ◌^◌, ◌<◌, ◌≤◌, unsigned_abs, length, if◌then◌else◌};
 ghost use Rattle.sd_model_shard.specs.Values.{first, last, is_upper, part_count, part_of, part};
-ghost use Rattle.sd_stats.specs.Timer.{numbers, IsTimerValue, part_of as seen_part};
+ghost use Rattle.sd_stats.specs.Timer.{numbers, AreTimerValues, part_of as seen_part};
 
 use crate::figures::PctStats;
-use crate::sums::{mean, sum_squares, total};
+use crate::sums::{as_sum, mean, sum_squares, total};
 use sd_decimal::{Micro, Sum};
 
 // A threshold of 100, and half of it, in millionths.
@@ -26,10 +26,10 @@ pub(crate) fn part_count(threshold: Micro, n: usize) -> usize
 
 /// So many values, from the end that a threshold takes: the least for a threshold above 0, the greatest for one below.
 pub(crate) fn part_of(values: &[Micro], threshold: Micro, count: usize) -> &[Micro]
-    requires range { All IsTimerValue values.now }
+    requires values { AreTimerValues values.now }
     requires count { count ≤ length values.now }
     ensures part { numbers result.now ≡ part_of threshold.0 count (numbers values.now) }
-    ensures range { All IsTimerValue result.now }
+    ensures values { AreTimerValues result.now }
     ensures len { length result.now ≡ count }
 {
     if threshold.0 > 0 {
@@ -53,9 +53,8 @@ fn edge_of(part: &[Micro], threshold: Micro) -> Sum
 
 /// The statistics of a part.
 pub(crate) fn part_stats(values: &[Micro], threshold: Micro) -> PctStats
-    requires range { All IsTimerValue values.now }
+    requires values { AreTimerValues values.now }
     requires some { 0 < length values.now }
-    requires many { length values.now ≤ 2 ^ 20 }
     ensures { seen_part result ≡ part threshold.0 (numbers values.now) }
 {
     PctStats {
@@ -66,11 +65,4 @@ pub(crate) fn part_stats(values: &[Micro], threshold: Micro) -> PctStats
         sum: total(values),
         sum_squares: sum_squares(values),
     }
-}
-
-/// A value as a sum of one.
-pub(crate) fn as_sum(value: Micro) -> Sum
-    ensures { result.0 ≡ value.0 }
-{
-    Sum(i128::from(value.0))
 }

@@ -1,6 +1,6 @@
-ghost use Rattle.std.specs.Prelude.{◌≡◌, ◌+◌, ◌*◌, ◌-◌, ◌/◌, ◌^◌, ◌<◌, ◌≤◌, pos, ◌-ℤ◌, ◌≤ℤ◌, unsigned_abs, length, All, sum_by};
+ghost use Rattle.std.specs.Prelude.{◌≡◌, ◌+◌, ◌*◌, ◌-◌, ◌/◌, ◌^◌, ◌<◌, ◌≤◌, pos, ◌-ℤ◌, ◌≤ℤ◌, unsigned_abs, length, sum_by};
 ghost use Rattle.sd_model_shard.specs.Values.{total, mean, median, square, sum_squares, deviation};
-ghost use Rattle.sd_stats.specs.Timer.{numbers, IsTimerValue};
+ghost use Rattle.sd_stats.specs.Timer.{numbers, IsTimerValue, AreTimerValues};
 
 use sd_decimal::{Micro, Sum, ratio, root};
 
@@ -16,8 +16,7 @@ fn magnitude(values: &[Micro]) -> u128
 
 /// The sum of values.
 pub(crate) fn total(values: &[Micro]) -> Sum
-    requires range { All IsTimerValue values.now }
-    requires many { length values.now ≤ 2 ^ 20 }
+    requires { AreTimerValues values.now }
     ensures value { result.0 ≡ total (numbers values.now) }
     ensures bound { unsigned_abs result.0 ≤ 10 ^ 23 }
 {
@@ -26,12 +25,9 @@ pub(crate) fn total(values: &[Micro]) -> Sum
 
 /// The mean of values.
 pub(crate) fn mean(values: &[Micro]) -> Sum
-    requires range { All IsTimerValue values.now }
+    requires values { AreTimerValues values.now }
     requires some { 0 < length values.now }
-    requires many { length values.now ≤ 2 ^ 20 }
-    ensures value { result.0 ≡ mean (numbers values.now) }
-    ensures low { pos 0 ≤ℤ result.0 }
-    ensures high { result.0 ≤ℤ pos (10 ^ 16) }
+    ensures { result.0 ≡ mean (numbers values.now) }
 {
     ratio(total(values), values.len() as u64)
 }
@@ -49,8 +45,7 @@ fn squared_distance(value: Micro, from: Micro) -> u128
 
 /// The sum of the squares of the distances of values from a number.
 fn squared_distances(values: &[Micro], from: Micro) -> u128
-    requires range { All IsTimerValue values.now }
-    requires many { length values.now ≤ 2 ^ 20 }
+    requires values { AreTimerValues values.now }
     requires from { IsTimerValue from }
     ensures value { result ≡ sum_by (λ v. square (v.0 -ℤ from.0)) values.now }
     ensures bound { result ≤ 2 ^ 20 * 10 ^ 32 }
@@ -64,9 +59,8 @@ fn squared_distances(values: &[Micro], from: Micro) -> u128
 
 /// The sum of the squares of values, rounded once.
 pub(crate) fn sum_squares(values: &[Micro]) -> Sum
-    requires range { All IsTimerValue values.now }
-    requires many { length values.now ≤ 2 ^ 20 }
-    ensures value { result.0 ≡ sum_squares (numbers values.now) }
+    requires { AreTimerValues values.now }
+    ensures { result.0 ≡ sum_squares (numbers values.now) }
 {
     ratio(Sum(squared_distances(values, Micro(0)) as i128), MILLION)
 }
@@ -83,13 +77,10 @@ fn as_value(mean: Sum) -> Micro
 
 /// The standard deviation of values of this mean.
 pub(crate) fn deviation(values: &[Micro], center: Sum) -> Sum
-    requires range { All IsTimerValue values.now }
+    requires values { AreTimerValues values.now }
     requires some { 0 < length values.now }
-    requires many { length values.now ≤ 2 ^ 20 }
     requires mean { center.0 ≡ mean (numbers values.now) }
-    requires low { pos 0 ≤ℤ center.0 }
-    requires high { center.0 ≤ℤ pos (10 ^ 16) }
-    ensures value { result.0 ≡ pos (deviation (numbers values.now)) }
+    ensures { result.0 ≡ pos (deviation (numbers values.now)) }
 {
     let spread = squared_distances(values, as_value(center));
     Sum(i128::from(root(spread / values.len() as u128)))
@@ -97,11 +88,17 @@ pub(crate) fn deviation(values: &[Micro], center: Sum) -> Sum
 
 /// The median of values in order: the mean of the two middle ones, which are one where their number is odd.
 pub(crate) fn median(values: &[Micro]) -> Sum
-    requires range { All IsTimerValue values.now }
+    requires values { AreTimerValues values.now }
     requires some { 0 < length values.now }
-    requires many { length values.now ≤ 2 ^ 20 }
-    ensures value { result.0 ≡ median (numbers values.now) }
+    ensures { result.0 ≡ median (numbers values.now) }
 {
     let middle = [values[(values.len() - 1) / 2], values[values.len() / 2]];
     mean(&middle)
+}
+
+/// A value as a sum of one.
+pub(crate) fn as_sum(value: Micro) -> Sum
+    ensures { result.0 ≡ value.0 }
+{
+    Sum(i128::from(value.0))
 }

@@ -2,8 +2,8 @@ ghost use Rattle.sd_stats.specs.Timer.{IsTimer};
 
 use crate::bins::count_below;
 use crate::figures::{PctStats, Whole};
-use crate::parts::{as_sum, part_count, part_of, part_stats};
-use crate::sums::{deviation, mean, median, sum_squares, total};
+use crate::parts::{part_count, part_of, part_stats};
+use crate::sums::{as_sum, deviation, mean, median, sum_squares, total};
 use sd_decimal::{Limit, Micro, Sum, per_second};
 
 /// A timer: its values from the least to the greatest, what its samples weigh together, and the flush interval in milliseconds.
@@ -16,7 +16,7 @@ pub struct TimerStats<'a> {
 }
 
 impl<'a> TimerStats<'a> {
-    ghost use Rattle.std.specs.Prelude.{◌≡◌, ◌≢◌, ◌^◌, ◌<◌, ◌≤◌, pos, unsigned_abs, length, All, option_map};
+    ghost use Rattle.std.specs.Prelude.{◌≡◌, ◌≢◌, ◌^◌, ◌<◌, ◌≤◌, unsigned_abs, length, All, option_map};
     ghost use Rattle.sd_model_text.specs.Numbers.{Below as AtLeast};
     ghost use Rattle.sd_model_shard.specs.Values.{timer_of, whole, pct, bin};
     ghost use Rattle.sd_stats.specs.Timer.{numbers, IsTimerValue, whole_of, part_of, limit_of};

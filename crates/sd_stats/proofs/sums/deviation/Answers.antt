@@ -1,9 +1,14 @@
-use Rattle.std.proofs.Common.{◌≡◌, arith, ◌∙◌}
+use Rattle.std.proofs.Common.{◌≡◌, ◌∙◌, arith}
 use Rattle.std.proofs.lemmas.Int.{ints}
 use Rattle.sd_model_shard.specs.Values.{deviation}
 use Rattle.sd_stats.specs.Timer.{numbers}
-use Rattle.sd_stats.proofs.NumberLemmas.{deviation_of}
+use Rattle.sd_stats.proofs.NumberLemmas.{deviation_of, mean_within}
 use Rattle.sd_stats.proofs.sums.deviation.Goals as goal
+
+pub as_value-requires : goal.as_value-requires
+as_value-requires c =
+    let within = mean_within c.args.values.now c.args.center.0 c.requires.some c.requires.values.range c.requires.mean in
+    record { low = within.0; high = within.1 }
 
 pub returns : goal.returns
 returns c =

@@ -1,14 +1,11 @@
-use Rattle.std.proofs.Common.{◌≡◌, length, ap, sym, ◌∙◌}
+use Rattle.std.proofs.Common.{length, ap, sym, ◌∙◌}
 use Rattle.sd_model_text.specs.Numbers.{round}
-use Rattle.sd_model_shard.specs.Values.{mean, total}
+use Rattle.sd_model_shard.specs.Values.{total}
 use Rattle.sd_stats.specs.Timer.{numbers}
-use Rattle.sd_stats.proofs.NumberLemmas.{mean_within, length_numbers}
+use Rattle.sd_stats.proofs.NumberLemmas.{length_numbers}
 use Rattle.sd_stats.proofs.sums.mean.Goals as goal
 
 pub returns : goal.returns
 returns c =
     let xs = c.args.values.now in
-    let is : c.ratio.result.0 ≡ mean (numbers xs) =
-    c.ratio.ensures.value ∙ ap (λ t. round t (length xs)) c.total.ensures.value ∙ ap (λ n. round (total (numbers xs)) n) (sym (length_numbers xs)) in
-    let within = mean_within xs c.ratio.result.0 c.requires.some c.requires.range is in
-    record { value = is; low = within.0; high = within.1 }
+    c.ratio.ensures.value ∙ ap (λ t. round t (length xs)) c.total.ensures.value ∙ ap (λ n. round (total (numbers xs)) n) (sym (length_numbers xs))

@@ -4,4 +4,4 @@ use Rattle.sd_stats.proofs.NumberLemmas.{median_of}
 use Rattle.sd_stats.proofs.sums.median.Goals as goal
 
 pub returns : goal.returns
-returns c = let zero : Micro = record { 0 = pos 0 } in record { value = c.mean.ensures.value ∙ median_of c.args.values.now zero c.requires.some }
+returns c = let zero : Micro = record { 0 = pos 0 } in c.mean.ensures ∙ median_of c.args.values.now zero c.requires.some
