@@ -17,7 +17,7 @@ pub struct TimerStats<'a> {
 
 impl<'a> TimerStats<'a> {
     ghost use Rattle.std.specs.Prelude.{◌≡◌, ◌≢◌, ◌^◌, ◌<◌, ◌≤◌, unsigned_abs, length, All, option_map};
-    ghost use Rattle.sd_model_text.specs.Numbers.{Below as AtLeast};
+    ghost use Rattle.sd_model_text.specs.Numbers.{Below};
     ghost use Rattle.sd_model_shard.specs.Values.{timer_of, whole, pct, bin};
     ghost use Rattle.sd_stats.specs.Timer.{numbers, IsTimerValue, whole_of, part_of, limit_of};
     ghost use Rattle.sd_stats.specs.Seen.{timer_seen, lender};
@@ -30,6 +30,8 @@ impl<'a> TimerStats<'a> {
         requires weight { unsigned_abs weight.0 ≤ 10 ^ 34 }
         requires interval { 0 < interval_ms }
         ensures timer { timer_seen result ≡ timer_of (numbers values.old) weight.0 interval_ms }
+
+        // The slice that was given is kept, and so ends as these values in order.
         ensures slice { lender result ≡ values.entry.ghost_name }
     {
         values.sort_unstable();
@@ -74,7 +76,7 @@ impl<'a> TimerStats<'a> {
 
     /// How many values are below a limit and not below `from`.
     pub fn bin(&self, from: Micro, below: Limit) -> u64
-        ensures { result ≡ bin (AtLeast from.0) (limit_of below) (timer_seen self.now).values }
+        ensures { result ≡ bin (Below from.0) (limit_of below) (timer_seen self.now).values }
     {
         let before = count_below(self.values, Limit::Below(from));
         count_below(self.values, below).saturating_sub(before) as u64
