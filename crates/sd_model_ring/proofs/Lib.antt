@@ -1,0 +1,3 @@
+pub mod Least
+pub mod Owners
+pub mod Points

@@ -1,0 +1,21 @@
+ghost use Rattle.std.specs.Prelude.{◌≡◌, ◌↔◌, ℕ, ◌<◌, List, length, Some, None, codes, true, false};
+ghost use Rattle.sd_model_settings.specs.Entries.{Node};
+ghost use Rattle.sd_model_ring.specs.Ring.{is_up, number_of_key, owner};
+
+/// The owner is one of the nodes, and it is up. There is none exactly where no node is up.
+pub fn owners_are_up()
+    ensures node { (key : List ℕ) (nodes : List Node) (up node : ℕ) → owner key nodes up ≡ Some node → node < length nodes }
+    ensures up { (key : List ℕ) (nodes : List Node) (up node : ℕ) → owner key nodes up ≡ Some node → is_up up node ≡ true }
+    ensures none { (key : List ℕ) (nodes : List Node) (up : ℕ) → (owner key nodes up ≡ None) ↔ ((node : ℕ) → node < length nodes → is_up up node ≡ false) }
+{}
+
+/// A node keeps its keys while it is up, when others go down.
+pub fn keys_stay()
+    ensures { (key : List ℕ) (nodes : List Node) (up fewer node : ℕ) → ((other : ℕ) → is_up fewer other ≡ true → is_up up other ≡ true)
+        → owner key nodes up ≡ Some node → is_up fewer node ≡ true → owner key nodes fewer ≡ Some node }
+{}
+
+/// The number of the text `abc`, whose digest stands in RFC 1321.
+pub fn number_of_abc()
+    ensures { number_of_key (codes "abc") ≡ 2555380112 }
+{}

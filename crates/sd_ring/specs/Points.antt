@@ -1,0 +1,18 @@
+-- Points in order.
+use Rattle.std.specs.Prelude.{◌≡◌, ℕ, true, List, [], ◌∷◌, map, Option, option_map}
+use Rattle.std.specs.List.{All, find}
+use Rattle.md5.specs.Md5.{word_at}
+use Rattle.sd_model_ring.specs.Ring.{Point, comes_first, is_up}
+
+-- each point comes before those behind it, or is equal to them
+abbrev pub Ascends : List Point → Type 0
+Ascends [] = Unit {0}
+Ascends (p ∷ ps) = All (λ q. comes_first p q ≡ true) ps × Ascends ps
+
+-- the node of the first point that is up
+abbrev pub first_up : ℕ → List Point → Option ℕ
+first_up up ps = option_map (λ p. p.node) (find (λ p. is_up up p.node) ps)
+
+-- the four words of a digest
+abbrev pub words_of : List ℕ → List ℕ
+words_of digest = map (word_at digest) (0 ∷ 4 ∷ 8 ∷ 12 ∷ [])

@@ -1,0 +1,13 @@
+//! The ring: each key belongs to one of the nodes that are up, and a node that goes down or comes back moves no key
+//! but its own.
+//!
+//! A node stands on the ring at 160 points, made of digests, and a key belongs to the node of the next point. The
+//! points are taken by `Ring::open`; keys that were asked for are remembered, as many as the cache holds.
+#![tactic(auto)]
+
+mod homes;
+mod point;
+mod points;
+mod ring;
+
+pub use ring::Ring;

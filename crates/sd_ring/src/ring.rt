@@ -1,0 +1,124 @@
+ghost use Rattle.std.specs.Prelude.{◌≡◌, ◌↔◌, ℕ, ◌<◌, ◌≤◌, length, map, IsNone, IfOk, IfSome, true, false};
+ghost use Rattle.sd_model_ring.specs.Ring.{owner, is_up};
+ghost use Rattle.sd_config.specs.Entries.{node_view};
+ghost use Rattle.sd_ring.specs.RingInside.{all_up};
+
+use crate::homes::{recall, remember};
+use crate::point::{Point, is_up, number_of_key};
+use crate::points::{next_node, points_of_nodes};
+use lru::LruCache;
+use sd_config::Node;
+use sd_key::Key;
+use std::alloc::{AllocError, Global};
+use std::marker::Model;
+use std::num::NonZeroUsize;
+
+/// A ring of nodes, which says to which of them a key belongs.
+///
+/// Contracts see the list of its nodes.
+#[derive(Debug, Drop)]
+pub struct Ring {
+    nodes: Vec<Node>,
+    points: Vec<Point>,
+    homes: LruCache<Key, u8>,
+}
+
+impl Model for Ring {
+    ghost use Rattle.std.specs.Prelude.{List};
+    ghost use Rattle.sd_model_settings.specs.Entries.{Node as ModelNode};
+
+    ghost Value = { List ModelNode };
+
+    ghost use Rattle.sd_ring.specs.RingInside.{nodes_in, IsRing};
+
+    ghost view = { nodes_in };
+
+    ghost invariant = { IsRing };
+}
+
+impl Ring {
+    /// The ring of at most 64 nodes, which remembers the homes of so many keys. The error is want of memory.
+    ///
+    /// It takes about 2 kilobytes a node, and room for the cache's table; the cache takes memory for each key when it is first asked for.
+    pub fn open(alloc: Global, nodes: &[Node], cache: u32) -> Result<Ring, AllocError>
+        requires nodes { length nodes.now ≤ 64 }
+        requires cache { 0 < cache }
+        ensures { IfOk result (λ ring. ring ≡ map node_view nodes.now) }
+    {
+        let mut points = points_of_nodes(alloc, nodes)?;
+        points.sort_unstable();
+        Ok(Ring {
+            nodes: copies_of(alloc, nodes)?,
+            points,
+            homes: LruCache::new(alloc, NonZeroUsize::new(cache as usize).unwrap())?,
+        })
+    }
+
+    /// The nodes, in their places.
+    pub fn nodes(&self) -> &[Node]
+        ensures { map node_view result.now ≡ self.now }
+    {
+        &self.nodes
+    }
+
+    /// The place of the node to which a key belongs, or none where no node is up. Bit i of `up` says that the node in place i is up, and
+    /// bits past the last node have no effect.
+    ///
+    /// No memory is missed: a key that the cache has no memory for isn't remembered.
+    pub fn owner(&mut self, key: &Key, up: u64) -> Option<u8>
+        ensures owner { result ≡ owner key.now self.old up }
+        ensures ring { self.new ≡ self.old }
+        ensures none { IsNone result ↔ ((i : ℕ) → i < length self.old → is_up up i ≡ false) }
+        ensures up { IfSome result (λ i. is_up up i ≡ true) }
+        ensures node { IfSome result (λ i. i < length self.old) }
+    {
+        let home = self.home(key)?;
+        if is_up(up, home) {
+            Some(home)
+        } else {
+            self.find_owner(key, up)
+        }
+    }
+
+    /// The owner of a key where all nodes are up.
+    fn home(&mut self, key: &Key) -> Option<u8>
+        ensures home { result ≡ owner key.now self.old all_up }
+        ensures ring { self.new ≡ self.old }
+    {
+        if let Some(home) = recall(&mut self.homes, key) {
+            return Some(home);
+        }
+        let home = self.find_owner(key, u64::MAX)?;
+        remember(&mut self.homes, key, home);
+        Some(home)
+    }
+
+    /// The owner of a key, found among the points.
+    fn find_owner(&self, key: &Key, up: u64) -> Option<u8>
+        ensures { result ≡ owner key.now self.now up }
+    {
+        next_node(&self.points, number_of_key(key), up)
+    }
+}
+
+/// The same nodes, in memory of their own.
+fn copies_of(alloc: Global, nodes: &[Node]) -> Result<Vec<Node>, AllocError>
+    ensures { IfOk result (λ copies. copies.items ≡ nodes.now) }
+{
+    let mut copies = Vec::with_capacity(alloc, nodes.len())?;
+    for node in nodes {
+        copies.push(copy_of(node))?;
+    }
+    Ok(copies)
+}
+
+/// The same node, for which no memory is taken.
+fn copy_of(node: &Node) -> Node
+    ensures { result ≡ node.now }
+{
+    Node {
+        host: node.host.clone().unwrap(),
+        port: node.port,
+        adminport: node.adminport,
+    }
+}
