@@ -34,6 +34,10 @@ comes-both p q h k =
     let n : p.node ≡ q.node = grind arith in
     same_parts p q a n
 
+-- a point that comes first isn't greater
+pub not_greater : (p q : Point) → comes_first p q ≡ true → p.at ≤ q.at
+not_greater p q h = elim (precedes p q h) [ inl lt ↦ omega arith | inr same ↦ omega (arith, same.0) ]
+
 -- the point is among these, and comes first of them all
 abbrev pub IsLeast : List Point → Point → Type 0
 IsLeast ps p = Contains ps p × All (λ q. comes_first p q ≡ true) ps

@@ -1,3 +1,4 @@
 pub mod Least
 pub mod Owners
+pub mod Places
 pub mod Points

@@ -6,7 +6,7 @@ use Rattle.std.specs.Option.{option_or}
 use Rattle.std.proofs.lemmas.Bool.{cases_Bool}
 use Rattle.std.proofs.lemmas.List.Elements.{All-nil, All-map, All-append, All-head, All-tail, All-weaker, All-contains, All-contains_itself, All-filter, filter_passes, Contains-append_left, Contains-append_right}
 use Rattle.sd_model_settings.specs.Entries.{Node}
-use Rattle.sd_model_ring.specs.Ring.{Point, least, points_not_below, next_point, points_up, numbers_of_texts, points_at, points_of, points_from, points, is_up, owner, number_of_key}
+use Rattle.sd_model_ring.specs.Ring.{Point, least, points_not_below, next_point, points_up, numbers_of_texts, numbers_of_node, points_at, points_of, points_from, points, is_up, owner, number_of_key}
 use Rattle.sd_model_ring.proofs.Least.{Among, none-among, Contains-head, Contains-none, least-among, no_least-among, least-same, is-least, none-least}
 
 keeps : {X : Type 0} (t : X → Bool) (y : X) (ys : List X) (x : X) (b : Bool) → Contains (filter t ys) x → Contains (cond b (y ∷ filter t ys) (filter t ys)) x
@@ -105,7 +105,7 @@ owner-stays key nodes up fewer node more e is =
 pub no_owner : (key : List ℕ) (nodes : List Node) (up fewer : ℕ) → ((other : ℕ) → is_up fewer other ≡ true → is_up up other ≡ true)
     → owner key nodes up ≡ None → owner key nodes fewer ≡ None
 no_owner key nodes up fewer more e =
-    let empty = none-next _ _ (no_point (next_point (number_of_key key) (points_up up (points nodes))) e) in
+    let empty : points_up up (points nodes) ≡ [] = none-next _ _ (no_point (next_point (number_of_key key) (points_up up (points nodes))) e) in
     let rest : points_up fewer (points nodes) ≡ [] = none-among _ _ (among-up up fewer (points nodes) more) empty in
     ap (λ ps. node_of (next_point (number_of_key key) ps)) rest
 
@@ -119,8 +119,7 @@ all_in_place : (place : ℕ) (numbers : List ℕ) → All (λ p. p.node ≡ plac
 all_in_place place numbers = All-map (λ p. p.node ≡ place) (λ at. record { at = at; node = place }) numbers (λ k d lt. refl)
 
 in_place : (place : ℕ) (node : Node) → All (λ p. p.node ≡ place) (points_of place node)
-unfolding points_of
-in_place place node = all_in_place place (numbers_of_texts node 40)
+in_place place node = all_in_place place (numbers_of_node node)
 
 first_in_place : (place : ℕ) (numbers : List ℕ) → 0 < length numbers → (p : Point) × (p.node ≡ place) × Contains (points_at place numbers) p
 first_in_place place [] lt = absurd (let never : ⊥ = omega arith in never)
@@ -130,7 +129,7 @@ some_numbers : (node : Node) (texts : ℕ) → 0 < length (numbers_of_texts node
 some_numbers node texts = omega arith
 
 has_point : (place : ℕ) (node : Node) → (p : Point) × (p.node ≡ place) × Contains (points_of place node) p
-unfolding points_of
+unfolding numbers_of_node
 has_point place node = first_in_place place (numbers_of_texts node 40) (some_numbers node 39)
 
 places_below : (place : ℕ) (nodes : List Node) → All (λ p. p.node < place + length nodes) (points_from place nodes)
@@ -160,7 +159,7 @@ pub owner-none : (key : List ℕ) (nodes : List Node) (up : ℕ) → owner key n
 owner-none key nodes up e node lt = elim (cases_Bool (is_up up node)) [
   | inl is ↦
       let (p, at, c) = has_points 0 nodes node lt in
-      let empty = none-next _ _ (no_point (next_point (number_of_key key) (points_up up (points nodes))) e) in
+      let empty : points_up up (points nodes) ≡ [] = none-next _ _ (no_point (next_point (number_of_key key) (points_up up (points nodes))) e) in
       let same : p.node ≡ node = omega arith in
       let there = Contains-filter (λ p. is_up up p.node) (points nodes) p c (ap (is_up up) same ∙ is) in
       absurd (Contains-none p (subst (λ ps. Contains ps p) empty there))

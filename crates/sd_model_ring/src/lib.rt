@@ -4,4 +4,4 @@
 
 mod ring;
 
-pub use ring::{keys_stay, number_of_abc, owners_are_up};
+pub use ring::{key_vectors, keys_stay, order_is_free, owners_are_up};

@@ -1,6 +1,6 @@
 ghost use Rattle.std.specs.Prelude.{◌≡◌, ◌↔◌, ℕ, ◌<◌, List, length, Some, None, codes, true, false};
 ghost use Rattle.sd_model_settings.specs.Entries.{Node};
-ghost use Rattle.sd_model_ring.specs.Ring.{is_up, number_of_key, owner};
+ghost use Rattle.sd_model_ring.specs.Ring.{is_up, number_of_key, owner, owning_node, IsUpAmong, ShareANumber};
 
 /// The owner is one of the nodes, and it is up. There is none exactly where no node is up.
 pub fn owners_are_up()
@@ -15,7 +15,16 @@ pub fn keys_stay()
         → owner key nodes up ≡ Some node → is_up fewer node ≡ true → owner key nodes fewer ≡ Some node }
 {}
 
-/// The number of the text `abc`, whose digest stands in RFC 1321.
-pub fn number_of_abc()
-    ensures { number_of_key (codes "abc") ≡ 2555380112 }
+/// Which node owns a key doesn't depend on where the nodes stand, if no two that are up have a number in common.
+pub fn order_is_free()
+    ensures { (key : List ℕ) (nodes others : List Node) (up also : ℕ)
+        → ((node : Node) → IsUpAmong nodes up node ↔ IsUpAmong others also node)
+        → ((a b : Node) → IsUpAmong nodes up a → IsUpAmong nodes up b → ShareANumber a b → a ≡ b)
+        → owning_node key nodes up ≡ owning_node key others also }
+{}
+
+/// The numbers of two keys, which are the first words of their digests in RFC 1321.
+pub fn key_vectors()
+    ensures one { number_of_key (codes "a") ≡ 3111502092 }
+    ensures three { number_of_key (codes "abc") ≡ 2555380112 }
 {}

@@ -9,7 +9,7 @@ use Rattle.std.proofs.lemmas.Bool.{cases_Bool}
 use Rattle.std.proofs.lemmas.List.Elements.{All-nil, All-cons, All-head, All-tail, All-filter, All-take, All-weaker, filter-append}
 use Rattle.std.proofs.lemmas.List.{get_or-take, get_or-drop, take-append-drop, append-nil, length-take, length-drop}
 use Rattle.sd_model_ring.specs.Ring.{Point, comes_first, least, points_up, next_point, is_up}
-use Rattle.sd_model_ring.proofs.Least.{Contains-head, comes-itself, comes-through, least-is, precedes}
+use Rattle.sd_model_ring.proofs.Least.{Contains-head, comes-itself, comes-through, least-is, not_greater}
 use Rattle.sd_ring.specs.Points.{Ascends, first_up}
 
 -- the least of those that pass is the first that passes
@@ -35,14 +35,11 @@ Ascends-drop zero ps up = up
 Ascends-drop (suc n) [] up = up
 Ascends-drop (suc n) (p ∷ ps) up = Ascends-drop n ps up.1
 
-not_less : (p q : Point) → comes_first p q ≡ true → p.at ≤ q.at
-not_less p q h = elim (precedes p q h) [ inl lt ↦ omega arith | inr same ↦ omega (arith, same.0) ]
-
 -- their numbers ascend
 pub Ascends-numbers : (ps : List Point) → Ascends ps → IsNonDecreasingBy (λ p. p.at) ps
 Ascends-numbers [] up i j d le lt = absurd (let never : ⊥ = omega arith in never)
 Ascends-numbers (p ∷ ps) up zero zero d le lt = omega arith
-Ascends-numbers (p ∷ ps) up zero (suc j) d le lt = not_less p (get_or ps j d) (up.0 j d (omega arith))
+Ascends-numbers (p ∷ ps) up zero (suc j) d le lt = not_greater p (get_or ps j d) (up.0 j d (omega arith))
 Ascends-numbers (p ∷ ps) up (suc i) zero d le lt = absurd (let never : ⊥ = omega arith in never)
 Ascends-numbers (p ∷ ps) up (suc i) (suc j) d le lt = Ascends-numbers ps up.1 i j d (omega arith) (omega arith)
 
