@@ -177,3 +177,15 @@ none-owner key nodes up down =
     none_kept (λ p. is_up up p.node) (points nodes) (All-weaker (λ p. p.node < 0 + length nodes) (λ p. is_up up p.node ≡ false)
     (λ p below. let lt : p.node < length nodes = omega arith in down p.node lt) (points nodes) (places_below 0 nodes))
     in ap (λ ps. node_of (next_point (number_of_key key) ps)) empty
+
+kept_same : {X : Type 0} (t s : X → Bool) (xs : List X) → All (λ x. t x ≡ s x) xs → filter t xs ≡ filter s xs
+kept_same t s [] all = refl
+kept_same t s (x ∷ xs) all =
+    (λ i. cond (All-head (λ x. t x ≡ s x) x xs all i) (x ∷ kept_same t s xs (All-tail (λ x. t x ≡ s x) x xs all) i) (kept_same t s xs (All-tail (λ x. t x ≡ s x) x xs all) i))
+
+pub same-bits : (key : List ℕ) (nodes : List Node) (up also : ℕ) → ((node : ℕ) → node < length nodes → is_up up node ≡ is_up also node) → owner key nodes up ≡ owner key nodes also
+same-bits key nodes up also same =
+    let agree : All (λ p. is_up up p.node ≡ is_up also p.node) (points nodes) =
+    All-weaker (λ p. p.node < 0 + length nodes) (λ p. is_up up p.node ≡ is_up also p.node)
+    (λ p below. let lt : p.node < length nodes = omega arith in same p.node lt) (points nodes) (places_below 0 nodes)
+    in ap (λ ps. node_of (next_point (number_of_key key) ps)) (kept_same (λ p. is_up up p.node) (λ p. is_up also p.node) (points nodes) agree)

@@ -9,6 +9,12 @@ pub fn owners_are_up()
     ensures none { (key : List ℕ) (nodes : List Node) (up : ℕ) → (owner key nodes up ≡ None) ↔ ((node : ℕ) → node < length nodes → is_up up node ≡ false) }
 {}
 
+/// The bits of the nodes decide, and no others.
+pub fn other_bits_are_free()
+    ensures { (key : List ℕ) (nodes : List Node) (up also : ℕ) → ((node : ℕ) → node < length nodes → is_up up node ≡ is_up also node)
+        → owner key nodes up ≡ owner key nodes also }
+{}
+
 /// A node keeps its keys while it is up, when others go down.
 pub fn keys_stay()
     ensures { (key : List ℕ) (nodes : List Node) (up fewer node : ℕ) → ((other : ℕ) → is_up fewer other ≡ true → is_up up other ≡ true)

@@ -13,8 +13,8 @@ pub(crate) fn recall(homes: &mut LruCache<Key, u8>, key: &Key) -> Option<u8>
     homes.get(key).copied()
 }
 
-/// Remembers the home of a key, in place of the key that wasn't asked for longest where the cache is full. Where there is no memory for
-/// it, nothing changes.
+/// Remembers the home of a key, where the cache is full in place of the key that wasn't asked for longest. Where there is
+/// no memory for it, nothing changes.
 pub(crate) fn remember(homes: &mut LruCache<Key, u8>, key: &Key, home: u8)
     ensures { (other : List ℕ) (at : ℕ) → Remembers homes.new other at → Remembers homes.old other at ⊎ ((other ≡ key.now) × (at ≡ home)) }
 {

@@ -39,7 +39,8 @@ impl Model for Ring {
 impl Ring {
     /// The ring of at most 64 nodes, which remembers the homes of so many keys. The error is want of memory.
     ///
-    /// It takes about 2 kilobytes a node, and room for the cache's table; the cache takes memory for each key when it is first asked for.
+    /// It takes about 1.6 kilobytes a node, and the cache's table. The cache takes more, about 300 bytes, for each key
+    /// that it comes to hold.
     pub fn open(alloc: Global, nodes: &[Node], cache: u32) -> Result<Ring, AllocError>
         requires nodes { length nodes.now ≤ 64 }
         requires cache { 0 < cache }
@@ -61,10 +62,10 @@ impl Ring {
         &self.nodes
     }
 
-    /// The place of the node to which a key belongs, or none where no node is up. Bit i of `up` says that the node in place i is up, and
-    /// bits past the last node have no effect.
+    /// The place of the node to which a key belongs, or none where no node is up. Bit i of `up` says that the node in
+    /// place i is up, and bits past the last node have no effect.
     ///
-    /// No memory is missed: a key that the cache has no memory for isn't remembered.
+    /// A key for which the cache has no memory isn't remembered, and is answered all the same.
     pub fn owner(&mut self, key: &Key, up: u64) -> Option<u8>
         ensures owner { result ≡ owner key.now self.old up }
         ensures ring { self.new ≡ self.old }
