@@ -2,7 +2,9 @@ ghost use Rattle.std.specs.Prelude.{◌≡◌, ◌≤◌, [], length, map, vec_l
 ghost use Rattle.std.specs.Borrow.{sem};
 ghost use Rattle.sd_model_shard.specs.Statistics.{values_of, members_of};
 ghost use Rattle.sd_epoch.specs.Limits.{limits_of, AreLimits};
-ghost use Rattle.sd_epoch.specs.Scratch.{micros, texts};
+ghost use Rattle.sd_key.specs.Kind.{kind_of};
+ghost use Rattle.sd_model_text.specs.Names.{Timer};
+ghost use Rattle.sd_epoch.specs.Scratch.{micros, texts, AreTimerValues};
 ghost use Rattle.sd_epoch.specs.Table.{entry_view, id_of};
 
 use crate::entry::{Entry, is_of};
@@ -70,6 +72,8 @@ impl Scratch {
     pub(crate) fn put_values(&mut self, entries: &[Entry], kind: Kind, key: &Key)
         requires { length entries.now ≤ self.old.room }
         ensures values { micros self.new.values ≡ values_of (id_of kind key.now) (map entry_view entries.now) }
+        ensures range { kind_of kind ≡ Timer → AreTimerValues self.new.values }
+        ensures few { length self.new.values ≤ length entries.now }
         ensures members { self.new.members ≡ self.old.members }
         ensures room { self.new.room ≡ self.old.room }
     {
@@ -94,6 +98,7 @@ fn push_values(entries: &[Entry], kind: Kind, key: &Key, out: &mut Vec<Micro>)
     requires empty { vec_len out.old ≡ 0 }
     requires room { length entries.now ≤ vec_capacity out.old }
     ensures values { micros out.new.items ≡ values_of (id_of kind key.now) (map entry_view entries.now) }
+    ensures range { kind_of kind ≡ Timer → AreTimerValues out.new.items }
     ensures few { vec_len out.new ≤ length entries.now }
     ensures capacity { vec_capacity out.new ≡ vec_capacity out.old }
 {
