@@ -1,12 +1,11 @@
 -- Rows by their places in tables.
-use Rattle.std.specs.Prelude.{◌≡◌, ◌<◌, ◌≤◌, ℕ, pos, List, [], map, length, All, Option, Some, slice_get, option_map, option_and_then, unwrap_or}
-use Rattle.std.specs.List.Sorted.{IsPermutation, IsSortedByKey}
+use Rattle.std.specs.Prelude.{◌≡◌, ◌≤◌, pos, List, [], map, length, All, Option, Some, slice_get, option_map, option_and_then, unwrap_or}
 use Rattle.sd_model_text.specs.Names.{Counter}
 use Rattle.sd_model_settings.specs.Defaults.{Plan}
 use Rattle.sd_model_record.specs.Record as model
-use Rattle.sd_model_shard.specs.Rows.{RowId, row_cmp}
+use Rattle.sd_model_shard.specs.Rows.{RowId}
 use Rattle.sd_epoch.specs.Table.{Listing, id_of, table_of}
-use Rattle.sd_record.specs.Rows.{Room, TableRow, rows_in, all_rows, with_id, value_of}
+use Rattle.sd_record.specs.Rows.{Room, TableRow, rows_in, value_of}
 use Rattle.sd_record.specs.declared.placed.Place.{Place}
 use Rattle.sd_record.specs.declared.placed.PlacedRow.{PlacedRow}
 

@@ -1,8 +1,7 @@
 -- A record of the code, as the definitions have it.
-use Rattle.std.specs.Prelude.{◌≡◌, ℕ, ◌*◌, map}
+use Rattle.std.specs.Prelude.{◌≡◌, map}
 use Rattle.std.specs.Borrow.{MutBor}
 use Rattle.sd_model_record.specs.Record as model
-use Rattle.sd_model_shard.specs.Shard.{Limits}
 use Rattle.sd_config.specs.Plan.{plan_view}
 use Rattle.sd_epoch.specs.Table.{table_of}
 use Rattle.sd_record.specs.Rows.{Room}

@@ -1,9 +1,10 @@
 -- The rows of several tables, and when these make a record.
-use Rattle.std.specs.Prelude.{◌≡◌, ℕ, false, List, [], ◌∷◌, map, flat_map, All, ⊤, Option, Some}
+use Rattle.std.specs.Prelude.{◌≡◌, ℕ, true, false, List, [], ◌∷◌, map, flat_map, All, ⊤, Option, Some}
+use Rattle.std.specs.FinMap.{contains_key}
 use Rattle.sd_model_settings.specs.Defaults.{Plan}
 use Rattle.sd_model_record.specs.Record as model
 use Rattle.sd_model_shard.specs.Rows.{RowId, Kept, Entry}
-use Rattle.sd_epoch.specs.Table.{Listing, listed_with}
+use Rattle.sd_epoch.specs.Table.{Listing, live_of}
 
 -- for how many rows of all tables there is room, and for how many entries of each table
 pub record Room : Type 0 where
@@ -12,7 +13,7 @@ pub record Room : Type 0 where
 
 -- no row of a table stands in the other
 abbrev pub ShareNone : Listing → Listing → Type 0
-ShareNone a b = All (λ row. listed_with row.0 b.listed ≡ false) a.listed
+ShareNone a b = (id : RowId) → contains_key (live_of a) id ≡ true → contains_key (live_of b) id ≡ false
 
 -- no row stands in two tables
 abbrev pub AreDisjoint : List Listing → Type 0

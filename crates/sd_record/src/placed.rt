@@ -1,5 +1,5 @@
-ghost use Rattle.std.specs.Prelude.{◌≡◌, ◌+◌, ◌<◌, ◌≤◌, ◌++◌, length, map, vec_len, vec_capacity, slice_get, Some, IfSome, sum_by, All};
-ghost use Rattle.sd_epoch.specs.Table.{AreApart};
+ghost use Rattle.std.specs.Prelude.{◌≡◌, ◌+◌, ◌<◌, ◌≤◌, ◌++◌, length, map, vec_len, vec_capacity, slice_get, List, Some, sum_by, All};
+ghost use Rattle.sd_epoch.specs.Table.{Listing, AreApart};
 ghost use Rattle.sd_record.specs.Rows.{rows_in, all_rows, with_id};
 ghost use Rattle.sd_record.specs.Placed.{seen_in};
 
@@ -21,13 +21,13 @@ pub(crate) struct PlacedRow {
     pub place: Place,
 }
 
-/// The row at a place.
-fn placed_row(tables: &[Table], place: Place) -> PlacedRow
-    requires table { place.table < length tables.now }
-    requires row { IfSome (slice_get tables.now place.table) (λ t. place.row < length t.listed) }
-    ensures { IfSome (slice_get tables.now place.table) (λ t. slice_get (map with_id (rows_in t)) place.row ≡ Some (seen_in tables.now result)) }
+/// The row of a table at its place among tables.
+fn placed_row(table: &Table, place: Place) -> PlacedRow
+    requires { place.row < length table.now.listed }
+    ensures { (tables : List Listing) → slice_get tables place.table ≡ Some table.now
+        → slice_get (map with_id (rows_in table.now)) place.row ≡ Some (seen_in tables result) }
 {
-    let row = tables[place.table].get(place.row);
+    let row = table.get(place.row);
     PlacedRow {
         kind: row.kind,
         key: row.key.clone().unwrap(),
@@ -35,17 +35,16 @@ fn placed_row(tables: &[Table], place: Place) -> PlacedRow
     }
 }
 
-/// Appends the rows of one of the tables.
-fn place_rows(tables: &[Table], table: usize, rows: &mut Vec<PlacedRow>)
-    requires table { table < length tables.now }
-    requires room { IfSome (slice_get tables.now table) (λ t. vec_len rows.old + length t.listed ≤ vec_capacity rows.old) }
-    ensures rows { IfSome (slice_get tables.now table) (λ t. map (seen_in tables.now) rows.new.items
-        ≡ map (seen_in tables.now) rows.old.items ++ map with_id (rows_in t)) }
-    ensures apart { IfSome (slice_get tables.now table) (λ t. AreApart t.listed) }
+/// Appends the rows of the table that stands at a place among tables.
+fn place_rows(table: &Table, index: usize, rows: &mut Vec<PlacedRow>)
+    requires room { vec_len rows.old + length table.now.listed ≤ vec_capacity rows.old }
+    ensures rows { (tables : List Listing) → slice_get tables index ≡ Some table.now
+        → map (seen_in tables) rows.new.items ≡ map (seen_in tables) rows.old.items ++ map with_id (rows_in table.now) }
+    ensures apart { AreApart table.now.listed }
     ensures capacity { vec_capacity rows.new ≡ vec_capacity rows.old }
 {
-    for row in 0..tables[table].rows() {
-        rows.push_reserved(placed_row(tables, Place { table, row }));
+    for row in 0..table.rows() {
+        rows.push_reserved(placed_row(table, Place { table: index, row }));
     }
 }
 
@@ -57,7 +56,7 @@ pub(crate) fn place_all(tables: &[Table], rows: &mut Vec<PlacedRow>)
     ensures capacity { vec_capacity rows.new ≡ vec_capacity rows.old }
 {
     rows.clear();
-    for table in 0..tables.len() {
-        place_rows(tables, table, rows);
+    for (index, table) in tables.iter().enumerate() {
+        place_rows(table, index, rows);
     }
 }
