@@ -1,3 +1,4 @@
+pub mod FigureLemmas
 pub mod FillLemmas
 pub mod RecordLemmas
 pub mod TimerLemmas

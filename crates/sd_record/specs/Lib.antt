@@ -1,3 +1,4 @@
+pub mod Figures
 pub mod Placed
 pub mod Record
 pub mod Room

@@ -2,6 +2,8 @@
 #![tactic(auto)]
 
 mod bins;
+mod entry;
+mod figures;
 mod parts;
 mod placed;
 mod record;
@@ -11,6 +13,7 @@ mod tally;
 mod timers;
 mod values;
 
+pub use figures::{Figure, Label, whole_number};
 pub use record::Record;
 pub use row::{Bin, Bins, Parts, Row, TimerRow};
 pub use scratch::RecordScratch;
