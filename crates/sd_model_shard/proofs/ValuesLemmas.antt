@@ -9,8 +9,7 @@ use Rattle.std.proofs.lemmas.Bool.Decides.{nat_tests}
 use Rattle.std.proofs.lemmas.List.Sums.{sum_by-cons}
 use Rattle.sd_model_text.proofs.Rounding.{round_exact, round_monotone}
 use Rattle.sd_model_shard.proofs.SortedLemmas.{one_if, Rises}
-use Rattle.sd_model_shard.specs.Statistics.{total}
-use Rattle.sd_model_shard.specs.Values.{value_at, first, last, mean, square, spread, deviation}
+use Rattle.sd_model_shard.specs.Values.{total, value_at, first, last, mean, square, spread, deviation}
 
 -- the sum from a number on
 total_from : (a : ℤ) (xs : List ℤ) → fold ◌+ℤ◌ a xs ≡ a +ℤ total xs

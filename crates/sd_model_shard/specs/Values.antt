@@ -1,12 +1,11 @@
 -- What a list of values comes to: a timer's statistics, its thresholds and bins, and how many members of a set differ. The
 -- quantities are those of StatsD (https://github.com/statsd/statsd/blob/master/docs/metric_types.md), in whole millionths.
-use Rattle.std.specs.Prelude.{ℕ, ◌-◌, ◌*◌, ◌/◌, ◌==◌, ◌&&◌, Bool, true, not, nat_le, if◌then◌else◌, ℤ, pos, ◌+ℤ◌, ◌-ℤ◌, unsigned_abs, int_lt, List, [], ◌∷◌, length, take, drop, map, filter, flat_map, sum_by, count_by, slice_index_or, Option, Some, None}
+use Rattle.std.specs.Prelude.{ℕ, ◌-◌, ◌*◌, ◌/◌, ◌==◌, ◌&&◌, Bool, true, not, nat_le, if◌then◌else◌, ℤ, pos, ◌+ℤ◌, ◌-ℤ◌, unsigned_abs, int_lt, List, [], ◌∷◌, length, take, drop, map, filter, flat_map, fold, sum_by, count_by, slice_index_or, Option, Some, None}
 use Rattle.std.specs.List.{range_with_len}
 use Rattle.std.specs.Ordering.{nat_cmp, int_cmp, int_eq}
 use Rattle.std.specs.Cmp.Lexicographic.{slice_cmp}
 use Rattle.std.specs.FinMap.{from_entries, keys}
 use Rattle.std.specs.FinSet.{from_list, len}
-use Rattle.sd_model_shard.specs.Statistics.{total}
 use Rattle.sd_model_text.specs.Numbers.{rounded, round, per_second, Limit, Below, Infinite}
 
 -- the values that stand in a list, each once, from the least on
@@ -39,6 +38,10 @@ first values = value_at values 0
 -- the last value: of values in order the greatest
 abbrev pub last : List ℤ → ℤ
 last values = value_at values (length values - 1)
+
+-- a sum of whole numbers
+abbrev pub total : List ℤ → ℤ
+total values = fold ◌+ℤ◌ (pos 0) values
 
 -- the mean
 abbrev pub mean : List ℤ → ℤ

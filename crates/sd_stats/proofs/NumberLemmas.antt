@@ -11,8 +11,7 @@ use Rattle.std.proofs.lemmas.List.Elements.{recursion_from_All}
 use Rattle.std.proofs.lemmas.List.Sums.{sum_by-cons, sum_by-le}
 use Rattle.std.proofs.lemmas.List.Sorted.{IsPermutation-map}
 use Rattle.sd_model_text.specs.Numbers.{round}
-use Rattle.sd_model_shard.specs.Statistics.{total}
-use Rattle.sd_model_shard.specs.Values.{sorted, mean, value_at, median, square, spread, deviation}
+use Rattle.sd_model_shard.specs.Values.{sorted, total, mean, value_at, median, square, spread, deviation}
 use Rattle.sd_model_shard.proofs.OrderLemmas.{sum_by-map}
 use Rattle.sd_model_shard.proofs.SortedLemmas.{sorted_is, rises_when_sorted}
 use Rattle.sd_model_shard.proofs.ValuesLemmas.{total-cons, mean_low, mean_high, deviation_is}

@@ -1,6 +1,5 @@
 ghost use Rattle.std.specs.Prelude.{◌≡◌, ◌*◌, ◌^◌, ◌<◌, ◌≤◌, pos, ◌-ℤ◌, ◌≤ℤ◌, unsigned_abs, length, sum_by};
-ghost use Rattle.sd_model_shard.specs.Statistics.{total};
-ghost use Rattle.sd_model_shard.specs.Values.{mean, median, square, sum_squares, deviation};
+ghost use Rattle.sd_model_shard.specs.Values.{total, mean, median, square, sum_squares, deviation};
 ghost use Rattle.sd_stats.specs.Timer.{numbers, IsTimerValue, AreTimerValues};
 
 use sd_decimal::{Micro, Sum, ratio, root};

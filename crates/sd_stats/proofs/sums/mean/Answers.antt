@@ -1,6 +1,6 @@
 use Rattle.std.proofs.Common.{length, ap, sym, ◌∙◌}
 use Rattle.sd_model_text.specs.Numbers.{round}
-use Rattle.sd_model_shard.specs.Statistics.{total}
+use Rattle.sd_model_shard.specs.Values.{total}
 use Rattle.sd_stats.specs.Timer.{numbers}
 use Rattle.sd_stats.proofs.NumberLemmas.{length_numbers}
 use Rattle.sd_stats.proofs.sums.mean.Goals as goal
