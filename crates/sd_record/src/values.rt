@@ -1,7 +1,7 @@
-ghost use Rattle.std.specs.Prelude.{◌≡◌, ◌<◌, ◌≤◌, length, slice_get, IfSome};
+ghost use Rattle.std.specs.Prelude.{◌≡◌, ◌*◌, ◌^◌, ◌<◌, ◌≤◌, length, unsigned_abs, slice_get, IfSome};
 ghost use Rattle.sd_model_text.specs.Names.{Counter, Timer};
 ghost use Rattle.sd_model_record.specs.Record.{row_value, row_of_kind, GaugeRow, SetRow};
-ghost use Rattle.sd_model_shard.specs.Statistics.{gauge_value, members_of};
+ghost use Rattle.sd_model_shard.specs.Statistics.{weight_of, gauge_value, members_of};
 ghost use Rattle.sd_model_shard.specs.Values.{distinct};
 ghost use Rattle.sd_config.specs.Plan.{plan_view};
 ghost use Rattle.sd_record.specs.Row.{row_view};
@@ -9,7 +9,7 @@ ghost use Rattle.sd_record.specs.Row.{row_view};
 use crate::row::Row;
 use crate::timers::timer_of;
 use sd_config::Reckoning;
-use sd_decimal::per_second;
+use sd_decimal::{Sum, per_second};
 use sd_epoch::{RowFacts, Scratch, Table};
 use sd_key::{Key, Kind};
 use sd_stats::distinct;
@@ -37,21 +37,31 @@ fn key_of(table: &Table, i: u32) -> Key
     table.get(i).key.clone().unwrap()
 }
 
-/// The i-th row of a table as a counter.
-fn counter(table: &Table, i: u32, plan: &Reckoning) -> Row
+/// What the samples of the i-th row of a table weigh together.
+fn weight_of(table: &Table, i: u32) -> Sum
     requires { i < length table.now.listed }
-    ensures { IfSome (slice_get table.now.listed i) (λ e. row_view result ≡ row_of_kind Counter (plan_view plan.now) table.now.held e.0 e.1) }
+    ensures value { IfSome (slice_get table.now.listed i) (λ e. result.0 ≡ weight_of e.0 table.now.held) }
+    ensures bound { unsigned_abs result.0 ≤ 2 ^ 20 * 10 ^ 24 }
 {
     let RowFacts {
         kind: _,
-        key,
+        key: _,
         base: _,
         swaps: _,
         samples: _,
         weight,
     } = table.row(i);
+    weight
+}
+
+/// The i-th row of a table as a counter.
+fn counter(table: &Table, i: u32, plan: &Reckoning) -> Row
+    requires { i < length table.now.listed }
+    ensures { IfSome (slice_get table.now.listed i) (λ e. row_view result ≡ row_of_kind Counter (plan_view plan.now) table.now.held e.0 e.1) }
+{
+    let weight = weight_of(table, i);
     Row::Counter {
-        key,
+        key: key_of(table, i),
         count: weight,
         rate: per_second(weight, plan.interval_ms),
     }
@@ -65,14 +75,8 @@ fn timer(table: &Table, i: u32, plan: &Reckoning, room: &mut Scratch) -> Row
     ensures row { IfSome (slice_get table.now.listed i) (λ e. row_view result ≡ row_of_kind Timer (plan_view plan.now) table.now.held e.0 e.1) }
     ensures room { room.new.room ≡ room.old.room }
 {
-    let RowFacts {
-        kind: _,
-        key,
-        base: _,
-        swaps: _,
-        samples: _,
-        weight,
-    } = table.row(i);
+    let key = key_of(table, i);
+    let weight = weight_of(table, i);
     table.values_of(i, room);
     let timer = timer_of(&key, weight, room.values(), plan);
     Row::Timer { key, timer }
