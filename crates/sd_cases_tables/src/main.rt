@@ -2,6 +2,7 @@
 //! line with its answer.
 #![tactic(auto)]
 
+mod records;
 mod rooms;
 mod samples;
 mod shards;
@@ -17,16 +18,16 @@ fn call(alloc: Global, words: &[&str], out: &mut Answer) -> Result<(), Refusal> 
         ["shard", limits, kinds, steps @ ..] => {
             shards::steps_on_shard(alloc, limits, kinds, steps, out)
         }
-        ["table", limits, interval, ts, tally, steps @ ..] => {
-            tables::steps_on_table(alloc, limits, &[interval, ts, tally], steps, out)
+        ["table", limits, settings, ts, tally, steps @ ..] => {
+            tables::steps_on_table(alloc, limits, &[settings, ts, tally], steps, out)
         }
         ["goes_idle", kinds, kind, swaps] => {
             out.text(" = ");
             shards::goes_idle(kinds, kind, swaps, out)
         }
-        ["room", limits, kinds, interval, receivers] => {
+        ["room", limits, kinds, receivers] => {
             out.text(" = ");
-            rooms::open_room(alloc, limits, kinds, &[interval, receivers], out)
+            rooms::open_room(alloc, limits, kinds, receivers, out)
         }
         _ => Err(Refusal::UnknownCall),
     }

@@ -1,27 +1,18 @@
 ghost use Rattle.std.specs.Prelude.{◌≡◌, ◌≤◌, ◌<◌, length, IfOk};
 ghost use Rattle.sd_epoch.specs.Limits.{limits_of, AreLimits};
+ghost use Rattle.sd_record.specs.Room.{room_for};
 
+use crate::records::{Flush, show_record, show_text, tally_from};
 use crate::samples::sample_of;
 use crate::shards::{limits_from, show_name, show_sorted, show_table};
-use sd_case::{Answer, Refusal, key_of, kind_of, number};
+use sd_case::{Answer, Refusal, bytes_of, key_of, kind_of, number};
+use sd_config::{Names, Settings};
 use sd_decimal::Micro;
 use sd_epoch::{Limits, Scratch, Table, Who};
-use sd_graphite::write_record;
 use sd_key::Kind;
-use sd_outside::{MemSink, WriteFault};
-use sd_record::{Record, RecordScratch, Row, Tally};
+use sd_outside::MemSink;
+use sd_record::RecordScratch;
 use std::alloc::Global;
-
-// the largest count of a tally
-const MOST: u64 = 1 << 63;
-
-/// What a flush is told besides the table.
-#[derive(Clone, Copy)]
-struct Flush {
-    interval_ms: u32,
-    ts: u64,
-    tally: Tally,
-}
 
 /// What of a row's samples is shown.
 #[derive(Clone, Copy)]
@@ -40,31 +31,7 @@ struct Bench {
     scratch: RecordScratch,
     ghost opened: { table.limits ≡ limits_of limits },
     ghost sample_room: { gathered.room ≡ limits.entries },
-    ghost room: { scratch.room ≡ limits.rows },
-}
-
-/// A count of a tally.
-fn count_of(word: &str) -> Result<u64, Refusal>
-    ensures { IfOk result (λ count. count ≤ MOST) }
-{
-    let count = number::<u64>(word)?;
-    if count > MOST {
-        return Err(Refusal::Condition);
-    }
-    Ok(count)
-}
-
-/// The tally that a word writes as `PACKETS/LINES/BAD/DROPPED`.
-fn tally_from(word: &str) -> Result<Tally, Refusal> {
-    let (packets, rest) = word.split_once('/').ok_or(Refusal::Malformed)?;
-    let (lines, rest) = rest.split_once('/').ok_or(Refusal::Malformed)?;
-    let (bad, dropped) = rest.split_once('/').ok_or(Refusal::Malformed)?;
-    Ok(Tally {
-        packets: count_of(packets)?,
-        lines: count_of(lines)?,
-        bad: count_of(bad)?,
-        dropped: count_of(dropped)?,
-    })
+    ghost room: { scratch.room ≡ room_for (limits_of limits) 1 },
 }
 
 impl Bench {
@@ -95,7 +62,10 @@ impl Bench {
         out: &mut Answer,
     ) -> Result<(), Refusal> {
         match step {
-            "record" => self.record(flush, out),
+            "record" => {
+                self.record(flush, out);
+                Ok(())
+            }
             "rows" => show_table(alloc, &self.table, out),
             "values" => show_parts(alloc, &self.table, Part::Values, &mut self.gathered, out),
             "members" => show_parts(alloc, &self.table, Part::Members, &mut self.gathered, out),
@@ -160,13 +130,10 @@ impl Bench {
     }
 
     /// Appends the record of the table.
-    fn record(&mut self, flush: &Flush, out: &mut Answer) -> Result<(), Refusal> {
-        if flush.interval_ms == 0 {
-            return Err(Refusal::Condition);
-        }
+    fn record(&mut self, flush: &Flush, out: &mut Answer) {
         let _rows = self.table.rows();
+        let _entries = self.table.entries();
         show_record(&self.table, &mut self.scratch, flush, out);
-        Ok(())
     }
 
     /// Appends Graphite's text of the record, as a sink has it that is written as `ROOM` or `ROOM!CALLS`.
@@ -177,10 +144,8 @@ impl Bench {
         sink: &str,
         out: &mut Answer,
     ) -> Result<(), Refusal> {
-        if flush.interval_ms == 0 {
-            return Err(Refusal::Condition);
-        }
         let _rows = self.table.rows();
+        let _entries = self.table.entries();
         let mut sink = sink_from(alloc, sink)?;
         show_text(&self.table, &mut self.scratch, flush, &mut sink, out);
         Ok(())
@@ -250,68 +215,21 @@ fn sink_from(alloc: Global, word: &str) -> Result<MemSink, Refusal> {
     Ok(sink)
 }
 
-/// Appends the record of a table.
-fn show_record(table: &Table, scratch: &mut RecordScratch, flush: &Flush, out: &mut Answer)
-    requires room { length table.now.listed ≤ scratch.old.room }
-    requires interval { 0 < flush.now.interval_ms }
-    ensures { scratch.new.room ≡ scratch.old.room }
-{
-    let record = Record::over(table, flush.interval_ms, scratch, flush.tally, flush.ts);
-    show_head(&record, out);
-    for i in 0..record.rows() {
-        show_row(&record.row(i), out);
-    }
+/// What a flush is told by a settings file, a Unix second and a tally.
+fn flush_from(alloc: Global, settings: &str, ts: &str, tally: &str) -> Result<Flush, Refusal> {
+    let Ok(settings) = Settings::read(alloc, &bytes_of(alloc, settings)?) else {
+        return Err(Refusal::Condition);
+    };
+    Ok(Flush {
+        names: Names::of(&settings),
+        settings,
+        ts: number(ts)?,
+        tally: tally_from(tally)?,
+    })
 }
 
-/// Appends what a record says besides its rows.
-fn show_head(record: &Record<'_>, out: &mut Answer) {
-    out.count("rows ", record.rows() as u64);
-    out.count(", at ", record.ts());
-    out.count(", over ", u64::from(record.interval_ms()));
-    let tally = record.tally();
-    out.count(", tally ", tally.packets);
-    out.count("/", tally.lines);
-    out.count("/", tally.bad);
-    out.count("/", tally.dropped);
-}
-
-/// Appends the line of a row of a record.
-fn show_row(row: &Row, out: &mut Answer) {
-    match row {
-        Row::Counter { key, count, rate } => {
-            out.text("\n    counter ");
-            out.bytes(key.as_slice());
-            out.text(": count ");
-            out.number(count.0);
-            out.text(", rate ");
-            out.number(rate.0);
-        }
-    }
-}
-
-/// Writes Graphite's text of a record, and appends the answer, the sink's faults, and the lines that it has.
-fn show_text(
-    table: &Table,
-    scratch: &mut RecordScratch,
-    flush: &Flush,
-    sink: &mut MemSink,
-    out: &mut Answer,
-)
-    requires room { length table.now.listed ≤ scratch.old.room }
-    requires interval { 0 < flush.now.interval_ms }
-    ensures { scratch.new.room ≡ scratch.old.room }
-{
-    let record = Record::over(table, flush.interval_ms, scratch, flush.tally, flush.ts);
-    match write_record(&record, sink) {
-        Ok(()) => out.text("ok"),
-        Err(WriteFault) => out.text("fault"),
-    }
-    out.count(", faults ", sink.faults());
-    out.lines(sink.bytes());
-}
-
-/// `table ROWS/ENTRIES INTERVAL TS PACKETS/LINES/BAD/DROPPED STEPS`: what each step on an empty table answers, and
-/// on the records of it.
+/// `table ROWS/ENTRIES SETTINGS TS PACKETS/LINES/BAD/DROPPED STEPS`: what each step on an empty table answers, and
+/// on the records of it, which go by a settings file.
 pub(crate) fn steps_on_table(
     alloc: Global,
     limits: &str,
@@ -320,17 +238,13 @@ pub(crate) fn steps_on_table(
     out: &mut Answer,
 ) -> Result<(), Refusal> {
     let limits = limits_from(limits)?;
-    let [interval, ts, tally] = *flush;
-    let flush = Flush {
-        interval_ms: number(interval)?,
-        ts: number(ts)?,
-        tally: tally_from(tally)?,
-    };
+    let [settings, ts, tally] = *flush;
+    let flush = flush_from(alloc, settings, ts, tally)?;
     let mut bench = Bench {
         limits,
         table: Table::open(alloc, limits)?,
         gathered: Scratch::open(alloc, limits)?,
-        scratch: RecordScratch::open(alloc, limits)?,
+        scratch: RecordScratch::open(alloc, limits, 1)?,
     };
     for step in steps {
         out.step(step);
