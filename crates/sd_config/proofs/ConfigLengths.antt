@@ -1,13 +1,11 @@
 -- How long the values of the reply to `config` are.
-use Rattle.std.proofs.Common.{◌≡◌, ℕ, zero, suc, ◌+◌, ◌*◌, ◌/◌, ◌%◌, ◌^◌, ◌≤◌, ◌==◌, Bool, true, false, cond, ℤ, pos, negsuc, unsigned_abs, List, [], ◌∷◌, length, map, All, codes, refl, ap, inl, inr, ◌||◌, arith, length-append}
-use Rattle.std.specs.Fmt.{decimal}
+use Rattle.std.proofs.Common.{◌≡◌, ℕ, zero, suc, ◌+◌, ◌*◌, ◌≤◌, true, false, ℤ, pos, negsuc, List, [], ◌∷◌, length, map, All, codes, refl, ap, inl, inr, ◌||◌, arith, length-append}
 use Rattle.std.specs.Str.{bytes_eq}
 use Rattle.std.proofs.lemmas.Bool.{and_parts, or_cases, false≢true}
 use Rattle.std.specs.List.{AllPass}
 use Rattle.std.proofs.lemmas.Bool.Decides.{nat_tests}
-use Rattle.sd_model_text.specs.Lists.{trim_end, unless_last}
-use Rattle.sd_model_text.specs.Numbers.{six_digits, behind_point, magnitude_text, number_text, Limit, Below, Infinite}
-use Rattle.sd_decimal.proofs.Decimals.{length-decimal-whole}
+use Rattle.sd_model_text.specs.Numbers.{number_text, Limit, Below, Infinite}
+use Rattle.sd_decimal.proofs.NumberTexts.{length-number_text}
 use Rattle.sd_model_settings.specs.Entries.{is_limit, is_backend}
 use Rattle.sd_model_settings.specs.Ranges.{IsThreshold, AreThresholds, AreBackends, AreLimits}
 use Rattle.sd_model_settings.specs.ConfigText.{joined, limit_text}
@@ -15,28 +13,6 @@ use Rattle.sd_decimal.specs.declared.number.Micro.{Micro}
 use Rattle.sd_decimal.specs.declared.number.Limit as code
 use Rattle.sd_config.specs.Values.{micros}
 use Rattle.sd_config.specs.Entries.{limit_of, limits_of}
-
-length-unless_last : (p : ℕ → Bool) (x : ℕ) (xs : List ℕ) → length (unless_last p x xs) ≤ length xs + 1
-length-unless_last p x [] = elim (p x) as (λ b. length (cond b [] (x ∷ [])) ≤ 1) [ true ↦ omega arith | false ↦ omega arith ]
-length-unless_last p x (y ∷ ys) = omega arith
-
-length-trim_end : (p : ℕ → Bool) (xs : List ℕ) → length (trim_end p xs) ≤ length xs
-length-trim_end p [] = omega arith
-length-trim_end p (x ∷ xs) = omega (arith, length-unless_last p x (trim_end p xs), length-trim_end p xs)
-
-length-behind_point : (ds : List ℕ) → length (behind_point ds) ≤ length ds + 1
-length-behind_point [] = omega arith
-length-behind_point (d ∷ ds) = omega arith
-
-length-magnitude_text : (n : ℕ) → n ≤ 2 ^ 127 → length (magnitude_text n) ≤ 40
-length-magnitude_text n fits =
-    let digits = trim_end (λ d. d == 48) (six_digits (n % 1000000)) in
-    omega (arith, length-append (decimal (n / 1000000)) (behind_point digits), length-decimal-whole n fits, length-behind_point digits, length-trim_end (λ d. d == 48) (six_digits (n % 1000000)))
-
--- a number's text has at most 41 bytes
-length-number_text : (z : ℤ) → unsigned_abs z ≤ 2 ^ 127 → length (number_text z) ≤ 41
-length-number_text (pos n) fits = omega (arith, length-magnitude_text n fits)
-length-number_text (negsuc n) fits = omega (arith, length-magnitude_text (suc n) fits)
 
 -- a part more
 length-joined : (n : ℕ) (t u : List ℕ) (ts : List (List ℕ)) → length t ≤ 41 → length (joined (u ∷ ts)) ≤ 42 * n → length (joined (t ∷ u ∷ ts)) ≤ 42 * (n + 1)

@@ -5,7 +5,7 @@ use arrayvec::ArrayVec;
 pub struct Micro(pub i64);
 
 /// A total of many numbers, in millionths.
-#[derive(Clone, Copy, Debug, PartialEq, Eq, PartialOrd, Ord)]
+#[derive(Clone, Copy, Debug, Default, PartialEq, Eq, PartialOrd, Ord)]
 pub struct Sum(pub i128);
 
 /// One line of text on its way out: at most 1,024 bytes.

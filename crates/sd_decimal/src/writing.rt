@@ -8,10 +8,11 @@ use crate::number::{Line, Sum};
 
 const MILLION: u128 = 1_000_000;
 
-/// Appends the text of a number.
+/// Appends the text of a number, which has at most 41 bytes.
 pub fn write(v: Sum, out: &mut Line)
     requires { array_vec_len out.old + 48 ≤ 1024 }
-    ensures { out.new.items ≡ out.old.items ++ number_text v.0 }
+    ensures text { out.new.items ≡ out.old.items ++ number_text v.0 }
+    ensures len { array_vec_len out.new ≤ array_vec_len out.old + 41 }
 {
     if v.0 < 0 {
         out.push(b'-');

@@ -1,24 +1,27 @@
 -- What the fields of a table say of the rows and entries that it stands for.
-use Rattle.std.proofs.Common.{◌≡◌, ◌≢◌, ℕ, zero, suc, ◌<◌, List, [], ◌∷◌, length, get_or, map, replicate, Option, Some, None, is_some, option_map, MatchOption, refl, sym, ap, subst, ◌∙◌, arith}
+use Rattle.std.proofs.Common.{◌≡◌, ◌≢◌, ℕ, zero, suc, ◌<◌, List, [], ◌∷◌, length, get_or, map, replicate, Option, Some, None, is_some, option_map, MatchOption, refl, sym, ap, subst, ◌∙◌, arith, All, pos, ◌≤ℤ◌, ◌^◌, true}
 use Rattle.std.proofs.lemmas.List.{length-map, get_or_read_under}
 use Rattle.std.proofs.lemmas.Option.{slice_get-map, slice_get_read}
 use Rattle.std.specs.List.{slice_get, list_any}
 use Rattle.std.specs.FinMap.{contains_key, len}
 use Rattle.sd_model_shard.specs.Rows as model
-use Rattle.sd_model_shard.specs.Rows.{RowId, Kept, is_same_row, entries_of}
+use Rattle.sd_model_shard.specs.Rows.{RowId, Kept, is_same_row, row_of, entries_of}
 use Rattle.sd_key.specs.Kind.{kind_of}
 use Rattle.sd_key.specs.declared.kind.Kind.{Kind}
 use Rattle.sd_rows.specs.Rows.{row_at, Holds, IsAbsent}
 use Rattle.sd_rows.specs.declared.row.Row.{Row}
 use Rattle.sd_rows.proofs.IndexLemmas.{present_within, replicate_at}
-use Rattle.sd_epoch.specs.Entries.{listed_as, listed_in, live_in, entry_view, AllLive, AreRows, IsTally, AreTallies}
-use Rattle.sd_epoch.specs.Scratch.{micros}
+use Rattle.sd_epoch.specs.Entries.{listed_as, listed_in, live_in, entry_view, AllLive, AreRows, IsTally, AreTallies, IsTimed}
+use Rattle.sd_epoch.specs.Scratch.{micros, AreTimerValues}
 use Rattle.sd_epoch.specs.Table.{Listing, id_of, row_view}
 use Rattle.sd_epoch.specs.TableInside.{listing_of, IsTable}
 use Rattle.sd_epoch.specs.declared.entry.Entry.{Entry}
 use Rattle.sd_epoch.specs.declared.table.Table.TheInside.{Inside}
 use Rattle.sd_epoch.specs.declared.tally.Tally.{Tally}
-use Rattle.sd_epoch.proofs.ListingLemmas.{contains-listed, len-apart}
+use Rattle.sd_model_text.specs.Names as text
+use Rattle.sd_decimal.specs.declared.number.Micro.{Micro}
+use Rattle.std.proofs.lemmas.List.Elements.{All-nil, All-cons, All-head, All-tail}
+use Rattle.sd_epoch.proofs.ListingLemmas.{same_row, contains-listed, len-apart}
 use Rattle.sd_epoch.proofs.PlaceLemmas.{holds_id, listed_absent, listed_among}
 
 -- empty places
@@ -91,3 +94,13 @@ values_same rows (e ∷ own) = ap (λ vs. e.value.0 ∷ vs) (values_same rows ow
 pub members_same : (rows : List (Option Row)) (own : List Entry) → map (λ (e : Entry). e.member.items) own ≡ map (λ (e : model.Entry). e.sample.member) (map (entry_view rows) own)
 members_same rows [] = refl
 members_same rows (e ∷ own) = ap (λ ms. e.member.items ∷ ms) (members_same rows own)
+
+-- timers' values are in their range
+pub timed_values : (rows : List (Option Row)) (id : RowId) (own : List Entry) → id.kind ≡ text.Timer → All IsTimed (map (entry_view rows) own)
+    → All (λ (e : model.Entry). is_same_row id (row_of e.sample) ≡ true) (map (entry_view rows) own) → AreTimerValues (map (λ (e : Entry). e.value) own)
+timed_values rows id [] timer timed same = All-nil (λ (v : Micro). (pos 0 ≤ℤ v.0) × (v.0 ≤ℤ pos (10 ^ 16)))
+timed_values rows id (e ∷ own) timer timed same =
+    let kind : (entry_view rows e).sample.kind ≡ text.Timer =
+    ap (λ (i : RowId). i.kind) (sym (same_row id (row_of (entry_view rows e).sample) (All-head (λ (x : model.Entry). is_same_row id (row_of x.sample) ≡ true) (entry_view rows e) (map (entry_view rows) own) same))) ∙ timer in
+    All-cons (λ (v : Micro). (pos 0 ≤ℤ v.0) × (v.0 ≤ℤ pos (10 ^ 16))) e.value (map (λ (x : Entry). x.value) own) (All-head IsTimed (entry_view rows e) (map (entry_view rows) own) timed kind)
+    (timed_values rows id own timer (All-tail IsTimed (entry_view rows e) (map (entry_view rows) own) timed) (All-tail (λ (x : model.Entry). is_same_row id (row_of x.sample) ≡ true) (entry_view rows e) (map (entry_view rows) own) same))

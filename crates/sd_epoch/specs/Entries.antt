@@ -1,5 +1,5 @@
 -- Entries that name their row by its place, and what is kept of the rows beside it.
-use Rattle.std.specs.Prelude.{◌≡◌, ◌≢◌, ℕ, ◌*◌, ◌^◌, ◌≤◌, ◌==◌, Bool, true, if◌then◌else◌, ℤ, pos, unsigned_abs, List, [], ◌∷◌, length, get_or, map, filter, fold, Option, Some, None, ⊤}
+use Rattle.std.specs.Prelude.{◌≡◌, ◌≢◌, ℕ, ◌*◌, ◌^◌, ◌≤◌, ◌==◌, Bool, true, if◌then◌else◌, ℤ, pos, ◌≤ℤ◌, unsigned_abs, List, [], ◌∷◌, length, get_or, map, filter, fold, Option, Some, None, ⊤}
 use Rattle.std.specs.FinMap.{from_entries}
 use Rattle.std.specs.List.{list_any}
 use Rattle.sd_model_text.specs.Names as text
@@ -54,6 +54,10 @@ places_of entries = map (λ e. e.place) entries
 -- the entries that name a place
 abbrev pub entries_at : ℕ → List Entry → List Entry
 entries_at place entries = filter (λ e. e.place == place) entries
+
+-- a timer's value is from 0 to 10 ^ 10
+abbrev pub IsTimed : model.Entry → Type 0
+IsTimed e = e.sample.kind ≡ text.Timer → (pos 0 ≤ℤ e.sample.value) × (e.sample.value ≤ℤ pos (10 ^ 16))
 
 -- each of these places has a row
 abbrev pub AllLive : List (Option Row) → List ℕ → Type 0

@@ -1,5 +1,5 @@
 -- What a contract sees of the room for a row's values and members.
-use Rattle.std.specs.Prelude.{ℕ, ℤ, List, map}
+use Rattle.std.specs.Prelude.{ℕ, ◌^◌, ℤ, pos, ◌≤ℤ◌, List, map, All}
 use Rattle.sd_decimal.specs.declared.number.Micro.{Micro}
 use Rattle.arrayvec.specs.ArrayVec.{ArrayVec}
 
@@ -12,6 +12,10 @@ pub record Gathered : Type 0 where
 -- values as whole millionths
 abbrev pub micros : List Micro → List ℤ
 micros values = map (λ v. v.0) values
+
+-- values that timers may have: from 0 to 10 ^ 10
+abbrev pub AreTimerValues : List Micro → Type 0
+AreTimerValues values = All (λ v. (pos 0 ≤ℤ v.0) × (v.0 ≤ℤ pos (10 ^ 16))) values
 
 -- members as their bytes
 abbrev pub texts : List (ArrayVec ℕ) → List (List ℕ)

@@ -1,7 +1,7 @@
 -- What a table keeps of its fields.
-use Rattle.std.specs.Prelude.{◌≡◌, ◌≤◌, length, vec_len, vec_capacity}
+use Rattle.std.specs.Prelude.{◌≡◌, ◌≤◌, length, All, vec_len, vec_capacity}
 use Rattle.sd_epoch.specs.Chain.{IsChain}
-use Rattle.sd_epoch.specs.Entries.{listed_in, held_in, places_of, AllLive, AreRows, AreTallies}
+use Rattle.sd_epoch.specs.Entries.{listed_in, held_in, places_of, AllLive, IsTimed, AreRows, AreTallies}
 use Rattle.sd_epoch.specs.Limits.{limits_of, AreLimits}
 use Rattle.sd_epoch.specs.Table.{Listing}
 use Rattle.sd_epoch.specs.declared.table.Table.TheInside.{Inside}
@@ -15,6 +15,7 @@ pub record IsTable (t : Inside) : Type 0 where
   pub rows : AreRows t.rows t.order.items
   pub tallies : AreTallies t.rows t.tallies.items (held_in t.rows t.entries.items)
   pub owned : AllLive t.rows (places_of t.entries.items)
+  pub timed : All IsTimed (held_in t.rows t.entries.items)
   pub chain : IsChain (places_of t.entries.items) t.chain.last.items t.chain.before.items
   pub places : length t.rows ≡ t.limits.rows
   pub tally_places : length t.tallies.items ≡ t.limits.rows

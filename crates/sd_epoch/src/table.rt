@@ -5,7 +5,8 @@ ghost use Rattle.sd_model_shard.specs.Commands.{rows_left, entries_left, entries
 ghost use Rattle.sd_model_shard.specs.Statistics.{weight_of, gauge_value, values_of, members_of, amount_of};
 ghost use Rattle.sd_key.specs.Kind.{kind_of};
 ghost use Rattle.sd_epoch.specs.Limits.{limits_of, AreLimits};
-ghost use Rattle.sd_epoch.specs.Scratch.{micros, texts};
+ghost use Rattle.sd_model_text.specs.Names.{Timer};
+ghost use Rattle.sd_epoch.specs.Scratch.{micros, texts, AreTimerValues};
 ghost use Rattle.sd_epoch.specs.Table.{live_of, AreApart, row_view, id_of};
 
 use crate::chain::Chain;
@@ -151,6 +152,8 @@ impl Table {
         requires place { i < length self.now.listed }
         requires room { length self.now.held ≤ out.old.room }
         ensures values { IfSome (slice_get self.now.listed i) (λ row. micros out.new.values ≡ values_of row.0 self.now.held) }
+        ensures range { IfSome (slice_get self.now.listed i) (λ row. row.0.kind ≡ Timer → AreTimerValues out.new.values) }
+        ensures few { length out.new.values ≤ 2 ^ 20 }
         ensures members { out.new.members ≡ out.old.members }
         ensures room { out.new.room ≡ out.old.room }
     {

@@ -1,3 +1,2 @@
-pub mod NumberLemmas
 pub mod TextLemmas
 pub mod WriteSteps

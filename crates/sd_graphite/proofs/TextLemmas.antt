@@ -1,74 +1,135 @@
 -- How the parts of Graphite's text stand together.
-use Rattle.std.proofs.Common.{◌≡◌, ℕ, ◌+◌, ◌*◌, ℤ, pos, List, [], ◌∷◌, ◌++◌, length, take, drop, refl, sym, ap, ◌∙◌, codes, flat_map, append_assoc, append-nil, subst, slice_get, Some, Result, OnErr}
-use Rattle.std.proofs.lemmas.List.{take_more, take-append-drop}
+use Rattle.std.proofs.Common.{◌≡◌, ℕ, ℤ, ◌+◌, ◌<◌, List, [], ◌∷◌, ◌++◌, length, map, flat_map, take, drop, true, false, cond, refl, sym, ap, ◌∙◌, append-nil, slice_get, Some, option_map, arith, codes}
+use Rattle.std.proofs.lemmas.List.{length-map, take_more, take-append-drop}
 use Rattle.std.proofs.lemmas.List.Concat.{flat_map-append}
-use Rattle.std.proofs.lemmas.Option.{slice_get_within, get_or_from_slice_get}
+use Rattle.std.proofs.lemmas.Option.{slice_get-map, slice_get_within, get_or_from_slice_get}
+use Rattle.std.specs.List.{concat}
 use Rattle.std.specs.Fmt.{decimal}
-use Rattle.sd_model_text.specs.Numbers.{number_text, per_second}
-use Rattle.sd_model_record.specs.Record.{Row, CounterRow, Tally, Record}
-use Rattle.sd_model_record.specs.Graphite.{line, row_lines, graphite_text}
-use Rattle.sd_model_outside.specs.Outside.{Object, HasFailedBehind}
-use Rattle.sd_graphite.specs.Texts.{line_text, counter_text, row_text, rows_text, own_text, tail_text}
-use Rattle.sd_graphite.proofs.NumberLemmas.{number_text-whole}
+use Rattle.sd_model_text.specs.Numbers.{per_second}
+use Rattle.sd_model_settings.specs.Defaults.{Names}
+use Rattle.sd_model_record.specs.Record.{Row, CounterRow, TimerRow, GaugeRow, SetRow, TimerFigures, Tally, Record}
+use Rattle.sd_model_record.specs.Figures.{Figure, whole_number, figures_of}
+use Rattle.sd_model_record.specs.Graphite.{dotted, front, line, figure_line, row_lines, own_counter, rows_front, graphite_text}
+use Rattle.sd_graphite.specs.declared.path.Path.{Path}
+use Rattle.sd_graphite.specs.Texts.{path_text, rate_line, count_line, gauge_line, set_line, row_texts, row_text, rows_text, own_text, rows_line, tail_text}
 
-pub counter_text-parts : (ts : ℕ) (key : List ℕ) (count rate : ℤ) → counter_text ts key count rate ≡ line_text (codes "stats.") key rate ts ++ line_text (codes "stats_counts.") key count ts
-unfolding counter_text line_text
-counter_text-parts ts key count rate = refl
+-- the text of a path by its parts
+pub path_text-parts : (names : Names) (p : Path) (legacy prefix key back : List ℕ) → p.legacy.now ≡ legacy → p.prefix.now ≡ prefix → p.key.now ≡ key → p.back.now ≡ back → path_text names p ≡ front names legacy prefix ++ key ++ back
+unfolding path_text
+path_text-parts names p legacy prefix key back before of_kind of_key behind =
+    ap (λ xs. front names xs p.prefix.now ++ p.key.now ++ p.back.now) before
+    ∙ ap (λ xs. front names legacy xs ++ p.key.now ++ p.back.now) of_kind
+    ∙ ap (λ (xs : List ℕ). front names legacy prefix ++ xs ++ p.back.now) of_key
+    ∙ ap (λ (xs : List ℕ). front names legacy prefix ++ key ++ xs) behind
 
-row_text-counter : (ts : ℕ) (key : List ℕ) (count rate : ℤ) → counter_text ts key count rate ≡ row_text ts (CounterRow key count rate)
-unfolding row_text counter_text
-row_text-counter ts key count rate = refl
+-- lists joined as they are made
+concat-map : {A : Type 0} (f : A → List ℕ) (xs : List A) → concat (map f xs) ≡ flat_map f xs
+concat-map f [] = refl
+concat-map f (x ∷ xs) = ap (λ (text : List ℕ). f x ++ text) (concat-map f xs)
 
--- what a write of a counter's lines says of its row, where it failed
-pub row_front : {E : Type 0} (result : Result (Unit {0}) E) (o v : Object) (ts : ℕ) (row : Row) (key : List ℕ) (count rate : ℤ) → OnErr result (HasFailedBehind (counter_text ts key count rate) o v) → row ≡ CounterRow key count rate → OnErr result (HasFailedBehind (row_text ts row) o v)
-row_front result o v ts row key count rate failed is =
-    subst (λ text. OnErr result (HasFailedBehind text o v)) (row_text-counter ts key count rate ∙ ap (row_text ts) (sym is)) failed
+-- the lines of a row, joined
+pub row_texts-joined : (names : Names) (ts : ℕ) (row : Row) → concat (row_texts names ts row) ≡ row_text names ts row
+unfolding row_texts row_text
+row_texts-joined names ts (CounterRow key count rate) = ap (λ (text : List ℕ). rate_line names ts key rate ++ text) (append-nil (count_line names ts key count))
+row_texts-joined names ts (TimerRow key timer) = concat-map (figure_line names ts key) (figures_of timer)
+row_texts-joined names ts (GaugeRow key value) = append-nil (gauge_line names ts key value)
+row_texts-joined names ts (SetRow key count) = append-nil (set_line names ts key count)
 
--- a line, as it is put together
-pub line_text-made : (start path whole spaced valued stamped timed line front name : List ℕ) (value : ℤ) (ts second : ℕ) → start ≡ [] → path ≡ start ++ front → whole ≡ path ++ name → spaced ≡ whole ++ 32 ∷ [] → valued ≡ spaced ++ number_text value → stamped ≡ valued ++ 32 ∷ [] → timed ≡ stamped ++ decimal second → second ≡ ts → line ≡ timed ++ 10 ∷ [] → line ≡ line_text front name value ts
-unfolding line_text
-line_text-made start path whole spaced valued stamped timed line front name value ts second empty first then space number_is space' digits same end =
-    let number = number_text value in
-    let to_path = then ∙ ap (λ (xs : List ℕ). xs ++ name) (first ∙ ap (λ (xs : List ℕ). xs ++ front) empty) in
-    let to_value = number_is ∙ ap (λ (xs : List ℕ). xs ++ number) (space ∙ ap (λ (xs : List ℕ). xs ++ 32 ∷ []) to_path) ∙ append_assoc (front ++ name) (32 ∷ []) number in
-    let to_second = digits ∙ ap (λ n. stamped ++ decimal n) same ∙ ap (λ (xs : List ℕ). xs ++ decimal ts) (space' ∙ ap (λ (xs : List ℕ). xs ++ 32 ∷ []) to_value) ∙ append_assoc ((front ++ name) ++ 32 ∷ number) (32 ∷ []) (decimal ts) in
-    end ∙ ap (λ (xs : List ℕ). xs ++ 10 ∷ []) to_second
+-- the lines of a row of each kind, by their places
+module _ (names : Names) (ts : ℕ) (row : Row) (key : List ℕ) where
+  module _ (count rate : ℤ) (is : row ≡ CounterRow key count rate) where
+    counter_texts : row_texts names ts row ≡ rate_line names ts key rate ∷ count_line names ts key count ∷ []
+    unfolding row_texts
+    counter_texts = ap (row_texts names ts) is
 
-pub own_text-counter : (r : Record) (key : List ℕ) (number ts interval_ms : ℕ) (count rate : ℤ) → ts ≡ r.ts → interval_ms ≡ r.interval_ms → count ≡ pos (number * 1000000) → rate ≡ per_second count interval_ms → counter_text ts key count rate ≡ own_text r key number
-unfolding own_text counter_text
-own_text-counter r key number ts interval_ms count rate second interval of_number of_count =
-    ap (λ n. counter_text n key count rate) second ∙ ap (counter_text r.ts key count) (of_count ∙ ap (per_second count) interval)
-    ∙ ap (λ n. counter_text r.ts key n (per_second n r.interval_ms)) of_number
+    pub counter_count : length (row_texts names ts row) ≡ 2
+    counter_count = ap length counter_texts
 
--- the lines at the end of a record, by their numbers
-pub tail_text-parts : (r : Record) (t : Tally) → t ≡ r.tally → (total : ℤ) → total ≡ pos (length r.rows * 1000000) → (ts : ℕ) → ts ≡ r.ts → tail_text r ≡ own_text r (codes "statsd.bad_lines_seen") t.bad ++ own_text r (codes "statsd.packets_received") t.packets ++ own_text r (codes "statsd.metrics_received") t.lines ++ own_text r (codes "statsd.samples_dropped") t.dropped ++ line_text (codes "statsd.") (codes "numStats") total ts
-unfolding tail_text own_text line_text
-tail_text-parts r t counted total all ts second =
-    let own : Tally → List ℕ = λ n. own_text r (codes "statsd.bad_lines_seen") n.bad ++ own_text r (codes "statsd.packets_received") n.packets ++ own_text r (codes "statsd.metrics_received") n.lines ++ own_text r (codes "statsd.samples_dropped") n.dropped in
-    let count : List ℕ → ℕ → List ℕ = λ n s. line (codes "statsd.numStats") n s in
-    ap (λ n. own r.tally ++ count n r.ts) (sym (number_text-whole (length r.rows)) ∙ ap number_text (sym all))
-    ∙ ap (λ s. own r.tally ++ count (number_text total) s) (sym second)
-    ∙ ap (λ n. own n ++ count (number_text total) ts) (sym counted)
+    pub counter_at : (place : ℕ) → slice_get (row_texts names ts row) place ≡ slice_get (rate_line names ts key rate ∷ count_line names ts key count ∷ []) place
+    counter_at place = ap (λ texts. slice_get texts place) counter_texts
 
--- the lines of no row
-pub rows_text-none : (ts : ℕ) (rows : List Row) → rows_text ts (take 0 rows) ≡ []
-unfolding rows_text
-rows_text-none ts rows = refl
+  module _ (timer : TimerFigures) (is : row ≡ TimerRow key timer) where
+    timer_texts : row_texts names ts row ≡ map (figure_line names ts key) (figures_of timer)
+    unfolding row_texts
+    timer_texts = ap (row_texts names ts) is
+
+    pub timer_count : length (row_texts names ts row) ≡ length (figures_of timer)
+    timer_count = ap length timer_texts ∙ length-map (figures_of timer) (figure_line names ts key)
+
+    pub timer_at : (place : ℕ) (f : Figure) → slice_get (figures_of timer) place ≡ Some f → slice_get (row_texts names ts row) place ≡ Some (figure_line names ts key f)
+    timer_at place f there =
+        ap (λ texts. slice_get texts place) timer_texts ∙ slice_get-map (figure_line names ts key) (figures_of timer) place
+        ∙ ap (option_map (figure_line names ts key)) there
+
+  module _ (value : ℤ) (is : row ≡ GaugeRow key value) where
+    gauge_texts : row_texts names ts row ≡ gauge_line names ts key value ∷ []
+    unfolding row_texts
+    gauge_texts = ap (row_texts names ts) is
+
+    pub gauge_count : length (row_texts names ts row) ≡ 1
+    gauge_count = ap length gauge_texts
+
+    pub gauge_at : (place : ℕ) → place < length (row_texts names ts row) → slice_get (row_texts names ts row) place ≡ Some (gauge_line names ts key value)
+    gauge_at place inside =
+        let first : place ≡ 0 = omega (arith, gauge_count) in
+        ap (λ texts. slice_get texts place) gauge_texts ∙ ap (slice_get (gauge_line names ts key value ∷ [])) first
+
+  module _ (count : ℕ) (is : row ≡ SetRow key count) where
+    set_texts : row_texts names ts row ≡ set_line names ts key count ∷ []
+    unfolding row_texts
+    set_texts = ap (row_texts names ts) is
+
+    pub set_count : length (row_texts names ts row) ≡ 1
+    set_count = ap length set_texts
+
+    pub set_at : (place : ℕ) → place < length (row_texts names ts row) → slice_get (row_texts names ts row) place ≡ Some (set_line names ts key count)
+    set_at place inside =
+        let first : place ≡ 0 = omega (arith, set_count) in
+        ap (λ texts. slice_get texts place) set_texts ∙ ap (slice_get (set_line names ts key count ∷ [])) first
 
 -- the lines of a row more
-pub rows_text-more : (ts second : ℕ) (rows : List Row) (i : ℕ) (row : Row) → slice_get rows i ≡ Some row → second ≡ ts → rows_text ts (take (i + 1) rows) ≡ rows_text ts (take i rows) ++ row_text second row
+pub rows_text-more : (names : Names) (ts second : ℕ) (rows : List Row) (i : ℕ) (row : Row) → slice_get rows i ≡ Some row → second ≡ ts → rows_text names ts (take (i + 1) rows) ≡ rows_text names ts (take i rows) ++ row_text names second row
 unfolding rows_text row_text
-rows_text-more ts second rows i row is same =
-    ap (flat_map (row_lines ts)) (take_more rows i row (slice_get_within rows i row is) ∙ ap (λ e. take i rows ++ e ∷ []) (get_or_from_slice_get rows i row row is))
-    ∙ flat_map-append (row_lines ts) (take i rows) (row ∷ []) ∙ ap (λ xs. flat_map (row_lines ts) (take i rows) ++ xs) (append-nil (row_lines ts row))
-    ∙ ap (λ s. flat_map (row_lines ts) (take i rows) ++ row_lines s row) (sym same)
+rows_text-more names ts second rows i row is same =
+    ap (flat_map (row_lines names ts)) (take_more rows i row (slice_get_within rows i row is) ∙ ap (λ e. take i rows ++ e ∷ []) (get_or_from_slice_get rows i row row is))
+    ∙ flat_map-append (row_lines names ts) (take i rows) (row ∷ []) ∙ ap (λ xs. flat_map (row_lines names ts) (take i rows) ++ xs) (append-nil (row_lines names ts row))
+    ∙ ap (λ s. flat_map (row_lines names ts) (take i rows) ++ row_lines names s row) (sym same)
 
 -- the lines of the first rows, and those of the others
-pub rows_text-split : (ts : ℕ) (rows : List Row) (i : ℕ) → rows_text ts rows ≡ rows_text ts (take i rows) ++ rows_text ts (drop i rows)
+pub rows_text-split : (names : Names) (ts : ℕ) (rows : List Row) (i : ℕ) → rows_text names ts rows ≡ rows_text names ts (take i rows) ++ rows_text names ts (drop i rows)
 unfolding rows_text
-rows_text-split ts rows i =
-    ap (flat_map (row_lines ts)) (sym (take-append-drop i rows)) ∙ flat_map-append (row_lines ts) (take i rows) (drop i rows)
+rows_text-split names ts rows i =
+    ap (flat_map (row_lines names ts)) (sym (take-append-drop i rows)) ∙ flat_map-append (row_lines names ts) (take i rows) (drop i rows)
 
-pub graphite_text-parts : (r : Record) → graphite_text r ≡ rows_text r.ts r.rows ++ tail_text r
+-- the lines of one of the server's own counters are those of a row
+pub own_text-row : (names : Names) (r : Record) (name : List ℕ) (number ts : ℕ) (row : Row) → ts ≡ r.ts → row ≡ CounterRow (names.prefix_stats ++ 46 ∷ name) (whole_number number) (per_second (whole_number number) r.interval_ms) → row_text names ts row ≡ own_text names r name number
+unfolding own_text row_text
+own_text-row names r name number ts row second is = ap (λ n. row_lines names n row) second ∙ ap (row_lines names r.ts) is
+
+-- what stands before the number of rows has neither prefix nor key
+pub rows_front-front : (names : Names) → front names [] [] ≡ rows_front names
+rows_front-front names =
+    elim names.namespace.legacy as (λ legacy. cond legacy [] (dotted names.namespace.global_prefix ++ []) ≡ cond legacy [] (dotted names.namespace.global_prefix)) [
+      | true ↦ refl
+      | false ↦ append-nil (dotted names.namespace.global_prefix)
+    ]
+
+-- the line of the number of rows, by its path and its number
+pub rows_line-made : (names : Names) (path text : List ℕ) (rows ts : ℕ) → path ≡ front names [] [] ++ names.prefix_stats ++ codes ".numStats" → text ≡ decimal rows → line names path text ts ≡ rows_line names rows ts
+unfolding rows_line
+rows_line-made names path text rows ts place number =
+    ap (λ p. line names p text ts) (place ∙ ap (λ (xs : List ℕ). xs ++ names.prefix_stats ++ codes ".numStats") (rows_front-front names))
+    ∙ ap (λ n. line names (rows_front names ++ names.prefix_stats ++ codes ".numStats") n ts) number
+
+-- the lines at the end of a record, by their numbers
+pub tail_text-parts : (names : Names) (r : Record) (t : Tally) → t ≡ r.tally → (rows ts : ℕ) → rows ≡ length r.rows → ts ≡ r.ts → (last : List ℕ) → last ≡ rows_line names rows ts → tail_text names r ≡ own_text names r (codes "bad_lines_seen") t.bad ++ own_text names r (codes "packets_received") t.packets ++ own_text names r (codes "metrics_received") t.lines ++ own_text names r (codes "samples_dropped") t.dropped ++ last
+unfolding tail_text own_text rows_line
+tail_text-parts names r t counted rows ts all second last is =
+    let own : Tally → List ℕ = λ n. own_counter names r (codes "bad_lines_seen") n.bad ++ own_counter names r (codes "packets_received") n.packets ++ own_counter names r (codes "metrics_received") n.lines ++ own_counter names r (codes "samples_dropped") n.dropped in
+    let end : ℕ → ℕ → List ℕ = λ n s. line names (rows_front names ++ names.prefix_stats ++ codes ".numStats") (decimal n) s in
+    ap (λ n. own r.tally ++ end n r.ts) (sym all) ∙ ap (λ s. own r.tally ++ end rows s) (sym second) ∙ ap (λ n. own n ++ end rows ts) (sym counted)
+    ∙ ap (λ (xs : List ℕ). own t ++ xs) (sym is)
+
+pub graphite_text-parts : (names : Names) (r : Record) → graphite_text names r ≡ rows_text names r.ts r.rows ++ tail_text names r
 unfolding rows_text tail_text
-graphite_text-parts r = refl
+graphite_text-parts names r = refl

@@ -1,29 +1,59 @@
--- The parts of Graphite's text, as they are written.
-use Rattle.std.specs.Prelude.{ℕ, ◌*◌, ℤ, pos, List, ◌++◌, flat_map}
-use Rattle.sd_model_text.specs.Numbers.{number_text, per_second}
-use Rattle.sd_model_record.specs.Record.{Row, Record}
-use Rattle.sd_model_record.specs.Graphite.{line, counter_lines, row_lines, tail_lines}
+-- Graphite's text of a record, line by line.
+use Rattle.std.specs.Prelude.{ℕ, ℤ, List, [], ◌∷◌, ◌++◌, map, flat_map, codes, decimal}
+use Rattle.sd_model_text.specs.Numbers.{number_text}
+use Rattle.sd_model_settings.specs.Defaults.{Names}
+use Rattle.sd_model_record.specs.Record.{Row, CounterRow, TimerRow, GaugeRow, SetRow, Record}
+use Rattle.sd_model_record.specs.Figures.{figures_of}
+use Rattle.sd_model_record.specs.Graphite.{front, line, counter_back, figure_line, row_lines, own_counter, rows_front, tail_lines}
+use Rattle.sd_graphite.specs.declared.path.Path.{Path}
 
--- the line of a path in two parts
-unfoldable pub line_text : List ℕ → List ℕ → ℤ → ℕ → List ℕ
-line_text front name value ts = line (front ++ name) (number_text value) ts
+-- the text of a path
+unfoldable pub path_text : Names → Path → List ℕ
+path_text names p = front names p.legacy.now p.prefix.now ++ p.key.now ++ p.back.now
 
--- the lines of a counter
-unfoldable pub counter_text : ℕ → List ℕ → ℤ → ℤ → List ℕ
-counter_text ts key count rate = counter_lines ts key count rate
+-- the line of a counter's count per second
+abbrev pub rate_line : Names → ℕ → List ℕ → ℤ → List ℕ
+rate_line names ts key rate =
+    line names (front names (codes "stats.") names.namespace.prefix_counter ++ key ++ counter_back names (codes ".rate")) (number_text rate) ts
+
+-- the line of a counter's count
+abbrev pub count_line : Names → ℕ → List ℕ → ℤ → List ℕ
+count_line names ts key count =
+    line names (front names (codes "stats_counts.") names.namespace.prefix_counter ++ key ++ counter_back names (codes ".count")) (number_text count) ts
+
+-- the line of a gauge
+abbrev pub gauge_line : Names → ℕ → List ℕ → ℤ → List ℕ
+gauge_line names ts key value =
+    line names (front names (codes "stats.gauges.") names.namespace.prefix_gauge ++ key) (number_text value) ts
+
+-- the line of a set
+abbrev pub set_line : Names → ℕ → List ℕ → ℕ → List ℕ
+set_line names ts key count =
+    line names (front names (codes "stats.sets.") names.namespace.prefix_set ++ key ++ codes ".count") (decimal count) ts
+
+-- the lines of a row, one by one
+unfoldable pub row_texts : Names → ℕ → Row → List (List ℕ)
+row_texts names ts (CounterRow key count rate) = rate_line names ts key rate ∷ count_line names ts key count ∷ []
+row_texts names ts (TimerRow key timer) = map (figure_line names ts key) (figures_of timer)
+row_texts names ts (GaugeRow key value) = gauge_line names ts key value ∷ []
+row_texts names ts (SetRow key count) = set_line names ts key count ∷ []
 
 -- the lines of a row
-unfoldable pub row_text : ℕ → Row → List ℕ
-row_text ts row = row_lines ts row
+unfoldable pub row_text : Names → ℕ → Row → List ℕ
+row_text names ts row = row_lines names ts row
 
 -- the lines of a record's first rows
-unfoldable pub rows_text : ℕ → List Row → List ℕ
-rows_text ts rows = flat_map (row_lines ts) rows
+unfoldable pub rows_text : Names → ℕ → List Row → List ℕ
+rows_text names ts rows = flat_map (row_lines names ts) rows
 
--- the lines of one of the server's own counters, by its key and number
-unfoldable pub own_text : Record → List ℕ → ℕ → List ℕ
-own_text r key number = let count = pos (number * 1000000) in counter_lines r.ts key count (per_second count r.interval_ms)
+-- the lines of one of the server's own counters, by its name and number
+unfoldable pub own_text : Names → Record → List ℕ → ℕ → List ℕ
+own_text names r name number = own_counter names r name number
+
+-- the line of the number of rows
+unfoldable pub rows_line : Names → ℕ → ℕ → List ℕ
+rows_line names rows ts = line names (rows_front names ++ names.prefix_stats ++ codes ".numStats") (decimal rows) ts
 
 -- the lines at the end of a record
-unfoldable pub tail_text : Record → List ℕ
-tail_text r = tail_lines r
+unfoldable pub tail_text : Names → Record → List ℕ
+tail_text names r = tail_lines names r

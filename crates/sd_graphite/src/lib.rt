@@ -2,7 +2,10 @@
 #![tactic(auto)]
 
 mod line;
+mod path;
 mod record;
+mod row;
 mod tail;
+mod writing;
 
 pub use record::write_record;

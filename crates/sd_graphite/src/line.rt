@@ -1,67 +1,96 @@
-ghost use Rattle.std.specs.Prelude.{◌≡◌, ◌+◌, ◌≤◌, ◌++◌, length, OnOk, OnErr};
+ghost use Rattle.std.specs.Prelude.{◌≡◌, ◌+◌, ◌≤◌, ◌∷◌, ◌++◌, [], length, decimal};
 ghost use Rattle.arrayvec.specs.ArrayVec.{array_vec_len};
-ghost use Rattle.sd_model_outside.specs.Outside.{HasFailedBehind, given};
-ghost use Rattle.sd_graphite.specs.Texts.{line_text, counter_text};
+ghost use Rattle.sd_model_text.specs.Numbers.{number_text};
+ghost use Rattle.sd_model_record.specs.Graphite.{dotted, suffix, front, line};
+ghost use Rattle.sd_graphite.specs.Texts.{path_text};
 
+use crate::path::Path;
+use sd_config::Names;
 use sd_decimal::{Line, Sum, write, write_whole};
-use sd_outside::{Failed, Sink, WriteFault, write_all};
 
 /// Appends bytes for which there is room.
-fn push_text(text: &[u8], line: &mut Line)
+pub(crate) fn push_text(text: &[u8], line: &mut Line)
     requires { array_vec_len line.old + length text.now ≤ 1024 }
-    ensures { line.new.items ≡ line.old.items ++ text.now }
+    ensures text { line.new.items ≡ line.old.items ++ text.now }
+    ensures len { array_vec_len line.new ≡ array_vec_len line.old + length text.now }
 {
     line.try_extend_from_slice(text).unwrap();
 }
 
-/// The line of a path, which is given in two parts, a value and a Unix second.
-fn line_of(front: &[u8], name: &[u8], value: Sum, ts: u64) -> Line
-    requires { length front.now + length name.now ≤ 512 }
-    ensures { result.items ≡ line_text front.now name.now value.0 ts }
+/// Appends a part of a path and the point behind it, or nothing where it is empty.
+fn push_dotted(part: &[u8], line: &mut Line)
+    requires part { length part.now ≤ 64 }
+    requires room { array_vec_len line.old ≤ 512 }
+    ensures text { line.new.items ≡ line.old.items ++ dotted part.now }
+    ensures len { array_vec_len line.new ≤ array_vec_len line.old + 65 }
 {
-    // read, so that its text is known to be short
-    let Sum(_millionths) = value;
-    let mut line = Line::new();
-    push_text(front, &mut line);
-    push_text(name, &mut line);
-    line.push(b' ');
-    write(value, &mut line);
-    line.push(b' ');
-    write_whole(u128::from(ts), &mut line);
-    line.push(b'\n');
-    line
-}
-
-/// Writes a line.
-pub(crate) fn write_line<K: Sink>(
-    front: &[u8],
-    name: &[u8],
-    value: Sum,
-    ts: u64,
-    sink: &mut K,
-) -> Result<(), WriteFault>
-    requires { length front.now + length name.now ≤ 512 }
-    ensures ok { OnOk result (K.seen sink.new ≡ given (line_text front.now name.now value.0 ts) (K.seen sink.old)) }
-    ensures failed { OnErr result (HasFailedBehind (line_text front.now name.now value.0 ts) (K.seen sink.old) (K.seen sink.new)) }
-{
-    match write_all(sink, line_of(front, name, value, ts).as_slice()) {
-        Ok(()) => Ok(()),
-        Err(Failed) => Err(WriteFault),
+    if part.is_empty() {
+        return;
     }
+    push_text(part, line);
+    line.push(b'.');
 }
 
-/// Writes the two lines of a counter.
-pub(crate) fn write_counter<K: Sink>(
-    key: &[u8],
-    count: Sum,
-    rate: Sum,
-    ts: u64,
-    sink: &mut K,
-) -> Result<(), WriteFault>
-    requires { length key.now ≤ 255 }
-    ensures ok { OnOk result (K.seen sink.new ≡ given (counter_text ts key.now count.0 rate.0) (K.seen sink.old)) }
-    ensures failed { OnErr result (HasFailedBehind (counter_text ts key.now count.0 rate.0) (K.seen sink.old) (K.seen sink.new)) }
+/// What stands before a key.
+fn front_of(names: &Names, legacy: &[u8], prefix: &[u8]) -> Line
+    requires legacy { length legacy.now ≤ 64 }
+    requires prefix { length prefix.now ≤ 64 }
+    ensures text { result.items ≡ front names.now legacy.now prefix.now }
+    ensures len { array_vec_len result ≤ 130 }
 {
-    write_line(b"stats.", key, rate, ts, sink)?;
-    write_line(b"stats_counts.", key, count, ts, sink)
+    let mut path = Line::new();
+    if names.legacy_namespace() {
+        push_text(legacy, &mut path);
+        return path;
+    }
+    push_dotted(names.global_prefix().as_slice(), &mut path);
+    push_dotted(prefix, &mut path);
+    path
+}
+
+/// Appends what stands behind each path.
+fn push_suffix(names: &Names, line: &mut Line)
+    requires { array_vec_len line.old ≤ 512 }
+    ensures text { line.new.items ≡ line.old.items ++ suffix names.now }
+    ensures len { array_vec_len line.new ≤ array_vec_len line.old + 65 }
+{
+    let text = names.global_suffix().as_slice();
+    if text.is_empty() {
+        return;
+    }
+    line.push(b'.');
+    push_text(text, line);
+}
+
+/// Appends a space and a number.
+fn push_number(number: Sum, line: &mut Line)
+    requires { array_vec_len line.old ≤ 800 }
+    ensures text { line.new.items ≡ line.old.items ++ 32 ∷ number_text number.0 }
+    ensures len { array_vec_len line.new ≤ array_vec_len line.old + 42 }
+{
+    line.push(b' ');
+    write(number, line);
+}
+
+/// Appends a space, a Unix second, and the end of a line.
+fn push_second(ts: u64, line: &mut Line)
+    requires { array_vec_len line.old ≤ 800 }
+    ensures { line.new.items ≡ line.old.items ++ 32 ∷ decimal ts ++ 10 ∷ [] }
+{
+    line.push(b' ');
+    write_whole(u128::from(ts), line);
+    line.push(b'\n');
+}
+
+/// The line of a path and a number.
+pub(crate) fn line_of(names: &Names, path: &Path<'_>, number: Sum, ts: u64) -> Line
+    ensures { result.items ≡ line names.now (path_text names.now path.now) (number_text number.0) ts }
+{
+    let mut line = front_of(names, path.legacy, path.prefix);
+    push_text(path.key, &mut line);
+    push_text(path.back, &mut line);
+    push_suffix(names, &mut line);
+    push_number(number, &mut line);
+    push_second(ts, &mut line);
+    line
 }

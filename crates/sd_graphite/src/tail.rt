@@ -1,51 +1,89 @@
-ghost use Rattle.std.specs.Prelude.{◌≡◌, ◌*◌, ◌≤◌, length, OnOk, OnErr, pos};
+ghost use Rattle.std.specs.Prelude.{◌≡◌, ◌≤◌, ◌∷◌, ◌++◌, length, OnOk, OnErr};
+ghost use Rattle.sd_model_text.specs.Numbers.{per_second};
 ghost use Rattle.sd_model_outside.specs.Outside.{HasFailedBehind, given};
+ghost use Rattle.sd_model_record.specs.Record.{CounterRow};
+ghost use Rattle.sd_model_record.specs.Figures.{whole_number};
 ghost use Rattle.sd_record.specs.Record.{record_view};
-ghost use Rattle.sd_graphite.specs.Texts.{own_text, tail_text};
+ghost use Rattle.sd_record.specs.Row.{row_view};
+ghost use Rattle.sd_graphite.specs.Texts.{own_text, rows_line, tail_text};
 
-use crate::line::{write_counter, write_line};
-use sd_decimal::{Sum, per_second};
+use crate::line::{line_of, push_text};
+use crate::path::Path;
+use crate::writing::{write_line, write_row};
+use sd_config::Names;
+use sd_decimal::{Line, per_second};
+use sd_key::Key;
 use sd_outside::{Sink, WriteFault};
-use sd_record::Record;
+use sd_record::{Record, Row, whole_number};
 
-/// A whole number, in millionths.
-fn whole(n: u64) -> Sum
-    ensures { result.0 ≡ pos (n * 1000000) }
+/// The key of one of the server's own counters.
+fn own_key(name: &[u8], names: &Names) -> Key
+    requires { length name.now ≤ 64 }
+    ensures { result ≡ names.now.prefix_stats ++ 46 ∷ name.now }
 {
-    Sum(i128::from(n) * 1_000_000)
+    let mut key = Line::new();
+    push_text(names.prefix_stats().as_slice(), &mut key);
+    key.push(b'.');
+    push_text(name, &mut key);
+    Key::of(key.as_slice()).unwrap()
+}
+
+/// One of the server's own counters, as a row.
+fn own_row(name: &[u8], number: u64, names: &Names, rec: &Record<'_>) -> Row
+    requires { length name.now ≤ 64 }
+    ensures { row_view result
+        ≡ CounterRow (names.now.prefix_stats ++ 46 ∷ name.now) (whole_number number)
+        (per_second (whole_number number) (record_view rec.now).interval_ms) }
+{
+    let count = whole_number(number);
+    Row::Counter {
+        key: own_key(name, names),
+        count,
+        rate: per_second(count, rec.interval_ms()),
+    }
 }
 
 /// Writes the lines of one of the server's own counters.
 fn write_own_counter<K: Sink>(
-    key: &[u8],
+    name: &[u8],
     number: u64,
+    names: &Names,
     rec: &Record<'_>,
     sink: &mut K,
 ) -> Result<(), WriteFault>
-    requires { length key.now ≤ 255 }
-    ensures ok { OnOk result (K.seen sink.new ≡ given (own_text (record_view rec.now) key.now number) (K.seen sink.old)) }
-    ensures failed { OnErr result (HasFailedBehind (own_text (record_view rec.now) key.now number) (K.seen sink.old) (K.seen sink.new)) }
+    requires { length name.now ≤ 64 }
+    ensures ok { OnOk result (K.seen sink.new ≡ given (own_text names.now (record_view rec.now) name.now number) (K.seen sink.old)) }
+    ensures failed { OnErr result (HasFailedBehind (own_text names.now (record_view rec.now) name.now number) (K.seen sink.old) (K.seen sink.new)) }
 {
-    let count = whole(number);
-    let rate = per_second(count, rec.interval_ms());
-    write_counter(key, count, rate, rec.ts(), sink)
+    write_row(&own_row(name, number, names, rec), names, rec.ts(), sink)
+}
+
+/// The line of the number of rows.
+fn rows_line(rows: u64, names: &Names, ts: u64) -> Line
+    ensures { result.items ≡ rows_line names.now rows ts }
+{
+    let path = Path {
+        legacy: b"",
+        prefix: b"",
+        key: names.prefix_stats().as_slice(),
+        back: b".numStats",
+    };
+    line_of(names, &path, whole_number(rows), ts)
 }
 
 /// Writes the lines at the end of a record.
-pub(crate) fn write_tail<K: Sink>(rec: &Record<'_>, sink: &mut K) -> Result<(), WriteFault>
-    ensures ok { OnOk result (K.seen sink.new ≡ given (tail_text (record_view rec.now)) (K.seen sink.old)) }
-    ensures failed { OnErr result (HasFailedBehind (tail_text (record_view rec.now)) (K.seen sink.old) (K.seen sink.new)) }
+pub(crate) fn write_tail<K: Sink>(
+    rec: &Record<'_>,
+    names: &Names,
+    sink: &mut K,
+) -> Result<(), WriteFault>
+    ensures ok { OnOk result (K.seen sink.new ≡ given (tail_text names.now (record_view rec.now)) (K.seen sink.old)) }
+    ensures failed { OnErr result (HasFailedBehind (tail_text names.now (record_view rec.now)) (K.seen sink.old) (K.seen sink.new)) }
 {
     let tally = rec.tally();
-    write_own_counter(b"statsd.bad_lines_seen", tally.bad, rec, sink)?;
-    write_own_counter(b"statsd.packets_received", tally.packets, rec, sink)?;
-    write_own_counter(b"statsd.metrics_received", tally.lines, rec, sink)?;
-    write_own_counter(b"statsd.samples_dropped", tally.dropped, rec, sink)?;
-    write_line(
-        b"statsd.",
-        b"numStats",
-        whole(rec.rows() as u64),
-        rec.ts(),
-        sink,
-    )
+    write_own_counter(b"bad_lines_seen", tally.bad, names, rec, sink)?;
+    write_own_counter(b"packets_received", tally.packets, names, rec, sink)?;
+    write_own_counter(b"metrics_received", tally.lines, names, rec, sink)?;
+    write_own_counter(b"samples_dropped", tally.dropped, names, rec, sink)?;
+    write_line(&rows_line(rec.rows() as u64, names, rec.ts()), sink)
 }

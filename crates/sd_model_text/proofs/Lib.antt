@@ -5,6 +5,7 @@ pub mod GoodLemmas
 pub mod GrammarLemmas
 pub mod ListLemmas
 pub mod NamesLemmas
+pub mod PartLemmas
 pub mod PieceCounts
 pub mod Rounding
 pub mod Trims

@@ -8,7 +8,9 @@ mod names;
 mod numbers;
 
 pub use grammar::pieces_are_good_or_bad;
-pub use names::{clean_keys, clean_names, clean_twice, hash_vectors, matches_families};
+pub use names::{
+    clean_keys, clean_names, clean_twice, hash_vectors, matches_families, parts_are_told,
+};
 pub use numbers::{
     rounding_is_exact, rounding_is_monotone, rounding_is_near, rounding_is_symmetric,
 };

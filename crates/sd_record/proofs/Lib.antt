@@ -1,2 +1,4 @@
+pub mod FigureLemmas
 pub mod FillLemmas
 pub mod RecordLemmas
+pub mod TimerLemmas

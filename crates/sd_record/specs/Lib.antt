@@ -1,6 +1,8 @@
-pub mod CountedRow
-pub mod Counts
+pub mod Figures
+pub mod Placed
 pub mod Record
+pub mod Room
 pub mod Row
+pub mod Rows
 pub mod ScratchInside
 pub mod Tally

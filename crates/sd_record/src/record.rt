@@ -1,48 +1,55 @@
-ghost use Rattle.std.specs.Prelude.{◌≡◌, ◌<◌, ◌≤◌, [], ◌∷◌, length, slice_get, Some};
+ghost use Rattle.std.specs.Prelude.{◌≡◌, ◌<◌, ◌≤◌, length, map, sum_by, All, slice_get, Some};
 ghost use Rattle.sd_model_record.specs.Record.{record_of};
+ghost use Rattle.sd_config.specs.Plan.{plan_view};
 ghost use Rattle.sd_epoch.specs.Table.{table_of};
-ghost use Rattle.sd_record.specs.Tally.{tally_of};
+ghost use Rattle.sd_record.specs.Placed.{AreInOrder};
 ghost use Rattle.sd_record.specs.Row.{row_view};
+ghost use Rattle.sd_record.specs.Rows.{AreDisjoint};
+ghost use Rattle.sd_record.specs.Tally.{tally_of};
 
-use crate::interval::Interval;
 use crate::row::Row;
 use crate::scratch::RecordScratch;
 use crate::tally::Tally;
+use sd_config::Reckoning;
 use sd_epoch::Table;
 
-/// The record of a flush: the rows of a table by kind and key, the tally, the Unix second, and the
-/// interval that the rates are over. Contracts see it through `record_view`.
+/// The record of a flush: the rows of tables by kind and key, the tally, the Unix second, and the interval that the
+/// rates are over. Contracts see it through `record_view`.
 #[derive(Drop)]
 pub struct Record<'a> {
+    tables: &'a [Table],
+    plan: &'a Reckoning,
     scratch: &'a mut RecordScratch,
-    interval: Interval,
     tally: Tally,
     ts: u64,
+    ghost kept: { AreInOrder (plan_view plan.now) tables.now scratch.now },
 }
 
 impl<'a> Record<'a> {
-    ghost use Rattle.sd_record.specs.Record.{plan_of, record_view, room_of, Borrows};
+    ghost use Rattle.sd_record.specs.Record.{record_view, room_of, Borrows, SameScratch};
 
-    /// The record of a table's rows, which are put in order in the scratch. No memory is taken. The
-    /// scratch is free again where the record ends, and has its room then.
+    /// The record of the rows of tables, which are put in order in the scratch. No memory is taken. The scratch is free
+    /// again where the record ends, and has its room then.
     pub fn over(
-        table: &'a Table,
-        interval_ms: u32,
+        tables: &'a [Table],
+        plan: &'a Reckoning,
         scratch: &'a mut RecordScratch,
         tally: Tally,
         ts: u64,
     ) -> Record<'a>
-        requires room { length table.now.listed ≤ scratch.old.room }
-        requires interval { 0 < interval_ms }
+        requires rows { sum_by (λ t. length t.listed) tables.now ≤ scratch.old.room.rows }
+        requires entries { All (λ t. length t.held ≤ scratch.old.room.entries) tables.now }
+        requires disjoint { AreDisjoint tables.now }
         ensures record { record_view result
-            ≡ record_of (plan_of interval_ms) (table_of table.now ∷ []) (tally_of tally) ts }
+            ≡ record_of (plan_view plan.now) (map table_of tables.now) (tally_of tally) ts }
         ensures room { room_of result ≡ scratch.old.room }
         ensures same_scratch { Borrows result scratch.entry }
     {
-        scratch.fill(table);
+        scratch.fill(tables);
         Record {
+            tables,
+            plan,
             scratch,
-            interval: Interval { ms: interval_ms },
             tally,
             ts,
         }
@@ -56,12 +63,14 @@ impl<'a> Record<'a> {
     }
 
     /// The i-th row.
-    pub fn row(&self, i: usize) -> Row
-        requires { i < length (record_view self.now).rows }
-        ensures { slice_get (record_view self.now).rows i ≡ Some (row_view result) }
+    pub fn row(&mut self, i: usize) -> Row
+        requires { i < length (record_view self.old).rows }
+        ensures row { slice_get (record_view self.old).rows i ≡ Some (row_view result) }
+        ensures record { record_view self.new ≡ record_view self.old }
+        ensures room { room_of self.new ≡ room_of self.old }
+        ensures same_scratch { SameScratch self.new self.old }
     {
-        let scratch: &RecordScratch = self.scratch;
-        scratch.rows[i].over(self.interval)
+        self.scratch.row(i, self.tables, self.plan)
     }
 
     /// The Unix second of the flush.
@@ -83,6 +92,6 @@ impl<'a> Record<'a> {
         ensures value { result ≡ (record_view self.now).interval_ms }
         ensures some { 0 < result }
     {
-        self.interval.ms
+        self.plan.interval_ms
     }
 }

@@ -7,7 +7,7 @@ use sd_stats::{PctStats, Whole};
 pub type Parts = ArrayVec<PctStats, 16>;
 
 /// A bin: its upper limit, which it doesn't hold, and how many values it counts.
-#[derive(Clone, Copy, Debug, PartialEq, Eq)]
+#[derive(Clone, Copy, Debug, Default, PartialEq, Eq)]
 pub struct Bin {
     pub below: Limit,
     pub count: u64,

@@ -1,60 +1,86 @@
-ghost use Rattle.std.specs.Prelude.{◌≡◌, ◌≤◌, [], length, IfOk};
-ghost use Rattle.sd_epoch.specs.Table.{table_of};
-ghost use Rattle.sd_record.specs.Counts.{counted};
+ghost use Rattle.std.specs.Prelude.{◌≡◌, ◌<◌, ◌≤◌, [], length, map, slice_get, Some, sum_by, All, IfOk};
+ghost use Rattle.std.specs.List.Sorted.{IsPermutation, IsSortedByKey};
+ghost use Rattle.sd_model_shard.specs.Rows.{row_cmp};
+ghost use Rattle.sd_config.specs.Plan.{plan_view};
+ghost use Rattle.sd_epoch.specs.Limits.{limits_of, AreLimits};
+ghost use Rattle.sd_epoch.specs.Table.{AreApart};
+ghost use Rattle.sd_record.specs.Placed.{row_id, seen_in, value_at, IsPlaced};
+ghost use Rattle.sd_record.specs.Room.{room_for};
+ghost use Rattle.sd_record.specs.Row.{row_view};
+ghost use Rattle.sd_record.specs.Rows.{all_rows, with_id};
 
-use crate::counted_row::CountedRow;
-use crate::counting::count_rows;
-use sd_epoch::{Limits, Table};
+use crate::placed::{PlacedRow, place_all};
+use crate::row::Row;
+use crate::values::row_of;
+use sd_config::Reckoning;
+use sd_epoch::{Limits, Scratch, Table};
 use std::alloc::{AllocError, Global};
 use std::marker::Model;
 
-/// The rows of a record in order, in room taken when it was opened.
+/// The rows of a record in order, and room for the values and members of one, in room taken when it was opened.
 #[derive(Debug, Drop)]
 pub struct RecordScratch {
-    pub(crate) rows: Vec<CountedRow>,
+    rows: Vec<PlacedRow>,
+    gathered: Scratch,
 }
 
 impl Model for RecordScratch {
-    ghost use Rattle.sd_record.specs.Counts.{Counts};
+    ghost use Rattle.sd_record.specs.Placed.{Places};
 
-    ghost Value = { Counts };
+    ghost Value = { Places };
 
-    ghost use Rattle.sd_record.specs.ScratchInside.{scratch_view, IsScratch};
+    ghost use Rattle.sd_record.specs.ScratchInside.{scratch_view};
 
     ghost view = { scratch_view };
-
-    ghost invariant = { IsScratch };
 }
 
 impl RecordScratch {
-    /// Room for as many rows as the limits say.
+    /// Room for the rows of so many shards with these limits, and for the entries of one of them.
     ///
     /// # Errors
     ///
     /// Where no memory is left for it.
-    pub fn open(alloc: Global, limits: Limits) -> Result<RecordScratch, AllocError>
-        ensures room { IfOk result (λ s. s.room ≡ limits.rows) }
-        ensures empty { IfOk result (λ s. s.rows ≡ []) }
+    pub fn open(alloc: Global, limits: Limits, shards: u16) -> Result<RecordScratch, AllocError>
+        requires limits { AreLimits (limits_of limits) }
+        requires some { 0 < shards }
+        requires few { shards ≤ 16 }
+        ensures room { IfOk result (λ s. s.room ≡ room_for (limits_of limits) shards) }
+        ensures empty { IfOk result (λ s. s.placed ≡ []) }
     {
         Ok(RecordScratch {
-            rows: Vec::with_capacity(alloc, limits.rows as usize)?,
+            rows: Vec::with_capacity(alloc, limits.rows as usize * usize::from(shards))?,
+            gathered: Scratch::open(alloc, limits)?,
         })
     }
 
-    /// Puts the rows of a table in order, with their counts, in place of those that were there.
-    pub(crate) fn fill(&mut self, table: &Table)
-        requires { length table.now.listed ≤ self.old.room }
-        ensures rows { self.new.rows ≡ counted (table_of table.now) }
+    /// Puts the rows of tables in order, in place of those that were there.
+    pub(crate) fn fill(&mut self, tables: &[Table])
+        requires { sum_by (λ t. length t.listed) tables.now ≤ self.old.room.rows }
+        ensures rows { IsPermutation (map with_id (all_rows tables.now)) (map (seen_in tables.now) self.new.placed) }
+        ensures order { IsSortedByKey row_id row_cmp self.new.placed }
+        ensures apart { All (λ t. AreApart t.listed) tables.now }
         ensures room { self.new.room ≡ self.old.room }
     {
-        count_rows(table, &mut self.rows);
+        place_all(tables, &mut self.rows);
         self.rows.sort_unstable();
     }
 
     /// How many rows stand there.
     pub(crate) fn len(&self) -> usize
-        ensures { result ≡ length self.now.rows }
+        ensures { result ≡ length self.now.placed }
     {
         self.rows.len()
+    }
+
+    /// The i-th row, as a record has it.
+    pub(crate) fn row(&mut self, i: usize, tables: &[Table], plan: &Reckoning) -> Row
+        requires row { i < length self.old.placed }
+        requires placed { All (IsPlaced tables.now) self.old.placed }
+        requires room { All (λ t. length t.held ≤ self.old.room.entries) tables.now }
+        ensures row { slice_get (map (value_at (plan_view plan.now) tables.now) self.old.placed) i ≡ Some (row_view result) }
+        ensures same { self.new ≡ self.old }
+    {
+        let place = self.rows[i].place;
+        row_of(&tables[place.table], place.row, plan, &mut self.gathered)
     }
 }

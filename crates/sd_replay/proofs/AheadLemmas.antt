@@ -1,5 +1,5 @@
 -- Bytes held in a part of the room.
-use Rattle.std.proofs.Common.{◌≡◌, ℕ, ◌+◌, ◌-◌, ◌≤◌, List, ◌++◌, Vec, [], Option, Some, None, length, take, drop, refl, sym, ap, ◌∙◌, arith, append_assoc, length-append, length-drop, length-take}
+use Rattle.std.proofs.Common.{◌≡◌, ℕ, ◌+◌, ◌-◌, ◌≤◌, List, ◌++◌, Vec, [], Option, Some, None, length, take, drop, sym, ap, ◌∙◌, arith, length-append, length-drop, length-take}
 use Rattle.std.specs.Prelude.{slice_range, min, IfSome}
 use Rattle.std.proofs.lemmas.List.{take-append-le, drop-append-le, drop-take, drop-drop, length-take-le, take_at, with_items_is, take_min, append-nil}
 use Rattle.std.proofs.Math.Seq.{take-append-add}

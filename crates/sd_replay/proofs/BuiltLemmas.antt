@@ -1,10 +1,10 @@
 -- Bytes that begin with a built record begin with the line of a legal head.
 use Rattle.std.proofs.Common.{◌≡◌, ◌≢◌, ℕ, suc, zero, ◌+◌, ◌-◌, ◌^◌, ◌<◌, ◌≤◌, List, [], ◌∷◌, ◌++◌, Option, Some, None, length, get_or, take, drop, decimal, refl, sym, ap, subst, ◌∙◌, ⊎_elim, inl, inr, arith, append_assoc, length-append, length-take}
-use Rattle.std.specs.Prelude.{IfSome, MatchOption, slice_range}
+use Rattle.std.specs.Prelude.{IfSome, MatchOption}
 use Rattle.std.proofs.lemmas.Bool.{cases_lt}
 use Rattle.std.proofs.lemmas.Option.{MatchOption-at_some}
 use Rattle.std.proofs.lemmas.Fmt.{length-decimal-le, decimal_injective}
-use Rattle.std.proofs.lemmas.List.{take_at, drop_at, get_or-take, get_or-append-add, get_or_append_left, get_or-append_right, take-append-drop, drop_more, length_push}
+use Rattle.std.proofs.lemmas.List.{get_or-take, get_or-append-add, get_or_append_left, get_or-append_right, take-append-drop, drop_more, length_push}
 use Rattle.sd_model_replay.specs.Script.{Command, Packet as PacketRecord, Flush as FlushRecord, spelled, IsBuilt, BeginsBuilt, IsUndecided}
 use Rattle.sd_replay.specs.Ahead.{left_behind, Grows}
 use Rattle.sd_replay.specs.Fields.{Lacks, IsFirstPlace}

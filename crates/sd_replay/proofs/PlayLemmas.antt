@@ -1,13 +1,13 @@
 -- A replay so far, and one record more.
 use Rattle.std.proofs.Math.Nat.{mod-one}
-use Rattle.std.proofs.Common.{◌≡◌, ◌≢◌, ℕ, zero, suc, cond, ◌+◌, ◌<◌, ◌^◌, min, Bool, true, false, eqb, List, [], ◌∷◌, ◌++◌, length, map, refl, sym, ap, subst, ◌∙◌, append-nil, length-append, arith}
-use Rattle.std.specs.Prelude.{sum_by, filter}
-use Rattle.std.specs.List.{AllByRecursion, cons_option}
+use Rattle.std.proofs.Common.{◌≡◌, ◌≢◌, ℕ, zero, suc, cond, ◌+◌, ◌<◌, ◌^◌, min, eqb, List, [], ◌∷◌, ◌++◌, length, map, refl, sym, ap, subst, ◌∙◌, append-nil, length-append, arith}
+use Rattle.std.specs.Prelude.{sum_by}
+use Rattle.std.specs.List.{AllByRecursion}
 use Rattle.std.proofs.lemmas.List.{map-append}
 use Rattle.std.proofs.lemmas.List.Sums.{sum_by-cons}
 use Rattle.sd_model_text.specs.Names.{shard}
 use Rattle.sd_model_text.specs.Lines.{Sample, samples_of}
-use Rattle.sd_model_outside.specs.Outside.{Told, Object, Reads, Used, Rose, HasFailedBehind, FitsLastCount, appended, given, last_count, put_back, telling}
+use Rattle.sd_model_outside.specs.Outside.{Told, Object, Reads, Used, Rose, HasFailedBehind, FitsLastCount, given, last_count, put_back, telling}
 use Rattle.sd_model_outside.proofs.OutsideLemmas.{appended-nil, Reads-nil, Reads-append, put_back-append}
 use Rattle.sd_model_shard.specs.Shard.{State, Limits, Policy, Reply, Submit, after_swap, step, table_of}
 use Rattle.sd_model_shard.specs.History.{Act, Asked, History, after_all, answered, part_of}
@@ -16,17 +16,16 @@ use Rattle.sd_model_record.specs.Desk.{Desk, Mark, Marks, NotUsed, with_tally, w
 use Rattle.sd_model_record.specs.Graphite.{graphite_text}
 use Rattle.sd_model_record.specs.Record.{record_of}
 use Rattle.sd_model_replay.specs.Settings as model
-use Rattle.sd_model_replay.specs.Backends.{Backend, Graphite, Console, Delivery, FitsUse, AfterMark, AfterDeliveries, is_used, mark_of}
+use Rattle.sd_model_replay.specs.Backends.{Backend, Graphite, Console, FitsUse, AfterMark, AfterDeliveries, is_used, mark_of}
 use Rattle.sd_model_replay.specs.Script.{Command, Packet, Flush, Unbuilt, MayStandNext, end_word, spelled, script_text, IsBuilt, IsUndecided, IsDecided}
-use Rattle.sd_model_replay.specs.Replay.{Played, Outcome, IsOutcome, quiet, home_of, events_in, acts_in, replies_to, packet_tally, Run, first_run, play, run_of, FlushMoment, deliveries}
+use Rattle.sd_model_replay.specs.Replay.{Played, Outcome, IsOutcome, quiet, home_of, acts_in, packet_tally, Run, first_run, play, run_of, FlushMoment, deliveries}
 use Rattle.sd_model_replay.specs.Totals.{Totals, totals_of, totals_after, totals_text}
 use Rattle.sd_model_replay.specs.AccountingTheorem.{Seen, Course, AccountingTheorem, seen_at}
-use Rattle.sd_model_replay.specs.Ends.{End, Complete, NotBuilt, ReadFailed, WriteFailed, WornOut, Replayed, EndsAs, text_length}
+use Rattle.sd_model_replay.specs.Ends.{Complete, NotBuilt, ReadFailed, WriteFailed, WornOut, Replayed, text_length}
 use Rattle.sd_model_replay.proofs.AccountingLemmas.{are_accounted, are_documented}
 use Rattle.sd_model_replay.proofs.DeliveryLemmas.{AfterDeliveries-push}
-use Rattle.sd_model_replay.proofs.ReplayLemmas.{run_of-push, deliveries-push, flush_at, delivery_of, script_text-end, AllByRecursion-push}
+use Rattle.sd_model_replay.proofs.ReplayLemmas.{run_of-push, deliveries-push, delivery_of, script_text-end, AllByRecursion-push}
 use Rattle.sd_replay.specs.Filed.{filed, lost}
-use Rattle.sd_replay.specs.Reading.{Reading, left}
 use Rattle.sd_replay.specs.Settings.{settings_of}
 use Rattle.sd_replay.specs.Totals.{totals_of_one}
 use Rattle.sd_replay.specs.declared.settings.Settings.{Settings}

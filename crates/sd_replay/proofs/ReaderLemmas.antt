@@ -1,6 +1,6 @@
 -- A record that stands at the front of the bytes ahead is read.
-use Rattle.std.proofs.Common.{◌≡◌, ℕ, ◌+◌, ◌<◌, List, [], ◌∷◌, ◌++◌, Option, None, Some, length, take, drop, get_or, refl, sym, ap, subst, ◌∙◌, arith, append_assoc, length-append, length-drop}
-use Rattle.std.specs.Prelude.{min, option_map, slice_range}
+use Rattle.std.proofs.Common.{◌≡◌, ℕ, ◌+◌, ◌<◌, List, [], ◌∷◌, ◌++◌, length, take, drop, get_or, sym, ap, subst, ◌∙◌, arith, append_assoc, length-append, length-drop}
+use Rattle.std.specs.Prelude.{min}
 use Rattle.std.proofs.lemmas.List.{drop_at, length_push, take-append-drop, drop_more, length-take-le, get_or-drop}
 use Rattle.sd_model_outside.specs.Outside.{Told, Reads, last_count, put_back}
 use Rattle.sd_model_outside.proofs.OutsideLemmas.{put_back-append}

@@ -1,12 +1,12 @@
 -- What a replay works on, before the first record.
-use Rattle.std.specs.Prelude.{◌≡◌, ◌≤◌, []}
+use Rattle.std.specs.Prelude.{◌≡◌, []}
 use Rattle.sd_model_shard.specs.Shard.{empty_state}
 use Rattle.sd_model_record.specs.Desk.{new_desk}
 use Rattle.sd_model_replay.specs.Settings as model
 use Rattle.sd_epoch.specs.Limits.{limits_of}
 use Rattle.sd_shard.specs.Policy.{policy_of}
 use Rattle.sd_shard.specs.Shard.{state_of}
-use Rattle.sd_replay.specs.Room.{IsSpareFor}
+use Rattle.sd_replay.specs.Room.{IsSpareFor, HasRoom}
 use Rattle.sd_replay.specs.Settings.{settings_of}
 use Rattle.sd_replay.specs.declared.room.ReplayRoom.TheInside.{Inside}
 
@@ -21,7 +21,7 @@ pub record IsFresh (room : Inside) : Type 0 where
   pub policy : room.shard.policy ≡ policy_of room.settings.policy
   pub spare : IsSpareFor (limits_of room.settings.limits) room.spare
   pub desk : room.desk ≡ new_desk
-  pub scratch : room.settings.limits.rows ≤ room.scratch.room
+  pub scratch : HasRoom (limits_of room.settings.limits) room.scratch.room
   pub pending : room.reader.pending ≡ []
   pub start : room.reader.at ≡ 0
   pub receivers : room.reader.receivers ≡ room.settings.receivers

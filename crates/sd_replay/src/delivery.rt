@@ -3,7 +3,7 @@ ghost use Rattle.sd_model_outside.specs.Outside.{Rose};
 ghost use Rattle.sd_model_record.specs.Desk.{NotUsed};
 ghost use Rattle.sd_model_record.specs.Graphite.{graphite_text};
 ghost use Rattle.sd_model_replay.specs.Backends.{AfterMark};
-ghost use Rattle.sd_record.specs.Record.{record_view};
+ghost use Rattle.sd_record.specs.Record.{record_view, room_of, SameScratch};
 ghost use Rattle.sd_replay.specs.Marks.{mark_of};
 
 use crate::desk::Mark;
@@ -17,6 +17,8 @@ use sd_record::Record;
 pub fn deliver<B: Backend>(rec: &mut Record<'_>, names: &Names, back: &mut B) -> Mark
     ensures used { mark_of result ≢ NotUsed }
     ensures delivery { AfterMark (mark_of result) (graphite_text names.now (record_view rec.old)) (B.seen back.old) (B.seen back.new) }
+    ensures room { room_of rec.new ≡ room_of rec.old }
+    ensures same_scratch { SameScratch rec.new rec.old }
     ensures written { ¬ Rose (B.seen back.old).faults (B.seen back.new).faults → result ≡ Mark.Written }
 {
     let Ok(()) = back.begin() else {

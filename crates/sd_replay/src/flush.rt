@@ -1,4 +1,4 @@
-ghost use Rattle.std.specs.Prelude.{◌≡◌, ◌≢◌, ◌<◌, ◌≤◌, [], ◌∷◌};
+ghost use Rattle.std.specs.Prelude.{◌≡◌, ◌≢◌, [], ◌∷◌};
 ghost use Rattle.sd_model_record.specs.Desk.{NotUsed, with_round};
 ghost use Rattle.sd_model_record.specs.Graphite.{graphite_text};
 ghost use Rattle.sd_model_record.specs.Record.{record_of};
@@ -7,7 +7,7 @@ ghost use Rattle.sd_model_shard.specs.Shard.{after_swap, table_of};
 ghost use Rattle.sd_config.specs.Plan.{plan_view};
 ghost use Rattle.sd_shard.specs.Shard.{state_of};
 ghost use Rattle.sd_replay.specs.Marks.{mark_of, marks_of};
-ghost use Rattle.sd_replay.specs.Room.{IsSpareFor};
+ghost use Rattle.sd_replay.specs.Room.{IsSpareFor, HasRoom};
 
 use crate::delivery::deliver;
 use crate::desk::{Desk, Mark, RoundMarks};
@@ -37,7 +37,7 @@ pub(crate) fn flush<B: Backend>(
     back: &mut B,
 ) -> Flushed
     requires spare { IsSpareFor shard.old.table.limits spare }
-    requires room { shard.old.table.limits.rows ≤ scratch.old.room }
+    requires room { HasRoom shard.old.table.limits scratch.old.room }
     ensures state { state_of shard.new ≡ after_swap shard.old.policy (state_of shard.old) }
     ensures limits { shard.new.table.limits ≡ shard.old.table.limits }
     ensures policy { shard.new.policy ≡ shard.old.policy }

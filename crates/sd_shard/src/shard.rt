@@ -152,6 +152,7 @@ impl Shard {
             ≡ (step self.old.table.limits self.old.policy (state_of self.old) who Swap).reply }
         ensures table_limits { result.limits ≡ self.old.table.limits }
         ensures table_rows { length result.listed ≤ result.limits.rows }
+        ensures table_entries { length result.held ≤ result.limits.entries }
         ensures state { (who : ℕ) → state_of self.new
             ≡ (step self.old.table.limits self.old.policy (state_of self.old) who Swap).state }
         ensures limits { self.new.table.limits ≡ self.old.table.limits }

@@ -17,7 +17,7 @@ pub struct Whole {
 }
 
 /// The statistics of the part of a timer's values that a threshold takes.
-#[derive(Clone, Copy, Debug, PartialEq, Eq)]
+#[derive(Clone, Copy, Debug, Default, PartialEq, Eq)]
 pub struct PctStats {
     pub threshold: Micro,
     /// How many values the part has.

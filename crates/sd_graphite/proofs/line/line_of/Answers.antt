@@ -1,25 +1,15 @@
-use Rattle.std.proofs.Common.{arith}
-use Rattle.std.proofs.lemmas.Int.{ints}
-use Rattle.sd_graphite.proofs.NumberLemmas.{length-path_value}
-use Rattle.sd_graphite.proofs.TextLemmas.{line_text-made}
+use Rattle.std.proofs.Common.{ap, ◌∙◌, ℕ, List, [], ◌∷◌, ◌++◌}
+use Rattle.std.specs.Fmt.{decimal}
+use Rattle.sd_model_text.specs.Numbers.{number_text}
+use Rattle.sd_model_record.specs.Graphite.{suffix}
+use Rattle.sd_graphite.specs.Texts.{path_text}
 use Rattle.sd_graphite.proofs.line.line_of.Goals as goal
 
-pub push-requires-2 : goal.push-requires-2
-push-requires-2 c =
-    let short = length-path_value _ _ _ _ _ c.args.front.now c.args.name.now c.args.value.0 c.new-line.ensures c.push_text.ensures c.push_text-2.ensures c.push.ensures.items c.write.ensures c.requires (omega (arith, ints)) in
-    (omega arith, omega arith)
-
-pub write_whole-requires : goal.write_whole-requires
-write_whole-requires c =
-    let short = length-path_value _ _ _ _ _ c.args.front.now c.args.name.now c.args.value.0 c.new-line.ensures c.push_text.ensures c.push_text-2.ensures c.push.ensures.items c.write.ensures c.requires (omega (arith, ints)) in
-    omega arith
-
-pub push-requires-3 : goal.push-requires-3
-push-requires-3 c =
-    let short = length-path_value _ _ _ _ _ c.args.front.now c.args.name.now c.args.value.0 c.new-line.ensures c.push_text.ensures c.push_text-2.ensures c.push.ensures.items c.write.ensures c.requires (omega (arith, ints)) in
-    (omega arith, omega arith)
-
 pub returns : goal.returns
+unfolding path_text
 returns c =
-    line_text-made _ _ _ _ _ _ _ _ c.args.front.now c.args.name.now c.args.value.0 c.args.ts _ c.new-line.ensures c.push_text.ensures c.push_text-2.ensures c.push.ensures.items
-    c.write.ensures c.push-2.ensures.items c.write_whole.ensures.text c.from.ensures c.push-3.ensures.items
+    let p = c.args.path.now in
+    let to_path = c.push_text-2.ensures.text ∙ ap (λ (xs : List ℕ). xs ++ p.back.now) (c.push_text.ensures.text ∙ ap (λ (xs : List ℕ). xs ++ p.key.now) c.front_of-line.ensures.text) in
+    let to_suffix = c.push_suffix.ensures.text ∙ ap (λ (xs : List ℕ). xs ++ suffix c.args.names.now) to_path in
+    let to_number = c.push_number.ensures.text ∙ ap (λ (xs : List ℕ). xs ++ 32 ∷ number_text c.args.number.0) to_suffix in
+    c.push_second.ensures ∙ ap (λ (xs : List ℕ). xs ++ 32 ∷ decimal c.args.ts ++ 10 ∷ []) to_number

@@ -1,9 +1,11 @@
-use Rattle.std.proofs.Common.{◌≡◌, [], ◌∷◌, subst, ap, ◌∙◌}
+use Rattle.std.proofs.Common.{◌≡◌, [], ◌∷◌, map, subst, ap, ◌∙◌}
 use Rattle.sd_model_record.specs.Graphite.{graphite_text}
 use Rattle.sd_model_record.specs.Record.{record_of}
 use Rattle.sd_model_replay.specs.Backends.{AfterMark}
-use Rattle.sd_model_shard.specs.Shard.{Table, Reply, Swapped, table_of}
+use Rattle.sd_model_shard.specs.Shard as model
+use Rattle.sd_model_shard.specs.Shard.{Reply, Swapped, table_of}
 use Rattle.sd_config.specs.Plan.{plan_view}
+use Rattle.sd_epoch.specs.Table as epoch
 use Rattle.sd_record.specs.Record.{record_view}
 use Rattle.sd_record.specs.Tally.{tally_of}
 use Rattle.sd_shard.specs.Shard.{state_of}
@@ -13,7 +15,7 @@ use Rattle.sd_replay.proofs.flush.flush.Goals as goal
 pub returns-clause-state : goal.returns-clause-state
 returns-clause-state g c = c.swap-table.ensures.state 0
 
-table_in : Table → Reply → Table
+table_in : model.Table → Reply → model.Table
 table_in other (Swapped table) = table
 table_in other reply = other
 
@@ -25,5 +27,5 @@ returns-clause-delivery g c =
     let state = state_of c.args.shard.now in
     let table = ap (table_in (table_of state)) (c.swap-table.ensures.table 0) in
     let same : record_view c.over-record.result ≡ record_of plan (table_of state ∷ []) c.args.desk.now.tally c.args.ts =
-    c.over-record.ensures.record ∙ ap (λ t. record_of plan (t ∷ []) (tally_of c.take-tally.result) c.args.ts) table ∙ ap (λ t. record_of plan (table_of state ∷ []) t c.args.ts) c.take-tally.ensures.tally in
+    c.over-record.ensures.record ∙ ap (λ ts. record_of plan (map epoch.table_of ts) (tally_of c.take-tally.result) c.args.ts) c.from_ref.ensures.value ∙ ap (λ t. record_of plan (t ∷ []) (tally_of c.take-tally.result) c.args.ts) table ∙ ap (λ t. record_of plan (table_of state ∷ []) t c.args.ts) c.take-tally.ensures.tally in
     subst (λ r. AfterMark (mark_of c.deliver-graphite.result) (graphite_text c.args.names.now r) (g.B.Faulty.seen c.args.back.now) (g.B.Faulty.seen c.deliver-graphite.new.back)) same c.deliver-graphite.ensures.delivery

@@ -1,4 +1,4 @@
-use Rattle.std.proofs.Common.{◌≡◌, ◌≤◌, ◌<◌, ℕ, ◌^◌, List, [], ◌∷◌, ◌++◌, sym, subst, ap, ◌∙◌, refl, arith}
+use Rattle.std.proofs.Common.{◌≡◌, ℕ, ◌^◌, List, [], ◌∷◌, ◌++◌, sym, subst, ap, ◌∙◌, refl, arith}
 use Rattle.sd_model_outside.specs.Outside.{Object, Used, Rose, HasFailedBehind, given, put_back}
 use Rattle.sd_model_outside.proofs.OutsideLemmas.{Reads-append, Reads-nil}
 use Rattle.sd_model_text.specs.Lines.{samples_of}
@@ -21,7 +21,7 @@ use Rattle.sd_replay.specs.Filed.{filed, lost}
 use Rattle.sd_replay.specs.Marks.{mark_of, marks_of}
 use Rattle.sd_replay.specs.Reading.{left}
 use Rattle.sd_replay.specs.Reads.{ReadsItem}
-use Rattle.sd_replay.specs.Room.{IsSpareFor}
+use Rattle.sd_replay.specs.Room.{IsSpareFor, HasRoom}
 use Rattle.sd_replay.specs.Seen.{seen_of}
 use Rattle.sd_replay.specs.Totals.{totals_of_one, totals_view}
 use Rattle.sd_outside.specs.declared.backend.Backs.{Backs}
@@ -135,7 +135,7 @@ loop-turn-preserved g c =
               limits = ap (λ (s : Standing). s.table.limits) w.shard-is ∙ w.play_packet.ensures.limits ∙ stands.limits;
               policy = ap (λ (s : Standing). s.policy) w.shard-is ∙ w.play_packet.ensures.policy ∙ stands.policy;
               spare = subst (IsSpareFor (limits_of settings.limits)) (sym w.spare-is) stands.spare;
-              room = subst (λ s. settings.limits.rows ≤ s.room) (sym w.scratch-is) stands.room;
+              room = subst (λ s. HasRoom (limits_of settings.limits) s.room) (sym w.scratch-is) stands.room;
               receivers = read.receivers ∙ stands.receivers;
               faults = faults;
               place = place;
@@ -160,7 +160,7 @@ loop-turn-preserved g c =
               limits = ap (λ (s : Standing). s.table.limits) w.shard-is ∙ w.flush-flushed.ensures.limits ∙ stands.limits;
               policy = ap (λ (s : Standing). s.policy) w.shard-is ∙ w.flush-flushed.ensures.policy ∙ stands.policy;
               spare = subst (IsSpareFor (limits_of settings.limits)) (sym w.spare-is) (subst (λ limits. IsSpareFor limits w.flush-flushed.result.spare) stands.limits w.flush-flushed.ensures.spare);
-              room = subst (λ s. settings.limits.rows ≤ s.room) (sym w.scratch-is) (omega (arith, stands.room, w.flush-flushed.ensures.room));
+              room = subst (λ s. HasRoom (limits_of settings.limits) s.room) (sym w.scratch-is) (subst (HasRoom (limits_of settings.limits)) (sym w.flush-flushed.ensures.room) stands.room);
               receivers = read.receivers ∙ stands.receivers;
               faults = faults;
               place = place;

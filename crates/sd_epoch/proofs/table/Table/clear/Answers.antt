@@ -1,9 +1,10 @@
-use Rattle.std.proofs.Common.{◌≡◌, List, Option, None, replicate, length, sym, ap, subst, ◌∙◌, arith}
+use Rattle.std.proofs.Common.{◌≡◌, List, Option, None, replicate, length, sym, ap, subst, ◌∙◌, arith, All}
 use Rattle.std.proofs.lemmas.List.{length-replicate}
 use Rattle.sd_rows.specs.declared.row.Row.{Row}
 use Rattle.sd_epoch.specs.Chain.{IsChain}
-use Rattle.sd_epoch.specs.Entries.{AreRows, AreTallies, AllLive, held_in, places_of}
+use Rattle.sd_epoch.specs.Entries.{AreRows, AreTallies, AllLive, held_in, places_of, IsTimed}
 use Rattle.sd_epoch.specs.declared.entry.Entry.{Entry}
+use Rattle.std.proofs.lemmas.List.Elements.{All-nil}
 use Rattle.sd_epoch.proofs.TableLemmas.{no_rows, no_tallies}
 use Rattle.sd_epoch.proofs.table.Table.clear.Goals as goal
 
@@ -21,6 +22,7 @@ invariant_of-self c =
       rows = subst (λ (xs : List (Option Row)). AreRows xs order.items) (sym empty) (subst (AreRows (replicate n None)) (sym c.clear-2.ensures.items) (no_rows n));
       tallies = subst (λ (xs : List (Option Row)). AreTallies xs tallies (held_in xs entries.items)) (sym empty) (no_tallies n tallies (held_in (replicate n None) entries.items));
       owned = subst (λ (es : List Entry). AllLive rows (places_of es)) (sym c.clear-3.ensures.items) tt;
+      timed = subst (λ (es : List Entry). All IsTimed (held_in rows es)) (sym c.clear-3.ensures.items) (All-nil IsTimed);
       chain = subst (λ (es : List Entry). IsChain (places_of es) chain.last.items chain.before.items) (sym c.clear-3.ensures.items) c.clear-4.ensures.chain;
       places = ap length empty ∙ length-replicate n None ∙ w.places;
       tally_places = w.tally_places;

@@ -1,4 +1,4 @@
-use Rattle.std.proofs.Common.{◌≡◌, Bool, not, filter, length, sym, ap, subst, refl, List, ◌∙◌, arith}
+use Rattle.std.proofs.Common.{◌≡◌, Bool, not, filter, length, sym, ap, subst, refl, List, ◌∙◌, arith, All}
 use Rattle.std.proofs.lemmas.List.{length-map}
 use Rattle.std.proofs.lemmas.List.Filters.{length-filter_both}
 use Rattle.std.specs.FinMap.{from_entries}
@@ -8,8 +8,9 @@ use Rattle.sd_model_shard.specs.Commands.{is_hit, rows_left, entries_taken_out}
 use Rattle.sd_model_shard.proofs.ListedLemmas.{retained}
 use Rattle.sd_epoch.specs.Table.{Listing, live_of}
 use Rattle.sd_model_shard.specs.Rows as model
-use Rattle.sd_epoch.specs.Entries.{listed_in, entry_view, held_in, places_of, AllLive, AreRows, AreTallies}
+use Rattle.sd_epoch.specs.Entries.{listed_in, entry_view, held_in, places_of, AllLive, AreRows, AreTallies, IsTimed}
 use Rattle.sd_epoch.specs.declared.entry.Entry.{Entry}
+use Rattle.std.proofs.lemmas.List.Elements.{All-filter}
 use Rattle.sd_epoch.proofs.LeftLemmas.{listed_left, held_left, left_rows, left_tallies, all_owned}
 use Rattle.sd_epoch.proofs.table.Table.forget_rows.Goals as goal
 
@@ -25,6 +26,7 @@ invariant_of-self c =
       rows = subst (AreRows rows) (sym c.close_up.ensures.order) (left_rows gone t.rows rows are t.order.items w.rows);
       tallies = subst (AreTallies rows t.tallies.items) (sym held) (left_tallies gone t.rows rows are t.tallies.items (held_in t.rows t.entries.items) w.tallies);
       owned = subst (λ (es : List Entry). AllLive rows (places_of es)) (sym c.close_up.ensures.entries) (all_owned rows t.entries.items);
+      timed = subst (All IsTimed) (sym held) (All-filter (λ (e : model.Entry). not (gone (row_of e.sample))) IsTimed (held_in t.rows t.entries.items) w.timed);
       chain = c.close_up.ensures.chain;
       places = c.drop_hits.ensures.len ∙ w.places;
       tally_places = w.tally_places;

@@ -1,8 +1,8 @@
-use Rattle.std.proofs.Common.{◌≡◌, ℕ, Bool, true, false, length, Some, sym, ap, subst, ◌∙◌, arith}
+use Rattle.std.proofs.Common.{◌≡◌, ℕ, Bool, true, false, length, Some, sym, ap, subst, ◌∙◌, arith, All}
 use Rattle.std.proofs.lemmas.List.{length-map}
 use Rattle.std.specs.FinMap.{contains_key}
 use Rattle.sd_rows.specs.Rows.{row_at, Holds}
-use Rattle.sd_epoch.specs.Entries.{listed_as, held_in, places_of, AreTallies}
+use Rattle.sd_epoch.specs.Entries.{listed_as, held_in, places_of, AreTallies, IsTimed}
 use Rattle.sd_epoch.specs.Table.{Listing, live_of, id_of}
 use Rattle.sd_epoch.proofs.HeldLemmas.{held_stays, none_held}
 use Rattle.sd_epoch.proofs.PlaceLemmas.{AllLive-stays}
@@ -38,6 +38,7 @@ invariant_of-self c =
       tallies = subst (AreTallies rows c.add_row.new.tallies.items) (sym (held_stays t.rows rows entries c.add_row.ensures.stay w.owned))
           (c.add_row.ensures.tallies (held_in t.rows entries) w.tallies (none_held t.rows c.args.kind c.args.key.now entries absent w.owned));
       owned = AllLive-stays t.rows rows (places_of entries) c.add_row.ensures.stay w.owned;
+      timed = subst (All IsTimed) (sym (held_stays t.rows rows entries c.add_row.ensures.stay w.owned)) w.timed;
       chain = w.chain;
       places = c.add_row.ensures.places ∙ w.places;
       tally_places = c.add_row.ensures.tally_places ∙ w.tally_places;

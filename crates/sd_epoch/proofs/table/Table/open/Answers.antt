@@ -1,9 +1,10 @@
-use Rattle.std.proofs.Common.{◌≡◌, List, [], Option, None, replicate, length, sym, ap, subst, ◌∙◌, arith}
+use Rattle.std.proofs.Common.{◌≡◌, List, [], Option, None, replicate, length, sym, ap, subst, ◌∙◌, arith, All}
 use Rattle.std.proofs.lemmas.List.{length-replicate}
 use Rattle.sd_rows.specs.declared.row.Row.{Row}
 use Rattle.sd_epoch.specs.Chain.{IsChain}
-use Rattle.sd_epoch.specs.Entries.{AreRows, AreTallies, AllLive, held_in, places_of}
+use Rattle.sd_epoch.specs.Entries.{AreRows, AreTallies, AllLive, held_in, places_of, IsTimed}
 use Rattle.sd_epoch.specs.declared.entry.Entry.{Entry}
+use Rattle.std.proofs.lemmas.List.Elements.{All-nil}
 use Rattle.sd_epoch.proofs.TableLemmas.{no_rows, no_tallies}
 use Rattle.sd_epoch.proofs.table.Table.open.Goals as goal
 
@@ -21,6 +22,7 @@ invariant_of-result c =
       rows = subst (λ (xs : List (Option Row)). AreRows xs order.items) (sym empty) (subst (AreRows (replicate n None)) (sym no_order) (no_rows n));
       tallies = subst (λ (xs : List (Option Row)). AreTallies xs c.in_ok-vec.field-0.items (held_in xs entries.items)) (sym empty) (no_tallies n c.in_ok-vec.field-0.items (held_in (replicate n None) entries.items));
       owned = subst (λ (es : List Entry). AllLive rows (places_of es)) (sym no_entries) tt;
+      timed = subst (λ (es : List Entry). All IsTimed (held_in rows es)) (sym no_entries) (All-nil IsTimed);
       chain = subst (λ (es : List Entry). IsChain (places_of es) chain.last.items chain.before.items) (sym no_entries) c.in_ok-open-2.ensures.chain;
       places = ap length empty ∙ length-replicate n None;
       tally_places = omega (arith, c.in_ok-vec.ensures.len, c.in_ok-vec.field-0.ok.0);

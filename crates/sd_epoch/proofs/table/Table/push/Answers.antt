@@ -1,4 +1,4 @@
-use Rattle.std.proofs.Common.{◌≡◌, ℕ, ◌<◌, false, ◌+ℤ◌, List, [], ◌∷◌, ◌++◌, length, get_or, set, Option, Some, None, refl, sym, ap, subst, ◌∙◌, arith}
+use Rattle.std.proofs.Common.{◌≡◌, ℕ, ◌<◌, false, ◌+ℤ◌, List, [], ◌∷◌, ◌++◌, length, get_or, set, Option, Some, None, refl, sym, ap, subst, ◌∙◌, arith, All, pos, ◌≤ℤ◌, ◌^◌}
 use Rattle.std.proofs.lemmas.List.{length-map, length-set, map-append}
 use Rattle.std.specs.FinMap.{contains_key, len}
 use Rattle.sd_model_text.specs.Lines.{Sample}
@@ -12,10 +12,12 @@ use Rattle.sd_rows.specs.declared.row.Row.{Row}
 use Rattle.sd_rows.proofs.RowsLemmas.{holds_row}
 use Rattle.sd_rows.proofs.IndexLemmas.{present_within}
 use Rattle.sd_epoch.specs.Chain.{IsChain}
-use Rattle.sd_epoch.specs.Entries.{id_in, entry_view, held_in, places_of, AllLive, IsTally, AreTallies}
+use Rattle.sd_epoch.specs.Entries.{id_in, entry_view, held_in, places_of, AllLive, IsTally, AreTallies, IsTimed}
 use Rattle.sd_epoch.specs.Table.{Listing, live_of, id_of, row_view}
 use Rattle.sd_epoch.specs.declared.entry.Entry.{Entry}
 use Rattle.sd_epoch.specs.declared.tally.Tally.{Tally}
+use Rattle.std.proofs.lemmas.List.Elements.{All-push}
+use Rattle.sd_model_text.specs.Names as text
 use Rattle.sd_epoch.proofs.HeldLemmas.{held_stays, none_held, tally_more, push_tallies, few_own}
 use Rattle.sd_epoch.proofs.PlaceLemmas.{id_here, holds_id, AllLive-stays, AllLive-push}
 use Rattle.sd_epoch.proofs.TableLemmas.{holds_live, find_tells, live_count}
@@ -103,6 +105,7 @@ invariant_of-self c =
       rows = c.touch-place.ensures.rows;
       tallies = subst (AreTallies rows (set tallies place c.with_sample.result)) (sym held_new) pushed;
       owned = subst (AllLive rows) (sym places_new) (AllLive-push rows (places_of entries) place (AllLive-stays t.rows rows (places_of entries) c.touch-place.ensures.stay w.owned) live);
+      timed = subst (All IsTimed) (sym held_new) (All-push IsTimed held e w.timed (subst (λ (x : Sample). x.kind ≡ text.Timer → (pos 0 ≤ℤ x.value) × (x.value ≤ℤ pos (10 ^ 16))) c.s.view_is c.s.invariant.timer));
       chain = subst (λ (ps : List ℕ). IsChain ps c.push.new.self.last.items c.push.new.self.before.items) (sym places_new) (c.push.ensures.chain (places_of entries) w.chain);
       places = c.touch-place.ensures.places ∙ w.places;
       tally_places = omega (arith, length-set tallies place c.with_sample.result, c.touch-place.ensures.tally_places, w.tally_places);

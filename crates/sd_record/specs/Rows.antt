@@ -1,0 +1,43 @@
+-- The rows of several tables, and when these make a record.
+use Rattle.std.specs.Prelude.{◌≡◌, ℕ, true, false, List, [], ◌∷◌, map, flat_map, All, ⊤, Option, Some}
+use Rattle.std.specs.FinMap.{contains_key}
+use Rattle.sd_model_settings.specs.Defaults.{Plan}
+use Rattle.sd_model_record.specs.Record as model
+use Rattle.sd_model_shard.specs.Rows.{RowId, Kept, Entry}
+use Rattle.sd_epoch.specs.Table.{Listing, live_of}
+
+-- for how many rows of all tables there is room, and for how many entries of each table
+pub record Room : Type 0 where
+  pub rows : ℕ
+  pub entries : ℕ
+
+-- no row of a table stands in the other
+abbrev pub ShareNone : Listing → Listing → Type 0
+ShareNone a b = (id : RowId) → contains_key (live_of a) id ≡ true → contains_key (live_of b) id ≡ false
+
+-- no row stands in two tables
+abbrev pub AreDisjoint : List Listing → Type 0
+AreDisjoint [] = ⊤
+AreDisjoint (t ∷ tables) = All (ShareNone t) tables × AreDisjoint tables
+
+-- a row of a table, with the entries of its table
+pub record TableRow : Type 0 where
+  pub id : RowId
+  pub kept : Kept
+  pub held : List Entry
+
+-- the rows of a table, as they are listed
+abbrev pub rows_in : Listing → List TableRow
+rows_in t = map (λ e. record { id = e.0; kept = e.1; held = t.held }) t.listed
+
+-- the rows of all tables
+abbrev pub all_rows : List Listing → List TableRow
+all_rows tables = flat_map rows_in tables
+
+-- a row with its id before it
+abbrev pub with_id : TableRow → RowId × Option TableRow
+with_id row = (row.id, Some row)
+
+-- the row of a record for a row of a table
+abbrev pub value_of : Plan → TableRow → model.Row
+value_of plan row = model.row_value plan row.held row.id row.kept

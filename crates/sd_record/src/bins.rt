@@ -1,0 +1,36 @@
+ghost use Rattle.std.specs.Prelude.{◌≡◌, ◌≤◌, length, map};
+ghost use Rattle.sd_model_shard.specs.Values.{bin, bins};
+ghost use Rattle.sd_config.specs.Entries.{limit_of, limits_of};
+ghost use Rattle.sd_stats.specs.Seen.{timer_seen};
+ghost use Rattle.sd_record.specs.Row.{bin_view};
+
+use crate::row::{Bin, Bins};
+use sd_decimal::{Limit, Micro};
+use sd_stats::TimerStats;
+
+/// The bins of a timer at these limits: each begins where the one before it ends, and the first at 0.
+pub(crate) fn bins_of(stats: &TimerStats<'_>, limits: &[Limit]) -> Bins
+    requires few { length limits.now ≤ 64 }
+    ensures { map bin_view result.items ≡ bins (limits_of limits.now) (timer_seen stats.now).values }
+{
+    let mut bins = Bins::new();
+    let mut from = Limit::Below(Micro(0));
+    for below in limits {
+        bins.push(Bin {
+            below: *below,
+            count: count_between(stats, from, *below),
+        });
+        from = *below;
+    }
+    bins
+}
+
+/// How many values of a timer are below a limit and not below another.
+fn count_between(stats: &TimerStats<'_>, from: Limit, below: Limit) -> u64
+    ensures { result ≡ bin (limit_of from) (limit_of below) (timer_seen stats.now).values }
+{
+    match from {
+        Limit::Below(from) => stats.bin(from, below),
+        Limit::Infinite => 0,
+    }
+}

@@ -1,0 +1,54 @@
+ghost use Rattle.std.specs.Prelude.{◌≡◌, ◌^◌, ◌≤◌, length, map, unsigned_abs, All};
+ghost use Rattle.sd_model_record.specs.Record.{timer_figures, limits_for};
+ghost use Rattle.sd_config.specs.Entries.{limits_of, classes_view};
+ghost use Rattle.sd_config.specs.Plan.{plan_view};
+ghost use Rattle.sd_stats.specs.Timer.{numbers, IsTimerValue};
+ghost use Rattle.sd_record.specs.Row.{timer_view};
+
+use crate::bins::bins_of;
+use crate::parts::parts_of;
+use crate::row::{Bins, Parts, TimerRow};
+use sd_config::{Classes, Reckoning};
+use sd_decimal::{Limit, Micro, Sum, per_second};
+use sd_key::{Key, has_part};
+use sd_stats::TimerStats;
+
+/// A timer of this key, weight and values. The slice is sorted.
+pub(crate) fn timer_of(key: &Key, weight: Sum, values: &mut [Micro], plan: &Reckoning) -> TimerRow
+    requires weight { unsigned_abs weight.0 ≤ 10 ^ 34 }
+    requires range { All IsTimerValue values.old }
+    requires many { length values.old ≤ 2 ^ 20 }
+    ensures { timer_view result ≡ timer_figures (plan_view plan.now) key.now weight.0 (numbers values.old) }
+{
+    let count_ps = per_second(weight, plan.interval_ms);
+    if values.is_empty() {
+        return TimerRow {
+            count: weight,
+            count_ps,
+            whole: None,
+            parts: Parts::new(),
+            bins: Bins::new(),
+        };
+    }
+    let stats = TimerStats::of(values, weight, plan.interval_ms);
+    TimerRow {
+        count: weight,
+        count_ps,
+        whole: Some(stats.whole()),
+        parts: parts_of(&stats, plan.thresholds.as_slice()),
+        bins: bins_of(&stats, limits_for(key, plan.histograms.as_slice())),
+    }
+}
+
+/// The limits of the bins of a key: those of the first entry whose metric is part of it.
+fn limits_for<'a>(key: &Key, histograms: &'a [Classes]) -> &'a [Limit]
+    ensures limits { limits_of result.now ≡ limits_for key.now (map classes_view histograms.now) }
+    ensures few { length result.now ≤ 64 }
+{
+    for classes in histograms {
+        if has_part(key, classes.metric.as_slice()) {
+            return classes.limits.as_slice();
+        }
+    }
+    &[]
+}
