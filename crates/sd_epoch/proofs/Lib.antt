@@ -1,5 +1,8 @@
+pub mod ChainLemmas
 pub mod ForgetLemmas
+pub mod HeldLemmas
+pub mod LeftLemmas
 pub mod ListingLemmas
 pub mod MemberLemmas
-pub mod RowChanges
+pub mod PlaceLemmas
 pub mod TableLemmas

@@ -1,3 +1,5 @@
+pub mod Chain
+pub mod Entries
 pub mod Limits
 pub mod Scratch
 pub mod ScratchInside

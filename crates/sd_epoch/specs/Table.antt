@@ -1,5 +1,5 @@
 -- What a contract sees of a table: its limits, its rows in some order, and its entries in theirs.
-use Rattle.std.specs.Prelude.{◌≡◌, ℕ, Bool, false, List, [], ◌∷◌, map, ⊤, zero, suc}
+use Rattle.std.specs.Prelude.{◌≡◌, ℕ, Bool, false, List, [], ◌∷◌, ⊤}
 use Rattle.std.specs.List.{list_any}
 use Rattle.std.specs.FinMap.{from_entries}
 use Rattle.sd_model_shard.specs.Shard as model
@@ -7,8 +7,7 @@ use Rattle.sd_model_shard.specs.Rows as rows
 use Rattle.sd_model_shard.specs.Rows.{RowId, row_cmp, Rows, Kept, is_same_row}
 use Rattle.sd_key.specs.Kind.{kind_of}
 use Rattle.sd_key.specs.declared.kind.Kind.{Kind}
-use Rattle.sd_epoch.specs.declared.row.Row.{Row}
-use Rattle.sd_epoch.specs.declared.entry.Entry.{Entry}
+use Rattle.sd_rows.specs.declared.row.Row.{Row}
 
 pub record Listing : Type 0 where
   pub limits : model.Limits
@@ -36,19 +35,6 @@ id_of kind key = record { kind = kind_of kind; key = key }
 abbrev pub listed_with : RowId → List (RowId × Kept) → Bool
 listed_with id es = list_any (λ e. is_same_row id e.0) es
 
--- the first row of this id stands at this place
-abbrev pub IsPlace : RowId → List (RowId × Kept) → ℕ → Type 0
-IsPlace id [] i = ⊥
-IsPlace id (e ∷ es) zero = e.0 ≡ id
-IsPlace id (e ∷ es) (suc i) = (is_same_row id e.0 ≡ false) × IsPlace id es i
-
--- a row and an entry of the code, as the definitions have them
+-- a row of the code, as the definitions have it
 abbrev pub row_view : Row → RowId × Kept
 row_view r = (record { kind = kind_of r.kind; key = r.key }, record { base = r.base.0; swaps = r.swaps })
-
-abbrev pub entry_view : Entry → rows.Entry
-entry_view e = record { who = e.who.0; number = e.number; sample = e.sample }
-
--- the map that rows of the code make
-abbrev pub live_rows : List Row → Rows
-live_rows rows = from_entries (map row_view rows)

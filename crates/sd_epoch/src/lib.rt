@@ -1,17 +1,19 @@
 //! The rows and entries of one epoch of a shard, and room for the values and members of a row.
+//!
+//! Rows stand in places that stay, and are found through an index. An entry names the place of its row. What a row's samples come
+//! to is kept as sums that each sample moves, and the entries of a row are chained, so that none of them is searched for.
 #![tactic(auto)]
 
-mod amount;
+mod chain;
 mod entry;
 mod forget;
-mod gauge;
 mod limits;
-mod row;
+mod members;
+mod placing;
 mod scratch;
 mod table;
 mod tally;
 
 pub use limits::{Limits, Who};
-pub use row::{Row, RowFacts};
 pub use scratch::Scratch;
-pub use table::Table;
+pub use table::{RowFacts, Table};

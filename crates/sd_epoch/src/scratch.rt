@@ -1,17 +1,15 @@
-ghost use Rattle.std.specs.Prelude.{◌≡◌, ◌≤◌, [], length, map, vec_len, vec_capacity, IfOk};
+ghost use Rattle.std.specs.Prelude.{◌≡◌, ◌<◌, ◌≤◌, [], length, map, reverse, vec_len, vec_capacity, IfOk};
 ghost use Rattle.std.specs.Borrow.{sem};
-ghost use Rattle.sd_model_shard.specs.Statistics.{values_of, members_of};
+ghost use Rattle.sd_epoch.specs.Chain.{IsChain};
+ghost use Rattle.sd_epoch.specs.Entries.{places_of, entries_at};
 ghost use Rattle.sd_epoch.specs.Limits.{limits_of, AreLimits};
-ghost use Rattle.sd_key.specs.Kind.{kind_of};
-ghost use Rattle.sd_model_text.specs.Names.{Timer};
-ghost use Rattle.sd_epoch.specs.Scratch.{micros, texts, AreTimerValues};
-ghost use Rattle.sd_epoch.specs.Table.{entry_view, id_of};
+ghost use Rattle.sd_epoch.specs.Scratch.{texts};
 
-use crate::entry::{Entry, is_of};
+use crate::chain::Chain;
+use crate::entry::{Entry, copy_member};
 use crate::limits::Limits;
 use sd_decimal::Micro;
-use sd_key::{Key, Kind};
-use sd_line::{Member, Sample};
+use sd_line::Member;
 use std::alloc::{AllocError, Global};
 use std::marker::Model;
 
@@ -68,65 +66,63 @@ impl Scratch {
         self.members.as_mut_slice()
     }
 
-    /// Puts the values of a row's samples there, in place of those before.
-    pub(crate) fn put_values(&mut self, entries: &[Entry], kind: Kind, key: &Key)
-        requires { length entries.now ≤ self.old.room }
-        ensures values { micros self.new.values ≡ values_of (id_of kind key.now) (map entry_view entries.now) }
-        ensures range { kind_of kind ≡ Timer → AreTimerValues self.new.values }
-        ensures few { length self.new.values ≤ length entries.now }
+    /// Puts the values of the entries of a place's row there, in place of those before.
+    pub(crate) fn put_values(&mut self, entries: &[Entry], chain: &Chain, place: u32)
+        requires room { length entries.now ≤ self.old.room }
+        requires chain { IsChain (places_of entries.now) chain.now.last.items chain.now.before.items }
+        requires within { place < length chain.now.last.items }
+        ensures values { self.new.values ≡ map (λ e. e.value) (entries_at place entries.now) }
         ensures members { self.new.members ≡ self.old.members }
         ensures room { self.new.room ≡ self.old.room }
     {
         self.values.clear();
-        push_values(entries, kind, key, &mut self.values);
+        push_values(entries, chain, place, &mut self.values);
+        self.values.reverse();
     }
 
-    /// Puts the members of a row's samples there, in place of those before.
-    pub(crate) fn put_members(&mut self, entries: &[Entry], kind: Kind, key: &Key)
-        requires { length entries.now ≤ self.old.room }
-        ensures members { texts self.new.members ≡ members_of (id_of kind key.now) (map entry_view entries.now) }
+    /// Puts the members of the entries of a place's row there, in place of those before.
+    pub(crate) fn put_members(&mut self, entries: &[Entry], chain: &Chain, place: u32)
+        requires room { length entries.now ≤ self.old.room }
+        requires chain { IsChain (places_of entries.now) chain.now.last.items chain.now.before.items }
+        requires within { place < length chain.now.last.items }
+        ensures members { texts self.new.members ≡ map (λ e. e.member.items) (entries_at place entries.now) }
         ensures values { self.new.values ≡ self.old.values }
         ensures room { self.new.room ≡ self.old.room }
     {
         self.members.clear();
-        push_members(entries, kind, key, &mut self.members);
+        push_members(entries, chain, place, &mut self.members);
+        self.members.reverse();
     }
 }
 
-/// Appends the values of a row's samples.
-fn push_values(entries: &[Entry], kind: Kind, key: &Key, out: &mut Vec<Micro>)
+/// Appends the values of the entries of a place's row, from the last one back.
+fn push_values(entries: &[Entry], chain: &Chain, place: u32, out: &mut Vec<Micro>)
     requires empty { vec_len out.old ≡ 0 }
     requires room { length entries.now ≤ vec_capacity out.old }
-    ensures values { micros out.new.items ≡ values_of (id_of kind key.now) (map entry_view entries.now) }
-    ensures range { kind_of kind ≡ Timer → AreTimerValues out.new.items }
-    ensures few { vec_len out.new ≤ length entries.now }
+    requires chain { IsChain (places_of entries.now) chain.now.last.items chain.now.before.items }
+    requires within { place < length chain.now.last.items }
+    ensures values { out.new.items ≡ reverse (map (λ e. e.value) (entries_at place entries.now)) }
     ensures capacity { vec_capacity out.new ≡ vec_capacity out.old }
 {
-    for entry in entries {
-        if is_of(&entry.sample, kind, key) {
-            out.push_reserved(entry.sample.value);
-        }
+    let mut next = chain.last[place as usize];
+    while let Some(at) = next {
+        out.push_reserved(entries[at as usize].value);
+        next = chain.before[at as usize];
     }
 }
 
-/// A copy of the member of a sample.
-fn member_of(s: &Sample) -> Member
-    ensures { result.items ≡ s.now.member }
-{
-    s.member.clone().unwrap()
-}
-
-/// Appends the members of a row's samples.
-fn push_members(entries: &[Entry], kind: Kind, key: &Key, out: &mut Vec<Member>)
+/// Appends the members of the entries of a place's row, from the last one back.
+fn push_members(entries: &[Entry], chain: &Chain, place: u32, out: &mut Vec<Member>)
     requires empty { vec_len out.old ≡ 0 }
     requires room { length entries.now ≤ vec_capacity out.old }
-    ensures members { texts out.new.items ≡ members_of (id_of kind key.now) (map entry_view entries.now) }
-    ensures few { vec_len out.new ≤ length entries.now }
+    requires chain { IsChain (places_of entries.now) chain.now.last.items chain.now.before.items }
+    requires within { place < length chain.now.last.items }
+    ensures members { texts out.new.items ≡ reverse (map (λ e. e.member.items) (entries_at place entries.now)) }
     ensures capacity { vec_capacity out.new ≡ vec_capacity out.old }
 {
-    for entry in entries {
-        if is_of(&entry.sample, kind, key) {
-            out.push_reserved(member_of(&entry.sample));
-        }
+    let mut next = chain.last[place as usize];
+    while let Some(at) = next {
+        out.push_reserved(copy_member(&entries[at as usize]));
+        next = chain.before[at as usize];
     }
 }

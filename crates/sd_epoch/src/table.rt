@@ -9,26 +9,43 @@ ghost use Rattle.sd_model_text.specs.Names.{Timer};
 ghost use Rattle.sd_epoch.specs.Scratch.{micros, texts, AreTimerValues};
 ghost use Rattle.sd_epoch.specs.Table.{live_of, AreApart, row_view, id_of};
 
-use crate::amount::amount_of;
-use crate::entry::{Entry, new_entry};
-use crate::forget::{drop_entries, drop_entries_hit, drop_row, drop_rows_hit};
-use crate::gauge::gauge_over;
+use crate::chain::Chain;
+use crate::entry::{Entry, copy_key, new_entry};
+use crate::forget::{close_up, drop_hits, drop_row};
 use crate::limits::{Limits, Who};
-use crate::row::{Row, RowFacts, add_row, new_row, place_of, touch};
+use crate::members::distinct_sum;
+use crate::placing::{add_row, live_row, touch};
 use crate::scratch::Scratch;
-use crate::tally::tally_of;
+use crate::tally::{Tally, empty_tally, with_sample};
 use sd_decimal::{Micro, Sum};
 use sd_key::{Key, Kind, Pattern};
 use sd_line::Sample;
+use sd_rows::{Row, Rows};
 use std::alloc::{AllocError, Global};
 use std::marker::Model;
 
+/// What a table says of one of its rows.
+#[derive(Debug, Drop)]
+pub struct RowFacts {
+    pub kind: Kind,
+    pub key: Key,
+    pub base: Micro,
+    pub swaps: u32,
+    pub samples: u64,
+    pub weight: Sum,
+}
+
 /// The rows and entries of one epoch of a shard, in room taken when it was opened.
+///
+/// `order` has the places of the rows in the order in which they came. `tallies` has that of each place's row.
 #[derive(Debug, Drop)]
 pub struct Table {
     limits: Limits,
-    rows: Vec<Row>,
+    rows: Rows,
+    order: Vec<u32>,
+    tallies: Vec<Tally>,
     entries: Vec<Entry>,
+    chain: Chain,
 }
 
 impl Model for Table {
@@ -53,8 +70,11 @@ impl Table {
     {
         Ok(Table {
             limits,
-            rows: Vec::with_capacity(alloc, limits.rows as usize)?,
+            rows: Rows::open(alloc, limits.rows)?,
+            order: Vec::with_capacity(alloc, limits.rows as usize)?,
+            tallies: vec![in alloc; empty_tally(Micro(0)); limits.rows as usize]?,
             entries: Vec::with_capacity(alloc, limits.entries as usize)?,
+            chain: Chain::open(alloc, limits)?,
         })
     }
 
@@ -72,7 +92,7 @@ impl Table {
         ensures apart { AreApart self.now.listed }
         ensures within { result ≤ self.now.limits.rows }
     {
-        self.rows.len() as u32
+        self.order.len() as u32
     }
 
     /// How many entries it has.
@@ -87,7 +107,7 @@ impl Table {
     pub fn has_row(&self, kind: Kind, key: &Key) -> bool
         ensures { result ≡ contains_key (live_of self.now) (id_of kind key.now) }
     {
-        place_of(&self.rows, kind, key).is_some()
+        self.rows.find(kind, key).is_some()
     }
 
     /// What it says of its i-th row, in some order.
@@ -98,11 +118,12 @@ impl Table {
         ensures weight { result.weight.0 ≡ weight_of (id_of result.kind result.key) self.now.held }
         ensures bound { unsigned_abs result.weight.0 ≤ 2 ^ 20 * 10 ^ 24 }
     {
-        let row = &self.rows[i as usize];
-        let tally = tally_of(&self.entries, row.kind, &row.key);
+        let place = self.order[i as usize];
+        let row = live_row(&self.rows, place);
+        let tally = self.tallies[place as usize];
         RowFacts {
             kind: row.kind,
-            key: row.key.clone().unwrap(),
+            key: copy_key(&row.key),
             base: row.base,
             swaps: row.swaps,
             samples: tally.samples,
@@ -115,7 +136,7 @@ impl Table {
         requires { i < length self.now.listed }
         ensures { slice_get self.now.listed i ≡ Some (row_view result.now) }
     {
-        &self.rows[i as usize]
+        live_row(&self.rows, self.order[i as usize])
     }
 
     /// The value of its i-th row as a gauge.
@@ -123,8 +144,7 @@ impl Table {
         requires { i < length self.now.listed }
         ensures { IfSome (slice_get self.now.listed i) (λ row. result.0 ≡ gauge_value row.0 row.1.base self.now.held) }
     {
-        let row = &self.rows[i as usize];
-        gauge_over(&self.entries, row.kind, &row.key, row.base)
+        self.tallies[self.order[i as usize] as usize].gauge
     }
 
     /// Puts the values of its i-th row's samples into the scratch, in the order in which they came.
@@ -137,8 +157,7 @@ impl Table {
         ensures members { out.new.members ≡ out.old.members }
         ensures room { out.new.room ≡ out.old.room }
     {
-        let row = &self.rows[i as usize];
-        out.put_values(&self.entries, row.kind, &row.key);
+        out.put_values(&self.entries, &self.chain, self.order[i as usize]);
     }
 
     /// Puts the members of its i-th row's samples into the scratch, in the order in which they came.
@@ -149,8 +168,7 @@ impl Table {
         ensures values { out.new.values ≡ out.old.values }
         ensures room { out.new.room ≡ out.old.room }
     {
-        let row = &self.rows[i as usize];
-        out.put_members(&self.entries, row.kind, &row.key);
+        out.put_members(&self.entries, &self.chain, self.order[i as usize]);
     }
 
     /// What the samples of its i-th row come to: a counter's count, the sum of a timer's values, a gauge's value, or how
@@ -159,7 +177,14 @@ impl Table {
         requires { i < length self.now.listed }
         ensures { IfSome (slice_get self.now.listed i) (λ row. result.0 ≡ amount_of row.0 row.1.base self.now.held) }
     {
-        amount_of(&self.entries, &self.rows[i as usize])
+        let place = self.order[i as usize];
+        let tally = self.tallies[place as usize];
+        match live_row(&self.rows, place).kind {
+            Kind::Counter => tally.weight,
+            Kind::Timer => tally.sum,
+            Kind::Gauge => tally.gauge_sum(),
+            Kind::Set => distinct_sum(&self.entries, &self.chain, place),
+        }
     }
 
     /// Takes a row and its entries out, and answers how many entries those are: 0 where it is absent.
@@ -169,10 +194,13 @@ impl Table {
         ensures count { result ≡ length (entries_of (id_of kind key.now) self.old.held) }
         ensures limits { self.new.limits ≡ self.old.limits }
     {
-        let before = self.entries.len();
         drop_row(&mut self.rows, kind, key);
-        drop_entries(&mut self.entries, kind, key);
-        (before - self.entries.len()) as u64
+        close_up(
+            &self.rows,
+            &mut self.order,
+            &mut self.entries,
+            &mut self.chain,
+        )
     }
 
     /// Takes the rows of a kind that a pattern matches out, and their entries, and answers how many entries those are.
@@ -182,10 +210,13 @@ impl Table {
         ensures count { result ≡ length (entries_taken_out (kind_of kind) pattern.now self.old.held) }
         ensures limits { self.new.limits ≡ self.old.limits }
     {
-        let before = self.entries.len();
-        drop_rows_hit(&mut self.rows, kind, pattern);
-        drop_entries_hit(&mut self.entries, kind, pattern);
-        (before - self.entries.len()) as u64
+        drop_hits(&mut self.rows, kind, pattern);
+        close_up(
+            &self.rows,
+            &mut self.order,
+            &mut self.entries,
+            &mut self.chain,
+        )
     }
 
     /// Makes a row that is absent.
@@ -197,7 +228,15 @@ impl Table {
         ensures limits { self.new.limits ≡ self.old.limits }
         ensures held { self.new.held ≡ self.old.held }
     {
-        add_row(&mut self.rows, new_row(kind, key, base, swaps));
+        add_row(
+            &mut self.rows,
+            &mut self.order,
+            &mut self.tallies,
+            kind,
+            key,
+            base,
+            swaps,
+        );
     }
 
     /// Takes all rows and entries out.
@@ -207,7 +246,9 @@ impl Table {
         ensures limits { self.new.limits ≡ self.old.limits }
     {
         self.rows.clear();
+        self.order.clear();
         self.entries.clear();
+        self.chain.clear();
     }
 
     /// Appends an entry. Its row is made where it is absent, and has no swap since its last sample then.
@@ -218,7 +259,15 @@ impl Table {
         ensures held { self.new.held ≡ self.old.held ++ record { who = who.0; number = number; sample = s.now } ∷ [] }
         ensures limits { self.new.limits ≡ self.old.limits }
     {
-        touch(&mut self.rows, s.kind, &s.key);
-        self.entries.push_reserved(new_entry(who, number, s));
+        let place = touch(
+            &mut self.rows,
+            &mut self.order,
+            &mut self.tallies,
+            s.kind,
+            &s.key,
+        );
+        self.tallies[place as usize] = with_sample(self.tallies[place as usize], s);
+        self.entries.push_reserved(new_entry(who, number, place, s));
+        self.chain.push(place);
     }
 }

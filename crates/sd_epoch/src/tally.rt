@@ -1,66 +1,105 @@
-ghost use Rattle.std.specs.Prelude.{◌≡◌, ◌+◌, ◌*◌, ◌^◌, ◌<◌, ◌≤◌, ◌+ℤ◌, unsigned_abs, length, map};
-ghost use Rattle.sd_model_shard.specs.Rows.{entries_of};
-ghost use Rattle.sd_model_shard.specs.Statistics.{sample_weight, weight_of};
+ghost use Rattle.std.specs.Prelude.{◌≡◌, ◌+◌, ◌*◌, ◌^◌, ◌<◌, ◌≤◌, ◌+ℤ◌, pos, unsigned_abs};
+ghost use Rattle.sd_model_shard.specs.Statistics.{sample_weight, gauge_after};
 ghost use Rattle.sd_key.specs.Kind.{kind_of};
-ghost use Rattle.sd_epoch.specs.Table.{entry_view, id_of};
 
-use crate::entry::{Entry, is_of};
 use sd_decimal::{Micro, Sum, weigh};
-use sd_key::{Key, Kind};
+use sd_key::Kind;
 use sd_line::Sample;
 
 /// The value 1.
 const ONE: Micro = Micro(1_000_000);
 
-/// How many samples a row has, and their weights added up.
-#[derive(Clone, Copy)]
-pub(crate) struct RowTally {
+/// The greatest magnitude of a gauge, 10^12.
+const GAUGE_LIMIT: i64 = 1_000_000_000_000_000_000;
+
+/// What the samples of a row come to so far.
+#[derive(Clone, Copy, Debug)]
+pub(crate) struct Tally {
     pub samples: u64,
+    /// The weights added up.
     pub weight: Sum,
+    /// The values added up.
+    pub sum: Sum,
+    /// The value as a gauge.
+    pub gauge: Micro,
 }
 
-/// How much a sample weighs in a row of this kind.
-fn sample_weight(kind: Kind, s: &Sample) -> Sum
-    ensures value { result.0 ≡ sample_weight (kind_of kind) s.now }
+impl Tally {
+    ghost use Rattle.std.specs.Prelude.{◌≡◌};
+
+    /// The value as a gauge, as a sum.
+    pub(crate) fn gauge_sum(&self) -> Sum
+        ensures { result.0 ≡ self.now.gauge.0 }
+    {
+        Sum(i128::from(self.gauge.0))
+    }
+}
+
+/// The tally of a row without samples.
+pub(crate) fn empty_tally(base: Micro) -> Tally
+    ensures samples { result.samples ≡ 0 }
+    ensures weight { result.weight.0 ≡ pos 0 }
+    ensures sum { result.sum.0 ≡ pos 0 }
+    ensures gauge { result.gauge.0 ≡ base.0 }
+{
+    Tally {
+        samples: 0,
+        weight: Sum(0),
+        sum: Sum(0),
+        gauge: base,
+    }
+}
+
+/// How much a sample weighs in a row of its kind.
+fn sample_weight(s: &Sample) -> Sum
+    ensures value { result.0 ≡ sample_weight s.now.kind s.now }
     ensures bound { unsigned_abs result.0 ≤ 10 ^ 24 }
 {
-    match kind {
+    match s.kind {
         Kind::Counter => weigh(s.value, s.rate),
         Kind::Timer => weigh(ONE, s.rate),
         Kind::Gauge | Kind::Set => Sum(0),
     }
 }
 
-/// The tally of a row of this kind with a sample more.
-fn with_sample(tally: RowTally, kind: Kind, s: &Sample) -> RowTally
-    requires samples { tally.samples < 2 ^ 20 }
-    requires weight { unsigned_abs tally.weight.0 ≤ tally.samples * 10 ^ 24 }
-    ensures samples { result.samples ≡ tally.samples + 1 }
-    ensures weight { result.weight.0 ≡ tally.weight.0 +ℤ sample_weight (kind_of kind) s.now }
-    ensures bound { unsigned_abs result.weight.0 ≤ result.samples * 10 ^ 24 }
+/// The value of a sample.
+fn value_of(s: &Sample) -> Micro
+    ensures value { result.0 ≡ s.now.value }
+    ensures bound { unsigned_abs result.0 ≤ 10 ^ 18 }
 {
-    let weight = sample_weight(kind, s);
-    RowTally {
-        samples: tally.samples + 1,
-        weight: Sum(tally.weight.0 + weight.0),
-    }
+    s.value
 }
 
-/// The tally of a row over entries.
-pub(crate) fn tally_of(entries: &[Entry], kind: Kind, key: &Key) -> RowTally
-    requires { length entries.now ≤ 2 ^ 20 }
-    ensures samples { result.samples ≡ length (entries_of (id_of kind key.now) (map entry_view entries.now)) }
-    ensures weight { result.weight.0 ≡ weight_of (id_of kind key.now) (map entry_view entries.now) }
-    ensures bound { unsigned_abs result.weight.0 ≤ 2 ^ 20 * 10 ^ 24 }
+/// The value of a gauge after a sample.
+fn gauge_after(value: Micro, s: &Sample) -> Micro
+    ensures { result.0 ≡ gauge_after value.0 s.now }
 {
-    let mut tally = RowTally {
-        samples: 0,
-        weight: Sum(0),
+    let next = if s.signed {
+        value.0.saturating_add(s.value.0)
+    } else {
+        s.value.0
     };
-    for entry in entries {
-        if is_of(&entry.sample, kind, key) {
-            tally = with_sample(tally, kind, &entry.sample);
-        }
+    Micro(next.clamp(-GAUGE_LIMIT, GAUGE_LIMIT))
+}
+
+/// The tally of a sample's row with this sample more.
+pub(crate) fn with_sample(tally: Tally, s: &Sample) -> Tally
+    requires samples { tally.samples < 2 ^ 20 }
+    requires weight_bound { unsigned_abs tally.weight.0 ≤ tally.samples * 10 ^ 24 }
+    requires sum_bound { unsigned_abs tally.sum.0 ≤ tally.samples * 10 ^ 18 }
+    ensures samples { result.samples ≡ tally.samples + 1 }
+    ensures weight { result.weight.0 ≡ tally.weight.0 +ℤ sample_weight s.now.kind s.now }
+    ensures sum { result.sum.0 ≡ tally.sum.0 +ℤ s.now.value }
+    ensures gauge { result.gauge.0 ≡ gauge_after tally.gauge.0 s.now }
+    ensures weight_bound { unsigned_abs result.weight.0 ≤ result.samples * 10 ^ 24 }
+    ensures sum_bound { unsigned_abs result.sum.0 ≤ result.samples * 10 ^ 18 }
+{
+    let weight = sample_weight(s);
+    let value = value_of(s);
+    Tally {
+        samples: tally.samples + 1,
+        weight: Sum(tally.weight.0 + weight.0),
+        sum: Sum(tally.sum.0 + i128::from(value.0)),
+        gauge: gauge_after(tally.gauge, s),
     }
-    tally
 }

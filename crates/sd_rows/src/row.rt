@@ -2,7 +2,7 @@ ghost use Rattle.std.specs.Prelude.{◌≡◌, ◌↔◌, ◌<◌, IsTrue};
 ghost use Rattle.sd_rows.specs.Rows.{home_of};
 
 use sd_decimal::Micro;
-use sd_key::{Key, Kind, fnv1a};
+use sd_key::{Key, Kind, Pattern, fnv1a, matches};
 
 /// A row: the kind and key that it is known by, and what it keeps from swap to swap.
 #[derive(Clone, Debug, Drop)]
@@ -13,6 +13,27 @@ pub struct Row {
     pub base: Micro,
     /// The swaps since the last sample.
     pub swaps: u32,
+}
+
+impl Row {
+    ghost use Rattle.std.specs.Prelude.{◌≡◌};
+    ghost use Rattle.sd_model_shard.specs.Commands.{is_hit, is_of_kind};
+    ghost use Rattle.sd_key.specs.Kind.{kind_of};
+    ghost use Rattle.sd_rows.specs.RowMap.{id_of};
+
+    /// Whether it is of the kind.
+    pub fn is_of_kind(&self, kind: Kind) -> bool
+        ensures { result ≡ is_of_kind (kind_of kind) (id_of self.now.kind self.now.key) }
+    {
+        self.kind == kind
+    }
+
+    /// Whether it is of the kind, and the pattern matches its key.
+    pub fn is_hit(&self, kind: Kind, pattern: &Pattern) -> bool
+        ensures { result ≡ is_hit (kind_of kind) pattern.now (id_of self.now.kind self.now.key) }
+    {
+        self.kind == kind && matches(pattern, &self.key)
+    }
 }
 
 /// Whether the row is of this kind and key.

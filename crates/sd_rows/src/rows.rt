@@ -158,6 +158,30 @@ impl Rows {
         self.ranking.exchange(at, self.live);
     }
 
+    /// Empties all places.
+    pub fn clear(&mut self)
+        ensures { self.new ≡ replicate (length self.old) None }
+    {
+        for _i in 0..self.live() {
+            self.remove(self.last_place());
+        }
+    }
+
+    /// How many places have a row.
+    fn live(&self) -> u32
+        ensures { result ≡ taken_count self.now }
+    {
+        self.live
+    }
+
+    /// A place that has a row, where one has.
+    fn last_place(&self) -> u32
+        requires { 0 < taken_count self.now }
+        ensures { row_at self.now result ≢ None }
+    {
+        self.ranking.order[self.live as usize - 1]
+    }
+
     /// How many places are empty.
     pub fn free(&self) -> u32
         ensures { taken_count self.now + result ≡ length self.now }

@@ -5,8 +5,9 @@ ghost use Rattle.sd_shard.specs.Policy.{policy_of};
 
 use crate::policy::Policy;
 use sd_decimal::Micro;
-use sd_epoch::{Row, Table};
+use sd_epoch::Table;
 use sd_key::Kind;
+use sd_rows::Row;
 
 /// Where the swaps of a row end.
 const LAST_SWAPS: u32 = 1_000_000_000;

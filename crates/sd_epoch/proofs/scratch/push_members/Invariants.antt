@@ -1,15 +1,19 @@
-use Rattle.std.proofs.Common.{◌≡◌, ◌≤◌, ◌++◌, drop, map, vec_len, vec_capacity}
-use Rattle.sd_model_shard.specs.Statistics.{members_of}
+use Rattle.std.proofs.Common.{◌≡◌, ◌+◌, ◌≤◌, ◌++◌, length, map, reverse, take, vec_len, vec_capacity}
+use Rattle.sd_epoch.specs.Chain.{up_to}
+use Rattle.sd_epoch.specs.Entries.{places_of, entries_at}
 use Rattle.sd_epoch.specs.Scratch.{texts}
-use Rattle.sd_epoch.specs.Table.{entry_view, id_of}
+use Rattle.sd_epoch.specs.declared.entry.Entry.{Entry}
+use Rattle.sd_epoch.proofs.ChainLemmas.{IsOfRow}
 use Rattle.sd_epoch.proofs.scratch.push_members.Given as goal
 
--- the members so far and those that are left are all members
-abbrev pub invariant-loop-entry : goal.invariant-loop-entry
-invariant-loop-entry l =
-    let id = id_of l.kind l.key in
-    record {
-      members : texts l.out.items ++ members_of id (map entry_view (drop l.entry-index l.entries)) ≡ members_of id (map entry_view l.entries);
-      few : vec_len l.out ≤ l.entry-index;
-      capacity : vec_capacity l.out ≡ vec_capacity l.fn.out;
-    }
+-- the members so far, and behind them those of the entries that are left
+abbrev pub invariant-loop-next : goal.invariant-loop-next
+invariant-loop-next l = record {
+  of_row : IsOfRow (places_of l.entries) l.place l.next;
+  so_far : (texts l.out.items) ++ reverse (map (λ (e : Entry). e.member.items) (entries_at l.place (take (up_to l.next) l.entries))) ≡ reverse (map (λ (e : Entry). e.member.items) (entries_at l.place l.entries));
+  few : vec_len l.out + up_to l.next ≤ length l.entries;
+  capacity : vec_capacity l.out ≡ vec_capacity l.fn.out;
+}
+
+abbrev pub decreases-loop-next : goal.decreases-loop-next
+decreases-loop-next l = up_to l.next

@@ -1,38 +1,67 @@
-use Rattle.std.proofs.Common.{◌≡◌, ◌-◌, not, length, map, sym, ap, subst, refl, List, ◌∙◌, arith}
-use Rattle.std.specs.FinMap.{from_entries, remove}
+use Rattle.std.proofs.Common.{◌≡◌, Bool, not, filter, length, sym, ap, subst, refl, List, ◌∙◌, arith, All}
 use Rattle.std.proofs.lemmas.List.{length-map}
 use Rattle.std.proofs.lemmas.List.Filters.{length-filter_both}
-use Rattle.sd_model_shard.specs.Rows as model
+use Rattle.std.specs.FinMap.{from_entries, remove}
 use Rattle.sd_model_shard.specs.Rows.{RowId, row_cmp, Kept, is_same_row, row_of, entries_of}
-use Rattle.sd_epoch.specs.Table.{Listing, AreApart, live_of, id_of, row_view, entry_view}
-use Rattle.sd_epoch.proofs.ForgetLemmas.{AreApart-filter, without_row}
+use Rattle.std.proofs.lemmas.List.Elements.{All-filter}
+use Rattle.sd_epoch.proofs.ForgetLemmas.{without_row}
+use Rattle.sd_epoch.specs.Table.{Listing, live_of, id_of}
+use Rattle.sd_model_shard.specs.Rows as model
+use Rattle.sd_epoch.specs.Entries.{listed_in, entry_view, held_in, places_of, AllLive, AreRows, AreTallies, IsTimed}
+use Rattle.sd_epoch.specs.declared.entry.Entry.{Entry}
+use Rattle.sd_epoch.proofs.LeftLemmas.{listed_left, held_left, left_rows, left_tallies, all_owned}
 use Rattle.sd_epoch.proofs.table.Table.forget_row.Goals as goal
 
 pub invariant_of-self : goal.invariant_of-self
 invariant_of-self c =
-    let id = id_of c.args.kind c.args.key.now in
-    record {
-      limits = c.self.invariant.limits;
-      rows = omega arith;
-      row_room = omega arith;
-      entries = omega arith;
-      entry_room = omega arith;
-      apart = subst AreApart (sym c.drop_row.ensures.rows) (AreApart-filter (λ r. not (is_same_row id r)) (map row_view c.self.inside.rows.items) c.self.invariant.apart);
+    let t = c.self.inside in
+    let w = c.self.invariant in
+    let rows = c.drop_row.new.rows in
+    let gone : RowId → Bool = is_same_row (id_of c.args.kind c.args.key.now) in
+    let are = c.drop_row.ensures.left in
+    let held = ap (held_in rows) c.close_up.ensures.entries ∙ held_left gone t.rows rows are t.entries.items w.owned in record {
+      limits = w.limits;
+      rows = subst (AreRows rows) (sym c.close_up.ensures.order) (left_rows gone t.rows rows are t.order.items w.rows);
+      tallies = subst (AreTallies rows t.tallies.items) (sym held) (left_tallies gone t.rows rows are t.tallies.items (held_in t.rows t.entries.items) w.tallies);
+      owned = subst (λ (es : List Entry). AllLive rows (places_of es)) (sym c.close_up.ensures.entries) (all_owned rows t.entries.items);
+      timed = subst (All IsTimed) (sym held) (All-filter (λ (e : model.Entry). not (gone (row_of e.sample))) IsTimed (held_in t.rows t.entries.items) w.timed);
+      chain = c.close_up.ensures.chain;
+      places = c.drop_row.ensures.len ∙ w.places;
+      tally_places = w.tally_places;
+      chain_places = c.close_up.ensures.chain_places ∙ w.chain_places;
+      order = omega (arith, c.close_up.ensures.order_few, w.order);
+      order_room = omega (arith, c.close_up.ensures.order_capacity, w.order_room);
+      entries = omega (arith, c.close_up.ensures.count, w.entries);
+      entry_room = omega (arith, c.close_up.ensures.capacity, w.entry_room);
+      link_room = omega (arith, c.close_up.ensures.link_capacity, w.link_room);
     }
 
 pub returns-clause-live : goal.returns-clause-live
 returns-clause-live c =
-    let id = id_of c.args.kind c.args.key.now in
-    ap (λ (es : List (RowId × Kept)). from_entries {R = row_cmp} es) c.drop_row.ensures.rows ∙ without_row id (map row_view c.self.inside.rows.items)
-    ∙ ap (λ (t : Listing). remove (live_of t) id) c.self.view_is
+    let t = c.self.inside in
+    let w = c.self.invariant in
+    let rows = c.drop_row.new.rows in
+    let gone : RowId → Bool = is_same_row (id_of c.args.kind c.args.key.now) in
+    ap (λ (es : List (RowId × Kept)). from_entries {R = row_cmp} es) (ap (listed_in rows) c.close_up.ensures.order ∙ listed_left gone t.rows rows c.drop_row.ensures.left t.order.items w.rows.live)
+    ∙ without_row (id_of c.args.kind c.args.key.now) (listed_in t.rows t.order.items)
+    ∙ ap (λ (s : Listing). remove (live_of s) (id_of c.args.kind c.args.key.now)) c.self.view_is
+
+pub returns-clause-held : goal.returns-clause-held
+returns-clause-held c =
+    let t = c.self.inside in
+    let rows = c.drop_row.new.rows in
+    let gone : RowId → Bool = is_same_row (id_of c.args.kind c.args.key.now) in
+    ap (held_in rows) c.close_up.ensures.entries ∙ held_left gone t.rows rows c.drop_row.ensures.left t.entries.items c.self.invariant.owned
+    ∙ ap (λ (s : Listing). filter (λ (e : model.Entry). not (is_same_row (id_of c.args.kind c.args.key.now) (row_of e.sample))) s.held) c.self.view_is
 
 pub returns-clause-count : goal.returns-clause-count
 returns-clause-count c =
-    let id = id_of c.args.kind c.args.key.now in
-    let entries = c.self.inside.entries in
-    let left = c.drop_entries.new.entries in
-    let p = λ (e : model.Entry). is_same_row id (row_of e.sample) in
-    let both = length-filter_both p (λ (e : model.Entry). not (is_same_row id (row_of e.sample))) (λ e. refl) (map entry_view entries.items) in
-    let gone : c.len-before.result - c.len.result ≡ length (entries_of id (map entry_view entries.items)) =
-    omega (arith, both, ap length c.drop_entries.ensures.entries, length-map entries.items entry_view, length-map left.items entry_view, entries.ok.0, left.ok.0, c.len-before.ensures, c.len.ensures) in
-    gone ∙ ap (λ (t : Listing). length (entries_of id t.held)) c.self.view_is
+    let t = c.self.inside in
+    let rows = c.drop_row.new.rows in
+    let gone : RowId → Bool = is_same_row (id_of c.args.kind c.args.key.now) in
+    let held = held_in t.rows t.entries.items in
+    let left = ap (held_in rows) c.close_up.ensures.entries ∙ held_left gone t.rows rows c.drop_row.ensures.left t.entries.items c.self.invariant.owned in
+    let both = length-filter_both (λ (e : model.Entry). gone (row_of e.sample)) (λ (e : model.Entry). not (gone (row_of e.sample))) (λ e. refl) held in
+    let went : c.close_up.result ≡ length (entries_of (id_of c.args.kind c.args.key.now) held) =
+    omega (arith, both, ap length left, c.close_up.ensures.count, length-map t.entries.items (entry_view t.rows), length-map c.close_up.new.entries.items (entry_view rows), t.entries.ok.0, c.close_up.new.entries.ok.0) in
+    went ∙ ap (λ (s : Listing). length (entries_of (id_of c.args.kind c.args.key.now) s.held)) c.self.view_is

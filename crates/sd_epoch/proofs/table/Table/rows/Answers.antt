@@ -1,13 +1,16 @@
-use Rattle.std.proofs.Common.{map, sym, ap, ◌∙◌, arith}
-use Rattle.std.proofs.lemmas.List.{length-map}
+use Rattle.std.proofs.Common.{ap, arith}
 use Rattle.std.specs.FinMap.{len}
-use Rattle.sd_epoch.specs.Table.{Listing, live_of, row_view}
-use Rattle.sd_epoch.proofs.ListingLemmas.{len-apart}
+use Rattle.sd_epoch.specs.Table.{Listing, live_of}
+use Rattle.sd_epoch.proofs.TableLemmas.{live_count}
 use Rattle.sd_epoch.proofs.table.Table.rows.Goals as goal
+
+pub overflow_cast-result : goal.overflow_cast-result
+overflow_cast-result c = omega (arith, c.self.invariant.order, c.self.invariant.limits.few_rows, c.len.ensures)
 
 pub returns-clause-live : goal.returns-clause-live
 returns-clause-live c =
-    let rows = c.self.inside.rows in
-    let es = map row_view rows.items in
-    let same = sym (len-apart es c.self.invariant.apart) ∙ ap (λ (t : Listing). len (live_of t)) c.self.view_is in
-    omega (arith, c.len.ensures, rows.ok.0, length-map rows.items row_view, same)
+    let t = c.self.inside in
+    omega (arith, c.len.ensures, t.order.ok.0, live_count t.rows t.order.items c.self.invariant.rows, ap (λ (s : Listing). len (live_of s)) c.self.view_is)
+
+pub returns-clause-within : goal.returns-clause-within
+returns-clause-within c = omega (arith, c.self.invariant.order, c.len.ensures, ap (λ (s : Listing). s.limits.rows) c.self.view_is)

@@ -1,0 +1,63 @@
+use Rattle.std.proofs.Common.{◌≡◌, ℕ, ◌<◌, List, length, set, Option, Some, refl, sym, ap, subst, ◌∙◌, arith}
+use Rattle.std.proofs.lemmas.List.{set-set}
+use Rattle.sd_rows.specs.Rows.{row_at, reset}
+use Rattle.sd_rows.specs.declared.row.Row.{Row}
+use Rattle.sd_epoch.specs.Entries.{AreRows, live_in, StayAt}
+use Rattle.sd_epoch.proofs.PlaceLemmas.{written, unwritten, add_rows, add_live, add_stays}
+use Rattle.sd_epoch.proofs.HeldLemmas.{count_below, add_tallies}
+use Rattle.sd_epoch.proofs.placing.add_row.Goals as goal
+
+pub add-place-requires-clause-room : goal.add-place-requires-clause-room
+add-place-requires-clause-room c = omega (arith, count_below c.args.rows.now c.args.order.now.items c.requires.rows.all, c.args.order.now.ok.0)
+
+-- the row that is written in the end, with its base and swaps
+rows_are : (rows mid new : List (Option Row)) (at : ℕ) (first row : Row) → at < length rows → mid ≡ set rows at (Some first) → new ≡ set mid at (reset (row_at mid at) row.base row.swaps)
+    → first.kind ≡ row.kind → first.key ≡ row.key → new ≡ set rows at (Some row)
+rows_are rows mid new at first row within m n kind key =
+    n ∙ ap (λ (xs : List (Option Row)). set xs at (reset (row_at xs at) row.base row.swaps)) m
+    ∙ ap (λ (o : Option Row). set (set rows at (Some first)) at (reset o row.base row.swaps)) (written rows at first within)
+    ∙ set-set rows at (Some first) (Some (record first { base = row.base; swaps = row.swaps }))
+    ∙ rw (kind, key) refl
+
+pub returns-clause-row : goal.returns-clause-row
+returns-clause-row c =
+    let row : Row = record { kind = c.args.kind; key = c.args.key.now; base = c.args.base; swaps = c.args.swaps } in
+    let at = c.add-place.result in
+    let are = rows_are c.args.rows.now c.add-place.new.self c.set.new.self at _ row c.add-place.ensures.within c.add-place.ensures.places c.set.ensures refl refl in
+    ap (λ (xs : List (Option Row)). row_at xs at) are ∙ written c.args.rows.now at row c.add-place.ensures.within
+
+pub returns-clause-rows : goal.returns-clause-rows
+returns-clause-rows c =
+    let row : Row = record { kind = c.args.kind; key = c.args.key.now; base = c.args.base; swaps = c.args.swaps } in
+    let at = c.add-place.result in
+    let are = rows_are c.args.rows.now c.add-place.new.self c.set.new.self at _ row c.add-place.ensures.within c.add-place.ensures.places c.set.ensures refl refl in
+    subst (λ (xs : List (Option Row)). AreRows xs c.push_reserved.new.self.items) (sym are)
+    (subst (AreRows (set c.args.rows.now at (Some row))) (sym c.push_reserved.ensures.items)
+    (add_rows c.args.rows.now at row c.add-place.ensures.within c.add-place.ensures.empty c.requires.absent c.args.order.now.items c.requires.rows))
+
+pub returns-clause-live : goal.returns-clause-live
+returns-clause-live c =
+    let row : Row = record { kind = c.args.kind; key = c.args.key.now; base = c.args.base; swaps = c.args.swaps } in
+    let at = c.add-place.result in
+    let are = rows_are c.args.rows.now c.add-place.new.self c.set.new.self at _ row c.add-place.ensures.within c.add-place.ensures.places c.set.ensures refl refl in
+    ap (λ (xs : List (Option Row)). live_in xs c.push_reserved.new.self.items) are
+    ∙ ap (λ (ps : List ℕ). live_in (set c.args.rows.now at (Some row)) ps) c.push_reserved.ensures.items
+    ∙ add_live c.args.rows.now at row c.add-place.ensures.within c.add-place.ensures.empty c.requires.absent c.args.order.now.items c.requires.rows
+
+pub returns-clause-stay : goal.returns-clause-stay
+returns-clause-stay c =
+    let row : Row = record { kind = c.args.kind; key = c.args.key.now; base = c.args.base; swaps = c.args.swaps } in
+    let at = c.add-place.result in
+    let are = rows_are c.args.rows.now c.add-place.new.self c.set.new.self at _ row c.add-place.ensures.within c.add-place.ensures.places c.set.ensures refl refl in
+    subst (StayAt c.args.rows.now) (sym are) (add_stays c.args.rows.now at row c.add-place.ensures.within c.add-place.ensures.empty c.requires.absent)
+
+pub returns-clause-tallies : goal.returns-clause-tallies
+returns-clause-tallies c held w none =
+    let row : Row = record { kind = c.args.kind; key = c.args.key.now; base = c.args.base; swaps = c.args.swaps } in
+    let at = c.add-place.result in
+    let within = c.add-place.ensures.within in
+    let are = rows_are c.args.rows.now c.add-place.new.self c.set.new.self at _ row within c.add-place.ensures.places c.set.ensures refl refl in
+    add_tallies c.args.rows.now c.set.new.self c.args.tallies.now.items at row c.empty_tally.result held w (omega (arith, within, c.requires.tally_room))
+    (ap (λ (xs : List (Option Row)). row_at xs at) are ∙ written c.args.rows.now at row within)
+    (λ p ne. ap (λ (xs : List (Option Row)). row_at xs p) are ∙ unwritten c.args.rows.now at row within p ne)
+    none c.empty_tally.ensures.samples c.empty_tally.ensures.weight c.empty_tally.ensures.sum c.empty_tally.ensures.gauge
