@@ -26,7 +26,8 @@ use Rattle.sd_replay.specs.Seen.{seen_of}
 use Rattle.sd_replay.specs.Totals.{totals_of_one, totals_view}
 use Rattle.sd_outside.specs.declared.backend.Backs.{Backs}
 use Rattle.sd_replay.specs.declared.reader.Item.{Item}
-use Rattle.sd_replay.proofs.PlayLemmas.{completes, writes_part, finds_unbuilt, fails_to_read, wears_out, packet_more, flush_more}
+use Rattle.sd_replay.specs.Settings.{settings_of}
+use Rattle.sd_replay.proofs.PlayLemmas.{Progress, nothing_played, completes, writes_part, finds_unbuilt, fails_to_read, wears_out, packet_more, flush_more}
 use Rattle.sd_replay.proofs.run.replay.Goals as goal
 use Rattle.sd_replay.proofs.run.replay.Goals.{in-Ok-finish, in-Err, in-Packet, in-Flush}
 
@@ -105,6 +106,31 @@ returns-clause-end g c =
     (wears_out settings old new _ _ _ _ _ stands.progress c.loop-turn.reader.pending refl (ap g.B.Faulty.seen c.loop-turn.invariant.2)
     (record { faults = omega (arith, stands.faults); opened_at = stands.place }) stands.faults (2 ^ 62) (g.met.O.Sink.number_fits c.args.output.now) refl (omega arith)
     (ap g.O.Faulty.seen c.loop-turn.invariant.1))
+
+pub loop-turn-init : goal.loop-turn-init
+loop-turn-init g c =
+    let fresh = c.room.invariant in
+    let settings = settings_of c.room.inside.settings in
+    let told = (g.R.Faulty.seen c.args.script.now).told in
+    let back = g.B.Faulty.seen c.args.backs.now.graphite in
+    let shard = state_of c.room.inside.shard in
+    let at = c.room.inside.reader.at in (
+      record {
+        progress = subst (λ left. Progress settings told left back back shard c.room.inside.desk at 0) (Reads-nil told ∙ ap (λ pending. put_back pending told) (sym fresh.pending))
+          (nothing_played settings told back shard c.room.inside.desk at fresh.state fresh.desk fresh.start);
+        limits = fresh.limits;
+        policy = fresh.policy;
+        spare = fresh.spare;
+        room = fresh.scratch;
+        receivers = fresh.receivers;
+        faults = refl;
+        place = refl;
+      },
+      refl,
+      refl,
+      refl,
+      refl,
+    )
 
 pub loop-turn-preserved : goal.loop-turn-preserved
 loop-turn-preserved g c =
