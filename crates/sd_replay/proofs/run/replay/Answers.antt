@@ -117,7 +117,7 @@ loop-turn-init g c =
     let at = c.room.inside.reader.at in (
       record {
         progress = subst (λ left. Progress settings told left back back shard c.room.inside.desk at 0) (Reads-nil told ∙ ap (λ pending. put_back pending told) (sym fresh.pending))
-          (nothing_played settings told back shard c.room.inside.desk at fresh.state fresh.desk fresh.start);
+            (nothing_played settings told back shard c.room.inside.desk at fresh.state fresh.desk fresh.start);
         limits = fresh.limits;
         policy = fresh.policy;
         spare = fresh.spare;
