@@ -2,7 +2,7 @@ ghost use Rattle.std.specs.Prelude.{◌<◌};
 
 use sd_case::{Answer, Refusal, bytes_of, number};
 use sd_outside::{Address, Failed, Faulty, MemSource, OpenRefusal, Opens, Source};
-use sd_replay::{Item, Reader};
+use sd_script::{Flaw, Item, Reader};
 use std::alloc::Global;
 
 /// How many receivers the scripts of cases have.
@@ -35,6 +35,15 @@ impl Source for SlowSource {
     }
 }
 
+/// What is wrong with a record, by its name.
+fn name_of(flaw: Flaw) -> &'static str {
+    match flaw {
+        Flaw::Word => "word",
+        Flaw::Length => "length",
+        Flaw::Truncated => "truncated",
+    }
+}
+
 /// Appends what stands next, the place behind it, and the datagram, where it is a packet.
 fn show_next(item: Result<Item, Failed>, reader: &Reader, out: &mut Answer) {
     match item {
@@ -44,6 +53,7 @@ fn show_next(item: Result<Item, Failed>, reader: &Reader, out: &mut Answer) {
         }
         Ok(Item::Flush { ts }) => out.count("flush ", ts),
         Ok(Item::End) => out.text("end"),
+        Ok(Item::Fault(flaw)) => out.text(name_of(flaw)),
         Ok(Item::Unbuilt) => out.text("unbuilt"),
         Err(Failed) => out.text("failed"),
     }

@@ -1,6 +1,10 @@
-use sd_case::{Answer, Refusal, number};
+use sd_case::{Answer, Refusal, bytes_of, number};
+use sd_config::ConfigFault;
 use sd_decimal::Line;
+use sd_outside::Name;
+use sd_replay::ScriptFault;
 use sd_top::{Part, Status, explain};
+use std::alloc::Global;
 
 /// The object that a word names.
 fn part_of(word: &str) -> Result<Part, Refusal> {
@@ -12,9 +16,49 @@ fn part_of(word: &str) -> Result<Part, Refusal> {
     }
 }
 
-/// The status that words write.
-fn status_of(fields: &[&str]) -> Result<Status, Refusal> {
+/// The name that a word stands for.
+fn name_of(alloc: Global, word: &str) -> Result<Name, Refusal> {
+    let mut name = Name::new();
+    match name.try_extend_from_slice(&bytes_of(alloc, word)?) {
+        Ok(()) => Ok(name),
+        Err(_) => Err(Refusal::Malformed),
+    }
+}
+
+/// The fault of a settings file that words write.
+fn config_of(alloc: Global, fields: &[&str]) -> Result<ConfigFault, Refusal> {
     match fields {
+        ["out_of_memory"] => Ok(ConfigFault::OutOfMemory),
+        ["not_toml"] => Ok(ConfigFault::NotToml),
+        ["unknown", name] => Ok(ConfigFault::Unknown {
+            name: name_of(alloc, name)?,
+        }),
+        ["wrong_kind", name] => Ok(ConfigFault::WrongKind {
+            name: name_of(alloc, name)?,
+        }),
+        ["out_of_range", name] => Ok(ConfigFault::OutOfRange {
+            name: name_of(alloc, name)?,
+        }),
+        _ => Err(Refusal::Malformed),
+    }
+}
+
+/// The fault of a script that words write.
+fn script_of(fault: &str, at: &str) -> Result<ScriptFault, Refusal> {
+    let at = number(at)?;
+    match fault {
+        "word" => Ok(ScriptFault::Word { at }),
+        "length" => Ok(ScriptFault::Length { at }),
+        "truncated" => Ok(ScriptFault::Truncated { at }),
+        _ => Err(Refusal::Malformed),
+    }
+}
+
+/// The status that words write.
+fn status_of(alloc: Global, fields: &[&str]) -> Result<Status, Refusal> {
+    match fields {
+        ["config", fault @ ..] => Ok(Status::Config(config_of(alloc, fault)?)),
+        ["script", fault, at] => Ok(Status::Script(script_of(fault, at)?)),
         ["ok"] => Ok(Status::Ok),
         ["out_of_memory"] => Ok(Status::OutOfMemory),
         ["usage"] => Ok(Status::Usage),
@@ -34,17 +78,43 @@ fn status_of(fields: &[&str]) -> Result<Status, Refusal> {
 }
 
 /// `status WORDS`: the status, how the program exits, and what it explains.
-pub(crate) fn texts_of(fields: &[&str], out: &mut Answer) -> Result<(), Refusal> {
+pub(crate) fn texts_of(alloc: Global, fields: &[&str], out: &mut Answer) -> Result<(), Refusal> {
+    let status = status_of(alloc, fields)?;
     out.text(" = ");
-    show_status(&status_of(fields)?, out);
+    show_status(&status, out);
     Ok(())
+}
+
+/// Appends what a settings file's fault is, and the name in it.
+fn show_config(fault: &ConfigFault, out: &mut Answer) {
+    match fault {
+        ConfigFault::OutOfMemory => out.text("OutOfMemory"),
+        ConfigFault::NotToml => out.text("NotToml"),
+        ConfigFault::Unknown { name } => show_name("Unknown", name, out),
+        ConfigFault::WrongKind { name } => show_name("WrongKind", name, out),
+        ConfigFault::OutOfRange { name } => show_name("OutOfRange", name, out),
+    }
+}
+
+fn show_name(fault: &str, name: &Name, out: &mut Answer) {
+    out.text(fault);
+    out.text(" { name: ");
+    out.bytes(name.as_slice());
+    out.text(" }");
 }
 
 /// Appends a status, the number that the program exits with, and what it explains.
 pub(crate) fn show_status(status: &Status, out: &mut Answer) {
     let mut line = Line::new();
     explain(status, &mut line);
-    out.debug(status);
+    match status {
+        Status::Config(fault) => {
+            out.text("Config(");
+            show_config(fault, out);
+            out.text(")");
+        }
+        status => out.debug(status),
+    }
     out.count(", exit ", u64::from(status.exit()));
     out.text(", ");
     out.words(line.as_slice());

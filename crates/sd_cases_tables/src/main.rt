@@ -25,10 +25,7 @@ fn call(alloc: Global, words: &[&str], out: &mut Answer) -> Result<(), Refusal> 
             out.text(" = ");
             shards::goes_idle(kinds, kind, swaps, out)
         }
-        ["room", limits, kinds, receivers] => {
-            out.text(" = ");
-            rooms::open_room(alloc, limits, kinds, receivers, out)
-        }
+        ["room", file] => rooms::open_room(alloc, file, out),
         _ => Err(Refusal::UnknownCall),
     }
 }

@@ -1,25 +1,35 @@
-use crate::shards::{limits_from, policy_from};
-use sd_case::{Answer, Refusal, number};
-use sd_config::{Names, Reckoning};
-use sd_replay::{ReplayRoom, Settings};
+use sd_case::{Answer, Refusal, bytes_of};
+use sd_config::Settings;
+use sd_epoch::Limits;
+use sd_replay::{ReplayRoom, limits_of, policy_of};
+use sd_shard::Policy;
 use std::alloc::Global;
 
-/// `room ROWS/ENTRIES KINDS RECEIVERS`: opens all that a replay works on.
-pub(crate) fn open_room(
-    alloc: Global,
-    limits: &str,
-    kinds: &str,
-    receivers: &str,
-    out: &mut Answer,
-) -> Result<(), Refusal> {
-    let settings = Settings {
-        limits: limits_from(limits)?,
-        policy: policy_from(kinds)?,
-        plan: Reckoning::plain(),
-        names: Names::plain(),
-        receivers: number::<u16>(receivers)?,
+/// `room FILE`: opens all that a replay by a settings file works on, and answers its limits, and what goes when idle.
+pub(crate) fn open_room(alloc: Global, file: &str, out: &mut Answer) -> Result<(), Refusal> {
+    let Ok(settings) = Settings::read(alloc, &bytes_of(alloc, file)?) else {
+        return Err(Refusal::Malformed);
     };
-    let _room = ReplayRoom::open(alloc, settings)?;
-    out.text("open");
+    let _room = ReplayRoom::open(alloc, &settings)?;
+    show_limits(limits_of(&settings), out);
+    show_policy(policy_of(&settings), out);
     Ok(())
+}
+
+fn show_limits(limits: Limits, out: &mut Answer) {
+    out.count(" = ", u64::from(limits.rows));
+    out.count("/", u64::from(limits.entries));
+}
+
+fn show_policy(policy: Policy, out: &mut Answer) {
+    for (kind, is_deleted) in [
+        (" counters ", policy.counters),
+        (", timers ", policy.timers),
+        (", gauges ", policy.gauges),
+        (", sets ", policy.sets),
+    ] {
+        out.text(kind);
+        out.yes_or_no(is_deleted);
+    }
+    out.count(", gauges at swap ", u64::from(policy.max_ttl));
 }

@@ -1,124 +1,200 @@
--- How a call answers, where its replay can end in one way only, and where its settings have a byte.
-use Rattle.std.proofs.Common.{◌≡◌, ℕ, List, [], ◌∷◌, ◌++◌, refl, sym, ap, subst, ◌∙◌, Option, Some, None, inl, inr}
-use Rattle.std.specs.Prelude.{IfSome}
-use Rattle.sd_model_outside.specs.Outside.{Left, Rose, IsAtEnd, File, left_in}
+-- How a call answers, where its replay can end in one way only, and where its settings are refused.
+use Rattle.std.proofs.Common.{◌≡◌, ◌⊎◌, ℕ, ◌<◌, Bool, true, false, List, [], ◌∷◌, ◌++◌, length, refl, sym, ap, subst, ◌∙◌, Option, Some, None, Ok, Err, inl, inr, nat_lt, codes, arith, length-append, append-nil, get_or}
+use Rattle.std.specs.Prelude.{IfSome, if◌then◌else◌}
+use Rattle.std.proofs.lemmas.Bool.Decides.{nat_tests}
+use Rattle.std.proofs.lemmas.Bool.{cond-true}
+use Rattle.sd_model_outside.specs.Outside.{Place, Told, Left, Object, Rose, IsAtEnd, File, left_in}
+use Rattle.sd_model_settings.specs.Settings as file
+use Rattle.sd_model_settings.specs.Settings.{SettingsFlaw, OutOfRange, settings}
+use Rattle.sd_model_replay.specs.Settings.{Settings, goes_by, names_unbuilt}
 use Rattle.sd_model_replay.specs.Backends.{Graphite, Console}
 use Rattle.sd_model_replay.specs.Script.{Command, end_word}
+use Rattle.sd_model_replay.specs.Next.{Next}
 use Rattle.sd_model_replay.specs.Totals.{totals_after}
 use Rattle.sd_model_replay.specs.AccountingTheorem.{Seen, Course, AccountingTheorem}
-use Rattle.sd_model_replay.specs.Ends.{End, Complete, NotBuilt, ReadFailed, WriteFailed, WornOut, Replayed}
-use Rattle.sd_model_call.specs.Words.{Form, Replay, form}
-use Rattle.sd_model_call.specs.Call.{World, Opening, Answer, Done, NoMemory, NoForm, NotOpened, NotRead, NotWritten, Unbuilt, Worn, Part, OfSettings, OfScript, OfGraphite, Answers, AnswersReplay, Accounts, AreTaken, FailsToOpen, HasByte, Ran, default_settings, ending, openings, started}
-use Rattle.sd_model_call.specs.Completeness.{Asks, AsksPlainly, IsSteady, IsUnhindered, IsCutOff, IsLongest, IsWhole, IsFull, IsBlocked, CarriedOut, NoneMissed}
-use Rattle.sd_model_call.proofs.ReplayEnds.{left_behind, carries_out}
+use Rattle.sd_model_replay.specs.Ends.{End, Complete, Faulted, NotBuilt, ReadFailed, WriteFailed, WornOut, Replayed}
+use Rattle.sd_model_call.specs.Words.{Form}
+use Rattle.sd_model_call.specs.Opening.{World, Opening, OfSettings, OfScript, OfGraphite, AreRead, FailsToOpen, longest_file, openings, started}
+use Rattle.sd_model_call.specs.Call.{Answer, Done, NoMemory, NoForm, Misset, BadScript, NotOpened, NotRead, NotWritten, Unbuilt, Worn, Answers, AnswersReplay, Accounts, TakesSettings, Ran, ending}
+use Rattle.sd_model_call.specs.Completeness.{Asks, AsksPlainly, IsSteady, IsUnhindered, IsCutOff, IsLongest, IsWhole, IsFull, IsBlocked, CarriedOut, NoneMissed, refusal}
+use Rattle.sd_model_call.proofs.ReplayEnds.{LeftBehind, left_behind, carries_out}
 
--- what is known of a script and an output is known once the script is opened
-steady_started : (name : List ℕ) (old new : Seen) (commands : List Command) (bytes : List ℕ) → IsSteady default_settings old new commands bytes → IsSteady default_settings (started name old) new commands bytes
-steady_started name old new commands bytes h = record { script = h.script; built = h.built; script_faults = h.script_faults }
+module _ (s : Settings) (name : List ℕ) (old new : Seen) where
+  -- what is known of a script and an output is known once the script is opened
+  steady_started : (commands : List Command) (bytes : List ℕ) → IsSteady s old new commands bytes → IsSteady s (started s name old) new commands bytes
+  steady_started commands bytes h = record { script = h.script; built = h.built; script_faults = h.script_faults }
 
-pub unhindered_started : (name : List ℕ) (old new : Seen) (commands : List Command) (rest : List ℕ) → IsUnhindered default_settings old new commands rest → IsUnhindered default_settings (started name old) new commands rest
-unhindered_started name old new commands rest h = record { steady = steady_started name old new commands (end_word ++ rest) h.steady; few = h.few; output_faults = h.output_faults }
+  pub unhindered_started : (commands : List Command) (rest : List ℕ) → IsUnhindered s old new commands rest → IsUnhindered s (started s name old) new commands rest
+  unhindered_started commands rest h = record { steady = steady_started commands (end_word ++ rest) h.steady; few = h.few; output_faults = h.output_faults }
 
-pub cut_started : (name : List ℕ) (old new : Seen) (commands : List Command) (bytes : List ℕ) → IsCutOff default_settings old new commands bytes → IsCutOff default_settings (started name old) new commands bytes
-cut_started name old new commands bytes h = record { steady = steady_started name old new commands bytes h.steady; few = h.few; other = h.other }
+  pub cut_started : (commands : List Command) (next : Next) (bytes : List ℕ) → IsCutOff s old new commands next bytes → IsCutOff s (started s name old) new commands next bytes
+  cut_started commands next bytes h = record { steady = steady_started commands bytes h.steady; few = h.few; begins = h.begins }
 
-pub longest_started : (name : List ℕ) (old new : Seen) (commands : List Command) (bytes : List ℕ) → IsLongest default_settings old new commands bytes → IsLongest default_settings (started name old) new commands bytes
-longest_started name old new commands bytes h = record { steady = steady_started name old new commands bytes h.steady; most = h.most }
+  pub longest_started : (commands : List Command) (bytes : List ℕ) → IsLongest s old new commands bytes → IsLongest s (started s name old) new commands bytes
+  longest_started commands bytes h = record { steady = steady_started commands bytes h.steady; most = h.most }
 
-pub none_missed_started : (name : List ℕ) (old new : Seen) → NoneMissed default_settings old new → NoneMissed default_settings (started name old) new
-none_missed_started name old new none Graphite used = none Graphite used
-none_missed_started name old new none Console used = none Console used
+  graphite_started : (used : Bool) → s.uses_graphite ≡ used → (started s name old).graphite.faults ≡ old.graphite.faults
+  graphite_started true is = rw is refl
+  graphite_started false is = rw is refl
+
+  pub none_missed_started : NoneMissed s old new → NoneMissed s (started s name old) new
+  none_missed_started none Graphite used = subst (λ (n : ℕ). ¬ Rose n new.graphite.faults) (sym (graphite_started s.uses_graphite refl)) (none Graphite used)
+  none_missed_started none Console used = none Console used
 
 -- a replay that the program began, from what was seen then
-pub replayed : (end : End) (settings script : List ℕ) (course : Course) (start : Seen) (old new : World) → AccountingTheorem default_settings course start new.seen → Ran end settings script course start old new → Replayed default_settings end (started script old.seen) new.seen
-replayed end settings script course start old new theorem ran =
-    subst (λ (at : Seen). Replayed default_settings end at new.seen) ran.since (record { course = course; theorem = theorem; ends = ran.ends })
+pub replayed : (end : End) (s : Settings) (name script : List ℕ) (course : Course) (start : Seen) (old new : World) → AccountingTheorem s course start new.seen → Ran end s name script course start old new → Replayed s end (started s script old.seen) new.seen
+replayed end s name script course start old new theorem ran =
+    subst (λ (at : Seen). Replayed s end at new.seen) ran.since (record { course = course; theorem = theorem; ends = ran.ends })
 
--- no byte is read of settings that have none
-no_byte : (at : ℕ) (settings : List ℕ) (old new : World) → old.settings.told ≡ Left [] → HasByte at settings old new → ⊥
-no_byte at settings old new told h =
-    let l = left_behind (h.byte ∷ []) [] new.settings.told (sym told ∙ ap (λ o. o.told) h.read) in absurd (cc)
+-- a file that is too long has that flaw
+too_long : (bytes : List ℕ) → longest_file < length bytes → settings bytes ≡ Err (OutOfRange (codes "file"))
+unfolding settings
+too_long bytes long = cond-true (nat_lt 65536 (length bytes)) _ _ (grind (arith, nat_tests))
+
+-- what was read of settings that tell their bytes says what these say
+settled : (place : Place) (bytes read : List ℕ) (old new : Object) → old.told ≡ Left bytes → AreRead place read old new → settings read ≡ settings bytes
+settled place bytes read old new told h = by_decided h.decided where
+  rest : LeftBehind read bytes new.told
+  rest = left_behind read bytes new.told (sym told ∙ ap (λ (o : Object). o.told) h.read)
+
+  at_end : IsAtEnd new.told → rest.bytes ≡ []
+  at_end ended = subst (λ (t : Told). IfSome (left_in t) (λ bs. bs ≡ [])) rest.is ended
+
+  by_decided : IsAtEnd new.told ⊎ (longest_file < length read) → settings read ≡ settings bytes
+  by_decided (inl ended) = ap settings (sym (rest.stands ∙ ap (λ more. read ++ more) (at_end ended) ∙ append-nil read))
+  by_decided (inr long) = too_long read long ∙ sym (too_long bytes (omega (arith, long, ap length rest.stands, length-append read rest.bytes)))
 
 -- a call of these words, where a replay of their script ends in one way only
-module _ (words : List (List ℕ)) (old new : World) (plainly : AsksPlainly words old new) (expected : Answer)
-    (only : (end : End) → Replayed default_settings end (started plainly.asks.script old.seen) new.seen → ending end ≡ expected)
-    (script_faults : ¬ Rose old.seen.script.faults new.seen.script.faults) where
-  at_end : (end : End) (course : Course) (start : Seen) → AccountingTheorem default_settings course start new.seen
-      → Ran end plainly.asks.settings plainly.asks.script course start old new → IsFull expected (ending end)
-  at_end end course start theorem ran = inl (inl (only end (replayed end plainly.asks.settings plainly.asks.script course start old new theorem ran)))
+module _ (words : List (List ℕ)) (values : file.Settings) (old new : World) (plainly : AsksPlainly words values old new) where
+  abbrev pub name : List ℕ
+  name = plainly.asks.settings
 
-  full_by : (answer : Answer) (course : Course) (start : Seen) → AccountingTheorem default_settings course start new.seen
-      → AnswersReplay plainly.asks.settings plainly.asks.script answer course start old new → IsFull expected answer
-  full_by Done course start theorem h = at_end (Complete (totals_after default_settings course.played)) course start theorem h
-  full_by NoMemory course start theorem h = inl (inr refl)
-  full_by NoForm course start theorem h = absurd h
-  full_by (NotOpened OfSettings) course start theorem h = absurd (plainly.settings_faults h.0.failed.rose)
-  full_by (NotOpened OfScript) course start theorem h = absurd (script_faults h.0.failed.rose)
-  full_by (NotOpened OfGraphite) course start theorem h = inr refl
-  full_by (NotRead OfSettings) course start theorem h = absurd (plainly.settings_faults h.0.failed.rose)
-  full_by (NotRead OfScript) course start theorem h = at_end ReadFailed course start theorem h
-  full_by (NotRead OfGraphite) course start theorem h = absurd h
-  full_by NotWritten course start theorem h = at_end WriteFailed course start theorem h
-  full_by (Unbuilt at) course start theorem (inl h) = absurd (no_byte at plainly.asks.settings old new plainly.asks.told h.0)
-  full_by (Unbuilt at) course start theorem (inr h) = at_end (NotBuilt at) course start theorem h
-  full_by (Worn turns) course start theorem h = at_end (WornOut turns) course start theorem h
+  abbrev pub script : List ℕ
+  script = plainly.asks.script
 
-  pub full_answer : (answer : Answer) → Accounts words old new answer → IsFull expected answer
-  full_answer answer h =
-      full_by answer h.course h.start h.theorem (subst (λ (f : Option Form). Answers f answer h.course h.start old new) plainly.asks.form h.answers)
+  says : (read : List ℕ) → AreRead (File name) read old.settings new.settings → settings read ≡ Ok values
+  says read h = settled (File name) plainly.bytes read old.settings new.settings plainly.asks.told h ∙ plainly.accepted
 
--- Graphite counts a fault where it can't be opened
-pub graphite_opens : (words : List (List ℕ)) (old new : World) → NoneMissed default_settings old.seen new.seen → Accounts words old new (NotOpened OfGraphite) → ⊥
-graphite_opens words old new none h = by_form (form words) h.answers where
-  by_form : (f : Option Form) → Answers f (NotOpened OfGraphite) h.course h.start old new → ⊥
-  by_form None answers = let refused = answers.refused in absurd (cc)
-  by_form (Some (Replay settings script)) answers = absurd (none Graphite refl answers.0.failed.rose)
+  in_force : (taken : file.Settings) → TakesSettings name taken old new → taken ≡ values
+  in_force taken h = let same : Ok taken ≡ Ok values = sym h.file.accepted ∙ says h.file.bytes h.file.read in cc
 
--- a call of settings that have a byte
-module _ (words : List (List ℕ)) (old new : World) (byte : ℕ) (bytes : List ℕ) (asks : Asks words old new (byte ∷ bytes)) where
-  not_empty : IsAtEnd old.settings.told → ⊥
-  not_empty empty = let none : byte ∷ bytes ≡ [] = subst (λ told. IfSome (left_in told) (λ bs. bs ≡ [])) asks.told empty in absurd (cc)
+  -- a replay ran by these settings
+  pub ran_by : (end : End) (s : Settings) (course : Course) (start : Seen) → Ran end s name script course start old new → s ≡ goes_by values
+  ran_by end s course start ran = ran.force ∙ ap goes_by (in_force ran.values ran.taken)
 
-  nothing_ran : {P : Type 0} (end : End) (course : Course) (start : Seen) → Ran end asks.settings asks.script course start old new → P
-  nothing_ran end course start ran = absurd (not_empty ran.taken.empty)
+  pub answers_so : (answer : Answer) (h : Accounts words old new answer) → AnswersReplay name script h.force answer h.course h.start old new
+  answers_so answer h = subst (λ (f : Option Form). Answers f h.force answer h.course h.start old new) plainly.asks.form h.answers
 
-  first_part : (part : Part) → FailsToOpen part (openings asks.settings asks.script) old new → part ≡ OfSettings
-  first_part part h = first_of h.before h.order h.taken where
-    first_of : (before : List Opening) → openings asks.settings asks.script ≡ before ++ record { part = part; place = h.place } ∷ h.behind → AreTaken before old new → part ≡ OfSettings
-    first_of [] order taken = let head : record { part = OfSettings; place = File asks.settings } ≡ record { part = part; place = h.place } = cc in sym (ap (λ (o : Opening). o.part) head)
-    first_of (o ∷ before) order taken = absurd (not_empty taken.empty)
+  module _ (expected : Answer)
+      (only : (end : End) → Replayed (goes_by values) end (started (goes_by values) script old.seen) new.seen → ending end ≡ expected)
+      (script_faults : ¬ Rose old.seen.script.faults new.seen.script.faults) where
+    at_end : (end : End) (s : Settings) (course : Course) (start : Seen) → AccountingTheorem s course start new.seen → Ran end s name script course start old new → IsFull expected (ending end)
+    at_end end s course start theorem ran =
+        inl (inl (only end (subst (λ (f : Settings). Replayed f end (started f script old.seen) new.seen) (ran_by end s course start ran) (replayed end s name script course start old new theorem ran))))
 
-  blocked_by : (answer : Answer) (course : Course) (start : Seen) → AnswersReplay asks.settings asks.script answer course start old new → IsBlocked answer
-  blocked_by Done course start h = nothing_ran (Complete (totals_after default_settings course.played)) course start h
-  blocked_by NoMemory course start h = inl (inr refl)
-  blocked_by NoForm course start h = absurd h
-  blocked_by (NotOpened part) course start h = inr (inl (ap NotOpened (first_part part h.0)))
-  blocked_by (NotRead OfSettings) course start h = inr (inr refl)
-  blocked_by (NotRead OfScript) course start h = nothing_ran ReadFailed course start h
-  blocked_by (NotRead OfGraphite) course start h = absurd h
-  blocked_by NotWritten course start h = nothing_ran WriteFailed course start h
-  blocked_by (Unbuilt at) course start (inl h) = inl (inl (ap Unbuilt h.0.place))
-  blocked_by (Unbuilt at) course start (inr h) = nothing_ran (NotBuilt at) course start h
-  blocked_by (Worn turns) course start h = nothing_ran (WornOut turns) course start h
+    full_by : (s : Settings) (answer : Answer) (course : Course) (start : Seen) → AccountingTheorem s course start new.seen → AnswersReplay name script s answer course start old new → IsFull expected answer
+    full_by s Done course start theorem h = at_end (Complete (totals_after s course.played)) s course start theorem h
+    full_by s NoMemory course start theorem h = inl (inr refl)
+    full_by s NoForm course start theorem h = absurd h
+    full_by s (Misset flaw) course start theorem h = let same : Err flaw ≡ Ok values = sym h.0.file.refused ∙ says h.0.file.bytes h.0.file.read in absurd (cc)
+    full_by s (BadScript at flaw) course start theorem h = at_end (Faulted at flaw) s course start theorem h
+    full_by s (NotOpened OfSettings) course start theorem h = absurd (plainly.settings_faults h.0.failed.rose)
+    full_by s (NotOpened OfScript) course start theorem h = absurd (script_faults h.0.fails.failed.rose)
+    full_by s (NotOpened OfGraphite) course start theorem h = inr refl
+    full_by s (NotRead OfSettings) course start theorem h =
+        let before = ap (λ (o : Object). o.faults) h.0.failed.read in
+        absurd (plainly.settings_faults (subst (λ (n : ℕ). Rose n new.settings.faults) (sym before) h.0.failed.failed.rose))
+    full_by s (NotRead OfScript) course start theorem h = at_end ReadFailed s course start theorem h
+    full_by s (NotRead OfGraphite) course start theorem h = absurd h
+    full_by s NotWritten course start theorem h = at_end WriteFailed s course start theorem h
+    full_by s (Unbuilt at) course start theorem (inl h) =
+        let same : Ok h.0.values ≡ Ok values = sym h.0.file.accepted ∙ says h.0.file.bytes h.0.file.read in
+        let values_same : h.0.values ≡ values = cc in
+        let other : true ≡ false = sym h.0.unbuilt ∙ ap names_unbuilt values_same ∙ plainly.built in absurd (cc)
+    full_by s (Unbuilt at) course start theorem (inr h) = at_end (NotBuilt at) s course start theorem h
+    full_by s (Worn turns) course start theorem h = at_end (WornOut turns) s course start theorem h
 
-  answers_so : (answer : Answer) (h : Accounts words old new answer) → AnswersReplay asks.settings asks.script answer h.course h.start old new
-  answers_so answer h = subst (λ (f : Option Form). Answers f answer h.course h.start old new) asks.form h.answers
+    pub full_answer : (answer : Answer) → Accounts words old new answer → IsFull expected answer
+    full_answer answer h = full_by h.force answer h.course h.start h.theorem (answers_so answer h)
 
-  pub blocked_answer : (answer : Answer) → Accounts words old new answer → IsBlocked answer
-  blocked_answer answer h = blocked_by answer h.course h.start (answers_so answer h)
+  -- Graphite is used where it can't be opened
+  opened_used : (s : Settings) (used : Bool) → s.uses_graphite ≡ used → FailsToOpen OfGraphite (openings s script) old new → used ≡ true
+  opened_used s true is h = refl
+  opened_used s false is h = absurd (alone h.before (subst (λ b. record { part = OfScript; place = File script } ∷ (if b then record { part = OfGraphite; place = File [] } ∷ [] else []) ≡ h.before ++ record { part = OfGraphite; place = h.place } ∷ h.behind) is h.order)) where
+    alone : (before : List Opening) → record { part = OfScript; place = File script } ∷ [] ≡ before ++ record { part = OfGraphite; place = h.place } ∷ h.behind → ⊥
+    alone [] order = let head : OfScript ≡ OfGraphite = ap (λ (os : List Opening). (get_or os 0 (record { part = OfGraphite; place = h.place })).part) order in absurd (cc)
+    alone (o ∷ before) order = omega (arith, ap length order, length-append before (record { part = OfGraphite; place = h.place } ∷ h.behind))
 
-  pub blocked_whole : (answer : Answer) → ¬ Rose old.settings.faults new.settings.faults → Accounts words old new answer → IsWhole (Unbuilt 0) answer
+  -- and counts a fault then
+  pub graphite_opens : NoneMissed (goes_by values) old.seen new.seen → Accounts words old new (NotOpened OfGraphite) → ⊥
+  graphite_opens none h =
+      let stops = (answers_so (NotOpened OfGraphite) h).0 in
+      let s = goes_by stops.values in
+      let used = opened_used s s.uses_graphite refl stops.fails in
+      let same : s ≡ goes_by values = ap goes_by (in_force stops.values stops.taken) in
+      none Graphite (sym (ap (λ (f : Settings). f.uses_graphite) same) ∙ used) stops.fails.failed.rose
+
+  -- a call that says that it did what a script asks carried out its records
+  pub done_carries_out : (commands : List Command) (rest : List ℕ) → IsUnhindered (goes_by values) old.seen new.seen commands rest
+      → Accounts words old new Done → CarriedOut (goes_by values) (started (goes_by values) script old.seen) new.seen commands rest
+  done_carries_out commands rest free h =
+      let ran = answers_so Done h in
+      let end = Complete (totals_after h.force h.course.played) in
+      let s : h.force ≡ goes_by values = ran_by end h.force h.course h.start ran in
+      subst (λ (f : Settings). CarriedOut f (started f script old.seen) new.seen commands rest) s
+      (subst (λ (at : Seen). IsUnhindered h.force at new.seen commands rest → CarriedOut h.force at new.seen commands rest) ran.since
+      (λ known. carries_out h.force h.start new.seen commands rest known h.course h.theorem ran.ends)
+      (unhindered_started h.force script old.seen new.seen commands rest (subst (λ (f : Settings). IsUnhindered f old.seen new.seen commands rest) (sym s) free)))
+
+-- a call of settings that are refused
+module _ (words : List (List ℕ)) (old new : World) (bytes : List ℕ) (refused : Answer) (asks : Asks words old new bytes) (is : refusal (settings bytes) ≡ Some refused) where
+  says_so : (read : List ℕ) → AreRead (File asks.settings) read old.settings new.settings → refusal (settings read) ≡ Some refused
+  says_so read h = ap refusal (settled (File asks.settings) bytes read old.settings new.settings asks.told h) ∙ is
+
+  -- settings that were taken aren't refused
+  not_taken : {P : Type 0} (values : file.Settings) → TakesSettings asks.settings values old new → P
+  not_taken values h =
+      let taken : refusal (settings h.file.bytes) ≡ None = ap refusal h.file.accepted ∙ ap (λ b. if b then Some (Unbuilt 0) else None) h.built in
+      let both : None ≡ Some refused = sym taken ∙ says_so h.file.bytes h.file.read in absurd (cc)
+
+  blocked_by : (s : Settings) (answer : Answer) (course : Course) (start : Seen) → AnswersReplay asks.settings asks.script s answer course start old new → IsBlocked refused answer
+  blocked_by s Done course start h = not_taken h.values h.taken
+  blocked_by s NoMemory course start h = inl (inr refl)
+  blocked_by s NoForm course start h = absurd h
+  blocked_by s (Misset flaw) course start h =
+      let said : Some (Misset flaw) ≡ Some refused = ap refusal (sym h.0.file.refused) ∙ says_so h.0.file.bytes h.0.file.read in inl (inl cc)
+  blocked_by s (BadScript at flaw) course start h = not_taken h.values h.taken
+  blocked_by s (NotOpened OfSettings) course start h = inr (inl refl)
+  blocked_by s (NotOpened OfScript) course start h = not_taken h.0.values h.0.taken
+  blocked_by s (NotOpened OfGraphite) course start h = not_taken h.0.values h.0.taken
+  blocked_by s (NotRead OfSettings) course start h = inr (inr refl)
+  blocked_by s (NotRead OfScript) course start h = not_taken h.values h.taken
+  blocked_by s (NotRead OfGraphite) course start h = absurd h
+  blocked_by s NotWritten course start h = not_taken h.values h.taken
+  blocked_by s (Unbuilt at) course start (inl h) =
+      let said : Some (Unbuilt 0) ≡ Some refused = sym (ap (λ b. if b then Some (Unbuilt 0) else None) h.0.unbuilt) ∙ ap refusal (sym h.0.file.accepted) ∙ says_so h.0.file.bytes h.0.file.read in
+      inl (inl (ap Unbuilt h.0.place ∙ cc))
+  blocked_by s (Unbuilt at) course start (inr h) = not_taken h.values h.taken
+  blocked_by s (Worn turns) course start h = not_taken h.values h.taken
+
+  refused_so : (answer : Answer) (h : Accounts words old new answer) → AnswersReplay asks.settings asks.script h.force answer h.course h.start old new
+  refused_so answer h = subst (λ (f : Option Form). Answers f h.force answer h.course h.start old new) asks.form h.answers
+
+  pub blocked_answer : (answer : Answer) → Accounts words old new answer → IsBlocked refused answer
+  blocked_answer answer h = blocked_by h.force answer h.course h.start (refused_so answer h)
+
+  not_closed : ¬ Rose old.settings.faults new.settings.faults → (answer : Answer) → answer ≡ NotOpened OfSettings → Accounts words old new answer → ⊥
+  not_closed steady answer closed h =
+      steady (subst (λ a. AnswersReplay asks.settings asks.script h.force a h.course h.start old new) closed (refused_so answer h)).0.failed.rose
+
+  not_failed : ¬ Rose old.settings.faults new.settings.faults → (answer : Answer) → answer ≡ NotRead OfSettings → Accounts words old new answer → ⊥
+  not_failed steady answer failed h =
+      let stops = (subst (λ a. AnswersReplay asks.settings asks.script h.force a h.course h.start old new) failed (refused_so answer h)).0 in
+      steady (subst (λ (n : ℕ). Rose n new.settings.faults) (sym (ap (λ (o : Object). o.faults) stops.failed.read)) stops.failed.failed.rose)
+
+  pub blocked_whole : (answer : Answer) → ¬ Rose old.settings.faults new.settings.faults → Accounts words old new answer → IsWhole refused answer
   blocked_whole answer steady h = elim (blocked_answer answer h) [
     | inl whole ↦ whole
-    | inr (inl closed) ↦ absurd (steady (subst (λ a. AnswersReplay asks.settings asks.script a h.course h.start old new) closed (answers_so answer h)).0.failed.rose)
-    | inr (inr failed) ↦ absurd (steady (subst (λ a. AnswersReplay asks.settings asks.script a h.course h.start old new) failed (answers_so answer h)).0.failed.rose)
+    | inr (inl closed) ↦ absurd (not_closed steady answer closed h)
+    | inr (inr failed) ↦ absurd (not_failed steady answer failed h)
   ]
-
--- a call that says that it did what a script asks carried out its records
-pub done_carries_out : (words : List (List ℕ)) (old new : World) (commands : List Command) (rest : List ℕ) (plainly : AsksPlainly words old new) → IsUnhindered default_settings old.seen new.seen commands rest
-    → Accounts words old new Done → CarriedOut default_settings (started plainly.asks.script old.seen) new.seen commands rest
-done_carries_out words old new commands rest plainly free h =
-    let ran = subst (λ (f : Option Form). Answers f Done h.course h.start old new) plainly.asks.form h.answers in
-    subst (λ (at : Seen). IsUnhindered default_settings at new.seen commands rest → CarriedOut default_settings at new.seen commands rest) ran.since
-    (λ known. carries_out default_settings h.start new.seen commands rest known h.course h.theorem ran.ends)
-    (unhindered_started plainly.asks.script old.seen new.seen commands rest free)

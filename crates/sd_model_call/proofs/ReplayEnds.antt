@@ -1,20 +1,22 @@
 -- How a replay ends whose script tells its records, where no fault was counted.
 use Rattle.std.proofs.Common.{◌≡◌, ℕ, ◌+◌, ◌<◌, Bool, true, false, IsTrue, List, [], ◌∷◌, ◌++◌, length, map, min, refl, sym, ap, subst, ◌∙◌, arith, append_assoc, append-nil, length-append, inl, inr}
-use Rattle.std.specs.Prelude.{IfSome}
+use Rattle.std.specs.Prelude.{⊤}
 use Rattle.std.specs.List.{AllByRecursion}
 use Rattle.std.proofs.lemmas.List.{length-map}
 use Rattle.std.proofs.lemmas.List.Sums.{sum_by-cons}
-use Rattle.sd_model_outside.specs.Outside.{Told, Untold, Left, Number, Bytes, Rounds, left_in, put_back, given, last_count}
+use Rattle.sd_model_outside.specs.Outside.{Told, Untold, Left, Number, Bytes, Rounds, put_back, given, last_count}
 use Rattle.sd_model_record.specs.Desk.{Mark, fault_of}
 use Rattle.sd_model_replay.specs.Settings.{Settings}
 use Rattle.sd_model_replay.specs.Backends.{Backend, Graphite, Console, Delivery, AfterDeliveries, FitsUse, is_used, mark_of, missed}
-use Rattle.sd_model_replay.specs.Script.{Command, Packet, Flush, spelled, end_word, script_text, IsBuilt, BeginsBuilt}
+use Rattle.sd_model_replay.specs.Script.{Command, Packet, Flush, spelled, end_word, script_text, IsBuilt, BeginsRecord}
+use Rattle.sd_model_replay.specs.Next.{Next, Carried, Ending, Faulty, Unbuilt, Begins}
 use Rattle.sd_model_replay.specs.Replay.{Outcome, Played, Run, IsOutcome, first_run, play, flushes, deliveries, output_of}
 use Rattle.sd_model_replay.specs.Totals.{Totals, totals_after, totals_text}
 use Rattle.sd_model_replay.specs.AccountingTheorem.{Seen, Course, AccountingTheorem, seen_at}
-use Rattle.sd_model_replay.specs.Ends.{End, Complete, NotBuilt, ReadFailed, WriteFailed, WornOut, most_records, IsNotBuilt, EndsAs, Replayed, behind}
+use Rattle.sd_model_replay.specs.Ends.{End, Complete, Faulted, NotBuilt, ReadFailed, WriteFailed, WornOut, most_records, StopsFor, EndsAs, Replayed, behind}
 use Rattle.sd_model_call.specs.Completeness.{IsSteady, IsUnhindered, IsCutOff, IsLongest, CarriedOut, CarriedOutWell, NoneMissed, well, well_mark}
-use Rattle.sd_model_replay.proofs.ReadingLemmas.{Behind, BeginsRecord, ended_script, cut_script, one_script, one_end, not_end, begins, begins_record}
+use Rattle.sd_model_replay.proofs.ReadingLemmas.{Behind, ended_script, cut_script, one_script, one_end, not_end, begins, begins_record}
+use Rattle.sd_model_replay.proofs.NextLemmas.{one_next, next_stays}
 use Rattle.sd_model_replay.proofs.DeliveryLemmas.{all_counts, none_missed, written_mark}
 use Rattle.sd_model_replay.proofs.ReplayLemmas.{delivery_of}
 
@@ -38,12 +40,30 @@ all_built : (receivers : ℕ) (played : List Played) → AllByRecursion (λ p. I
 all_built receivers [] built = tt
 all_built receivers (p ∷ played) built = (built.0, all_built receivers played built.1)
 
--- what stands behind in a script where nothing that begins as a record or as the end does
-stops : (receivers : ℕ) (commands front : List Command) (bytes left : List ℕ) → Behind receivers commands front bytes left → ¬ BeginsBuilt receivers left → commands ≡ front
-stops receivers commands front bytes left h none = stops_by h.behind h.whole h.built h.stands where
-  stops_by : (behind : List Command) → commands ≡ front ++ behind → AllByRecursion (IsBuilt receivers) behind → left ≡ script_text behind ++ bytes → commands ≡ front
-  stops_by [] whole built stands = whole ∙ append-nil front
-  stops_by (c ∷ behind) whole built stands = absurd (none (subst (BeginsBuilt receivers) (sym stands) (begins_record receivers c behind bytes built)))
+-- a replay stops for this
+abbrev pub IsStop : Next → Type 0
+IsStop (Carried command) = ⊥
+IsStop Ending = ⊥
+IsStop (Faulty flaw) = ⊤
+IsStop Unbuilt = ⊤
+
+-- this is no record that is carried out
+abbrev IsLast : Next → Type 0
+IsLast (Carried command) = ⊥
+IsLast Ending = ⊤
+IsLast (Faulty flaw) = ⊤
+IsLast Unbuilt = ⊤
+
+-- what stands next is no other where a replay stops for it
+not_stop : (receivers : ℕ) (bytes : List ℕ) (next other : Next) (left right : Told) → IsStop next → (IsStop other → ⊥) → Begins receivers next bytes left → Begins receivers other bytes right → ⊥
+not_stop receivers bytes next other left right stop other_stop first second = other_stop (subst IsStop (one_next receivers bytes next other left right first second) stop)
+
+-- how a replay ends where it stops so
+abbrev pub stop_end : Next → ℕ → End
+stop_end (Faulty flaw) at = Faulted at flaw
+stop_end Unbuilt at = NotBuilt at
+stop_end (Carried command) at = ReadFailed
+stop_end Ending at = ReadFailed
 
 module _ (settings : Settings) (old new : Seen) (commands : List Command) (bytes : List ℕ) (steady : IsSteady settings old new commands bytes) (course : Course) (theorem : AccountingTheorem settings course old new) where
   abbrev carried_out : List Command
@@ -55,6 +75,7 @@ module _ (settings : Settings) (old new : Seen) (commands : List Command) (bytes
   -- what the script has left, and how its text goes on behind the records that were carried out
   record Reached : Type 0 where
     left : List ℕ
+    is : new.script.told ≡ Left left
     told : behind course new ≡ Left (course.ahead ++ left)
     same : script_text commands ++ bytes ≡ script_text carried_out ++ (course.ahead ++ left)
 
@@ -63,13 +84,15 @@ module _ (settings : Settings) (old new : Seen) (commands : List Command) (bytes
       let l = left_behind (script_text carried_out ++ course.ahead) (script_text commands ++ bytes) new.script.told (sym steady.script ∙ theorem.read) in
       record {
         left = l.bytes;
+        is = l.is;
         told = ap (put_back course.ahead) l.is;
         same = l.stands ∙ append_assoc (script_text carried_out) course.ahead l.bytes;
       }
 
-  -- no record begins where the replay stopped for it
-  nothing_begins : (r : Reached) (at : ℕ) → IsNotBuilt settings at course new → ¬ BeginsBuilt settings.receivers (course.ahead ++ r.left)
-  nothing_begins r at ends = subst (λ told. IfSome (left_in told) (λ bs. ¬ BeginsBuilt settings.receivers bs)) r.told ends.other
+  -- what the replay stopped for stands next in all that the script has left
+  stop_stands : (r : Reached) (next : Next) (at : ℕ) → StopsFor settings next at course new → Begins settings.receivers next (course.ahead ++ r.left) (Left [])
+  stop_stands r next at ends =
+      next_stays settings.receivers course.ahead r.left next (subst (λ told. Begins settings.receivers next course.ahead told) r.is ends.begins)
 
   -- where the replay came to the end, the end stands behind
   end_stands : (r : Reached) (rest : List ℕ) → course.ahead ≡ end_word ++ rest → end_word ++ (rest ++ r.left) ≡ course.ahead ++ r.left
@@ -89,13 +112,20 @@ module _ (settings : Settings) (old new : Seen) (commands : List Command) (rest 
   reached_end : Reached settings old new commands (end_word ++ rest) free.steady course theorem
   reached_end = reached settings old new commands (end_word ++ rest) free.steady course theorem
 
-  ends_complete : (end : End) → EndsAs settings end course old new → (totals : Totals) × (end ≡ Complete totals)
-  ends_complete (Complete totals) ends = (totals, refl)
-  ends_complete (NotBuilt at) ends =
+  no_stop : (next : Next) (at : ℕ) → IsStop next → StopsFor settings next at course new → ⊥
+  no_stop next at stop ends =
       let r = reached_end in
       let h = ended_behind r in
-      absurd (nothing_begins settings old new commands (end_word ++ rest) free.steady course theorem r at ends.read
-      (subst (BeginsBuilt settings.receivers) (sym h.stands) (begins settings.receivers h.behind rest h.built)))
+      let stands = subst (λ bs. Begins settings.receivers next bs (Left [])) h.stands (stop_stands settings old new commands (end_word ++ rest) free.steady course theorem r next at ends) in
+      elim (begins settings.receivers h.behind rest (Left []) h.built) [
+        | inl end ↦ not_stop settings.receivers (script_text h.behind ++ (end_word ++ rest)) next Ending (Left []) (Left []) stop (λ h. h) stands end
+        | inr one ↦ not_stop settings.receivers (script_text h.behind ++ (end_word ++ rest)) next (Carried one.0) (Left []) (Left []) stop (λ h. h) stands one.1
+      ]
+
+  ends_complete : (end : End) → EndsAs settings end course old new → (totals : Totals) × (end ≡ Complete totals)
+  ends_complete (Complete totals) ends = (totals, refl)
+  ends_complete (Faulted at flaw) ends = absurd (no_stop (Faulty flaw) at tt ends.read)
+  ends_complete (NotBuilt at) ends = absurd (no_stop Unbuilt at tt ends.read)
   ends_complete ReadFailed ends = absurd (no_read_failed settings old new commands (end_word ++ rest) free.steady course theorem ends)
   ends_complete WriteFailed ends = absurd (free.output_faults ends.output.rose)
   ends_complete (WornOut turns) ends =
@@ -120,35 +150,57 @@ pub replay_completes : (settings : Settings) (old new : Seen) (commands : List C
 replay_completes settings old new commands rest end free h = ends_complete settings old new commands rest free h.course h.theorem end h.ends
 
 -- of a script that is cut off behind its records
-module _ (settings : Settings) (old new : Seen) (commands : List Command) (bytes : List ℕ) (cut : IsCutOff settings old new commands bytes) (course : Course) (theorem : AccountingTheorem settings course old new) where
+module _ (settings : Settings) (old new : Seen) (commands : List Command) (next : Next) (bytes : List ℕ) (stop : IsStop next) (cut : IsCutOff settings old new commands next bytes) (course : Course) (theorem : AccountingTheorem settings course old new) where
   reached_cut : Reached settings old new commands bytes cut.steady course theorem
   reached_cut = reached settings old new commands bytes cut.steady course theorem
 
+  no_record_there : ¬ BeginsRecord settings.receivers bytes
+  no_record_there (command, rest, built, is) = not_stop settings.receivers bytes next (Carried command) (Left []) (Left []) stop (λ h. h) cut.begins (built, (rest, is))
+
   cut_behind : (r : Reached settings old new commands bytes cut.steady course theorem) → Behind settings.receivers commands (commands_of course.played) bytes (course.ahead ++ r.left)
   cut_behind r =
-      cut_script settings.receivers commands (commands_of course.played) bytes (course.ahead ++ r.left) cut.other cut.steady.built (all_built settings.receivers course.played theorem.built) r.same
+      cut_script settings.receivers commands (commands_of course.played) bytes (course.ahead ++ r.left) no_record_there cut.steady.built (all_built settings.receivers course.played theorem.built) r.same
+
+  -- what stands behind the records carried out, and is no record, is what the script is cut off by
+  found : (r : Reached settings old new commands bytes cut.steady course theorem) (other : Next) → IsLast other → Begins settings.receivers other (course.ahead ++ r.left) (Left []) → (commands ≡ commands_of course.played) × (next ≡ other)
+  found r other last begins_other = found_by h.behind h.whole h.built h.stands where
+    h : Behind settings.receivers commands (commands_of course.played) bytes (course.ahead ++ r.left)
+    h = cut_behind r
+
+    found_by : (behind : List Command) → commands ≡ commands_of course.played ++ behind → AllByRecursion (IsBuilt settings.receivers) behind → course.ahead ++ r.left ≡ script_text behind ++ bytes → (commands ≡ commands_of course.played) × (next ≡ other)
+    found_by [] whole built stands = (
+      whole ∙ append-nil (commands_of course.played),
+      one_next settings.receivers bytes next other (Left []) (Left []) cut.begins (subst (λ bs. Begins settings.receivers other bs (Left [])) stands begins_other),
+    )
+    found_by (c ∷ behind) whole built stands =
+        let there = subst (λ bs. Begins settings.receivers other bs (Left [])) stands begins_other in
+        let record_there = begins_record settings.receivers c behind bytes (Left []) built in
+        absurd (subst IsLast (one_next settings.receivers (script_text (c ∷ behind) ++ bytes) other (Carried c) (Left []) (Left []) there record_there) last)
 
   no_end_there : (rest : List ℕ) → course.ahead ≡ end_word ++ rest → ⊥
   no_end_there rest word =
       let r = reached_cut in
-      let h = cut_behind r in
-      let last = one_end settings.receivers h.behind bytes (rest ++ r.left) (end_stands settings old new commands bytes cut.steady course theorem r rest word ∙ h.stands) in
-      absurd (cut.other (inr (rest ++ r.left, last.1)))
+      let end = found r Ending tt (rest ++ r.left, sym (end_stands settings old new commands bytes cut.steady course theorem r rest word)) in
+      subst IsStop end.1 stop
 
-  ends_cut : (end : End) → EndsAs settings end course old new → end ≡ NotBuilt (min (length (script_text commands)) last_count)
-  ends_cut (Complete totals) ends = absurd (no_end_there ends.read.1.0 ends.read.1.1)
-  ends_cut (NotBuilt at) ends =
+  ends_stop : (other : Next) (at : ℕ) → IsLast other → StopsFor settings other at course new → stop_end other at ≡ stop_end next (min (length (script_text commands)) last_count)
+  ends_stop other at last ends =
       let r = reached_cut in
-      let all = stops settings.receivers commands (commands_of course.played) bytes (course.ahead ++ r.left) (cut_behind r) (nothing_begins settings old new commands bytes cut.steady course theorem r at ends.read) in
-      ap NotBuilt (ends.read.place ∙ ap (λ cs. min (length (script_text cs)) last_count) (sym all))
+      let same = found r other last (stop_stands settings old new commands bytes cut.steady course theorem r other at ends) in
+      ap (λ (n : Next). stop_end n at) (sym same.1) ∙ ap (stop_end next) (ends.place ∙ ap (λ cs. min (length (script_text cs)) last_count) (sym same.0))
+
+  ends_cut : (end : End) → EndsAs settings end course old new → end ≡ stop_end next (min (length (script_text commands)) last_count)
+  ends_cut (Complete totals) ends = absurd (no_end_there ends.read.1.0 ends.read.1.1)
+  ends_cut (Faulted at flaw) ends = ends_stop (Faulty flaw) at tt ends.read
+  ends_cut (NotBuilt at) ends = ends_stop Unbuilt at tt ends.read
   ends_cut ReadFailed ends = absurd (no_read_failed settings old new commands bytes cut.steady course theorem ends)
   ends_cut WriteFailed ends = absurd (no_end_there ends.read.1.0 ends.read.1.1)
   ends_cut (WornOut turns) ends =
       let h = cut_behind reached_cut in
       absurd (omega (arith, cut.few, ends.read.1, ap length h.whole, length-append (commands_of course.played) h.behind, length-map course.played (λ (p : Played). p.command)))
 
-pub replay_stops : (settings : Settings) (old new : Seen) (commands : List Command) (bytes : List ℕ) (end : End) → IsCutOff settings old new commands bytes → Replayed settings end old new → end ≡ NotBuilt (min (length (script_text commands)) last_count)
-replay_stops settings old new commands bytes end cut h = ends_cut settings old new commands bytes cut h.course h.theorem end h.ends
+pub replay_stops : (settings : Settings) (old new : Seen) (commands : List Command) (next : Next) (bytes : List ℕ) (end : End) → IsStop next → IsCutOff settings old new commands next bytes → Replayed settings end old new → end ≡ stop_end next (min (length (script_text commands)) last_count)
+replay_stops settings old new commands next bytes end stop cut h = ends_cut settings old new commands next bytes stop cut h.course h.theorem end h.ends
 
 -- of a script of as many records as there may be
 module _ (settings : Settings) (old new : Seen) (commands : List Command) (bytes : List ℕ) (longest : IsLongest settings old new commands bytes) (course : Course) (theorem : AccountingTheorem settings course old new) where
@@ -173,11 +225,17 @@ module _ (settings : Settings) (old new : Seen) (commands : List Command) (bytes
       let one = record_behind r few in
       absurd (not_end one.0 one.1 (rest ++ r.left) (sym one.3 ∙ sym (end_stands settings old new commands bytes longest.steady course theorem r rest word)))
 
+  no_stop_behind : (next : Next) (at : ℕ) → IsStop next → StopsFor settings next at course new → ⊥
+  no_stop_behind next at stop ends =
+      let r = reached_more in
+      let one = record_behind r ends.few in
+      not_stop settings.receivers (course.ahead ++ r.left) next (Carried one.0) (Left []) (Left []) stop (λ h. h)
+      (stop_stands settings old new commands bytes longest.steady course theorem r next at ends) (one.2, (one.1, one.3))
+
   ends_worn : (end : End) → EndsAs settings end course old new → end ≡ WornOut most_records
   ends_worn (Complete totals) ends = absurd (no_end_behind ends.read.1.0 ends.read.0 ends.read.1.1)
-  ends_worn (NotBuilt at) ends =
-      let r = reached_more in
-      absurd (nothing_begins settings old new commands bytes longest.steady course theorem r at ends.read (inl (record_behind r ends.read.few)))
+  ends_worn (Faulted at flaw) ends = absurd (no_stop_behind (Faulty flaw) at tt ends.read)
+  ends_worn (NotBuilt at) ends = absurd (no_stop_behind Unbuilt at tt ends.read)
   ends_worn ReadFailed ends = absurd (no_read_failed settings old new commands bytes longest.steady course theorem ends)
   ends_worn WriteFailed ends = absurd (no_end_behind ends.read.1.0 ends.read.0 ends.read.1.1)
   ends_worn (WornOut turns) ends = ap WornOut ends.read.0

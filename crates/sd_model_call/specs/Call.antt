@@ -1,31 +1,25 @@
 -- What the program answers to its words, and what was done by then.
-use Rattle.std.specs.Prelude.{◌≡◌, ◌⊎◌, ℕ, Bool, List, [], ◌∷◌, ◌++◌, Option, Some, None}
-use Rattle.std.specs.List.{AllByRecursion}
-use Rattle.sd_model_outside.specs.Outside.{Place, File, Object, HasFailed, HasRead, IsAtEnd, opened}
-use Rattle.sd_model_settings.specs.Defaults as defaults
-use Rattle.sd_model_replay.specs.Settings.{Settings, goes_by}
+use Rattle.std.specs.Prelude.{◌≡◌, ◌⊎◌, ℕ, true, false, List, [], Option, Some, None}
+use Rattle.sd_model_outside.specs.Outside.{File, HasFailed}
+use Rattle.sd_model_settings.specs.Settings as file
+use Rattle.sd_model_settings.specs.Settings.{SettingsFlaw}
+use Rattle.sd_model_replay.specs.Settings.{Settings, goes_by, names_unbuilt}
 use Rattle.sd_model_replay.specs.Totals.{totals_after}
 use Rattle.sd_model_replay.specs.AccountingTheorem.{Seen, Course, AccountingTheorem}
-use Rattle.sd_model_replay.specs.Ends.{End, Complete, NotBuilt, ReadFailed, WriteFailed, WornOut, EndsAs}
+use Rattle.sd_model_replay.specs.Next.{ScriptFlaw}
+use Rattle.sd_model_replay.specs.Ends.{End, Complete, Faulted, NotBuilt, ReadFailed, WriteFailed, WornOut, EndsAs}
 use Rattle.sd_model_call.specs.Words.{Form, Replay, form}
+use Rattle.sd_model_call.specs.Opening.{Part, OfSettings, OfScript, OfGraphite, World, flags_of, IsFlawed, IsAccepted, FailsBehind, IsLeftOff, OnlySettings, openings, UnusedStay, OpensSome, FailsToOpen, started}
 
--- what is in force without a settings file
-abbrev pub default_settings : Settings
-default_settings = goes_by defaults.default_settings
-
--- an object that is opened
-pub data Part : Type 0 where
-  OfSettings : Part
-  OfScript : Part
-  OfGraphite : Part
-
--- How the program answers: all was done; no memory was left; the words are of no form; an object couldn't be
--- opened; a read failed; the output failed; no built record stands at this place, or, at 0, the settings have
--- a byte; as many records were carried out as there may be.
+-- How the program answers: all was done; no memory was left; the words are of no form; the settings have this flaw; the
+-- script's record at this place has this one; an object couldn't be opened; a read failed; the output failed; what stands at
+-- this place isn't built; as many records were carried out as there may be.
 pub data Answer : Type 0 where
   Done : Answer
   NoMemory : Answer
   NoForm : Answer
+  Misset : (flaw : SettingsFlaw) → Answer
+  BadScript : (at : ℕ) (flaw : ScriptFlaw) → Answer
   NotOpened : (part : Part) → Answer
   NotRead : (part : Part) → Answer
   NotWritten : Answer
@@ -35,129 +29,94 @@ pub data Answer : Type 0 where
 -- what the program answers where a replay ends so
 abbrev pub ending : End → Answer
 ending (Complete totals) = Done
+ending (Faulted at flaw) = BadScript at flaw
 ending (NotBuilt at) = Unbuilt at
 ending ReadFailed = NotRead OfScript
 ending WriteFailed = NotWritten
 ending (WornOut turns) = Worn turns
 
--- Which backends are flagged as used.
-pub record Flags : Type 0 where
-  pub graphite : Bool
-  pub console : Bool
+-- The settings were read and accepted, with these values, which name no backend that isn't built; and the flags say which
+-- they name.
+pub record TakesSettings (name : List ℕ) (values : file.Settings) (old new : World) : Type 0 where
+  pub file : IsAccepted values (File name) old.settings new.settings
+  pub built : names_unbuilt values ≡ false
+  pub flags : new.flags ≡ flags_of (goes_by values)
 
--- the flags that settings ask for
-abbrev pub flags_of : Settings → Flags
-flags_of settings = record { graphite = settings.uses_graphite; console = settings.uses_console }
+-- the settings were read and have this flaw, and nothing else was opened
+pub record HasFlaw (flaw : SettingsFlaw) (name : List ℕ) (old new : World) : Type 0 where
+  pub file : IsFlawed flaw (File name) old.settings new.settings
+  pub only : OnlySettings old new
 
--- What is seen of a call's objects: the settings and what a replay uses, and which backends are flagged as used.
-pub record World : Type 0 where
-  pub settings : Object
-  pub seen : Seen
-  pub flags : Flags
+-- the settings were read and accepted, and name a backend that isn't built; nothing else was opened
+pub record NamesUnbuilt (at : ℕ) (name : List ℕ) (old new : World) : Type 0 where
+  pub place : at ≡ 0
+  pub values : file.Settings
+  pub file : IsAccepted values (File name) old.settings new.settings
+  pub unbuilt : names_unbuilt values ≡ true
+  pub only : OnlySettings old new
 
--- what is seen of a part
-abbrev pub part_in : World → Part → Object
-part_in world OfSettings = world.settings
-part_in world OfScript = world.seen.script
-part_in world OfGraphite = world.seen.graphite
+-- the settings were opened, and a read of them failed, behind bytes that don't decide yet what the file says; nothing else
+-- was opened
+pub record FailsToRead (name : List ℕ) (old new : World) : Type 0 where
+  pub failed : FailsBehind (File name) old.settings new.settings
+  pub only : OnlySettings old new
 
--- a part that is opened, and where
-pub record Opening : Type 0 where
-  pub part : Part
-  pub place : Place
+-- the settings couldn't be opened, and nothing else was
+pub record FailsToOpenSettings (old new : World) : Type 0 where
+  pub failed : HasFailed old.settings new.settings
+  pub only : OnlySettings old new
 
--- What a replay opens, in this order: the settings, the script, and Graphite at the empty name.
-abbrev pub openings : List ℕ → List ℕ → List Opening
-openings settings script =
-    record { part = OfSettings; place = File settings } ∷ record { part = OfScript; place = File script } ∷ record { part = OfGraphite; place = File [] } ∷ []
+-- the settings weren't opened, or were and some of their bytes were read; nothing else was opened
+pub record LeavesOff (name : List ℕ) (old new : World) : Type 0 where
+  pub settings : IsLeftOff (File name) old.settings new.settings
+  pub only : OnlySettings old new
 
--- a part was opened at its place, and nothing else of it changed
-abbrev pub IsOpened : World → World → Opening → Type 0
-IsOpened old new o = part_in new o.part ≡ opened o.place (part_in old o.part)
+-- Settings were read and accepted, and then no memory was left, once some of the other parts were opened.
+pub record LacksMemory (name script : List ℕ) (old new : World) : Type 0 where
+  pub values : file.Settings
+  pub taken : TakesSettings name values old new
+  pub some : OpensSome (openings (goes_by values) script) old new
+  pub unused : UnusedStay (goes_by values) old new
 
--- a part is as it was
-abbrev pub IsUntouched : World → World → Opening → Type 0
-IsUntouched old new o = part_in new o.part ≡ part_in old o.part
+-- Settings were read and accepted, and then a part couldn't be opened.
+pub record StopsAt (part : Part) (name script : List ℕ) (old new : World) : Type 0 where
+  pub values : file.Settings
+  pub taken : TakesSettings name values old new
+  pub fails : FailsToOpen part (openings (goes_by values) script) old new
+  pub unused : UnusedStay (goes_by values) old new
 
--- the settings were read to their end and have no byte, which the flags then say
-pub record TakesDefaults (old new : World) : Type 0 where
-  pub empty : IsAtEnd old.settings.told
-  pub flags : new.flags ≡ flags_of default_settings
-
--- once the first part, the settings, is opened, and before the next one is, the settings are read
-abbrev pub AreTaken : List Opening → World → World → Type 0
-AreTaken [] old new = new.flags ≡ old.flags
-AreTaken (o ∷ before) old new = TakesDefaults old new
-
--- Some parts were opened, in their order, and those behind them are untouched.
-pub record OpensSome (parts : List Opening) (old new : World) : Type 0 where
-  pub before : List Opening
-  pub behind : List Opening
-  pub order : parts ≡ before ++ behind
-  pub opened : AllByRecursion (IsOpened old new) before
-  pub untouched : AllByRecursion (IsUntouched old new) behind
-  pub taken : AreTaken before old new
-
--- The opening of a part failed: those before it were opened, in their order, and those behind it are untouched.
-pub record FailsToOpen (part : Part) (parts : List Opening) (old new : World) : Type 0 where
-  pub before : List Opening
-  pub place : Place
-  pub behind : List Opening
-  pub order : parts ≡ before ++ record { part = part; place = place } ∷ behind
-  pub opened : AllByRecursion (IsOpened old new) before
-  pub failed : HasFailed (part_in old part) (part_in new part)
-  pub untouched : AllByRecursion (IsUntouched old new) behind
-  pub taken : AreTaken before old new
-
--- no part but the settings was opened, and the flags stayed
-pub record OnlySettings (old new : World) : Type 0 where
-  pub seen : new.seen ≡ old.seen
-  pub flags : new.flags ≡ old.flags
-
--- The replay didn't begin: no record was carried out, and the output and the console are untouched.
+-- The replay didn't begin: no record was carried out, and the output is untouched.
 pub record NotBegun (course : Course) (start : Seen) (old new : World) : Type 0 where
   pub played : course.played ≡ []
   pub ahead : course.ahead ≡ []
   pub since : start ≡ new.seen
   pub output : new.seen.output ≡ old.seen.output
-  pub console : new.seen.console ≡ old.seen.console
 
--- what is seen where a replay begins: a script of this name was opened, and Graphite at the empty name
-abbrev pub started : List ℕ → Seen → Seen
-started name seen = record seen { script = opened (File name) seen.script; graphite = opened (File []) seen.graphite }
+-- A replay by settings that were read, of a script that was opened, as was each backend that is used, ended so.
+pub record Ran (end : End) (s : Settings) (name script : List ℕ) (course : Course) (start : Seen) (old new : World) : Type 0 where
+  pub values : file.Settings
+  pub taken : TakesSettings name values old new
+  pub force : s ≡ goes_by values
+  pub since : start ≡ started s script old.seen
+  pub ends : EndsAs s end course start new.seen
 
--- a replay of empty settings, and of a script that was opened, as was Graphite, ended so
-pub record Ran (end : End) (settings_name script_name : List ℕ) (course : Course) (start : Seen) (old new : World) : Type 0 where
-  pub taken : TakesDefaults old new
-  pub settings : new.settings ≡ opened (File settings_name) old.settings
-  pub since : start ≡ started script_name old.seen
-  pub ends : EndsAs default_settings end course start new.seen
-
--- the settings were opened, a byte was read of them, and nothing else was opened
-pub record HasByte (at : ℕ) (settings : List ℕ) (old new : World) : Type 0 where
-  pub place : at ≡ 0
-  pub byte : ℕ
-  pub read : HasRead (byte ∷ []) (opened (File settings) old.settings) new.settings
-  pub only : OnlySettings old new
-
--- the settings were opened, a read of them failed, and nothing else was opened
-pub record FailsToRead (settings : List ℕ) (old new : World) : Type 0 where
-  pub failed : HasFailed (opened (File settings) old.settings) new.settings
-  pub only : OnlySettings old new
-
--- Why the program answers so where it is asked for a replay, and what was done by then.
-abbrev pub AnswersReplay : List ℕ → List ℕ → Answer → Course → Seen → World → World → Type 0
-AnswersReplay settings script Done course start old new = Ran (Complete (totals_after default_settings course.played)) settings script course start old new
-AnswersReplay settings script NoMemory course start old new = OpensSome (openings settings script) old new × NotBegun course start old new
-AnswersReplay settings script NoForm course start old new = ⊥
-AnswersReplay settings script (NotOpened part) course start old new = FailsToOpen part (openings settings script) old new × NotBegun course start old new
-AnswersReplay settings script (NotRead OfSettings) course start old new = FailsToRead settings old new × NotBegun course start old new
-AnswersReplay settings script (NotRead OfScript) course start old new = Ran ReadFailed settings script course start old new
-AnswersReplay settings script (NotRead OfGraphite) course start old new = ⊥
-AnswersReplay settings script NotWritten course start old new = Ran WriteFailed settings script course start old new
-AnswersReplay settings script (Unbuilt at) course start old new =
-    (HasByte at settings old new × NotBegun course start old new) ⊎ Ran (NotBuilt at) settings script course start old new
-AnswersReplay settings script (Worn turns) course start old new = Ran (WornOut turns) settings script course start old new
+-- Why the program answers so where it is asked for a replay, and what was done by then, with these settings in force.
+abbrev pub AnswersReplay : List ℕ → List ℕ → Settings → Answer → Course → Seen → World → World → Type 0
+AnswersReplay name script s Done course start old new = Ran (Complete (totals_after s course.played)) s name script course start old new
+AnswersReplay name script s NoMemory course start old new = (LeavesOff name old new ⊎ LacksMemory name script old new) × NotBegun course start old new
+AnswersReplay name script s NoForm course start old new = ⊥
+AnswersReplay name script s (Misset flaw) course start old new = HasFlaw flaw name old new × NotBegun course start old new
+AnswersReplay name script s (BadScript at flaw) course start old new = Ran (Faulted at flaw) s name script course start old new
+AnswersReplay name script s (NotOpened OfSettings) course start old new = FailsToOpenSettings old new × NotBegun course start old new
+AnswersReplay name script s (NotOpened OfScript) course start old new = StopsAt OfScript name script old new × NotBegun course start old new
+AnswersReplay name script s (NotOpened OfGraphite) course start old new = StopsAt OfGraphite name script old new × NotBegun course start old new
+AnswersReplay name script s (NotRead OfSettings) course start old new = FailsToRead name old new × NotBegun course start old new
+AnswersReplay name script s (NotRead OfScript) course start old new = Ran ReadFailed s name script course start old new
+AnswersReplay name script s (NotRead OfGraphite) course start old new = ⊥
+AnswersReplay name script s NotWritten course start old new = Ran WriteFailed s name script course start old new
+AnswersReplay name script s (Unbuilt at) course start old new =
+    (NamesUnbuilt at name old new × NotBegun course start old new) ⊎ Ran (NotBuilt at) s name script course start old new
+AnswersReplay name script s (Worn turns) course start old new = Ran (WornOut turns) s name script course start old new
 
 -- words of no form are refused, and nothing is opened or used
 pub record Refuses (answer : Answer) (course : Course) (start : Seen) (old new : World) : Type 0 where
@@ -166,15 +125,16 @@ pub record Refuses (answer : Answer) (course : Course) (start : Seen) (old new :
   pub not_begun : NotBegun course start old new
 
 -- Why the program answers so, by the form of its words.
-abbrev pub Answers : Option Form → Answer → Course → Seen → World → World → Type 0
-Answers None answer course start old new = Refuses answer course start old new
-Answers (Some (Replay settings script)) answer course start old new = AnswersReplay settings script answer course start old new
+abbrev pub Answers : Option Form → Settings → Answer → Course → Seen → World → World → Type 0
+Answers None s answer course start old new = Refuses answer course start old new
+Answers (Some (Replay name script)) s answer course start old new = AnswersReplay name script s answer course start old new
 
 -- A call, by its words, what is seen of its objects before and after it, and its answer: whatever it answers, the
--- accounting theorem holds of the records that it carried out, from what was seen when the replay began; and the answer
--- has its cause.
+-- accounting theorem holds of the records that it carried out under the settings in force, from what was seen when the replay
+-- began; and the answer has its cause.
 pub record Accounts (words : List (List ℕ)) (old new : World) (answer : Answer) : Type 0 where
+  pub force : Settings
   pub course : Course
   pub start : Seen
-  pub theorem : AccountingTheorem default_settings course start new.seen
-  pub answers : Answers (form words) answer course start old new
+  pub theorem : AccountingTheorem force course start new.seen
+  pub answers : Answers (form words) force answer course start old new

@@ -1,17 +1,21 @@
 -- What a call has to come to, by its words, what its objects tell, and where no fault was counted.
-use Rattle.std.specs.Prelude.{◌≡◌, ◌⊎◌, ℕ, ◌<◌, Bool, IsTrue, if◌then◌else◌, List, [], ◌++◌, length, map, Some}
+use Rattle.std.specs.Prelude.{◌≡◌, ◌⊎◌, ℕ, ◌<◌, Bool, false, IsTrue, if◌then◌else◌, List, [], ◌++◌, length, map, Option, Some, None, Result, Ok, Err}
 use Rattle.std.specs.List.{AllByRecursion}
 use Rattle.sd_model_outside.specs.Outside.{Left, Rose, given}
 use Rattle.sd_model_record.specs.Desk.{Mark, NotUsed, Written}
-use Rattle.sd_model_replay.specs.Settings.{Settings}
+use Rattle.sd_model_replay.specs.Settings.{Settings, names_unbuilt}
 use Rattle.sd_model_replay.specs.Backends.{Backend, AfterDeliveries, is_used}
-use Rattle.sd_model_replay.specs.Script.{Command, Packet, Flush, end_word, script_text, IsBuilt, BeginsBuilt}
+use Rattle.sd_model_replay.specs.Script.{Command, Packet, Flush, end_word, script_text, IsBuilt}
+use Rattle.sd_model_replay.specs.Next.{Next, Begins}
 use Rattle.sd_model_replay.specs.Replay.{Played, quiet, deliveries, output_of}
 use Rattle.sd_model_replay.specs.Totals.{totals_after, totals_text}
 use Rattle.sd_model_replay.specs.AccountingTheorem.{Seen, Course, AccountingTheorem, seen_at}
 use Rattle.sd_model_replay.specs.Ends.{most_records, behind}
 use Rattle.sd_model_call.specs.Words.{Replay, form}
-use Rattle.sd_model_call.specs.Call.{World, Answer, NoMemory, NotOpened, NotRead, Unbuilt, OfSettings, OfGraphite}
+use Rattle.sd_model_settings.specs.Settings as file
+use Rattle.sd_model_settings.specs.Settings.{SettingsFlaw, settings}
+use Rattle.sd_model_call.specs.Opening.{World, OfSettings, OfGraphite}
+use Rattle.sd_model_call.specs.Call.{Answer, NoMemory, Misset, NotOpened, NotRead, Unbuilt}
 
 -- The script tells that it has these built records and then these bytes, and no fault was counted of it.
 pub record IsSteady (settings : Settings) (old new : Seen) (commands : List Command) (bytes : List ℕ) : Type 0 where
@@ -26,11 +30,12 @@ pub record IsUnhindered (settings : Settings) (old new : Seen) (commands : List 
   pub few : length commands < most_records
   pub output_faults : ¬ Rose old.output.faults new.output.faults
 
--- fewer records than there may be, and behind them bytes that begin with no built record
-pub record IsCutOff (settings : Settings) (old new : Seen) (commands : List Command) (bytes : List ℕ) : Type 0 where
+-- fewer records than there may be, and behind them this stands next in all that the script has left: a flaw, or a record
+-- that isn't built
+pub record IsCutOff (settings : Settings) (old new : Seen) (commands : List Command) (next : Next) (bytes : List ℕ) : Type 0 where
   pub steady : IsSteady settings old new commands bytes
   pub few : length commands < most_records
-  pub other : ¬ BeginsBuilt settings.receivers bytes
+  pub begins : Begins settings.receivers next bytes (Left [])
 
 -- as many records as there may be
 pub record IsLongest (settings : Settings) (old new : Seen) (commands : List Command) (bytes : List ℕ) : Type 0 where
@@ -44,9 +49,13 @@ pub record Asks (words : List (List ℕ)) (old new : World) (bytes : List ℕ) :
   pub form : form words ≡ Some (Replay settings script)
   pub told : old.settings.told ≡ Left bytes
 
--- such a call whose settings have no byte, and no fault was counted of them
-pub record AsksPlainly (words : List (List ℕ)) (old new : World) : Type 0 where
-  pub asks : Asks words old new []
+-- such a call whose settings are accepted with these values, which name no backend that isn't built; and no fault was counted
+-- of them
+pub record AsksPlainly (words : List (List ℕ)) (values : file.Settings) (old new : World) : Type 0 where
+  pub bytes : List ℕ
+  pub asks : Asks words old new bytes
+  pub accepted : settings bytes ≡ Ok values
+  pub built : names_unbuilt values ≡ false
   pub settings_faults : ¬ Rose old.settings.faults new.settings.faults
 
 -- no fault was counted of a backend that is used
@@ -61,9 +70,14 @@ IsWhole ended answer = (answer ≡ ended) ⊎ (answer ≡ NoMemory)
 abbrev pub IsFull : Answer → Answer → Type 0
 IsFull ended answer = IsWhole ended answer ⊎ (answer ≡ NotOpened OfGraphite)
 
--- the answers of a call whose settings have a byte
-abbrev pub IsBlocked : Answer → Type 0
-IsBlocked answer = IsWhole (Unbuilt 0) answer ⊎ (answer ≡ NotOpened OfSettings) ⊎ (answer ≡ NotRead OfSettings)
+-- what a call has to answer whose settings have a flaw, or name a backend that isn't built; with nothing told, all else
+abbrev pub refusal : Result file.Settings SettingsFlaw → Option Answer
+refusal (Err flaw) = Some (Misset flaw)
+refusal (Ok values) = if names_unbuilt values then Some (Unbuilt 0) else None
+
+-- such a call's answer, or that the settings couldn't be opened or read
+abbrev pub IsBlocked : Answer → Answer → Type 0
+IsBlocked refused answer = IsWhole refused answer ⊎ (answer ≡ NotOpened OfSettings) ⊎ (answer ≡ NotRead OfSettings)
 
 -- these records were carried out, all and no others, the rest wasn't, and the output has the totals
 pub record CarriedOut (settings : Settings) (old new : Seen) (commands : List Command) (rest : List ℕ) : Type 0 where

@@ -81,6 +81,14 @@ Reads old bytes new = old ≡ put_back bytes new
 abbrev pub HasRead : List ℕ → Object → Object → Type 0
 HasRead bytes old new = old ≡ telling (put_back bytes new.told) new
 
+-- A read of a source failed, once fewer than so many bytes were read of it.
+pub record FailedBehind (most : ℕ) (old new : Object) : Type 0 where
+  pub bytes : List ℕ
+  pub before : Object
+  pub few : length bytes < most
+  pub read : HasRead bytes old before
+  pub failed : HasFailed before new
+
 -- a source that tells what it has left has nothing left
 abbrev pub IsAtEnd : Told → Type 0
 IsAtEnd told = IfSome (left_in told) (λ bytes. bytes ≡ [])

@@ -1,5 +1,9 @@
 pub mod AccountingLemmas
+mod Decisions
 pub mod DeliveryLemmas
 pub mod HistoryLemmas
+pub mod LineLemmas
+pub mod NextLemmas
+pub mod Numbers
 pub mod ReadingLemmas
 pub mod ReplayLemmas

@@ -2,7 +2,9 @@
 use Rattle.std.proofs.Common.{◌≡◌, ◌⊎◌, ℕ, ◌^◌, ◌<◌, List, [], ◌∷◌, ◌++◌, length, get_or, drop, decimal, refl, sym, ap, ◌∙◌, arith, append_assoc, append-nil, inl, inr}
 use Rattle.std.specs.List.{AllByRecursion}
 use Rattle.std.proofs.lemmas.Fmt.{decimal_injective}
-use Rattle.sd_model_replay.specs.Script.{Command, Packet, Flush, spelled, end_word, script_text, IsBuilt, BeginsBuilt}
+use Rattle.sd_model_replay.specs.Script.{Command, Packet, Flush, spelled, end_word, script_text, IsBuilt, BeginsRecord}
+use Rattle.sd_model_outside.specs.Outside.{Told}
+use Rattle.sd_model_replay.specs.Next.{Carried, Ending, Begins}
 use Rattle.sd_model_text.proofs.Cuts.{same_cut, same_parts}
 use Rattle.sd_model_text.proofs.Digits.{Lacks-decimal}
 
@@ -54,10 +56,6 @@ module _ (receivers : ℕ) where
       let cut = number_cut 10 ts ts' r s (omega arith) (omega (arith, a)) (omega (arith, b)) (ap (drop 2) (sym (flush_parts ts r) ∙ same ∙ flush_parts ts' s)) in
       (ap Flush cut.0, cut.1)
 
-  -- a built record stands at the front
-  abbrev pub BeginsRecord : List ℕ → Type 0
-  BeginsRecord bytes = (command : Command) × (rest : List ℕ) × IsBuilt receivers command × (bytes ≡ spelled command ++ rest)
-
   -- what stands behind some records of a script
   pub record Behind (commands front : List Command) (bytes left : List ℕ) : Type 0 where
     pub behind : List Command
@@ -68,7 +66,7 @@ module _ (receivers : ℕ) where
   -- Records at the front of a script are its first records; or they are all of those that the script is known to have,
   -- and more, so that a record stands behind these.
   pub one_script : (commands front : List Command) (bytes left : List ℕ) → AllByRecursion (IsBuilt receivers) commands → AllByRecursion (IsBuilt receivers) front
-      → script_text commands ++ bytes ≡ script_text front ++ left → Behind commands front bytes left ⊎ ((length commands < length front) × BeginsRecord bytes)
+      → script_text commands ++ bytes ≡ script_text front ++ left → Behind commands front bytes left ⊎ ((length commands < length front) × BeginsRecord receivers bytes)
   one_script commands [] bytes left built other same = inl (record { behind = commands; whole = refl; built = built; stands = sym same })
   one_script [] (d ∷ front) bytes left built other same = inr (omega arith, (d, script_text front ++ left, other.0, same ∙ append_assoc (spelled d) (script_text front) left))
   one_script (c ∷ commands) (d ∷ front) bytes left built other same =
@@ -89,12 +87,12 @@ module _ (receivers : ℕ) where
       ]
 
   -- and so has one that is cut off by bytes that begin with no built record
-  pub cut_script : (commands front : List Command) (bytes left : List ℕ) → ¬ BeginsBuilt receivers bytes → AllByRecursion (IsBuilt receivers) commands → AllByRecursion (IsBuilt receivers) front
+  pub cut_script : (commands front : List Command) (bytes left : List ℕ) → ¬ BeginsRecord receivers bytes → AllByRecursion (IsBuilt receivers) commands → AllByRecursion (IsBuilt receivers) front
       → script_text commands ++ bytes ≡ script_text front ++ left → Behind commands front bytes left
   cut_script commands front bytes left other built more same =
       elim (one_script commands front bytes left built more same) [
         | inl h ↦ h
-        | inr h ↦ absurd (other (inl h.1))
+        | inr h ↦ absurd (other h.1)
       ]
 
   -- all of them are carried out where the end stands behind
@@ -102,14 +100,15 @@ module _ (receivers : ℕ) where
   one_end [] bytes other same = (refl, sym same)
   one_end (c ∷ commands) bytes other same = absurd (not_end c (script_text commands ++ bytes) other (sym (same ∙ append_assoc (spelled c) (script_text commands) bytes)))
 
-  -- a built record, or the end, stands behind
-  pub begins : (commands : List Command) (rest : List ℕ) → AllByRecursion (IsBuilt receivers) commands → BeginsBuilt receivers (script_text commands ++ (end_word ++ rest))
-  begins [] rest built = inr (rest, refl)
-  begins (c ∷ commands) rest built = inl (c, script_text commands ++ (end_word ++ rest), built.0, append_assoc (spelled c) (script_text commands) (end_word ++ rest))
+  -- a record stands behind, where one is left
+  pub begins_record : (c : Command) (commands : List Command) (bytes : List ℕ) (left : Told) → AllByRecursion (IsBuilt receivers) (c ∷ commands) → Begins receivers (Carried c) (script_text (c ∷ commands) ++ bytes) left
+  begins_record c commands bytes left built = (built.0, (script_text commands ++ bytes, append_assoc (spelled c) (script_text commands) bytes))
 
-  -- a built record stands behind, where one is left
-  pub begins_record : (c : Command) (commands : List Command) (bytes : List ℕ) → AllByRecursion (IsBuilt receivers) (c ∷ commands) → BeginsBuilt receivers (script_text (c ∷ commands) ++ bytes)
-  begins_record c commands bytes built = inl (c, script_text commands ++ bytes, built.0, append_assoc (spelled c) (script_text commands) bytes)
+  -- a record, or the end, stands behind
+  pub begins : (commands : List Command) (rest : List ℕ) (left : Told) → AllByRecursion (IsBuilt receivers) commands
+      → Begins receivers Ending (script_text commands ++ (end_word ++ rest)) left ⊎ ((c : Command) × Begins receivers (Carried c) (script_text commands ++ (end_word ++ rest)) left)
+  begins [] rest left built = inl (rest, refl)
+  begins (c ∷ commands) rest left built = inr (c, begins_record c commands (end_word ++ rest) left built)
 
   -- two scripts that are built as far as their ends are one
   pub same_script : (commands others : List Command) (rest left : List ℕ) → AllByRecursion (IsBuilt receivers) commands → AllByRecursion (IsBuilt receivers) others

@@ -2,16 +2,18 @@
 use Rattle.std.specs.Prelude.{◌≡◌, ◌<◌, ◌^◌, ℕ, min, List, ◌++◌, length, map}
 use Rattle.sd_model_outside.specs.Outside.{Told, Object, Used, HasFailedBehind, Rose, given, last_count, put_back}
 use Rattle.sd_model_replay.specs.Settings.{Settings}
-use Rattle.sd_model_replay.specs.Script.{script_text, Ending, Unbuilt, next_text, MayStandNext, IsUndecided, IsDecided}
+use Rattle.sd_model_replay.specs.Script.{script_text, BeginsEnd}
+use Rattle.sd_model_replay.specs.Next.{ScriptFlaw, Next, Faulty, Unbuilt, Begins, IsUndecided}
 use Rattle.sd_model_replay.specs.Replay.{Played, output_of}
 use Rattle.sd_model_replay.specs.Totals.{Totals, totals_after, totals_text}
 use Rattle.sd_model_replay.specs.AccountingTheorem.{Seen, Course, AccountingTheorem}
 
--- Why a replay ends: it came to the word that ends the script and wrote these totals; at a place of the script no
--- built record stands; a read of the script failed; a write of the totals failed; it has carried out as many
--- records as it may.
+-- Why a replay ends: it came to the word that ends the script and wrote these totals; the record at a place of the script
+-- has a flaw; the one at a place isn't built; a read of the script failed; a write of the totals failed; it has carried out
+-- as many records as it may.
 pub data End : Type 0 where
   Complete : (totals : Totals) → End
+  Faulted : (at : ℕ) (flaw : ScriptFlaw) → End
   NotBuilt : (at : ℕ) → End
   ReadFailed : End
   WriteFailed : End
@@ -29,28 +31,23 @@ most_records = 2 ^ 62
 abbrev pub AreFew : List Played → Type 0
 AreFew played = length played < most_records
 
--- the word that ends a script stands at the front
-abbrev pub BeginsEnd : List ℕ → Type 0
-BeginsEnd bytes = (rest : List ℕ) × (bytes ≡ next_text Ending ++ rest)
-
 -- what stands in a script behind the records of a course, where it tells: the bytes read behind them, and what it has
 -- left
 abbrev pub behind : Course → Seen → Told
 behind course now = put_back course.ahead now.script.told
 
--- Where the script tells its bytes: what was read by then decides what stands behind the records carried out, or the script
--- was at its end; and that is neither a built record nor the word that ends a script.
-pub record IsNotBuilt (settings : Settings) (at : ℕ) (course : Course) (new : Seen) : Type 0 where
+-- The bytes that were read behind the records, with what the script has left then, begin with this, at this place.
+pub record StopsFor (settings : Settings) (next : Next) (at : ℕ) (course : Course) (new : Seen) : Type 0 where
   pub few : AreFew course.played
-  pub decided : IsDecided settings.receivers course.ahead new.script.told
-  pub other : MayStandNext settings.receivers Unbuilt (behind course new)
+  pub begins : Begins settings.receivers next course.ahead new.script.told
   pub place : at ≡ text_length course.played
 
 -- what stands behind the records where a replay ends so: the word that ends the script, with the totals of the records
--- before; what isn't built; what doesn't decide what stands next; as many records as there may be
+-- before; a flaw; what isn't built; what doesn't decide what stands next; as many records as there may be
 abbrev pub StandsBehind : Settings → End → Course → Seen → Type 0
 StandsBehind settings (Complete totals) course new = AreFew course.played × BeginsEnd course.ahead × (totals ≡ totals_after settings course.played)
-StandsBehind settings (NotBuilt at) course new = IsNotBuilt settings at course new
+StandsBehind settings (Faulted at flaw) course new = StopsFor settings (Faulty flaw) at course new
+StandsBehind settings (NotBuilt at) course new = StopsFor settings Unbuilt at course new
 StandsBehind settings ReadFailed course new = AreFew course.played × IsUndecided settings.receivers course.ahead
 StandsBehind settings WriteFailed course new = AreFew course.played × BeginsEnd course.ahead
 StandsBehind settings (WornOut turns) course new = (turns ≡ most_records) × (length course.played ≡ most_records)
@@ -59,6 +56,7 @@ StandsBehind settings (WornOut turns) course new = (turns ≡ most_records) × (
 abbrev pub ScriptFaults : End → ℕ → ℕ → Type 0
 ScriptFaults ReadFailed had has = Rose had has
 ScriptFaults (Complete totals) had has = has ≡ had
+ScriptFaults (Faulted at flaw) had has = has ≡ had
 ScriptFaults (NotBuilt at) had has = has ≡ had
 ScriptFaults WriteFailed had has = has ≡ had
 ScriptFaults (WornOut turns) had has = has ≡ had
@@ -68,6 +66,7 @@ ScriptFaults (WornOut turns) had has = has ≡ had
 abbrev pub OutputAfter : Settings → End → List Played → Object → Object → Type 0
 OutputAfter settings (Complete totals) played old new = new ≡ given (output_of settings played ++ totals_text totals) old
 OutputAfter settings WriteFailed played old new = HasFailedBehind (output_of settings played ++ totals_text (totals_after settings played)) old new
+OutputAfter settings (Faulted at flaw) played old new = new ≡ given (output_of settings played) old
 OutputAfter settings (NotBuilt at) played old new = new ≡ given (output_of settings played) old
 OutputAfter settings ReadFailed played old new = new ≡ given (output_of settings played) old
 OutputAfter settings (WornOut turns) played old new = new ≡ given (output_of settings played) old

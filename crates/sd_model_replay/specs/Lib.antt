@@ -1,6 +1,8 @@
 pub mod Settings
 pub mod Backends
+pub mod Heads
 pub mod Script
+pub mod Next
 pub mod Replay
 pub mod Totals
 pub mod AccountingTheorem

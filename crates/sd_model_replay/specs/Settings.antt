@@ -1,5 +1,5 @@
 -- The settings that a replay goes by.
-use Rattle.std.specs.Prelude.{ℕ, Bool, List, codes}
+use Rattle.std.specs.Prelude.{ℕ, Bool, ◌||◌, List, codes}
 use Rattle.std.specs.List.{list_any}
 use Rattle.std.specs.Str.{bytes_eq}
 use Rattle.sd_model_settings.specs.Settings as file
@@ -36,6 +36,10 @@ policy_of s =
 -- whether a backend is named
 abbrev pub names_backend : List ℕ → file.Settings → Bool
 names_backend name s = list_any (bytes_eq name) s.addresses.backends
+
+-- whether a backend is named that isn't built
+abbrev pub names_unbuilt : file.Settings → Bool
+names_unbuilt s = names_backend (codes "console") s || names_backend (codes "repeater") s
 
 -- What a replay goes by, as a file's settings say it; so far one shard runs, whatever they say.
 abbrev pub goes_by : file.Settings → Settings

@@ -8,4 +8,4 @@ mod script;
 pub use accounting::{
     deliveries_are_lists, no_fault_no_failure, records_are_documented, samples_are_accounted,
 };
-pub use script::scripts_have_one_reading;
+pub use script::{one_thing_stands_next, scripts_have_one_reading};

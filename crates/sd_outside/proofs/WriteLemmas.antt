@@ -1,8 +1,7 @@
 -- What a loop of writes has written.
-use Rattle.std.proofs.Common.{◌≡◌, ℕ, ◌+◌, ◌-◌, ◌<◌, List, ◌++◌, length, take, drop, sym, ap, subst, ◌∙◌, arith, append_assoc, length-append, refl}
-use Rattle.std.proofs.lemmas.List.{take_at, take_rest, take-append-drop, take-append-le}
-use Rattle.std.proofs.Math.Seq.{take-append-add}
-use Rattle.sd_model_outside.specs.Outside.{Told, Object, Rose, HasFailed, HasFailedBehind, AppendsFront, appended, given, telling}
+use Rattle.std.proofs.Common.{◌≡◌, ℕ, ◌-◌, ◌<◌, List, ◌++◌, length, take, drop, sym, ap, subst, ◌∙◌, arith, append_assoc, length-append, refl}
+use Rattle.std.proofs.lemmas.List.{take_at, take_rest, take-append-drop}
+use Rattle.sd_model_outside.specs.Outside.{Object, Rose, HasFailed, HasFailedBehind, appended, given, telling}
 use Rattle.sd_model_outside.proofs.OutsideLemmas.{appended-appended}
 
 -- an object became another one by a write of the bytes that stand before the rest

@@ -21,4 +21,4 @@ pub use mem_sink::MemSink;
 pub use mem_source::MemSource;
 pub use opens::{Failed, Faulty, OpenRefusal, Opens};
 pub use sink::{Sink, WriteFault, write_all};
-pub use source::Source;
+pub use source::{Source, read_full};

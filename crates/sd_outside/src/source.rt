@@ -1,5 +1,5 @@
 ghost use Rattle.std.specs.Prelude.{◌≡◌, ◌<◌, ◌≤◌, length, take, IfOk, OnErr};
-ghost use Rattle.sd_model_outside.specs.Outside.{HasFailed, HasRead, IsAtEnd};
+ghost use Rattle.sd_model_outside.specs.Outside.{HasFailed, HasRead, IsAtEnd, FailedBehind};
 
 use crate::opens::{Failed, Opens};
 
@@ -16,4 +16,26 @@ pub trait Source: Opens {
         ensures next { IfOk result (λ n. HasRead (take n buf.new) (Self.seen self.old) (Self.seen self.new)) }
         ensures end { IfOk result (λ n. n ≡ 0 → IsAtEnd (Self.seen self.old).told) }
         ensures failed { OnErr result (HasFailed (Self.seen self.old) (Self.seen self.new)) };
+}
+
+/// Reads until the buffer is full or the source is at its end, and answers how many bytes stand at its front.
+///
+/// # Errors
+///
+/// `Failed` where a read failed. Bytes may have been read before.
+pub fn read_full<R: Source>(source: &mut R, buf: &mut [u8]) -> Result<usize, Failed>
+    ensures within { IfOk result (λ n. n ≤ length buf.new) }
+    ensures read { IfOk result (λ n. HasRead (take n buf.new) (R.seen source.old) (R.seen source.new)) }
+    ensures whole { IfOk result (λ n. n < length buf.new → IsAtEnd (R.seen source.new).told) }
+    ensures failed { OnErr result (FailedBehind (length buf.old) (R.seen source.old) (R.seen source.new)) }
+{
+    let mut len = 0;
+    while len < buf.len() {
+        let count = source.read(&mut buf[len..])?;
+        if count == 0 {
+            break;
+        }
+        len += count;
+    }
+    Ok(len)
 }

@@ -1,6 +1,6 @@
 -- A replay so far, and one record more.
 use Rattle.std.proofs.Math.Nat.{mod-one}
-use Rattle.std.proofs.Common.{◌≡◌, ◌≢◌, ℕ, zero, suc, cond, ◌+◌, ◌<◌, ◌^◌, min, eqb, List, [], ◌∷◌, ◌++◌, length, map, refl, sym, ap, subst, ◌∙◌, append-nil, length-append, arith}
+use Rattle.std.proofs.Common.{◌≡◌, ℕ, Bool, false, zero, suc, cond, ◌+◌, ◌<◌, ◌^◌, min, eqb, List, [], ◌∷◌, ◌++◌, length, map, refl, sym, ap, subst, ◌∙◌, append-nil, length-append, arith}
 use Rattle.std.specs.Prelude.{sum_by}
 use Rattle.std.specs.List.{AllByRecursion}
 use Rattle.std.proofs.lemmas.List.{map-append}
@@ -15,20 +15,21 @@ use Rattle.sd_model_shard.specs.Whereabouts.{dropped_in}
 use Rattle.sd_model_record.specs.Desk.{Desk, Mark, Marks, NotUsed, with_tally, with_round}
 use Rattle.sd_model_record.specs.Graphite.{graphite_text}
 use Rattle.sd_model_record.specs.Record.{record_of}
+use Rattle.sd_model_settings.specs.Settings as file
 use Rattle.sd_model_replay.specs.Settings as model
+use Rattle.sd_model_replay.specs.Settings.{goes_by}
 use Rattle.sd_model_replay.specs.Backends.{Backend, Graphite, Console, FitsUse, AfterMark, AfterDeliveries, is_used, mark_of}
-use Rattle.sd_model_replay.specs.Script.{Command, Packet, Flush, Unbuilt, MayStandNext, end_word, spelled, script_text, IsBuilt, IsUndecided, IsDecided}
+use Rattle.sd_model_replay.specs.Script.{Command, Packet, Flush, end_word, spelled, script_text, IsBuilt}
+use Rattle.sd_model_replay.specs.Next.{ScriptFlaw, Next, Faulty, Unbuilt, Begins, IsUndecided}
 use Rattle.sd_model_replay.specs.Replay.{Played, Outcome, IsOutcome, quiet, home_of, acts_in, packet_tally, Run, first_run, play, run_of, FlushMoment, deliveries}
 use Rattle.sd_model_replay.specs.Totals.{Totals, totals_of, totals_after, totals_text}
 use Rattle.sd_model_replay.specs.AccountingTheorem.{Seen, Course, AccountingTheorem, seen_at}
-use Rattle.sd_model_replay.specs.Ends.{Complete, NotBuilt, ReadFailed, WriteFailed, WornOut, Replayed, text_length}
+use Rattle.sd_model_replay.specs.Ends.{StopsFor, Complete, Faulted, NotBuilt, ReadFailed, WriteFailed, WornOut, Replayed, text_length}
 use Rattle.sd_model_replay.proofs.AccountingLemmas.{are_accounted, are_documented}
 use Rattle.sd_model_replay.proofs.DeliveryLemmas.{AfterDeliveries-push}
 use Rattle.sd_model_replay.proofs.ReplayLemmas.{run_of-push, deliveries-push, delivery_of, script_text-end, AllByRecursion-push}
 use Rattle.sd_replay.specs.Filed.{filed, lost}
-use Rattle.sd_replay.specs.Settings.{settings_of}
 use Rattle.sd_replay.specs.Totals.{totals_of_one}
-use Rattle.sd_replay.specs.declared.settings.Settings.{Settings}
 
 -- the records that were carried out
 abbrev commands_of : List Played → List Command
@@ -82,41 +83,41 @@ lost_is limits policy who state (s ∷ samples) =
     omega (arith, lost_is limits policy who one.state samples, sum_by-cons dropped_in one.reply rest)
 
 -- What a record does to the one shard of such settings.
-module _ (settings : Settings) (run : Run) where
+module _ (settings : file.Settings) (run : Run) where
   -- of one shard, that is 0, every sample is its own
-  all_at_home : (samples : List Sample) → part_of (home_of (settings_of settings)) 0 samples ≡ samples
+  all_at_home : (samples : List Sample) → part_of (home_of (goes_by settings)) 0 samples ≡ samples
   all_at_home [] = refl
-  all_at_home (s ∷ samples) = kept (home_of (settings_of settings) s) (mod-one _) (all_at_home samples) where
-    kept : (n : ℕ) → n ≡ 0 → part_of (home_of (settings_of settings)) 0 samples ≡ samples → cond (eqb 0 n) (s ∷ part_of (home_of (settings_of settings)) 0 samples) (part_of (home_of (settings_of settings)) 0 samples) ≡ s ∷ samples
+  all_at_home (s ∷ samples) = kept (home_of (goes_by settings) s) (mod-one _) (all_at_home samples) where
+    kept : (n : ℕ) → n ≡ 0 → part_of (home_of (goes_by settings)) 0 samples ≡ samples → cond (eqb 0 n) (s ∷ part_of (home_of (goes_by settings)) 0 samples) (part_of (home_of (goes_by settings)) 0 samples) ≡ s ∷ samples
     kept zero is h = ap (λ (xs : List Sample). s ∷ xs) h
     kept (suc n) is h = absurd (omega (arith, is))
 
-  acts_of_packet : (who moment : ℕ) (datagram : List ℕ) → acts_in (settings_of settings) run 0 (Packet who moment datagram)
-      ≡ answered (settings_of settings).limits (settings_of settings).policy (run.shards 0) (asked_of who (samples_of datagram))
+  acts_of_packet : (who moment : ℕ) (datagram : List ℕ) → acts_in (goes_by settings) run 0 (Packet who moment datagram)
+      ≡ answered (goes_by settings).limits (goes_by settings).policy (run.shards 0) (asked_of who (samples_of datagram))
   acts_of_packet who moment datagram =
-      ap (λ (samples : List Sample). answered (settings_of settings).limits (settings_of settings).policy (run.shards 0) (asked_of who samples)) (all_at_home (samples_of datagram))
+      ap (λ (samples : List Sample). answered (goes_by settings).limits (goes_by settings).policy (run.shards 0) (asked_of who samples)) (all_at_home (samples_of datagram))
 
   packet_shard : (who moment : ℕ) (datagram : List ℕ) (outcome : Outcome)
-      → filed (settings_of settings).limits (settings_of settings).policy who (run.shards 0) (samples_of datagram) ≡ (play (settings_of settings) run (record { command = Packet who moment datagram; outcome = outcome })).shards 0
+      → filed (goes_by settings).limits (goes_by settings).policy who (run.shards 0) (samples_of datagram) ≡ (play (goes_by settings) run (record { command = Packet who moment datagram; outcome = outcome })).shards 0
   packet_shard who moment datagram outcome =
-      let limits = (settings_of settings).limits in
-      let policy = (settings_of settings).policy in
+      let limits = (goes_by settings).limits in
+      let policy = (goes_by settings).policy in
       filed_is limits policy who (run.shards 0) (samples_of datagram)
       ∙ ap (after_all limits policy (run.shards 0)) (sym (acts_of_packet who moment datagram))
 
   packet_desk : (who moment : ℕ) (datagram : List ℕ) (outcome : Outcome)
-      → with_tally run.desk (packet_tally datagram (lost (settings_of settings).limits (settings_of settings).policy who (run.shards 0) (samples_of datagram)))
-      ≡ (play (settings_of settings) run (record { command = Packet who moment datagram; outcome = outcome })).desk
+      → with_tally run.desk (packet_tally datagram (lost (goes_by settings).limits (goes_by settings).policy who (run.shards 0) (samples_of datagram)))
+      ≡ (play (goes_by settings) run (record { command = Packet who moment datagram; outcome = outcome })).desk
   packet_desk who moment datagram outcome =
-      let limits = (settings_of settings).limits in
-      let policy = (settings_of settings).policy in
+      let limits = (goes_by settings).limits in
+      let policy = (goes_by settings).policy in
       let replies : List Act → List Reply = map (λ (a : Act). a.reply) in
       ap (λ n. with_tally run.desk (packet_tally datagram n)) (
       lost_is limits policy who (run.shards 0) (samples_of datagram)
       ∙ ap (λ (acts : History). sum_by dropped_in (replies acts)) (sym (acts_of_packet who moment datagram))
-      ∙ ap (sum_by dropped_in) (sym (append-nil (replies (acts_in (settings_of settings) run 0 (Packet who moment datagram))))))
+      ∙ ap (sum_by dropped_in) (sym (append-nil (replies (acts_in (goes_by settings) run 0 (Packet who moment datagram))))))
 
-  totals_one : totals_of_one (run.shards 0) run.desk ≡ totals_of (settings_of settings) run
+  totals_one : totals_of_one (run.shards 0) run.desk ≡ totals_of (goes_by settings) run
   totals_one =
       let taken = sym (alone (λ i. (run.shards i).taken)) in
       let dropped = sym (alone (λ i. (run.shards i).dropped)) in
@@ -145,16 +146,16 @@ longer commands c at e =
     omega (arith, e, whole, length-append (script_text commands) (spelled c))
 
 -- One record more.
-module _ (settings : Settings) (script left left' : Told) (old new new' : Object) (shard shard' : State) (desk desk' : Desk) (at at' turn : ℕ) (so_far : Progress (settings_of settings) script left old new shard desk at turn) where
+module _ (settings : file.Settings) (script left left' : Told) (old new new' : Object) (shard shard' : State) (desk desk' : Desk) (at at' turn : ℕ) (so_far : Progress (goes_by settings) script left old new shard desk at turn) where
   run : Run
-  run = run_of (settings_of settings) first_run so_far.played
+  run = run_of (goes_by settings) first_run so_far.played
 
   -- whose text was read, and which left what it leaves
-  one_more : (p : Played) → Reads left (spelled p.command) left' → IsBuilt settings.receivers p.command → IsOutcome (settings_of settings) p.command p.outcome
-      → AfterDeliveries (deliveries (settings_of settings) Graphite (so_far.played ++ p ∷ [])) old new'
-      → ((o : Object) → AfterDeliveries (deliveries (settings_of settings) Console (so_far.played ++ p ∷ [])) o o)
-      → shard' ≡ (play (settings_of settings) run p).shards 0 → desk' ≡ (play (settings_of settings) run p).desk
-      → at' ≡ min (at + length (spelled p.command)) last_count → Progress (settings_of settings) script left' old new' shard' desk' at' (turn + 1)
+  one_more : (p : Played) → Reads left (spelled p.command) left' → IsBuilt (goes_by settings).receivers p.command → IsOutcome (goes_by settings) p.command p.outcome
+      → AfterDeliveries (deliveries (goes_by settings) Graphite (so_far.played ++ p ∷ [])) old new'
+      → ((o : Object) → AfterDeliveries (deliveries (goes_by settings) Console (so_far.played ++ p ∷ [])) o o)
+      → shard' ≡ (play (goes_by settings) run p).shards 0 → desk' ≡ (play (goes_by settings) run p).desk
+      → at' ≡ min (at + length (spelled p.command)) last_count → Progress (goes_by settings) script left' old new' shard' desk' at' (turn + 1)
   unfolding run
   one_more p text built used after unused s d a =
       let ps = so_far.played in
@@ -164,30 +165,30 @@ module _ (settings : Settings) (script left left' : Told) (old new new' : Object
         read = so_far.read ∙ ap (put_back (script_text (commands_of ps))) text ∙ put_back-append (script_text (commands_of ps)) (spelled p.command) left'
             ∙ ap (λ (bytes : List ℕ). put_back bytes left') (sym (script_text-end (commands_of ps) p.command))
             ∙ ap (λ cs. put_back (script_text cs) left') (sym commands);
-        built = AllByRecursion-push (λ (q : Played). IsBuilt settings.receivers q.command) ps p so_far.built built;
-        used = AllByRecursion-push (λ (q : Played). IsOutcome (settings_of settings) q.command q.outcome) ps p so_far.used used;
+        built = AllByRecursion-push (λ (q : Played). IsBuilt (goes_by settings).receivers q.command) ps p so_far.built built;
+        used = AllByRecursion-push (λ (q : Played). IsOutcome (goes_by settings) q.command q.outcome) ps p so_far.used used;
         texts = after;
         unused = unused;
-        same_shard = s ∙ ap (λ (r : Run). r.shards 0) (sym (run_of-push (settings_of settings) ps p));
-        same_desk = d ∙ ap (λ (r : Run). r.desk) (sym (run_of-push (settings_of settings) ps p));
+        same_shard = s ∙ ap (λ (r : Run). r.shards 0) (sym (run_of-push (goes_by settings) ps p));
+        same_desk = d ∙ ap (λ (r : Run). r.desk) (sym (run_of-push (goes_by settings) ps p));
         same_place = a ∙ longer (commands_of ps) p.command at so_far.same_place ∙ ap (λ cs. min (length (script_text cs)) last_count) (sym commands);
         turns = omega (arith, so_far.turns, length-append ps (p ∷ []));
       }
 
   -- a packet more: its samples are filed, and it is counted
-  pub packet_more : (who moment : ℕ) (datagram : List ℕ) → Reads left (spelled (Packet who moment datagram)) left' → IsBuilt settings.receivers (Packet who moment datagram)
-      → shard' ≡ filed (settings_of settings).limits (settings_of settings).policy who shard (samples_of datagram)
-      → desk' ≡ with_tally desk (packet_tally datagram (lost (settings_of settings).limits (settings_of settings).policy who shard (samples_of datagram)))
-      → at' ≡ min (at + length (spelled (Packet who moment datagram))) last_count → new' ≡ new → Progress (settings_of settings) script left' old new' shard' desk' at' (turn + 1)
+  pub packet_more : (who moment : ℕ) (datagram : List ℕ) → Reads left (spelled (Packet who moment datagram)) left' → IsBuilt (goes_by settings).receivers (Packet who moment datagram)
+      → shard' ≡ filed (goes_by settings).limits (goes_by settings).policy who shard (samples_of datagram)
+      → desk' ≡ with_tally desk (packet_tally datagram (lost (goes_by settings).limits (goes_by settings).policy who shard (samples_of datagram)))
+      → at' ≡ min (at + length (spelled (Packet who moment datagram))) last_count → new' ≡ new → Progress (goes_by settings) script left' old new' shard' desk' at' (turn + 1)
   unfolding run
   packet_more who moment datagram text built s d a kept =
       let p : Played = record { command = Packet who moment datagram; outcome = quiet } in
-      let limits = (settings_of settings).limits in
-      let policy = (settings_of settings).policy in
-      let same : (back : Backend) → deliveries (settings_of settings) back (so_far.played ++ p ∷ []) ≡ deliveries (settings_of settings) back so_far.played =
-      λ back. deliveries-push (settings_of settings) back so_far.played p ∙ append-nil (deliveries (settings_of settings) back so_far.played) in
+      let limits = (goes_by settings).limits in
+      let policy = (goes_by settings).policy in
+      let same : (back : Backend) → deliveries (goes_by settings) back (so_far.played ++ p ∷ []) ≡ deliveries (goes_by settings) back so_far.played =
+      λ back. deliveries-push (goes_by settings) back so_far.played p ∙ append-nil (deliveries (goes_by settings) back so_far.played) in
       one_more p text built refl
-      (subst (λ ds. AfterDeliveries ds old new') (sym (same Graphite)) (subst (λ (o : Object). AfterDeliveries (deliveries (settings_of settings) Graphite so_far.played) old o) (sym kept) so_far.texts))
+      (subst (λ ds. AfterDeliveries ds old new') (sym (same Graphite)) (subst (λ (o : Object). AfterDeliveries (deliveries (goes_by settings) Graphite so_far.played) old o) (sym kept) so_far.texts))
       (λ o. subst (λ ds. AfterDeliveries ds o o) (sym (same Console)) (so_far.unused o))
       (s ∙ ap (λ (state : State). filed limits policy who state (samples_of datagram)) so_far.same_shard ∙ packet_shard settings run who moment datagram quiet)
       (d ∙ ap (λ (state : State). with_tally desk (packet_tally datagram (lost limits policy who state (samples_of datagram)))) so_far.same_shard
@@ -195,40 +196,41 @@ module _ (settings : Settings) (script left left' : Told) (old new new' : Object
       a
 
   -- a flush more: the shard is swapped, the tally is taken, and Graphite was given the text
-  pub flush_more : (ts : ℕ) (marks : Marks) → Reads left (spelled (Flush ts)) left' → IsBuilt settings.receivers (Flush ts)
-      → marks.graphite ≢ NotUsed → marks.console ≡ NotUsed
-      → AfterMark marks.graphite (graphite_text (settings_of settings).names (record_of (settings_of settings).plan (table_of shard ∷ []) desk.tally ts)) new new'
-      → shard' ≡ after_swap (settings_of settings).policy shard → desk' ≡ with_round desk marks
-      → at' ≡ min (at + length (spelled (Flush ts))) last_count → Progress (settings_of settings) script left' old new' shard' desk' at' (turn + 1)
+  pub flush_more : (ts : ℕ) (marks : Marks) → Reads left (spelled (Flush ts)) left' → IsBuilt (goes_by settings).receivers (Flush ts)
+      → FitsUse (goes_by settings).uses_graphite marks.graphite → (goes_by settings).uses_console ≡ false → marks.console ≡ NotUsed
+      → AfterMark marks.graphite (graphite_text (goes_by settings).names (record_of (goes_by settings).plan (table_of shard ∷ []) desk.tally ts)) new new'
+      → shard' ≡ after_swap (goes_by settings).policy shard → desk' ≡ with_round desk marks
+      → at' ≡ min (at + length (spelled (Flush ts))) last_count → Progress (goes_by settings) script left' old new' shard' desk' at' (turn + 1)
   unfolding run
-  flush_more ts marks text built graphite console after s d a =
+  flush_more ts marks text built graphite unused console after s d a =
       let p : Played = record { command = Flush ts; outcome = record { marks = marks } } in
-      let plan = (settings_of settings).plan in
-      let names = (settings_of settings).names in
+      let plan = (goes_by settings).plan in
+      let names = (goes_by settings).names in
       let text_of : State → Desk → List ℕ = λ state e. graphite_text names (record_of plan (table_of state ∷ []) e.tally ts) in
       let delivered : AfterMark marks.graphite (text_of (run.shards 0) run.desk) new new' =
       subst (λ e. AfterMark marks.graphite (text_of (run.shards 0) e) new new') so_far.same_desk
       (subst (λ state. AfterMark marks.graphite (text_of state desk) new new') so_far.same_shard after) in
       let f : FlushMoment = record { before = run; ts = ts; marks = marks } in
-      let untouched : (o : Object) → AfterMark marks.console (delivery_of (settings_of settings) Console f).text o o =
-      λ o. subst (λ (m : Mark). AfterMark m (delivery_of (settings_of settings) Console f).text o o) (sym console) refl in
-      one_more p text built (uses graphite console)
-      (subst (λ ds. AfterDeliveries ds old new') (sym (deliveries-push (settings_of settings) Graphite so_far.played p))
-      (AfterDeliveries-push (deliveries (settings_of settings) Graphite so_far.played) (delivery_of (settings_of settings) Graphite f) old new new' so_far.texts delivered))
-      (λ o. subst (λ ds. AfterDeliveries ds o o) (sym (deliveries-push (settings_of settings) Console so_far.played p))
-      (AfterDeliveries-push (deliveries (settings_of settings) Console so_far.played) (delivery_of (settings_of settings) Console f) o o o (so_far.unused o) (untouched o)))
-      (s ∙ ap (after_swap (settings_of settings).policy) so_far.same_shard)
+      let untouched : (o : Object) → AfterMark marks.console (delivery_of (goes_by settings) Console f).text o o =
+      λ o. subst (λ (m : Mark). AfterMark m (delivery_of (goes_by settings) Console f).text o o) (sym console) refl in
+      one_more p text built (uses graphite unused console)
+      (subst (λ ds. AfterDeliveries ds old new') (sym (deliveries-push (goes_by settings) Graphite so_far.played p))
+      (AfterDeliveries-push (deliveries (goes_by settings) Graphite so_far.played) (delivery_of (goes_by settings) Graphite f) old new new' so_far.texts delivered))
+      (λ o. subst (λ ds. AfterDeliveries ds o o) (sym (deliveries-push (goes_by settings) Console so_far.played p))
+      (AfterDeliveries-push (deliveries (goes_by settings) Console so_far.played) (delivery_of (goes_by settings) Console f) o o o (so_far.unused o) (untouched o)))
+      (s ∙ ap (after_swap (goes_by settings).policy) so_far.same_shard)
       (d ∙ ap (λ (e : Desk). with_round e marks) so_far.same_desk)
       a where
-        uses : marks.graphite ≢ NotUsed → marks.console ≡ NotUsed → (back : Backend) → FitsUse (is_used (settings_of settings) back) (mark_of back marks)
-        uses graphite console Graphite = graphite
-        uses graphite console Console = console
+        uses : FitsUse (goes_by settings).uses_graphite marks.graphite → (goes_by settings).uses_console ≡ false → marks.console ≡ NotUsed
+            → (back : Backend) → FitsUse (is_used (goes_by settings) back) (mark_of back marks)
+        uses graphite unused console Graphite = graphite
+        uses graphite unused console Console = subst (λ used. FitsUse used marks.console) (sym unused) console
 
 -- what was carried out, where these bytes were read behind it
-record Ended (settings : Settings) (old new : Seen) (ahead : List ℕ) (shard : State) (desk : Desk) (at turn : ℕ) : Type 0 where
+record Ended (settings : file.Settings) (old new : Seen) (ahead : List ℕ) (shard : State) (desk : Desk) (at turn : ℕ) : Type 0 where
   course : Course
-  theorem : AccountingTheorem (settings_of settings) course old new
-  same_totals : totals_of_one shard desk ≡ totals_after (settings_of settings) course.played
+  theorem : AccountingTheorem (goes_by settings) course old new
+  same_totals : totals_of_one shard desk ≡ totals_after (goes_by settings) course.played
   same_ahead : course.ahead ≡ ahead
   same_place : at ≡ text_length course.played
   turns : length course.played ≡ turn
@@ -237,18 +239,18 @@ record Ended (settings : Settings) (old new : Seen) (ahead : List ℕ) (shard : 
 ungiven : (old new : Object) → FitsLastCount old.told → new ≡ old → new ≡ given [] old
 ungiven old new fits same = same ∙ ap (λ told. telling told old) (sym (appended-nil old.told fits))
 
-module _ (settings : Settings) (old new : Seen) (left : Told) (shard : State) (desk : Desk) (at turn : ℕ) (so_far : Progress (settings_of settings) old.script.told left old.graphite new.graphite shard desk at turn) (ahead : List ℕ) (behind : Reads left ahead new.script.told) (console : new.console ≡ old.console) (used : Used old.script new.script) where
+module _ (settings : file.Settings) (old new : Seen) (left : Told) (shard : State) (desk : Desk) (at turn : ℕ) (so_far : Progress (goes_by settings) old.script.told left old.graphite new.graphite shard desk at turn) (ahead : List ℕ) (behind : Reads left ahead new.script.told) (console : new.console ≡ old.console) (used : Used old.script new.script) where
   course_of : Ended settings old new ahead shard desk at turn
   course_of =
       let played = so_far.played in
-      let run = run_of (settings_of settings) first_run played in
+      let run = run_of (goes_by settings) first_run played in
       record {
         course = record { played = played; ahead = ahead };
         theorem = record {
           read = Reads-append old.script.told left new.script.told (script_text (commands_of played)) ahead so_far.read behind;
           built = so_far.built;
-          places = λ i below. are_accounted (settings_of settings) played i;
-          statistics = are_documented (settings_of settings) played;
+          places = λ i below. are_accounted (goes_by settings) played i;
+          statistics = are_documented (goes_by settings) played;
           used = so_far.used;
           texts = texts;
         };
@@ -257,15 +259,15 @@ module _ (settings : Settings) (old new : Seen) (left : Told) (shard : State) (d
         same_place = so_far.same_place;
         turns = so_far.turns;
       } where
-        texts : (back : Backend) → AfterDeliveries (deliveries (settings_of settings) back so_far.played) (seen_at back old) (seen_at back new)
+        texts : (back : Backend) → AfterDeliveries (deliveries (goes_by settings) back so_far.played) (seen_at back old) (seen_at back new)
         texts Graphite = so_far.texts
-        texts Console = subst (λ (o : Object). AfterDeliveries (deliveries (settings_of settings) Console so_far.played) old.console o) (sym console) (so_far.unused old.console)
+        texts Console = subst (λ (o : Object). AfterDeliveries (deliveries (goes_by settings) Console so_far.played) old.console o) (sym console) (so_far.unused old.console)
 
   -- the script counted no fault
   module _ (script_faults : new.script.faults ≡ old.script.faults) where
     -- the word was read, and these totals were written
     pub completes : (totals : Totals) (rest : List ℕ) → turn < 2 ^ 62 → ahead ≡ end_word ++ rest → totals ≡ totals_of_one shard desk
-        → new.output ≡ given (totals_text totals) old.output → Replayed (settings_of settings) (Complete totals) old new
+        → new.output ≡ given (totals_text totals) old.output → Replayed (goes_by settings) (Complete totals) old new
     completes totals rest few word counts written =
         let e = course_of in
         record {
@@ -281,7 +283,7 @@ module _ (settings : Settings) (old new : Seen) (left : Told) (shard : State) (d
 
     -- the word was read, and a write of the totals failed
     pub writes_part : (rest : List ℕ) → turn < 2 ^ 62 → ahead ≡ end_word ++ rest
-        → HasFailedBehind (totals_text (totals_of_one shard desk)) old.output new.output → Replayed (settings_of settings) WriteFailed old new
+        → HasFailedBehind (totals_text (totals_of_one shard desk)) old.output new.output → Replayed (goes_by settings) WriteFailed old new
     writes_part rest few word failed =
         let e = course_of in
         record {
@@ -295,29 +297,40 @@ module _ (settings : Settings) (old new : Seen) (left : Told) (shard : State) (d
           };
         }
 
-    -- no built record stands next
-    pub finds_unbuilt : (place : ℕ) → FitsLastCount old.output.told → place ≡ at → turn < 2 ^ 62 → IsDecided settings.receivers ahead new.script.told → MayStandNext settings.receivers Unbuilt (put_back ahead new.script.told)
-        → new.output ≡ old.output → Replayed (settings_of settings) (NotBuilt place) old new
-    finds_unbuilt place fits here few decided other same =
+    -- what stands next isn't carried out
+    stops_for : (next : Next) (place : ℕ) → place ≡ at → turn < 2 ^ 62 → Begins (goes_by settings).receivers next ahead new.script.told → StopsFor (goes_by settings) next place course_of.course new
+    stops_for next place here few begins =
+        let e = course_of in
+        record {
+          few = omega (arith, few, e.turns);
+          begins = subst (λ bytes. Begins (goes_by settings).receivers next bytes new.script.told) (sym e.same_ahead) begins;
+          place = here ∙ e.same_place;
+        }
+
+    -- a record that isn't built stands next
+    pub finds_unbuilt : (place : ℕ) → FitsLastCount old.output.told → place ≡ at → turn < 2 ^ 62 → Begins (goes_by settings).receivers Unbuilt ahead new.script.told
+        → new.output ≡ old.output → Replayed (goes_by settings) (NotBuilt place) old new
+    finds_unbuilt place fits here few begins same =
         let e = course_of in
         record {
           course = e.course;
           theorem = e.theorem;
-          ends = record {
-            read = record {
-              few = omega (arith, few, e.turns);
-              decided = subst (λ bytes. IsDecided settings.receivers bytes new.script.told) (sym e.same_ahead) decided;
-              other = subst (λ bytes. MayStandNext settings.receivers Unbuilt (put_back bytes new.script.told)) (sym e.same_ahead) other;
-              place = here ∙ e.same_place;
-            };
-            script = used;
-            script_faults = script_faults;
-            output = ungiven old.output new.output fits same;
-          };
+          ends = record { read = stops_for Unbuilt place here few begins; script = used; script_faults = script_faults; output = ungiven old.output new.output fits same };
+        }
+
+    -- a record with a flaw stands next
+    pub finds_flaw : (flaw : ScriptFlaw) (place : ℕ) → FitsLastCount old.output.told → place ≡ at → turn < 2 ^ 62 → Begins (goes_by settings).receivers (Faulty flaw) ahead new.script.told
+        → new.output ≡ old.output → Replayed (goes_by settings) (Faulted place flaw) old new
+    finds_flaw flaw place fits here few begins same =
+        let e = course_of in
+        record {
+          course = e.course;
+          theorem = e.theorem;
+          ends = record { read = stops_for (Faulty flaw) place here few begins; script = used; script_faults = script_faults; output = ungiven old.output new.output fits same };
         }
 
     -- as many records were carried out as there may be
-    pub wears_out : (turns : ℕ) → FitsLastCount old.output.told → turns ≡ 2 ^ 62 → turn ≡ 2 ^ 62 → new.output ≡ old.output → Replayed (settings_of settings) (WornOut turns) old new
+    pub wears_out : (turns : ℕ) → FitsLastCount old.output.told → turns ≡ 2 ^ 62 → turn ≡ 2 ^ 62 → new.output ≡ old.output → Replayed (goes_by settings) (WornOut turns) old new
     wears_out turns fits most full same =
         let e = course_of in
         record {
@@ -327,14 +340,14 @@ module _ (settings : Settings) (old new : Seen) (left : Told) (shard : State) (d
         }
 
   -- a read failed while the bytes at hand didn't decide what stands next
-  pub fails_to_read : FitsLastCount old.output.told → turn < 2 ^ 62 → IsUndecided settings.receivers ahead → Rose old.script.faults new.script.faults → new.output ≡ old.output → Replayed (settings_of settings) ReadFailed old new
+  pub fails_to_read : FitsLastCount old.output.told → turn < 2 ^ 62 → IsUndecided (goes_by settings).receivers ahead → Rose old.script.faults new.script.faults → new.output ≡ old.output → Replayed (goes_by settings) ReadFailed old new
   fails_to_read fits few undecided rose same =
       let e = course_of in
       record {
         course = e.course;
         theorem = e.theorem;
         ends = record {
-          read = (omega (arith, few, e.turns), subst (IsUndecided settings.receivers) (sym e.same_ahead) undecided);
+          read = (omega (arith, few, e.turns), subst (IsUndecided (goes_by settings).receivers) (sym e.same_ahead) undecided);
           script = used;
           script_faults = rose;
           output = ungiven old.output new.output fits same;

@@ -1,16 +1,8 @@
-pub mod Ahead
 pub mod Desk
 pub mod Ends
-pub mod Fields
 pub mod Filed
-pub mod Found
-pub mod Head
 pub mod Marks
-pub mod Reader
-pub mod Reading
-pub mod Reads
 pub mod Room
 pub mod RoomInside
 pub mod Seen
-pub mod Settings
 pub mod Totals

@@ -1,8 +1,8 @@
-ghost use Rattle.std.specs.Prelude.{◌≡◌, ◌≢◌, [], ◌∷◌};
-ghost use Rattle.sd_model_record.specs.Desk.{NotUsed, with_round};
+ghost use Rattle.std.specs.Prelude.{◌≡◌, [], ◌∷◌};
+ghost use Rattle.sd_model_record.specs.Desk.{with_round};
 ghost use Rattle.sd_model_record.specs.Graphite.{graphite_text};
 ghost use Rattle.sd_model_record.specs.Record.{record_of};
-ghost use Rattle.sd_model_replay.specs.Backends.{AfterMark};
+ghost use Rattle.sd_model_replay.specs.Backends.{AfterMark, FitsUse};
 ghost use Rattle.sd_model_shard.specs.Shard.{after_swap, table_of};
 ghost use Rattle.sd_config.specs.Plan.{plan_view};
 ghost use Rattle.sd_shard.specs.Shard.{state_of};
@@ -13,7 +13,7 @@ use crate::delivery::deliver;
 use crate::desk::{Desk, Mark, RoundMarks};
 use sd_config::{Names, Reckoning};
 use sd_epoch::Table;
-use sd_outside::Backend;
+use sd_outside::{Backend, Backs};
 use sd_record::{Record, RecordScratch};
 use sd_shard::Shard;
 use std::slice;
@@ -25,7 +25,7 @@ pub(crate) struct Flushed {
     pub spare: Table,
 }
 
-/// Swaps the shard, takes the tally, and gives Graphite the text of the record that the plan makes.
+/// Swaps the shard, takes the tally, and gives Graphite, where it is used, the text of the record that the plan makes.
 pub(crate) fn flush<B: Backend>(
     shard: &mut Shard,
     spare: Table,
@@ -34,7 +34,7 @@ pub(crate) fn flush<B: Backend>(
     plan: &Reckoning,
     names: &Names,
     ts: u64,
-    back: &mut B,
+    backs: &mut Backs<B>,
 ) -> Flushed
     requires spare { IsSpareFor shard.old.table.limits spare }
     requires room { HasRoom shard.old.table.limits scratch.old.room }
@@ -44,21 +44,20 @@ pub(crate) fn flush<B: Backend>(
     ensures desk { desk.new ≡ with_round desk.old (marks_of result.marks) }
     ensures spare { IsSpareFor shard.old.table.limits result.spare }
     ensures room { scratch.new.room ≡ scratch.old.room }
-    ensures console { result.marks.console ≡ Mark.NotUsed }
-    ensures used { mark_of result.marks.graphite ≢ NotUsed }
+    ensures used { FitsUse backs.old.graphite_used (mark_of result.marks.graphite) }
     ensures delivery { AfterMark (mark_of result.marks.graphite)
         (graphite_text names.now (record_of (plan_view plan.now) (table_of (state_of shard.old) ∷ []) (desk.old).tally ts))
-        (B.seen back.old) (B.seen back.new) }
+        (B.seen backs.old.graphite) (B.seen backs.new.graphite) }
+    ensures console_mark { result.marks.console ≡ Mark.NotUsed }
+    ensures console { backs.new.console ≡ backs.old.console }
+    ensures graphite_flag { backs.new.graphite_used ≡ backs.old.graphite_used }
+    ensures console_flag { backs.new.console_used ≡ backs.old.console_used }
 {
     let mut table = shard.swap(spare);
     let tally = desk.take();
-    let graphite = {
+    let marks = {
         let mut record = Record::over(slice::from_ref(&table), plan, scratch, tally, ts);
-        deliver(&mut record, names, back)
-    };
-    let marks = RoundMarks {
-        graphite,
-        console: Mark::NotUsed,
+        deliver(&mut record, names, backs)
     };
     desk.mark(marks);
     table.clear();

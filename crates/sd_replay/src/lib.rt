@@ -1,15 +1,11 @@
-//! Scripts: the records of a script, read one after another and carried out on a shard.
+//! Scripts: the records of a script, carried out one after another on a shard.
 #![tactic(auto)]
 
-mod ahead;
 mod delivery;
 mod desk;
-mod fields;
+mod fault;
 mod flush;
-mod head;
 mod packet;
-mod reader;
-mod record;
 mod room;
 mod run;
 mod settings;
@@ -17,8 +13,8 @@ mod totals;
 
 pub use delivery::deliver;
 pub use desk::{Mark, RoundMarks};
-pub use reader::{Item, Reader};
+pub use fault::ScriptFault;
 pub use room::ReplayRoom;
 pub use run::{ReplayEnd, replay};
-pub use settings::Settings;
+pub use settings::{limits_of, names_backend, policy_of};
 pub use totals::Totals;

@@ -1,25 +1,29 @@
-ghost use Rattle.std.specs.Prelude.{◌≡◌, ◌≤◌, length, OnErr, IfOk};
+ghost use Rattle.std.specs.Prelude.{◌≡◌, ◌≤◌, false, length, OnErr, IfOk};
 ghost use Rattle.sd_model_text.specs.Lines.{samples_of};
 ghost use Rattle.sd_model_outside.specs.Outside.{HasFailedBehind, given};
 ghost use Rattle.sd_model_record.specs.Desk.{with_tally};
+ghost use Rattle.sd_model_replay.specs.Settings.{goes_by, names_unbuilt};
 ghost use Rattle.sd_model_replay.specs.Replay.{packet_tally};
 ghost use Rattle.sd_model_replay.specs.Totals.{totals_text};
 ghost use Rattle.sd_model_replay.specs.Ends.{Replayed};
 ghost use Rattle.sd_shard.specs.Shard.{state_of};
 ghost use Rattle.sd_replay.specs.Ends.{end_of};
 ghost use Rattle.sd_replay.specs.Filed.{filed, lost};
+ghost use Rattle.sd_replay.specs.Room.{sizing_of};
 ghost use Rattle.sd_replay.specs.Seen.{seen_of};
 ghost use Rattle.sd_replay.specs.Totals.{totals_of_one, totals_view};
 
 use crate::desk::Desk;
+use crate::fault::{ScriptFault, fault_at};
 use crate::flush::flush;
 use crate::packet::file_packet;
-use crate::reader::Item;
 use crate::room::ReplayRoom;
 use crate::totals::{Totals, write_totals};
+use sd_config::{Names, Settings};
 use sd_epoch::Who;
 use sd_outside::{Backend, Backs, Sink, Source, WriteFault};
 use sd_record::Tally;
+use sd_script::Item;
 use sd_shard::Shard;
 
 /// How many records a replay carries out at most.
@@ -30,7 +34,9 @@ const MOST_TURNS: u64 = 1 << 62;
 pub enum ReplayEnd {
     /// The script was read up to its end, and these totals were written.
     Ok(Totals),
-    /// From this place on the script doesn't begin with a record that is built.
+    /// The script isn't legal: a record has a flaw.
+    Script(ScriptFault),
+    /// At this place the script has a record that isn't built.
     Unbuilt { at: u64 },
     /// A read of the script failed.
     ReadFault,
@@ -96,15 +102,20 @@ fn finish<O: Sink>(shard: &Shard, desk: &Desk, output: &mut O) -> Result<Totals,
     Ok(totals)
 }
 
-/// Carries out a script, record by record. Graphite gets each flush's text, and the
-/// output gets the totals at the end. The console isn't used.
+/// Carries out a script, record by record, by settings that the room was opened for and that name no backend which
+/// isn't built. Graphite, where it is used, gets each flush's text, and the output gets the totals at the end.
 pub fn replay<R: Source, O: Sink, B: Backend>(
+    settings: &Settings,
     room: ReplayRoom,
     script: &mut R,
     output: &mut O,
     backs: &mut Backs<B>,
 ) -> ReplayEnd
-    ensures end { Replayed room (end_of result)
+    requires built { names_unbuilt settings.now ≡ false }
+    requires room { room ≡ sizing_of (goes_by settings.now) }
+    requires graphite_used { backs.old.graphite_used ≡ (goes_by settings.now).uses_graphite }
+    requires console_used { backs.old.console_used ≡ (goes_by settings.now).uses_console }
+    ensures end { Replayed (goes_by settings.now) (end_of result)
         (seen_of R.seen O.seen B.seen script.old output.old backs.old)
         (seen_of R.seen O.seen B.seen script.new output.new backs.new) }
     ensures console { backs.new.console ≡ backs.old.console }
@@ -112,13 +123,13 @@ pub fn replay<R: Source, O: Sink, B: Backend>(
     ensures console_flag { backs.new.console_used ≡ backs.old.console_used }
 {
     let ReplayRoom {
-        settings,
         mut shard,
         mut spare,
         mut desk,
         mut scratch,
         mut reader,
     } = room;
+    let names = Names::of(settings);
     for _turn in 0..MOST_TURNS {
         let Ok(item) = reader.next(script) else {
             return ReplayEnd::ReadFault;
@@ -131,10 +142,10 @@ pub fn replay<R: Source, O: Sink, B: Backend>(
                     spare,
                     &mut desk,
                     &mut scratch,
-                    &settings.plan,
-                    &settings.names,
+                    settings.plan(),
+                    &names,
                     ts,
-                    &mut backs.graphite,
+                    backs,
                 );
                 spare = flushed.spare;
             }
@@ -144,6 +155,7 @@ pub fn replay<R: Source, O: Sink, B: Backend>(
                     Err(WriteFault) => ReplayEnd::WriteFault,
                 };
             }
+            Item::Fault(flaw) => return ReplayEnd::Script(fault_at(flaw, reader.at())),
             Item::Unbuilt => return ReplayEnd::Unbuilt { at: reader.at() },
         }
     }

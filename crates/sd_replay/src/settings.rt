@@ -1,18 +1,52 @@
-use sd_config::{Names, Reckoning};
+ghost use Rattle.std.specs.Prelude.{◌≡◌};
+ghost use Rattle.std.specs.List.{list_any};
+ghost use Rattle.std.specs.Str.{bytes_eq};
+ghost use Rattle.sd_model_replay.specs.Settings.{limits_of as limits_by, names_backend as is_named, policy_of as policy_by};
+ghost use Rattle.sd_epoch.specs.Limits.{limits_of as limits_view, AreLimits};
+ghost use Rattle.sd_shard.specs.Policy.{policy_of as policy_view};
+
+use sd_config::Settings;
 use sd_epoch::Limits;
+use sd_outside::Name;
 use sd_shard::Policy;
 
-/// The settings that a replay goes by. One shard runs, and Graphite is the one backend that is used.
-#[derive(Debug, Drop)]
-pub struct Settings {
-    /// How many rows and entries the shard may have.
-    pub limits: Limits,
-    /// What goes at a flush when idle.
-    pub policy: Policy,
-    /// How records are made.
-    pub plan: Reckoning,
-    /// Graphite's names.
-    pub names: Names,
-    /// How many receivers there are. They are counted from 0.
-    pub receivers: u16,
+/// How long a gauge that goes when idle stays, in swaps: it goes at the first.
+const MAX_TTL: u32 = 1;
+
+/// How many rows and entries a shard may have.
+pub fn limits_of(settings: &Settings) -> Limits
+    ensures value { limits_view result ≡ limits_by settings.now }
+    ensures range { AreLimits (limits_view result) }
+{
+    Limits {
+        rows: settings.rows(),
+        entries: settings.entries(),
+    }
+}
+
+/// Which kinds of rows go at a flush when idle.
+pub fn policy_of(settings: &Settings) -> Policy
+    ensures { policy_view result ≡ policy_by settings.now }
+{
+    Policy {
+        counters: settings.delete_counters(),
+        timers: settings.delete_timers(),
+        gauges: settings.delete_gauges(),
+        sets: settings.delete_sets(),
+        max_ttl: MAX_TTL,
+    }
+}
+
+/// Whether a name is among others.
+fn is_among(name: &[u8], names: &[Name]) -> bool
+    ensures { result ≡ list_any (λ n. bytes_eq name.now n.items) names.now }
+{
+    names.iter().any(|n| name == n.as_slice())
+}
+
+/// Whether the settings name a backend.
+pub fn names_backend(settings: &Settings, name: &[u8]) -> bool
+    ensures { result ≡ is_named name.now settings.now }
+{
+    is_among(name, settings.backends())
 }

@@ -1,6 +1,6 @@
 -- What is seen of the objects of a call.
 use Rattle.sd_model_outside.specs.Outside.{Object}
-use Rattle.sd_model_call.specs.Call as model
+use Rattle.sd_model_call.specs.Opening as model
 use Rattle.sd_replay.specs.Seen.{seen_of}
 use Rattle.sd_top.specs.declared.call.World.{World}
 

@@ -1,23 +1,20 @@
-ghost use Rattle.std.specs.Prelude.{◌≡◌, [], map, string_bytes, OnOk, IfOk, IfErr};
-ghost use Rattle.sd_model_outside.specs.Outside.{File, IsAtEnd, opened};
+ghost use Rattle.std.specs.Prelude.{◌≡◌, ◌||◌, false, map, string_bytes, codes, IfOk, IfErr};
+ghost use Rattle.sd_model_replay.specs.Settings.{goes_by, names_unbuilt as is_unbuilt_named};
 ghost use Rattle.sd_model_replay.specs.Ends.{Replayed};
-ghost use Rattle.sd_model_call.specs.Call.{Accounts, default_settings, ending, started};
-ghost use Rattle.sd_outside.specs.Places.{place_of};
-ghost use Rattle.sd_epoch.specs.Limits.{limits_of, AreLimits};
+ghost use Rattle.sd_model_call.specs.Opening.{flags_of, started};
+ghost use Rattle.sd_model_call.specs.Call.{Accounts, ending};
 ghost use Rattle.sd_replay.specs.Ends.{end_of};
-ghost use Rattle.sd_replay.specs.Seen.{seen_of};
-ghost use Rattle.sd_replay.specs.Settings.{settings_of};
 ghost use Rattle.sd_top.specs.Answers.{answer_of};
-ghost use Rattle.sd_top.specs.Causes.{NotOpened, NotStarted, NotTaken};
+ghost use Rattle.sd_top.specs.Causes.{IsNotStarted};
 ghost use Rattle.sd_top.specs.World.{world_of};
 
+use crate::opening::open;
+use crate::settings::read_settings;
 use crate::status::{Part, Status};
 use crate::words::form_of;
-use sd_config::{Names, Reckoning};
-use sd_epoch::Limits;
-use sd_outside::{Address, Backend, Backs, Failed, Name, OpenRefusal, Opens, Sink, Source};
-use sd_replay::{ReplayEnd, ReplayRoom, Settings, replay};
-use sd_shard::Policy;
+use sd_config::Settings;
+use sd_outside::{Address, Backend, Backs, Name, Sink, Source};
+use sd_replay::{ReplayEnd, ReplayRoom, names_backend, replay};
 use std::alloc::Global;
 
 /// The objects that the program uses. None is opened yet.
@@ -29,64 +26,11 @@ pub struct World<R, O, B> {
     pub backs: Backs<B>,
 }
 
-/// What is in force without a settings file.
-fn defaults() -> Settings
-    ensures settings { settings_of result ≡ default_settings }
-    ensures limits { AreLimits (limits_of result.limits) }
+/// Whether settings name a backend that isn't built.
+fn names_unbuilt(settings: &Settings) -> bool
+    ensures { result ≡ is_unbuilt_named settings.now }
 {
-    Settings {
-        limits: Limits {
-            rows: 4096,
-            entries: 65536,
-        },
-        policy: Policy {
-            counters: false,
-            timers: false,
-            gauges: false,
-            sets: false,
-            max_ttl: 1,
-        },
-        plan: Reckoning::plain(),
-        names: Names::plain(),
-        receivers: 2,
-    }
-}
-
-/// Opens an object.
-///
-/// # Errors
-///
-/// `OpenFault` where it failed, and `OutOfMemory`.
-fn open<T: Opens>(object: &mut T, at: &Address, part: Part) -> Result<(), Status>
-    ensures ok { OnOk result (T.seen object.new ≡ opened (place_of at.now) (T.seen object.old)) }
-    ensures refused { IfErr result (λ status. NotOpened part status (T.seen object.old) (T.seen object.new)) }
-{
-    match object.open_at(at) {
-        Ok(()) => Ok(()),
-        Err(OpenRefusal::Failed) => Err(Status::OpenFault { part }),
-        Err(OpenRefusal::OutOfMemory) => Err(Status::OutOfMemory),
-    }
-}
-
-/// Opens and reads the settings, which have no byte.
-///
-/// # Errors
-///
-/// `OpenFault` and `ReadFault` where they failed, `OutOfMemory`, and `Unbuilt` where they have a byte.
-fn read_settings<R: Source>(settings: &mut R, at: &Address) -> Result<(), Status>
-    ensures empty { OnOk result (IsAtEnd (R.seen settings.old).told) }
-    ensures opened { OnOk result (R.seen settings.new ≡ opened (place_of at.now) (R.seen settings.old)) }
-    ensures refused { IfErr result (λ status. NotTaken status (place_of at.now) (R.seen settings.old) (R.seen settings.new)) }
-{
-    open(settings, at, Part::Settings)?;
-    let mut first = [0];
-    match settings.read(&mut first) {
-        Ok(0) => Ok(()),
-        Ok(_) => Err(Status::Unbuilt { at: 0 }),
-        Err(Failed) => Err(Status::ReadFault {
-            part: Part::Settings,
-        }),
-    }
+    names_backend(settings, b"console") || names_backend(settings, b"repeater")
 }
 
 /// What the program answers where a replay ends so.
@@ -95,6 +39,7 @@ fn status_of(end: ReplayEnd) -> Status
 {
     match end {
         ReplayEnd::Ok(_) => Status::Ok,
+        ReplayEnd::Script(fault) => Status::Script(fault),
         ReplayEnd::Unbuilt { at } => Status::Unbuilt { at },
         ReplayEnd::ReadFault => Status::ReadFault { part: Part::Script },
         ReplayEnd::WriteFault => Status::WriteFault,
@@ -102,45 +47,51 @@ fn status_of(end: ReplayEnd) -> Status
     }
 }
 
-/// Opens what a replay needs, and carries out the script.
+/// Opens what a replay by these settings uses, and carries out the script.
 ///
 /// # Errors
 ///
 /// `OpenFault` where an object failed, and `OutOfMemory`.
 fn carry_out<R: Source, O: Sink, B: Backend>(
     alloc: Global,
-    name: Name,
-    script: &mut R,
-    output: &mut O,
-    backs: &mut Backs<B>,
+    settings: &Settings,
+    script: Name,
+    world: &mut World<R, O, B>,
 ) -> Result<ReplayEnd, Status>
-    ensures end { IfOk result (λ end. Replayed default_settings (end_of end)
-        (started name.items (seen_of R.seen O.seen B.seen script.old output.old backs.old))
-        (seen_of R.seen O.seen B.seen script.new output.new backs.new)) }
-    ensures refused { IfErr result (λ status. NotStarted status name.items
-        (seen_of R.seen O.seen B.seen script.old output.old backs.old)
-        (seen_of R.seen O.seen B.seen script.new output.new backs.new)) }
-    ensures console { backs.new.console ≡ backs.old.console }
-    ensures graphite_flag { backs.new.graphite_used ≡ backs.old.graphite_used }
-    ensures console_flag { backs.new.console_used ≡ backs.old.console_used }
+    requires built { is_unbuilt_named settings.now ≡ false }
+    requires flags { (world_of R.seen O.seen B.seen world.old).flags ≡ flags_of (goes_by settings.now) }
+    ensures end { IfOk result (λ end. Replayed (goes_by settings.now) (end_of end)
+        (started (goes_by settings.now) script.items (world_of R.seen O.seen B.seen world.old).seen)
+        (world_of R.seen O.seen B.seen world.new).seen) }
+    ensures refused { IfErr result (λ status. IsNotStarted (goes_by settings.now) script.items (answer_of status)
+        (world_of R.seen O.seen B.seen world.old).seen
+        (world_of R.seen O.seen B.seen world.new).seen) }
+    ensures settings { world.new.settings ≡ world.old.settings }
+    ensures flags { (world_of R.seen O.seen B.seen world.new).flags ≡ (world_of R.seen O.seen B.seen world.old).flags }
+    ensures console { world.new.backs.console ≡ world.old.backs.console }
 {
-    let Ok(room) = ReplayRoom::open(alloc, defaults()) else {
+    let Ok(room) = ReplayRoom::open(alloc, settings) else {
         return Err(Status::OutOfMemory);
     };
-    open(script, &Address::File(name), Part::Script)?;
-    open(
-        &mut backs.graphite,
-        &Address::File(Name::new()),
-        Part::Graphite,
-    )?;
-    Ok(replay(room, script, output, backs))
+    open(&mut world.script, &Address::File(script), Part::Script)?;
+    if world.backs.graphite_used {
+        let standard = Address::File(Name::new());
+        open(&mut world.backs.graphite, &standard, Part::Graphite)?;
+    }
+    Ok(replay(
+        settings,
+        room,
+        &mut world.script,
+        &mut world.output,
+        &mut world.backs,
+    ))
 }
 
 /// Carries out what the words ask for.
 ///
-/// `replay SETTINGS SCRIPT` reads the settings, which must be empty, and carries out the script: its packets
-/// are filed, and each flush gives Graphite the record's text. The output gets the totals at the script's end.
-/// Once the settings are found empty, the flags of `backs` say that Graphite is used and the console isn't.
+/// `replay SETTINGS SCRIPT` reads the settings file and carries out the script: its packets are filed, and each flush
+/// gives Graphite, where the settings name it, the record's text. The output gets the totals at the script's end.
+/// Once the settings are accepted, the flags of `backs` say which backends they name.
 pub fn statsd<R: Source, O: Sink, B: Backend>(
     alloc: Global,
     words: &[String],
@@ -155,18 +106,17 @@ pub fn statsd<R: Source, O: Sink, B: Backend>(
     let Some(files) = form_of(words) else {
         return Status::Usage;
     };
-    if let Err(status) = read_settings(&mut world.settings, &Address::File(files.settings)) {
-        return status;
+    let at = Address::File(files.settings);
+    let settings = match read_settings(alloc, &mut world.settings, &at) {
+        Ok(settings) => settings,
+        Err(status) => return status,
+    };
+    if names_unbuilt(&settings) {
+        return Status::Unbuilt { at: 0 };
     }
-    world.backs.graphite_used = true;
-    world.backs.console_used = false;
-    match carry_out(
-        alloc,
-        files.script,
-        &mut world.script,
-        &mut world.output,
-        &mut world.backs,
-    ) {
+    world.backs.graphite_used = names_backend(&settings, b"graphite");
+    world.backs.console_used = names_backend(&settings, b"console");
+    match carry_out(alloc, &settings, files.script, world) {
         Ok(end) => status_of(end),
         Err(status) => status,
     }

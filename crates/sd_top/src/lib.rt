@@ -2,6 +2,8 @@
 #![tactic(auto)]
 
 mod call;
+mod opening;
+mod settings;
 mod status;
 mod words;
 

@@ -1,11 +1,17 @@
-ghost use Rattle.std.specs.Prelude.{◌≡◌, ◌+◌, ◌≤◌, ◌++◌, length};
-ghost use Rattle.sd_top.specs.Status.{explanation, reason, part_name, exit_code};
+ghost use Rattle.std.specs.Prelude.{◌≡◌, ◌+◌, ◌≤◌, ◌++◌, length, decimal};
+ghost use Rattle.sd_top.specs.Status.{config_reason, explanation, reason, part_name, exit_code, script_reason};
 
+use sd_config::ConfigFault;
 use sd_decimal::{Line, write_whole};
+use sd_outside::Name;
+use sd_replay::ScriptFault;
 
 /// How the program is called.
 const USAGE: &[u8] =
     b"statsd: usage: replay SETTINGS SCRIPT, serve SETTINGS, proxy SETTINGS, drill N";
+
+/// What is said where no memory was left.
+const NO_MEMORY: &[u8] = b"statsd: out of memory";
 
 /// An object that is opened.
 #[derive(Clone, Copy, Debug, PartialEq, Eq)]
@@ -16,13 +22,17 @@ pub enum Part {
 }
 
 /// How a run ended.
-#[derive(Clone, Copy, Debug, PartialEq, Eq)]
+#[derive(Debug, PartialEq, Eq, Drop)]
 pub enum Status {
     Ok,
     /// No memory was left, before the first record.
     OutOfMemory,
     /// The words are of no form.
     Usage,
+    /// The settings file isn't accepted.
+    Config(ConfigFault),
+    /// The script isn't legal.
+    Script(ScriptFault),
     /// A read failed.
     ReadFault { part: Part },
     /// A write of the output failed.
@@ -31,7 +41,7 @@ pub enum Status {
     OpenFault { part: Part },
     /// A loop has made as many turns as it may, 2^62.
     Worn { turns: u64 },
-    /// What stands at this place of the script, or the settings at 0, isn't built.
+    /// The script's record at this place isn't built, or, at 0, a backend that the settings name.
     Unbuilt { at: u64 },
 }
 
@@ -42,8 +52,10 @@ impl Status {
     {
         match self {
             Status::Ok => 0,
-            Status::OutOfMemory => 1,
+            Status::OutOfMemory | Status::Config(ConfigFault::OutOfMemory) => 1,
             Status::Usage => 2,
+            Status::Config(_) => 3,
+            Status::Script(_) => 4,
             Status::ReadFault { .. } => 5,
             Status::WriteFault => 6,
             Status::OpenFault { .. } => 7,
@@ -73,6 +85,58 @@ fn push_part(part: Part, out: &mut Line)
     }
 }
 
+/// Appends a text and a name.
+fn push_named(text: &[u8], name: &Name, out: &mut Line)
+    requires { length out.old.items + length text.now + 255 ≤ 1024 }
+    ensures text { out.new.items ≡ out.old.items ++ text.now ++ name.now.items }
+    ensures len { length out.new.items ≤ length out.old.items + length text.now + 255 }
+{
+    push_text(text, out);
+    push_text(name.as_slice(), out);
+}
+
+/// Appends a text and a whole number.
+fn push_counted(text: &[u8], n: u64, out: &mut Line)
+    requires { length out.old.items + length text.now + 39 ≤ 1024 }
+    ensures text { out.new.items ≡ out.old.items ++ text.now ++ decimal n }
+    ensures len { length out.new.items ≤ length out.old.items + length text.now + 39 }
+{
+    push_text(text, out);
+    write_whole(u128::from(n), out);
+}
+
+/// Appends why a settings file isn't accepted.
+fn push_config(fault: &ConfigFault, out: &mut Line)
+    requires { length out.old.items + 511 ≤ 1024 }
+    ensures text { out.new.items ≡ out.old.items ++ config_reason fault.now }
+    ensures len { length out.new.items ≤ length out.old.items + 511 }
+{
+    match fault {
+        ConfigFault::OutOfMemory => push_text(NO_MEMORY, out),
+        ConfigFault::NotToml => push_text(b"statsd: settings are not TOML", out),
+        ConfigFault::Unknown { name } => push_named(b"statsd: unknown setting ", name, out),
+        ConfigFault::WrongKind { name } => {
+            push_named(b"statsd: wrong kind for setting ", name, out)
+        }
+        ConfigFault::OutOfRange { name } => {
+            push_named(b"statsd: setting out of range ", name, out)
+        }
+    }
+}
+
+/// Appends why a script isn't legal.
+fn push_script(fault: ScriptFault, out: &mut Line)
+    requires { length out.old.items + 511 ≤ 1024 }
+    ensures text { out.new.items ≡ out.old.items ++ script_reason fault }
+    ensures len { length out.new.items ≤ length out.old.items + 511 }
+{
+    match fault {
+        ScriptFault::Word { at } => push_counted(b"statsd: script word at ", at, out),
+        ScriptFault::Length { at } => push_counted(b"statsd: script length at ", at, out),
+        ScriptFault::Truncated { at } => push_counted(b"statsd: script truncated at ", at, out),
+    }
+}
+
 /// Appends why a run ended.
 fn push_reason(status: &Status, out: &mut Line)
     requires { length out.old.items + 511 ≤ 1024 }
@@ -81,8 +145,10 @@ fn push_reason(status: &Status, out: &mut Line)
 {
     match status {
         Status::Ok => {}
-        Status::OutOfMemory => push_text(b"statsd: out of memory", out),
+        Status::OutOfMemory => push_text(NO_MEMORY, out),
         Status::Usage => push_text(USAGE, out),
+        Status::Config(fault) => push_config(fault, out),
+        Status::Script(fault) => push_script(*fault, out),
         Status::ReadFault { part } => {
             push_text(b"statsd: read fault ", out);
             push_part(*part, out);
@@ -93,14 +159,10 @@ fn push_reason(status: &Status, out: &mut Line)
             push_part(*part, out);
         }
         Status::Worn { turns } => {
-            push_text(b"statsd: worn after ", out);
-            write_whole(u128::from(*turns), out);
+            push_counted(b"statsd: worn after ", *turns, out);
             push_text(b" turns", out);
         }
-        Status::Unbuilt { at } => {
-            push_text(b"statsd: not built at ", out);
-            write_whole(u128::from(*at), out);
-        }
+        Status::Unbuilt { at } => push_counted(b"statsd: not built at ", *at, out),
     }
 }
 

@@ -1,35 +1,41 @@
 -- By what the replay of such a call can end in.
 use Rattle.std.proofs.Common.{ap, subst, inl, inr}
+use Rattle.sd_model_replay.specs.Settings.{goes_by}
+use Rattle.sd_model_replay.specs.Next.{Faulty, Unbuilt}
 use Rattle.sd_model_call.specs.Call.{Accounts, Answer, Done, ending}
 use Rattle.sd_model_call.proofs.ReplayEnds.{replay_completes, replay_stops, replay_wears_out, carries_out_well}
 use Rattle.sd_model_call.proofs.CallEnds.{unhindered_started, cut_started, longest_started, none_missed_started, full_answer, graphite_opens, done_carries_out}
 use Rattle.sd_model_call.proofs.completeness.unhindered_calls_complete.Goals as goal
 
 pub returns-clause-answer : goal.returns-clause-answer
-returns-clause-answer c words old new commands rest answer plainly free h =
-    full_answer words old new plainly Done (λ end r. ap ending (replay_completes _ _ _ _ _ end (unhindered_started plainly.asks.script old.seen new.seen commands rest free) r).1) free.steady.script_faults answer h
+returns-clause-answer c words values old new commands rest answer plainly free h =
+    full_answer words values old new plainly Done (λ end r. ap ending (replay_completes _ _ _ _ _ end (unhindered_started (goes_by values) plainly.asks.script old.seen new.seen commands rest free) r).1) free.steady.script_faults answer h
 
 pub returns-clause-graphite : goal.returns-clause-graphite
-returns-clause-graphite c words old new ended answer none h full = elim full [
+returns-clause-graphite c words values old new ended answer plainly none h full = elim full [
   | inl whole ↦ whole
-  | inr closed ↦ absurd (graphite_opens words old new none (subst (λ (a : Answer). Accounts words old new a) closed h))
+  | inr closed ↦ absurd (graphite_opens words values old new plainly none (subst (λ (a : Answer). Accounts words old new a) closed h))
 ]
 
 pub returns-clause-whole : goal.returns-clause-whole
-returns-clause-whole c words old new commands rest answer plainly free none h =
-    returns-clause-graphite c words old new Done answer none h (returns-clause-answer c words old new commands rest answer plainly free h)
+returns-clause-whole c words values old new commands rest answer plainly free none h =
+    returns-clause-graphite c words values old new Done answer plainly none h (returns-clause-answer c words values old new commands rest answer plainly free h)
 
 pub returns-clause-done : goal.returns-clause-done
-returns-clause-done c words old new commands rest plainly free h = done_carries_out words old new commands rest plainly free h
+returns-clause-done c words values old new commands rest plainly free h = done_carries_out words values old new plainly commands rest free h
 
 pub returns-clause-well : goal.returns-clause-well
-returns-clause-well c words old new commands rest plainly free none h =
-    carries_out_well _ _ _ commands rest (none_missed_started plainly.asks.script old.seen new.seen none) (done_carries_out words old new commands rest plainly free h)
+returns-clause-well c words values old new commands rest plainly free none h =
+    carries_out_well _ _ _ commands rest (none_missed_started (goes_by values) plainly.asks.script old.seen new.seen none) (done_carries_out words values old new plainly commands rest free h)
 
 pub returns-clause-cut_off : goal.returns-clause-cut_off
-returns-clause-cut_off c words old new commands bytes answer plainly cut h =
-    full_answer words old new plainly _ (λ end r. ap ending (replay_stops _ _ _ _ _ end (cut_started plainly.asks.script old.seen new.seen commands bytes cut) r)) cut.steady.script_faults answer h
+returns-clause-cut_off c words values old new commands flaw bytes answer plainly cut h =
+    full_answer words values old new plainly _ (λ end r. ap ending (replay_stops _ _ _ _ (Faulty flaw) _ end tt (cut_started (goes_by values) plainly.asks.script old.seen new.seen commands (Faulty flaw) bytes cut) r)) cut.steady.script_faults answer h
+
+pub returns-clause-unbuilt : goal.returns-clause-unbuilt
+returns-clause-unbuilt c words values old new commands bytes answer plainly cut h =
+    full_answer words values old new plainly _ (λ end r. ap ending (replay_stops _ _ _ _ Unbuilt _ end tt (cut_started (goes_by values) plainly.asks.script old.seen new.seen commands Unbuilt bytes cut) r)) cut.steady.script_faults answer h
 
 pub returns-clause-longest : goal.returns-clause-longest
-returns-clause-longest c words old new commands bytes answer plainly longest h =
-    full_answer words old new plainly _ (λ end r. ap ending (replay_wears_out _ _ _ _ _ end (longest_started plainly.asks.script old.seen new.seen commands bytes longest) r)) longest.steady.script_faults answer h
+returns-clause-longest c words values old new commands bytes answer plainly longest h =
+    full_answer words values old new plainly _ (λ end r. ap ending (replay_wears_out _ _ _ _ _ end (longest_started (goes_by values) plainly.asks.script old.seen new.seen commands bytes longest) r)) longest.steady.script_faults answer h

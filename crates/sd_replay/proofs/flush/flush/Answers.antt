@@ -28,4 +28,4 @@ returns-clause-delivery g c =
     let table = ap (table_in (table_of state)) (c.swap-table.ensures.table 0) in
     let same : record_view c.over-record.result ≡ record_of plan (table_of state ∷ []) c.args.desk.now.tally c.args.ts =
     c.over-record.ensures.record ∙ ap (λ ts. record_of plan (map epoch.table_of ts) (tally_of c.take-tally.result) c.args.ts) c.from_ref.ensures.value ∙ ap (λ t. record_of plan (t ∷ []) (tally_of c.take-tally.result) c.args.ts) table ∙ ap (λ t. record_of plan (table_of state ∷ []) t c.args.ts) c.take-tally.ensures.tally in
-    subst (λ r. AfterMark (mark_of c.deliver-graphite.result) (graphite_text c.args.names.now r) (g.B.Faulty.seen c.args.back.now) (g.B.Faulty.seen c.deliver-graphite.new.back)) same c.deliver-graphite.ensures.delivery
+    subst (λ r. AfterMark (mark_of c.deliver-marks.result.graphite) (graphite_text c.args.names.now r) (g.B.Faulty.seen c.args.backs.now.graphite) (g.B.Faulty.seen c.deliver-marks.new.backs.graphite)) same c.deliver-marks.ensures.graphite

@@ -12,9 +12,7 @@ returns-in-OpenFault-clause-text c =
 pub returns-in-Worn-clause-text : goal.returns-in-Worn-clause-text
 returns-in-Worn-clause-text c =
     let out = c.args.out.now.items in
-    let front = codes "statsd: worn after " in
-    let end = codes " turns" in
-    c.push_text-in-Worn-2.ensures ∙ ap (λ (text : List ℕ). text ++ end) (c.write_whole.ensures.text ∙ ap (λ (text : List ℕ). text ++ decimal c.from.result) c.push_text-in-Worn.ensures)
-    ∙ ap (λ n. ((out ++ front) ++ decimal n) ++ end) c.from.ensures
-    ∙ ap (λ (text : List ℕ). text ++ end) (append_assoc out front (decimal c.in-Worn.turns)) ∙ append_assoc out (front ++ decimal c.in-Worn.turns) end
-    ∙ ap (λ s. out ++ reason s) (sym c.in-Worn.is)
+    let text = codes "statsd: worn after " in
+    let number = decimal c.in-Worn.turns in
+    c.push_text-in-Worn.ensures ∙ ap (λ (bytes : List ℕ). bytes ++ codes " turns") (c.push_counted.ensures.text ∙ append_assoc out text number)
+    ∙ append_assoc out (text ++ number) (codes " turns") ∙ ap (λ s. out ++ reason s) (sym c.in-Worn.is)

@@ -1,0 +1,124 @@
+-- The objects of a call, and how they are opened and read before a replay begins.
+use Rattle.std.specs.Prelude.{◌≡◌, ◌⊎◌, ℕ, ◌+◌, ◌<◌, Bool, false, List, [], ◌∷◌, ◌++◌, length, if◌then◌else◌, Ok, Err}
+use Rattle.std.specs.List.{AllByRecursion}
+use Rattle.sd_model_outside.specs.Outside.{Place, File, Object, HasFailed, HasRead, FailedBehind, IsAtEnd, opened}
+use Rattle.sd_model_settings.specs.Settings as file
+use Rattle.sd_model_settings.specs.Settings.{SettingsFlaw, settings}
+use Rattle.sd_model_replay.specs.Settings.{Settings}
+use Rattle.sd_model_replay.specs.Backends.{Backend, is_used}
+use Rattle.sd_model_replay.specs.AccountingTheorem.{Seen, seen_at}
+
+-- an object that is opened
+pub data Part : Type 0 where
+  OfSettings : Part
+  OfScript : Part
+  OfGraphite : Part
+
+-- Which backends are flagged as used.
+pub record Flags : Type 0 where
+  pub graphite : Bool
+  pub console : Bool
+
+-- the flags that settings ask for
+abbrev pub flags_of : Settings → Flags
+flags_of s = record { graphite = s.uses_graphite; console = s.uses_console }
+
+-- What is seen of a call's objects: the settings and what a replay uses, and which backends are flagged as used.
+pub record World : Type 0 where
+  pub settings : Object
+  pub seen : Seen
+  pub flags : Flags
+
+-- how many bytes a settings file has at most
+abbrev pub longest_file : ℕ
+longest_file = 65536
+
+-- Bytes were read of a settings file, once it was opened, and they decide what it says: it is at its end, or the bytes are
+-- more than it may have.
+pub record AreRead (place : Place) (bytes : List ℕ) (old new : Object) : Type 0 where
+  pub read : HasRead bytes (opened place old) new
+  pub decided : IsAtEnd new.told ⊎ (longest_file < length bytes)
+
+-- a settings file has this flaw
+pub record IsFlawed (flaw : SettingsFlaw) (place : Place) (old new : Object) : Type 0 where
+  pub bytes : List ℕ
+  pub read : AreRead place bytes old new
+  pub refused : settings bytes ≡ Err flaw
+
+-- a settings file is accepted with these values
+pub record IsAccepted (values : file.Settings) (place : Place) (old new : Object) : Type 0 where
+  pub bytes : List ℕ
+  pub read : AreRead place bytes old new
+  pub accepted : settings bytes ≡ Ok values
+
+-- a read of a settings file failed behind bytes that don't decide yet what it says
+abbrev pub FailsBehind : Place → Object → Object → Type 0
+FailsBehind place old new = FailedBehind (longest_file + 1) (opened place old) new
+
+-- a settings file wasn't opened, or it was, and some of its bytes were read
+abbrev pub IsLeftOff : Place → Object → Object → Type 0
+IsLeftOff place old new = (new ≡ old) ⊎ ((bytes : List ℕ) × HasRead bytes (opened place old) new)
+
+-- no part but the settings was opened, and the flags stayed
+pub record OnlySettings (old new : World) : Type 0 where
+  pub seen : new.seen ≡ old.seen
+  pub flags : new.flags ≡ old.flags
+
+-- what is seen of a part
+abbrev pub part_in : World → Part → Object
+part_in world OfSettings = world.settings
+part_in world OfScript = world.seen.script
+part_in world OfGraphite = world.seen.graphite
+
+-- a part that is opened, and where
+pub record Opening : Type 0 where
+  pub part : Part
+  pub place : Place
+
+-- What a replay opens once the settings are read, in this order: the script, and Graphite, where it is used, at the
+-- empty name.
+abbrev pub openings : Settings → List ℕ → List Opening
+openings s script =
+    record { part = OfScript; place = File script } ∷ (if s.uses_graphite then record { part = OfGraphite; place = File [] } ∷ [] else [])
+
+-- a part was opened at its place, and nothing else of it changed
+abbrev pub IsOpened : World → World → Opening → Type 0
+IsOpened old new o = part_in new o.part ≡ opened o.place (part_in old o.part)
+
+-- a part is as it was
+abbrev pub IsUntouched : World → World → Opening → Type 0
+IsUntouched old new o = part_in new o.part ≡ part_in old o.part
+
+-- a backend that the settings don't name is as it was
+abbrev pub UnusedStay : Settings → World → World → Type 0
+UnusedStay s old new = (back : Backend) → is_used s back ≡ false → seen_at back new.seen ≡ seen_at back old.seen
+
+-- Some parts were opened, in their order, and those behind them are untouched.
+pub record OpensSome (parts : List Opening) (old new : World) : Type 0 where
+  pub before : List Opening
+  pub behind : List Opening
+  pub order : parts ≡ before ++ behind
+  pub opened : AllByRecursion (IsOpened old new) before
+  pub untouched : AllByRecursion (IsUntouched old new) behind
+
+-- The opening of a part failed: those before it were opened, in their order, and those behind it are untouched.
+pub record FailsToOpen (part : Part) (parts : List Opening) (old new : World) : Type 0 where
+  pub before : List Opening
+  pub place : Place
+  pub behind : List Opening
+  pub order : parts ≡ before ++ record { part = part; place = place } ∷ behind
+  pub opened : AllByRecursion (IsOpened old new) before
+  pub failed : HasFailed (part_in old part) (part_in new part)
+  pub untouched : AllByRecursion (IsUntouched old new) behind
+
+-- a backend that is opened at the empty name where it is used
+abbrev pub opened_where : Bool → Object → Object
+opened_where used o = if used then opened (File []) o else o
+
+-- what is seen where a replay begins: a script of this name was opened, and each backend that is used at the empty name
+abbrev pub started : Settings → List ℕ → Seen → Seen
+started s name seen =
+    record seen {
+      script = opened (File name) seen.script;
+      graphite = opened_where s.uses_graphite seen.graphite;
+    }

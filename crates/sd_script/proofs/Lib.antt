@@ -1,0 +1,5 @@
+pub mod Cuts
+pub mod HeadLemmas
+pub mod AheadLemmas
+pub mod FrontLemmas
+pub mod ReaderLemmas

@@ -1,0 +1,24 @@
+-- What is wrong with a record in the code, as the definitions have it.
+use Rattle.std.specs.Prelude.{◌⊎◌, ℕ, List}
+use Rattle.sd_model_outside.specs.Outside.{Told, IsAtEnd}
+use Rattle.sd_model_replay.specs.Heads.{Body}
+use Rattle.sd_model_replay.specs.Next.{ScriptFlaw, BadWord, BadLength, CutShort, IsPartOfLine, HasNoLine, IsOver, IsPart, IsWrong}
+use Rattle.sd_script.specs.declared.flaw.Flaw.{Flaw}
+use Rattle.sd_script.specs.declared.flaw.Flaw.TheVariants.{Word, Length, Truncated}
+
+abbrev pub flaw_of : Flaw → ScriptFlaw
+flaw_of Word = BadWord
+flaw_of Length = BadLength
+flaw_of Truncated = CutShort
+
+-- bytes with no newline among the first ones have this flaw, where nothing stands behind them
+abbrev pub HasLineFlaw : List ℕ → ScriptFlaw → Type 0
+HasLineFlaw bytes BadWord = HasNoLine bytes
+HasLineFlaw bytes BadLength = ⊥
+HasLineFlaw bytes CutShort = IsPartOfLine bytes
+
+-- a body has this flaw, by what stands behind the first line and what the source has left behind it
+abbrev pub HasBodyFlaw : Body → List ℕ → Told → ScriptFlaw → Type 0
+HasBodyFlaw body rest left BadWord = ⊥
+HasBodyFlaw body rest left BadLength = IsOver body rest ⊎ IsWrong body rest
+HasBodyFlaw body rest left CutShort = IsPart body rest × IsAtEnd left

@@ -1,0 +1,24 @@
+-- The reader of the code, as the definitions have it.
+use Rattle.std.specs.Prelude.{ℕ, ◌+◌, ◌<◌, List, [], Option, None, Some, length, take, drop}
+use Rattle.std.specs.Option.{ForSome}
+use Rattle.sd_script.specs.Ahead.{held_in}
+use Rattle.sd_script.specs.Reading.{Reading}
+use Rattle.sd_script.specs.declared.reader.Reader.TheInside.{Inside}
+
+-- the datagram that was read last, where there is one: it stands at the front of the bytes ahead
+abbrev pub datagram_of : Option ℕ → List ℕ → List ℕ
+datagram_of None held = []
+datagram_of (Some len) held = take len held
+
+-- what stands behind that datagram and its newline
+abbrev pub pending_of : Option ℕ → List ℕ → List ℕ
+pending_of None held = held
+pending_of (Some len) held = drop (len + 1) held
+
+-- what contracts see of the reader
+abbrev pub reading_of : Inside → Reading
+reading_of r = record { receivers = r.receivers; at = r.at; datagram = datagram_of r.packet (held_in r.ahead); pending = pending_of r.packet (held_in r.ahead) }
+
+-- the datagram and its newline are held
+abbrev pub IsReader : Inside → Type 0
+IsReader r = ForSome r.packet (λ len. len < length (held_in r.ahead))

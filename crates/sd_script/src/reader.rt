@@ -1,0 +1,140 @@
+ghost use Rattle.std.specs.Prelude.{◌≡◌, ◌+◌, ◌≤◌, drop, length, min};
+ghost use Rattle.sd_model_outside.specs.Outside.{last_count};
+ghost use Rattle.sd_script.specs.Ahead.{held_in};
+
+use crate::ahead::Ahead;
+use crate::flaw::Flaw;
+use crate::head::Head;
+use crate::record::next_record;
+use sd_outside::{Failed, Source};
+use std::alloc::{AllocError, Global};
+use std::marker::Model;
+
+/// What stands next in a script.
+#[derive(Clone, Copy, Debug, PartialEq, Eq)]
+pub enum Item {
+    /// A receiver got a datagram at a moment. `Reader::datagram` lends the datagram.
+    Packet { who: u16, moment: u64 },
+    /// A flush at a Unix second.
+    Flush { ts: u64 },
+    /// The word that ends the script.
+    End,
+    /// A record that has a flaw, with the first one that it has.
+    Fault(Flaw),
+    /// An admin command, which is legal and isn't carried out so far.
+    Unbuilt,
+}
+
+/// Reads the records of a script in room that was taken when it was opened.
+#[derive(Drop)]
+pub struct Reader {
+    receivers: u16,
+    ahead: Ahead,
+    at: u64,
+    packet: Option<usize>,
+}
+
+/// Lets bytes at the front go, and counts them, up to 2^64 - 1.
+fn pass(ahead: &mut Ahead, at: &mut u64, count: usize)
+    requires { count ≤ length (held_in ahead.old) }
+    ensures held { held_in ahead.new ≡ drop count (held_in ahead.old) }
+    ensures at { at.new ≡ min (at.old + count) last_count }
+{
+    ahead.take(count);
+    *at = at.saturating_add(count as u64);
+}
+
+impl Model for Reader {
+    ghost use Rattle.sd_script.specs.Reading.{Reading};
+
+    ghost Value = { Reading };
+
+    ghost use Rattle.sd_script.specs.Reader.{reading_of, IsReader};
+
+    ghost view = { reading_of };
+
+    ghost invariant = { IsReader };
+}
+
+impl Reader {
+    ghost use Rattle.std.specs.Prelude.{◌≡◌, ◌≤◌, [], IfOk, OnOk, OnErr};
+    ghost use Rattle.sd_model_outside.specs.Outside.{Rose, Used};
+    ghost use Rattle.sd_model_replay.specs.Next.{IsUndecided};
+    ghost use Rattle.sd_script.specs.Reads.{ReadsItem, Stays};
+
+    /// A reader that has read nothing yet, of the datagrams of so many receivers, which are counted from 0.
+    ///
+    /// # Errors
+    ///
+    /// Where no memory is left for the room.
+    pub fn open(alloc: Global, receivers: u16) -> Result<Reader, AllocError>
+        ensures { IfOk result (λ r. r ≡ record { receivers = receivers; at = 0; datagram = []; pending = [] }) }
+    {
+        Ok(Reader {
+            receivers,
+            ahead: Ahead::open(alloc)?,
+            at: 0,
+            packet: None,
+        })
+    }
+
+    /// How many bytes stood before what stands next, up to 2^64 - 1.
+    pub fn at(&self) -> u64
+        ensures { result ≡ (self.now).at }
+    {
+        self.at
+    }
+
+    /// The datagram, where the last answer of `next` was a packet, and else no byte.
+    pub fn datagram(&self) -> &[u8]
+        ensures { result.now ≡ (self.now).datagram }
+    {
+        match self.packet {
+            Some(len) => &self.ahead.bytes()[..len],
+            None => &[],
+        }
+    }
+
+    /// Reads what stands next. The source is asked only while the bytes at hand don't decide what it is: the
+    /// first line up to its newline, to 40 bytes or to the end, and for a record with a body then the body and the byte
+    /// behind it. After `Fault`, after `Unbuilt` and after an error it may be asked again.
+    ///
+    /// # Errors
+    ///
+    /// `Failed` where the source failed. Then nothing was read.
+    pub fn next<R: Source>(&mut self, script: &mut R) -> Result<Item, Failed>
+        ensures item { IfOk result
+            (λ item. ReadsItem item self.old (R.seen script.old).told self.new (R.seen script.new).told) }
+        ensures failed { OnErr result (Rose (R.seen script.old).faults (R.seen script.new).faults) }
+        ensures steady { OnOk result ((R.seen script.new).faults ≡ (R.seen script.old).faults) }
+        ensures stays { OnErr result (Stays self.old (R.seen script.old).told self.new (R.seen script.new).told) }
+        ensures asked { OnErr result (IsUndecided self.old.receivers self.new.pending) }
+        ensures used { Used (R.seen script.old) (R.seen script.new) }
+    {
+        if let Some(len) = self.packet {
+            self.ahead.take(len + 1);
+            self.packet = None;
+        }
+        let found = match next_record(&mut self.ahead, script, self.receivers)? {
+            Ok(found) => found,
+            Err(flaw) => return Ok(Item::Fault(flaw)),
+        };
+        match found.head {
+            Head::Packet { who, moment, len } => {
+                pass(&mut self.ahead, &mut self.at, found.line);
+                self.packet = Some(len);
+                self.at = self.at.saturating_add(len as u64 + 1);
+                Ok(Item::Packet { who, moment })
+            }
+            Head::Flush { ts } => {
+                pass(&mut self.ahead, &mut self.at, found.line);
+                Ok(Item::Flush { ts })
+            }
+            Head::End => {
+                pass(&mut self.ahead, &mut self.at, found.line);
+                Ok(Item::End)
+            }
+            Head::Admin { .. } => Ok(Item::Unbuilt),
+        }
+    }
+}
