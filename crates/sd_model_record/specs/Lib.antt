@@ -3,3 +3,4 @@ pub mod Record
 pub mod Desk
 pub mod Graphite
 pub mod Console
+pub mod Admin
