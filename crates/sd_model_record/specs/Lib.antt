@@ -4,3 +4,4 @@ pub mod Desk
 pub mod Graphite
 pub mod Console
 pub mod Admin
+pub mod Replies
