@@ -33,14 +33,22 @@ pub fn line_of(name: &[u8], value: &[u8]) -> ReplyLine
     line
 }
 
-/// The line of a whole number.
-fn number_line(name: &str, number: u32) -> ReplyLine
-    requires { length name.now ≤ 64 }
+/// The line of a name and a whole number.
+pub fn number_line(name: &[u8], number: u64) -> ReplyLine
+    requires { length name.now ≤ 255 }
     ensures { result.items ≡ line name.now (decimal number) }
 {
     let mut value = Line::new();
     write_whole(u128::from(number), &mut value);
-    line_of(name.as_bytes(), value.as_slice())
+    line_of(name, value.as_slice())
+}
+
+/// The line of a setting that is a whole number.
+fn setting_line(name: &str, number: u32) -> ReplyLine
+    requires { length name.now ≤ 64 }
+    ensures { result.items ≡ line name.now (decimal number) }
+{
+    number_line(name.as_bytes(), u64::from(number))
 }
 
 /// The line of a boolean.
@@ -68,9 +76,9 @@ fn server_line(settings: &Settings, place: usize) -> Option<ReplyLine>
     ensures { option_map (λ l. l.items) result ≡ slice_get (server_lines settings.now.server) place }
 {
     match place {
-        0 => Some(number_line("port", settings.port())),
-        1 => Some(number_line("mgmt_port", settings.mgmt_port())),
-        2 => Some(number_line("flushInterval", settings.flush_interval())),
+        0 => Some(setting_line("port", settings.port())),
+        1 => Some(setting_line("mgmt_port", settings.mgmt_port())),
+        2 => Some(setting_line("flushInterval", settings.flush_interval())),
         3 => Some(thresholds_line(settings.percent_threshold())),
         _ => None,
     }
@@ -121,7 +129,7 @@ fn address_line(settings: &Settings, place: usize) -> Option<ReplyLine>
         2 => Some(text_line("mgmt_address", settings.mgmt_address())),
         3 => Some(backends_line(settings.backends())),
         4 => Some(text_line("graphiteHost", settings.graphite_host())),
-        5 => Some(number_line("graphitePort", settings.graphite_port())),
+        5 => Some(setting_line("graphitePort", settings.graphite_port())),
         _ => None,
     }
 }
@@ -147,13 +155,13 @@ fn size_line(settings: &Settings, place: usize) -> Option<ReplyLine>
     ensures { option_map (λ l. l.items) result ≡ slice_get (size_lines settings.now.sizes) place }
 {
     match place {
-        0 => Some(number_line("checkInterval", settings.check_interval())),
-        1 => Some(number_line("cacheSize", settings.cache_size())),
-        2 => Some(number_line("shards", settings.shards())),
-        3 => Some(number_line("rows", settings.rows())),
-        4 => Some(number_line("entries", settings.entries())),
-        5 => Some(number_line("receivers", settings.receivers())),
-        6 => Some(number_line("runFlushes", settings.run_flushes())),
+        0 => Some(setting_line("checkInterval", settings.check_interval())),
+        1 => Some(setting_line("cacheSize", settings.cache_size())),
+        2 => Some(setting_line("shards", settings.shards())),
+        3 => Some(setting_line("rows", settings.rows())),
+        4 => Some(setting_line("entries", settings.entries())),
+        5 => Some(setting_line("receivers", settings.receivers())),
+        6 => Some(setting_line("runFlushes", settings.run_flushes())),
         _ => None,
     }
 }

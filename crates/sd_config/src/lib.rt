@@ -20,7 +20,7 @@ mod text;
 mod thresholds;
 mod values;
 
-pub use config_lines::line_of;
+pub use config_lines::{line_of, number_line};
 pub use config_value::{ReplyLine, push_text};
 pub use entries::{Classes, Node, Target};
 pub use fault::ConfigFault;
