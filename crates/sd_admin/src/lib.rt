@@ -2,6 +2,9 @@
 #![tactic(auto)]
 
 mod command;
+mod reply;
+mod reply_lines;
 mod words;
 
 pub use command::{AdminFault, Command, HealthWord};
+pub use reply::{Reply, write_reply};

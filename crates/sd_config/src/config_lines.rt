@@ -293,7 +293,8 @@ impl Settings {
 
     /// How many lines the reply to `config` has.
     pub fn config_line_count(&self) -> usize
-        ensures { result ≡ length (config_lines self.now) }
+        ensures len { result ≡ length (config_lines self.now) }
+        ensures short { result ≤ 125 }
     {
         let entries = self.histogram().len() + self.repeater().len() + self.nodes().len();
         FRONT_LINES + entries + SIZE_LINES
