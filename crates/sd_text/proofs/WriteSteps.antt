@@ -49,15 +49,15 @@ module _ (o : Object) (a b c d e text : List ℕ) (is : text ≡ a ++ b ++ c ++ 
       front_3 v front = from_three v (next_front o m₂ v (a ++ b) c (a ++ b ++ c) to_two refl front)
 
       module _ (m₃ : Object) (third : m₃ ≡ given c m₂) where
-        to_three : m₃ ≡ given (a ++ b ++ c) o
-        to_three = next_part o m₂ m₃ (a ++ b) c (a ++ b ++ c) to_two refl third
+        pub three_parts : m₃ ≡ given (a ++ b ++ c) o
+        three_parts = next_part o m₂ m₃ (a ++ b) c (a ++ b ++ c) to_two refl third
 
         pub front_4 : (v : Object) → HasFailedBehind d m₃ v → HasFailedBehind text o v
-        front_4 v front = from_four v (next_front o m₃ v (a ++ b ++ c) d (a ++ b ++ c ++ d) to_three refl front)
+        front_4 v front = from_four v (next_front o m₃ v (a ++ b ++ c) d (a ++ b ++ c ++ d) three_parts refl front)
 
         module _ (m₄ : Object) (fourth : m₄ ≡ given d m₃) where
           to_four : m₄ ≡ given (a ++ b ++ c ++ d) o
-          to_four = next_part o m₃ m₄ (a ++ b ++ c) d (a ++ b ++ c ++ d) to_three refl fourth
+          to_four = next_part o m₃ m₄ (a ++ b ++ c) d (a ++ b ++ c ++ d) three_parts refl fourth
 
           pub front_5 : (v : Object) → HasFailedBehind e m₄ v → HasFailedBehind text o v
           front_5 v front = next_front o m₄ v (a ++ b ++ c ++ d) e text to_four is front
