@@ -7,34 +7,35 @@ ghost use Rattle.sd_model_settings.specs.ConfigText.{line, flag_text, limit_text
 ghost use Rattle.sd_config.specs.Values.{micros, name_bytes};
 ghost use Rattle.sd_config.specs.Entries.{limits_of, classes_view, target_view, node_view};
 
-use crate::config_value::{ConfigLine, push_joined, push_text};
+use crate::config_value::{ReplyLine, push_joined, push_text};
 use crate::entries::{Classes, Node, Target};
+use crate::line_text::{LineText, write_lines};
 use crate::settings::Settings;
 use sd_decimal::{Limit, Line, Micro, write_whole};
-use sd_outside::{Failed, Name, Sink, write_all};
+use sd_outside::{Failed, Name, Sink};
 
 // how many lines stand before those of entries, and behind them
 const FRONT_LINES: usize = 22;
 
 const SIZE_LINES: usize = 7;
 
-/// A line of a name and a value.
-fn line_of(name: &str, value: &[u8]) -> ConfigLine
-    requires name { length name.now ≤ 64 }
-    requires value { length value.now ≤ 4000 }
+/// The line of a name and a value.
+pub fn line_of(name: &[u8], value: &[u8]) -> ReplyLine
+    requires name { length name.now ≤ 255 }
+    requires value { length value.now ≤ 3800 }
     ensures { result.items ≡ line name.now value.now }
 {
-    let mut line = ConfigLine::new();
-    push_text(name.as_bytes(), &mut line);
+    let mut line = ReplyLine::new();
+    push_text(name, &mut line);
     push_text(b": ", &mut line);
     push_text(value, &mut line);
     line.push(b'\n');
     line
 }
 
-/// The line of a whole number.
-fn number_line(name: &str, number: u32) -> ConfigLine
-    requires { length name.now ≤ 64 }
+/// The line of a name and a whole number.
+pub fn number_line(name: &[u8], number: u64) -> ReplyLine
+    requires { length name.now ≤ 255 }
     ensures { result.items ≡ line name.now (decimal number) }
 {
     let mut value = Line::new();
@@ -42,62 +43,70 @@ fn number_line(name: &str, number: u32) -> ConfigLine
     line_of(name, value.as_slice())
 }
 
+/// The line of a setting that is a whole number.
+fn setting_line(name: &str, number: u32) -> ReplyLine
+    requires { length name.now ≤ 64 }
+    ensures { result.items ≡ line name.now (decimal number) }
+{
+    number_line(name.as_bytes(), u64::from(number))
+}
+
 /// The line of a boolean.
-fn flag_line(name: &str, flag: bool) -> ConfigLine
+fn flag_line(name: &str, flag: bool) -> ReplyLine
     requires { length name.now ≤ 64 }
     ensures { result.items ≡ line name.now (flag_text flag) }
 {
     if flag {
-        line_of(name, b"true")
+        line_of(name.as_bytes(), b"true")
     } else {
-        line_of(name, b"false")
+        line_of(name.as_bytes(), b"false")
     }
 }
 
 /// The line of a text.
-fn text_line(name: &str, text: &Name) -> ConfigLine
+fn text_line(name: &str, text: &Name) -> ReplyLine
     requires { length name.now ≤ 64 }
     ensures { result.items ≡ line name.now text.now.items }
 {
-    line_of(name, text.as_slice())
+    line_of(name.as_bytes(), text.as_slice())
 }
 
 /// The line of ports, the interval and thresholds at a place.
-fn server_line(settings: &Settings, place: usize) -> Option<ConfigLine>
+fn server_line(settings: &Settings, place: usize) -> Option<ReplyLine>
     ensures { option_map (λ l. l.items) result ≡ slice_get (server_lines settings.now.server) place }
 {
     match place {
-        0 => Some(number_line("port", settings.port())),
-        1 => Some(number_line("mgmt_port", settings.mgmt_port())),
-        2 => Some(number_line("flushInterval", settings.flush_interval())),
+        0 => Some(setting_line("port", settings.port())),
+        1 => Some(setting_line("mgmt_port", settings.mgmt_port())),
+        2 => Some(setting_line("flushInterval", settings.flush_interval())),
         3 => Some(thresholds_line(settings.percent_threshold())),
         _ => None,
     }
 }
 
 /// The line of thresholds.
-fn thresholds_line(thresholds: &[Micro]) -> ConfigLine
+fn thresholds_line(thresholds: &[Micro]) -> ReplyLine
     requires { AreThresholds (micros thresholds.now) }
     ensures { result.items
         ≡ line (codes "percentThreshold") (joined (map number_text (micros thresholds.now))) }
 {
-    let mut value = ConfigLine::new();
+    let mut value = ReplyLine::new();
     push_joined(thresholds, &mut value);
-    line_of("percentThreshold", value.as_slice())
+    line_of(b"percentThreshold", value.as_slice())
 }
 
 /// The line of backends.
-fn backends_line(backends: &[Name]) -> ConfigLine
+fn backends_line(backends: &[Name]) -> ReplyLine
     requires { AreBackends (name_bytes backends.now) }
     ensures { result.items ≡ line (codes "backends") (joined (name_bytes backends.now)) }
 {
-    let mut value = ConfigLine::new();
+    let mut value = ReplyLine::new();
     push_joined(backends, &mut value);
-    line_of("backends", value.as_slice())
+    line_of(b"backends", value.as_slice())
 }
 
 /// The line of what is deleted when idle, at a place.
-fn deletion_line(settings: &Settings, place: usize) -> Option<ConfigLine>
+fn deletion_line(settings: &Settings, place: usize) -> Option<ReplyLine>
     ensures { option_map (λ l. l.items) result ≡ slice_get (deletion_lines settings.now.deletions) place }
 {
     match place {
@@ -111,7 +120,7 @@ fn deletion_line(settings: &Settings, place: usize) -> Option<ConfigLine>
 }
 
 /// The line of an address or where records go, at a place.
-fn address_line(settings: &Settings, place: usize) -> Option<ConfigLine>
+fn address_line(settings: &Settings, place: usize) -> Option<ReplyLine>
     ensures { option_map (λ l. l.items) result ≡ slice_get (address_lines settings.now.addresses) place }
 {
     match place {
@@ -120,13 +129,13 @@ fn address_line(settings: &Settings, place: usize) -> Option<ConfigLine>
         2 => Some(text_line("mgmt_address", settings.mgmt_address())),
         3 => Some(backends_line(settings.backends())),
         4 => Some(text_line("graphiteHost", settings.graphite_host())),
-        5 => Some(number_line("graphitePort", settings.graphite_port())),
+        5 => Some(setting_line("graphitePort", settings.graphite_port())),
         _ => None,
     }
 }
 
 /// The line of how Graphite's names are made, at a place.
-fn namespace_line(settings: &Settings, place: usize) -> Option<ConfigLine>
+fn namespace_line(settings: &Settings, place: usize) -> Option<ReplyLine>
     ensures { option_map (λ l. l.items) result ≡ slice_get (namespace_lines settings.now.namespace) place }
 {
     match place {
@@ -142,23 +151,23 @@ fn namespace_line(settings: &Settings, place: usize) -> Option<ConfigLine>
 }
 
 /// The line of a time or a number of things, at a place.
-fn size_line(settings: &Settings, place: usize) -> Option<ConfigLine>
+fn size_line(settings: &Settings, place: usize) -> Option<ReplyLine>
     ensures { option_map (λ l. l.items) result ≡ slice_get (size_lines settings.now.sizes) place }
 {
     match place {
-        0 => Some(number_line("checkInterval", settings.check_interval())),
-        1 => Some(number_line("cacheSize", settings.cache_size())),
-        2 => Some(number_line("shards", settings.shards())),
-        3 => Some(number_line("rows", settings.rows())),
-        4 => Some(number_line("entries", settings.entries())),
-        5 => Some(number_line("receivers", settings.receivers())),
-        6 => Some(number_line("runFlushes", settings.run_flushes())),
+        0 => Some(setting_line("checkInterval", settings.check_interval())),
+        1 => Some(setting_line("cacheSize", settings.cache_size())),
+        2 => Some(setting_line("shards", settings.shards())),
+        3 => Some(setting_line("rows", settings.rows())),
+        4 => Some(setting_line("entries", settings.entries())),
+        5 => Some(setting_line("receivers", settings.receivers())),
+        6 => Some(setting_line("runFlushes", settings.run_flushes())),
         _ => None,
     }
 }
 
 /// Appends limits joined by commas.
-fn push_limits(limits: &[Limit], value: &mut ConfigLine)
+fn push_limits(limits: &[Limit], value: &mut ReplyLine)
     requires range { AreLimits (limits_of limits.now) }
     requires room { array_vec_len value.old ≤ 512 }
     ensures text { value.new.items
@@ -169,19 +178,19 @@ fn push_limits(limits: &[Limit], value: &mut ConfigLine)
 }
 
 /// The line of an entry of `histogram`.
-fn histogram_line(classes: &Classes) -> ConfigLine
+fn histogram_line(classes: &Classes) -> ReplyLine
     requires { IsClasses (classes_view classes.now) }
     ensures { result.items ≡ histogram_line (classes_view classes.now) }
 {
-    let mut value = ConfigLine::new();
+    let mut value = ReplyLine::new();
     push_text(classes.metric.as_slice(), &mut value);
     value.push(b' ');
     push_limits(classes.limits.as_slice(), &mut value);
-    line_of("histogram", value.as_slice())
+    line_of(b"histogram", value.as_slice())
 }
 
 /// Appends a colon and a port.
-fn push_port(port: u16, value: &mut ConfigLine)
+fn push_port(port: u16, value: &mut ReplyLine)
     requires { array_vec_len value.old ≤ 512 }
     ensures text { value.new.items ≡ value.old.items ++ 58 ∷ decimal port }
     ensures short { array_vec_len value.new ≤ array_vec_len value.old + 40 }
@@ -193,28 +202,28 @@ fn push_port(port: u16, value: &mut ConfigLine)
 }
 
 /// The line of an entry of `repeater`.
-fn repeater_line(target: &Target) -> ConfigLine
+fn repeater_line(target: &Target) -> ReplyLine
     ensures { result.items ≡ repeater_line (target_view target.now) }
 {
-    let mut value = ConfigLine::new();
+    let mut value = ReplyLine::new();
     push_text(target.host.as_slice(), &mut value);
     push_port(target.port, &mut value);
-    line_of("repeater", value.as_slice())
+    line_of(b"repeater", value.as_slice())
 }
 
 /// The line of an entry of `nodes`.
-fn node_line(node: &Node) -> ConfigLine
+fn node_line(node: &Node) -> ReplyLine
     ensures { result.items ≡ node_line (node_view node.now) }
 {
-    let mut value = ConfigLine::new();
+    let mut value = ReplyLine::new();
     push_text(node.host.as_slice(), &mut value);
     push_port(node.port, &mut value);
     push_port(node.adminport, &mut value);
-    line_of("nodes", value.as_slice())
+    line_of(b"nodes", value.as_slice())
 }
 
 /// The line at a place before those of entries.
-fn front_line(settings: &Settings, place: usize) -> Option<ConfigLine>
+fn front_line(settings: &Settings, place: usize) -> Option<ReplyLine>
     ensures { option_map (λ l. l.items) result
         ≡ slice_get (front_lines settings.now) place }
 {
@@ -232,7 +241,7 @@ fn front_line(settings: &Settings, place: usize) -> Option<ConfigLine>
 }
 
 /// The line of the entry of `histogram` at a place.
-fn histogram_at(histogram: &[Classes], place: usize) -> Option<ConfigLine>
+fn histogram_at(histogram: &[Classes], place: usize) -> Option<ReplyLine>
     requires { AreHistograms (map classes_view histogram.now) }
     ensures { option_map (λ l. l.items) result
         ≡ slice_get (map histogram_line (map classes_view histogram.now)) place }
@@ -244,7 +253,7 @@ fn histogram_at(histogram: &[Classes], place: usize) -> Option<ConfigLine>
 }
 
 /// The line of the entry of `repeater` at a place.
-fn repeater_at(repeater: &[Target], place: usize) -> Option<ConfigLine>
+fn repeater_at(repeater: &[Target], place: usize) -> Option<ReplyLine>
     ensures { option_map (λ l. l.items) result
         ≡ slice_get (map repeater_line (map target_view repeater.now)) place }
 {
@@ -255,7 +264,7 @@ fn repeater_at(repeater: &[Target], place: usize) -> Option<ConfigLine>
 }
 
 /// The line of the entry of `nodes` at a place.
-fn node_at(nodes: &[Node], place: usize) -> Option<ConfigLine>
+fn node_at(nodes: &[Node], place: usize) -> Option<ReplyLine>
     ensures { option_map (λ l. l.items) result
         ≡ slice_get (map node_line (map node_view nodes.now)) place }
 {
@@ -279,24 +288,20 @@ impl Settings {
         ensures ok { OnOk result (K.seen sink.new ≡ given (config_text self.now) (K.seen sink.old)) }
         ensures failed { OnErr result (HasFailedBehind (config_text self.now) (K.seen sink.old) (K.seen sink.new)) }
     {
-        for place in 0..self.line_count() {
-            if let Some(line) = self.config_line(place) {
-                write_all(sink, line.as_slice())?;
-            }
-        }
-        Ok(())
+        write_lines(self, sink)
     }
 
     /// How many lines the reply to `config` has.
-    fn line_count(&self) -> usize
-        ensures { result ≡ length (config_lines self.now) }
+    pub fn config_line_count(&self) -> usize
+        ensures len { result ≡ length (config_lines self.now) }
+        ensures short { result ≤ 125 }
     {
         let entries = self.histogram().len() + self.repeater().len() + self.nodes().len();
         FRONT_LINES + entries + SIZE_LINES
     }
 
     /// The line of the reply to `config` at a place, counted from 0, or none behind the last.
-    pub fn config_line(&self, place: usize) -> Option<ConfigLine>
+    pub fn config_line(&self, place: usize) -> Option<ReplyLine>
         ensures { option_map (λ l. l.items) result ≡ slice_get (config_lines self.now) place }
     {
         if place < FRONT_LINES {
@@ -318,5 +323,17 @@ impl Settings {
             return node_at(nodes, place);
         }
         size_line(self, place - nodes.len())
+    }
+}
+
+impl LineText for Settings {
+    ghost lines = { config_lines };
+
+    fn line_count(&self) -> usize {
+        self.config_line_count()
+    }
+
+    fn line(&self, place: usize) -> Option<ReplyLine> {
+        self.config_line(place)
     }
 }

@@ -6,11 +6,11 @@ use arrayvec::ArrayVec;
 use sd_decimal::{Limit, Line, Micro, Sum, write};
 use sd_outside::Name;
 
-/// A line of the reply to `config`: at most 4,096 bytes.
-pub type ConfigLine = ArrayVec<u8, 4096>;
+/// A line of a reply to an admin: at most 4,096 bytes.
+pub type ReplyLine = ArrayVec<u8, 4096>;
 
 /// Appends bytes for which there is room.
-pub(crate) fn push_text(text: &[u8], line: &mut ConfigLine)
+pub fn push_text(text: &[u8], line: &mut ReplyLine)
     requires { array_vec_len line.old + length text.now ≤ 4096 }
     ensures { line.new.items ≡ line.old.items ++ text.now }
 {
@@ -22,7 +22,7 @@ pub(crate) trait Part {
     ghost text: { Self → List ℕ };
 
     /// Appends its text.
-    fn push(&self, line: &mut ConfigLine)
+    fn push(&self, line: &mut ReplyLine)
         requires { array_vec_len line.old + length (text self.now) ≤ 4096 }
         ensures { line.new.items ≡ line.old.items ++ text self.now };
 }
@@ -32,7 +32,7 @@ impl Part for Micro {
 
     ghost text = { λ m. number_text m.0 };
 
-    fn push(&self, line: &mut ConfigLine) {
+    fn push(&self, line: &mut ReplyLine) {
         let mut text = Line::new();
         write(Sum(i128::from(self.0)), &mut text);
         push_text(text.as_slice(), line);
@@ -45,7 +45,7 @@ impl Part for Limit {
 
     ghost text = { λ l. limit_text (limit_of l) };
 
-    fn push(&self, line: &mut ConfigLine) {
+    fn push(&self, line: &mut ReplyLine) {
         match self {
             Limit::Below(number) => number.push(line),
             Limit::Infinite => push_text(b"inf", line),
@@ -56,13 +56,13 @@ impl Part for Limit {
 impl Part for Name {
     ghost text = { λ n. n.items };
 
-    fn push(&self, line: &mut ConfigLine) {
+    fn push(&self, line: &mut ReplyLine) {
         push_text(self.as_slice(), line);
     }
 }
 
 /// Appends texts joined by commas.
-pub(crate) fn push_joined<T: Part>(parts: &[T], line: &mut ConfigLine)
+pub(crate) fn push_joined<T: Part>(parts: &[T], line: &mut ReplyLine)
     requires { array_vec_len line.old + length (joined (map T.text parts.now)) ≤ 4096 }
     ensures { line.new.items ≡ line.old.items ++ joined (map T.text parts.now) }
 {

@@ -1,17 +1,18 @@
 -- How the parts of Graphite's text stand together.
-use Rattle.std.proofs.Common.{◌≡◌, ℕ, ℤ, ◌+◌, ◌<◌, List, [], ◌∷◌, ◌++◌, length, map, flat_map, take, drop, true, false, cond, refl, sym, ap, ◌∙◌, append-nil, slice_get, Some, option_map, arith, codes}
-use Rattle.std.proofs.lemmas.List.{length-map, take_more, take-append-drop}
-use Rattle.std.proofs.lemmas.List.Concat.{flat_map-append}
-use Rattle.std.proofs.lemmas.Option.{slice_get-map, slice_get_within, get_or_from_slice_get}
+use Rattle.std.proofs.Common.{◌≡◌, ℕ, ℤ, ◌<◌, List, [], ◌∷◌, ◌++◌, length, map, true, false, cond, refl, sym, ap, ◌∙◌, append-nil, slice_get, Some, option_map, arith, codes}
+use Rattle.std.proofs.lemmas.List.{length-map}
+use Rattle.std.proofs.lemmas.Option.{slice_get-map}
 use Rattle.std.specs.List.{concat}
 use Rattle.std.specs.Fmt.{decimal}
 use Rattle.sd_model_text.specs.Numbers.{per_second}
 use Rattle.sd_model_settings.specs.Defaults.{Names}
 use Rattle.sd_model_record.specs.Record.{Row, CounterRow, TimerRow, GaugeRow, SetRow, TimerFigures, Tally, Record}
 use Rattle.sd_model_record.specs.Figures.{Figure, whole_number, figures_of}
-use Rattle.sd_model_record.specs.Graphite.{dotted, front, line, figure_line, row_lines, own_counter, rows_front, graphite_text}
+use Rattle.sd_model_record.specs.Graphite.{dotted, front, line, figure_line, row_lines, own_counter, rows_front, tail_lines, graphite_text}
 use Rattle.sd_graphite.specs.declared.path.Path.{Path}
-use Rattle.sd_graphite.specs.Texts.{path_text, rate_line, count_line, gauge_line, set_line, row_texts, row_text, rows_text, own_text, rows_line, tail_text}
+use Rattle.sd_graphite.specs.Texts.{path_text, rate_line, count_line, gauge_line, set_line, row_texts, row_text, own_text, rows_line, tail_text}
+use Rattle.sd_text.specs.Rows.{rows_text}
+use Rattle.sd_text.proofs.RowLemmas.{concat-map, flat_map-same}
 
 -- the text of a path by its parts
 pub path_text-parts : (names : Names) (p : Path) (legacy prefix key back : List ℕ) → p.legacy.now ≡ legacy → p.prefix.now ≡ prefix → p.key.now ≡ key → p.back.now ≡ back → path_text names p ≡ front names legacy prefix ++ key ++ back
@@ -21,11 +22,6 @@ path_text-parts names p legacy prefix key back before of_kind of_key behind =
     ∙ ap (λ xs. front names legacy xs ++ p.key.now ++ p.back.now) of_kind
     ∙ ap (λ (xs : List ℕ). front names legacy prefix ++ xs ++ p.back.now) of_key
     ∙ ap (λ (xs : List ℕ). front names legacy prefix ++ key ++ xs) behind
-
--- lists joined as they are made
-concat-map : {A : Type 0} (f : A → List ℕ) (xs : List A) → concat (map f xs) ≡ flat_map f xs
-concat-map f [] = refl
-concat-map f (x ∷ xs) = ap (λ (text : List ℕ). f x ++ text) (concat-map f xs)
 
 -- the lines of a row, joined
 pub row_texts-joined : (names : Names) (ts : ℕ) (row : Row) → concat (row_texts names ts row) ≡ row_text names ts row
@@ -87,20 +83,6 @@ module _ (names : Names) (ts : ℕ) (row : Row) (key : List ℕ) where
         let first : place ≡ 0 = omega (arith, set_count) in
         ap (λ texts. slice_get texts place) set_texts ∙ ap (slice_get (set_line names ts key count ∷ [])) first
 
--- the lines of a row more
-pub rows_text-more : (names : Names) (ts second : ℕ) (rows : List Row) (i : ℕ) (row : Row) → slice_get rows i ≡ Some row → second ≡ ts → rows_text names ts (take (i + 1) rows) ≡ rows_text names ts (take i rows) ++ row_text names second row
-unfolding rows_text row_text
-rows_text-more names ts second rows i row is same =
-    ap (flat_map (row_lines names ts)) (take_more rows i row (slice_get_within rows i row is) ∙ ap (λ e. take i rows ++ e ∷ []) (get_or_from_slice_get rows i row row is))
-    ∙ flat_map-append (row_lines names ts) (take i rows) (row ∷ []) ∙ ap (λ xs. flat_map (row_lines names ts) (take i rows) ++ xs) (append-nil (row_lines names ts row))
-    ∙ ap (λ s. flat_map (row_lines names ts) (take i rows) ++ row_lines names s row) (sym same)
-
--- the lines of the first rows, and those of the others
-pub rows_text-split : (names : Names) (ts : ℕ) (rows : List Row) (i : ℕ) → rows_text names ts rows ≡ rows_text names ts (take i rows) ++ rows_text names ts (drop i rows)
-unfolding rows_text
-rows_text-split names ts rows i =
-    ap (flat_map (row_lines names ts)) (sym (take-append-drop i rows)) ∙ flat_map-append (row_lines names ts) (take i rows) (drop i rows)
-
 -- the lines of one of the server's own counters are those of a row
 pub own_text-row : (names : Names) (r : Record) (name : List ℕ) (number ts : ℕ) (row : Row) → ts ≡ r.ts → row ≡ CounterRow (names.prefix_stats ++ 46 ∷ name) (whole_number number) (per_second (whole_number number) r.interval_ms) → row_text names ts row ≡ own_text names r name number
 unfolding own_text row_text
@@ -130,6 +112,10 @@ tail_text-parts names r t counted rows ts all second last is =
     ap (λ n. own r.tally ++ end n r.ts) (sym all) ∙ ap (λ s. own r.tally ++ end rows s) (sym second) ∙ ap (λ n. own n ++ end rows ts) (sym counted)
     ∙ ap (λ (xs : List ℕ). own t ++ xs) (sym is)
 
-pub graphite_text-parts : (names : Names) (r : Record) → graphite_text names r ≡ rows_text names r.ts r.rows ++ tail_text names r
-unfolding rows_text tail_text
-graphite_text-parts names r = refl
+-- the text of a record: the lines of its rows, and those at its end
+pub graphite_text-parts : (names : Names) (r : Record) (ts : ℕ) → ts ≡ r.ts → graphite_text names r ≡ rows_text (row_texts names ts) r.rows ++ tail_text names r
+unfolding row_text tail_text
+graphite_text-parts names r ts second =
+    ap (λ (text : List ℕ). text ++ tail_lines names r)
+    (flat_map-same (row_lines names r.ts) (λ row. concat (row_texts names ts row)) r.rows
+    (λ row. ap (λ s. row_lines names s row) (sym second) ∙ sym (row_texts-joined names ts row)))

@@ -1,5 +1,5 @@
 -- Graphite's text of a record, line by line.
-use Rattle.std.specs.Prelude.{ℕ, ℤ, List, [], ◌∷◌, ◌++◌, map, flat_map, codes, decimal}
+use Rattle.std.specs.Prelude.{ℕ, ℤ, List, [], ◌∷◌, ◌++◌, map, codes, decimal}
 use Rattle.sd_model_text.specs.Numbers.{number_text}
 use Rattle.sd_model_settings.specs.Defaults.{Names}
 use Rattle.sd_model_record.specs.Record.{Row, CounterRow, TimerRow, GaugeRow, SetRow, Record}
@@ -41,10 +41,6 @@ row_texts names ts (SetRow key count) = set_line names ts key count ∷ []
 -- the lines of a row
 unfoldable pub row_text : Names → ℕ → Row → List ℕ
 row_text names ts row = row_lines names ts row
-
--- the lines of a record's first rows
-unfoldable pub rows_text : Names → ℕ → List Row → List ℕ
-rows_text names ts rows = flat_map (row_lines names ts) rows
 
 -- the lines of one of the server's own counters, by its name and number
 unfoldable pub own_text : Names → Record → List ℕ → ℕ → List ℕ

@@ -6,6 +6,5 @@ mod path;
 mod record;
 mod row;
 mod tail;
-mod writing;
 
 pub use record::write_record;

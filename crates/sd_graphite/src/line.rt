@@ -6,16 +6,8 @@ ghost use Rattle.sd_graphite.specs.Texts.{path_text};
 
 use crate::path::Path;
 use sd_config::Names;
-use sd_decimal::{Line, Sum, write, write_whole};
-
-/// Appends bytes for which there is room.
-pub(crate) fn push_text(text: &[u8], line: &mut Line)
-    requires { array_vec_len line.old + length text.now ≤ 1024 }
-    ensures text { line.new.items ≡ line.old.items ++ text.now }
-    ensures len { array_vec_len line.new ≡ array_vec_len line.old + length text.now }
-{
-    line.try_extend_from_slice(text).unwrap();
-}
+use sd_decimal::{Line, Sum};
+use sd_text::{push_number, push_text, push_whole};
 
 /// Appends a part of a path and the point behind it, or nothing where it is empty.
 fn push_dotted(part: &[u8], line: &mut Line)
@@ -62,23 +54,12 @@ fn push_suffix(names: &Names, line: &mut Line)
     push_text(text, line);
 }
 
-/// Appends a space and a number.
-fn push_number(number: Sum, line: &mut Line)
-    requires { array_vec_len line.old ≤ 800 }
-    ensures text { line.new.items ≡ line.old.items ++ 32 ∷ number_text number.0 }
-    ensures len { array_vec_len line.new ≤ array_vec_len line.old + 42 }
-{
-    line.push(b' ');
-    write(number, line);
-}
-
 /// Appends a space, a Unix second, and the end of a line.
 fn push_second(ts: u64, line: &mut Line)
     requires { array_vec_len line.old ≤ 800 }
     ensures { line.new.items ≡ line.old.items ++ 32 ∷ decimal ts ++ 10 ∷ [] }
 {
-    line.push(b' ');
-    write_whole(u128::from(ts), line);
+    push_whole(ts, line);
     line.push(b'\n');
 }
 

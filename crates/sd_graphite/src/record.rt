@@ -2,13 +2,13 @@ ghost use Rattle.std.specs.Prelude.{◌≡◌, OnOk, OnErr};
 ghost use Rattle.sd_model_record.specs.Graphite.{graphite_text};
 ghost use Rattle.sd_model_outside.specs.Outside.{HasFailedBehind, given};
 ghost use Rattle.sd_record.specs.Record.{record_view, room_of, SameScratch};
-ghost use Rattle.sd_graphite.specs.Texts.{rows_text};
 
+use crate::row::GraphiteRows;
 use crate::tail::write_tail;
-use crate::writing::write_row;
 use sd_config::Names;
 use sd_outside::{Sink, WriteFault};
 use sd_record::Record;
+use sd_text::write_rows;
 
 /// Writes Graphite's text of a record under these names: the lines of each row, the server's own counters, and the
 /// number of rows. No memory is taken.
@@ -27,23 +27,10 @@ pub fn write_record<K: Sink>(
     ensures room { room_of rec.new ≡ room_of rec.old }
     ensures same_scratch { SameScratch rec.new rec.old }
 {
-    write_rows(rec, names, sink)?;
+    let form = GraphiteRows {
+        names,
+        ts: rec.ts(),
+    };
+    write_rows(&form, rec, sink)?;
     write_tail(rec, names, sink)
-}
-
-/// Writes the lines of the rows.
-fn write_rows<K: Sink>(rec: &mut Record<'_>, names: &Names, sink: &mut K) -> Result<(), WriteFault>
-    ensures ok { OnOk result (K.seen sink.new
-        ≡ given (rows_text names.now (record_view rec.old).ts (record_view rec.old).rows) (K.seen sink.old)) }
-    ensures failed { OnErr result (HasFailedBehind (rows_text names.now (record_view rec.old).ts (record_view rec.old).rows)
-        (K.seen sink.old) (K.seen sink.new)) }
-    ensures record { record_view rec.new ≡ record_view rec.old }
-    ensures room { room_of rec.new ≡ room_of rec.old }
-    ensures same_scratch { SameScratch rec.new rec.old }
-{
-    let ts = rec.ts();
-    for i in 0..rec.rows() {
-        write_row(&rec.row(i), names, ts, sink)?;
-    }
-    Ok(())
 }

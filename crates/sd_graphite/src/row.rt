@@ -1,46 +1,53 @@
-ghost use Rattle.std.specs.Prelude.{◌≡◌, ◌<◌, ◌≤◌, ◌∷◌, length, slice_get, Some, codes, ℕ};
-ghost use Rattle.sd_model_settings.specs.Defaults.{Names as ModelNames};
+ghost use Rattle.std.specs.Prelude.{◌≡◌, ◌≤◌, ◌∷◌, length, codes};
 ghost use Rattle.sd_model_record.specs.Graphite.{counter_back, figure_line};
-ghost use Rattle.sd_record.specs.Row.{row_view};
 ghost use Rattle.sd_record.specs.Figures.{figure_view};
-ghost use Rattle.sd_graphite.specs.Texts.{rate_line, count_line, gauge_line, set_line, row_texts};
+ghost use Rattle.sd_graphite.specs.Texts.{rate_line, count_line, gauge_line, set_line};
 
-use crate::line::{line_of, push_text};
+use crate::line::line_of;
 use crate::path::Path;
 use sd_config::Names;
 use sd_decimal::{Line, Micro, Sum};
 use sd_key::Key;
 use sd_record::{Figure, Row, whole_number};
+use sd_text::{RowText, push_text};
 
-/// How many lines a row has.
-pub(crate) fn line_count(row: &Row) -> usize
-    ensures { (names : ModelNames) (ts : ℕ) → result ≡ length (row_texts names ts (row_view row.now)) }
-{
-    match row {
-        Row::Counter {
-            key: _,
-            count: _,
-            rate: _,
-        } => 2,
-        Row::Timer { key: _, timer } => timer.figures(),
-        Row::Gauge { key: _, value: _ } => 1,
-        Row::Set { key: _, count: _ } => 1,
-    }
+/// How Graphite gets the rows of a record under these names, at this Unix second.
+#[derive(Clone, Copy)]
+pub(crate) struct GraphiteRows<'a> {
+    pub names: &'a Names,
+    pub ts: u64,
 }
 
-/// The line of a row at a place.
-pub(crate) fn row_line(row: &Row, place: usize, names: &Names, ts: u64) -> Line
-    requires { place < length (row_texts names.now ts (row_view row.now)) }
-    ensures { slice_get (row_texts names.now ts (row_view row.now)) place ≡ Some result.items }
-{
-    match row {
-        Row::Counter { key, count, rate } => match place {
-            0 => rate_line(key, *rate, names, ts),
-            _ => count_line(key, *count, names, ts),
-        },
-        Row::Timer { key, timer } => figure_line(key, &timer.figure(place), names, ts),
-        Row::Gauge { key, value } => gauge_line(key, *value, names, ts),
-        Row::Set { key, count } => set_line(key, *count, names, ts),
+impl<'a> RowText for GraphiteRows<'a> {
+    ghost use Rattle.sd_graphite.specs.Texts.{row_texts};
+
+    ghost lines_of = { λ s. row_texts s.names.now s.ts };
+
+    fn line_count(&self, row: &Row) -> usize {
+        match row {
+            Row::Counter {
+                key: _,
+                count: _,
+                rate: _,
+            } => 2,
+            Row::Timer { key: _, timer } => timer.figures(),
+            Row::Gauge { key: _, value: _ } => 1,
+            Row::Set { key: _, count: _ } => 1,
+        }
+    }
+
+    fn row_line(&self, row: &Row, place: usize) -> Line {
+        match row {
+            Row::Counter { key, count, rate } => match place {
+                0 => rate_line(key, *rate, self.names, self.ts),
+                _ => count_line(key, *count, self.names, self.ts),
+            },
+            Row::Timer { key, timer } => {
+                figure_line(key, &timer.figure(place), self.names, self.ts)
+            }
+            Row::Gauge { key, value } => gauge_line(key, *value, self.names, self.ts),
+            Row::Set { key, count } => set_line(key, *count, self.names, self.ts),
+        }
     }
 }
 

@@ -7,14 +7,15 @@ ghost use Rattle.sd_record.specs.Record.{record_view};
 ghost use Rattle.sd_record.specs.Row.{row_view};
 ghost use Rattle.sd_graphite.specs.Texts.{own_text, rows_line, tail_text};
 
-use crate::line::{line_of, push_text};
+use crate::line::line_of;
 use crate::path::Path;
-use crate::writing::{write_line, write_row};
+use crate::row::GraphiteRows;
 use sd_config::Names;
 use sd_decimal::{Line, per_second};
 use sd_key::Key;
 use sd_outside::{Sink, WriteFault};
 use sd_record::{Record, Row, whole_number};
+use sd_text::{push_text, write_line, write_row};
 
 /// The key of one of the server's own counters.
 fn own_key(name: &[u8], names: &Names) -> Key
@@ -55,7 +56,11 @@ fn write_own_counter<K: Sink>(
     ensures ok { OnOk result (K.seen sink.new ≡ given (own_text names.now (record_view rec.now) name.now number) (K.seen sink.old)) }
     ensures failed { OnErr result (HasFailedBehind (own_text names.now (record_view rec.now) name.now number) (K.seen sink.old) (K.seen sink.new)) }
 {
-    write_row(&own_row(name, number, names, rec), names, rec.ts(), sink)
+    let form = GraphiteRows {
+        names,
+        ts: rec.ts(),
+    };
+    write_row(&form, &own_row(name, number, names, rec), sink)
 }
 
 /// The line of the number of rows.

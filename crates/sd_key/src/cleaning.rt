@@ -62,8 +62,8 @@ fn kept(b: u8, after_blank: bool) -> Option<u8>
     }
 }
 
-/// Whether a byte is white space.
-fn is_white_space(b: u8) -> bool
+/// Whether a byte is white space: one of the bytes 9 to 13, or 32.
+pub fn is_white_space(b: u8) -> bool
     ensures { result ≡ is_white_space b }
 {
     matches!(b, 9..=13 | b' ')

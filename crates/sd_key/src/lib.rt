@@ -8,7 +8,7 @@ mod part;
 mod pattern;
 mod shard;
 
-pub use cleaning::{KeyFault, clean};
+pub use cleaning::{KeyFault, clean, is_white_space};
 pub use key::{Key, keys_order};
 pub use kind::{Kind, kinds_order};
 pub use part::has_part;

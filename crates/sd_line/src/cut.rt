@@ -1,6 +1,8 @@
 ghost use Rattle.std.specs.Prelude.{◌≡◌, ◌<◌, ◌+◌, length, take, drop, IfSome, MatchOption, None, Some, option_map};
-ghost use Rattle.sd_model_text.specs.Lists.{cut_at, trim_end, is_white_space as is_space};
+ghost use Rattle.sd_model_text.specs.Lists.{cut_at, trim_end, is_white_space};
 ghost use Rattle.sd_line.specs.Cut.{cut_view};
+
+use sd_key::is_white_space;
 
 /// What stands before a separator, and what stands behind it.
 #[derive(Clone, Copy, Debug)]
@@ -46,16 +48,9 @@ pub(crate) fn first_cut(bytes: &[u8], separator: u8) -> Option<Cut<'_>>
     Some(cut_around(bytes, place))
 }
 
-/// White space: the bytes 9 to 13 and 32.
-pub(crate) fn is_white_space(byte: u8) -> bool
-    ensures { result ≡ is_space byte }
-{
-    (9..=13).contains(&byte) || byte == 32
-}
-
 /// The bytes without the white space at their end.
 pub(crate) fn trimmed(bytes: &[u8]) -> &[u8]
-    ensures { result.now ≡ trim_end is_space bytes.now }
+    ensures { result.now ≡ trim_end is_white_space bytes.now }
 {
     let mut rest = bytes;
     while let [front @ .., last] = rest {

@@ -1,6 +1,6 @@
 -- Laws of what objects tell.
 use Rattle.std.proofs.Common.{◌≡◌, ℕ, ◌+◌, List, [], ◌∷◌, ◌++◌, length, Some, None, refl, sym, ap, ◌∙◌, arith, append_assoc, append-nil, length-append, min}
-use Rattle.sd_model_outside.specs.Outside.{Told, Untold, Left, Number, Bytes, Rounds, FitsLastCount, Reads, put_back, appended, last_count}
+use Rattle.sd_model_outside.specs.Outside.{Told, Untold, Left, Number, Bytes, Rounds, Packets, FitsLastCount, Reads, put_back, appended, last_count}
 
 -- a count that stops at its end, after two rises
 min-add-min : (n a b : ℕ) → min (min (n + a) last_count + b) last_count ≡ min (n + (a + b)) last_count
@@ -15,6 +15,7 @@ appended-appended (Bytes zs) xs ys = ap Bytes (append_assoc zs xs ys)
 appended-appended (Rounds rounds (Some zs)) xs ys = ap (λ bytes. Rounds rounds (Some bytes)) (append_assoc zs xs ys)
 appended-appended (Rounds rounds None) [] ys = refl
 appended-appended (Rounds rounds None) (x ∷ xs) ys = refl
+appended-appended (Packets packets) xs ys = refl
 
 -- a write of nothing
 pub appended-nil : (w : Told) → FitsLastCount w → appended w [] ≡ w
@@ -24,6 +25,7 @@ appended-nil (Number n) fits = ap Number (omega arith)
 appended-nil (Bytes zs) fits = ap Bytes (append-nil zs)
 appended-nil (Rounds rounds (Some zs)) fits = ap (λ bytes. Rounds rounds (Some bytes)) (append-nil zs)
 appended-nil (Rounds rounds None) fits = refl
+appended-nil (Packets packets) fits = refl
 
 -- nothing was read
 pub Reads-nil : (told : Told) → Reads told [] told
@@ -32,6 +34,7 @@ Reads-nil (Left bytes) = refl
 Reads-nil (Number n) = refl
 Reads-nil (Bytes bytes) = refl
 Reads-nil (Rounds rounds open_list) = refl
+Reads-nil (Packets packets) = refl
 
 -- bytes before other bytes before what is left
 pub put_back-append : (xs ys : List ℕ) (told : Told) → put_back xs (put_back ys told) ≡ put_back (xs ++ ys) told
@@ -40,6 +43,7 @@ put_back-append xs ys (Left rest) = ap Left (sym (append_assoc xs ys rest))
 put_back-append xs ys (Number n) = refl
 put_back-append xs ys (Bytes bytes) = refl
 put_back-append xs ys (Rounds rounds open_list) = refl
+put_back-append xs ys (Packets packets) = refl
 
 -- two texts were read one after the other
 pub Reads-append : (old mid new : Told) (xs ys : List ℕ) → Reads old xs mid → Reads mid ys new → Reads old (xs ++ ys) new

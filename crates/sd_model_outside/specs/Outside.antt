@@ -30,13 +30,14 @@ pub record Round : Type 0 where
 
 -- What an object tells of its content: nothing; of a source the bytes that it has left; of a sink how many bytes it was
 -- given, up to the last count, or which; of a backend a list of bytes for each round, those that no write goes to any
--- more and then the open one.
+-- more and then the open one; of a wire the packets that were sent.
 pub data Told : Type 0 where
   Untold : Told
   Left : (bytes : List ℕ) → Told
   Number : (n : ℕ) → Told
   Bytes : (bytes : List ℕ) → Told
   Rounds : (rounds : List Round) (open_list : Option (List ℕ)) → Told
+  Packets : (packets : List (List ℕ)) → Told
 
 -- What is seen of an object: what it tells, how often it failed, and where it was last opened, if it was.
 pub record Object : Type 0 where
@@ -140,3 +141,17 @@ ended told = told
 abbrev pub told_lists : Told → Option (List Round)
 told_lists (Rounds rounds open_list) = Some (lists_of rounds open_list)
 told_lists told = None
+
+-- after this packet was sent
+abbrev pub with_packet : Told → List ℕ → Told
+with_packet (Packets packets) packet = Packets (packets ++ packet ∷ [])
+with_packet told packet = told
+
+-- an object after this packet was sent
+abbrev pub sent : List ℕ → Object → Object
+sent packet o = telling (with_packet o.told packet) o
+
+-- the packets that a wire tells
+abbrev pub told_packets : Told → Option (List (List ℕ))
+told_packets (Packets packets) = Some packets
+told_packets told = None

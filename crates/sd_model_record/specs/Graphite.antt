@@ -1,9 +1,9 @@
 -- Graphite's text of a record: lines of a path, a value and a Unix second (Graphite's plaintext protocol), under StatsD's
 -- names, the legacy ones or those of its namespace (docs/namespacing.md).
-use Rattle.std.specs.Prelude.{ℕ, ◌*◌, ℤ, pos, List, [], ◌∷◌, ◌++◌, length, flat_map, if◌then◌else◌, codes, decimal}
+use Rattle.std.specs.Prelude.{ℕ, ℤ, List, [], ◌∷◌, ◌++◌, length, flat_map, if◌then◌else◌, codes, decimal}
 use Rattle.sd_model_text.specs.Numbers.{number_text, per_second}
 use Rattle.sd_model_settings.specs.Defaults.{Names}
-use Rattle.sd_model_record.specs.Record.{Row, CounterRow, TimerRow, GaugeRow, SetRow, TimerFigures, Record}
+use Rattle.sd_model_record.specs.Record.{Row, CounterRow, TimerRow, GaugeRow, SetRow, Record}
 use Rattle.sd_model_record.specs.Figures.{Figure, whole_number, figures_of}
 
 -- a part of a path, with the point behind it; an empty one is left out with its point

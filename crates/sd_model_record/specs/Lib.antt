@@ -3,3 +3,5 @@ pub mod Record
 pub mod Desk
 pub mod Graphite
 pub mod Console
+pub mod Admin
+pub mod Replies

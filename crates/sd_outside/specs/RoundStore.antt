@@ -26,6 +26,10 @@ told_by s = Rounds (rounds_in s) (open_in s)
 abbrev pub lists_in : RoundStore → List Round
 lists_in s = lists_of (rounds_in s) (open_in s)
 
+-- the bytes of its lists
+abbrev pub bytes_of_lists : RoundStore → List (List ℕ)
+bytes_of_lists s = map (λ round. round.bytes) (lists_in s)
+
 -- the lists once the open one is closed, as one that was ended or that wasn't
 abbrev pub closed : Bool → List Round → Option (List ℕ) → List Round
 closed is_ended rounds None = rounds

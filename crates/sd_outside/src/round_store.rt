@@ -27,10 +27,10 @@ pub(crate) struct RoundStore {
 }
 
 impl RoundStore {
-    ghost use Rattle.std.specs.Prelude.{◌≡◌, ◌+◌, ◌<◌, ◌≤◌, ◌↔◌, length, IfOk, IsTrue, IsSome, OnSome, IfNone, None, Some, [], ◌⊎◌, slice_get};
+    ghost use Rattle.std.specs.Prelude.{◌≡◌, ◌+◌, ◌<◌, ◌≤◌, ◌↔◌, length, IfOk, IsTrue, IsNone, IsSome, OnSome, IfNone, None, Some, [], ◌∷◌, ◌++◌, ◌⊎◌, slice_get};
     ghost use Rattle.std.specs.Option.{option_map};
     ghost use Rattle.sd_model_outside.specs.Outside.{Rounds, appended, begun, ended, lists_of};
-    ghost use Rattle.sd_outside.specs.RoundStore.{round_at, closed, rounds_in, open_in, told_by, lists_in, byte_room_in, list_room_in};
+    ghost use Rattle.sd_outside.specs.RoundStore.{round_at, closed, rounds_in, open_in, told_by, lists_in, bytes_of_lists, byte_room_in, list_room_in};
 
     /// A store with no list, and room for that many bytes and that many lists.
     ///
@@ -145,6 +145,25 @@ impl RoundStore {
         let start = self.open_from.unwrap_or(self.bytes.len());
         self.bytes.append(bytes);
         self.open_from = Some(start);
+    }
+
+    /// Adds an ended list of these bytes.
+    pub(crate) fn add(&mut self, bytes: &[u8])
+        requires none_open { IsNone (open_in self.old) }
+        requires byte_room { length bytes.now ≤ byte_room_in self.old }
+        requires list_room { 0 < list_room_in self.old }
+        ensures lists { bytes_of_lists self.new ≡ bytes_of_lists self.old ++ bytes.now ∷ [] }
+        ensures none_open { IsNone (open_in self.new) }
+        ensures byte_room { byte_room_in self.new + length bytes.now ≡ byte_room_in self.old }
+        ensures list_room { list_room_in self.new + 1 ≡ list_room_in self.old }
+    {
+        let start = self.bytes.len();
+        self.bytes.append(bytes);
+        self.spans.push_reserved(Span {
+            start,
+            end: self.bytes.len(),
+            is_ended: true,
+        });
     }
 
     /// Closes the open list, if there is one.

@@ -5,4 +5,3 @@ pub mod Room
 pub mod Row
 pub mod Rows
 pub mod ScratchInside
-pub mod Tally

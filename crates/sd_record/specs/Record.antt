@@ -6,7 +6,7 @@ use Rattle.sd_config.specs.Plan.{plan_view}
 use Rattle.sd_epoch.specs.Table.{table_of}
 use Rattle.sd_record.specs.Rows.{Room}
 use Rattle.sd_record.specs.Placed.{Places}
-use Rattle.sd_record.specs.Tally.{tally_of}
+use Rattle.sd_desk.specs.Tally.{tally_of}
 use Rattle.sd_record.specs.declared.record.Record.{Record}
 
 -- the record of the tables that it borrows

@@ -9,7 +9,6 @@ mod placed;
 mod record;
 mod row;
 mod scratch;
-mod tally;
 mod timers;
 mod values;
 
@@ -17,4 +16,3 @@ pub use figures::{Figure, Label, whole_number};
 pub use record::Record;
 pub use row::{Bin, Bins, Parts, Row, TimerRow};
 pub use scratch::RecordScratch;
-pub use tally::Tally;

@@ -5,12 +5,12 @@ ghost use Rattle.sd_epoch.specs.Table.{table_of};
 ghost use Rattle.sd_record.specs.Placed.{AreInOrder};
 ghost use Rattle.sd_record.specs.Row.{row_view};
 ghost use Rattle.sd_record.specs.Rows.{AreDisjoint};
-ghost use Rattle.sd_record.specs.Tally.{tally_of};
+ghost use Rattle.sd_desk.specs.Tally.{tally_of};
 
 use crate::row::Row;
 use crate::scratch::RecordScratch;
-use crate::tally::Tally;
 use sd_config::Reckoning;
+use sd_desk::Tally;
 use sd_epoch::Table;
 
 /// The record of a flush: the rows of tables by kind and key, the tally, the Unix second, and the interval that the

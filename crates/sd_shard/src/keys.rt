@@ -1,4 +1,4 @@
-ghost use Rattle.std.specs.Prelude.{◌≡◌, ◌<◌, [], ◌∷◌, ◌++◌, length, slice_get, IfOk, Some};
+ghost use Rattle.std.specs.Prelude.{◌≡◌, ◌^◌, ◌<◌, [], ◌∷◌, ◌++◌, length, slice_get, IfOk, Some};
 ghost use Rattle.std.specs.List.Sorted.{IsPermutation, IsSorted};
 ghost use Rattle.std.specs.Ordering.{nat_cmp};
 ghost use Rattle.std.specs.Cmp.Lexicographic.{slice_cmp};
@@ -40,7 +40,8 @@ impl Keys {
 
     /// How many there are.
     pub fn len(&self) -> usize
-        ensures { result ≡ length self.now.keys }
+        ensures len { result ≡ length self.now.keys }
+        ensures short { result < 2 ^ 32 }
     {
         self.keys.len()
     }

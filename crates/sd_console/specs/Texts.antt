@@ -1,0 +1,35 @@
+-- The console's text of a record, line by line.
+use Rattle.std.specs.Prelude.{ℕ, ℤ, List, [], ◌∷◌, ◌++◌, length, map, codes, decimal}
+use Rattle.sd_model_text.specs.Numbers.{number_text}
+use Rattle.sd_model_record.specs.Record.{Row, CounterRow, TimerRow, GaugeRow, SetRow, Record}
+use Rattle.sd_model_record.specs.Figures.{figures_of}
+use Rattle.sd_model_record.specs.Console.{console_figure, console_count}
+
+-- the line of a counter
+abbrev pub counter_line : List ℕ → ℤ → ℤ → List ℕ
+counter_line key count rate = codes "counter " ++ key ++ 32 ∷ number_text count ++ 32 ∷ number_text rate ++ 10 ∷ []
+
+-- the line of a gauge
+abbrev pub gauge_line : List ℕ → ℤ → List ℕ
+gauge_line key value = codes "gauge " ++ key ++ 32 ∷ number_text value ++ 10 ∷ []
+
+-- the line of a set
+abbrev pub set_line : List ℕ → ℕ → List ℕ
+set_line key count = codes "set " ++ key ++ 32 ∷ decimal count ++ 10 ∷ []
+
+-- the lines of a row, one by one
+unfoldable pub row_texts : Row → List (List ℕ)
+row_texts (CounterRow key count rate) = counter_line key count rate ∷ []
+row_texts (TimerRow key timer) = map (console_figure key) (figures_of timer)
+row_texts (GaugeRow key value) = gauge_line key value ∷ []
+row_texts (SetRow key count) = set_line key count ∷ []
+
+-- the lines of the server's own counts
+abbrev pub count_texts : Record → List (List ℕ)
+count_texts r =
+    console_count (codes "bad_lines_seen") r.tally.bad
+    ∷ console_count (codes "packets_received") r.tally.packets
+    ∷ console_count (codes "metrics_received") r.tally.lines
+    ∷ console_count (codes "samples_dropped") r.tally.dropped
+    ∷ console_count (codes "numStats") (length r.rows)
+    ∷ []

@@ -1,0 +1,55 @@
+ghost use Rattle.std.specs.Prelude.{◌≡◌, ◌≤◌, ◌∷◌, ◌++◌, [], length, map, codes, decimal};
+ghost use Rattle.sd_model_record.specs.Console.{console_count};
+ghost use Rattle.sd_record.specs.Record.{record_view};
+ghost use Rattle.sd_console.specs.Texts.{count_texts};
+
+use sd_decimal::Line;
+use sd_record::Record;
+use sd_text::{push_text, push_whole};
+
+/// A line that begins with these bytes.
+pub(crate) fn begun(text: &[u8]) -> Line
+    requires { length text.now ≤ 64 }
+    ensures { result.items ≡ text.now }
+{
+    let mut line = Line::new();
+    push_text(text, &mut line);
+    line
+}
+
+/// The line of a word and a Unix second.
+pub(crate) fn second_line(word: &[u8], ts: u64) -> Line
+    requires { length word.now ≤ 64 }
+    ensures { result.items ≡ word.now ++ 32 ∷ decimal ts ++ 10 ∷ [] }
+{
+    let mut line = begun(word);
+    push_whole(ts, &mut line);
+    line.push(b'\n');
+    line
+}
+
+/// The line of one of the server's own counts.
+fn count_line(name: &[u8], count: u64) -> Line
+    requires { length name.now ≤ 64 }
+    ensures { result.items ≡ console_count name.now count }
+{
+    let mut line = begun(b"tail ");
+    push_text(name, &mut line);
+    push_whole(count, &mut line);
+    line.push(b'\n');
+    line
+}
+
+/// The lines of the server's own counts.
+pub(crate) fn count_lines(rec: &Record<'_>) -> [Line; 5]
+    ensures { map (λ line. line.items) result ≡ count_texts (record_view rec.now) }
+{
+    let tally = rec.tally();
+    [
+        count_line(b"bad_lines_seen", tally.bad),
+        count_line(b"packets_received", tally.packets),
+        count_line(b"metrics_received", tally.lines),
+        count_line(b"samples_dropped", tally.dropped),
+        count_line(b"numStats", rec.rows() as u64),
+    ]
+}

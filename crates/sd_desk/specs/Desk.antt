@@ -1,0 +1,29 @@
+-- The desk of the code, as the definitions have it, and what it keeps.
+use Rattle.std.specs.Prelude.{◌^◌, ◌≤◌}
+use Rattle.sd_model_record.specs.Desk as model
+use Rattle.sd_desk.specs.Tally.{tally_of}
+use Rattle.sd_desk.specs.declared.desk.Desk.TheInside.{Inside}
+
+abbrev pub desk_of : Inside → model.Desk
+desk_of d =
+    record {
+      start = d.start;
+      last = d.last;
+      up = d.up;
+      tally = tally_of d.tally;
+      totals = tally_of d.totals;
+      taken_so_far = tally_of d.taken_so_far;
+      rounds = d.rounds;
+      graphite_faults = d.graphite_faults;
+      console_faults = d.console_faults;
+      repeater_faults = d.repeater_faults;
+      admin_faults = d.admin_faults;
+    }
+
+pub record IsDesk (d : Inside) : Type 0 where
+  pub adds_up : model.AddsUp (desk_of d)
+  pub rounds : d.rounds ≤ 2 ^ 63
+  pub graphite_faults : d.graphite_faults ≤ 2 ^ 63
+  pub console_faults : d.console_faults ≤ 2 ^ 63
+  pub repeater_faults : d.repeater_faults ≤ 2 ^ 63
+  pub admin_faults : d.admin_faults ≤ 2 ^ 63

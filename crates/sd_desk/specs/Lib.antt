@@ -1,0 +1,4 @@
+pub mod Desk
+pub mod Facts
+pub mod Marks
+pub mod Tally

@@ -1,0 +1,27 @@
+//! The repeater: each datagram, sent on as it came.
+#![tactic(auto)]
+
+ghost use Rattle.std.specs.Prelude.{◌<◌, ◌^◌, length, map};
+ghost use Rattle.sd_repeater.specs.Repeat.{HasRepeated, HasSent};
+
+use sd_outside::Wire;
+
+/// Sends a packet on each wire, in order, and answers how many of the sends failed. One that fails doesn't stop the
+/// others. No memory is taken.
+pub fn repeat<L: Wire>(packet: &[u8], wires: &mut [L]) -> u32
+    requires { length wires.old < 2 ^ 32 }
+    ensures { HasRepeated packet.now (map L.seen wires.old) (map L.seen wires.new) result }
+{
+    let mut failed = 0;
+    for wire in wires {
+        failed += u32::from(has_failed(packet, wire));
+    }
+    failed
+}
+
+/// Sends a packet on a wire, and answers whether that failed.
+fn has_failed<L: Wire>(packet: &[u8], wire: &mut L) -> bool
+    ensures { HasSent packet.now result (L.seen wire.old) (L.seen wire.new) }
+{
+    wire.send(packet).is_err()
+}
