@@ -1,10 +1,12 @@
-//! Cases of the outside: reads a call and its arguments from each line, makes the call on a source, a sink or a backend in
-//! memory or on the reader of a script, and prints the line with its answer.
+//! Cases of the outside: reads a call and its arguments from each line, makes the call on a source, a sink, a backend or
+//! wires in memory or on the reader of a script, and prints the line with its answer.
 #![tactic(auto)]
 
+mod repeats;
 mod scripts;
 mod sinks;
 mod sources;
+mod wires;
 
 use sd_case::{Answer, Refusal, answer_cases};
 use std::alloc::Global;
@@ -17,6 +19,12 @@ fn call(alloc: Global, words: &[&str], out: &mut Answer) -> Result<(), Refusal> 
         ["sink", room, steps @ ..] => sinks::steps_on_sink(alloc, room, steps, out),
         ["backend", bytes, lists, steps @ ..] => {
             sinks::steps_on_backend(alloc, bytes, lists, steps, out)
+        }
+        ["wire", bytes, packets, steps @ ..] => {
+            wires::steps_on_wire(alloc, bytes, packets, steps, out)
+        }
+        ["repeat", count, bytes, packets, steps @ ..] => {
+            repeats::steps_on_wires(alloc, &[count, bytes, packets], steps, out)
         }
         ["reader", script, most, call, steps @ ..] => {
             out.text(" = ");

@@ -34,7 +34,7 @@ fn write_whole<K: Sink>(
 }
 
 /// Appends whether a call failed.
-fn show_answer(answer: Result<(), Failed>, out: &mut Answer) {
+pub(crate) fn show_answer(answer: Result<(), Failed>, out: &mut Answer) {
     out.text(if answer.is_ok() { "ok" } else { "failed" });
 }
 
