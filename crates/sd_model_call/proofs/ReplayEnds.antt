@@ -4,7 +4,7 @@ use Rattle.std.specs.Prelude.{⊤}
 use Rattle.std.specs.List.{AllByRecursion}
 use Rattle.std.proofs.lemmas.List.{length-map}
 use Rattle.std.proofs.lemmas.List.Sums.{sum_by-cons}
-use Rattle.sd_model_outside.specs.Outside.{Told, Untold, Left, Number, Bytes, Rounds, put_back, given, last_count}
+use Rattle.sd_model_outside.specs.Outside.{Told, Untold, Left, Number, Bytes, Rounds, Packets, put_back, given, last_count}
 use Rattle.sd_model_record.specs.Desk.{Mark, fault_of}
 use Rattle.sd_model_replay.specs.Settings.{Settings}
 use Rattle.sd_model_replay.specs.Backends.{Backend, Graphite, Console, Delivery, AfterDeliveries, FitsUse, is_used, mark_of, missed}
@@ -32,6 +32,7 @@ left_behind front whole Untold same = absurd (cc)
 left_behind front whole (Number n) same = absurd (cc)
 left_behind front whole (Bytes bytes) same = absurd (cc)
 left_behind front whole (Rounds rounds open_list) same = absurd (cc)
+left_behind front whole (Packets packets) same = absurd (cc)
 
 abbrev commands_of : List Played → List Command
 commands_of played = map (λ p. p.command) played

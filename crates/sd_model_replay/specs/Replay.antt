@@ -67,9 +67,9 @@ pub record Run : Type 0 where
   pub shards : ℕ → State
   pub desk : Desk
 
--- nothing was carried out
+-- nothing was carried out; that the desk starts at 0 is told by nothing so far
 abbrev pub first_run : Run
-first_run = record { shards = λ i. empty_state; desk = new_desk }
+first_run = record { shards = λ i. empty_state; desk = new_desk 0 }
 
 -- what a record adds to the history of shard i
 abbrev pub acts_in : Settings → Run → ℕ → Command → History
@@ -85,7 +85,7 @@ packet_tally datagram dropped = record { packets = 1; lines = length (pieces dat
 
 -- the desk after a record, with what the shards answered and what the outside did
 abbrev pub desk_after : Desk → Command → List Reply → Outcome → Desk
-desk_after desk (Packet who moment datagram) replies outcome = with_tally desk (packet_tally datagram (sum_by dropped_in replies))
+desk_after desk (Packet who moment datagram) replies outcome = with_tally desk (packet_tally datagram (sum_by dropped_in replies)) moment
 desk_after desk (Flush ts) replies outcome = with_round desk outcome.marks
 
 -- the state after a record

@@ -40,8 +40,8 @@ totals_of settings run =
       rounds = run.desk.rounds;
       graphite_faults = run.desk.graphite_faults;
       console_faults = run.desk.console_faults;
-      repeater_faults = 0;
-      admin_faults = 0;
+      repeater_faults = run.desk.repeater_faults;
+      admin_faults = run.desk.admin_faults;
     }
 
 -- the totals after these records

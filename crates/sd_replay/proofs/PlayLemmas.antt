@@ -106,13 +106,13 @@ module _ (settings : file.Settings) (run : Run) where
       ∙ ap (after_all limits policy (run.shards 0)) (sym (acts_of_packet who moment datagram))
 
   packet_desk : (who moment : ℕ) (datagram : List ℕ) (outcome : Outcome)
-      → with_tally run.desk (packet_tally datagram (lost (goes_by settings).limits (goes_by settings).policy who (run.shards 0) (samples_of datagram)))
+      → with_tally run.desk (packet_tally datagram (lost (goes_by settings).limits (goes_by settings).policy who (run.shards 0) (samples_of datagram))) moment
       ≡ (play (goes_by settings) run (record { command = Packet who moment datagram; outcome = outcome })).desk
   packet_desk who moment datagram outcome =
       let limits = (goes_by settings).limits in
       let policy = (goes_by settings).policy in
       let replies : List Act → List Reply = map (λ (a : Act). a.reply) in
-      ap (λ n. with_tally run.desk (packet_tally datagram n)) (
+      ap (λ n. with_tally run.desk (packet_tally datagram n) moment) (
       lost_is limits policy who (run.shards 0) (samples_of datagram)
       ∙ ap (λ (acts : History). sum_by dropped_in (replies acts)) (sym (acts_of_packet who moment datagram))
       ∙ ap (sum_by dropped_in) (sym (append-nil (replies (acts_in (goes_by settings) run 0 (Packet who moment datagram))))))
@@ -136,8 +136,8 @@ module _ (settings : file.Settings) (run : Run) where
         rounds = run.desk.rounds;
         graphite_faults = run.desk.graphite_faults;
         console_faults = run.desk.console_faults;
-        repeater_faults = 0;
-        admin_faults = 0;
+        repeater_faults = run.desk.repeater_faults;
+        admin_faults = run.desk.admin_faults;
       }
 
 longer : (commands : List Command) (c : Command) (at : ℕ) → at ≡ min (length (script_text commands)) last_count → min (at + length (spelled c)) last_count ≡ min (length (script_text (commands ++ c ∷ []))) last_count
@@ -178,7 +178,7 @@ module _ (settings : file.Settings) (script left left' : Told) (old new new' : O
   -- a packet more: its samples are filed, and it is counted
   pub packet_more : (who moment : ℕ) (datagram : List ℕ) → Reads left (spelled (Packet who moment datagram)) left' → IsBuilt (goes_by settings).receivers (Packet who moment datagram)
       → shard' ≡ filed (goes_by settings).limits (goes_by settings).policy who shard (samples_of datagram)
-      → desk' ≡ with_tally desk (packet_tally datagram (lost (goes_by settings).limits (goes_by settings).policy who shard (samples_of datagram)))
+      → desk' ≡ with_tally desk (packet_tally datagram (lost (goes_by settings).limits (goes_by settings).policy who shard (samples_of datagram))) moment
       → at' ≡ min (at + length (spelled (Packet who moment datagram))) last_count → new' ≡ new → Progress (goes_by settings) script left' old new' shard' desk' at' (turn + 1)
   unfolding run
   packet_more who moment datagram text built s d a kept =
@@ -191,8 +191,8 @@ module _ (settings : file.Settings) (script left left' : Told) (old new new' : O
       (subst (λ ds. AfterDeliveries ds old new') (sym (same Graphite)) (subst (λ (o : Object). AfterDeliveries (deliveries (goes_by settings) Graphite so_far.played) old o) (sym kept) so_far.texts))
       (λ o. subst (λ ds. AfterDeliveries ds o o) (sym (same Console)) (so_far.unused o))
       (s ∙ ap (λ (state : State). filed limits policy who state (samples_of datagram)) so_far.same_shard ∙ packet_shard settings run who moment datagram quiet)
-      (d ∙ ap (λ (state : State). with_tally desk (packet_tally datagram (lost limits policy who state (samples_of datagram)))) so_far.same_shard
-      ∙ ap (λ (e : Desk). with_tally e (packet_tally datagram (lost limits policy who (run.shards 0) (samples_of datagram)))) so_far.same_desk ∙ packet_desk settings run who moment datagram quiet)
+      (d ∙ ap (λ (state : State). with_tally desk (packet_tally datagram (lost limits policy who state (samples_of datagram))) moment) so_far.same_shard
+      ∙ ap (λ (e : Desk). with_tally e (packet_tally datagram (lost limits policy who (run.shards 0) (samples_of datagram))) moment) so_far.same_desk ∙ packet_desk settings run who moment datagram quiet)
       a
 
   -- a flush more: the shard is swapped, the tally is taken, and Graphite was given the text

@@ -1,7 +1,5 @@
-pub mod Desk
 pub mod Ends
 pub mod Filed
-pub mod Marks
 pub mod Room
 pub mod RoomInside
 pub mod Seen

@@ -14,7 +14,7 @@ sizing_in room = record { limits = room.shard.table.limits; policy = room.shard.
 pub record IsFresh (room : Inside) : Type 0 where
   pub state : state_of room.shard ≡ empty_state
   pub spare : IsSpareFor room.shard.table.limits room.spare
-  pub desk : room.desk ≡ new_desk
+  pub desk : room.desk ≡ new_desk 0
   pub scratch : HasRoom room.shard.table.limits room.scratch.room
   pub pending : room.reader.pending ≡ []
   pub start : room.reader.at ≡ 0

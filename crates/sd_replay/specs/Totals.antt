@@ -38,6 +38,6 @@ totals_of_one state desk =
       rounds = desk.rounds;
       graphite_faults = desk.graphite_faults;
       console_faults = desk.console_faults;
-      repeater_faults = 0;
-      admin_faults = 0;
+      repeater_faults = desk.repeater_faults;
+      admin_faults = desk.admin_faults;
     }

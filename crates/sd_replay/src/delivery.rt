@@ -4,10 +4,10 @@ ghost use Rattle.sd_model_record.specs.Desk.{NotUsed};
 ghost use Rattle.sd_model_record.specs.Graphite.{graphite_text};
 ghost use Rattle.sd_model_replay.specs.Backends.{AfterMark, FitsUse};
 ghost use Rattle.sd_record.specs.Record.{record_view, room_of, SameScratch};
-ghost use Rattle.sd_replay.specs.Marks.{mark_of};
+ghost use Rattle.sd_desk.specs.Marks.{mark_of};
 
-use crate::desk::{Mark, RoundMarks};
 use sd_config::Names;
+use sd_desk::{Mark, RoundMarks};
 use sd_graphite::write_record;
 use sd_outside::{Backend, Backs, Failed};
 use sd_record::Record;

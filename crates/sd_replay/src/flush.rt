@@ -6,12 +6,12 @@ ghost use Rattle.sd_model_replay.specs.Backends.{AfterMark, FitsUse};
 ghost use Rattle.sd_model_shard.specs.Shard.{after_swap, table_of};
 ghost use Rattle.sd_config.specs.Plan.{plan_view};
 ghost use Rattle.sd_shard.specs.Shard.{state_of};
-ghost use Rattle.sd_replay.specs.Marks.{mark_of, marks_of};
+ghost use Rattle.sd_desk.specs.Marks.{mark_of, marks_of};
 ghost use Rattle.sd_replay.specs.Room.{IsSpareFor, HasRoom};
 
 use crate::delivery::deliver;
-use crate::desk::{Desk, Mark, RoundMarks};
 use sd_config::{Names, Reckoning};
+use sd_desk::{Desk, Mark, RoundMarks};
 use sd_epoch::Table;
 use sd_outside::{Backend, Backs};
 use sd_record::{Record, RecordScratch};

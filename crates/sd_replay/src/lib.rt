@@ -2,7 +2,6 @@
 #![tactic(auto)]
 
 mod delivery;
-mod desk;
 mod fault;
 mod flush;
 mod packet;
@@ -12,7 +11,6 @@ mod settings;
 mod totals;
 
 pub use delivery::deliver;
-pub use desk::{Mark, RoundMarks};
 pub use fault::ScriptFault;
 pub use room::ReplayRoom;
 pub use run::{ReplayEnd, replay};

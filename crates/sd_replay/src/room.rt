@@ -1,8 +1,8 @@
 ghost use Rattle.std.specs.Prelude.{◌≡◌, IfOk};
 
-use crate::desk::Desk;
 use crate::settings::{limits_of, policy_of};
 use sd_config::Settings;
+use sd_desk::Desk;
 use sd_epoch::Table;
 use sd_record::RecordScratch;
 use sd_script::Reader;
@@ -12,6 +12,9 @@ use std::marker::Model;
 
 /// How many shards run.
 const SHARDS: u16 = 1;
+
+/// The Unix second that the server's own counts start at. Nothing tells it so far.
+const START: u64 = 0;
 
 /// All that a replay works on, in room taken when it was opened for its settings. Nothing was done yet.
 #[derive(Drop)]
@@ -51,7 +54,7 @@ impl ReplayRoom {
         Ok(ReplayRoom {
             shard: Shard::open(alloc, limits, policy_of(settings))?,
             spare: Table::open(alloc, limits)?,
-            desk: Desk::new(),
+            desk: Desk::new(START),
             scratch: RecordScratch::open(alloc, limits, SHARDS)?,
             reader: Reader::open(alloc, settings.receivers() as u16)?,
         })

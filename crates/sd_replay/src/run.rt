@@ -13,16 +13,15 @@ ghost use Rattle.sd_replay.specs.Room.{sizing_of};
 ghost use Rattle.sd_replay.specs.Seen.{seen_of};
 ghost use Rattle.sd_replay.specs.Totals.{totals_of_one, totals_view};
 
-use crate::desk::Desk;
 use crate::fault::{ScriptFault, fault_at};
 use crate::flush::flush;
 use crate::packet::file_packet;
 use crate::room::ReplayRoom;
 use crate::totals::{Totals, write_totals};
 use sd_config::{Names, Settings};
+use sd_desk::{Desk, Tally};
 use sd_epoch::Who;
 use sd_outside::{Backend, Backs, Sink, Source, WriteFault};
-use sd_record::Tally;
 use sd_script::Item;
 use sd_shard::Shard;
 
@@ -64,27 +63,28 @@ fn totals_of(shard: &Shard, desk: &Desk) -> Totals
         rounds: u128::from(facts.rounds),
         graphite_faults: u128::from(facts.graphite_faults),
         console_faults: u128::from(facts.console_faults),
-        repeater_faults: 0,
-        admin_faults: 0,
+        repeater_faults: u128::from(facts.repeater_faults),
+        admin_faults: u128::from(facts.admin_faults),
     }
 }
 
-/// Files the samples of a datagram, and counts it.
-fn play_packet(shard: &mut Shard, desk: &mut Desk, who: u16, datagram: &[u8])
+/// Files the samples of a datagram, and counts it at its moment.
+fn play_packet(shard: &mut Shard, desk: &mut Desk, who: u16, moment: u64, datagram: &[u8])
     requires { length datagram.now ≤ 65507 }
     ensures state { state_of shard.new ≡ filed shard.old.table.limits shard.old.policy who (state_of shard.old) (samples_of datagram.now) }
     ensures desk { desk.new ≡ with_tally desk.old
-        (packet_tally datagram.now (lost shard.old.table.limits shard.old.policy who (state_of shard.old) (samples_of datagram.now))) }
+        (packet_tally datagram.now (lost shard.old.table.limits shard.old.policy who (state_of shard.old) (samples_of datagram.now))) moment }
     ensures limits { shard.new.table.limits ≡ shard.old.table.limits }
     ensures policy { shard.new.policy ≡ shard.old.policy }
 {
     let filed = file_packet(shard, Who(who), datagram);
-    desk.add(Tally {
+    let tally = Tally {
         packets: 1,
         lines: filed.lines,
         bad: filed.bad,
         dropped: filed.dropped,
-    });
+    };
+    desk.add(tally, moment);
 }
 
 /// Writes the totals of a shard and a desk, and answers them.
@@ -135,7 +135,9 @@ pub fn replay<R: Source, O: Sink, B: Backend>(
             return ReplayEnd::ReadFault;
         };
         match item {
-            Item::Packet { who, .. } => play_packet(&mut shard, &mut desk, who, reader.datagram()),
+            Item::Packet { who, moment } => {
+                play_packet(&mut shard, &mut desk, who, moment, reader.datagram())
+            }
             Item::Flush { ts } => {
                 let flushed = flush(
                     &mut shard,

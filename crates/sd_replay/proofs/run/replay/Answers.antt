@@ -21,7 +21,7 @@ use Rattle.sd_config.specs.Plan.{plan_view}
 use Rattle.sd_shard.specs.Shard.{Standing, state_of}
 use Rattle.sd_replay.specs.Ends.{end_of}
 use Rattle.sd_replay.specs.Filed.{filed, lost}
-use Rattle.sd_replay.specs.Marks.{mark_of, marks_of}
+use Rattle.sd_desk.specs.Marks.{mark_of, marks_of}
 use Rattle.sd_script.specs.Flaws.{flaw_of}
 use Rattle.sd_script.specs.Reading.{left}
 use Rattle.sd_script.specs.Reads.{ReadsItem}
@@ -175,7 +175,7 @@ loop-turn-preserved g c =
           let who = w.in-Packet.who in
           let datagram = c.next.new.self.datagram in
           let filing : Limits → Policy → List ℕ → State = λ limits policy bytes. filed limits policy who before (samples_of bytes) in
-          let tallied : Limits → Policy → List ℕ → Desk = λ limits policy bytes. with_tally c.loop-turn.desk (packet_tally bytes (lost limits policy who before (samples_of bytes))) in
+          let tallied : Limits → Policy → List ℕ → Desk = λ limits policy bytes. with_tally c.loop-turn.desk (packet_tally bytes (lost limits policy who before (samples_of bytes))) w.in-Packet.moment in
           let more = packet_more settings _ _ (left c.next.new.self has) _ _ (g.B.Faulty.seen c.match-item.backs.graphite) _ (state_of c.match-item.shard) _ c.match-item.desk _ c.next.new.self.at _ stands.progress
           who w.in-Packet.moment datagram read.stands.reads (subst (λ n. IsBuilt n (Packet who w.in-Packet.moment datagram)) stands.receivers read.stands.begins.0)
           (ap state_of w.shard-is ∙ w.play_packet.ensures.state ∙ ap (λ limits. filing limits c.loop-turn.shard.policy w.datagram.result.now) stands.limits
