@@ -1,12 +1,13 @@
 ghost use Rattle.std.specs.Prelude.{◌≡◌, ◌≤◌, length, IfOk};
+ghost use Rattle.sd_record.specs.Record.{room_of, SameScratch};
 
 use sd_case::{Answer, Refusal, number};
 use sd_config::{Names, Settings};
 use sd_decimal::Limit;
+use sd_desk::Tally;
 use sd_epoch::Table;
-use sd_graphite::write_record;
-use sd_outside::{MemSink, WriteFault};
-use sd_record::{Record, RecordScratch, Row, Tally, TimerRow};
+use sd_outside::{MemSink, Sink, WriteFault};
+use sd_record::{Record, RecordScratch, Row, TimerRow};
 use std::slice;
 
 // the largest count of a tally
@@ -144,8 +145,32 @@ fn show_timer(timer: &TimerRow, out: &mut Answer) {
     }
 }
 
-/// Writes Graphite's text of a record, and appends the answer, the sink's faults, and the lines that it has.
+/// Whose text of a record is written.
+#[derive(Clone, Copy)]
+pub(crate) enum Text {
+    Graphite,
+    Console,
+}
+
+/// Writes a text of a record.
+fn write_text<K: Sink>(
+    text: Text,
+    record: &mut Record<'_>,
+    names: &Names,
+    sink: &mut K,
+) -> Result<(), WriteFault>
+    ensures room { room_of record.new ≡ room_of record.old }
+    ensures same_scratch { SameScratch record.new record.old }
+{
+    match text {
+        Text::Graphite => sd_graphite::write_record(record, names, sink),
+        Text::Console => sd_console::write_record(record, sink),
+    }
+}
+
+/// Writes a text of a record, and appends the answer, the sink's faults, and the lines that it has.
 pub(crate) fn show_text(
+    text: Text,
     table: &Table,
     scratch: &mut RecordScratch,
     flush: &Flush,
@@ -163,7 +188,7 @@ pub(crate) fn show_text(
         flush.tally,
         flush.ts,
     );
-    match write_record(&mut record, &flush.names, sink) {
+    match write_text(text, &mut record, &flush.names, sink) {
         Ok(()) => out.text("ok"),
         Err(WriteFault) => out.text("fault"),
     }

@@ -2,7 +2,7 @@ ghost use Rattle.std.specs.Prelude.{◌≡◌, ◌≤◌, ◌<◌, length, IfOk}
 ghost use Rattle.sd_epoch.specs.Limits.{limits_of, AreLimits};
 ghost use Rattle.sd_record.specs.Room.{room_for};
 
-use crate::records::{Flush, show_record, show_text, tally_from};
+use crate::records::{Flush, Text, show_record, show_text, tally_from};
 use crate::samples::sample_of;
 use crate::shards::{limits_from, show_name, show_sorted, show_table};
 use sd_case::{Answer, Refusal, bytes_of, key_of, kind_of, number};
@@ -47,7 +47,8 @@ impl Bench {
             Some(("keep", name)) => self.keep(alloc, name, out),
             Some(("has", name)) => self.has(alloc, name, out),
             Some(("forget", what)) => self.forget(alloc, what, out),
-            Some(("text", sink)) => self.text(alloc, flush, sink, out),
+            Some(("text", sink)) => self.text(alloc, flush, Text::Graphite, sink, out),
+            Some(("console", sink)) => self.text(alloc, flush, Text::Console, sink, out),
             Some(_) => Err(Refusal::Malformed),
             None => self.plain_step(alloc, flush, step, out),
         }
@@ -136,18 +137,19 @@ impl Bench {
         show_record(&self.table, &mut self.scratch, flush, out);
     }
 
-    /// Appends Graphite's text of the record, as a sink has it that is written as `ROOM` or `ROOM!CALLS`.
+    /// Appends a text of the record, as a sink has it that is written as `ROOM` or `ROOM!CALL`.
     fn text(
         &mut self,
         alloc: Global,
         flush: &Flush,
+        text: Text,
         sink: &str,
         out: &mut Answer,
     ) -> Result<(), Refusal> {
         let _rows = self.table.rows();
         let _entries = self.table.entries();
         let mut sink = sink_from(alloc, sink)?;
-        show_text(&self.table, &mut self.scratch, flush, &mut sink, out);
+        show_text(text, &self.table, &mut self.scratch, flush, &mut sink, out);
         Ok(())
     }
 }

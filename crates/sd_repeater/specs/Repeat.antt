@@ -1,17 +1,7 @@
 -- A packet that is sent on each of some wires.
-use Rattle.std.specs.Prelude.{◌≡◌, ℕ, ⊤, Bool, true, false, List, [], ◌∷◌, count_by}
-use Rattle.sd_model_outside.specs.Outside.{Object, HasFailed, sent}
-
--- a send of a packet that failed, and left what the wire had, or that put the packet at its end
-abbrev pub HasSent : List ℕ → Bool → Object → Object → Type 0
-HasSent packet true old new = HasFailed old new
-HasSent packet false old new = new ≡ sent packet old
-
--- what a packet's sends left of wires, one on each, by which of them failed
-abbrev pub AreSent : List ℕ → List Bool → List Object → List Object → Type 0
-AreSent packet [] [] [] = ⊤
-AreSent packet (f ∷ failed) (o ∷ old) (n ∷ new) = HasSent packet f o n × AreSent packet failed old new
-AreSent packet failed old new = ⊥
+use Rattle.std.specs.Prelude.{◌≡◌, ℕ, Bool, List, count_by}
+use Rattle.sd_model_outside.specs.Outside.{Object}
+use Rattle.sd_model_outside.specs.Wires.{AreSent}
 
 -- a packet was sent on each wire, in order, and so many of the sends failed
 pub record HasRepeated (packet : List ℕ) (old new : List Object) (faults : ℕ) : Type 0 where

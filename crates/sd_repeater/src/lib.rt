@@ -2,7 +2,8 @@
 #![tactic(auto)]
 
 ghost use Rattle.std.specs.Prelude.{◌<◌, ◌^◌, length, map};
-ghost use Rattle.sd_repeater.specs.Repeat.{HasRepeated, HasSent};
+ghost use Rattle.sd_model_outside.specs.Wires.{HasSent};
+ghost use Rattle.sd_repeater.specs.Repeat.{HasRepeated};
 
 use sd_outside::Wire;
 
