@@ -1,11 +1,16 @@
+ghost use Rattle.std.specs.Prelude.{◌≡◌, ◌<◌, length, IfOk};
+
 use sd_case::{Refusal, bytes_of, number};
-use sd_outside::{Backs, MemBackend, MemSink, MemSource};
+use sd_outside::{Backs, MemBackend, MemSink, MemSource, MemWire};
 use sd_top::World;
 use std::alloc::Global;
 use std::str;
 
 /// The objects of a run, in memory.
-pub(crate) type MemWorld = World<MemSource, MemSink, MemBackend>;
+pub(crate) type MemWorld = World<MemSource, MemSink, MemBackend, MemWire>;
+
+/// How many wires a run has.
+const WIRES: usize = 256;
 
 /// A call on an object.
 #[derive(Clone, Copy, Debug)]
@@ -14,10 +19,16 @@ enum Call {
     ReadSettings,
     OpenScript,
     ReadScript,
+    OpenWire { wire: usize },
+    Send { wire: usize },
     OpenGraphite,
     Begin,
     Write,
     Finish,
+    OpenConsole,
+    BeginConsole,
+    WriteConsole,
+    FinishConsole,
     WriteOutput,
 }
 
@@ -37,12 +48,16 @@ pub(crate) struct Case {
     output_bytes: usize,
     graphite_bytes: usize,
     graphite_lists: usize,
+    console_bytes: usize,
+    console_lists: usize,
+    wire_bytes: usize,
+    wire_packets: usize,
     failing: Vec<Failing>,
 }
 
 impl Case {
     /// The case that is written as `WORDS : PARTS`. Without parts nothing is in the files, no call fails, and there
-    /// is room for 1,024 bytes of output, and 4,096 bytes in 4 lists of Graphite.
+    /// is room for 1,024 bytes of output, 4,096 bytes in 4 lists of each backend, and 64 bytes in 4 packets of each wire.
     ///
     /// # Errors
     ///
@@ -55,6 +70,10 @@ impl Case {
             output_bytes: 1024,
             graphite_bytes: 4096,
             graphite_lists: 4,
+            console_bytes: 4096,
+            console_lists: 4,
+            wire_bytes: 64,
+            wire_packets: 4,
             failing: Vec::new(alloc),
         };
         let mut are_words = true;
@@ -70,17 +89,20 @@ impl Case {
         Ok(case)
     }
 
-    /// Takes a part: `settings=TEXT`, `script=TEXT`, `output=BYTES`, `graphite=BYTES/LISTS` or `fail=CALL:NUMBER`.
+    /// Takes a part: `settings=TEXT`, `script=TEXT`, `output=BYTES`, `graphite=BYTES/LISTS`, `console=BYTES/LISTS`,
+    /// `wires=BYTES/PACKETS` or `fail=CALL:NUMBER`.
     fn set(&mut self, alloc: Global, part: &str) -> Result<(), Refusal> {
         match part.split_once('=') {
             Some(("settings", text)) => self.settings = bytes_of(alloc, text)?,
             Some(("script", text)) => self.script = bytes_of(alloc, text)?,
             Some(("output", bytes)) => self.output_bytes = number(bytes)?,
             Some(("graphite", room)) => {
-                let (bytes, lists) = room.split_once('/').ok_or(Refusal::Malformed)?;
-                self.graphite_bytes = number(bytes)?;
-                self.graphite_lists = number(lists)?;
+                (self.graphite_bytes, self.graphite_lists) = room_of(room)?;
             }
+            Some(("console", room)) => {
+                (self.console_bytes, self.console_lists) = room_of(room)?;
+            }
+            Some(("wires", room)) => (self.wire_bytes, self.wire_packets) = room_of(room)?,
             Some(("fail", failing)) => {
                 let (call, place) = failing.split_once(':').ok_or(Refusal::Malformed)?;
                 self.failing.push(Failing {
@@ -93,18 +115,32 @@ impl Case {
         Ok(())
     }
 
+    /// The wires of the run.
+    fn wires(&self, alloc: Global) -> Result<Vec<MemWire>, Refusal>
+        ensures { IfOk result (λ wires. length wires.items ≡ 256) }
+    {
+        let mut wires = Vec::new(alloc);
+        for _ in 0..WIRES {
+            wires.push(MemWire::open(alloc, self.wire_bytes, self.wire_packets)?)?;
+        }
+        Ok(wires)
+    }
+
     /// The objects of the run.
-    pub(crate) fn world(&self, alloc: Global) -> Result<MemWorld, Refusal> {
+    pub(crate) fn world(&self, alloc: Global) -> Result<MemWorld, Refusal>
+        ensures { IfOk result (λ world. length world.wires.items ≡ 256) }
+    {
         let mut world = World {
             settings: MemSource::of(self.settings.clone()?),
             script: MemSource::of(self.script.clone()?),
             output: MemSink::open(alloc, self.output_bytes)?,
             backs: Backs {
                 graphite: MemBackend::open(alloc, self.graphite_bytes, self.graphite_lists)?,
-                console: MemBackend::open(alloc, 0, 0)?,
+                console: MemBackend::open(alloc, self.console_bytes, self.console_lists)?,
                 graphite_used: false,
                 console_used: true,
             },
+            wires: self.wires(alloc)?,
         };
         for failing in &self.failing {
             fail(&mut world, *failing)?;
@@ -113,8 +149,34 @@ impl Case {
     }
 }
 
+/// The room that a word writes as two numbers with a slash between them.
+fn room_of(word: &str) -> Result<(usize, usize), Refusal> {
+    let (bytes, parts) = word.split_once('/').ok_or(Refusal::Malformed)?;
+    Ok((number(bytes)?, number(parts)?))
+}
+
+/// The wire of a call, by its number below 256.
+fn wire_of(word: &str) -> Result<usize, Refusal>
+    ensures { IfOk result (λ wire. wire < 256) }
+{
+    let wire = number::<usize>(word)?;
+    if wire < WIRES {
+        Ok(wire)
+    } else {
+        Err(Refusal::Malformed)
+    }
+}
+
 /// The call that a word names.
 fn call_of(word: &str) -> Result<Call, Refusal> {
+    if let Some((call, wire)) = word.split_once('/') {
+        let wire = wire_of(wire)?;
+        return match call {
+            "open_wire" => Ok(Call::OpenWire { wire }),
+            "send" => Ok(Call::Send { wire }),
+            _ => Err(Refusal::Malformed),
+        };
+    }
     match word {
         "open_settings" => Ok(Call::OpenSettings),
         "read_settings" => Ok(Call::ReadSettings),
@@ -124,13 +186,24 @@ fn call_of(word: &str) -> Result<Call, Refusal> {
         "begin" => Ok(Call::Begin),
         "write" => Ok(Call::Write),
         "finish" => Ok(Call::Finish),
+        "open_console" => Ok(Call::OpenConsole),
+        "begin_console" => Ok(Call::BeginConsole),
+        "write_console" => Ok(Call::WriteConsole),
+        "finish_console" => Ok(Call::FinishConsole),
         "write_output" => Ok(Call::WriteOutput),
         _ => Err(Refusal::Malformed),
     }
 }
 
+/// The wire of a number.
+fn wire_at(wires: &mut [MemWire], wire: usize) -> Result<&mut MemWire, Refusal> {
+    wires.get_mut(wire).ok_or(Refusal::Malformed)
+}
+
 /// Has a call fail.
-fn fail(world: &mut MemWorld, failing: Failing) -> Result<(), Refusal> {
+fn fail(world: &mut MemWorld, failing: Failing) -> Result<(), Refusal>
+    ensures { length (world.new).wires.items ≡ length (world.old).wires.items }
+{
     let number = failing.number;
     match failing.call {
         Call::OpenSettings => world.settings.fail_open.push(number)?,
@@ -141,6 +214,12 @@ fn fail(world: &mut MemWorld, failing: Failing) -> Result<(), Refusal> {
         Call::Begin => world.backs.graphite.fail_begin.push(number)?,
         Call::Write => world.backs.graphite.fail_call.push(number)?,
         Call::Finish => world.backs.graphite.fail_finish.push(number)?,
+        Call::OpenWire { wire } => wire_at(&mut world.wires, wire)?.fail_open.push(number)?,
+        Call::Send { wire } => wire_at(&mut world.wires, wire)?.fail_call.push(number)?,
+        Call::OpenConsole => world.backs.console.fail_open.push(number)?,
+        Call::BeginConsole => world.backs.console.fail_begin.push(number)?,
+        Call::WriteConsole => world.backs.console.fail_call.push(number)?,
+        Call::FinishConsole => world.backs.console.fail_finish.push(number)?,
         Call::WriteOutput => world.output.fail_call.push(number)?,
     }
     Ok(())

@@ -1,7 +1,7 @@
 use crate::case::MemWorld;
 use crate::status::show_status;
 use sd_case::Answer;
-use sd_outside::{Address, MemBackend};
+use sd_outside::{Address, MemBackend, MemWire};
 use sd_top::Status;
 
 /// Appends all that came of a run: its status, exit and explanation, Graphite's lists, the output, the counts of
@@ -9,7 +9,9 @@ use sd_top::Status;
 pub(crate) fn report(status: &Status, world: &MemWorld, out: &mut Answer) {
     out.text("\n  ");
     show_status(status, out);
-    show_lists(&world.backs.graphite, out);
+    show_lists(&world.backs.graphite, "list", out);
+    show_lists(&world.backs.console, "console", out);
+    show_wires(&world.wires, out);
     out.text("\n  output:");
     out.lines(world.output.bytes());
     show_faults(world, out);
@@ -20,15 +22,40 @@ pub(crate) fn report(status: &Status, world: &MemWorld, out: &mut Answer) {
     out.yes_or_no(world.backs.console_used);
 }
 
-/// Appends the lists that a backend was given, each with whether it was ended.
-fn show_lists(backend: &MemBackend, out: &mut Answer) {
+/// Appends the lists that a backend was given, each with whether it was ended, under a name.
+fn show_lists(backend: &MemBackend, name: &str, out: &mut Answer) {
     for place in 0..backend.lists() {
+        out.text("\n  ");
+        out.text(name);
         out.text(if backend.is_ended(place) {
-            "\n  list, ended:"
+            ", ended:"
         } else {
-            "\n  list, open:"
+            ", open:"
         });
         out.lines(backend.list(place));
+    }
+}
+
+/// Appends the wires that were opened or failed: where they were opened, how often they failed, and the packets that were
+/// sent.
+fn show_wires(wires: &[MemWire], out: &mut Answer) {
+    for (place, wire) in wires.iter().enumerate() {
+        if wire.opened_at().is_some() || wire.faults() > 0 {
+            out.count("\n  wire ", place as u64);
+            out.text(": opened ");
+            show_address(wire.opened_at(), out);
+            out.count(", faults ", wire.faults());
+            out.count(", packets ", wire.packets() as u64);
+            show_packets(wire, out);
+        }
+    }
+}
+
+/// Appends the packets that were sent on a wire, in order.
+fn show_packets(wire: &MemWire, out: &mut Answer) {
+    for place in 0..wire.packets() {
+        out.text("\n    ");
+        out.bytes(wire.packet(place));
     }
 }
 

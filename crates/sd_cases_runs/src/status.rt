@@ -6,12 +6,16 @@ use sd_replay::ScriptFault;
 use sd_top::{Part, Status, explain};
 use std::alloc::Global;
 
-/// The object that a word names.
+/// The object that a word names; a wire is `wire/NUMBER`.
 fn part_of(word: &str) -> Result<Part, Refusal> {
+    if let Some(("wire", wire)) = word.split_once('/') {
+        return Ok(Part::Wire(number(wire)?));
+    }
     match word {
         "settings" => Ok(Part::Settings),
         "script" => Ok(Part::Script),
         "graphite" => Ok(Part::Graphite),
+        "console" => Ok(Part::Console),
         _ => Err(Refusal::Malformed),
     }
 }

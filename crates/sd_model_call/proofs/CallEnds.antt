@@ -1,23 +1,25 @@
 -- How a call answers, where its replay can end in one way only, and where its settings are refused.
-use Rattle.std.proofs.Common.{◌≡◌, ◌⊎◌, ℕ, ◌<◌, Bool, true, false, List, [], ◌∷◌, ◌++◌, length, refl, sym, ap, subst, ◌∙◌, Option, Some, None, Ok, Err, inl, inr, nat_lt, codes, arith, length-append, append-nil, get_or}
-use Rattle.std.specs.Prelude.{IfSome, if◌then◌else◌}
+use Rattle.std.proofs.Common.{◌≡◌, ◌⊎◌, ℕ, ◌<◌, IsTrue, List, [], ◌∷◌, ◌++◌, length, refl, sym, ap, subst, ◌∙◌, Option, Some, None, Ok, Err, inl, inr, nat_lt, codes, arith, length-append, append-nil}
+use Rattle.std.specs.Prelude.{IfSome}
 use Rattle.std.proofs.lemmas.Bool.Decides.{nat_tests}
 use Rattle.std.proofs.lemmas.Bool.{cond-true}
 use Rattle.sd_model_outside.specs.Outside.{Place, Told, Left, Object, Rose, IsAtEnd, File, left_in}
 use Rattle.sd_model_settings.specs.Settings as file
 use Rattle.sd_model_settings.specs.Settings.{SettingsFlaw, OutOfRange, settings}
-use Rattle.sd_model_replay.specs.Settings.{Settings, goes_by, names_unbuilt}
-use Rattle.sd_model_replay.specs.Backends.{Graphite, Console}
+use Rattle.sd_model_replay.specs.Settings.{Settings, goes_by}
+use Rattle.sd_model_replay.specs.Backends.{Backend, Graphite, Console, is_used}
+use Rattle.sd_model_replay.specs.Repeater.{wire_at}
 use Rattle.sd_model_replay.specs.Script.{Command, end_word}
 use Rattle.sd_model_replay.specs.Next.{Next}
 use Rattle.sd_model_replay.specs.Totals.{totals_after}
-use Rattle.sd_model_replay.specs.AccountingTheorem.{Seen, Course, AccountingTheorem}
+use Rattle.sd_model_replay.specs.AccountingTheorem.{Seen, Course, AccountingTheorem, seen_at}
 use Rattle.sd_model_replay.specs.Ends.{End, Complete, Faulted, NotBuilt, ReadFailed, WriteFailed, WornOut, Replayed}
 use Rattle.sd_model_call.specs.Words.{Form}
-use Rattle.sd_model_call.specs.Opening.{World, Opening, OfSettings, OfScript, OfGraphite, AreRead, FailsToOpen, longest_file, openings, started}
-use Rattle.sd_model_call.specs.Call.{Answer, Done, NoMemory, NoForm, Misset, BadScript, NotOpened, NotRead, NotWritten, Unbuilt, Worn, Answers, AnswersReplay, Accounts, TakesSettings, Ran, ending}
-use Rattle.sd_model_call.specs.Completeness.{Asks, AsksPlainly, IsSteady, IsUnhindered, IsCutOff, IsLongest, IsWhole, IsFull, IsBlocked, CarriedOut, NoneMissed, refusal}
+use Rattle.sd_model_call.specs.Opening.{World, Part, OfSettings, OfScript, OfWire, OfGraphite, OfConsole, AreRead, longest_file, started}
+use Rattle.sd_model_call.specs.Call.{Answer, Done, NoMemory, NoForm, Misset, BadScript, NotOpened, NotRead, NotWritten, Unbuilt, Worn, Answers, AnswersReplay, Accounts, StopsAt, TakesSettings, Ran, ending}
+use Rattle.sd_model_call.specs.Completeness.{Asks, AsksPlainly, IsSteady, IsUnhindered, IsCutOff, IsLongest, IsWhole, IsFull, IsBlocked, IsOutward, CarriedOut, NoneMissed, refusal}
 use Rattle.sd_model_call.proofs.ReplayEnds.{LeftBehind, left_behind, carries_out}
+use Rattle.sd_model_call.proofs.Openings.{IsNamed, is_named, opened_where_faults, opened_wire_faults}
 
 module _ (s : Settings) (name : List ℕ) (old new : Seen) where
   -- what is known of a script and an output is known once the script is opened
@@ -33,13 +35,14 @@ module _ (s : Settings) (name : List ℕ) (old new : Seen) where
   pub longest_started : (commands : List Command) (bytes : List ℕ) → IsLongest s old new commands bytes → IsLongest s (started s name old) new commands bytes
   longest_started commands bytes h = record { steady = steady_started commands bytes h.steady; most = h.most }
 
-  graphite_started : (used : Bool) → s.uses_graphite ≡ used → (started s name old).graphite.faults ≡ old.graphite.faults
-  graphite_started true is = rw is refl
-  graphite_started false is = rw is refl
-
   pub none_missed_started : NoneMissed s old new → NoneMissed s (started s name old) new
-  none_missed_started none Graphite used = subst (λ (n : ℕ). ¬ Rose n new.graphite.faults) (sym (graphite_started s.uses_graphite refl)) (none Graphite used)
-  none_missed_started none Console used = none Console used
+  none_missed_started none = record { backends = backends; wires = wires } where
+    backends : (back : Backend) → IsTrue (is_used s back) → ¬ Rose (seen_at back (started s name old)).faults (seen_at back new).faults
+    backends Graphite used = subst (λ (n : ℕ). ¬ Rose n new.graphite.faults) (sym (opened_where_faults s.uses_graphite old.graphite)) (none.backends Graphite used)
+    backends Console used = subst (λ (n : ℕ). ¬ Rose n new.console.faults) (sym (opened_where_faults s.uses_console old.console)) (none.backends Console used)
+
+    wires : (i : ℕ) → i < length s.targets → ¬ Rose (wire_at i (started s name old).wires).faults (wire_at i new.wires).faults
+    wires i below = subst (λ (n : ℕ). ¬ Rose n (wire_at i new.wires).faults) (sym (opened_wire_faults s.targets old.wires i)) (none.wires i below)
 
 -- a replay that the program began, from what was seen then
 pub replayed : (end : End) (s : Settings) (name script : List ℕ) (course : Course) (start : Seen) (old new : World) → AccountingTheorem s course start new.seen → Ran end s name script course start old new → Replayed s end (started s script old.seen) new.seen
@@ -100,39 +103,39 @@ module _ (words : List (List ℕ)) (values : file.Settings) (old new : World) (p
     full_by s (BadScript at flaw) course start theorem h = at_end (Faulted at flaw) s course start theorem h
     full_by s (NotOpened OfSettings) course start theorem h = absurd (plainly.settings_faults h.0.failed.rose)
     full_by s (NotOpened OfScript) course start theorem h = absurd (script_faults h.0.fails.failed.rose)
-    full_by s (NotOpened OfGraphite) course start theorem h = inr refl
+    full_by s (NotOpened (OfWire i)) course start theorem h = inr (OfWire i, tt, refl)
+    full_by s (NotOpened OfGraphite) course start theorem h = inr (OfGraphite, tt, refl)
+    full_by s (NotOpened OfConsole) course start theorem h = inr (OfConsole, tt, refl)
     full_by s (NotRead OfSettings) course start theorem h =
         let before = ap (λ (o : Object). o.faults) h.0.failed.read in
         absurd (plainly.settings_faults (subst (λ (n : ℕ). Rose n new.settings.faults) (sym before) h.0.failed.failed.rose))
     full_by s (NotRead OfScript) course start theorem h = at_end ReadFailed s course start theorem h
+    full_by s (NotRead (OfWire i)) course start theorem h = absurd h
     full_by s (NotRead OfGraphite) course start theorem h = absurd h
+    full_by s (NotRead OfConsole) course start theorem h = absurd h
     full_by s NotWritten course start theorem h = at_end WriteFailed s course start theorem h
-    full_by s (Unbuilt at) course start theorem (inl h) =
-        let same : Ok h.0.values ≡ Ok values = sym h.0.file.accepted ∙ says h.0.file.bytes h.0.file.read in
-        let values_same : h.0.values ≡ values = cc in
-        let other : true ≡ false = sym h.0.unbuilt ∙ ap names_unbuilt values_same ∙ plainly.built in absurd (cc)
-    full_by s (Unbuilt at) course start theorem (inr h) = at_end (NotBuilt at) s course start theorem h
+    full_by s (Unbuilt at) course start theorem h = at_end (NotBuilt at) s course start theorem h
     full_by s (Worn turns) course start theorem h = at_end (WornOut turns) s course start theorem h
 
     pub full_answer : (answer : Answer) → Accounts words old new answer → IsFull expected answer
     full_answer answer h = full_by h.force answer h.course h.start h.theorem (answers_so answer h)
 
-  -- Graphite is used where it can't be opened
-  opened_used : (s : Settings) (used : Bool) → s.uses_graphite ≡ used → FailsToOpen OfGraphite (openings s script) old new → used ≡ true
-  opened_used s true is h = refl
-  opened_used s false is h = absurd (alone h.before (subst (λ b. record { part = OfScript; place = File script } ∷ (if b then record { part = OfGraphite; place = File [] } ∷ [] else []) ≡ h.before ++ record { part = OfGraphite; place = h.place } ∷ h.behind) is h.order)) where
-    alone : (before : List Opening) → record { part = OfScript; place = File script } ∷ [] ≡ before ++ record { part = OfGraphite; place = h.place } ∷ h.behind → ⊥
-    alone [] order = let head : OfScript ≡ OfGraphite = ap (λ (os : List Opening). (get_or os 0 (record { part = OfGraphite; place = h.place })).part) order in absurd (cc)
-    alone (o ∷ before) order = omega (arith, ap length order, length-append before (record { part = OfGraphite; place = h.place } ∷ h.behind))
+  -- a wire or a backend that couldn't be opened is named
+  stop_named : (part : Part) (stops : StopsAt part name script old new) → IsNamed (goes_by values) part
+  stop_named part stops =
+      let part_named = is_named (goes_by stops.values) script stops.fails.before stops.fails.behind (record { part = part; place = stops.fails.place }) stops.fails.order in
+      subst (λ (s : Settings). IsNamed s part) (ap goes_by (in_force stops.values stops.taken)) part_named
 
   -- and counts a fault then
-  pub graphite_opens : NoneMissed (goes_by values) old.seen new.seen → Accounts words old new (NotOpened OfGraphite) → ⊥
-  graphite_opens none h =
-      let stops = (answers_so (NotOpened OfGraphite) h).0 in
-      let s = goes_by stops.values in
-      let used = opened_used s s.uses_graphite refl stops.fails in
-      let same : s ≡ goes_by values = ap goes_by (in_force stops.values stops.taken) in
-      none Graphite (sym (ap (λ (f : Settings). f.uses_graphite) same) ∙ used) stops.fails.failed.rose
+  pub outward_opens : (part : Part) → IsOutward part → NoneMissed (goes_by values) old.seen new.seen → Accounts words old new (NotOpened part) → ⊥
+  outward_opens OfSettings outward none h = outward
+  outward_opens OfScript outward none h = outward
+  outward_opens (OfWire i) outward none h =
+      let stops = (answers_so (NotOpened (OfWire i)) h).0 in none.wires i (stop_named (OfWire i) stops) stops.fails.failed.rose
+  outward_opens OfGraphite outward none h =
+      let stops = (answers_so (NotOpened OfGraphite) h).0 in none.backends Graphite (stop_named OfGraphite stops) stops.fails.failed.rose
+  outward_opens OfConsole outward none h =
+      let stops = (answers_so (NotOpened OfConsole) h).0 in none.backends Console (stop_named OfConsole stops) stops.fails.failed.rose
 
   -- a call that says that it did what a script asks carried out its records
   pub done_carries_out : (commands : List Command) (rest : List ℕ) → IsUnhindered (goes_by values) old.seen new.seen commands rest
@@ -154,7 +157,7 @@ module _ (words : List (List ℕ)) (old new : World) (bytes : List ℕ) (refused
   -- settings that were taken aren't refused
   not_taken : {P : Type 0} (values : file.Settings) → TakesSettings asks.settings values old new → P
   not_taken values h =
-      let taken : refusal (settings h.file.bytes) ≡ None = ap refusal h.file.accepted ∙ ap (λ b. if b then Some (Unbuilt 0) else None) h.built in
+      let taken : refusal (settings h.file.bytes) ≡ None = ap refusal h.file.accepted in
       let both : None ≡ Some refused = sym taken ∙ says_so h.file.bytes h.file.read in absurd (cc)
 
   blocked_by : (s : Settings) (answer : Answer) (course : Course) (start : Seen) → AnswersReplay asks.settings asks.script s answer course start old new → IsBlocked refused answer
@@ -166,15 +169,16 @@ module _ (words : List (List ℕ)) (old new : World) (bytes : List ℕ) (refused
   blocked_by s (BadScript at flaw) course start h = not_taken h.values h.taken
   blocked_by s (NotOpened OfSettings) course start h = inr (inl refl)
   blocked_by s (NotOpened OfScript) course start h = not_taken h.0.values h.0.taken
+  blocked_by s (NotOpened (OfWire i)) course start h = not_taken h.0.values h.0.taken
   blocked_by s (NotOpened OfGraphite) course start h = not_taken h.0.values h.0.taken
+  blocked_by s (NotOpened OfConsole) course start h = not_taken h.0.values h.0.taken
   blocked_by s (NotRead OfSettings) course start h = inr (inr refl)
   blocked_by s (NotRead OfScript) course start h = not_taken h.values h.taken
+  blocked_by s (NotRead (OfWire i)) course start h = absurd h
   blocked_by s (NotRead OfGraphite) course start h = absurd h
+  blocked_by s (NotRead OfConsole) course start h = absurd h
   blocked_by s NotWritten course start h = not_taken h.values h.taken
-  blocked_by s (Unbuilt at) course start (inl h) =
-      let said : Some (Unbuilt 0) ≡ Some refused = sym (ap (λ b. if b then Some (Unbuilt 0) else None) h.0.unbuilt) ∙ ap refusal (sym h.0.file.accepted) ∙ says_so h.0.file.bytes h.0.file.read in
-      inl (inl (ap Unbuilt h.0.place ∙ cc))
-  blocked_by s (Unbuilt at) course start (inr h) = not_taken h.values h.taken
+  blocked_by s (Unbuilt at) course start h = not_taken h.values h.taken
   blocked_by s (Worn turns) course start h = not_taken h.values h.taken
 
   refused_so : (answer : Answer) (h : Accounts words old new answer) → AnswersReplay asks.settings asks.script h.force answer h.course h.start old new

@@ -1,27 +1,31 @@
 -- What a call keeps of each object: its count of faults doesn't fall.
-use Rattle.std.proofs.Common.{◌≡◌, ◌⊎◌, ℕ, ◌≤◌, Bool, true, false, ◌||◌, List, [], ◌∷◌, ◌++◌, refl, sym, ap, subst, arith, codes, Option, Some, None, inl, inr}
-use Rattle.std.specs.Prelude.{if◌then◌else◌}
+use Rattle.std.proofs.Common.{◌≡◌, ◌⊎◌, ℕ, ◌+◌, ◌≤◌, Bool, true, false, List, [], ◌∷◌, ◌++◌, length, refl, sym, ap, subst, arith, Option, Some, None, inl, inr}
 use Rattle.std.specs.List.{AllByRecursion}
+use Rattle.std.proofs.lemmas.Bool.{cases_lt}
 use Rattle.sd_model_outside.specs.Outside.{Place, File, Object, Used, HasRead, opened}
 use Rattle.sd_model_settings.specs.Settings as file
-use Rattle.sd_model_replay.specs.Settings.{Settings, goes_by, names_backend}
-use Rattle.sd_model_replay.specs.Backends.{Graphite, Console}
-use Rattle.sd_model_replay.specs.Replay.{Played, deliveries}
+use Rattle.sd_model_replay.specs.Settings.{Settings, goes_by}
+use Rattle.sd_model_replay.specs.Backends.{Backend, Graphite, Console, is_used}
+use Rattle.sd_model_replay.specs.Repeater.{wire_at}
+use Rattle.sd_model_replay.specs.Replay.{Played, deliveries, sendings}
 use Rattle.sd_model_replay.specs.Totals.{totals_after}
-use Rattle.sd_model_replay.specs.AccountingTheorem.{Seen, Course, AccountingTheorem}
+use Rattle.sd_model_replay.specs.AccountingTheorem.{Seen, Course, AccountingTheorem, seen_at}
 use Rattle.sd_model_replay.specs.Ends.{End, Complete, Faulted, NotBuilt, ReadFailed, WriteFailed, WornOut, OutputAfter}
 use Rattle.sd_model_call.specs.Words.{Form, Replay, form}
-use Rattle.sd_model_call.specs.Opening.{World, Opening, Part, OfSettings, OfScript, OfGraphite, IsOpened, IsUntouched, OnlySettings, UnusedStay, openings, opened_where, part_in, started}
+use Rattle.sd_model_call.specs.Opening.{World, Opening, Part, OfSettings, OfScript, OfWire, OfGraphite, OfConsole, IsOpened, IsUntouched, OnlySettings, UnusedStay, backend_openings, openings, part_in, started, wire_openings}
 use Rattle.sd_model_call.specs.Call.{Answer, Done, NoMemory, NoForm, Misset, BadScript, NotOpened, NotRead, NotWritten, Unbuilt, Worn, Answers, AnswersReplay, Accounts, NotBegun, TakesSettings, StopsAt, Ran}
 use Rattle.sd_model_replay.proofs.DeliveryLemmas.{all_counts}
+use Rattle.sd_model_replay.proofs.SendingLemmas.{wire_counts}
+use Rattle.sd_model_call.proofs.Openings.{all_append, all_behind, opened_where_faults, opened_wire_faults, wire_beyond, wire_opening}
 use Rattle.sd_model_call.proofs.CallEnds.{replayed}
 
 pub record Kept (old new : World) : Type 0 where
   pub settings : old.settings.faults ≤ new.settings.faults
   pub script : old.seen.script.faults ≤ new.seen.script.faults
   pub graphite : old.seen.graphite.faults ≤ new.seen.graphite.faults
+  pub console : old.seen.console.faults ≤ new.seen.console.faults
   pub output : Used old.seen.output new.seen.output
-  pub console : Used old.seen.console new.seen.console
+  pub wires : (i : ℕ) → (wire_at i old.seen.wires).faults ≤ (wire_at i new.seen.wires).faults
 
 used_same : (old new : Object) → new ≡ old → Used old new
 used_same old new same = let faults = ap (λ (o : Object). o.faults) same in record { faults = omega (arith, faults); opened_at = ap (λ (o : Object). o.opened_at) same }
@@ -38,26 +42,20 @@ output_used settings (WornOut turns) played old new h = let faults = ap (λ (o :
 read_faults : (bytes : List ℕ) (place : Place) (old new : Object) → HasRead bytes (opened place old) new → old.faults ≤ new.faults
 read_faults bytes place old new h = let faults = ap (λ (o : Object). o.faults) h in omega (arith, faults)
 
-opened_where_faults : (used : Bool) (o : Object) → o.faults ≤ (opened_where used o).faults
-opened_where_faults true o = omega arith
-opened_where_faults false o = omega arith
-
-neither : (a b : Bool) → (a || b) ≡ false → (a ≡ false) × (b ≡ false)
-neither true b h = absurd (cc)
-neither false b h = (refl, h)
-
 module _ (old new : World) where
   -- one that opened and read nothing but the settings
   kept_settings : old.settings.faults ≤ new.settings.faults → OnlySettings old new → Kept old new
   kept_settings settings only =
       let script = ap (λ (s : Seen). s.script.faults) only.seen in
       let graphite = ap (λ (s : Seen). s.graphite.faults) only.seen in
+      let console = ap (λ (s : Seen). s.console.faults) only.seen in
       record {
         settings = settings;
         script = omega (arith, script);
         graphite = omega (arith, graphite);
+        console = omega (arith, console);
         output = used_same old.seen.output new.seen.output (ap (λ (s : Seen). s.output) only.seen);
-        console = used_same old.seen.console new.seen.console (ap (λ (s : Seen). s.console) only.seen);
+        wires = λ i. omega (arith, ap (λ (s : Seen). (wire_at i s.wires).faults) only.seen);
       }
 
   -- the count of a part to open doesn't fall
@@ -72,44 +70,62 @@ module _ (old new : World) where
   untouched_kept [] all = tt
   untouched_kept (o ∷ os) all = let faults = ap (λ (x : Object). x.faults) all.0 in (omega (arith, faults), untouched_kept os all.1)
 
-  both_kept : (before behind : List Opening) → AllByRecursion IsKept before → AllByRecursion IsKept behind → AllByRecursion IsKept (before ++ behind)
-  both_kept [] behind first rest = rest
-  both_kept (o ∷ before) behind first rest = (first.0, both_kept before behind first.1 rest)
+  -- a backend's count, by whether it is opened
+  backend_kept : (part : Part) (back : Backend) (used : Bool) → part_in old part ≡ seen_at back old.seen → part_in new part ≡ seen_at back new.seen
+      → (used ≡ false → seen_at back new.seen ≡ seen_at back old.seen) → AllByRecursion IsKept (backend_openings part used) → (seen_at back old.seen).faults ≤ (seen_at back new.seen).faults
+  backend_kept part back true before after stays all =
+      let first = ap (λ (o : Object). o.faults) before in let then = ap (λ (o : Object). o.faults) after in omega (arith, first, then, all.0)
+  backend_kept part back false before after stays all = let faults = ap (λ (o : Object). o.faults) (stays refl) in omega (arith, faults)
 
-  -- Graphite's count, by whether it is opened
-  graphite_kept : (s : Settings) (script : List ℕ) (used : Bool) → s.uses_graphite ≡ used → AllByRecursion IsKept (openings s script) → UnusedStay s old new → old.seen.graphite.faults ≤ new.seen.graphite.faults
-  graphite_kept s script true is all unused = (subst (λ b. AllByRecursion IsKept (if b then record { part = OfGraphite; place = File [] } ∷ [] else [])) is all.1).0
-  graphite_kept s script false is all unused = let faults = ap (λ (o : Object). o.faults) (unused Graphite is) in omega (arith, faults)
+  front_kept : (before behind : List Opening) → AllByRecursion IsKept (before ++ behind) → AllByRecursion IsKept before
+  front_kept [] behind all = tt
+  front_kept (o ∷ before) behind all = (all.0, front_kept before behind all.1)
+
+  -- a wire's count, by whether it is opened
+  wire_kept : (s : Settings) (script : List ℕ) (i : ℕ) → AllByRecursion IsKept (openings s script) → UnusedStay s old new → (wire_at i old.seen.wires).faults ≤ (wire_at i new.seen.wires).faults
+  wire_kept s script i all unused = elim (cases_lt i (length s.targets)) [
+    | inl below ↦ let from : 0 + i ≡ i = omega arith in subst (λ k. (wire_at k old.seen.wires).faults ≤ (wire_at k new.seen.wires).faults) from
+        (wire_opening IsKept 0 i s.targets _ (λ k. (wire_at k old.seen.wires).faults ≤ (wire_at k new.seen.wires).faults) (λ k t h. h) below all.1)
+    | inr beyond ↦ let faults = ap (λ (o : Object). o.faults) (wire_beyond (length s.targets) i old.seen.wires new.seen.wires beyond unused.wires unused.count) in omega (arith, faults)
+  ]
 
   -- a call that began no replay once its settings were taken
   kept_parts : (name script : List ℕ) (values : file.Settings) (course : Course) (start : Seen) → TakesSettings name values old new → AllByRecursion IsKept (openings (goes_by values) script) → UnusedStay (goes_by values) old new → NotBegun course start old new → Kept old new
-  kept_parts name script values course start taken all unused idle = record {
-    settings = read_faults taken.file.bytes (File name) old.settings new.settings taken.file.read.read;
-    script = all.0;
-    graphite = graphite_kept (goes_by values) script (goes_by values).uses_graphite refl all unused;
-    output = used_same old.seen.output new.seen.output idle.output;
-    console = used_same old.seen.console new.seen.console (unused Console (neither (names_backend (codes "console") values) (names_backend (codes "repeater") values) taken.built).0);
-  }
+  kept_parts name script values course start taken all unused idle =
+      let s = goes_by values in
+      let graphite = backend_openings OfGraphite s.uses_graphite in
+      let console = backend_openings OfConsole s.uses_console in
+      let backends = all_behind IsKept (wire_openings 0 s.targets) (graphite ++ console) all.1 in
+      record {
+        settings = read_faults taken.file.bytes (File name) old.settings new.settings taken.file.read.read;
+        script = all.0;
+        graphite = backend_kept OfGraphite Graphite s.uses_graphite refl refl (unused.backends Graphite) (front_kept graphite console backends);
+        console = backend_kept OfConsole Console s.uses_console refl refl (unused.backends Console) (all_behind IsKept graphite console backends);
+        output = used_same old.seen.output new.seen.output idle.output;
+        wires = λ i. wire_kept s script i all unused;
+      }
 
   kept_run : (end : End) (s : Settings) (name script : List ℕ) (course : Course) (start : Seen) → AccountingTheorem s course start new.seen → Ran end s name script course start old new → Kept old new
   kept_run end s name script course start theorem ran =
       let r = replayed end s name script course start old new theorem ran in
       let began = started s script old.seen in
       let graphite = all_counts (deliveries s Graphite r.course.played) began.graphite new.seen.graphite (r.theorem.texts Graphite) in
-      let console = all_counts (deliveries s Console r.course.played) old.seen.console new.seen.console (r.theorem.texts Console) in
-      let opened_faults = opened_where_faults s.uses_graphite old.seen.graphite in
+      let console = all_counts (deliveries s Console r.course.played) began.console new.seen.console (r.theorem.texts Console) in
+      let opened_graphite = opened_where_faults s.uses_graphite old.seen.graphite in
+      let opened_console = opened_where_faults s.uses_console old.seen.console in
       record {
         settings = read_faults ran.taken.file.bytes (File name) old.settings new.settings ran.taken.file.read.read;
         script = r.ends.script.faults;
-        graphite = omega (arith, opened_faults, graphite.used.faults);
+        graphite = omega (arith, opened_graphite, graphite.used.faults);
+        console = omega (arith, opened_console, console.used.faults);
         output = output_used s end r.course.played old.seen.output new.seen.output r.ends.output;
-        console = console.used;
+        wires = λ i. omega (arith, opened_wire_faults s.targets old.seen.wires i, (wire_counts (sendings r.course.played) i began.wires new.seen.wires r.theorem.sends).used.faults);
       }
 
   kept_stop : (part : Part) (name script : List ℕ) (course : Course) (start : Seen) → StopsAt part name script old new → NotBegun course start old new → Kept old new
   kept_stop part name script course start h idle =
       kept_parts name script h.values course start h.taken
-      (subst (AllByRecursion IsKept) (sym h.fails.order) (both_kept h.fails.before (record { part = part; place = h.fails.place } ∷ h.fails.behind) (opened_kept h.fails.before h.fails.opened) (h.fails.failed.used.faults, untouched_kept h.fails.behind h.fails.untouched)))
+      (subst (AllByRecursion IsKept) (sym h.fails.order) (all_append IsKept h.fails.before (record { part = part; place = h.fails.place } ∷ h.fails.behind) (opened_kept h.fails.before h.fails.opened) (h.fails.failed.used.faults, untouched_kept h.fails.behind h.fails.untouched)))
       h.unused idle
 
   kept_by : (name script : List ℕ) (s : Settings) (answer : Answer) (course : Course) (start : Seen) → AccountingTheorem s course start new.seen → AnswersReplay name script s answer course start old new → Kept old new
@@ -120,22 +136,25 @@ module _ (old new : World) where
     left_off (inr (bytes, read)) = read_faults bytes (File name) old.settings new.settings read
   kept_by name script s NoMemory course start theorem (inr h, idle) =
       kept_parts name script h.values course start h.taken
-      (subst (AllByRecursion IsKept) (sym h.some.order) (both_kept h.some.before h.some.behind (opened_kept h.some.before h.some.opened) (untouched_kept h.some.behind h.some.untouched)))
+      (subst (AllByRecursion IsKept) (sym h.some.order) (all_append IsKept h.some.before h.some.behind (opened_kept h.some.before h.some.opened) (untouched_kept h.some.behind h.some.untouched)))
       h.unused idle
   kept_by name script s NoForm course start theorem h = absurd h
   kept_by name script s (Misset flaw) course start theorem h = kept_settings (read_faults h.0.file.bytes (File name) old.settings new.settings h.0.file.read.read) h.0.only
   kept_by name script s (BadScript at flaw) course start theorem h = kept_run (Faulted at flaw) s name script course start theorem h
   kept_by name script s (NotOpened OfSettings) course start theorem h = kept_settings h.0.failed.used.faults h.0.only
   kept_by name script s (NotOpened OfScript) course start theorem h = kept_stop OfScript name script course start h.0 h.1
+  kept_by name script s (NotOpened (OfWire i)) course start theorem h = kept_stop (OfWire i) name script course start h.0 h.1
   kept_by name script s (NotOpened OfGraphite) course start theorem h = kept_stop OfGraphite name script course start h.0 h.1
+  kept_by name script s (NotOpened OfConsole) course start theorem h = kept_stop OfConsole name script course start h.0 h.1
   kept_by name script s (NotRead OfSettings) course start theorem h =
       let first = read_faults h.0.failed.bytes (File name) old.settings h.0.failed.before h.0.failed.read in
       kept_settings (omega (arith, first, h.0.failed.failed.used.faults)) h.0.only
   kept_by name script s (NotRead OfScript) course start theorem h = kept_run ReadFailed s name script course start theorem h
+  kept_by name script s (NotRead (OfWire i)) course start theorem h = absurd h
   kept_by name script s (NotRead OfGraphite) course start theorem h = absurd h
+  kept_by name script s (NotRead OfConsole) course start theorem h = absurd h
   kept_by name script s NotWritten course start theorem h = kept_run WriteFailed s name script course start theorem h
-  kept_by name script s (Unbuilt at) course start theorem (inl h) = kept_settings (read_faults h.0.file.bytes (File name) old.settings new.settings h.0.file.read.read) h.0.only
-  kept_by name script s (Unbuilt at) course start theorem (inr h) = kept_run (NotBuilt at) s name script course start theorem h
+  kept_by name script s (Unbuilt at) course start theorem h = kept_run (NotBuilt at) s name script course start theorem h
   kept_by name script s (Worn turns) course start theorem h = kept_run (WornOut turns) s name script course start theorem h
 
   kept_form : (f : Option Form) (s : Settings) (answer : Answer) (course : Course) (start : Seen) → AccountingTheorem s course start new.seen → Answers f s answer course start old new → Kept old new

@@ -1,3 +1,4 @@
+pub mod Openings
 pub mod ReplayEnds
 pub mod CallEnds
 pub mod KeptFaults

@@ -1,5 +1,5 @@
 -- How a replay ends whose script tells its records, where no fault was counted.
-use Rattle.std.proofs.Common.{◌≡◌, ℕ, ◌+◌, ◌<◌, Bool, true, false, IsTrue, List, [], ◌∷◌, ◌++◌, length, map, min, refl, sym, ap, subst, ◌∙◌, arith, append_assoc, append-nil, length-append, inl, inr}
+use Rattle.std.proofs.Common.{◌≡◌, ℕ, suc, ◌+◌, ◌<◌, Bool, true, false, cond, get_or, IsTrue, List, [], ◌∷◌, ◌++◌, length, map, min, refl, sym, ap, subst, ◌∙◌, arith, append_assoc, append-nil, length-append, inl, inr}
 use Rattle.std.specs.Prelude.{⊤}
 use Rattle.std.specs.List.{AllByRecursion}
 use Rattle.std.proofs.lemmas.List.{length-map}
@@ -10,15 +10,18 @@ use Rattle.sd_model_replay.specs.Settings.{Settings}
 use Rattle.sd_model_replay.specs.Backends.{Backend, Graphite, Console, Delivery, AfterDeliveries, FitsUse, is_used, mark_of, missed}
 use Rattle.sd_model_replay.specs.Script.{Command, Packet, Flush, spelled, end_word, script_text, IsBuilt, BeginsRecord}
 use Rattle.sd_model_replay.specs.Next.{Next, Carried, Ending, Faulty, Unbuilt, Begins}
-use Rattle.sd_model_replay.specs.Replay.{Outcome, Played, Run, IsOutcome, first_run, play, flushes, deliveries, output_of}
+use Rattle.sd_model_settings.specs.Entries.{Target}
+use Rattle.sd_model_replay.specs.Repeater.{AfterSendings, missed_on, wire_at, Sending}
+use Rattle.sd_model_replay.specs.Replay.{Outcome, Played, Run, IsOutcome, first_run, no_marks, play, flushes, deliveries, sendings, output_of}
 use Rattle.sd_model_replay.specs.Totals.{Totals, totals_after, totals_text}
 use Rattle.sd_model_replay.specs.AccountingTheorem.{Seen, Course, AccountingTheorem, seen_at}
 use Rattle.sd_model_replay.specs.Ends.{End, Complete, Faulted, NotBuilt, ReadFailed, WriteFailed, WornOut, most_records, StopsFor, EndsAs, Replayed, behind}
-use Rattle.sd_model_call.specs.Completeness.{IsSteady, IsUnhindered, IsCutOff, IsLongest, CarriedOut, CarriedOutWell, NoneMissed, well, well_mark}
+use Rattle.sd_model_call.specs.Completeness.{IsSteady, IsUnhindered, IsCutOff, IsLongest, CarriedOut, CarriedOutWell, NoneMissed, well, well_mark, well_sent}
 use Rattle.sd_model_replay.proofs.ReadingLemmas.{Behind, ended_script, cut_script, one_script, one_end, not_end, begins, begins_record}
 use Rattle.sd_model_replay.proofs.NextLemmas.{one_next, next_stays}
 use Rattle.sd_model_replay.proofs.DeliveryLemmas.{all_counts, none_missed, written_mark}
 use Rattle.sd_model_replay.proofs.ReplayLemmas.{delivery_of}
+use Rattle.sd_model_replay.proofs.SendingLemmas.{wire_counts}
 
 -- what a script tells that it has left, where it told what it had
 pub record LeftBehind (front whole : List ℕ) (told : Told) : Type 0 where
@@ -244,7 +247,21 @@ module _ (settings : Settings) (old new : Seen) (commands : List Command) (bytes
 pub replay_wears_out : (settings : Settings) (old new : Seen) (commands : List Command) (bytes : List ℕ) (end : End) → IsLongest settings old new commands bytes → Replayed settings end old new → end ≡ WornOut most_records
 replay_wears_out settings old new commands bytes end longest h = ends_worn settings old new commands bytes longest h.course h.theorem end h.ends
 
--- Records carried out where no backend that is used missed a flush.
+-- what a send counts as a fault
+abbrev fault_of_send : Bool → ℕ
+fault_of_send f = cond f 1 0
+
+-- sends of which none failed
+none_failed : (failed : List Bool) (targets : List Target) → length failed ≡ length targets → ((i : ℕ) → i < length targets → fault_of_send (get_or failed i false) ≡ 0) → failed ≡ well_sent targets
+none_failed [] [] count none = refl
+none_failed (f ∷ failed) (t ∷ targets) count none = one f (none 0 (omega arith)) (none_failed failed targets (omega (arith, count)) (λ i below. none (suc i) (omega (arith, below)))) where
+  one : (g : Bool) → fault_of_send g ≡ 0 → failed ≡ well_sent targets → g ∷ failed ≡ false ∷ well_sent targets
+  one true is rest = absurd (omega (arith, is))
+  one false is rest = ap (λ (gs : List Bool). false ∷ gs) rest
+none_failed [] (t ∷ targets) count none = absurd (omega (arith, count))
+none_failed (f ∷ failed) [] count none = absurd (omega (arith, count))
+
+-- Records carried out where no backend that is used missed a flush, and no packet was missed on the wire of a target.
 module _ (settings : Settings) where
   -- what flushes have for a backend, from a state on
   abbrev deliveries_from : Run → Backend → List Played → List Delivery
@@ -265,30 +282,44 @@ module _ (settings : Settings) where
       sum_by-cons (λ (d : Delivery). fault_of d.mark) (delivery_of settings back (record { before = run; ts = ts; marks = outcome.marks }))
       (deliveries_from (play settings run (record { command = Flush ts; outcome = outcome })) back played)
 
-  -- one record, before others that were carried out well
-  one_well : (run : Run) (c : Command) (outcome : Outcome) (played : List Played) → IsOutcome settings c outcome → IsMet run (record { command = c; outcome = outcome } ∷ played)
-      → (IsMet (play settings run (record { command = c; outcome = outcome })) played → played ≡ map (well settings) (commands_of played))
-      → record { command = c; outcome = outcome } ∷ played ≡ well settings c ∷ map (well settings) (commands_of played)
-  one_well run (Packet who moment datagram) outcome played is met others =
-      ap (λ o. record { command = Packet who moment datagram; outcome = o } ∷ played) is
-      ∙ ap (λ ps. well settings (Packet who moment datagram) ∷ ps) (others met)
-  one_well run (Flush ts) outcome played is met others =
-      let graphite = written_or_unused settings.uses_graphite outcome.marks.graphite (is Graphite) (λ on. omega (arith, met Graphite on, missed-flush run ts outcome played Graphite)) in
-      let console = written_or_unused settings.uses_console outcome.marks.console (is Console) (λ on. omega (arith, met Console on, missed-flush run ts outcome played Console)) in
-      ap (λ ps. record { command = Flush ts; outcome = outcome } ∷ ps) (others (λ back on. omega (arith, met back on, missed-flush run ts outcome played back)))
-      ∙ (λ i. record { command = Flush ts; outcome = record { marks = record { graphite = graphite i; console = console i } } } ∷ map (well settings) (commands_of played))
+  -- no packet was missed on the wire of a target
+  abbrev AreAllSent : List Played → Type 0
+  AreAllSent played = (i : ℕ) → i < length settings.targets → missed_on i (sendings played) ≡ 0
 
-  all_well : (run : Run) (played : List Played) → AllByRecursion (λ p. IsOutcome settings p.command p.outcome) played → IsMet run played → played ≡ map (well settings) (commands_of played)
-  all_well run [] used met = refl
-  all_well run (p ∷ played) used met = one_well run p.command p.outcome played used.0 met (all_well (play settings run p) played used.1)
+  -- a packet more, before others
+  missed-packet : (packet : List ℕ) (failed : List Bool) (rest : List Sending) (i : ℕ) → missed_on i (record { packet = packet; failed = failed } ∷ rest) ≡ fault_of_send (get_or failed i false) + missed_on i rest
+  missed-packet packet failed rest i = sum_by-cons (λ (s : Sending). fault_of_send (get_or s.failed i false)) (record { packet = packet; failed = failed }) rest
+
+  -- one record, before others that were carried out well
+  one_well : (run : Run) (c : Command) (outcome : Outcome) (played : List Played) → IsOutcome settings c outcome → IsMet run (record { command = c; outcome = outcome } ∷ played) → AreAllSent (record { command = c; outcome = outcome } ∷ played)
+      → (IsMet (play settings run (record { command = c; outcome = outcome })) played → AreAllSent played → played ≡ map (well settings) (commands_of played))
+      → record { command = c; outcome = outcome } ∷ played ≡ well settings c ∷ map (well settings) (commands_of played)
+  one_well run (Packet who moment datagram) outcome played is met sent others =
+      let failed = none_failed outcome.failed settings.targets is.1 (λ i below. omega (arith, sent i below, missed-packet datagram outcome.failed (sendings played) i)) in
+      let marks = is.0 in
+      ap (λ ps. record { command = Packet who moment datagram; outcome = outcome } ∷ ps) (others met (λ i below. omega (arith, sent i below, missed-packet datagram outcome.failed (sendings played) i)))
+      ∙ (λ i. record { command = Packet who moment datagram; outcome = record { marks = marks i; failed = failed i } } ∷ map (well settings) (commands_of played))
+  one_well run (Flush ts) outcome played is met sent others =
+      let graphite = written_or_unused settings.uses_graphite outcome.marks.graphite (is.1 Graphite) (λ on. omega (arith, met Graphite on, missed-flush run ts outcome played Graphite)) in
+      let console = written_or_unused settings.uses_console outcome.marks.console (is.1 Console) (λ on. omega (arith, met Console on, missed-flush run ts outcome played Console)) in
+      let failed = is.0 in
+      ap (λ ps. record { command = Flush ts; outcome = outcome } ∷ ps) (others (λ back on. omega (arith, met back on, missed-flush run ts outcome played back)) sent)
+      ∙ (λ i. record { command = Flush ts; outcome = record { marks = record { graphite = graphite i; console = console i }; failed = failed i } } ∷ map (well settings) (commands_of played))
+
+  all_well : (run : Run) (played : List Played) → AllByRecursion (λ p. IsOutcome settings p.command p.outcome) played → IsMet run played → AreAllSent played → played ≡ map (well settings) (commands_of played)
+  all_well run [] used met sent = refl
+  all_well run (p ∷ played) used met sent = one_well run p.command p.outcome played used.0 met sent (all_well (play settings run p) played used.1)
 
 pub carries_out_well : (settings : Settings) (old new : Seen) (commands : List Command) (rest : List ℕ) → NoneMissed settings old new → CarriedOut settings old new commands rest → CarriedOutWell settings old new commands
 carries_out_well settings old new commands rest none out =
     let played = out.course.played in
-    let met : IsMet settings first_run played = λ back on. none_missed (missed (deliveries settings back played)) (seen_at back old) (seen_at back new) (none back on)
+    let met : IsMet settings first_run played = λ back on. none_missed (missed (deliveries settings back played)) (seen_at back old) (seen_at back new) (none.backends back on)
     (all_counts (deliveries settings back played) (seen_at back old) (seen_at back new) (out.theorem.texts back)) in
-    let alike : played ≡ map (well settings) commands = all_well settings first_run played out.theorem.used met ∙ ap (map (well settings)) out.all in
+    let sent : AreAllSent settings played = λ i below. none_missed (missed_on i (sendings played)) (wire_at i old.wires) (wire_at i new.wires) (none.wires i below)
+    (wire_counts (sendings played) i old.wires new.wires out.theorem.sends) in
+    let alike : played ≡ map (well settings) commands = all_well settings first_run played out.theorem.used met sent ∙ ap (map (well settings)) out.all in
     record {
       backends = λ back. subst (λ ps. AfterDeliveries (deliveries settings back ps) (seen_at back old) (seen_at back new)) alike (out.theorem.texts back);
+      wires = subst (λ ps. AfterSendings (sendings ps) old.wires new.wires) alike out.theorem.sends;
       output = subst (λ ps. new.output ≡ given (output_of settings ps ++ totals_text (totals_after settings ps)) old.output) alike out.output;
     }

@@ -1,15 +1,15 @@
 -- What the program answers to its words, and what was done by then.
-use Rattle.std.specs.Prelude.{◌≡◌, ◌⊎◌, ℕ, true, false, List, [], Option, Some, None}
+use Rattle.std.specs.Prelude.{◌≡◌, ◌⊎◌, ℕ, List, [], Option, Some, None}
 use Rattle.sd_model_outside.specs.Outside.{File, HasFailed}
 use Rattle.sd_model_settings.specs.Settings as file
 use Rattle.sd_model_settings.specs.Settings.{SettingsFlaw}
-use Rattle.sd_model_replay.specs.Settings.{Settings, goes_by, names_unbuilt}
+use Rattle.sd_model_replay.specs.Settings.{Settings, goes_by}
 use Rattle.sd_model_replay.specs.Totals.{totals_after}
 use Rattle.sd_model_replay.specs.AccountingTheorem.{Seen, Course, AccountingTheorem}
 use Rattle.sd_model_replay.specs.Next.{ScriptFlaw}
 use Rattle.sd_model_replay.specs.Ends.{End, Complete, Faulted, NotBuilt, ReadFailed, WriteFailed, WornOut, EndsAs}
 use Rattle.sd_model_call.specs.Words.{Form, Replay, form}
-use Rattle.sd_model_call.specs.Opening.{Part, OfSettings, OfScript, OfGraphite, World, flags_of, IsFlawed, IsAccepted, FailsBehind, IsLeftOff, OnlySettings, openings, UnusedStay, OpensSome, FailsToOpen, started}
+use Rattle.sd_model_call.specs.Opening.{Part, OfSettings, OfScript, OfWire, OfGraphite, OfConsole, World, flags_of, IsFlawed, IsAccepted, FailsBehind, IsLeftOff, OnlySettings, openings, UnusedStay, OpensSome, FailsToOpen, started}
 
 -- How the program answers: all was done; no memory was left; the words are of no form; the settings have this flaw; the
 -- script's record at this place has this one; an object couldn't be opened; a read failed; the output failed; what stands at
@@ -35,24 +35,14 @@ ending ReadFailed = NotRead OfScript
 ending WriteFailed = NotWritten
 ending (WornOut turns) = Worn turns
 
--- The settings were read and accepted, with these values, which name no backend that isn't built; and the flags say which
--- they name.
+-- The settings were read and accepted, with these values, and the flags say which backends they name.
 pub record TakesSettings (name : List ℕ) (values : file.Settings) (old new : World) : Type 0 where
   pub file : IsAccepted values (File name) old.settings new.settings
-  pub built : names_unbuilt values ≡ false
   pub flags : new.flags ≡ flags_of (goes_by values)
 
 -- the settings were read and have this flaw, and nothing else was opened
 pub record HasFlaw (flaw : SettingsFlaw) (name : List ℕ) (old new : World) : Type 0 where
   pub file : IsFlawed flaw (File name) old.settings new.settings
-  pub only : OnlySettings old new
-
--- the settings were read and accepted, and name a backend that isn't built; nothing else was opened
-pub record NamesUnbuilt (at : ℕ) (name : List ℕ) (old new : World) : Type 0 where
-  pub place : at ≡ 0
-  pub values : file.Settings
-  pub file : IsAccepted values (File name) old.settings new.settings
-  pub unbuilt : names_unbuilt values ≡ true
   pub only : OnlySettings old new
 
 -- the settings were opened, and a read of them failed, behind bytes that don't decide yet what the file says; nothing else
@@ -92,7 +82,8 @@ pub record NotBegun (course : Course) (start : Seen) (old new : World) : Type 0 
   pub since : start ≡ new.seen
   pub output : new.seen.output ≡ old.seen.output
 
--- A replay by settings that were read, of a script that was opened, as was each backend that is used, ended so.
+-- A replay by settings that were read, of a script that was opened, as was a wire for each target and each backend that is
+-- used, ended so.
 pub record Ran (end : End) (s : Settings) (name script : List ℕ) (course : Course) (start : Seen) (old new : World) : Type 0 where
   pub values : file.Settings
   pub taken : TakesSettings name values old new
@@ -109,13 +100,16 @@ AnswersReplay name script s (Misset flaw) course start old new = HasFlaw flaw na
 AnswersReplay name script s (BadScript at flaw) course start old new = Ran (Faulted at flaw) s name script course start old new
 AnswersReplay name script s (NotOpened OfSettings) course start old new = FailsToOpenSettings old new × NotBegun course start old new
 AnswersReplay name script s (NotOpened OfScript) course start old new = StopsAt OfScript name script old new × NotBegun course start old new
+AnswersReplay name script s (NotOpened (OfWire i)) course start old new = StopsAt (OfWire i) name script old new × NotBegun course start old new
 AnswersReplay name script s (NotOpened OfGraphite) course start old new = StopsAt OfGraphite name script old new × NotBegun course start old new
+AnswersReplay name script s (NotOpened OfConsole) course start old new = StopsAt OfConsole name script old new × NotBegun course start old new
 AnswersReplay name script s (NotRead OfSettings) course start old new = FailsToRead name old new × NotBegun course start old new
 AnswersReplay name script s (NotRead OfScript) course start old new = Ran ReadFailed s name script course start old new
+AnswersReplay name script s (NotRead (OfWire i)) course start old new = ⊥
 AnswersReplay name script s (NotRead OfGraphite) course start old new = ⊥
+AnswersReplay name script s (NotRead OfConsole) course start old new = ⊥
 AnswersReplay name script s NotWritten course start old new = Ran WriteFailed s name script course start old new
-AnswersReplay name script s (Unbuilt at) course start old new =
-    (NamesUnbuilt at name old new × NotBegun course start old new) ⊎ Ran (NotBuilt at) s name script course start old new
+AnswersReplay name script s (Unbuilt at) course start old new = Ran (NotBuilt at) s name script course start old new
 AnswersReplay name script s (Worn turns) course start old new = Ran (WornOut turns) s name script course start old new
 
 -- words of no form are refused, and nothing is opened or used

@@ -1,21 +1,23 @@
 -- What a call has to come to, by its words, what its objects tell, and where no fault was counted.
-use Rattle.std.specs.Prelude.{◌≡◌, ◌⊎◌, ℕ, ◌<◌, Bool, false, IsTrue, if◌then◌else◌, List, [], ◌++◌, length, map, Option, Some, None, Result, Ok, Err}
+use Rattle.std.specs.Prelude.{◌≡◌, ◌⊎◌, ℕ, ◌<◌, Bool, false, IsTrue, ⊤, if◌then◌else◌, List, [], ◌++◌, length, map, Option, Some, None, Result, Ok, Err}
 use Rattle.std.specs.List.{AllByRecursion}
 use Rattle.sd_model_outside.specs.Outside.{Left, Rose, given}
 use Rattle.sd_model_record.specs.Desk.{Mark, NotUsed, Written}
-use Rattle.sd_model_replay.specs.Settings.{Settings, names_unbuilt}
+use Rattle.sd_model_replay.specs.Settings.{Settings}
 use Rattle.sd_model_replay.specs.Backends.{Backend, AfterDeliveries, is_used}
 use Rattle.sd_model_replay.specs.Script.{Command, Packet, Flush, end_word, script_text, IsBuilt}
 use Rattle.sd_model_replay.specs.Next.{Next, Begins}
-use Rattle.sd_model_replay.specs.Replay.{Played, quiet, deliveries, output_of}
+use Rattle.sd_model_replay.specs.Repeater.{AfterSendings, wire_at}
+use Rattle.sd_model_replay.specs.Replay.{Played, no_marks, deliveries, sendings, output_of}
 use Rattle.sd_model_replay.specs.Totals.{totals_after, totals_text}
 use Rattle.sd_model_replay.specs.AccountingTheorem.{Seen, Course, AccountingTheorem, seen_at}
 use Rattle.sd_model_replay.specs.Ends.{most_records, behind}
 use Rattle.sd_model_call.specs.Words.{Replay, form}
 use Rattle.sd_model_settings.specs.Settings as file
+use Rattle.sd_model_settings.specs.Entries.{Target}
 use Rattle.sd_model_settings.specs.Settings.{SettingsFlaw, settings}
-use Rattle.sd_model_call.specs.Opening.{World, OfSettings, OfGraphite}
-use Rattle.sd_model_call.specs.Call.{Answer, NoMemory, Misset, NotOpened, NotRead, Unbuilt}
+use Rattle.sd_model_call.specs.Opening.{World, Part, OfSettings, OfScript, OfWire, OfGraphite, OfConsole}
+use Rattle.sd_model_call.specs.Call.{Answer, NoMemory, Misset, NotOpened, NotRead}
 
 -- The script tells that it has these built records and then these bytes, and no fault was counted of it.
 pub record IsSteady (settings : Settings) (old new : Seen) (commands : List Command) (bytes : List ℕ) : Type 0 where
@@ -49,31 +51,38 @@ pub record Asks (words : List (List ℕ)) (old new : World) (bytes : List ℕ) :
   pub form : form words ≡ Some (Replay settings script)
   pub told : old.settings.told ≡ Left bytes
 
--- such a call whose settings are accepted with these values, which name no backend that isn't built; and no fault was counted
--- of them
+-- such a call whose settings are accepted with these values, and no fault was counted of them
 pub record AsksPlainly (words : List (List ℕ)) (values : file.Settings) (old new : World) : Type 0 where
   pub bytes : List ℕ
   pub asks : Asks words old new bytes
   pub accepted : settings bytes ≡ Ok values
-  pub built : names_unbuilt values ≡ false
   pub settings_faults : ¬ Rose old.settings.faults new.settings.faults
 
--- no fault was counted of a backend that is used
-abbrev pub NoneMissed : Settings → Seen → Seen → Type 0
-NoneMissed settings old new = (back : Backend) → IsTrue (is_used settings back) → ¬ Rose (seen_at back old).faults (seen_at back new).faults
+-- no fault was counted of a backend that is used, nor of the wire of a target
+pub record NoneMissed (settings : Settings) (old new : Seen) : Type 0 where
+  pub backends : (back : Backend) → IsTrue (is_used settings back) → ¬ Rose (seen_at back old).faults (seen_at back new).faults
+  pub wires : (i : ℕ) → i < length settings.targets → ¬ Rose (wire_at i old.wires).faults (wire_at i new.wires).faults
 
 -- the answer that is expected, or that no memory was left
 abbrev pub IsWhole : Answer → Answer → Type 0
 IsWhole ended answer = (answer ≡ ended) ⊎ (answer ≡ NoMemory)
 
--- besides, that Graphite couldn't be opened
-abbrev pub IsFull : Answer → Answer → Type 0
-IsFull ended answer = IsWhole ended answer ⊎ (answer ≡ NotOpened OfGraphite)
+-- a wire or a backend, whose faults never end a replay that has begun
+abbrev pub IsOutward : Part → Type 0
+IsOutward OfSettings = ⊥
+IsOutward OfScript = ⊥
+IsOutward (OfWire i) = ⊤
+IsOutward OfGraphite = ⊤
+IsOutward OfConsole = ⊤
 
--- what a call has to answer whose settings have a flaw, or name a backend that isn't built; with nothing told, all else
+-- besides, that a wire or a backend couldn't be opened
+abbrev pub IsFull : Answer → Answer → Type 0
+IsFull ended answer = IsWhole ended answer ⊎ ((part : Part) × IsOutward part × (answer ≡ NotOpened part))
+
+-- what a call has to answer whose settings have a flaw; with nothing told, all else
 abbrev pub refusal : Result file.Settings SettingsFlaw → Option Answer
 refusal (Err flaw) = Some (Misset flaw)
-refusal (Ok values) = if names_unbuilt values then Some (Unbuilt 0) else None
+refusal (Ok values) = None
 
 -- such a call's answer, or that the settings couldn't be opened or read
 abbrev pub IsBlocked : Answer → Answer → Type 0
@@ -91,14 +100,22 @@ pub record CarriedOut (settings : Settings) (old new : Seen) (commands : List Co
 abbrev pub well_mark : Bool → Mark
 well_mark used = if used then Written else NotUsed
 
+-- a send to each target, of which none failed
+abbrev pub well_sent : List Target → List Bool
+well_sent targets = map (λ t. false) targets
+
 -- a record carried out with no fault
 abbrev pub well : Settings → Command → Played
-well settings (Packet who moment datagram) = record { command = Packet who moment datagram; outcome = quiet }
+well settings (Packet who moment datagram) = record { command = Packet who moment datagram; outcome = record { marks = no_marks; failed = well_sent settings.targets } }
 well settings (Flush ts) =
-    record { command = Flush ts; outcome = record { marks = record { graphite = well_mark settings.uses_graphite; console = well_mark settings.uses_console } } }
+    record {
+      command = Flush ts;
+      outcome = record { marks = record { graphite = well_mark settings.uses_graphite; console = well_mark settings.uses_console }; failed = [] };
+    }
 
--- each backend that is used got the whole text of each flush of these records, each other one is untouched, and the output
--- got their totals
+-- each backend that is used got the whole text of each flush of these records, each other one is untouched, the wire of each
+-- target got each packet, and the output got their totals
 pub record CarriedOutWell (settings : Settings) (old new : Seen) (commands : List Command) : Type 0 where
   pub backends : (back : Backend) → AfterDeliveries (deliveries settings back (map (well settings) commands)) (seen_at back old) (seen_at back new)
+  pub wires : AfterSendings (sendings (map (well settings) commands)) old.wires new.wires
   pub output : (let played = map (well settings) commands in new.output ≡ given (output_of settings played ++ totals_text (totals_after settings played)) old.output)

@@ -1,18 +1,22 @@
 -- The objects of a call, and how they are opened and read before a replay begins.
-use Rattle.std.specs.Prelude.{◌≡◌, ◌⊎◌, ℕ, ◌+◌, ◌<◌, Bool, false, List, [], ◌∷◌, ◌++◌, length, if◌then◌else◌, Ok, Err}
+use Rattle.std.specs.Prelude.{◌≡◌, ◌⊎◌, ℕ, ◌+◌, ◌<◌, Bool, false, List, [], ◌∷◌, ◌++◌, length, drop, if◌then◌else◌, Ok, Err}
 use Rattle.std.specs.List.{AllByRecursion}
-use Rattle.sd_model_outside.specs.Outside.{Place, File, Object, HasFailed, HasRead, FailedBehind, IsAtEnd, opened}
+use Rattle.sd_model_outside.specs.Outside.{Place, File, Host, Object, HasFailed, HasRead, FailedBehind, IsAtEnd, opened}
 use Rattle.sd_model_settings.specs.Settings as file
 use Rattle.sd_model_settings.specs.Settings.{SettingsFlaw, settings}
+use Rattle.sd_model_settings.specs.Entries.{Target}
 use Rattle.sd_model_replay.specs.Settings.{Settings}
 use Rattle.sd_model_replay.specs.Backends.{Backend, is_used}
+use Rattle.sd_model_replay.specs.Repeater.{wire_at}
 use Rattle.sd_model_replay.specs.AccountingTheorem.{Seen, seen_at}
 
--- an object that is opened
+-- an object that is opened; a wire by its number
 pub data Part : Type 0 where
   OfSettings : Part
   OfScript : Part
+  OfWire : (i : ℕ) → Part
   OfGraphite : Part
+  OfConsole : Part
 
 -- Which backends are flagged as used.
 pub record Flags : Type 0 where
@@ -68,18 +72,34 @@ pub record OnlySettings (old new : World) : Type 0 where
 abbrev pub part_in : World → Part → Object
 part_in world OfSettings = world.settings
 part_in world OfScript = world.seen.script
+part_in world (OfWire i) = wire_at i world.seen.wires
 part_in world OfGraphite = world.seen.graphite
+part_in world OfConsole = world.seen.console
 
 -- a part that is opened, and where
 pub record Opening : Type 0 where
   pub part : Part
   pub place : Place
 
--- What a replay opens once the settings are read, in this order: the script, and Graphite, where it is used, at the
--- empty name.
+-- where the wire of a target is opened
+abbrev pub target_place : Target → Place
+target_place t = Host t.host t.port
+
+-- the wires of targets, from this number on
+abbrev pub wire_openings : ℕ → List Target → List Opening
+wire_openings i [] = []
+wire_openings i (t ∷ targets) = record { part = OfWire i; place = target_place t } ∷ wire_openings (i + 1) targets
+
+-- a backend, where it is used, at the empty name
+abbrev pub backend_openings : Part → Bool → List Opening
+backend_openings part used = if used then record { part = part; place = File [] } ∷ [] else []
+
+-- What a replay opens once the settings are read, in this order: the script, a wire for each target of the repeater, and
+-- Graphite and the console, where they are used.
 abbrev pub openings : Settings → List ℕ → List Opening
 openings s script =
-    record { part = OfScript; place = File script } ∷ (if s.uses_graphite then record { part = OfGraphite; place = File [] } ∷ [] else [])
+    record { part = OfScript; place = File script }
+    ∷ (wire_openings 0 s.targets ++ (backend_openings OfGraphite s.uses_graphite ++ backend_openings OfConsole s.uses_console))
 
 -- a part was opened at its place, and nothing else of it changed
 abbrev pub IsOpened : World → World → Opening → Type 0
@@ -89,9 +109,11 @@ IsOpened old new o = part_in new o.part ≡ opened o.place (part_in old o.part)
 abbrev pub IsUntouched : World → World → Opening → Type 0
 IsUntouched old new o = part_in new o.part ≡ part_in old o.part
 
--- a backend that the settings don't name is as it was
-abbrev pub UnusedStay : Settings → World → World → Type 0
-UnusedStay s old new = (back : Backend) → is_used s back ≡ false → seen_at back new.seen ≡ seen_at back old.seen
+-- A backend that the settings don't name is as it was, and so are wires without a target; and no wire comes or goes.
+pub record UnusedStay (s : Settings) (old new : World) : Type 0 where
+  pub backends : (back : Backend) → is_used s back ≡ false → seen_at back new.seen ≡ seen_at back old.seen
+  pub wires : drop (length s.targets) new.seen.wires ≡ drop (length s.targets) old.seen.wires
+  pub count : length new.seen.wires ≡ length old.seen.wires
 
 -- Some parts were opened, in their order, and those behind them are untouched.
 pub record OpensSome (parts : List Opening) (old new : World) : Type 0 where
@@ -115,10 +137,19 @@ pub record FailsToOpen (part : Part) (parts : List Opening) (old new : World) : 
 abbrev pub opened_where : Bool → Object → Object
 opened_where used o = if used then opened (File []) o else o
 
--- what is seen where a replay begins: a script of this name was opened, and each backend that is used at the empty name
+-- wires of which each target has one, and is opened there; those behind them are as they were
+abbrev pub opened_wires : List Target → List Object → List Object
+opened_wires [] wires = wires
+opened_wires (t ∷ targets) [] = []
+opened_wires (t ∷ targets) (w ∷ wires) = opened (target_place t) w ∷ opened_wires targets wires
+
+-- what is seen where a replay begins: a script of this name was opened, a wire for each target, and each backend that is
+-- used at the empty name
 abbrev pub started : Settings → List ℕ → Seen → Seen
 started s name seen =
     record seen {
       script = opened (File name) seen.script;
       graphite = opened_where s.uses_graphite seen.graphite;
+      console = opened_where s.uses_console seen.console;
+      wires = opened_wires s.targets seen.wires;
     }

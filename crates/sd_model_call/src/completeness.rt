@@ -5,6 +5,7 @@ ghost use Rattle.sd_model_settings.specs.Settings.{settings};
 ghost use Rattle.sd_model_replay.specs.Settings.{Settings, goes_by};
 ghost use Rattle.sd_model_replay.specs.Script.{Command, script_text};
 ghost use Rattle.sd_model_replay.specs.Totals.{Totals};
+ghost use Rattle.sd_model_replay.specs.Repeater.{wire_at};
 ghost use Rattle.sd_model_replay.specs.AccountingTheorem.{Seen};
 ghost use Rattle.sd_model_replay.specs.Next.{Faulty, ScriptFlaw, Unbuilt as NextUnbuilt};
 ghost use Rattle.sd_model_replay.specs.Ends.{Complete, End, Faulted, NotBuilt, Replayed, WornOut, most_records};
@@ -28,7 +29,7 @@ pub fn unhindered_replays_complete()
         → IsLongest settings old new commands bytes → Replayed settings end old new → end ≡ WornOut most_records }
 {}
 
-/// A call that nothing hinders carries out the whole script, unless memory or Graphite is lacking; and where it
+/// A call that nothing hinders carries out the whole script, unless memory, a wire or a backend is lacking; and where it
 /// says that it did, it carried out just the script's records. So a script that is cut off, or too long, is told.
 pub fn unhindered_calls_complete()
     ensures answer { (words : List (List ℕ)) (values : file.Settings) (old new : World) (commands : List Command) (rest : List ℕ) (answer : Answer)
@@ -52,12 +53,12 @@ pub fn unhindered_calls_complete()
     ensures longest { (words : List (List ℕ)) (values : file.Settings) (old new : World) (commands : List Command) (bytes : List ℕ) (answer : Answer)
         → AsksPlainly words values old new → IsLongest (goes_by values) old.seen new.seen commands bytes
         → Accounts words old new answer → IsFull (Worn most_records) answer }
-    ensures graphite { (words : List (List ℕ)) (values : file.Settings) (old new : World) (ended answer : Answer)
+    ensures outward { (words : List (List ℕ)) (values : file.Settings) (old new : World) (ended answer : Answer)
         → AsksPlainly words values old new → NoneMissed (goes_by values) old.seen new.seen → Accounts words old new answer → IsFull ended answer → IsWhole ended answer }
 {}
 
-/// A call whose settings have a flaw, or name a backend that isn't built, opens nothing else: it says so, unless memory is
-/// lacking, or the settings can't be opened or read, which their count of faults then tells.
+/// A call whose settings have a flaw opens nothing else: it says so, unless memory is lacking, or the settings can't be
+/// opened or read, which their count of faults then tells.
 pub fn blocked_calls_stop()
     ensures answer { (words : List (List ℕ)) (old new : World) (bytes : List ℕ) (refused answer : Answer)
         → Asks words old new bytes → refusal (settings bytes) ≡ Some refused → Accounts words old new answer → IsBlocked refused answer }
@@ -66,7 +67,7 @@ pub fn blocked_calls_stop()
         → Accounts words old new answer → IsWhole refused answer }
 {}
 
-/// A call keeps the counts of faults: none falls. And the output and the console stay where they were opened.
+/// A call keeps the counts of faults: none falls. And the output stays where it was opened.
 pub fn faults_are_kept()
     ensures settings { (words : List (List ℕ)) (old new : World) (answer : Answer)
         → Accounts words old new answer → old.settings.faults ≤ new.settings.faults }
@@ -77,5 +78,7 @@ pub fn faults_are_kept()
     ensures output { (words : List (List ℕ)) (old new : World) (answer : Answer)
         → Accounts words old new answer → Used old.seen.output new.seen.output }
     ensures console { (words : List (List ℕ)) (old new : World) (answer : Answer)
-        → Accounts words old new answer → Used old.seen.console new.seen.console }
+        → Accounts words old new answer → old.seen.console.faults ≤ new.seen.console.faults }
+    ensures wires { (words : List (List ℕ)) (old new : World) (answer : Answer) (i : ℕ)
+        → Accounts words old new answer → (wire_at i old.seen.wires).faults ≤ (wire_at i new.seen.wires).faults }
 {}

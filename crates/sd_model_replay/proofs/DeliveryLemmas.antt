@@ -1,5 +1,5 @@
 -- What flushes leave to a backend: its lists, where it tells them, and its count of faults.
-use Rattle.std.proofs.Common.{◌≡◌, ◌≢◌, ℕ, zero, suc, false, cond, List, [], ◌∷◌, ◌++◌, map, filter, take, refl, sym, ap, subst, ◌∙◌, append_assoc, append-nil, Option, Some, None, inl, inr, arith}
+use Rattle.std.proofs.Common.{◌≡◌, ◌+◌, ◌≢◌, ℕ, zero, suc, false, cond, List, [], ◌∷◌, ◌++◌, map, filter, take, refl, sym, ap, subst, ◌∙◌, append_assoc, append-nil, Option, Some, None, inl, inr, arith}
 use Rattle.std.proofs.lemmas.List.Elements.{filter-append}
 use Rattle.std.proofs.lemmas.List.Sums.{sum_by-cons}
 use Rattle.sd_model_outside.specs.Outside.{Round, Told, Rounds, Object, Used, Rose, RoseBy, appended, begun, ended, lists_of, told_lists}
@@ -67,7 +67,7 @@ pub record Counts (n : ℕ) (old new : Object) : Type 0 where
   pub rose : RoseBy n old.faults new.faults
   pub steady : n ≡ 0 → new.faults ≡ old.faults
 
-same_counts : (old new : Object) (n : ℕ) → n ≡ 0 → new.faults ≡ old.faults → new.opened_at ≡ old.opened_at → Counts n old new
+pub same_counts : (old new : Object) (n : ℕ) → n ≡ 0 → new.faults ≡ old.faults → new.opened_at ≡ old.opened_at → Counts n old new
 same_counts old new n none faults place = record { used = record { faults = omega (arith, faults); opened_at = place }; rose = omega (arith, none, faults); steady = λ _. faults }
 
 one_count : (mark : Mark) (text : List ℕ) (old new : Object) → AfterMark mark text old new → Counts (fault_of mark) old new
@@ -75,17 +75,19 @@ one_count Written text old new h = same_counts old new 0 refl (ap (λ (o : Objec
 one_count NotUsed text old new h = same_counts old new 0 refl (ap (λ (o : Object). o.faults) h) (ap (λ (o : Object). o.opened_at) h)
 one_count Fault text old new h = record { used = h.used; rose = h.rose; steady = λ none. absurd (omega (arith, none)) }
 
+-- one change behind another
+pub joined_counts : (n m : ℕ) (old mid new : Object) → Counts n old mid → Counts m mid new → Counts (n + m) old new
+joined_counts n m old mid new first rest = record {
+  used = record { faults = omega (arith, first.used.faults, rest.used.faults); opened_at = rest.used.opened_at ∙ first.used.opened_at };
+  rose = omega (arith, first.rose, rest.rose);
+  steady = λ none. rest.steady (omega (arith, none)) ∙ first.steady (omega (arith, none));
+}
+
 pub all_counts : (deliveries : List Delivery) (old new : Object) → AfterDeliveries deliveries old new → Counts (missed deliveries) old new
 all_counts [] old new h = same_counts old new 0 refl (ap (λ (o : Object). o.faults) h) (ap (λ (o : Object). o.opened_at) h)
 all_counts (d ∷ deliveries) old new (mid, one, others) =
-    let first = one_count d.mark d.text old mid one in
-    let rest = all_counts deliveries mid new others in
-    let all = sum_by-cons (λ (e : Delivery). fault_of e.mark) d deliveries in
-    record {
-      used = record { faults = omega (arith, first.used.faults, rest.used.faults); opened_at = rest.used.opened_at ∙ first.used.opened_at };
-      rose = omega (arith, all, first.rose, rest.rose);
-      steady = λ none. rest.steady (omega (arith, all, none)) ∙ first.steady (omega (arith, all, none));
-    }
+    subst (λ n. Counts n old new) (sym (sum_by-cons (λ (e : Delivery). fault_of e.mark) d deliveries))
+    (joined_counts _ _ old mid new (one_count d.mark d.text old mid one) (all_counts deliveries mid new others))
 
 -- no fault counted, no flush missed
 pub none_missed : (n : ℕ) (old new : Object) → ¬ Rose old.faults new.faults → Counts n old new → n ≡ 0

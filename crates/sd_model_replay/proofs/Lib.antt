@@ -7,3 +7,4 @@ pub mod NextLemmas
 pub mod Numbers
 pub mod ReadingLemmas
 pub mod ReplayLemmas
+pub mod SendingLemmas

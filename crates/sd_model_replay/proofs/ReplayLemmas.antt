@@ -9,7 +9,7 @@ use Rattle.std.proofs.lemmas.List.Sums.{fold_push}
 use Rattle.sd_model_replay.specs.Settings.{Settings}
 use Rattle.sd_model_replay.specs.Backends.{Backend, Delivery, text_of, mark_of}
 use Rattle.sd_model_replay.specs.Script.{Command, spelled, script_text}
-use Rattle.sd_model_replay.specs.Replay.{Played, Run, first_run, play, run_of, Moment, moments, FlushMoment, flush_by, flushes, record_at, deliveries}
+use Rattle.sd_model_replay.specs.Replay.{Played, Run, first_run, play, run_of, Moment, moments, FlushMoment, flush_by, flushes, record_at, deliveries, sending_by, sendings}
 
 pub run_of-push : (settings : Settings) (played : List Played) (p : Played) → run_of settings first_run (played ++ p ∷ []) ≡ play settings (run_of settings first_run played) p
 run_of-push settings played p = fold_push (play settings) first_run played p
@@ -36,6 +36,9 @@ pub deliveries-push : (settings : Settings) (back : Backend) (played : List Play
 deliveries-push settings back played p =
     ap (map (delivery_of settings back)) (flushes-push settings played p)
     ∙ map-append (delivery_of settings back) (flushes settings first_run played) (cons_option (flush_at (run_of settings first_run played) p) [])
+
+pub sendings-push : (played : List Played) (p : Played) → sendings (played ++ p ∷ []) ≡ sendings played ++ cons_option (sending_by p.command p.outcome) []
+sendings-push played p = filter_map-append (λ (q : Played). sending_by q.command q.outcome) played (p ∷ [])
 
 pub script_text-end : (commands : List Command) (c : Command) → script_text (commands ++ c ∷ []) ≡ script_text commands ++ spelled c
 script_text-end commands c = flat_map-append spelled commands (c ∷ []) ∙ ap (λ text. script_text commands ++ text) (append-nil (spelled c))

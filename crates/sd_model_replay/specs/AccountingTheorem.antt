@@ -9,8 +9,9 @@ use Rattle.sd_model_shard.specs.Whereabouts.{Accounted, RowsAreCarried, arrivals
 use Rattle.sd_model_record.specs.Record.{Record, record_rows}
 use Rattle.sd_model_replay.specs.Settings.{Settings}
 use Rattle.sd_model_replay.specs.Backends.{Backend, Graphite, Console, AfterDeliveries}
+use Rattle.sd_model_replay.specs.Repeater.{AfterSendings}
 use Rattle.sd_model_replay.specs.Script.{script_text, IsBuilt}
-use Rattle.sd_model_replay.specs.Replay.{Played, IsOutcome, home_of, first_run, run_of, history_at, samples_at, records, deliveries}
+use Rattle.sd_model_replay.specs.Replay.{Played, IsOutcome, home_of, first_run, run_of, history_at, samples_at, records, deliveries, sendings}
 
 -- What is seen of the objects that a replay uses.
 pub record Seen : Type 0 where
@@ -18,6 +19,7 @@ pub record Seen : Type 0 where
   pub output : Object
   pub graphite : Object
   pub console : Object
+  pub wires : List Object
 
 -- what is seen of a backend
 abbrev pub seen_at : Backend → Seen → Object
@@ -51,8 +53,8 @@ pub record AreDocumented (settings : Settings) (played : List Played) : Type 0 w
   pub carried : (i : ℕ) → i < settings.shards → RowsAreCarried settings.policy empty (history_at settings i played)
   pub rows : (r : ℕ) (rec : Record) → slice_get (records settings played) r ≡ Some rec → rec.rows ≡ record_rows settings.plan (tables_of_flush settings played r)
 
--- The accounting theorem, of a course between two times. `read`, `built`, `used` and `texts` tie the course to what was seen;
--- `places` and `statistics` say what follows for its samples and records.
+-- The accounting theorem, of a course between two times. `read`, `built`, `used`, `texts` and `sends` tie the course to what
+-- was seen; `places` and `statistics` say what follows for its samples and records.
 pub record AccountingTheorem (settings : Settings) (course : Course) (old new : Seen) : Type 0 where
   -- where the script tells its bytes, just these were read: the text of the records, and what was read behind them
   pub read : Reads old.script.told (script_text (map (λ p. p.command) course.played) ++ course.ahead) new.script.told
@@ -62,9 +64,12 @@ pub record AccountingTheorem (settings : Settings) (course : Course) (old new : 
   pub places : (i : ℕ) → i < settings.shards → AreAccounted settings course.played i
   -- each flush's record has the documented statistics of its own journal over the rows carried in
   pub statistics : AreDocumented settings course.played
-  -- each flush used just the backends that the settings name
+  -- each flush used just the backends that the settings name, and each packet had a send to each target of the repeater
   pub used : AllByRecursion (λ p. IsOutcome settings p.command p.outcome) course.played
   -- a backend was given just the text of each flush's record, in order, begun and ended, where the flush is marked as written
   -- there; where it is marked as failed, its count of faults rose, and it was given nothing, or a front of the text, which
   -- isn't ended; and a backend that isn't used is untouched
   pub texts : (back : Backend) → AfterDeliveries (deliveries settings back course.played) (seen_at back old) (seen_at back new)
+  -- each packet was sent as it came on the wires of the targets, in order: it stands at the end of those whose send didn't fail,
+  -- and each other one's count of faults rose; wires without a target are untouched
+  pub sends : AfterSendings (sendings course.played) old.wires new.wires

@@ -1,5 +1,6 @@
 pub mod Settings
 pub mod Backends
+pub mod Repeater
 pub mod Heads
 pub mod Script
 pub mod Next

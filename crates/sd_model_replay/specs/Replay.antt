@@ -1,5 +1,5 @@
 -- What a replay does: what its records ask of each shard, the state after them, and what is made of it.
-use Rattle.std.specs.Prelude.{◌≡◌, ℕ, List, [], ◌∷◌, length, map, fold, flat_map, filter_map, sum_by, Option, Some, None}
+use Rattle.std.specs.Prelude.{◌≡◌, ℕ, Bool, List, [], ◌∷◌, length, map, fold, flat_map, filter_map, sum_by, Option, Some, None}
 use Rattle.std.specs.List.{range_with_len}
 use Rattle.sd_model_text.specs.Names.{shard}
 use Rattle.sd_model_text.specs.Lines.{Sample, samples_of, pieces, bad_of}
@@ -7,24 +7,27 @@ use Rattle.sd_model_shard.specs.Shard.{State, empty_state, Submit, Swap, Reply, 
 use Rattle.sd_model_shard.specs.History.{Asked, History, after_all, answered, part_of}
 use Rattle.sd_model_shard.specs.Whereabouts.{Arrival, dropped_in}
 use Rattle.sd_model_record.specs.Record.{Tally, Record, record_of}
-use Rattle.sd_model_record.specs.Desk.{Desk, new_desk, with_tally, with_round, Marks, NotUsed}
+use Rattle.sd_model_record.specs.Desk.{Desk, new_desk, with_tally, with_repeater_faults, with_round, Marks, NotUsed}
 use Rattle.sd_model_replay.specs.Settings.{Settings}
 use Rattle.sd_model_replay.specs.Backends.{Backend, Delivery, FitsUse, text_of, mark_of, is_used}
+use Rattle.sd_model_replay.specs.Repeater.{Sending, failures}
 use Rattle.sd_model_replay.specs.Script.{Command, Packet, Flush}
 
--- What the outside did to a record: how each backend took part, which is told of a flush.
+-- What the outside did to a record: how each backend took part, which is told of a flush; and of each send of a packet
+-- whether it failed.
 pub record Outcome : Type 0 where
   pub marks : Marks
+  pub failed : List Bool
 
 -- no backend took part
-abbrev pub quiet : Outcome
-quiet = record { marks = record { graphite = NotUsed; console = NotUsed } }
+abbrev pub no_marks : Marks
+no_marks = record { graphite = NotUsed; console = NotUsed }
 
--- what the outside may do to a record: at a flush just those backends take part that the settings name, and at a packet
--- none
+-- what the outside may do to a record: at a packet there is a send to each target, and no backend takes part; at a flush
+-- just those backends take part that the settings name, and nothing is sent
 abbrev pub IsOutcome : Settings → Command → Outcome → Type 0
-IsOutcome settings (Packet who moment datagram) outcome = outcome ≡ quiet
-IsOutcome settings (Flush ts) outcome = (back : Backend) → FitsUse (is_used settings back) (mark_of back outcome.marks)
+IsOutcome settings (Packet who moment datagram) outcome = (outcome.marks ≡ no_marks) × (length outcome.failed ≡ length settings.targets)
+IsOutcome settings (Flush ts) outcome = (outcome.failed ≡ []) × ((back : Backend) → FitsUse (is_used settings back) (mark_of back outcome.marks))
 
 -- A record of a script as it was carried out.
 pub record Played : Type 0 where
@@ -85,7 +88,8 @@ packet_tally datagram dropped = record { packets = 1; lines = length (pieces dat
 
 -- the desk after a record, with what the shards answered and what the outside did
 abbrev pub desk_after : Desk → Command → List Reply → Outcome → Desk
-desk_after desk (Packet who moment datagram) replies outcome = with_tally desk (packet_tally datagram (sum_by dropped_in replies)) moment
+desk_after desk (Packet who moment datagram) replies outcome =
+    with_repeater_faults (with_tally desk (packet_tally datagram (sum_by dropped_in replies)) moment) (failures outcome.failed)
 desk_after desk (Flush ts) replies outcome = with_round desk outcome.marks
 
 -- the state after a record
@@ -138,6 +142,15 @@ records settings played = map (record_at settings) (flushes settings first_run p
 abbrev pub deliveries : Settings → Backend → List Played → List Delivery
 deliveries settings back played =
     map (λ f. record { text = text_of settings back (record_at settings f); mark = mark_of back f.marks }) (flushes settings first_run played)
+
+-- the packet that a record repeats, if it is one
+abbrev pub sending_by : Command → Outcome → Option Sending
+sending_by (Packet who moment datagram) outcome = Some (record { packet = datagram; failed = outcome.failed })
+sending_by (Flush ts) outcome = None
+
+-- the packets that records repeat
+abbrev pub sendings : List Played → List Sending
+sendings played = filter_map (λ p. sending_by p.command p.outcome) played
 
 -- what the records write to the output, before the totals: nothing so far
 abbrev pub output_of : Settings → List Played → List ℕ

@@ -1,13 +1,14 @@
 -- The settings that a replay goes by.
-use Rattle.std.specs.Prelude.{ℕ, Bool, ◌||◌, List, codes}
+use Rattle.std.specs.Prelude.{ℕ, Bool, if◌then◌else◌, List, [], codes}
 use Rattle.std.specs.List.{list_any}
 use Rattle.std.specs.Str.{bytes_eq}
 use Rattle.sd_model_settings.specs.Settings as file
+use Rattle.sd_model_settings.specs.Entries.{Target}
 use Rattle.sd_model_settings.specs.Defaults.{Plan, Names, plan_of, names_of}
 use Rattle.sd_model_shard.specs.Shard.{Limits, Policy}
 
 -- How many shards run; how many rows and entries each may have, and what goes when idle; how records are made, and
--- Graphite's names; how many receivers there are; and which backends are used.
+-- Graphite's names; how many receivers there are; which backends are used; and where packets are repeated to.
 pub record Settings : Type 0 where
   pub shards : ℕ
   pub limits : Limits
@@ -17,6 +18,7 @@ pub record Settings : Type 0 where
   pub receivers : ℕ
   pub uses_graphite : Bool
   pub uses_console : Bool
+  pub targets : List Target
 
 -- how many rows and entries a shard may have
 abbrev pub limits_of : file.Settings → Limits
@@ -37,9 +39,9 @@ policy_of s =
 abbrev pub names_backend : List ℕ → file.Settings → Bool
 names_backend name s = list_any (bytes_eq name) s.addresses.backends
 
--- whether a backend is named that isn't built
-abbrev pub names_unbuilt : file.Settings → Bool
-names_unbuilt s = names_backend (codes "console") s || names_backend (codes "repeater") s
+-- the targets of the repeater, where it is named
+abbrev pub targets_of : file.Settings → List Target
+targets_of s = if names_backend (codes "repeater") s then s.lists.repeater else []
 
 -- What a replay goes by, as a file's settings say it; so far one shard runs, whatever they say.
 abbrev pub goes_by : file.Settings → Settings
@@ -53,4 +55,5 @@ goes_by s =
       receivers = s.sizes.receivers;
       uses_graphite = names_backend (codes "graphite") s;
       uses_console = names_backend (codes "console") s;
+      targets = targets_of s;
     }

@@ -1,8 +1,9 @@
 ghost use Rattle.std.specs.Prelude.{◌≡◌, ◌≢◌, ℕ, List, filter, map, Option};
-ghost use Rattle.sd_model_outside.specs.Outside.{Object, Rose, RoseBy, Round, Rounds, Used, lists_of};
+ghost use Rattle.sd_model_outside.specs.Outside.{Object, Packets, Rose, RoseBy, Round, Rounds, Used, lists_of};
 ghost use Rattle.sd_model_record.specs.Desk.{Mark, NotUsed, Written};
 ghost use Rattle.sd_model_replay.specs.Settings.{Settings};
 ghost use Rattle.sd_model_replay.specs.Backends.{AfterDeliveries, AfterMark, Delivery, HasLists, LeaveLists, missed, texts_written, whole_list};
+ghost use Rattle.sd_model_replay.specs.Repeater.{AfterSendings, HasPackets, Sending, missed_on, sent_on, wire_at};
 ghost use Rattle.sd_model_replay.specs.Replay.{Played, first_run, flushes, records};
 ghost use Rattle.sd_model_replay.specs.AccountingTheorem.{AreAccounted, AreDocumented};
 
@@ -33,6 +34,19 @@ pub fn deliveries_are_lists()
         → AfterDeliveries deliveries old new → RoseBy (missed deliveries) old.faults new.faults }
     ensures steady { (deliveries : List Delivery) (old new : Object)
         → AfterDeliveries deliveries old new → missed deliveries ≡ 0 → new.faults ≡ old.faults }
+{}
+
+/// A wire that tells its packets has those whose send on it didn't fail, in order, behind those that it had. Its count of
+/// faults rose by as many as failed there, or by more; and where none did, it stayed. So a wire lacks at most as many packets
+/// as its faults rose by.
+pub fn sendings_are_packets()
+    ensures packets { (sendings : List Sending) (i : ℕ) (packets : List (List ℕ)) (old new : List Object)
+        → (wire_at i old).told ≡ Packets packets → AfterSendings sendings old new → HasPackets packets (sent_on i sendings) (wire_at i new).told }
+    ensures used { (sendings : List Sending) (i : ℕ) (old new : List Object) → AfterSendings sendings old new → Used (wire_at i old) (wire_at i new) }
+    ensures faults { (sendings : List Sending) (i : ℕ) (old new : List Object)
+        → AfterSendings sendings old new → RoseBy (missed_on i sendings) (wire_at i old).faults (wire_at i new).faults }
+    ensures steady { (sendings : List Sending) (i : ℕ) (old new : List Object)
+        → AfterSendings sendings old new → missed_on i sendings ≡ 0 → (wire_at i new).faults ≡ (wire_at i old).faults }
 {}
 
 /// No fault, no failure. Of a flush: where a backend is used and its count of faults doesn't rise in that flush, the

@@ -1,6 +1,6 @@
 -- A replay so far, and one record more.
 use Rattle.std.proofs.Math.Nat.{mod-one}
-use Rattle.std.proofs.Common.{◌≡◌, ℕ, Bool, false, zero, suc, cond, ◌+◌, ◌<◌, ◌^◌, min, eqb, List, [], ◌∷◌, ◌++◌, length, map, refl, sym, ap, subst, ◌∙◌, append-nil, length-append, arith}
+use Rattle.std.proofs.Common.{◌≡◌, ℕ, Bool, zero, suc, cond, ◌+◌, ◌<◌, ◌^◌, min, eqb, List, [], ◌∷◌, ◌++◌, length, map, refl, sym, ap, subst, ◌∙◌, append-nil, length-append, arith}
 use Rattle.std.specs.Prelude.{sum_by}
 use Rattle.std.specs.List.{AllByRecursion}
 use Rattle.std.proofs.lemmas.List.{map-append}
@@ -12,22 +12,23 @@ use Rattle.sd_model_outside.proofs.OutsideLemmas.{appended-nil, Reads-nil, Reads
 use Rattle.sd_model_shard.specs.Shard.{State, Limits, Policy, Reply, Submit, after_swap, step, table_of}
 use Rattle.sd_model_shard.specs.History.{Act, Asked, History, after_all, answered, part_of}
 use Rattle.sd_model_shard.specs.Whereabouts.{dropped_in}
-use Rattle.sd_model_record.specs.Desk.{Desk, Mark, Marks, NotUsed, with_tally, with_round}
-use Rattle.sd_model_record.specs.Graphite.{graphite_text}
-use Rattle.sd_model_record.specs.Record.{record_of}
+use Rattle.sd_model_record.specs.Desk.{Desk, Marks, with_tally, with_repeater_faults, with_round}
+use Rattle.sd_model_record.specs.Record.{Record, record_of}
 use Rattle.sd_model_settings.specs.Settings as file
 use Rattle.sd_model_replay.specs.Settings as model
 use Rattle.sd_model_replay.specs.Settings.{goes_by}
-use Rattle.sd_model_replay.specs.Backends.{Backend, Graphite, Console, FitsUse, AfterMark, AfterDeliveries, is_used, mark_of}
+use Rattle.sd_model_replay.specs.Backends.{Backend, Delivery, FitsUse, AfterMark, AfterDeliveries, is_used, mark_of, text_of}
+use Rattle.sd_model_replay.specs.Repeater.{AfterSendings, IsRepeated, failures}
 use Rattle.sd_model_replay.specs.Script.{Command, Packet, Flush, end_word, spelled, script_text, IsBuilt}
 use Rattle.sd_model_replay.specs.Next.{ScriptFlaw, Next, Faulty, Unbuilt, Begins, IsUndecided}
-use Rattle.sd_model_replay.specs.Replay.{Played, Outcome, IsOutcome, quiet, home_of, acts_in, packet_tally, Run, first_run, play, run_of, FlushMoment, deliveries}
+use Rattle.sd_model_replay.specs.Replay.{Played, Outcome, IsOutcome, no_marks, home_of, acts_in, packet_tally, Run, first_run, play, run_of, FlushMoment, deliveries, sendings}
 use Rattle.sd_model_replay.specs.Totals.{Totals, totals_of, totals_after, totals_text}
 use Rattle.sd_model_replay.specs.AccountingTheorem.{Seen, Course, AccountingTheorem, seen_at}
 use Rattle.sd_model_replay.specs.Ends.{StopsFor, Complete, Faulted, NotBuilt, ReadFailed, WriteFailed, WornOut, Replayed, text_length}
 use Rattle.sd_model_replay.proofs.AccountingLemmas.{are_accounted, are_documented}
 use Rattle.sd_model_replay.proofs.DeliveryLemmas.{AfterDeliveries-push}
-use Rattle.sd_model_replay.proofs.ReplayLemmas.{run_of-push, deliveries-push, delivery_of, script_text-end, AllByRecursion-push}
+use Rattle.sd_model_replay.proofs.SendingLemmas.{AfterSendings-push}
+use Rattle.sd_model_replay.proofs.ReplayLemmas.{run_of-push, deliveries-push, delivery_of, sendings-push, script_text-end, AllByRecursion-push}
 use Rattle.sd_replay.specs.Filed.{filed, lost}
 use Rattle.sd_replay.specs.Totals.{totals_of_one}
 
@@ -36,27 +37,28 @@ abbrev commands_of : List Played → List Command
 commands_of played = map (λ p. p.command) played
 
 -- what a replay has done since it began
-pub record Progress (settings : model.Settings) (script left : Told) (old new : Object) (shard : State) (desk : Desk) (at turn : ℕ) : Type 0 where
+pub record Progress (settings : model.Settings) (script left : Told) (old new : Backend → Object) (had has : List Object) (shard : State) (desk : Desk) (at turn : ℕ) : Type 0 where
   pub played : List Played
   pub read : Reads script (script_text (commands_of played)) left
   pub built : AllByRecursion (λ p. IsBuilt settings.receivers p.command) played
   pub used : AllByRecursion (λ p. IsOutcome settings p.command p.outcome) played
-  pub texts : AfterDeliveries (deliveries settings Graphite played) old new
-  pub unused : (o : Object) → AfterDeliveries (deliveries settings Console played) o o
+  pub texts : (back : Backend) → AfterDeliveries (deliveries settings back played) (old back) (new back)
+  pub sends : AfterSendings (sendings played) had has
   pub same_shard : shard ≡ (run_of settings first_run played).shards 0
   pub same_desk : desk ≡ (run_of settings first_run played).desk
   pub same_place : at ≡ text_length played
   pub turns : length played ≡ turn
 
 -- nothing was done yet
-pub nothing_played : (settings : model.Settings) (script : Told) (o : Object) (shard : State) (desk : Desk) (at : ℕ) → shard ≡ first_run.shards 0 → desk ≡ first_run.desk → at ≡ 0 → Progress settings script script o o shard desk at 0
-nothing_played settings script o shard desk at s d a = record {
+pub nothing_played : (settings : model.Settings) (script : Told) (backs : Backend → Object) (wires : List Object) (shard : State) (desk : Desk) (at : ℕ) → shard ≡ first_run.shards 0 → desk ≡ first_run.desk → at ≡ 0
+    → Progress settings script script backs backs wires wires shard desk at 0
+nothing_played settings script backs wires shard desk at s d a = record {
   played = [];
   read = Reads-nil script;
   built = tt;
   used = tt;
-  texts = refl;
-  unused = λ _. refl;
+  texts = λ back. refl;
+  sends = refl;
   same_shard = s;
   same_desk = d;
   same_place = a;
@@ -106,13 +108,13 @@ module _ (settings : file.Settings) (run : Run) where
       ∙ ap (after_all limits policy (run.shards 0)) (sym (acts_of_packet who moment datagram))
 
   packet_desk : (who moment : ℕ) (datagram : List ℕ) (outcome : Outcome)
-      → with_tally run.desk (packet_tally datagram (lost (goes_by settings).limits (goes_by settings).policy who (run.shards 0) (samples_of datagram))) moment
+      → with_repeater_faults (with_tally run.desk (packet_tally datagram (lost (goes_by settings).limits (goes_by settings).policy who (run.shards 0) (samples_of datagram))) moment) (failures outcome.failed)
       ≡ (play (goes_by settings) run (record { command = Packet who moment datagram; outcome = outcome })).desk
   packet_desk who moment datagram outcome =
       let limits = (goes_by settings).limits in
       let policy = (goes_by settings).policy in
       let replies : List Act → List Reply = map (λ (a : Act). a.reply) in
-      ap (λ n. with_tally run.desk (packet_tally datagram n) moment) (
+      ap (λ n. with_repeater_faults (with_tally run.desk (packet_tally datagram n) moment) (failures outcome.failed)) (
       lost_is limits policy who (run.shards 0) (samples_of datagram)
       ∙ ap (λ (acts : History). sum_by dropped_in (replies acts)) (sym (acts_of_packet who moment datagram))
       ∙ ap (sum_by dropped_in) (sym (append-nil (replies (acts_in (goes_by settings) run 0 (Packet who moment datagram))))))
@@ -146,18 +148,18 @@ longer commands c at e =
     omega (arith, e, whole, length-append (script_text commands) (spelled c))
 
 -- One record more.
-module _ (settings : file.Settings) (script left left' : Told) (old new new' : Object) (shard shard' : State) (desk desk' : Desk) (at at' turn : ℕ) (so_far : Progress (goes_by settings) script left old new shard desk at turn) where
+module _ (settings : file.Settings) (script left left' : Told) (old new new' : Backend → Object) (had has has' : List Object) (shard shard' : State) (desk desk' : Desk) (at at' turn : ℕ) (so_far : Progress (goes_by settings) script left old new had has shard desk at turn) where
   run : Run
   run = run_of (goes_by settings) first_run so_far.played
 
   -- whose text was read, and which left what it leaves
   one_more : (p : Played) → Reads left (spelled p.command) left' → IsBuilt (goes_by settings).receivers p.command → IsOutcome (goes_by settings) p.command p.outcome
-      → AfterDeliveries (deliveries (goes_by settings) Graphite (so_far.played ++ p ∷ [])) old new'
-      → ((o : Object) → AfterDeliveries (deliveries (goes_by settings) Console (so_far.played ++ p ∷ [])) o o)
+      → ((back : Backend) → AfterDeliveries (deliveries (goes_by settings) back (so_far.played ++ p ∷ [])) (old back) (new' back))
+      → AfterSendings (sendings (so_far.played ++ p ∷ [])) had has'
       → shard' ≡ (play (goes_by settings) run p).shards 0 → desk' ≡ (play (goes_by settings) run p).desk
-      → at' ≡ min (at + length (spelled p.command)) last_count → Progress (goes_by settings) script left' old new' shard' desk' at' (turn + 1)
+      → at' ≡ min (at + length (spelled p.command)) last_count → Progress (goes_by settings) script left' old new' had has' shard' desk' at' (turn + 1)
   unfolding run
-  one_more p text built used after unused s d a =
+  one_more p text built used after sent s d a =
       let ps = so_far.played in
       let commands : commands_of (ps ++ p ∷ []) ≡ commands_of ps ++ p.command ∷ [] = map-append (λ (q : Played). q.command) ps (p ∷ []) in
       record {
@@ -168,63 +170,58 @@ module _ (settings : file.Settings) (script left left' : Told) (old new new' : O
         built = AllByRecursion-push (λ (q : Played). IsBuilt (goes_by settings).receivers q.command) ps p so_far.built built;
         used = AllByRecursion-push (λ (q : Played). IsOutcome (goes_by settings) q.command q.outcome) ps p so_far.used used;
         texts = after;
-        unused = unused;
+        sends = sent;
         same_shard = s ∙ ap (λ (r : Run). r.shards 0) (sym (run_of-push (goes_by settings) ps p));
         same_desk = d ∙ ap (λ (r : Run). r.desk) (sym (run_of-push (goes_by settings) ps p));
         same_place = a ∙ longer (commands_of ps) p.command at so_far.same_place ∙ ap (λ cs. min (length (script_text cs)) last_count) (sym commands);
         turns = omega (arith, so_far.turns, length-append ps (p ∷ []));
       }
 
-  -- a packet more: its samples are filed, and it is counted
-  pub packet_more : (who moment : ℕ) (datagram : List ℕ) → Reads left (spelled (Packet who moment datagram)) left' → IsBuilt (goes_by settings).receivers (Packet who moment datagram)
+  -- a packet more: it is sent on, its samples are filed, and it is counted
+  pub packet_more : (who moment : ℕ) (datagram : List ℕ) (failed : List Bool) → Reads left (spelled (Packet who moment datagram)) left' → IsBuilt (goes_by settings).receivers (Packet who moment datagram)
+      → length failed ≡ length (goes_by settings).targets → IsRepeated datagram failed has has'
       → shard' ≡ filed (goes_by settings).limits (goes_by settings).policy who shard (samples_of datagram)
-      → desk' ≡ with_tally desk (packet_tally datagram (lost (goes_by settings).limits (goes_by settings).policy who shard (samples_of datagram))) moment
-      → at' ≡ min (at + length (spelled (Packet who moment datagram))) last_count → new' ≡ new → Progress (goes_by settings) script left' old new' shard' desk' at' (turn + 1)
+      → desk' ≡ with_repeater_faults (with_tally desk (packet_tally datagram (lost (goes_by settings).limits (goes_by settings).policy who shard (samples_of datagram))) moment) (failures failed)
+      → at' ≡ min (at + length (spelled (Packet who moment datagram))) last_count → new' ≡ new → Progress (goes_by settings) script left' old new' had has' shard' desk' at' (turn + 1)
   unfolding run
-  packet_more who moment datagram text built s d a kept =
-      let p : Played = record { command = Packet who moment datagram; outcome = quiet } in
+  packet_more who moment datagram failed text built count sent s d a kept =
+      let outcome : Outcome = record { marks = no_marks; failed = failed } in
+      let p : Played = record { command = Packet who moment datagram; outcome = outcome } in
       let limits = (goes_by settings).limits in
       let policy = (goes_by settings).policy in
       let same : (back : Backend) → deliveries (goes_by settings) back (so_far.played ++ p ∷ []) ≡ deliveries (goes_by settings) back so_far.played =
       λ back. deliveries-push (goes_by settings) back so_far.played p ∙ append-nil (deliveries (goes_by settings) back so_far.played) in
-      one_more p text built refl
-      (subst (λ ds. AfterDeliveries ds old new') (sym (same Graphite)) (subst (λ (o : Object). AfterDeliveries (deliveries (goes_by settings) Graphite so_far.played) old o) (sym kept) so_far.texts))
-      (λ o. subst (λ ds. AfterDeliveries ds o o) (sym (same Console)) (so_far.unused o))
-      (s ∙ ap (λ (state : State). filed limits policy who state (samples_of datagram)) so_far.same_shard ∙ packet_shard settings run who moment datagram quiet)
-      (d ∙ ap (λ (state : State). with_tally desk (packet_tally datagram (lost limits policy who state (samples_of datagram))) moment) so_far.same_shard
-      ∙ ap (λ (e : Desk). with_tally e (packet_tally datagram (lost limits policy who (run.shards 0) (samples_of datagram))) moment) so_far.same_desk ∙ packet_desk settings run who moment datagram quiet)
+      let filed_by : State → Desk = λ state. with_repeater_faults (with_tally desk (packet_tally datagram (lost limits policy who state (samples_of datagram))) moment) (failures failed) in
+      let counted_by : Desk → Desk = λ e. with_repeater_faults (with_tally e (packet_tally datagram (lost limits policy who (run.shards 0) (samples_of datagram))) moment) (failures failed) in
+      one_more p text built (refl, count)
+      (λ back. subst (λ ds. AfterDeliveries ds (old back) (new' back)) (sym (same back)) (subst (λ (f : Backend → Object). AfterDeliveries (deliveries (goes_by settings) back so_far.played) (old back) (f back)) (sym kept) (so_far.texts back)))
+      (subst (λ ss. AfterSendings ss had has') (sym (sendings-push so_far.played p)) (AfterSendings-push (sendings so_far.played) (record { packet = datagram; failed = failed }) had has has' so_far.sends sent))
+      (s ∙ ap (λ (state : State). filed limits policy who state (samples_of datagram)) so_far.same_shard ∙ packet_shard settings run who moment datagram outcome)
+      (d ∙ ap filed_by so_far.same_shard ∙ ap counted_by so_far.same_desk ∙ packet_desk settings run who moment datagram outcome)
       a
 
-  -- a flush more: the shard is swapped, the tally is taken, and Graphite was given the text
+  -- a flush more: the shard is swapped, the tally is taken, and each backend was given the text, as its mark says
   pub flush_more : (ts : ℕ) (marks : Marks) → Reads left (spelled (Flush ts)) left' → IsBuilt (goes_by settings).receivers (Flush ts)
-      → FitsUse (goes_by settings).uses_graphite marks.graphite → (goes_by settings).uses_console ≡ false → marks.console ≡ NotUsed
-      → AfterMark marks.graphite (graphite_text (goes_by settings).names (record_of (goes_by settings).plan (table_of shard ∷ []) desk.tally ts)) new new'
+      → ((back : Backend) → FitsUse (is_used (goes_by settings) back) (mark_of back marks))
+      → ((back : Backend) → AfterMark (mark_of back marks) (text_of (goes_by settings) back (record_of (goes_by settings).plan (table_of shard ∷ []) desk.tally ts)) (new back) (new' back))
       → shard' ≡ after_swap (goes_by settings).policy shard → desk' ≡ with_round desk marks
-      → at' ≡ min (at + length (spelled (Flush ts))) last_count → Progress (goes_by settings) script left' old new' shard' desk' at' (turn + 1)
+      → at' ≡ min (at + length (spelled (Flush ts))) last_count → has' ≡ has → Progress (goes_by settings) script left' old new' had has' shard' desk' at' (turn + 1)
   unfolding run
-  flush_more ts marks text built graphite unused console after s d a =
-      let p : Played = record { command = Flush ts; outcome = record { marks = marks } } in
-      let plan = (goes_by settings).plan in
-      let names = (goes_by settings).names in
-      let text_of : State → Desk → List ℕ = λ state e. graphite_text names (record_of plan (table_of state ∷ []) e.tally ts) in
-      let delivered : AfterMark marks.graphite (text_of (run.shards 0) run.desk) new new' =
-      subst (λ e. AfterMark marks.graphite (text_of (run.shards 0) e) new new') so_far.same_desk
-      (subst (λ state. AfterMark marks.graphite (text_of state desk) new new') so_far.same_shard after) in
+  flush_more ts marks text built uses after s d a kept =
+      let p : Played = record { command = Flush ts; outcome = record { marks = marks; failed = [] } } in
       let f : FlushMoment = record { before = run; ts = ts; marks = marks } in
-      let untouched : (o : Object) → AfterMark marks.console (delivery_of (goes_by settings) Console f).text o o =
-      λ o. subst (λ (m : Mark). AfterMark m (delivery_of (goes_by settings) Console f).text o o) (sym console) refl in
-      one_more p text built (uses graphite unused console)
-      (subst (λ ds. AfterDeliveries ds old new') (sym (deliveries-push (goes_by settings) Graphite so_far.played p))
-      (AfterDeliveries-push (deliveries (goes_by settings) Graphite so_far.played) (delivery_of (goes_by settings) Graphite f) old new new' so_far.texts delivered))
-      (λ o. subst (λ ds. AfterDeliveries ds o o) (sym (deliveries-push (goes_by settings) Console so_far.played p))
-      (AfterDeliveries-push (deliveries (goes_by settings) Console so_far.played) (delivery_of (goes_by settings) Console f) o o o (so_far.unused o) (untouched o)))
+      let record_in : State → Desk → Record = λ state e. record_of (goes_by settings).plan (table_of state ∷ []) e.tally ts in
+      let delivered : (back : Backend) → AfterMark (mark_of back marks) (text_of (goes_by settings) back (record_in (run.shards 0) run.desk)) (new back) (new' back) =
+      λ back. subst (λ e. AfterMark (mark_of back marks) (text_of (goes_by settings) back (record_in (run.shards 0) e)) (new back) (new' back)) so_far.same_desk
+      (subst (λ state. AfterMark (mark_of back marks) (text_of (goes_by settings) back (record_in state desk)) (new back) (new' back)) so_far.same_shard (after back)) in
+      let delivery : Backend → Delivery = λ back. delivery_of (goes_by settings) back f in
+      one_more p text built (refl, uses)
+      (λ back. subst (λ ds. AfterDeliveries ds (old back) (new' back)) (sym (deliveries-push (goes_by settings) back so_far.played p))
+      (AfterDeliveries-push (deliveries (goes_by settings) back so_far.played) (delivery back) (old back) (new back) (new' back) (so_far.texts back) (delivered back)))
+      (subst (λ ss. AfterSendings ss had has') (sym (sendings-push so_far.played p ∙ append-nil (sendings so_far.played))) (subst (λ ws. AfterSendings (sendings so_far.played) had ws) (sym kept) so_far.sends))
       (s ∙ ap (after_swap (goes_by settings).policy) so_far.same_shard)
       (d ∙ ap (λ (e : Desk). with_round e marks) so_far.same_desk)
-      a where
-        uses : FitsUse (goes_by settings).uses_graphite marks.graphite → (goes_by settings).uses_console ≡ false → marks.console ≡ NotUsed
-            → (back : Backend) → FitsUse (is_used (goes_by settings) back) (mark_of back marks)
-        uses graphite unused console Graphite = graphite
-        uses graphite unused console Console = subst (λ used. FitsUse used marks.console) (sym unused) console
+      a
 
 -- what was carried out, where these bytes were read behind it
 record Ended (settings : file.Settings) (old new : Seen) (ahead : List ℕ) (shard : State) (desk : Desk) (at turn : ℕ) : Type 0 where
@@ -239,7 +236,8 @@ record Ended (settings : file.Settings) (old new : Seen) (ahead : List ℕ) (sha
 ungiven : (old new : Object) → FitsLastCount old.told → new ≡ old → new ≡ given [] old
 ungiven old new fits same = same ∙ ap (λ told. telling told old) (sym (appended-nil old.told fits))
 
-module _ (settings : file.Settings) (old new : Seen) (left : Told) (shard : State) (desk : Desk) (at turn : ℕ) (so_far : Progress (goes_by settings) old.script.told left old.graphite new.graphite shard desk at turn) (ahead : List ℕ) (behind : Reads left ahead new.script.told) (console : new.console ≡ old.console) (used : Used old.script new.script) where
+module _ (settings : file.Settings) (old new : Seen) (left : Told) (shard : State) (desk : Desk) (at turn : ℕ) (had has : Backend → Object) (before : (back : Backend) → had back ≡ seen_at back old) (now : (back : Backend) → has back ≡ seen_at back new)
+    (so_far : Progress (goes_by settings) old.script.told left had has old.wires new.wires shard desk at turn) (ahead : List ℕ) (behind : Reads left ahead new.script.told) (used : Used old.script new.script) where
   course_of : Ended settings old new ahead shard desk at turn
   course_of =
       let played = so_far.played in
@@ -252,16 +250,15 @@ module _ (settings : file.Settings) (old new : Seen) (left : Told) (shard : Stat
           places = λ i below. are_accounted (goes_by settings) played i;
           statistics = are_documented (goes_by settings) played;
           used = so_far.used;
-          texts = texts;
+          texts = λ back. subst (λ o. AfterDeliveries (deliveries (goes_by settings) back played) (seen_at back old) o) (now back)
+              (subst (λ o. AfterDeliveries (deliveries (goes_by settings) back played) o (has back)) (before back) (so_far.texts back));
+          sends = so_far.sends;
         };
         same_totals = ap (λ (state : State). totals_of_one state desk) so_far.same_shard ∙ ap (totals_of_one (run.shards 0)) so_far.same_desk ∙ totals_one settings run;
         same_ahead = refl;
         same_place = so_far.same_place;
         turns = so_far.turns;
-      } where
-        texts : (back : Backend) → AfterDeliveries (deliveries (goes_by settings) back so_far.played) (seen_at back old) (seen_at back new)
-        texts Graphite = so_far.texts
-        texts Console = subst (λ (o : Object). AfterDeliveries (deliveries (goes_by settings) Console so_far.played) old.console o) (sym console) (so_far.unused old.console)
+      }
 
   -- the script counted no fault
   module _ (script_faults : new.script.faults ≡ old.script.faults) where

@@ -3,4 +3,5 @@ pub mod Filed
 pub mod Room
 pub mod RoomInside
 pub mod Seen
+pub mod Sent
 pub mod Totals

@@ -1,4 +1,5 @@
 ghost use Rattle.std.specs.Prelude.{◌≡◌, [], ◌∷◌};
+ghost use Rattle.sd_model_record.specs.Console.{console_text};
 ghost use Rattle.sd_model_record.specs.Desk.{with_round};
 ghost use Rattle.sd_model_record.specs.Graphite.{graphite_text};
 ghost use Rattle.sd_model_record.specs.Record.{record_of};
@@ -9,9 +10,9 @@ ghost use Rattle.sd_shard.specs.Shard.{state_of};
 ghost use Rattle.sd_desk.specs.Marks.{mark_of, marks_of};
 ghost use Rattle.sd_replay.specs.Room.{IsSpareFor, HasRoom};
 
-use crate::delivery::deliver;
 use sd_config::{Names, Reckoning};
-use sd_desk::{Desk, Mark, RoundMarks};
+use sd_delivery::deliver;
+use sd_desk::{Desk, RoundMarks};
 use sd_epoch::Table;
 use sd_outside::{Backend, Backs};
 use sd_record::{Record, RecordScratch};
@@ -25,7 +26,7 @@ pub(crate) struct Flushed {
     pub spare: Table,
 }
 
-/// Swaps the shard, takes the tally, and gives Graphite, where it is used, the text of the record that the plan makes.
+/// Swaps the shard, takes the tally, and gives the backends that are used the record that the plan makes.
 pub(crate) fn flush<B: Backend>(
     shard: &mut Shard,
     spare: Table,
@@ -44,12 +45,14 @@ pub(crate) fn flush<B: Backend>(
     ensures desk { desk.new ≡ with_round desk.old (marks_of result.marks) }
     ensures spare { IsSpareFor shard.old.table.limits result.spare }
     ensures room { scratch.new.room ≡ scratch.old.room }
-    ensures used { FitsUse backs.old.graphite_used (mark_of result.marks.graphite) }
-    ensures delivery { AfterMark (mark_of result.marks.graphite)
+    ensures graphite { AfterMark (mark_of result.marks.graphite)
         (graphite_text names.now (record_of (plan_view plan.now) (table_of (state_of shard.old) ∷ []) (desk.old).tally ts))
         (B.seen backs.old.graphite) (B.seen backs.new.graphite) }
-    ensures console_mark { result.marks.console ≡ Mark.NotUsed }
-    ensures console { backs.new.console ≡ backs.old.console }
+    ensures console { AfterMark (mark_of result.marks.console)
+        (console_text (record_of (plan_view plan.now) (table_of (state_of shard.old) ∷ []) (desk.old).tally ts))
+        (B.seen backs.old.console) (B.seen backs.new.console) }
+    ensures graphite_used { FitsUse backs.old.graphite_used (mark_of result.marks.graphite) }
+    ensures console_used { FitsUse backs.old.console_used (mark_of result.marks.console) }
     ensures graphite_flag { backs.new.graphite_used ≡ backs.old.graphite_used }
     ensures console_flag { backs.new.console_used ≡ backs.old.console_used }
 {

@@ -1,7 +1,6 @@
 //! Scripts: the records of a script, carried out one after another on a shard.
 #![tactic(auto)]
 
-mod delivery;
 mod fault;
 mod flush;
 mod packet;
@@ -10,9 +9,8 @@ mod run;
 mod settings;
 mod totals;
 
-pub use delivery::deliver;
 pub use fault::ScriptFault;
 pub use room::ReplayRoom;
 pub use run::{ReplayEnd, replay};
-pub use settings::{limits_of, names_backend, policy_of};
+pub use settings::{limits_of, names_backend, policy_of, targets_of};
 pub use totals::Totals;

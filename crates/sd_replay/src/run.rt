@@ -1,8 +1,7 @@
-ghost use Rattle.std.specs.Prelude.{◌≡◌, ◌≤◌, false, length, OnErr, IfOk};
+ghost use Rattle.std.specs.Prelude.{◌≡◌, ◌≤◌, ◌<◌, ◌^◌, length, map, OnErr, IfOk};
 ghost use Rattle.sd_model_text.specs.Lines.{samples_of};
 ghost use Rattle.sd_model_outside.specs.Outside.{HasFailedBehind, given};
-ghost use Rattle.sd_model_record.specs.Desk.{with_tally};
-ghost use Rattle.sd_model_replay.specs.Settings.{goes_by, names_unbuilt};
+ghost use Rattle.sd_model_replay.specs.Settings.{goes_by};
 ghost use Rattle.sd_model_replay.specs.Replay.{packet_tally};
 ghost use Rattle.sd_model_replay.specs.Totals.{totals_text};
 ghost use Rattle.sd_model_replay.specs.Ends.{Replayed};
@@ -11,17 +10,20 @@ ghost use Rattle.sd_replay.specs.Ends.{end_of};
 ghost use Rattle.sd_replay.specs.Filed.{filed, lost};
 ghost use Rattle.sd_replay.specs.Room.{sizing_of};
 ghost use Rattle.sd_replay.specs.Seen.{seen_of};
+ghost use Rattle.sd_replay.specs.Sent.{IsPlayed};
 ghost use Rattle.sd_replay.specs.Totals.{totals_of_one, totals_view};
 
 use crate::fault::{ScriptFault, fault_at};
 use crate::flush::flush;
 use crate::packet::file_packet;
 use crate::room::ReplayRoom;
+use crate::settings::targets_of;
 use crate::totals::{Totals, write_totals};
 use sd_config::{Names, Settings};
 use sd_desk::{Desk, Tally};
 use sd_epoch::Who;
-use sd_outside::{Backend, Backs, Sink, Source, WriteFault};
+use sd_outside::{Backend, Backs, Sink, Source, Wire, WriteFault};
+use sd_repeater::repeat;
 use sd_script::Item;
 use sd_shard::Shard;
 
@@ -68,15 +70,25 @@ fn totals_of(shard: &Shard, desk: &Desk) -> Totals
     }
 }
 
-/// Files the samples of a datagram, and counts it at its moment.
-fn play_packet(shard: &mut Shard, desk: &mut Desk, who: u16, moment: u64, datagram: &[u8])
-    requires { length datagram.now ≤ 65507 }
+/// Sends a datagram on each wire, files its samples, and counts it at its moment.
+fn play_packet<L: Wire>(
+    shard: &mut Shard,
+    desk: &mut Desk,
+    wires: &mut [L],
+    who: u16,
+    moment: u64,
+    datagram: &[u8],
+)
+    requires datagram { length datagram.now ≤ 65507 }
+    requires wires { length wires.old < 2 ^ 32 }
     ensures state { state_of shard.new ≡ filed shard.old.table.limits shard.old.policy who (state_of shard.old) (samples_of datagram.now) }
-    ensures desk { desk.new ≡ with_tally desk.old
-        (packet_tally datagram.now (lost shard.old.table.limits shard.old.policy who (state_of shard.old) (samples_of datagram.now))) moment }
+    ensures played { IsPlayed datagram.now
+        (packet_tally datagram.now (lost shard.old.table.limits shard.old.policy who (state_of shard.old) (samples_of datagram.now)))
+        moment (map L.seen wires.old) (map L.seen wires.new) desk.old desk.new }
     ensures limits { shard.new.table.limits ≡ shard.old.table.limits }
     ensures policy { shard.new.policy ≡ shard.old.policy }
 {
+    let failed = repeat(datagram, wires);
     let filed = file_packet(shard, Who(who), datagram);
     let tally = Tally {
         packets: 1,
@@ -85,6 +97,7 @@ fn play_packet(shard: &mut Shard, desk: &mut Desk, who: u16, moment: u64, datagr
         dropped: filed.dropped,
     };
     desk.add(tally, moment);
+    desk.repeater_faults(failed);
 }
 
 /// Writes the totals of a shard and a desk, and answers them.
@@ -102,23 +115,24 @@ fn finish<O: Sink>(shard: &Shard, desk: &Desk, output: &mut O) -> Result<Totals,
     Ok(totals)
 }
 
-/// Carries out a script, record by record, by settings that the room was opened for and that name no backend which
-/// isn't built. Graphite, where it is used, gets each flush's text, and the output gets the totals at the end.
-pub fn replay<R: Source, O: Sink, B: Backend>(
+/// Carries out a script, record by record, by settings that the room was opened for. Each packet is sent on the first wires,
+/// one for each target of the repeater, where it is named; the backends that are used get each flush's record; and the output
+/// gets the totals at the end.
+pub fn replay<R: Source, O: Sink, B: Backend, L: Wire>(
     settings: &Settings,
     room: ReplayRoom,
     script: &mut R,
     output: &mut O,
     backs: &mut Backs<B>,
+    wires: &mut [L],
 ) -> ReplayEnd
-    requires built { names_unbuilt settings.now ≡ false }
     requires room { room ≡ sizing_of (goes_by settings.now) }
     requires graphite_used { backs.old.graphite_used ≡ (goes_by settings.now).uses_graphite }
     requires console_used { backs.old.console_used ≡ (goes_by settings.now).uses_console }
+    requires wires { length (goes_by settings.now).targets ≤ length wires.old }
     ensures end { Replayed (goes_by settings.now) (end_of result)
-        (seen_of R.seen O.seen B.seen script.old output.old backs.old)
-        (seen_of R.seen O.seen B.seen script.new output.new backs.new) }
-    ensures console { backs.new.console ≡ backs.old.console }
+        (seen_of R.seen O.seen B.seen L.seen script.old output.old backs.old wires.old)
+        (seen_of R.seen O.seen B.seen L.seen script.new output.new backs.new wires.new) }
     ensures graphite_flag { backs.new.graphite_used ≡ backs.old.graphite_used }
     ensures console_flag { backs.new.console_used ≡ backs.old.console_used }
 {
@@ -130,13 +144,15 @@ pub fn replay<R: Source, O: Sink, B: Backend>(
         mut reader,
     } = room;
     let names = Names::of(settings);
+    let targets = targets_of(settings).len();
     for _turn in 0..MOST_TURNS {
         let Ok(item) = reader.next(script) else {
             return ReplayEnd::ReadFault;
         };
         match item {
             Item::Packet { who, moment } => {
-                play_packet(&mut shard, &mut desk, who, moment, reader.datagram())
+                let used = &mut wires[..targets];
+                play_packet(&mut shard, &mut desk, used, who, moment, reader.datagram());
             }
             Item::Flush { ts } => {
                 let flushed = flush(

@@ -1,11 +1,12 @@
-ghost use Rattle.std.specs.Prelude.{◌≡◌};
+ghost use Rattle.std.specs.Prelude.{◌≡◌, ◌≤◌, length, map};
 ghost use Rattle.std.specs.List.{list_any};
 ghost use Rattle.std.specs.Str.{bytes_eq};
-ghost use Rattle.sd_model_replay.specs.Settings.{limits_of as limits_by, names_backend as is_named, policy_of as policy_by};
+ghost use Rattle.sd_model_replay.specs.Settings.{limits_of as limits_by, names_backend as is_named, policy_of as policy_by, targets_of as targets_by};
+ghost use Rattle.sd_config.specs.Entries.{target_view};
 ghost use Rattle.sd_epoch.specs.Limits.{limits_of as limits_view, AreLimits};
 ghost use Rattle.sd_shard.specs.Policy.{policy_of as policy_view};
 
-use sd_config::Settings;
+use sd_config::{Settings, Target};
 use sd_epoch::Limits;
 use sd_outside::Name;
 use sd_shard::Policy;
@@ -49,4 +50,16 @@ pub fn names_backend(settings: &Settings, name: &[u8]) -> bool
     ensures { result ≡ is_named name.now settings.now }
 {
     is_among(name, settings.backends())
+}
+
+/// Where packets are repeated to: the targets of the repeater, where it is named.
+pub fn targets_of(settings: &Settings) -> &[Target]
+    ensures targets { map target_view result.now ≡ targets_by settings.now }
+    ensures few { length result.now ≤ 16 }
+{
+    if names_backend(settings, b"repeater") {
+        settings.repeater()
+    } else {
+        &[]
+    }
 }

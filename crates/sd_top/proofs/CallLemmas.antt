@@ -1,19 +1,20 @@
 -- What a call answers, by the step that ended it.
-use Rattle.std.proofs.Common.{◌≡◌, ◌⊎◌, List, ℕ, Bool, true, false, true≢false, if◌then◌else◌, [], ◌∷◌, ◌++◌, Option, Some, None, inl, inr, refl, sym, ap, subst, ◌∙◌}
+use Rattle.std.proofs.Common.{◌≡◌, ◌⊎◌, List, ℕ, [], ◌∷◌, ◌++◌, length, drop, Option, Some, None, inl, inr, refl, sym, ap, subst, ◌∙◌}
 use Rattle.std.specs.List.{AllByRecursion}
-use Rattle.sd_model_outside.specs.Outside.{Object, Place, File, opened}
+use Rattle.sd_model_outside.specs.Outside.{File, Object, HasFailed, opened}
 use Rattle.sd_model_outside.proofs.OutsideLemmas.{Reads-nil}
 use Rattle.sd_model_settings.specs.Settings as file
 use Rattle.sd_model_settings.specs.Defaults.{default_settings}
-use Rattle.sd_model_replay.specs.Settings.{Settings, goes_by, names_unbuilt}
-use Rattle.sd_model_replay.specs.Backends.{Backend, Graphite, Console, is_used}
+use Rattle.sd_model_replay.specs.Settings.{Settings, goes_by}
+use Rattle.sd_model_replay.specs.Repeater.{wire_at}
 use Rattle.sd_model_replay.specs.AccountingTheorem.{Seen, Course, AccountingTheorem, seen_at}
 use Rattle.sd_model_replay.specs.Ends.{End, Complete, Faulted, NotBuilt, ReadFailed, WriteFailed, WornOut, Replayed}
 use Rattle.sd_model_replay.proofs.AccountingLemmas.{are_accounted, are_documented}
 use Rattle.sd_model_call.specs.Words.{Form, Replay, form}
-use Rattle.sd_model_call.specs.Opening.{Part, OfScript, OfGraphite, World, Opening, IsAccepted, IsOpened, IsUntouched, OnlySettings, UnusedStay, OpensSome, FailsToOpen, openings, started}
-use Rattle.sd_model_call.specs.Call.{Answer, NoForm, NotOpened, Unbuilt, Answers, AnswersReplay, Accounts, LacksMemory, NotBegun, Ran, StopsAt, TakesSettings, ending}
-use Rattle.sd_top.specs.Causes.{IsNotTaken, IsNotStarted, StopsAtScript, StopsAtGraphite}
+use Rattle.sd_model_call.specs.Opening.{Part, OfSettings, OfScript, OfWire, OfGraphite, OfConsole, World, Opening, IsAccepted, IsOpened, IsUntouched, OnlySettings, UnusedStay, flags_of, openings, part_in, started}
+use Rattle.sd_model_call.specs.Call.{Answer, NoForm, NoMemory, NotOpened, Answers, AnswersReplay, Accounts, NotBegun, Ran, StopsAt, TakesSettings, ending}
+use Rattle.sd_model_call.proofs.Openings.{IsNamed, all_behind, all_named}
+use Rattle.sd_top.specs.Causes.{IsNotTaken, IsNotStarted, Stops}
 
 -- no record and no byte
 abbrev nothing : Course
@@ -33,6 +34,7 @@ nothing_done now =
       statistics = are_documented plain [];
       used = tt;
       texts = λ back. refl;
+      sends = refl;
     }
 
 -- nothing was carried out, and the output is untouched
@@ -51,18 +53,44 @@ by_words words old none =
           (record { refused = refl; unused = refl; not_begun = not_begun old old refl });
     }
 
--- Graphite, where it is opened
-abbrev graphite : Opening
-graphite = record { part = OfGraphite; place = File [] }
+-- what is seen of a part, but for the settings, is seen of it in a world that differs in these and in the flags
+part_same : (s : Settings) (a b : World) (part : Part) → a.seen ≡ b.seen → IsNamed s part → part_in a part ≡ part_in b part
+part_same s a b OfSettings same is = absurd is
+part_same s a b OfScript same is = ap (λ (seen : Seen). seen.script) same
+part_same s a b (OfWire i) same is = ap (λ (seen : Seen). wire_at i seen.wires) same
+part_same s a b OfGraphite same is = ap (λ (seen : Seen). seen.graphite) same
+part_same s a b OfConsole same is = ap (λ (seen : Seen). seen.console) same
 
--- Graphite is untouched, whether it is used or not
-graphite_untouched : (used : Bool) (old new : World) → new.seen.graphite ≡ old.seen.graphite → AllByRecursion (IsUntouched old new) (if used then graphite ∷ [] else [])
-graphite_untouched false old new same = tt
-graphite_untouched true old new same = (same, tt)
+module _ (s : Settings) (old mid new : World) (same : mid.seen ≡ old.seen) where
+  abbrev AreNamed : List Opening → Type 0
+  AreNamed os = AllByRecursion (λ o. IsNamed s o.part) os
 
--- what is opened where Graphite is used
-with_graphite : (s : Settings) (script : List ℕ) → s.uses_graphite ≡ true → openings s script ≡ record { part = OfScript; place = File script } ∷ graphite ∷ []
-with_graphite s script used = ap (λ (u : Bool). record { part = OfScript; place = File script } ∷ (if u then graphite ∷ [] else [])) used
+  named_front : (front behind : List Opening) → AreNamed (front ++ behind) → AreNamed front
+  named_front [] behind all = tt
+  named_front (o ∷ front) behind all = (all.0, named_front front behind all.1)
+
+  opened_since : (os : List Opening) → AreNamed os → AllByRecursion (IsOpened mid new) os → AllByRecursion (IsOpened old new) os
+  opened_since [] is all = tt
+  opened_since (o ∷ os) is all = (all.0 ∙ ap (opened o.place) (part_same s mid old o.part same is.0), opened_since os is.1 all.1)
+
+  untouched_since : (os : List Opening) → AreNamed os → AllByRecursion (IsUntouched mid new) os → AllByRecursion (IsUntouched old new) os
+  untouched_since [] is all = tt
+  untouched_since (o ∷ os) is all = (all.0 ∙ part_same s mid old o.part same is.0, untouched_since os is.1 all.1)
+
+  all_untouched : (os : List Opening) → AreNamed os → new.seen ≡ mid.seen → AllByRecursion (IsUntouched old new) os
+  all_untouched [] is unused = tt
+  all_untouched (o ∷ os) is unused = (part_same s new old o.part (unused ∙ same) is.0, all_untouched os is.1 unused)
+
+  stays_since : UnusedStay s mid new → UnusedStay s old new
+  stays_since h = record {
+    backends = λ back off. h.backends back off ∙ ap (seen_at back) same;
+    wires = h.wires ∙ ap (λ (seen : Seen). drop (length s.targets) seen.wires) same;
+    count = h.count ∙ ap (λ (seen : Seen). length seen.wires) same;
+  }
+
+-- settings that were accepted are taken, where they and the flags are left as they were then
+pub takes : (name : List ℕ) (values : file.Settings) (old new : World) (settings : Object) → IsAccepted values (File name) old.settings settings → new.settings ≡ settings → new.flags ≡ flags_of (goes_by values) → TakesSettings name values old new
+takes name values old new settings accepted kept flags = record { file = subst (IsAccepted values (File name) old.settings) (sym kept) accepted; flags = flags }
 
 module _ (words : List (List ℕ)) (old new : World) (settings script : List ℕ) (same : form words ≡ Some (Replay settings script)) where
   -- such a call did nothing but open and read
@@ -97,95 +125,77 @@ module _ (words : List (List ℕ)) (old new : World) (settings script : List ℕ
       by_cause (inr (inr (inl (is, failed)))) = subst Gives (sym is) (record { failed = failed; only = only }, idle)
       by_cause (inr (inr (inr (flaw, is, flawed)))) = subst Gives (sym is) (record { file = flawed; only = only }, idle)
 
-    -- the settings name what isn't built
-    pub by_unbuilt : (values : file.Settings) → IsAccepted values (File settings) old.settings new.settings → names_unbuilt values ≡ true → Accounts words old new (Unbuilt 0)
-    by_unbuilt values accepted unbuilt = stopped (Unbuilt 0) (inl (record { place = refl; values = values; file = accepted; unbuilt = unbuilt; only = only }, idle))
-
   -- the settings were taken
   module _ (values : file.Settings) (taken : TakesSettings settings values old new) where
+    -- a part of these couldn't be opened
+    stop_answer : (part : Part) → IsNamed (goes_by values) part → StopsAt part settings script old new → NotBegun nothing new.seen old new → Gives (NotOpened part)
+    stop_answer OfSettings is stops idle = absurd is
+    stop_answer OfScript is stops idle = (stops, idle)
+    stop_answer (OfWire i) is stops idle = (stops, idle)
+    stop_answer OfGraphite is stops idle = (stops, idle)
+    stop_answer OfConsole is stops idle = (stops, idle)
+
     -- an opening, or memory, ended it
-    pub by_opening : (answer : Answer) → IsNotStarted (goes_by values) script answer old.seen new.seen → Accounts words old new answer
-    by_opening answer not_started = stopped answer (by_cause not_started.why) where
-      stays : new.seen.graphite ≡ old.seen.graphite → UnusedStay (goes_by values) old new
-      stays h Graphite unused = h
-      stays h Console unused = not_started.console
-
-      used_stays : (goes_by values).uses_graphite ≡ true → UnusedStay (goes_by values) old new
-      used_stays used Graphite unused = absurd (true≢false (sym used ∙ unused))
-      used_stays used Console unused = not_started.console
-
+    pub by_opening : (answer : Answer) (mid : World) → mid.seen ≡ old.seen → IsNotStarted (goes_by values) script answer mid new → Accounts words old new answer
+    by_opening answer mid same h = stopped answer (by_cause h.why) where
       idle : NotBegun nothing new.seen old new
-      idle = not_begun old new not_started.output
+      idle = not_begun old new (h.output ∙ ap (λ (seen : Seen). seen.output) same)
 
-      by_cause : StopsAtScript answer old.seen new.seen ⊎ StopsAtGraphite (goes_by values) script answer old.seen new.seen → Gives answer
-      by_cause (inl h) = elim h.script [
-        | inl (is, script_same) ↦ subst Gives (sym is) (
-          inr (record {
-            values = values;
-            taken = taken;
-            some = record {
-              before = [];
-              behind = openings (goes_by values) script;
-              order = refl;
-              opened = tt;
-              untouched = (script_same, graphite_untouched (goes_by values).uses_graphite old new h.graphite);
-            };
-            unused = stays h.graphite;
-          }),
-          idle,
-        )
-        | inr (is, failed) ↦ subst Gives (sym is) (
-          record {
-            values = values;
-            taken = taken;
-            fails = record {
-              before = [];
-              place = File script;
-              behind = if (goes_by values).uses_graphite then graphite ∷ [] else [];
-              order = refl;
-              opened = tt;
-              failed = failed;
-              untouched = graphite_untouched (goes_by values).uses_graphite old new h.graphite;
-            };
-            unused = stays h.graphite;
-          },
-          idle,
-        )
-      ]
-      by_cause (inr h) = elim h.graphite [
-        | inl (is, same_graphite) ↦ subst Gives (sym is) (
-          inr (record {
-            values = values;
-            taken = taken;
-            some = record {
-              before = record { part = OfScript; place = File script } ∷ [];
-              behind = graphite ∷ [];
-              order = with_graphite (goes_by values) script h.used;
-              opened = (h.script, tt);
-              untouched = (same_graphite, tt);
-            };
-            unused = stays same_graphite;
-          }),
-          idle,
-        )
-        | inr (is, failed) ↦ subst Gives (sym is) (
-          record {
-            values = values;
-            taken = taken;
-            fails = record {
-              before = record { part = OfScript; place = File script } ∷ [];
-              place = File [];
-              behind = [];
-              order = with_graphite (goes_by values) script h.used;
-              opened = (h.script, tt);
-              failed = failed;
-              untouched = tt;
-            };
-            unused = used_stays h.used;
-          },
-          idle,
-        )
-      ]
+      unused : UnusedStay (goes_by values) old new
+      unused = stays_since (goes_by values) old mid new same h.unused
+
+      by_stop : (stops : Stops (openings (goes_by values) script) answer mid new) → Gives answer
+      by_stop stops =
+          let s = goes_by values in
+          let all = subst (AllByRecursion (λ o. IsNamed s o.part)) stops.order (all_named s script) in
+          let front = named_front s old mid new same stops.before (stops.at ∷ stops.behind) all in
+          let rest = all_behind (λ o. IsNamed s o.part) stops.before (stops.at ∷ stops.behind) all in
+          let before = opened_since s old mid new same stops.before front stops.opened in
+          let behind = untouched_since s old mid new same stops.behind rest.1 stops.untouched in
+          let part = part_same s mid old stops.at.part same rest.0 in
+          elim stops.not_opened [
+            | inl (is, part_kept) ↦ subst Gives (sym is) (
+              inr (record {
+                values = values;
+                taken = taken;
+                some = record { before = stops.before; behind = stops.at ∷ stops.behind; order = stops.order; opened = before; untouched = (part_kept ∙ part, behind) };
+                unused = unused;
+              }),
+              idle,
+            )
+            | inr (is, failed) ↦ subst Gives (sym is) (stop_answer stops.at.part rest.0 (record {
+              values = values;
+              taken = taken;
+              fails = record {
+                before = stops.before;
+                place = stops.at.place;
+                behind = stops.behind;
+                order = stops.order;
+                opened = before;
+                failed = subst (λ o. HasFailed o (part_in new stops.at.part)) part failed;
+                untouched = behind;
+              };
+              unused = unused;
+            }) idle)
+          ]
+
+      by_cause : (answer ≡ NoMemory) × (new ≡ mid) ⊎ Stops (openings (goes_by values) script) answer mid new → Gives answer
+      by_cause (inl (is, kept)) = subst Gives (sym is) (
+        inr (record {
+          values = values;
+          taken = taken;
+          some = record {
+            before = [];
+            behind = openings (goes_by values) script;
+            order = refl;
+            opened = tt;
+            untouched = all_untouched (goes_by values) old mid new same (openings (goes_by values) script) (all_named (goes_by values) script) (ap (λ (w : World). w.seen) kept);
+          };
+          unused = unused;
+        }),
+        idle,
+      )
+      by_cause (inr stops) = by_stop stops
 
     -- a replay ended it
     pub by_replay : (answer : Answer) (end : End) → answer ≡ ending end → Replayed (goes_by values) end (started (goes_by values) script old.seen) new.seen → Accounts words old new answer
@@ -204,7 +214,7 @@ module _ (words : List (List ℕ)) (old new : World) (settings script : List ℕ
           by_end : (e : End) → Ran e (goes_by values) settings script h.course (started (goes_by values) script old.seen) old new → AnswersReplay settings script (goes_by values) (ending e) h.course (started (goes_by values) script old.seen) old new
           by_end (Complete totals) r = subst (λ t. Ran (Complete t) (goes_by values) settings script h.course (started (goes_by values) script old.seen) old new) r.ends.read.2 r
           by_end (Faulted at flaw) r = r
-          by_end (NotBuilt at) r = inr r
+          by_end (NotBuilt at) r = r
           by_end ReadFailed r = r
           by_end WriteFailed r = r
           by_end (WornOut turns) r = r

@@ -1,10 +1,11 @@
 -- Why a step before a replay ended the call, and what was done by then.
-use Rattle.std.specs.Prelude.{◌≡◌, ◌⊎◌, ℕ, ◌+◌, List, length, true, Err}
-use Rattle.sd_model_outside.specs.Outside.{Object, Place, File, HasFailed, opened}
+use Rattle.std.specs.Prelude.{◌≡◌, ◌⊎◌, ℕ, ◌+◌, List, [], ◌∷◌, ◌++◌, length, Err}
+use Rattle.std.specs.List.{AllByRecursion}
+use Rattle.sd_model_outside.specs.Outside.{Object, Place, HasFailed, opened}
 use Rattle.sd_model_settings.specs.Settings.{SettingsFlaw, settings}
+use Rattle.sd_model_settings.specs.Entries.{Target}
 use Rattle.sd_model_replay.specs.Settings.{Settings}
-use Rattle.sd_model_replay.specs.AccountingTheorem.{Seen}
-use Rattle.sd_model_call.specs.Opening.{Part, OfSettings, OfScript, OfGraphite, IsFlawed, FailsBehind, IsLeftOff, longest_file}
+use Rattle.sd_model_call.specs.Opening.{Part, OfSettings, OfWire, World, Opening, IsFlawed, FailsBehind, IsLeftOff, IsOpened, IsUntouched, UnusedStay, longest_file, openings, part_in, target_place}
 use Rattle.sd_model_call.specs.Call.{Answer, NoMemory, Misset, NotOpened, NotRead}
 
 -- an object wasn't opened: no memory was left, or it failed
@@ -27,19 +28,28 @@ IsRefused answer bytes = (answer ≡ NoMemory) ⊎ ((flaw : SettingsFlaw) × (an
 abbrev pub HoldsDeciding : List ℕ → Type 0
 HoldsDeciding buf = length buf ≡ longest_file + 1
 
--- the script wasn't opened, and Graphite wasn't touched
-pub record StopsAtScript (answer : Answer) (old new : Seen) : Type 0 where
-  pub script : IsNotOpened OfScript answer old.script new.script
-  pub graphite : new.graphite ≡ old.graphite
+-- the wires of targets, from this number on, weren't all opened: those before one were, and that one wasn't; or no memory was
+-- left for it
+abbrev pub WiresStop : ℕ → List Target → Answer → List Object → List Object → Type 0
+WiresStop i (t ∷ targets) answer (o ∷ old) (n ∷ new) =
+    IsNotOpened (OfWire i) answer o n × (new ≡ old) ⊎ (n ≡ opened (target_place t) o) × WiresStop (i + 1) targets answer old new
+WiresStop i [] answer old new = ⊥
+WiresStop i (t ∷ targets) answer [] new = ⊥
+WiresStop i (t ∷ targets) answer (o ∷ old) [] = ⊥
 
--- the script of this name was opened, and Graphite, which is used, wasn't
-pub record StopsAtGraphite (s : Settings) (name : List ℕ) (answer : Answer) (old new : Seen) : Type 0 where
-  pub used : s.uses_graphite ≡ true
-  pub script : new.script ≡ opened (File name) old.script
-  pub graphite : IsNotOpened OfGraphite answer old.graphite new.graphite
+-- The first of these that wasn't opened, since it failed or no memory was left: those before it were opened, in their order,
+-- and those behind it are untouched.
+pub record Stops (parts : List Opening) (answer : Answer) (old new : World) : Type 0 where
+  pub before : List Opening
+  pub at : Opening
+  pub behind : List Opening
+  pub order : parts ≡ before ++ at ∷ behind
+  pub opened : AllByRecursion (IsOpened old new) before
+  pub not_opened : IsNotOpened at.part answer (part_in old at.part) (part_in new at.part)
+  pub untouched : AllByRecursion (IsUntouched old new) behind
 
--- a replay wasn't begun: the parts that it uses weren't all opened, and nothing else changed
-pub record IsNotStarted (s : Settings) (name : List ℕ) (answer : Answer) (old new : Seen) : Type 0 where
-  pub why : StopsAtScript answer old new ⊎ StopsAtGraphite s name answer old new
-  pub output : new.output ≡ old.output
-  pub console : new.console ≡ old.console
+-- a replay wasn't begun: no memory was left for it; or the parts that it uses weren't all opened, and nothing else changed
+pub record IsNotStarted (s : Settings) (name : List ℕ) (answer : Answer) (old new : World) : Type 0 where
+  pub why : (answer ≡ NoMemory) × (new ≡ old) ⊎ Stops (openings s name) answer old new
+  pub unused : UnusedStay s old new
+  pub output : new.seen.output ≡ old.seen.output

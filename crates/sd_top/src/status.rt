@@ -18,7 +18,10 @@ const NO_MEMORY: &[u8] = b"statsd: out of memory";
 pub enum Part {
     Settings,
     Script,
+    /// The wire of a target, counted from 0.
+    Wire(u16),
     Graphite,
+    Console,
 }
 
 /// How a run ended.
@@ -41,7 +44,7 @@ pub enum Status {
     OpenFault { part: Part },
     /// A loop has made as many turns as it may, 2^62.
     Worn { turns: u64 },
-    /// The script's record at this place isn't built, or, at 0, a backend that the settings name.
+    /// The script's record at this place isn't built.
     Unbuilt { at: u64 },
 }
 
@@ -75,13 +78,19 @@ fn push_text(text: &[u8], out: &mut Line)
 
 /// Appends the name of an object.
 fn push_part(part: Part, out: &mut Line)
-    requires { length out.old.items + 8 ≤ 1024 }
-    ensures { out.new.items ≡ out.old.items ++ part_name part }
+    requires { length out.old.items + 44 ≤ 1024 }
+    ensures text { out.new.items ≡ out.old.items ++ part_name part }
+    ensures len { length out.new.items ≤ length out.old.items + 44 }
 {
     match part {
         Part::Settings => push_text(b"settings", out),
         Part::Script => push_text(b"script", out),
+        Part::Wire(i) => {
+            push_text(b"wire ", out);
+            write_whole(u128::from(i), out);
+        }
         Part::Graphite => push_text(b"graphite", out),
+        Part::Console => push_text(b"console", out),
     }
 }
 

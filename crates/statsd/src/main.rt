@@ -1,12 +1,13 @@
 //! A StatsD daemon.
 #![tactic(auto)]
 
-ghost use Rattle.std.specs.Prelude.{◌≡◌, drop};
+ghost use Rattle.std.specs.Prelude.{◌≡◌, drop, length, IfOk};
 ghost use Rattle.std.specs.Process.{exit_status};
 ghost use Rattle.sd_top.specs.Status.{exit_code};
 
 mod file_source;
 mod standard_out;
+mod udp_wire;
 
 use file_source::FileSource;
 use sd_decimal::Line;
@@ -17,6 +18,7 @@ use std::alloc::{AllocError, Global};
 use std::env;
 use std::io::{ErrorKind, Write};
 use std::process::ExitCode;
+use udp_wire::UdpWire;
 
 /// The words of the command line, with the program's name first.
 ///
@@ -54,11 +56,32 @@ fn exit_of(status: &Status) -> ExitCode
     ExitCode::from(status.exit())
 }
 
+/// How many wires a world has.
+const WIRES: usize = 256;
+
+/// Wires that are opened later.
+///
+/// # Errors
+///
+/// Where no memory is left for the list.
+fn wires(rt: &HostRuntime) -> Result<Vec<UdpWire<'_>>, AllocError>
+    ensures { IfOk result (λ wires. length wires.items ≡ 256) }
+{
+    let mut wires = Vec::with_capacity(rt.alloc(), WIRES)?;
+    for _ in 0..WIRES {
+        wires.push(UdpWire::new(rt))?;
+    }
+    Ok(wires)
+}
+
 /// Carries out what the words ask for.
 fn run(rt: &HostRuntime) -> Status {
     let words = match words(rt) {
         Ok(words) => words,
         Err(status) => return status,
+    };
+    let Ok(wires) = wires(rt) else {
+        return Status::OutOfMemory;
     };
     let mut world = World {
         settings: FileSource::new(rt),
@@ -70,6 +93,7 @@ fn run(rt: &HostRuntime) -> Status {
             graphite_used: true,
             console_used: false,
         },
+        wires,
     };
     statsd(rt.alloc(), behind_name(words.as_slice()), &mut world)
 }

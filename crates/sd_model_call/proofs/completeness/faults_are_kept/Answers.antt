@@ -15,3 +15,6 @@ returns-clause-output c words old new answer h = (kept words old new answer h).o
 
 pub returns-clause-console : goal.returns-clause-console
 returns-clause-console c words old new answer h = (kept words old new answer h).console
+
+pub returns-clause-wires : goal.returns-clause-wires
+returns-clause-wires c words old new answer i h = (kept words old new answer h).wires i

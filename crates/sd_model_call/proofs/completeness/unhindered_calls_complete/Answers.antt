@@ -4,22 +4,22 @@ use Rattle.sd_model_replay.specs.Settings.{goes_by}
 use Rattle.sd_model_replay.specs.Next.{Faulty, Unbuilt}
 use Rattle.sd_model_call.specs.Call.{Accounts, Answer, Done, ending}
 use Rattle.sd_model_call.proofs.ReplayEnds.{replay_completes, replay_stops, replay_wears_out, carries_out_well}
-use Rattle.sd_model_call.proofs.CallEnds.{unhindered_started, cut_started, longest_started, none_missed_started, full_answer, graphite_opens, done_carries_out}
+use Rattle.sd_model_call.proofs.CallEnds.{unhindered_started, cut_started, longest_started, none_missed_started, full_answer, outward_opens, done_carries_out}
 use Rattle.sd_model_call.proofs.completeness.unhindered_calls_complete.Goals as goal
 
 pub returns-clause-answer : goal.returns-clause-answer
 returns-clause-answer c words values old new commands rest answer plainly free h =
     full_answer words values old new plainly Done (λ end r. ap ending (replay_completes _ _ _ _ _ end (unhindered_started (goes_by values) plainly.asks.script old.seen new.seen commands rest free) r).1) free.steady.script_faults answer h
 
-pub returns-clause-graphite : goal.returns-clause-graphite
-returns-clause-graphite c words values old new ended answer plainly none h full = elim full [
+pub returns-clause-outward : goal.returns-clause-outward
+returns-clause-outward c words values old new ended answer plainly none h full = elim full [
   | inl whole ↦ whole
-  | inr closed ↦ absurd (graphite_opens words values old new plainly none (subst (λ (a : Answer). Accounts words old new a) closed h))
+  | inr closed ↦ absurd (outward_opens words values old new plainly closed.0 closed.1 none (subst (λ (a : Answer). Accounts words old new a) closed.2 h))
 ]
 
 pub returns-clause-whole : goal.returns-clause-whole
 returns-clause-whole c words values old new commands rest answer plainly free none h =
-    returns-clause-graphite c words values old new Done answer plainly none h (returns-clause-answer c words values old new commands rest answer plainly free h)
+    returns-clause-outward c words values old new Done answer plainly none h (returns-clause-answer c words values old new commands rest answer plainly free h)
 
 pub returns-clause-done : goal.returns-clause-done
 returns-clause-done c words values old new commands rest plainly free h = done_carries_out words values old new plainly commands rest free h

@@ -1,19 +1,21 @@
-use Rattle.std.proofs.Common.{◌≡◌, ℕ}
+use Rattle.std.proofs.Common.{◌≡◌, ℕ, List, length, map}
 use Rattle.sd_model_outside.specs.Outside.{Object}
 use Rattle.sd_model_settings.specs.Settings as file
 use Rattle.sd_model_record.specs.Desk.{Desk}
 use Rattle.sd_model_replay.specs.Settings.{goes_by}
+use Rattle.sd_model_replay.specs.Backends.{Backend}
 use Rattle.sd_shard.specs.Shard.{Standing, state_of}
 use Rattle.sd_epoch.specs.Table.{Listing}
 use Rattle.sd_script.specs.Reading.{Reading, left}
 use Rattle.sd_record.specs.Rows.{Room}
 use Rattle.sd_replay.specs.Room.{IsSpareFor, HasRoom}
+use Rattle.sd_replay.specs.Seen.{back_of}
 use Rattle.sd_replay.proofs.PlayLemmas.{Progress}
 use Rattle.sd_replay.proofs.run.replay.Given as goal
 
 -- what stands after so many turns
-pub record Stands (settings : file.Settings) (script now : Object) (old new : Object) (shard : Standing) (empty_table : Listing) (desk : Desk) (scratch_room : Room) (reader : Reading) (turn : ℕ) : Type 0 where
-  pub progress : Progress (goes_by settings) script.told (left reader now.told) old new (state_of shard) desk reader.at turn
+pub record Stands (settings : file.Settings) (script now : Object) (old new : Backend → Object) (had has : List Object) (shard : Standing) (empty_table : Listing) (desk : Desk) (scratch_room : Room) (reader : Reading) (turn : ℕ) : Type 0 where
+  pub progress : Progress (goes_by settings) script.told (left reader now.told) old new had has (state_of shard) desk reader.at turn
   pub limits : shard.table.limits ≡ (goes_by settings).limits
   pub policy : shard.policy ≡ (goes_by settings).policy
   pub spare : IsSpareFor (goes_by settings).limits empty_table
@@ -24,9 +26,9 @@ pub record Stands (settings : file.Settings) (script now : Object) (old new : Ob
 
 abbrev pub invariant-loop-turn : goal.invariant-loop-turn
 invariant-loop-turn g l =
-    Stands l.fn.settings (g.R.Faulty.seen l.fn.script) (g.R.Faulty.seen l.script) (g.B.Faulty.seen l.fn.backs.graphite) (g.B.Faulty.seen l.backs.graphite)
-    l.shard l.spare l.desk l.scratch.room l.reader l._turn
+    Stands l.fn.settings (g.R.Faulty.seen l.fn.script) (g.R.Faulty.seen l.script) (back_of g.B.Faulty.seen l.fn.backs) (back_of g.B.Faulty.seen l.backs)
+    (map g.L.Faulty.seen l.fn.wires) (map g.L.Faulty.seen l.wires) l.shard l.spare l.desk l.scratch.room l.reader l._turn
     × (l.output ≡ l.fn.output)
-    × (l.backs.console ≡ l.fn.backs.console)
     × (l.backs.graphite_used ≡ l.fn.backs.graphite_used)
     × (l.backs.console_used ≡ l.fn.backs.console_used)
+    × (length l.wires ≡ length l.fn.wires)

@@ -6,7 +6,7 @@ use Rattle.sd_top.proofs.status.push_reason.Goals as goal
 pub returns-in-OpenFault-clause-text : goal.returns-in-OpenFault-clause-text
 returns-in-OpenFault-clause-text c =
     let out = c.args.out.now.items in
-    c.push_part-in-OpenFault.ensures ∙ ap (λ (text : List ℕ). text ++ part_name c.in-OpenFault.part) c.push_text-in-OpenFault.ensures
+    c.push_part-in-OpenFault.ensures.text ∙ ap (λ (text : List ℕ). text ++ part_name c.in-OpenFault.part) c.push_text-in-OpenFault.ensures
     ∙ append_assoc out (codes "statsd: open fault ") (part_name c.in-OpenFault.part) ∙ ap (λ s. out ++ reason s) (sym c.in-OpenFault.is)
 
 pub returns-in-Worn-clause-text : goal.returns-in-Worn-clause-text

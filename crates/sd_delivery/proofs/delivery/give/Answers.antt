@@ -1,10 +1,9 @@
 use Rattle.std.proofs.Common.{◌≡◌, ℕ, List, length, sym, subst, ap, inr, ◌∙◌, arith}
 use Rattle.std.proofs.Math.Seq.{take-length}
 use Rattle.sd_model_outside.specs.Outside.{Object, HasFailed, appended, begun, given, telling}
-use Rattle.sd_model_record.specs.Graphite.{graphite_text}
 use Rattle.sd_model_replay.specs.Backends.{HasMissed}
 use Rattle.sd_record.specs.Record.{record_view}
-use Rattle.sd_replay.proofs.delivery.give_graphite.Goals as goal
+use Rattle.sd_delivery.proofs.delivery.give.Goals as goal
 
 -- the whole text was given, and the list wasn't ended
 missed_behind : (text : List ℕ) (old begun_now given_now new : Object) → begun_now ≡ telling (begun old.told) old → given_now ≡ given text begun_now → HasFailed given_now new → HasMissed text old new
@@ -19,4 +18,4 @@ missed_behind text old begun_now given_now new first then failed =
 
 pub returns-in-Err-clause-delivery : goal.returns-in-Err-clause-delivery
 returns-in-Err-clause-delivery g c =
-    missed_behind (graphite_text c.args.names.now (record_view c.args.rec.now)) _ _ _ _ c.in-Ok.ensures.ok c.in-Ok-write_record.ensures.ok c.in-Err.ensures.failed
+    missed_behind (g.T.RecordText.text_of c.args.form.now (record_view c.args.rec.now)) _ _ _ _ c.in-Ok.ensures.ok c.in-Ok-write.ensures.ok c.in-Err.ensures.failed
