@@ -44,7 +44,7 @@ fn name_of(flaw: Flaw) -> &'static str {
     }
 }
 
-/// Appends what stands next, the place behind it, and the datagram, where it is a packet.
+/// Appends what stands next, the place behind it, and its body, where it has one.
 fn show_next(item: Result<Item, Failed>, reader: &Reader, out: &mut Answer) {
     match item {
         Ok(Item::Packet { who, moment }) => {
@@ -52,14 +52,14 @@ fn show_next(item: Result<Item, Failed>, reader: &Reader, out: &mut Answer) {
             out.count(" ", moment);
         }
         Ok(Item::Flush { ts }) => out.count("flush ", ts),
+        Ok(Item::Admin { moment }) => out.count("admin ", moment),
         Ok(Item::End) => out.text("end"),
         Ok(Item::Fault(flaw)) => out.text(name_of(flaw)),
-        Ok(Item::Unbuilt) => out.text("unbuilt"),
         Err(Failed) => out.text("failed"),
     }
     out.count(" at ", reader.at());
     out.text(" ");
-    out.bytes(reader.datagram());
+    out.bytes(reader.body());
     out.text("; ");
 }
 

@@ -76,7 +76,6 @@ fn status_of(alloc: Global, fields: &[&str]) -> Result<Status, Refusal> {
         ["worn", turns] => Ok(Status::Worn {
             turns: number(turns)?,
         }),
-        ["unbuilt", at] => Ok(Status::Unbuilt { at: number(at)? }),
         _ => Err(Refusal::Malformed),
     }
 }

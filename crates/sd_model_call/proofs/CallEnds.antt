@@ -1,5 +1,5 @@
 -- How a call answers, where its replay can end in one way only, and where its settings are refused.
-use Rattle.std.proofs.Common.{◌≡◌, ◌⊎◌, ℕ, ◌<◌, IsTrue, List, [], ◌∷◌, ◌++◌, length, refl, sym, ap, subst, ◌∙◌, Option, Some, None, Ok, Err, inl, inr, nat_lt, codes, arith, length-append, append-nil}
+use Rattle.std.proofs.Common.{◌≡◌, ◌⊎◌, ℕ, ◌<◌, IsTrue, List, [], ◌++◌, length, refl, sym, ap, subst, ◌∙◌, Option, Some, None, Ok, Err, inl, inr, nat_lt, codes, arith, length-append, append-nil}
 use Rattle.std.specs.Prelude.{IfSome}
 use Rattle.std.proofs.lemmas.Bool.Decides.{nat_tests}
 use Rattle.std.proofs.lemmas.Bool.{cond-true}
@@ -13,10 +13,10 @@ use Rattle.sd_model_replay.specs.Script.{Command, end_word}
 use Rattle.sd_model_replay.specs.Next.{Next}
 use Rattle.sd_model_replay.specs.Totals.{totals_after}
 use Rattle.sd_model_replay.specs.AccountingTheorem.{Seen, Course, AccountingTheorem, seen_at}
-use Rattle.sd_model_replay.specs.Ends.{End, Complete, Faulted, NotBuilt, ReadFailed, WriteFailed, WornOut, Replayed}
+use Rattle.sd_model_replay.specs.Ends.{End, Complete, Faulted, ReadFailed, WriteFailed, WornOut, Replayed}
 use Rattle.sd_model_call.specs.Words.{Form}
 use Rattle.sd_model_call.specs.Opening.{World, Part, OfSettings, OfScript, OfWire, OfGraphite, OfConsole, AreRead, longest_file, started}
-use Rattle.sd_model_call.specs.Call.{Answer, Done, NoMemory, NoForm, Misset, BadScript, NotOpened, NotRead, NotWritten, Unbuilt, Worn, Answers, AnswersReplay, Accounts, StopsAt, TakesSettings, Ran, ending}
+use Rattle.sd_model_call.specs.Call.{Answer, Done, NoMemory, NoForm, Misset, BadScript, NotOpened, NotRead, NotWritten, Worn, Answers, AnswersReplay, Accounts, StopsAt, TakesSettings, Ran, ending}
 use Rattle.sd_model_call.specs.Completeness.{Asks, AsksPlainly, IsSteady, IsUnhindered, IsCutOff, IsLongest, IsWhole, IsFull, IsBlocked, IsOutward, CarriedOut, NoneMissed, refusal}
 use Rattle.sd_model_call.proofs.ReplayEnds.{LeftBehind, left_behind, carries_out}
 use Rattle.sd_model_call.proofs.Openings.{IsNamed, is_named, opened_where_faults, opened_wire_faults}
@@ -24,16 +24,16 @@ use Rattle.sd_model_call.proofs.Openings.{IsNamed, is_named, opened_where_faults
 module _ (s : Settings) (name : List ℕ) (old new : Seen) where
   -- what is known of a script and an output is known once the script is opened
   steady_started : (commands : List Command) (bytes : List ℕ) → IsSteady s old new commands bytes → IsSteady s (started s name old) new commands bytes
-  steady_started commands bytes h = record { script = h.script; built = h.built; script_faults = h.script_faults }
+  steady_started commands bytes h = record { script = h.script; legal = h.legal; script_faults = h.script_faults }
 
   pub unhindered_started : (commands : List Command) (rest : List ℕ) → IsUnhindered s old new commands rest → IsUnhindered s (started s name old) new commands rest
   unhindered_started commands rest h = record { steady = steady_started commands (end_word ++ rest) h.steady; few = h.few; output_faults = h.output_faults }
 
   pub cut_started : (commands : List Command) (next : Next) (bytes : List ℕ) → IsCutOff s old new commands next bytes → IsCutOff s (started s name old) new commands next bytes
-  cut_started commands next bytes h = record { steady = steady_started commands bytes h.steady; few = h.few; begins = h.begins }
+  cut_started commands next bytes h = record { steady = steady_started commands bytes h.steady; few = h.few; begins = h.begins; heard = h.heard }
 
   pub longest_started : (commands : List Command) (bytes : List ℕ) → IsLongest s old new commands bytes → IsLongest s (started s name old) new commands bytes
-  longest_started commands bytes h = record { steady = steady_started commands bytes h.steady; most = h.most }
+  longest_started commands bytes h = record { steady = steady_started commands bytes h.steady; most = h.most; heard = h.heard }
 
   pub none_missed_started : NoneMissed s old new → NoneMissed s (started s name old) new
   none_missed_started none = record { backends = backends; wires = wires } where
@@ -114,7 +114,6 @@ module _ (words : List (List ℕ)) (values : file.Settings) (old new : World) (p
     full_by s (NotRead OfGraphite) course start theorem h = absurd h
     full_by s (NotRead OfConsole) course start theorem h = absurd h
     full_by s NotWritten course start theorem h = at_end WriteFailed s course start theorem h
-    full_by s (Unbuilt at) course start theorem h = at_end (NotBuilt at) s course start theorem h
     full_by s (Worn turns) course start theorem h = at_end (WornOut turns) s course start theorem h
 
     pub full_answer : (answer : Answer) → Accounts words old new answer → IsFull expected answer
@@ -178,7 +177,6 @@ module _ (words : List (List ℕ)) (old new : World) (bytes : List ℕ) (refused
   blocked_by s (NotRead OfGraphite) course start h = absurd h
   blocked_by s (NotRead OfConsole) course start h = absurd h
   blocked_by s NotWritten course start h = not_taken h.values h.taken
-  blocked_by s (Unbuilt at) course start h = not_taken h.values h.taken
   blocked_by s (Worn turns) course start h = not_taken h.values h.taken
 
   refused_so : (answer : Answer) (h : Accounts words old new answer) → AnswersReplay asks.settings asks.script h.force answer h.course h.start old new

@@ -5,15 +5,15 @@ use Rattle.std.proofs.lemmas.Bool.{cases_lt}
 use Rattle.sd_model_outside.specs.Outside.{Place, File, Object, Used, HasRead, opened}
 use Rattle.sd_model_settings.specs.Settings as file
 use Rattle.sd_model_replay.specs.Settings.{Settings, goes_by}
-use Rattle.sd_model_replay.specs.Backends.{Backend, Graphite, Console, is_used}
+use Rattle.sd_model_replay.specs.Backends.{Backend, Graphite, Console}
 use Rattle.sd_model_replay.specs.Repeater.{wire_at}
-use Rattle.sd_model_replay.specs.Replay.{Played, deliveries, sendings}
+use Rattle.sd_model_replay.specs.Replay.{deliveries, sendings}
 use Rattle.sd_model_replay.specs.Totals.{totals_after}
 use Rattle.sd_model_replay.specs.AccountingTheorem.{Seen, Course, AccountingTheorem, seen_at}
-use Rattle.sd_model_replay.specs.Ends.{End, Complete, Faulted, NotBuilt, ReadFailed, WriteFailed, WornOut, OutputAfter}
+use Rattle.sd_model_replay.specs.Ends.{End, Complete, Faulted, ReadFailed, WriteFailed, WornOut, OutputAfter}
 use Rattle.sd_model_call.specs.Words.{Form, Replay, form}
 use Rattle.sd_model_call.specs.Opening.{World, Opening, Part, OfSettings, OfScript, OfWire, OfGraphite, OfConsole, IsOpened, IsUntouched, OnlySettings, UnusedStay, backend_openings, openings, part_in, started, wire_openings}
-use Rattle.sd_model_call.specs.Call.{Answer, Done, NoMemory, NoForm, Misset, BadScript, NotOpened, NotRead, NotWritten, Unbuilt, Worn, Answers, AnswersReplay, Accounts, NotBegun, TakesSettings, StopsAt, Ran}
+use Rattle.sd_model_call.specs.Call.{Answer, Done, NoMemory, NoForm, Misset, BadScript, NotOpened, NotRead, NotWritten, Worn, Answers, AnswersReplay, Accounts, NotBegun, TakesSettings, StopsAt, Ran}
 use Rattle.sd_model_replay.proofs.DeliveryLemmas.{all_counts}
 use Rattle.sd_model_replay.proofs.SendingLemmas.{wire_counts}
 use Rattle.sd_model_call.proofs.Openings.{all_append, all_behind, opened_where_faults, opened_wire_faults, wire_beyond, wire_opening}
@@ -31,13 +31,12 @@ used_same : (old new : Object) → new ≡ old → Used old new
 used_same old new same = let faults = ap (λ (o : Object). o.faults) same in record { faults = omega (arith, faults); opened_at = ap (λ (o : Object). o.opened_at) same }
 
 -- the output is used, however a replay ends
-output_used : (settings : Settings) (end : End) (played : List Played) (old new : Object) → OutputAfter settings end played old new → Used old new
-output_used settings (Complete totals) played old new h = let faults = ap (λ (o : Object). o.faults) h in record { faults = omega (arith, faults); opened_at = ap (λ (o : Object). o.opened_at) h }
-output_used settings WriteFailed played old new h = h.used
-output_used settings (Faulted at flaw) played old new h = let faults = ap (λ (o : Object). o.faults) h in record { faults = omega (arith, faults); opened_at = ap (λ (o : Object). o.opened_at) h }
-output_used settings (NotBuilt at) played old new h = let faults = ap (λ (o : Object). o.faults) h in record { faults = omega (arith, faults); opened_at = ap (λ (o : Object). o.opened_at) h }
-output_used settings ReadFailed played old new h = let faults = ap (λ (o : Object). o.faults) h in record { faults = omega (arith, faults); opened_at = ap (λ (o : Object). o.opened_at) h }
-output_used settings (WornOut turns) played old new h = let faults = ap (λ (o : Object). o.faults) h in record { faults = omega (arith, faults); opened_at = ap (λ (o : Object). o.opened_at) h }
+output_used : (settings : Settings) (end : End) (course : Course) (old new : Object) → OutputAfter settings end course old new → Used old new
+output_used settings (Complete totals) course old new h = let faults = ap (λ (o : Object). o.faults) h in record { faults = omega (arith, faults); opened_at = ap (λ (o : Object). o.opened_at) h }
+output_used settings WriteFailed course old new h = record { faults = h.failed.used.faults; opened_at = h.failed.used.opened_at }
+output_used settings (Faulted at flaw) course old new h = let faults = ap (λ (o : Object). o.faults) h in record { faults = omega (arith, faults); opened_at = ap (λ (o : Object). o.opened_at) h }
+output_used settings ReadFailed course old new h = let faults = ap (λ (o : Object). o.faults) h in record { faults = omega (arith, faults); opened_at = ap (λ (o : Object). o.opened_at) h }
+output_used settings (WornOut turns) course old new h = let faults = ap (λ (o : Object). o.faults) h in record { faults = omega (arith, faults); opened_at = ap (λ (o : Object). o.opened_at) h }
 
 read_faults : (bytes : List ℕ) (place : Place) (old new : Object) → HasRead bytes (opened place old) new → old.faults ≤ new.faults
 read_faults bytes place old new h = let faults = ap (λ (o : Object). o.faults) h in omega (arith, faults)
@@ -118,7 +117,7 @@ module _ (old new : World) where
         script = r.ends.script.faults;
         graphite = omega (arith, opened_graphite, graphite.used.faults);
         console = omega (arith, opened_console, console.used.faults);
-        output = output_used s end r.course.played old.seen.output new.seen.output r.ends.output;
+        output = output_used s end r.course old.seen.output new.seen.output r.ends.output;
         wires = λ i. omega (arith, opened_wire_faults s.targets old.seen.wires i, (wire_counts (sendings r.course.played) i began.wires new.seen.wires r.theorem.sends).used.faults);
       }
 
@@ -154,7 +153,6 @@ module _ (old new : World) where
   kept_by name script s (NotRead OfGraphite) course start theorem h = absurd h
   kept_by name script s (NotRead OfConsole) course start theorem h = absurd h
   kept_by name script s NotWritten course start theorem h = kept_run WriteFailed s name script course start theorem h
-  kept_by name script s (Unbuilt at) course start theorem h = kept_run (NotBuilt at) s name script course start theorem h
   kept_by name script s (Worn turns) course start theorem h = kept_run (WornOut turns) s name script course start theorem h
 
   kept_form : (f : Option Form) (s : Settings) (answer : Answer) (course : Course) (start : Seen) → AccountingTheorem s course start new.seen → Answers f s answer course start old new → Kept old new

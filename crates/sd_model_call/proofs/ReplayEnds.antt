@@ -8,15 +8,16 @@ use Rattle.sd_model_outside.specs.Outside.{Told, Untold, Left, Number, Bytes, Ro
 use Rattle.sd_model_record.specs.Desk.{Mark, fault_of}
 use Rattle.sd_model_replay.specs.Settings.{Settings}
 use Rattle.sd_model_replay.specs.Backends.{Backend, Graphite, Console, Delivery, AfterDeliveries, FitsUse, is_used, mark_of, missed}
-use Rattle.sd_model_replay.specs.Script.{Command, Packet, Flush, spelled, end_word, script_text, IsBuilt, BeginsRecord}
-use Rattle.sd_model_replay.specs.Next.{Next, Carried, Ending, Faulty, Unbuilt, Begins}
+use Rattle.sd_model_replay.specs.Script.{Command, Packet, Flush, Admin, spelled, end_word, script_text, IsLegal, BeginsRecord}
+use Rattle.sd_model_replay.specs.Next.{Next, Carried, Ending, Faulty, Begins}
 use Rattle.sd_model_settings.specs.Entries.{Target}
 use Rattle.sd_model_replay.specs.Repeater.{AfterSendings, missed_on, wire_at, Sending}
-use Rattle.sd_model_replay.specs.Replay.{Outcome, Played, Run, IsOutcome, first_run, no_marks, play, flushes, deliveries, sendings, output_of}
+use Rattle.sd_model_replay.specs.Replay.{Outcome, Played, Run, IsOutcome, first_run, run_of, play, flushes, deliveries, sendings}
+use Rattle.sd_model_replay.specs.Output.{output_in, output_of}
 use Rattle.sd_model_replay.specs.Totals.{Totals, totals_after, totals_text}
 use Rattle.sd_model_replay.specs.AccountingTheorem.{Seen, Course, AccountingTheorem, seen_at}
-use Rattle.sd_model_replay.specs.Ends.{End, Complete, Faulted, NotBuilt, ReadFailed, WriteFailed, WornOut, most_records, StopsFor, EndsAs, Replayed, behind}
-use Rattle.sd_model_call.specs.Completeness.{IsSteady, IsUnhindered, IsCutOff, IsLongest, CarriedOut, CarriedOutWell, NoneMissed, well, well_mark, well_sent}
+use Rattle.sd_model_replay.specs.Ends.{End, Complete, Faulted, ReadFailed, WriteFailed, WornOut, most_records, AreFew, StopsFor, IsInReply, IsBrokenOff, EndsAs, Replayed, behind}
+use Rattle.sd_model_call.specs.Completeness.{IsSilent, IsHeard, IsSteady, IsUnhindered, IsCutOff, IsLongest, CarriedOut, CarriedOutWell, NoneMissed, well, well_mark, well_sent}
 use Rattle.sd_model_replay.proofs.ReadingLemmas.{Behind, ended_script, cut_script, one_script, one_end, not_end, begins, begins_record}
 use Rattle.sd_model_replay.proofs.NextLemmas.{one_next, next_stays}
 use Rattle.sd_model_replay.proofs.DeliveryLemmas.{all_counts, none_missed, written_mark}
@@ -40,23 +41,21 @@ left_behind front whole (Packets packets) same = absurd (cc)
 abbrev commands_of : List Played → List Command
 commands_of played = map (λ p. p.command) played
 
-all_built : (receivers : ℕ) (played : List Played) → AllByRecursion (λ p. IsBuilt receivers p.command) played → AllByRecursion (IsBuilt receivers) (commands_of played)
-all_built receivers [] built = tt
-all_built receivers (p ∷ played) built = (built.0, all_built receivers played built.1)
+all_legal : (receivers : ℕ) (played : List Played) → AllByRecursion (λ p. IsLegal receivers p.command) played → AllByRecursion (IsLegal receivers) (commands_of played)
+all_legal receivers [] legal = tt
+all_legal receivers (p ∷ played) legal = (legal.0, all_legal receivers played legal.1)
 
 -- a replay stops for this
 abbrev pub IsStop : Next → Type 0
 IsStop (Carried command) = ⊥
 IsStop Ending = ⊥
 IsStop (Faulty flaw) = ⊤
-IsStop Unbuilt = ⊤
 
 -- this is no record that is carried out
 abbrev IsLast : Next → Type 0
 IsLast (Carried command) = ⊥
 IsLast Ending = ⊤
 IsLast (Faulty flaw) = ⊤
-IsLast Unbuilt = ⊤
 
 -- what stands next is no other where a replay stops for it
 not_stop : (receivers : ℕ) (bytes : List ℕ) (next other : Next) (left right : Told) → IsStop next → (IsStop other → ⊥) → Begins receivers next bytes left → Begins receivers other bytes right → ⊥
@@ -65,16 +64,12 @@ not_stop receivers bytes next other left right stop other_stop first second = ot
 -- how a replay ends where it stops so
 abbrev pub stop_end : Next → ℕ → End
 stop_end (Faulty flaw) at = Faulted at flaw
-stop_end Unbuilt at = NotBuilt at
 stop_end (Carried command) at = ReadFailed
 stop_end Ending at = ReadFailed
 
 module _ (settings : Settings) (old new : Seen) (commands : List Command) (bytes : List ℕ) (steady : IsSteady settings old new commands bytes) (course : Course) (theorem : AccountingTheorem settings course old new) where
   abbrev carried_out : List Command
   carried_out = commands_of course.played
-
-  abbrev built : AllByRecursion (IsBuilt settings.receivers) carried_out
-  built = all_built settings.receivers course.played theorem.built
 
   -- what the script has left, and how its text goes on behind the records that were carried out
   record Reached : Type 0 where
@@ -106,12 +101,31 @@ module _ (settings : Settings) (old new : Seen) (commands : List Command) (bytes
   no_read_failed : EndsAs settings ReadFailed course old new → ⊥
   no_read_failed ends = absurd (steady.script_faults ends.script_faults)
 
+-- nothing is written of a record that is silent
+silent_in : (settings : Settings) (run : Run) (c : Command) → IsSilent c → output_in settings run c ≡ []
+silent_in settings run (Packet who moment datagram) silent = refl
+silent_in settings run (Flush ts) silent = refl
+silent_in settings run (Admin moment line) silent = absurd silent
+
+-- the last of records that are silent, with others behind it
+last_silent : (before : List Played) (last : Played) (behind : List Command) → AllByRecursion IsSilent (commands_of (before ++ last ∷ []) ++ behind) → IsSilent last.command
+last_silent [] last behind all = all.0
+last_silent (p ∷ before) last behind all = last_silent before last behind all.1
+
+-- no write of a reply failed to records that are heard
+no_reply_failed : (settings : Settings) (old new : Seen) (commands behind : List Command) (course : Course) → IsHeard old new commands → commands ≡ commands_of course.played ++ behind
+    → (h : IsBrokenOff settings course old.output new.output) → IsInReply settings course h.before h.text → ⊥
+no_reply_failed settings old new commands behind course heard whole h reply =
+    let played = subst (λ ps. AllByRecursion IsSilent (commands_of ps ++ behind)) reply.order (subst (AllByRecursion IsSilent) whole (heard h.failed.rose)) in
+    let nothing = reply.replies ∙ silent_in settings (run_of settings (first_run course.played) h.before) reply.last.command (last_silent h.before reply.last behind played) in
+    omega (arith, h.failed.front.1, ap length nothing)
+
 -- of a script that ends behind its records
 module _ (settings : Settings) (old new : Seen) (commands : List Command) (rest : List ℕ) (free : IsUnhindered settings old new commands rest) (course : Course) (theorem : AccountingTheorem settings course old new) where
   ended_behind : (r : Reached settings old new commands (end_word ++ rest) free.steady course theorem)
       → Behind settings.receivers commands (commands_of course.played) (end_word ++ rest) (course.ahead ++ r.left)
   ended_behind r =
-      ended_script settings.receivers commands (commands_of course.played) rest (course.ahead ++ r.left) free.steady.built (all_built settings.receivers course.played theorem.built) r.same
+      ended_script settings.receivers commands (commands_of course.played) rest (course.ahead ++ r.left) free.steady.legal (all_legal settings.receivers course.played theorem.legal) r.same
 
   reached_end : Reached settings old new commands (end_word ++ rest) free.steady course theorem
   reached_end = reached settings old new commands (end_word ++ rest) free.steady course theorem
@@ -121,7 +135,7 @@ module _ (settings : Settings) (old new : Seen) (commands : List Command) (rest 
       let r = reached_end in
       let h = ended_behind r in
       let stands = subst (λ bs. Begins settings.receivers next bs (Left [])) h.stands (stop_stands settings old new commands (end_word ++ rest) free.steady course theorem r next at ends) in
-      elim (begins settings.receivers h.behind rest (Left []) h.built) [
+      elim (begins settings.receivers h.behind rest (Left []) h.legal) [
         | inl end ↦ not_stop settings.receivers (script_text h.behind ++ (end_word ++ rest)) next Ending (Left []) (Left []) stop (λ h. h) stands end
         | inr one ↦ not_stop settings.receivers (script_text h.behind ++ (end_word ++ rest)) next (Carried one.0) (Left []) (Left []) stop (λ h. h) stands one.1
       ]
@@ -129,9 +143,8 @@ module _ (settings : Settings) (old new : Seen) (commands : List Command) (rest 
   ends_complete : (end : End) → EndsAs settings end course old new → (totals : Totals) × (end ≡ Complete totals)
   ends_complete (Complete totals) ends = (totals, refl)
   ends_complete (Faulted at flaw) ends = absurd (no_stop (Faulty flaw) at tt ends.read)
-  ends_complete (NotBuilt at) ends = absurd (no_stop Unbuilt at tt ends.read)
   ends_complete ReadFailed ends = absurd (no_read_failed settings old new commands (end_word ++ rest) free.steady course theorem ends)
-  ends_complete WriteFailed ends = absurd (free.output_faults ends.output.rose)
+  ends_complete WriteFailed ends = absurd (free.output_faults ends.output.failed.rose)
   ends_complete (WornOut turns) ends =
       let h = ended_behind reached_end in
       absurd (omega (arith, free.few, ends.read.1, ap length h.whole, length-append (commands_of course.played) h.behind, length-map course.played (λ (p : Played). p.command)))
@@ -159,26 +172,26 @@ module _ (settings : Settings) (old new : Seen) (commands : List Command) (next 
   reached_cut = reached settings old new commands bytes cut.steady course theorem
 
   no_record_there : ¬ BeginsRecord settings.receivers bytes
-  no_record_there (command, rest, built, is) = not_stop settings.receivers bytes next (Carried command) (Left []) (Left []) stop (λ h. h) cut.begins (built, (rest, is))
+  no_record_there (command, rest, legal, is) = not_stop settings.receivers bytes next (Carried command) (Left []) (Left []) stop (λ h. h) cut.begins (legal, (rest, is))
 
   cut_behind : (r : Reached settings old new commands bytes cut.steady course theorem) → Behind settings.receivers commands (commands_of course.played) bytes (course.ahead ++ r.left)
   cut_behind r =
-      cut_script settings.receivers commands (commands_of course.played) bytes (course.ahead ++ r.left) no_record_there cut.steady.built (all_built settings.receivers course.played theorem.built) r.same
+      cut_script settings.receivers commands (commands_of course.played) bytes (course.ahead ++ r.left) no_record_there cut.steady.legal (all_legal settings.receivers course.played theorem.legal) r.same
 
   -- what stands behind the records carried out, and is no record, is what the script is cut off by
   found : (r : Reached settings old new commands bytes cut.steady course theorem) (other : Next) → IsLast other → Begins settings.receivers other (course.ahead ++ r.left) (Left []) → (commands ≡ commands_of course.played) × (next ≡ other)
-  found r other last begins_other = found_by h.behind h.whole h.built h.stands where
+  found r other last begins_other = found_by h.behind h.whole h.legal h.stands where
     h : Behind settings.receivers commands (commands_of course.played) bytes (course.ahead ++ r.left)
     h = cut_behind r
 
-    found_by : (behind : List Command) → commands ≡ commands_of course.played ++ behind → AllByRecursion (IsBuilt settings.receivers) behind → course.ahead ++ r.left ≡ script_text behind ++ bytes → (commands ≡ commands_of course.played) × (next ≡ other)
-    found_by [] whole built stands = (
+    found_by : (behind : List Command) → commands ≡ commands_of course.played ++ behind → AllByRecursion (IsLegal settings.receivers) behind → course.ahead ++ r.left ≡ script_text behind ++ bytes → (commands ≡ commands_of course.played) × (next ≡ other)
+    found_by [] whole legal stands = (
       whole ∙ append-nil (commands_of course.played),
       one_next settings.receivers bytes next other (Left []) (Left []) cut.begins (subst (λ bs. Begins settings.receivers other bs (Left [])) stands begins_other),
     )
-    found_by (c ∷ behind) whole built stands =
+    found_by (c ∷ behind) whole legal stands =
         let there = subst (λ bs. Begins settings.receivers other bs (Left [])) stands begins_other in
-        let record_there = begins_record settings.receivers c behind bytes (Left []) built in
+        let record_there = begins_record settings.receivers c behind bytes (Left []) legal in
         absurd (subst IsLast (one_next settings.receivers (script_text (c ∷ behind) ++ bytes) other (Carried c) (Left []) (Left []) there record_there) last)
 
   no_end_there : (rest : List ℕ) → course.ahead ≡ end_word ++ rest → ⊥
@@ -196,9 +209,11 @@ module _ (settings : Settings) (old new : Seen) (commands : List Command) (next 
   ends_cut : (end : End) → EndsAs settings end course old new → end ≡ stop_end next (min (length (script_text commands)) last_count)
   ends_cut (Complete totals) ends = absurd (no_end_there ends.read.1.0 ends.read.1.1)
   ends_cut (Faulted at flaw) ends = ends_stop (Faulty flaw) at tt ends.read
-  ends_cut (NotBuilt at) ends = ends_stop Unbuilt at tt ends.read
   ends_cut ReadFailed ends = absurd (no_read_failed settings old new commands bytes cut.steady course theorem ends)
-  ends_cut WriteFailed ends = absurd (no_end_there ends.read.1.0 ends.read.1.1)
+  ends_cut WriteFailed ends = elim ends.output.writing [
+    | inl totals ↦ absurd (no_end_there totals.ends.0 totals.ends.1)
+    | inr reply ↦ let h = cut_behind reached_cut in absurd (no_reply_failed settings old new commands h.behind course cut.heard h.whole ends.output reply)
+  ]
   ends_cut (WornOut turns) ends =
       let h = cut_behind reached_cut in
       absurd (omega (arith, cut.few, ends.read.1, ap length h.whole, length-append (commands_of course.played) h.behind, length-map course.played (λ (p : Played). p.command)))
@@ -215,11 +230,11 @@ module _ (settings : Settings) (old new : Seen) (commands : List Command) (bytes
   record_behind : (r : Reached settings old new commands bytes longest.steady course theorem) → length course.played < most_records → BeginsRecord settings.receivers (course.ahead ++ r.left)
   record_behind r few =
       let counted = length-map course.played (λ (p : Played). p.command) in
-      elim (one_script settings.receivers commands (commands_of course.played) bytes (course.ahead ++ r.left) longest.steady.built (all_built settings.receivers course.played theorem.built) r.same) [
-        | inl h ↦ one_behind h.behind h.built h.stands (omega (arith, few, longest.most, ap length h.whole, length-append (commands_of course.played) h.behind, counted))
+      elim (one_script settings.receivers commands (commands_of course.played) bytes (course.ahead ++ r.left) longest.steady.legal (all_legal settings.receivers course.played theorem.legal) r.same) [
+        | inl h ↦ one_behind h.behind h.legal h.stands (omega (arith, few, longest.most, ap length h.whole, length-append (commands_of course.played) h.behind, counted))
         | inr h ↦ absurd (omega (arith, few, longest.most, h.0, counted))
       ] where
-        one_behind : (behind : List Command) → AllByRecursion (IsBuilt settings.receivers) behind → course.ahead ++ r.left ≡ script_text behind ++ bytes → 0 < length behind → BeginsRecord settings.receivers (course.ahead ++ r.left)
+        one_behind : (behind : List Command) → AllByRecursion (IsLegal settings.receivers) behind → course.ahead ++ r.left ≡ script_text behind ++ bytes → 0 < length behind → BeginsRecord settings.receivers (course.ahead ++ r.left)
         one_behind [] all stands some = absurd (omega (arith, some))
         one_behind (c ∷ behind) all stands some = (c, script_text behind ++ bytes, all.0, stands ∙ append_assoc (spelled c) (script_text behind) bytes)
 
@@ -236,12 +251,22 @@ module _ (settings : Settings) (old new : Seen) (commands : List Command) (bytes
       not_stop settings.receivers (course.ahead ++ r.left) next (Carried one.0) (Left []) (Left []) stop (λ h. h)
       (stop_stands settings old new commands bytes longest.steady course theorem r next at ends) (one.2, (one.1, one.3))
 
+  no_reply_behind : (h : IsBrokenOff settings course old.output new.output) → IsInReply settings course h.before h.text → ⊥
+  no_reply_behind h reply =
+      let counted = length-map course.played (λ (p : Played). p.command) in
+      elim (one_script settings.receivers commands (commands_of course.played) bytes (course.ahead ++ reached_more.left) longest.steady.legal (all_legal settings.receivers course.played theorem.legal) reached_more.same) [
+        | inl b ↦ no_reply_failed settings old new commands b.behind course longest.heard b.whole h reply
+        | inr b ↦ absurd (omega (arith, h.few, longest.most, b.0, counted, ap length reply.order, length-append h.before (reply.last ∷ [])))
+      ]
+
   ends_worn : (end : End) → EndsAs settings end course old new → end ≡ WornOut most_records
   ends_worn (Complete totals) ends = absurd (no_end_behind ends.read.1.0 ends.read.0 ends.read.1.1)
   ends_worn (Faulted at flaw) ends = absurd (no_stop_behind (Faulty flaw) at tt ends.read)
-  ends_worn (NotBuilt at) ends = absurd (no_stop_behind Unbuilt at tt ends.read)
   ends_worn ReadFailed ends = absurd (no_read_failed settings old new commands bytes longest.steady course theorem ends)
-  ends_worn WriteFailed ends = absurd (no_end_behind ends.read.1.0 ends.read.0 ends.read.1.1)
+  ends_worn WriteFailed ends = elim ends.output.writing [
+    | inl totals ↦ absurd (no_end_behind totals.ends.0 (subst AreFew totals.all ends.output.few) totals.ends.1)
+    | inr reply ↦ absurd (no_reply_behind ends.output reply)
+  ]
   ends_worn (WornOut turns) ends = ap WornOut ends.read.0
 
 pub replay_wears_out : (settings : Settings) (old new : Seen) (commands : List Command) (bytes : List ℕ) (end : End) → IsLongest settings old new commands bytes → Replayed settings end old new → end ≡ WornOut most_records
@@ -305,6 +330,11 @@ module _ (settings : Settings) where
       let failed = is.0 in
       ap (λ ps. record { command = Flush ts; outcome = outcome } ∷ ps) (others (λ back on. omega (arith, met back on, missed-flush run ts outcome played back)) sent)
       ∙ (λ i. record { command = Flush ts; outcome = record { marks = record { graphite = graphite i; console = console i }; failed = failed i } } ∷ map (well settings) (commands_of played))
+  one_well run (Admin moment line) outcome played is met sent others =
+      let marks = is.0 in
+      let failed = is.1 in
+      ap (λ ps. record { command = Admin moment line; outcome = outcome } ∷ ps) (others met sent)
+      ∙ (λ i. record { command = Admin moment line; outcome = record { marks = marks i; failed = failed i } } ∷ map (well settings) (commands_of played))
 
   all_well : (run : Run) (played : List Played) → AllByRecursion (λ p. IsOutcome settings p.command p.outcome) played → IsMet run played → AreAllSent played → played ≡ map (well settings) (commands_of played)
   all_well run [] used met sent = refl
@@ -313,11 +343,11 @@ module _ (settings : Settings) where
 pub carries_out_well : (settings : Settings) (old new : Seen) (commands : List Command) (rest : List ℕ) → NoneMissed settings old new → CarriedOut settings old new commands rest → CarriedOutWell settings old new commands
 carries_out_well settings old new commands rest none out =
     let played = out.course.played in
-    let met : IsMet settings first_run played = λ back on. none_missed (missed (deliveries settings back played)) (seen_at back old) (seen_at back new) (none.backends back on)
+    let met : IsMet settings (first_run played) played = λ back on. none_missed (missed (deliveries settings back played)) (seen_at back old) (seen_at back new) (none.backends back on)
     (all_counts (deliveries settings back played) (seen_at back old) (seen_at back new) (out.theorem.texts back)) in
     let sent : AreAllSent settings played = λ i below. none_missed (missed_on i (sendings played)) (wire_at i old.wires) (wire_at i new.wires) (none.wires i below)
     (wire_counts (sendings played) i old.wires new.wires out.theorem.sends) in
-    let alike : played ≡ map (well settings) commands = all_well settings first_run played out.theorem.used met sent ∙ ap (map (well settings)) out.all in
+    let alike : played ≡ map (well settings) commands = all_well settings (first_run played) played out.theorem.used met sent ∙ ap (map (well settings)) out.all in
     record {
       backends = λ back. subst (λ ps. AfterDeliveries (deliveries settings back ps) (seen_at back old) (seen_at back new)) alike (out.theorem.texts back);
       wires = subst (λ ps. AfterSendings (sendings ps) old.wires new.wires) alike out.theorem.sends;

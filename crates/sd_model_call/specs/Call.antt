@@ -7,13 +7,13 @@ use Rattle.sd_model_replay.specs.Settings.{Settings, goes_by}
 use Rattle.sd_model_replay.specs.Totals.{totals_after}
 use Rattle.sd_model_replay.specs.AccountingTheorem.{Seen, Course, AccountingTheorem}
 use Rattle.sd_model_replay.specs.Next.{ScriptFlaw}
-use Rattle.sd_model_replay.specs.Ends.{End, Complete, Faulted, NotBuilt, ReadFailed, WriteFailed, WornOut, EndsAs}
+use Rattle.sd_model_replay.specs.Ends.{End, Complete, Faulted, ReadFailed, WriteFailed, WornOut, EndsAs}
 use Rattle.sd_model_call.specs.Words.{Form, Replay, form}
 use Rattle.sd_model_call.specs.Opening.{Part, OfSettings, OfScript, OfWire, OfGraphite, OfConsole, World, flags_of, IsFlawed, IsAccepted, FailsBehind, IsLeftOff, OnlySettings, openings, UnusedStay, OpensSome, FailsToOpen, started}
 
 -- How the program answers: all was done; no memory was left; the words are of no form; the settings have this flaw; the
--- script's record at this place has this one; an object couldn't be opened; a read failed; the output failed; what stands at
--- this place isn't built; as many records were carried out as there may be.
+-- script's record at this place has this one; an object couldn't be opened; a read failed; the output failed; as many records
+-- were carried out as there may be.
 pub data Answer : Type 0 where
   Done : Answer
   NoMemory : Answer
@@ -23,14 +23,12 @@ pub data Answer : Type 0 where
   NotOpened : (part : Part) → Answer
   NotRead : (part : Part) → Answer
   NotWritten : Answer
-  Unbuilt : (at : ℕ) → Answer
   Worn : (turns : ℕ) → Answer
 
 -- what the program answers where a replay ends so
 abbrev pub ending : End → Answer
 ending (Complete totals) = Done
 ending (Faulted at flaw) = BadScript at flaw
-ending (NotBuilt at) = Unbuilt at
 ending ReadFailed = NotRead OfScript
 ending WriteFailed = NotWritten
 ending (WornOut turns) = Worn turns
@@ -109,7 +107,6 @@ AnswersReplay name script s (NotRead (OfWire i)) course start old new = ⊥
 AnswersReplay name script s (NotRead OfGraphite) course start old new = ⊥
 AnswersReplay name script s (NotRead OfConsole) course start old new = ⊥
 AnswersReplay name script s NotWritten course start old new = Ran WriteFailed s name script course start old new
-AnswersReplay name script s (Unbuilt at) course start old new = Ran (NotBuilt at) s name script course start old new
 AnswersReplay name script s (Worn turns) course start old new = Ran (WornOut turns) s name script course start old new
 
 -- words of no form are refused, and nothing is opened or used

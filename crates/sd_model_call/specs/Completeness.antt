@@ -5,10 +5,11 @@ use Rattle.sd_model_outside.specs.Outside.{Left, Rose, given}
 use Rattle.sd_model_record.specs.Desk.{Mark, NotUsed, Written}
 use Rattle.sd_model_replay.specs.Settings.{Settings}
 use Rattle.sd_model_replay.specs.Backends.{Backend, AfterDeliveries, is_used}
-use Rattle.sd_model_replay.specs.Script.{Command, Packet, Flush, end_word, script_text, IsBuilt}
+use Rattle.sd_model_replay.specs.Script.{Command, Packet, Flush, Admin, end_word, script_text, IsLegal}
 use Rattle.sd_model_replay.specs.Next.{Next, Begins}
 use Rattle.sd_model_replay.specs.Repeater.{AfterSendings, wire_at}
-use Rattle.sd_model_replay.specs.Replay.{Played, no_marks, deliveries, sendings, output_of}
+use Rattle.sd_model_replay.specs.Replay.{Played, no_marks, deliveries, sendings}
+use Rattle.sd_model_replay.specs.Output.{output_of}
 use Rattle.sd_model_replay.specs.Totals.{totals_after, totals_text}
 use Rattle.sd_model_replay.specs.AccountingTheorem.{Seen, Course, AccountingTheorem, seen_at}
 use Rattle.sd_model_replay.specs.Ends.{most_records, behind}
@@ -19,10 +20,10 @@ use Rattle.sd_model_settings.specs.Settings.{SettingsFlaw, settings}
 use Rattle.sd_model_call.specs.Opening.{World, Part, OfSettings, OfScript, OfWire, OfGraphite, OfConsole}
 use Rattle.sd_model_call.specs.Call.{Answer, NoMemory, Misset, NotOpened, NotRead}
 
--- The script tells that it has these built records and then these bytes, and no fault was counted of it.
+-- The script tells that it has these legal records and then these bytes, and no fault was counted of it.
 pub record IsSteady (settings : Settings) (old new : Seen) (commands : List Command) (bytes : List ℕ) : Type 0 where
   pub script : old.script.told ≡ Left (script_text commands ++ bytes)
-  pub built : AllByRecursion (IsBuilt settings.receivers) commands
+  pub legal : AllByRecursion (IsLegal settings.receivers) commands
   pub script_faults : ¬ Rose old.script.faults new.script.faults
 
 -- nothing hinders a replay of these records: they are fewer than there may be, behind them stands the word that ends the
@@ -32,17 +33,29 @@ pub record IsUnhindered (settings : Settings) (old new : Seen) (commands : List 
   pub few : length commands < most_records
   pub output_faults : ¬ Rose old.output.faults new.output.faults
 
--- fewer records than there may be, and behind them this stands next in all that the script has left: a flaw, or a record
--- that isn't built
+-- a record to which nothing is replied, whatever it holds: only an admin line has replies
+abbrev pub IsSilent : Command → Type 0
+IsSilent (Packet who moment datagram) = ⊤
+IsSilent (Flush ts) = ⊤
+IsSilent (Admin moment line) = ⊥
+
+-- no fault was counted of the output, or nothing is replied to these records
+abbrev pub IsHeard : Seen → Seen → List Command → Type 0
+IsHeard old new commands = Rose old.output.faults new.output.faults → AllByRecursion IsSilent commands
+
+-- fewer records than there may be, whose replies nothing hinders, and behind them this stands next in all that the script
+-- has left: a flaw
 pub record IsCutOff (settings : Settings) (old new : Seen) (commands : List Command) (next : Next) (bytes : List ℕ) : Type 0 where
   pub steady : IsSteady settings old new commands bytes
   pub few : length commands < most_records
   pub begins : Begins settings.receivers next bytes (Left [])
+  pub heard : IsHeard old new commands
 
--- as many records as there may be
+-- as many records as there may be, whose replies nothing hinders
 pub record IsLongest (settings : Settings) (old new : Seen) (commands : List Command) (bytes : List ℕ) : Type 0 where
   pub steady : IsSteady settings old new commands bytes
   pub most : length commands ≡ most_records
+  pub heard : IsHeard old new commands
 
 -- The words ask for a replay, and the settings tell that they have these bytes.
 pub record Asks (words : List (List ℕ)) (old new : World) (bytes : List ℕ) : Type 0 where
@@ -88,7 +101,7 @@ refusal (Ok values) = None
 abbrev pub IsBlocked : Answer → Answer → Type 0
 IsBlocked refused answer = IsWhole refused answer ⊎ (answer ≡ NotOpened OfSettings) ⊎ (answer ≡ NotRead OfSettings)
 
--- these records were carried out, all and no others, the rest wasn't, and the output has the totals
+-- these records were carried out, all and no others, the rest wasn't, and the output has the replies and then the totals
 pub record CarriedOut (settings : Settings) (old new : Seen) (commands : List Command) (rest : List ℕ) : Type 0 where
   pub course : Course
   pub theorem : AccountingTheorem settings course old new
@@ -112,9 +125,10 @@ well settings (Flush ts) =
       command = Flush ts;
       outcome = record { marks = record { graphite = well_mark settings.uses_graphite; console = well_mark settings.uses_console }; failed = [] };
     }
+well settings (Admin moment line) = record { command = Admin moment line; outcome = record { marks = no_marks; failed = [] } }
 
 -- each backend that is used got the whole text of each flush of these records, each other one is untouched, the wire of each
--- target got each packet, and the output got their totals
+-- target got each packet, and the output got their replies and then their totals
 pub record CarriedOutWell (settings : Settings) (old new : Seen) (commands : List Command) : Type 0 where
   pub backends : (back : Backend) → AfterDeliveries (deliveries settings back (map (well settings) commands)) (seen_at back old) (seen_at back new)
   pub wires : AfterSendings (sendings (map (well settings) commands)) old.wires new.wires

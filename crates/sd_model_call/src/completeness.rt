@@ -7,24 +7,21 @@ ghost use Rattle.sd_model_replay.specs.Script.{Command, script_text};
 ghost use Rattle.sd_model_replay.specs.Totals.{Totals};
 ghost use Rattle.sd_model_replay.specs.Repeater.{wire_at};
 ghost use Rattle.sd_model_replay.specs.AccountingTheorem.{Seen};
-ghost use Rattle.sd_model_replay.specs.Next.{Faulty, ScriptFlaw, Unbuilt as NextUnbuilt};
-ghost use Rattle.sd_model_replay.specs.Ends.{Complete, End, Faulted, NotBuilt, Replayed, WornOut, most_records};
+ghost use Rattle.sd_model_replay.specs.Next.{Faulty, ScriptFlaw};
+ghost use Rattle.sd_model_replay.specs.Ends.{Complete, End, Faulted, Replayed, WornOut, most_records};
 ghost use Rattle.sd_model_call.specs.Opening.{World, started};
-ghost use Rattle.sd_model_call.specs.Call.{Accounts, Answer, BadScript, Done, Unbuilt, Worn};
+ghost use Rattle.sd_model_call.specs.Call.{Accounts, Answer, BadScript, Done, Worn};
 ghost use Rattle.sd_model_call.specs.Completeness.{Asks, AsksPlainly, CarriedOut, CarriedOutWell, IsBlocked, IsCutOff, IsFull, IsLongest, IsUnhindered, IsWhole, NoneMissed, refusal};
 
-/// A replay that nothing hinders comes to the word that ends the script; one whose script is cut off behind some records,
-/// by a flaw or by a record that isn't built, stops at that place and tells which; and one of as many records as there may
-/// be carries these out, and then no more.
+/// A replay that nothing hinders comes to the word that ends the script. Where no reply fails to be written, one whose
+/// script is cut off behind some records, by a flaw, stops at that place and tells which; and one of as many records as
+/// there may be carries these out, and then no more.
 pub fn unhindered_replays_complete()
     ensures complete { (settings : Settings) (old new : Seen) (commands : List Command) (rest : List ℕ) (end : End)
         → IsUnhindered settings old new commands rest → Replayed settings end old new → (totals : Totals) × (end ≡ Complete totals) }
     ensures cut_off { (settings : Settings) (old new : Seen) (commands : List Command) (flaw : ScriptFlaw) (bytes : List ℕ) (end : End)
         → IsCutOff settings old new commands (Faulty flaw) bytes → Replayed settings end old new
         → end ≡ Faulted (min (length (script_text commands)) last_count) flaw }
-    ensures unbuilt { (settings : Settings) (old new : Seen) (commands : List Command) (bytes : List ℕ) (end : End)
-        → IsCutOff settings old new commands NextUnbuilt bytes → Replayed settings end old new
-        → end ≡ NotBuilt (min (length (script_text commands)) last_count) }
     ensures longest { (settings : Settings) (old new : Seen) (commands : List Command) (bytes : List ℕ) (end : End)
         → IsLongest settings old new commands bytes → Replayed settings end old new → end ≡ WornOut most_records }
 {}
@@ -47,9 +44,6 @@ pub fn unhindered_calls_complete()
     ensures cut_off { (words : List (List ℕ)) (values : file.Settings) (old new : World) (commands : List Command) (flaw : ScriptFlaw) (bytes : List ℕ) (answer : Answer)
         → AsksPlainly words values old new → IsCutOff (goes_by values) old.seen new.seen commands (Faulty flaw) bytes
         → Accounts words old new answer → IsFull (BadScript (min (length (script_text commands)) last_count) flaw) answer }
-    ensures unbuilt { (words : List (List ℕ)) (values : file.Settings) (old new : World) (commands : List Command) (bytes : List ℕ) (answer : Answer)
-        → AsksPlainly words values old new → IsCutOff (goes_by values) old.seen new.seen commands NextUnbuilt bytes
-        → Accounts words old new answer → IsFull (Unbuilt (min (length (script_text commands)) last_count)) answer }
     ensures longest { (words : List (List ℕ)) (values : file.Settings) (old new : World) (commands : List Command) (bytes : List ℕ) (answer : Answer)
         → AsksPlainly words values old new → IsLongest (goes_by values) old.seen new.seen commands bytes
         → Accounts words old new answer → IsFull (Worn most_records) answer }

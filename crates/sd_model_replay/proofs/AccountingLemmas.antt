@@ -35,13 +35,13 @@ all_there h g (i ∷ numbers) there =
 
 -- the rows of one record
 rows_of_flush : (settings : Settings) (played : List Played) (r : ℕ) (rec : Record) (found : Option FlushMoment)
-    → slice_get (flushes settings first_run played) r ≡ found → option_map (record_at settings) found ≡ Some rec → rec.rows ≡ record_rows settings.plan (tables_of_flush settings played r)
+    → slice_get (flushes settings (first_run played) played) r ≡ found → option_map (record_at settings) found ≡ Some rec → rec.rows ≡ record_rows settings.plan (tables_of_flush settings played r)
 rows_of_flush settings played r rec None at is = absurd (cc)
 rows_of_flush settings played r rec (Some f) at is =
     let same : record_at settings f ≡ rec = cc is in
     let table : (i : ℕ) → slice_get (tables (history_at settings i played)) r ≡ Some (table_of (f.before.shards i)) = λ i.
     ap (λ (ts : List Table). slice_get ts r) (tables-history_at settings i played)
-    ∙ slice_get-map (λ (g : FlushMoment). table_of (g.before.shards i)) (flushes settings first_run played) r
+    ∙ slice_get-map (λ (g : FlushMoment). table_of (g.before.shards i)) (flushes settings (first_run played) played) r
     ∙ ap (option_map (λ (g : FlushMoment). table_of (g.before.shards i))) at in
     ap (λ (x : Record). x.rows) (sym same)
     ∙ ap (record_rows settings.plan) (sym (all_there (λ i. slice_get (tables (history_at settings i played)) r) (λ i. table_of (f.before.shards i)) (range_with_len 0 settings.shards) table))
@@ -49,8 +49,8 @@ rows_of_flush settings played r rec (Some f) at is =
 pub are_documented : (settings : Settings) (played : List Played) → AreDocumented settings played
 are_documented settings played = record {
   tables = λ i below.
-      ap length (tables-history_at settings i played) ∙ length-map (flushes settings first_run played) (λ (f : FlushMoment). table_of (f.before.shards i))
-      ∙ sym (length-map (flushes settings first_run played) (record_at settings));
+      ap length (tables-history_at settings i played) ∙ length-map (flushes settings (first_run played) played) (λ (f : FlushMoment). table_of (f.before.shards i))
+      ∙ sym (length-map (flushes settings (first_run played) played) (record_at settings));
   carried = λ i below. rows_carried settings.limits settings.policy (history_at settings i played) (legal settings i played);
-  rows = λ r rec is. rows_of_flush settings played r rec (slice_get (flushes settings first_run played) r) refl (sym (slice_get-map (record_at settings) (flushes settings first_run played) r) ∙ is);
+  rows = λ r rec is. rows_of_flush settings played r rec (slice_get (flushes settings (first_run played) played) r) refl (sym (slice_get-map (record_at settings) (flushes settings (first_run played) played) r) ∙ is);
 }

@@ -1,5 +1,5 @@
 -- What stands next in bytes can be told, but where they don't decide it.
-use Rattle.std.proofs.Common.{◌≡◌, ◌≢◌, ◌⊎◌, ℕ, ◌+◌, ◌^◌, ◌<◌, ◌≤◌, Bool, true, false, List, [], ◌∷◌, ◌++◌, length, get_or, take, drop, decimal, refl, sym, ap, subst, ◌∙◌, arith, inl, inr, append_assoc, length-take}
+use Rattle.std.proofs.Common.{◌≡◌, ◌≢◌, ◌⊎◌, ℕ, ◌+◌, ◌^◌, ◌<◌, ◌≤◌, Bool, true, false, Option, Some, None, List, [], ◌∷◌, ◌++◌, length, get_or, take, drop, decimal, refl, sym, ap, subst, ◌∙◌, arith, inl, inr, append_assoc, length-take}
 use Rattle.std.specs.Char.{is_ascii_digit}
 use Rattle.std.specs.List.{list_all}
 use Rattle.std.specs.Str.Parse.{digits_value}
@@ -10,11 +10,10 @@ use Rattle.sd_model_text.specs.Lists.{Lacks}
 use Rattle.sd_model_text.proofs.Cuts.{same_cut}
 use Rattle.sd_model_text.proofs.Digits.{Lacks-decimal}
 use Rattle.sd_model_outside.specs.Outside.{Told, IsAtEnd}
-use Rattle.sd_model_replay.specs.Heads.{Head, PacketHead, FlushHead, AdminHead, EndHead, Body, head_line, IsReceiver, IsMoment, IsCount, IsForm}
-use Rattle.sd_model_replay.specs.Script.{Packet, Flush}
-use Rattle.sd_model_replay.specs.Next.{BadWord, BadLength, CutShort, Next, Carried, Ending, Faulty, Unbuilt, HasBody, IsOver, IsPart, IsWrong, IsWhole, IsUndecided, Begins}
+use Rattle.sd_model_replay.specs.Heads.{Head, PacketHead, FlushHead, AdminHead, EndHead, Body, head_line, body_of, IsReceiver, IsMoment, IsCount, IsForm}
+use Rattle.sd_model_replay.specs.Next.{BadWord, BadLength, CutShort, Next, Faulty, HasBody, IsOver, IsPart, IsWrong, IsWhole, IsUndecided, Begins}
 use Rattle.sd_model_replay.proofs.LineLemmas.{Lacks-cons, uncut, first_byte}
-use Rattle.sd_model_replay.proofs.NextLemmas.{packet_stands, admin_stands}
+use Rattle.sd_model_replay.proofs.NextLemmas.{whole_next, body_stands, line_stands, begins_in_front}
 use Rattle.sd_model_replay.proofs.Numbers.{IsWritten, IsWritten-from, number_written}
 
 -- a list that is cut at the first of a byte
@@ -256,26 +255,20 @@ module _ (receivers : ℕ) (bytes : List ℕ) where
   by_body body rest whole has stands (inr (inr (inl wrong))) = inr (Faulty BadLength, λ left. inr (has IsWrong wrong))
   by_body body rest whole has stands (inr (inr (inr is))) = inr (whole, stands is)
 
-  by_head : (head : Head) (rest : List ℕ) → IsForm receivers head → bytes ≡ head_line head ++ 10 ∷ rest → Decided
-  by_head (PacketHead who moment len) rest form whole =
-      let body : Body = record { len = len; most = 65507; is_line = false } in
-      by_body body rest (Carried (Packet who moment (take len rest)))
-      (λ IsSo so. record { head = PacketHead who moment len; body = body; rest = rest; form = form; whole = whole; announced = refl; so = so })
-      (λ is left. let stands = packet_stands receivers who moment len bytes rest form whole is in (stands.0, (drop (len + 1) rest, stands.1)))
-      (body_so len 65507 false rest)
-  by_head (AdminHead moment len) rest form whole =
-      let body : Body = record { len = len; most = 1023; is_line = true } in
-      by_body body rest Unbuilt
-      (λ IsSo so. record { head = AdminHead moment len; body = body; rest = rest; form = form; whole = whole; announced = refl; so = so })
-      (λ is left. admin_stands receivers moment len bytes rest form whole is)
-      (body_so len 1023 true rest)
-  by_head (FlushHead ts) rest form whole = inr (Carried (Flush ts), λ left. (form, (rest, whole ∙ sym (append_assoc (head_line (FlushHead ts)) (10 ∷ []) rest))))
-  by_head EndHead rest form whole = inr (Ending, λ left. (rest, whole))
+  by_head : (head : Head) (announced : Option Body) (rest : List ℕ) → body_of head ≡ announced → IsForm receivers head → bytes ≡ head_line head ++ 10 ∷ rest → Decided
+  by_head head None rest none form whole =
+      inr (whole_next head [], λ left. begins_in_front receivers (whole_next head []) bytes rest left (line_stands receivers head bytes rest none form whole))
+  by_head head (Some body) rest some form whole =
+      let next = whole_next head (take body.len rest) in
+      by_body body rest next
+      (λ IsSo so. record { head = head; body = body; rest = rest; form = form; whole = whole; announced = some; so = so })
+      (λ is left. begins_in_front receivers next bytes (drop (body.len + 1) rest) left (body_stands receivers head body bytes rest some form whole is))
+      (body_so body.len body.most body.is_line rest)
 
   pub decided : Decided
   decided = elim (split_or_lacks 10 bytes) [
     | inl s ↦ elim (form_or_none receivers s.part) [
-      | inl (head, form, same) ↦ by_head head s.rest form (s.whole ∙ ap (λ xs. xs ++ 10 ∷ s.rest) same)
+      | inl (head, form, same) ↦ by_head head (body_of head) s.rest refl form (s.whole ∙ ap (λ xs. xs ++ 10 ∷ s.rest) same)
       | inr none ↦ inr (Faulty BadWord, λ left. inr (record { line = s.part; rest = s.rest; whole = s.whole; first = s.first; other = none }))
     ]
     | inr lacks ↦ elim (cases_lt (length bytes) 40) [

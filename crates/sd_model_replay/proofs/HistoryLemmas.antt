@@ -1,16 +1,19 @@
 -- What records ask of a shard: the samples and the tables of its history.
 use Rattle.std.proofs.Common.{◌≡◌, ℕ, Bool, true, false, cond, eqb, List, [], ◌∷◌, ◌++◌, map, refl, sym, ap, ◌∙◌}
-use Rattle.std.specs.Prelude.{filter_map, Option, None, Some}
+use Rattle.std.specs.Prelude.{filter_map, Option, None, Some, Result, Ok, Err}
 use Rattle.std.proofs.lemmas.List.Elements.{filter_map-append, filter-append}
 use Rattle.std.proofs.lemmas.List.Sums.{fold-append}
 use Rattle.sd_model_text.specs.Lines.{Sample, samples_of}
-use Rattle.sd_model_shard.specs.Shard.{State, empty_state, Cause, Limits, Policy, Submit, Table, table_of, admitted, refusal}
+use Rattle.sd_model_shard.specs.Shard.{State, empty_state, Cause, Limits, Policy, Event, Submit, Delete, Table, table_of, admitted, refusal, step}
 use Rattle.sd_model_shard.specs.History.{Act, History, Asked, after, after_all, answered, part_of, state_after}
 use Rattle.sd_model_shard.specs.Whereabouts.{Arrival, arrivals, arrival_in, tables, table_in}
 use Rattle.sd_model_shard.proofs.AnsweredLemmas.{answered-append, arrivals-answered}
+use Rattle.sd_model_text.specs.Names.{Kind}
+use Rattle.sd_model_record.specs.Admin as admin
+use Rattle.sd_model_record.specs.Admin.{AdminFault}
 use Rattle.sd_model_replay.specs.Settings.{Settings}
-use Rattle.sd_model_replay.specs.Script.{Command, Packet, Flush}
-use Rattle.sd_model_replay.specs.Replay.{Outcome, Played, home_of, events_in, events_at, history_at, samples_in, samples_at, Run, first_run, acts_in, play, run_of, Moment, moments, FlushMoment, flush_by, flushes}
+use Rattle.sd_model_replay.specs.Script.{Command, Packet, Flush, Admin}
+use Rattle.sd_model_replay.specs.Replay.{Outcome, Played, home_of, events_in, events_at, history_at, samples_in, samples_at, administrator, admin_events, Run, first_run, acts_in, play, run_of, Moment, moments, FlushMoment, flush_by, flushes}
 
 abbrev arrivals_asked : List Asked → List Arrival
 arrivals_asked asked = filter_map (λ q. arrival_in q.who q.event) asked
@@ -29,9 +32,27 @@ packet_part settings i who (s ∷ samples) = by_test (eqb i (home_of settings s)
   by_test true h = ap (λ (rest : List Arrival). record { who = who; sample = s } ∷ rest) h
   by_test false h = h
 
+-- admin lines bring no samples
+abbrev as_admin : List Event → List Asked
+as_admin events = map (λ event. record { who = administrator; event = event }) events
+
+no_arrivals : (kind : Kind) (names : List (List ℕ)) → arrivals_asked (as_admin (map (Delete kind) names)) ≡ []
+no_arrivals kind [] = refl
+no_arrivals kind (name ∷ names) = no_arrivals kind names
+
+line_part : (answer : Result admin.Command AdminFault) → arrivals_asked (as_admin (admin_events answer)) ≡ []
+line_part (Ok admin.Stats) = refl
+line_part (Ok admin.Config) = refl
+line_part (Ok admin.Quit) = refl
+line_part (Ok (admin.Show kind)) = refl
+line_part (Ok (admin.Delete kind names)) = no_arrivals kind names
+line_part (Ok (admin.Health word)) = refl
+line_part (Err fault) = refl
+
 command_part : (settings : Settings) (i : ℕ) (c : Command) → arrivals_asked (events_in settings i c) ≡ part_of (at_shard settings) i (samples_in c)
 command_part settings i (Packet who moment datagram) = packet_part settings i who (samples_of datagram)
 command_part settings i (Flush ts) = refl
+command_part settings i (Admin moment line) = line_part (admin.command line)
 
 records_part : (settings : Settings) (i : ℕ) (played : List Played) → arrivals_asked (events_at settings i played) ≡ part_of (at_shard settings) i (samples_at played)
 records_part settings i [] = refl
@@ -57,6 +78,20 @@ no_tables limits policy state who (s ∷ samples) =
     let next = (admitted state who s (refusal limits state s)).state in
     no_table state who s (refusal limits state s) (answered limits policy next (map (λ s. record { who = who; event = Submit s }) samples)) ∙ no_tables limits policy next who samples
 
+-- admin lines are answered with no table
+line_tables : (limits : Limits) (policy : Policy) (state : State) (kind : Kind) (names : List (List ℕ)) → tables (answered limits policy state (as_admin (map (Delete kind) names))) ≡ []
+line_tables limits policy state kind [] = refl
+line_tables limits policy state kind (name ∷ names) = line_tables limits policy (step limits policy state administrator (Delete kind name)).state kind names
+
+no_line_tables : (limits : Limits) (policy : Policy) (state : State) (answer : Result admin.Command AdminFault) → tables (answered limits policy state (as_admin (admin_events answer))) ≡ []
+no_line_tables limits policy state (Ok admin.Stats) = refl
+no_line_tables limits policy state (Ok admin.Config) = refl
+no_line_tables limits policy state (Ok admin.Quit) = refl
+no_line_tables limits policy state (Ok (admin.Show kind)) = refl
+no_line_tables limits policy state (Ok (admin.Delete kind names)) = line_tables limits policy state kind names
+no_line_tables limits policy state (Ok (admin.Health word)) = refl
+no_line_tables limits policy state (Err fault) = refl
+
 -- the tables of shard i at the flushes among records
 abbrev pub tables_at : ℕ → List FlushMoment → List Table
 tables_at i fs = map (λ f. table_of (f.before.shards i)) fs
@@ -71,6 +106,9 @@ one_table settings i run (Packet who moment datagram) outcome ms =
     ap (λ (ts : List Table). ts ++ tables_at i (filter_map (λ (m : Moment). flush_by m.before m.played.command m.played.outcome) ms))
     (no_tables settings.limits settings.policy (run.shards i) who (part_of (home_of settings) i (samples_of datagram)))
 one_table settings i run (Flush ts) outcome ms = refl
+one_table settings i run (Admin moment line) outcome ms =
+    ap (λ (ts : List Table). ts ++ tables_at i (filter_map (λ (m : Moment). flush_by m.before m.played.command m.played.outcome) ms))
+    (no_line_tables settings.limits settings.policy (run.shards i) (admin.command line))
 
 tables_from : (settings : Settings) (i : ℕ) (run : Run) (played : List Played) → tables (answered settings.limits settings.policy (run.shards i) (events_at settings i played)) ≡ tables_at i (flushes settings run played)
 unfolding flushes_of
@@ -85,8 +123,8 @@ tables_from settings i run (p ∷ played) =
     ∙ one_table settings i run p.command p.outcome (moments settings next played)
 
 -- a shard answers its table at each flush
-pub tables-history_at : (settings : Settings) (i : ℕ) (played : List Played) → tables (history_at settings i played) ≡ tables_at i (flushes settings first_run played)
-tables-history_at settings i played = tables_from settings i first_run played
+pub tables-history_at : (settings : Settings) (i : ℕ) (played : List Played) → tables (history_at settings i played) ≡ tables_at i (flushes settings (first_run played) played)
+tables-history_at settings i played = tables_from settings i (first_run played) played
 
 -- the state of a shard after records, from a state on, is the one after the acts that they ask
 state_from : (settings : Settings) (i : ℕ) (run : Run) (played : List Played)
@@ -100,5 +138,5 @@ state_from settings i run (p ∷ played) =
     ∙ sym (fold-append (after settings.limits settings.policy) (run.shards i) acts rest)
     ∙ ap (after_all settings.limits settings.policy (run.shards i)) (sym (answered-append settings.limits settings.policy (run.shards i) (events_in settings i p.command) (events_at settings i played)))
 
-pub state-history_at : (settings : Settings) (i : ℕ) (played : List Played) → (run_of settings first_run played).shards i ≡ state_after settings.limits settings.policy (history_at settings i played)
-state-history_at settings i played = state_from settings i first_run played
+pub state-history_at : (settings : Settings) (i : ℕ) (played : List Played) → (run_of settings (first_run played) played).shards i ≡ state_after settings.limits settings.policy (history_at settings i played)
+state-history_at settings i played = state_from settings i (first_run played) played

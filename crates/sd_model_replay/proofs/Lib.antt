@@ -3,8 +3,10 @@ mod Decisions
 pub mod DeliveryLemmas
 pub mod HistoryLemmas
 pub mod LineLemmas
+pub mod MadeLemmas
 pub mod NextLemmas
 pub mod Numbers
+pub mod OrderLemmas
 pub mod ReadingLemmas
 pub mod ReplayLemmas
 pub mod SendingLemmas

@@ -1,13 +1,13 @@
 -- One thing stands next in bytes.
-use Rattle.std.proofs.Common.{◌≡◌, ◌⊎◌, ℕ, ◌+◌, ◌<◌, ◌≤◌, List, [], ◌∷◌, ◌++◌, length, take, Some, refl, sym, ap, subst, ◌∙◌, arith, inl, inr, append_assoc, append-nil, length-append, get_or, drop}
+use Rattle.std.proofs.Common.{◌≡◌, ◌⊎◌, ℕ, ◌+◌, ◌<◌, ◌≤◌, List, [], ◌∷◌, ◌++◌, length, take, Option, Some, None, refl, sym, ap, subst, ◌∙◌, arith, inl, inr, append_assoc, append-nil, length-append, get_or, drop}
 use Rattle.std.specs.Prelude.{Bool, true, false, IsTrue}
 use Rattle.std.proofs.lemmas.List.{take_at, take-append-le, take-append-drop, drop_more, length-take-le, get_or_append_left}
 use Rattle.sd_model_text.specs.Lists.{Lacks}
 use Rattle.sd_model_text.proofs.Cuts.{same_cut, at_cut}
 use Rattle.sd_model_outside.specs.Outside.{Told, Left}
 use Rattle.sd_model_replay.specs.Heads.{Head, PacketHead, FlushHead, AdminHead, EndHead, Body, head_line, body_of, IsForm}
-use Rattle.sd_model_replay.specs.Script.{Packet, Flush, spelled, IsBuilt, BeginsAdmin}
-use Rattle.sd_model_replay.specs.Next.{BadWord, BadLength, CutShort, Next, Carried, Ending, Faulty, Unbuilt, IsPartOfLine, HasNoLine, HasNoForm, HasBody, IsOver, IsPart, IsMisfit, IsWrong, IsWhole, IsUndecided, Begins}
+use Rattle.sd_model_replay.specs.Script.{Packet, Flush, Admin, spelled}
+use Rattle.sd_model_replay.specs.Next.{BadWord, BadLength, CutShort, Next, Carried, Ending, Faulty, IsPartOfLine, HasNoLine, HasNoForm, HasBody, IsOver, IsPart, IsMisfit, IsWrong, IsWhole, IsUndecided, Begins, next_text}
 use Rattle.sd_model_replay.proofs.LineLemmas.{Lacks-line, length-line, same_front, uncut, newline_soon, longer}
 
 -- what stands next by a body, where this does if it is whole
@@ -37,33 +37,24 @@ one_body body whole rest a b (inr (inr (inr (o, s)))) (inr (inl (p, t))) = absur
 one_body body whole rest a b (inr (inr (inr (o, s)))) (inr (inr (inl (p, t)))) = absurd (misfit body rest p.2 o)
 one_body body whole rest a b (inr (inr (inr (o, s)))) (inr (inr (inr (p, t)))) = s ∙ sym t
 
--- what stands next behind a first line
-abbrev pub HeadNext : Head → List ℕ → Next → Type 0
-HeadNext (PacketHead who moment len) rest next = BodyNext (record { len = len; most = 65507; is_line = false }) (Carried (Packet who moment (take len rest))) rest next
-HeadNext (AdminHead moment len) rest next = BodyNext (record { len = len; most = 1023; is_line = true }) Unbuilt rest next
-HeadNext (FlushHead ts) rest next = next ≡ Carried (Flush ts)
-HeadNext EndHead rest next = next ≡ Ending
+-- What stands next where a first line is whole, and so is the body behind it: these bytes, if the line announces one.
+abbrev pub whole_next : Head → List ℕ → Next
+whole_next (PacketHead who moment len) bytes = Carried (Packet who moment bytes)
+whole_next (FlushHead ts) bytes = Carried (Flush ts)
+whole_next (AdminHead moment len) bytes = Carried (Admin moment bytes)
+whole_next EndHead bytes = Ending
 
-one_behind : (head : Head) (rest : List ℕ) (a b : Next) → HeadNext head rest a → HeadNext head rest b → a ≡ b
-one_behind (PacketHead who moment len) rest a b first second = one_body (record { len = len; most = 65507; is_line = false }) (Carried (Packet who moment (take len rest))) rest a b first second
-one_behind (AdminHead moment len) rest a b first second = one_body (record { len = len; most = 1023; is_line = true }) Unbuilt rest a b first second
-one_behind (FlushHead ts) rest a b first second = first ∙ sym second
-one_behind EndHead rest a b first second = first ∙ sym second
+-- what stands next behind a first line that announces this body, or none
+abbrev pub HeadNext : Head → Option Body → List ℕ → Next → Type 0
+HeadNext head None rest next = next ≡ whole_next head []
+HeadNext head (Some body) rest next = BodyNext body (whole_next head (take body.len rest)) rest next
 
-of_body : (head : Head) (body : Body) (rest : List ℕ) (next : Next) → body_of head ≡ Some body → ((whole : Next) → BodyNext body whole rest next) → HeadNext head rest next
-of_body (PacketHead who moment len) body rest next is so =
-    let packet : Body = record { len = len; most = 65507; is_line = false } in
-    let same : body ≡ packet = cc in
-    subst (λ (x : Body). BodyNext x (Carried (Packet who moment (take len rest))) rest next) same (so (Carried (Packet who moment (take len rest))))
-of_body (AdminHead moment len) body rest next is so =
-    let admin : Body = record { len = len; most = 1023; is_line = true } in
-    let same : body ≡ admin = cc in
-    subst (λ (x : Body). BodyNext x Unbuilt rest next) same (so Unbuilt)
-of_body (FlushHead ts) body rest next is so = absurd (cc)
-of_body EndHead body rest next is so = absurd (cc)
+one_behind : (head : Head) (announced : Option Body) (rest : List ℕ) (a b : Next) → HeadNext head announced rest a → HeadNext head announced rest b → a ≡ b
+one_behind head None rest a b first second = first ∙ sym second
+one_behind head (Some body) rest a b first second = one_body body (whole_next head (take body.len rest)) rest a b first second
 
-packet_parts : (line datagram rest : List ℕ) → line ++ 10 ∷ datagram ++ 10 ∷ [] ++ rest ≡ line ++ 10 ∷ (datagram ++ 10 ∷ rest)
-packet_parts line datagram rest = simp append_assoc
+text_parts : (text bytes rest : List ℕ) → text ++ 10 ∷ bytes ++ 10 ∷ [] ++ rest ≡ text ++ 10 ∷ (bytes ++ 10 ∷ rest)
+text_parts text bytes rest = simp append_assoc
 
 -- the bytes of a body, and the newline behind them
 body_whole : (rest : List ℕ) (len : ℕ) → len < length rest → get_or rest len 0 ≡ 10 → rest ≡ take len rest ++ 10 ∷ drop (len + 1) rest
@@ -71,35 +62,60 @@ body_whole rest len inside newline =
     sym (take-append-drop len rest) ∙ ap (λ xs. take len rest ++ xs) (drop_more rest len 0 inside)
     ∙ ap (λ x. take len rest ++ x ∷ drop (len + 1) rest) newline
 
--- a first line and a whole body behind it
-record_whole : (text bytes rest : List ℕ) (body : Body) → bytes ≡ text ++ 10 ∷ rest → IsWhole body rest → bytes ≡ text ++ 10 ∷ take body.len rest ++ 10 ∷ [] ++ drop (body.len + 1) rest
-record_whole text bytes rest body whole is =
-    whole ∙ ap (λ xs. text ++ 10 ∷ xs) (body_whole rest body.len is.1 is.2)
-    ∙ sym (packet_parts text (take body.len rest) (drop (body.len + 1) rest))
+-- the text of a record with a body
+text_of_body : (head : Head) (body : Body) (bytes : List ℕ) → body_of head ≡ Some body → length bytes ≡ body.len → next_text (whole_next head bytes) ≡ head_line head ++ 10 ∷ bytes ++ 10 ∷ []
+text_of_body (PacketHead who moment len) body bytes announced long =
+    let size : length bytes ≡ len = cc in ap (λ k. head_line (PacketHead who moment k) ++ 10 ∷ bytes ++ 10 ∷ []) size
+text_of_body (AdminHead moment len) body bytes announced long =
+    let size : length bytes ≡ len = cc in ap (λ k. head_line (AdminHead moment k) ++ 10 ∷ bytes ++ 10 ∷ []) size
+text_of_body (FlushHead ts) body bytes announced long = absurd (cc)
+text_of_body EndHead body bytes announced long = absurd (cc)
 
--- a packet whose body is whole
-pub packet_stands : (receivers who moment len : ℕ) (bytes rest : List ℕ) → IsForm receivers (PacketHead who moment len) → bytes ≡ head_line (PacketHead who moment len) ++ 10 ∷ rest → IsWhole (record { len = len; most = 65507; is_line = false }) rest
-    → IsBuilt receivers (Packet who moment (take len rest)) × (bytes ≡ spelled (Packet who moment (take len rest)) ++ drop (len + 1) rest)
-packet_stands receivers who moment len bytes rest form whole is =
-    let d = take len rest in
-    let long : length d ≡ len = length-take-le len rest (omega (arith, is.1)) in (
-      (form.0, form.1, omega (arith, is.0, long)),
-      record_whole (head_line (PacketHead who moment len)) bytes rest (record { len = len; most = 65507; is_line = false }) whole is
-          ∙ ap (λ k. head_line (PacketHead who moment k) ++ 10 ∷ d ++ 10 ∷ [] ++ drop (len + 1) rest) (sym long),
-    )
+-- it is legal, where its first line has its form and its body is as it may be
+begins_body : (receivers : ℕ) (head : Head) (body : Body) (bytes more : List ℕ) (left : Told) → body_of head ≡ Some body → IsForm receivers head → length bytes ≤ body.most → (IsTrue body.is_line → Lacks 10 bytes)
+    → Begins receivers (whole_next head bytes) (next_text (whole_next head bytes) ++ more) left
+begins_body receivers (PacketHead who moment len) body bytes more left announced form few lacks =
+    let most : body.most ≡ 65507 = cc in ((form.0, form.1, omega (arith, few, most)), (more, refl))
+begins_body receivers (AdminHead moment len) body bytes more left announced form few lacks =
+    let most : body.most ≡ 1023 = cc in
+    let line : body.is_line ≡ true = cc in
+    ((form.0, omega (arith, few, most), lacks line), (more, refl))
+begins_body receivers (FlushHead ts) body bytes more left announced form few lacks = absurd (cc)
+begins_body receivers EndHead body bytes more left announced form few lacks = absurd (cc)
 
--- an admin command whose body is whole
-pub admin_stands : (receivers moment len : ℕ) (bytes rest : List ℕ) → IsForm receivers (AdminHead moment len) → bytes ≡ head_line (AdminHead moment len) ++ 10 ∷ rest → IsWhole (record { len = len; most = 1023; is_line = true }) rest → BeginsAdmin bytes
-admin_stands receivers moment len bytes rest form whole is =
-    let long : length (take len rest) ≡ len = length-take-le len rest (omega (arith, is.1)) in
+-- this stands at the front of bytes, and these stand behind its text
+pub record StandsInFront (receivers : ℕ) (next : Next) (bytes behind : List ℕ) : Type 0 where
+  pub begins : (more : List ℕ) (left : Told) → Begins receivers next (next_text next ++ more) left
+  pub whole : bytes ≡ next_text next ++ behind
+
+-- a first line with a whole body behind it
+pub body_stands : (receivers : ℕ) (head : Head) (body : Body) (bytes rest : List ℕ) → body_of head ≡ Some body → IsForm receivers head → bytes ≡ head_line head ++ 10 ∷ rest → IsWhole body rest
+    → StandsInFront receivers (whole_next head (take body.len rest)) bytes (drop (body.len + 1) rest)
+body_stands receivers head body bytes rest announced form whole is =
+    let inside = take body.len rest in
+    let behind = drop (body.len + 1) rest in
+    let long : length inside ≡ body.len = length-take-le body.len rest (omega (arith, is.1)) in
     record {
-      moment = moment;
-      line = take len rest;
-      rest = drop (len + 1) rest;
-      legal = (form.0, omega (arith, is.0, long), is.3 refl);
-      whole = record_whole (head_line (AdminHead moment len)) bytes rest (record { len = len; most = 1023; is_line = true }) whole is
-          ∙ ap (λ k. head_line (AdminHead moment k) ++ 10 ∷ take len rest ++ 10 ∷ [] ++ drop (len + 1) rest) (sym long);
+      begins = λ more left. begins_body receivers head body inside more left announced form (omega (arith, is.0, long)) is.3;
+      whole =
+          whole ∙ ap (λ xs. head_line head ++ 10 ∷ xs) (body_whole rest body.len is.1 is.2)
+          ∙ sym (text_parts (head_line head) inside behind)
+          ∙ ap (λ xs. xs ++ behind) (sym (text_of_body head body inside announced long));
     }
+
+-- a first line that announces no body
+pub line_stands : (receivers : ℕ) (head : Head) (bytes rest : List ℕ) → body_of head ≡ None → IsForm receivers head → bytes ≡ head_line head ++ 10 ∷ rest → StandsInFront receivers (whole_next head []) bytes rest
+line_stands receivers (FlushHead ts) bytes rest announced form whole = record {
+  begins = λ more left. (form, (more, refl));
+  whole = whole ∙ sym (append_assoc (head_line (FlushHead ts)) (10 ∷ []) rest);
+}
+line_stands receivers EndHead bytes rest announced form whole = record { begins = λ more left. (more, refl); whole = whole }
+line_stands receivers (PacketHead who moment len) bytes rest announced form whole = absurd (cc)
+line_stands receivers (AdminHead moment len) bytes rest announced form whole = absurd (cc)
+
+-- what stands at the front of bytes stands next in them
+pub begins_in_front : (receivers : ℕ) (next : Next) (bytes behind : List ℕ) (left : Told) → StandsInFront receivers next bytes behind → Begins receivers next bytes left
+begins_in_front receivers next bytes behind left h = subst (λ xs. Begins receivers next xs left) (sym h.whole) (h.begins behind left)
 
 -- bytes before a newline are a whole body
 whole_body : (most : ℕ) (is_line : Bool) (bytes rest : List ℕ) → length bytes ≤ most → (IsTrue is_line → Lacks 10 bytes) → IsWhole (record { len = length bytes; most = most; is_line = is_line }) (bytes ++ 10 ∷ rest)
@@ -117,7 +133,7 @@ module _ (receivers : ℕ) (bytes : List ℕ) where
     pub rest : List ℕ
     pub form : IsForm receivers head
     pub whole : bytes ≡ head_line head ++ 10 ∷ rest
-    pub so : HeadNext head rest next
+    pub so : HeadNext head (body_of head) rest next
 
   -- what stands next by what is seen of a first line
   abbrev pub Sight : Next → Type 0
@@ -130,24 +146,33 @@ module _ (receivers : ℕ) (bytes : List ℕ) where
     rest = h.rest;
     form = h.form;
     whole = h.whole;
-    so = of_body h.head h.body h.rest next h.announced (λ whole. so h.body h.rest whole h.so);
+    so = subst (λ (o : Option Body). HeadNext h.head o h.rest next) (sym h.announced) (so h.body h.rest (whole_next h.head (take h.body.len h.rest)) h.so);
   })))
 
-  seen : (next : Next) (left : Told) → Begins receivers next bytes left → Sight next
-  seen (Carried (Packet who moment datagram)) left (built, (rest, is)) =
-      let fits = whole_body 65507 false datagram rest built.2 (λ on. absurd (cc)) in
-      let front : take (length datagram) (datagram ++ 10 ∷ rest) ≡ datagram = take_at datagram (10 ∷ rest) (length datagram) refl in
+  -- a record with a body
+  seen_body : (head : Head) (most : ℕ) (is_line : Bool) (body rest : List ℕ) → body_of head ≡ Some (record { len = length body; most = most; is_line = is_line }) → IsForm receivers head
+      → bytes ≡ head_line head ++ 10 ∷ body ++ 10 ∷ [] ++ rest → length body ≤ most → (IsTrue is_line → Lacks 10 body) → Sight (whole_next head body)
+  seen_body head most is_line body rest announced form is few lacks =
+      let front : take (length body) (body ++ 10 ∷ rest) ≡ body = take_at body (10 ∷ rest) (length body) refl in
       inr (inr (inr (record {
-        head = PacketHead who moment (length datagram);
-        rest = datagram ++ 10 ∷ rest;
-        form = (built.0, built.1, omega (arith, built.2));
-        whole = is ∙ packet_parts (head_line (PacketHead who moment (length datagram))) datagram rest;
-        so = inr (inr (inr (fits, ap (λ d. Carried (Packet who moment d)) (sym front))));
+        head = head;
+        rest = body ++ 10 ∷ rest;
+        form = form;
+        whole = is ∙ text_parts (head_line head) body rest;
+        so =
+            subst (λ (o : Option Body). HeadNext head o (body ++ 10 ∷ rest) (whole_next head body)) (sym announced)
+            (inr (inr (inr (whole_body most is_line body rest few lacks, ap (whole_next head) (sym front)))));
       })))
-  seen (Carried (Flush ts)) left (built, (rest, is)) = inr (inr (inr (record {
+
+  seen : (next : Next) (left : Told) → Begins receivers next bytes left → Sight next
+  seen (Carried (Packet who moment datagram)) left (legal, (rest, is)) =
+      seen_body (PacketHead who moment (length datagram)) 65507 false datagram rest refl (legal.0, legal.1, omega (arith, legal.2)) is legal.2 (λ on. absurd (cc))
+  seen (Carried (Admin moment line)) left (legal, (rest, is)) =
+      seen_body (AdminHead moment (length line)) 1023 true line rest refl (legal.0, omega (arith, legal.1)) is legal.1 (λ on. legal.2)
+  seen (Carried (Flush ts)) left (legal, (rest, is)) = inr (inr (inr (record {
     head = FlushHead ts;
     rest = rest;
-    form = built;
+    form = legal;
     whole = is ∙ append_assoc (head_line (FlushHead ts)) (10 ∷ []) rest;
     so = refl;
   })))
@@ -158,13 +183,6 @@ module _ (receivers : ℕ) (bytes : List ℕ) where
   seen (Faulty BadLength) left (inr h) = formed IsWrong (Faulty BadLength) (λ body rest whole so. inr (inr (inl (so, refl)))) h
   seen (Faulty CutShort) left (inl part, end) = inl (part, refl)
   seen (Faulty CutShort) left (inr h, end) = formed IsPart (Faulty CutShort) (λ body rest whole so. inr (inl (so, refl))) h
-  seen Unbuilt left h = inr (inr (inr (record {
-    head = AdminHead h.moment (length h.line);
-    rest = h.line ++ 10 ∷ h.rest;
-    form = (h.legal.0, omega (arith, h.legal.1));
-    whole = h.whole ∙ packet_parts (head_line (AdminHead h.moment (length h.line))) h.line h.rest;
-    so = inr (inr (inr (whole_body 1023 true h.line h.rest h.legal.1 (λ on. h.legal.2), refl)));
-  })))
 
   not_part : (next : Next) → IsPartOfLine bytes → (HasNoLine bytes ⊎ HasNoForm receivers bytes ⊎ Formed next) → ⊥
   not_part next part (inl none) = absurd (omega (arith, part.1, none.1))
@@ -182,7 +200,7 @@ module _ (receivers : ℕ) (bytes : List ℕ) where
   one_form : (a b : Next) → Formed a → Formed b → a ≡ b
   one_form a b f g =
       let same = same_front receivers bytes f.head g.head f.rest g.rest f.form g.form f.whole g.whole in
-      one_behind g.head g.rest a b (subst (λ (h : Head). HeadNext h g.rest a) same.0 (subst (λ r. HeadNext f.head r a) same.1 f.so)) g.so
+      one_behind g.head (body_of g.head) g.rest a b (subst (λ (h : Head). HeadNext h (body_of h) g.rest a) same.0 (subst (λ r. HeadNext f.head (body_of f.head) r a) same.1 f.so)) g.so
 
   one_sight : (a b : Next) → Sight a → Sight b → a ≡ b
   one_sight a b (inl (o, s)) (inl (p, t)) = s ∙ sym t
@@ -233,17 +251,10 @@ module _ (receivers : ℕ) (bytes more : List ℕ) where
 
   -- where the source has these left
   pub next_stays : (next : Next) → Begins receivers next bytes (Left more) → Begins receivers next (bytes ++ more) (Left [])
-  next_stays (Carried command) (built, (rest, is)) = (built, (rest ++ more, ap (λ xs. xs ++ more) is ∙ append_assoc (spelled command) rest more))
+  next_stays (Carried command) (legal, (rest, is)) = (legal, (rest ++ more, ap (λ xs. xs ++ more) is ∙ append_assoc (spelled command) rest more))
   next_stays Ending (rest, is) = (rest ++ more, ap (λ xs. xs ++ more) is)
   next_stays (Faulty BadWord) (inl none) = inl (no_line_stays none)
   next_stays (Faulty BadWord) (inr none) = inr (no_form_stays none)
   next_stays (Faulty BadLength) (inl h) = inl (body_stays IsOver (λ body rest so. so) h)
   next_stays (Faulty BadLength) (inr h) = inr (body_stays IsWrong wrong_stays h)
   next_stays (Faulty CutShort) (cut, end) = (subst (IsUndecided receivers) (sym (append-nil bytes) ∙ ap (λ xs. bytes ++ xs) (sym end)) cut, refl)
-  next_stays Unbuilt h = record {
-    moment = h.moment;
-    line = h.line;
-    rest = h.rest ++ more;
-    legal = h.legal;
-    whole = ap (λ xs. xs ++ more) h.whole ∙ append_assoc (head_line (AdminHead h.moment (length h.line)) ++ 10 ∷ h.line ++ 10 ∷ []) h.rest more;
-  }

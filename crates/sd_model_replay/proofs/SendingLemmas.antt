@@ -1,9 +1,9 @@
 -- What packets do to one wire, and one packet more.
 use Rattle.std.proofs.Common.{◌≡◌, ℕ, zero, suc, Bool, true, false, cond, List, [], ◌∷◌, ◌++◌, length, refl, sym, ap, subst, ◌∙◌, arith, append_assoc, append-nil, get_or}
-use Rattle.std.specs.Prelude.{Option, Some, None, if◌then◌else◌}
+use Rattle.std.specs.Prelude.{Some, None, if◌then◌else◌}
 use Rattle.std.specs.List.{cons_option}
 use Rattle.std.proofs.lemmas.List.Sums.{sum_by-cons}
-use Rattle.sd_model_outside.specs.Outside.{Object, Told, Packets}
+use Rattle.sd_model_outside.specs.Outside.{Object, Packets}
 use Rattle.sd_model_outside.specs.Wires.{HasSent, AreSent}
 use Rattle.sd_model_replay.specs.Repeater.{Sending, IsRepeated, AfterSendings, HasPackets, wire_at, missed_on, sent_on}
 use Rattle.sd_model_replay.proofs.DeliveryLemmas.{Counts, same_counts, joined_counts}

@@ -10,7 +10,7 @@ use Rattle.sd_model_record.specs.Record.{Record, record_rows}
 use Rattle.sd_model_replay.specs.Settings.{Settings}
 use Rattle.sd_model_replay.specs.Backends.{Backend, Graphite, Console, AfterDeliveries}
 use Rattle.sd_model_replay.specs.Repeater.{AfterSendings}
-use Rattle.sd_model_replay.specs.Script.{script_text, IsBuilt}
+use Rattle.sd_model_replay.specs.Script.{script_text, IsLegal}
 use Rattle.sd_model_replay.specs.Replay.{Played, IsOutcome, home_of, first_run, run_of, history_at, samples_at, records, deliveries, sendings}
 
 -- What is seen of the objects that a replay uses.
@@ -38,7 +38,7 @@ pub record Course : Type 0 where
 pub record AreAccounted (settings : Settings) (played : List Played) (i : ℕ) : Type 0 where
   pub submitted : arrivals (history_at settings i played) ≡ part_of (λ a. home_of settings a.sample) i (samples_at played)
   pub places : Accounted settings.limits settings.policy (history_at settings i played)
-  pub state : (run_of settings first_run played).shards i ≡ state_after settings.limits settings.policy (history_at settings i played)
+  pub state : (run_of settings (first_run played) played).shards i ≡ state_after settings.limits settings.policy (history_at settings i played)
 
 -- the tables of the flush of this number, one of each shard's history
 abbrev pub tables_of_flush : Settings → List Played → ℕ → List Table
@@ -53,13 +53,13 @@ pub record AreDocumented (settings : Settings) (played : List Played) : Type 0 w
   pub carried : (i : ℕ) → i < settings.shards → RowsAreCarried settings.policy empty (history_at settings i played)
   pub rows : (r : ℕ) (rec : Record) → slice_get (records settings played) r ≡ Some rec → rec.rows ≡ record_rows settings.plan (tables_of_flush settings played r)
 
--- The accounting theorem, of a course between two times. `read`, `built`, `used`, `texts` and `sends` tie the course to what
+-- The accounting theorem, of a course between two times. `read`, `legal`, `used`, `texts` and `sends` tie the course to what
 -- was seen; `places` and `statistics` say what follows for its samples and records.
 pub record AccountingTheorem (settings : Settings) (course : Course) (old new : Seen) : Type 0 where
   -- where the script tells its bytes, just these were read: the text of the records, and what was read behind them
   pub read : Reads old.script.told (script_text (map (λ p. p.command) course.played) ++ course.ahead) new.script.told
-  -- each of the script's records is a built one
-  pub built : AllByRecursion (λ p. IsBuilt settings.receivers p.command) course.played
+  -- each of the script's records is a legal one
+  pub legal : AllByRecursion (λ p. IsLegal settings.receivers p.command) course.played
   -- each good sample of their datagrams is in exactly one place
   pub places : (i : ℕ) → i < settings.shards → AreAccounted settings course.played i
   -- each flush's record has the documented statistics of its own journal over the rows carried in

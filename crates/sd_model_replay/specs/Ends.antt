@@ -1,20 +1,20 @@
 -- How a replay ends, and what was done by then.
-use Rattle.std.specs.Prelude.{◌≡◌, ◌<◌, ◌^◌, ℕ, min, List, ◌++◌, length, map}
+use Rattle.std.specs.Prelude.{◌≡◌, ◌⊎◌, ◌<◌, ◌^◌, ℕ, min, List, [], ◌∷◌, ◌++◌, length, map, ⊤}
 use Rattle.sd_model_outside.specs.Outside.{Told, Object, Used, HasFailedBehind, Rose, given, last_count, put_back}
 use Rattle.sd_model_replay.specs.Settings.{Settings}
 use Rattle.sd_model_replay.specs.Script.{script_text, BeginsEnd}
-use Rattle.sd_model_replay.specs.Next.{ScriptFlaw, Next, Faulty, Unbuilt, Begins, IsUndecided}
-use Rattle.sd_model_replay.specs.Replay.{Played, output_of}
+use Rattle.sd_model_replay.specs.Next.{ScriptFlaw, Next, Faulty, Begins, IsUndecided}
+use Rattle.sd_model_replay.specs.Replay.{Played, first_run, run_of}
+use Rattle.sd_model_replay.specs.Output.{output_in, output_of}
 use Rattle.sd_model_replay.specs.Totals.{Totals, totals_after, totals_text}
 use Rattle.sd_model_replay.specs.AccountingTheorem.{Seen, Course, AccountingTheorem}
 
 -- Why a replay ends: it came to the word that ends the script and wrote these totals; the record at a place of the script
--- has a flaw; the one at a place isn't built; a read of the script failed; a write of the totals failed; it has carried out
--- as many records as it may.
+-- has a flaw; a read of the script failed; a write of a reply or of the totals failed; it has carried out as many records
+-- as it may.
 pub data End : Type 0 where
   Complete : (totals : Totals) → End
   Faulted : (at : ℕ) (flaw : ScriptFlaw) → End
-  NotBuilt : (at : ℕ) → End
   ReadFailed : End
   WriteFailed : End
   WornOut : (turns : ℕ) → End
@@ -43,13 +43,13 @@ pub record StopsFor (settings : Settings) (next : Next) (at : ℕ) (course : Cou
   pub place : at ≡ text_length course.played
 
 -- what stands behind the records where a replay ends so: the word that ends the script, with the totals of the records
--- before; a flaw; what isn't built; what doesn't decide what stands next; as many records as there may be
+-- before; a flaw; what doesn't decide what stands next; as many records as there may be; where a write failed, what was
+-- being written tells it
 abbrev pub StandsBehind : Settings → End → Course → Seen → Type 0
 StandsBehind settings (Complete totals) course new = AreFew course.played × BeginsEnd course.ahead × (totals ≡ totals_after settings course.played)
 StandsBehind settings (Faulted at flaw) course new = StopsFor settings (Faulty flaw) at course new
-StandsBehind settings (NotBuilt at) course new = StopsFor settings Unbuilt at course new
 StandsBehind settings ReadFailed course new = AreFew course.played × IsUndecided settings.receivers course.ahead
-StandsBehind settings WriteFailed course new = AreFew course.played × BeginsEnd course.ahead
+StandsBehind settings WriteFailed course new = ⊤
 StandsBehind settings (WornOut turns) course new = (turns ≡ most_records) × (length course.played ≡ most_records)
 
 -- whether a read of the script failed
@@ -57,26 +57,45 @@ abbrev pub ScriptFaults : End → ℕ → ℕ → Type 0
 ScriptFaults ReadFailed had has = Rose had has
 ScriptFaults (Complete totals) had has = has ≡ had
 ScriptFaults (Faulted at flaw) had has = has ≡ had
-ScriptFaults (NotBuilt at) had has = has ≡ had
 ScriptFaults WriteFailed had has = has ≡ had
 ScriptFaults (WornOut turns) had has = has ≡ had
 
+-- The totals were being written: the word that ends the script stands behind the records, all of which wrote what they
+-- had to.
+pub record IsInTotals (settings : Settings) (course : Course) (before : List Played) (text : List ℕ) : Type 0 where
+  pub all : before ≡ course.played
+  pub ends : BeginsEnd course.ahead
+  pub totals : text ≡ totals_text (totals_after settings course.played)
+
+-- The replies to the last record were being written, an admin command, which was carried out whole.
+pub record IsInReply (settings : Settings) (course : Course) (before : List Played) (text : List ℕ) : Type 0 where
+  pub last : Played
+  pub order : course.played ≡ before ++ last ∷ []
+  pub replies : text ≡ output_in settings (run_of settings (first_run course.played) before) last.command
+
+-- A write to the output failed: what the records before write had been written, and then a front of this text.
+pub record IsBrokenOff (settings : Settings) (course : Course) (old new : Object) : Type 0 where
+  pub before : List Played
+  pub text : List ℕ
+  pub few : AreFew before
+  pub writing : IsInTotals settings course before text ⊎ IsInReply settings course before text
+  pub failed : HasFailedBehind text (given (output_of settings before) old) new
+
 -- what the output was given by then: what the records write, and then the totals, whole, or as far as a write that
 -- failed; or no totals
-abbrev pub OutputAfter : Settings → End → List Played → Object → Object → Type 0
-OutputAfter settings (Complete totals) played old new = new ≡ given (output_of settings played ++ totals_text totals) old
-OutputAfter settings WriteFailed played old new = HasFailedBehind (output_of settings played ++ totals_text (totals_after settings played)) old new
-OutputAfter settings (Faulted at flaw) played old new = new ≡ given (output_of settings played) old
-OutputAfter settings (NotBuilt at) played old new = new ≡ given (output_of settings played) old
-OutputAfter settings ReadFailed played old new = new ≡ given (output_of settings played) old
-OutputAfter settings (WornOut turns) played old new = new ≡ given (output_of settings played) old
+abbrev pub OutputAfter : Settings → End → Course → Object → Object → Type 0
+OutputAfter settings (Complete totals) course old new = new ≡ given (output_of settings course.played ++ totals_text totals) old
+OutputAfter settings WriteFailed course old new = IsBrokenOff settings course old new
+OutputAfter settings (Faulted at flaw) course old new = new ≡ given (output_of settings course.played) old
+OutputAfter settings ReadFailed course old new = new ≡ given (output_of settings course.played) old
+OutputAfter settings (WornOut turns) course old new = new ≡ given (output_of settings course.played) old
 
 -- What stands of a course where a replay ends so.
 pub record EndsAs (settings : Settings) (end : End) (course : Course) (old new : Seen) : Type 0 where
   pub read : StandsBehind settings end course new
   pub script : Used old.script new.script
   pub script_faults : ScriptFaults end old.script.faults new.script.faults
-  pub output : OutputAfter settings end course.played old.output new.output
+  pub output : OutputAfter settings end course old.output new.output
 
 -- A replay: what it carried out, of which the accounting theorem holds, and how it ended.
 pub record Replayed (settings : Settings) (end : End) (old new : Seen) : Type 0 where

@@ -4,7 +4,9 @@ pub mod Repeater
 pub mod Heads
 pub mod Script
 pub mod Next
+pub mod MadeScript
 pub mod Replay
+pub mod Output
 pub mod Totals
 pub mod AccountingTheorem
 pub mod Ends

@@ -3,7 +3,7 @@ use Rattle.std.specs.Prelude.{◌≡◌, ◌≢◌, ◌⊎◌, ℕ, ◌<◌, ◌
 use Rattle.sd_model_text.specs.Lists.{Lacks}
 use Rattle.sd_model_outside.specs.Outside.{Told, IsAtEnd, Reads, put_back}
 use Rattle.sd_model_replay.specs.Heads.{Head, Body, head_line, body_of, IsForm}
-use Rattle.sd_model_replay.specs.Script.{Command, spelled, end_word, IsBuilt, BeginsEnd, BeginsAdmin}
+use Rattle.sd_model_replay.specs.Script.{Command, spelled, end_word, IsLegal, BeginsEnd}
 
 -- What is wrong with a record: its first line is of no form; its number of bytes is too great, or not that of its
 -- bytes; or the script ends within it.
@@ -70,26 +70,23 @@ HasFlaw receivers BadWord bytes left = HasNoLine bytes ⊎ HasNoForm receivers b
 HasFlaw receivers BadLength bytes left = HasBody receivers IsOver bytes ⊎ HasBody receivers IsWrong bytes
 HasFlaw receivers CutShort bytes left = IsUndecided receivers bytes × IsAtEnd left
 
--- What stands next in a script: a record, the word that ends it, the flaw of a record, or a record that isn't built.
+-- What stands next in a script: a record, the word that ends it, or the flaw of a record.
 pub data Next : Type 0 where
   Carried : (command : Command) → Next
   Ending : Next
   Faulty : (flaw : ScriptFlaw) → Next
-  Unbuilt : Next
 
 -- this stands next in bytes that were read, behind which a source has so much left
 abbrev pub Begins : ℕ → Next → List ℕ → Told → Type 0
-Begins receivers (Carried command) bytes left = IsBuilt receivers command × ((rest : List ℕ) × (bytes ≡ spelled command ++ rest))
+Begins receivers (Carried command) bytes left = IsLegal receivers command × ((rest : List ℕ) × (bytes ≡ spelled command ++ rest))
 Begins receivers Ending bytes left = BeginsEnd bytes
 Begins receivers (Faulty flaw) bytes left = HasFlaw receivers flaw bytes left
-Begins receivers Unbuilt bytes left = BeginsAdmin bytes
 
 -- the text that is read of it
 abbrev pub next_text : Next → List ℕ
 next_text (Carried command) = spelled command
 next_text Ending = end_word
 next_text (Faulty flaw) = []
-next_text Unbuilt = []
 
 -- What stands next in a script that has old left: its text is read, and behind it these bytes were read ahead, and the
 -- source has new left.

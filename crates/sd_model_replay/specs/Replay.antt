@@ -1,17 +1,19 @@
 -- What a replay does: what its records ask of each shard, the state after them, and what is made of it.
-use Rattle.std.specs.Prelude.{◌≡◌, ℕ, Bool, List, [], ◌∷◌, length, map, fold, flat_map, filter_map, sum_by, Option, Some, None}
+use Rattle.std.specs.Prelude.{◌≡◌, ℕ, Bool, List, [], ◌∷◌, length, map, fold, flat_map, filter_map, sum_by, Option, Some, None, Result, Ok, true, false}
 use Rattle.std.specs.List.{range_with_len}
 use Rattle.sd_model_text.specs.Names.{shard}
 use Rattle.sd_model_text.specs.Lines.{Sample, samples_of, pieces, bad_of}
-use Rattle.sd_model_shard.specs.Shard.{State, empty_state, Submit, Swap, Reply, table_of}
+use Rattle.sd_model_shard.specs.Shard.{State, empty_state, Event, Submit, Swap, Delete, Dump, Reply, table_of}
 use Rattle.sd_model_shard.specs.History.{Asked, History, after_all, answered, part_of}
 use Rattle.sd_model_shard.specs.Whereabouts.{Arrival, dropped_in}
 use Rattle.sd_model_record.specs.Record.{Tally, Record, record_of}
-use Rattle.sd_model_record.specs.Desk.{Desk, new_desk, with_tally, with_repeater_faults, with_round, Marks, NotUsed}
+use Rattle.sd_model_record.specs.Admin as admin
+use Rattle.sd_model_record.specs.Admin.{AdminFault, HealthWord, Up, Down, Ask}
+use Rattle.sd_model_record.specs.Desk.{Desk, new_desk, with_tally, with_repeater_faults, with_round, with_health, Marks, NotUsed}
 use Rattle.sd_model_replay.specs.Settings.{Settings}
 use Rattle.sd_model_replay.specs.Backends.{Backend, Delivery, FitsUse, text_of, mark_of, is_used}
 use Rattle.sd_model_replay.specs.Repeater.{Sending, failures}
-use Rattle.sd_model_replay.specs.Script.{Command, Packet, Flush}
+use Rattle.sd_model_replay.specs.Script.{Command, Packet, Flush, Admin}
 
 -- What the outside did to a record: how each backend took part, which is told of a flush; and of each send of a packet
 -- whether it failed.
@@ -24,10 +26,11 @@ abbrev pub no_marks : Marks
 no_marks = record { graphite = NotUsed; console = NotUsed }
 
 -- what the outside may do to a record: at a packet there is a send to each target, and no backend takes part; at a flush
--- just those backends take part that the settings name, and nothing is sent
+-- just those backends take part that the settings name, and nothing is sent; an admin command is no matter of theirs
 abbrev pub IsOutcome : Settings → Command → Outcome → Type 0
 IsOutcome settings (Packet who moment datagram) outcome = (outcome.marks ≡ no_marks) × (length outcome.failed ≡ length settings.targets)
 IsOutcome settings (Flush ts) outcome = (outcome.failed ≡ []) × ((back : Backend) → FitsUse (is_used settings back) (mark_of back outcome.marks))
+IsOutcome settings (Admin moment line) outcome = (outcome.marks ≡ no_marks) × (outcome.failed ≡ [])
 
 -- A record of a script as it was carried out.
 pub record Played : Type 0 where
@@ -38,15 +41,28 @@ pub record Played : Type 0 where
 abbrev pub flusher : ℕ
 flusher = 100
 
+-- the number of the caller of admin commands
+abbrev pub administrator : ℕ
+administrator = 101
+
 -- the shard of a sample
 abbrev pub home_of : Settings → Sample → ℕ
 home_of settings s = shard s.key settings.shards
 
--- what a record asks of shard i: it is given the samples whose keys belong there, or is swapped
+-- what an admin line asks of each shard: a deletion for each name of its command, in their order, or a dump; and nothing
+-- where its command is another one, or it has none
+abbrev pub admin_events : Result admin.Command AdminFault → List Event
+admin_events (Ok (admin.Delete kind names)) = map (Delete kind) names
+admin_events (Ok (admin.Show kind)) = Dump kind ∷ []
+admin_events answer = []
+
+-- what a record asks of shard i: it is given the samples whose keys belong there, is swapped, or takes the events of an
+-- admin line
 abbrev pub events_in : Settings → ℕ → Command → List Asked
 events_in settings i (Packet who moment datagram) =
     map (λ s. record { who = who; event = Submit s }) (part_of (home_of settings) i (samples_of datagram))
 events_in settings i (Flush ts) = record { who = flusher; event = Swap } ∷ []
+events_in settings i (Admin moment line) = map (λ event. record { who = administrator; event = event }) (admin_events (admin.command line))
 
 -- what records ask of shard i
 abbrev pub events_at : Settings → ℕ → List Played → List Asked
@@ -60,6 +76,7 @@ history_at settings i played = answered settings.limits settings.policy empty_st
 abbrev pub samples_in : Command → List Arrival
 samples_in (Packet who moment datagram) = map (λ s. record { who = who; sample = s }) (samples_of datagram)
 samples_in (Flush ts) = []
+samples_in (Admin moment line) = []
 
 -- those of records
 abbrev pub samples_at : List Played → List Arrival
@@ -70,9 +87,24 @@ pub record Run : Type 0 where
   pub shards : ℕ → State
   pub desk : Desk
 
--- nothing was carried out; that the desk starts at 0 is told by nothing so far
-abbrev pub first_run : Run
-first_run = record { shards = λ i. empty_state; desk = new_desk 0 }
+-- when a record came: the moment of its datagram or line, or the second of its flush
+abbrev pub moment_of : Command → ℕ
+moment_of (Packet who moment datagram) = moment
+moment_of (Flush ts) = ts
+moment_of (Admin moment line) = moment
+
+-- when the first of records came, with which a replay starts
+abbrev pub start_of : List Played → ℕ
+start_of [] = 0
+start_of (p ∷ played) = moment_of p.command
+
+-- a replay that starts now: nothing was carried out
+abbrev pub begun_at : ℕ → Run
+begun_at start = record { shards = λ i. empty_state; desk = new_desk start }
+
+-- the state before the first of records
+abbrev pub first_run : List Played → Run
+first_run played = begun_at (start_of played)
 
 -- what a record adds to the history of shard i
 abbrev pub acts_in : Settings → Run → ℕ → Command → History
@@ -86,11 +118,23 @@ replies_to settings run c = flat_map (λ i. map (λ a. a.reply) (acts_in setting
 abbrev pub packet_tally : List ℕ → ℕ → Tally
 packet_tally datagram dropped = record { packets = 1; lines = length (pieces datagram); bad = bad_of datagram; dropped = dropped }
 
+-- the health after a word that sets it, or asks for it
+abbrev pub health_after : HealthWord → Bool → Bool
+health_after Up up = true
+health_after Down up = false
+health_after Ask up = up
+
+-- the desk after an admin line
+abbrev pub desk_after_line : Desk → Result admin.Command AdminFault → Desk
+desk_after_line desk (Ok (admin.Health word)) = with_health desk (health_after word desk.up)
+desk_after_line desk answer = desk
+
 -- the desk after a record, with what the shards answered and what the outside did
 abbrev pub desk_after : Desk → Command → List Reply → Outcome → Desk
 desk_after desk (Packet who moment datagram) replies outcome =
     with_repeater_faults (with_tally desk (packet_tally datagram (sum_by dropped_in replies)) moment) (failures outcome.failed)
 desk_after desk (Flush ts) replies outcome = with_round desk outcome.marks
+desk_after desk (Admin moment line) replies outcome = desk_after_line desk (admin.command line)
 
 -- the state after a record
 abbrev pub play : Settings → Run → Played → Run
@@ -124,6 +168,7 @@ pub record FlushMoment : Type 0 where
 abbrev pub flush_by : Run → Command → Outcome → Option FlushMoment
 flush_by before (Packet who moment datagram) outcome = None
 flush_by before (Flush ts) outcome = Some (record { before = before; ts = ts; marks = outcome.marks })
+flush_by before (Admin moment line) outcome = None
 
 -- the flushes among records
 abbrev pub flushes : Settings → Run → List Played → List FlushMoment
@@ -136,22 +181,19 @@ record_at settings f =
 
 -- the records of the flushes
 abbrev pub records : Settings → List Played → List Record
-records settings played = map (record_at settings) (flushes settings first_run played)
+records settings played = map (record_at settings) (flushes settings (first_run played) played)
 
 -- what the flushes have for a backend: the text of each record, with its mark
 abbrev pub deliveries : Settings → Backend → List Played → List Delivery
 deliveries settings back played =
-    map (λ f. record { text = text_of settings back (record_at settings f); mark = mark_of back f.marks }) (flushes settings first_run played)
+    map (λ f. record { text = text_of settings back (record_at settings f); mark = mark_of back f.marks }) (flushes settings (first_run played) played)
 
 -- the packet that a record repeats, if it is one
 abbrev pub sending_by : Command → Outcome → Option Sending
 sending_by (Packet who moment datagram) outcome = Some (record { packet = datagram; failed = outcome.failed })
 sending_by (Flush ts) outcome = None
+sending_by (Admin moment line) outcome = None
 
 -- the packets that records repeat
 abbrev pub sendings : List Played → List Sending
 sendings played = filter_map (λ p. sending_by p.command p.outcome) played
-
--- what the records write to the output, before the totals: nothing so far
-abbrev pub output_of : Settings → List Played → List ℕ
-output_of settings played = []

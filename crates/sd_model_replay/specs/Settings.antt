@@ -8,7 +8,8 @@ use Rattle.sd_model_settings.specs.Defaults.{Plan, Names, plan_of, names_of}
 use Rattle.sd_model_shard.specs.Shard.{Limits, Policy}
 
 -- How many shards run; how many rows and entries each may have, and what goes when idle; how records are made, and
--- Graphite's names; how many receivers there are; which backends are used; and where packets are repeated to.
+-- Graphite's names; how many receivers there are; which backends are used; where packets are repeated to; and the settings
+-- in force, as the command `config` tells them.
 pub record Settings : Type 0 where
   pub shards : ℕ
   pub limits : Limits
@@ -19,6 +20,7 @@ pub record Settings : Type 0 where
   pub uses_graphite : Bool
   pub uses_console : Bool
   pub targets : List Target
+  pub in_force : file.Settings
 
 -- how many rows and entries a shard may have
 abbrev pub limits_of : file.Settings → Limits
@@ -56,4 +58,5 @@ goes_by s =
       uses_graphite = names_backend (codes "graphite") s;
       uses_console = names_backend (codes "console") s;
       targets = targets_of s;
+      in_force = s;
     }

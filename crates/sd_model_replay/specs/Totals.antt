@@ -46,7 +46,7 @@ totals_of settings run =
 
 -- the totals after these records
 abbrev pub totals_after : Settings → List Played → Totals
-totals_after settings played = totals_of settings (run_of settings first_run played)
+totals_after settings played = totals_of settings (run_of settings (first_run played) played)
 
 -- a line of the totals: a name, a space, a number and a newline
 abbrev pub total_line : List ℕ → ℕ → List ℕ

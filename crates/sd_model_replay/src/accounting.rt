@@ -8,7 +8,7 @@ ghost use Rattle.sd_model_replay.specs.Replay.{Played, first_run, flushes, recor
 ghost use Rattle.sd_model_replay.specs.AccountingTheorem.{AreAccounted, AreDocumented};
 
 /// Each good sample of records is submitted to the shard of its key and to no other, and stands there in one place: the
-/// journal of one flush, the entries held, or a drop.
+/// journal of one flush, what one deletion took out, the entries held, or a drop.
 pub fn samples_are_accounted()
     ensures { (settings : Settings) (played : List Played) (i : ℕ) → AreAccounted settings played i }
 {}
@@ -17,7 +17,7 @@ pub fn samples_are_accounted()
 pub fn records_are_documented()
     ensures statistics { (settings : Settings) (played : List Played) → AreDocumented settings played }
     ensures times { (settings : Settings) (played : List Played)
-        → map (λ r. r.ts) (records settings played) ≡ map (λ f. f.ts) (flushes settings first_run played) }
+        → map (λ r. r.ts) (records settings played) ≡ map (λ f. f.ts) (flushes settings (first_run played) played) }
 {}
 
 /// A backend that tells its lists has those of the flushes behind those that it had: the whole text of each flush

@@ -1,11 +1,11 @@
 -- How a replay of the code ends, as the definitions have it.
 use Rattle.sd_model_replay.specs.Next.{BadWord, BadLength, CutShort}
-use Rattle.sd_model_replay.specs.Ends.{End, Complete, Faulted, NotBuilt, ReadFailed, WriteFailed, WornOut}
+use Rattle.sd_model_replay.specs.Ends.{End, Complete, Faulted, ReadFailed, WriteFailed, WornOut}
 use Rattle.sd_replay.specs.Totals.{totals_view}
 use Rattle.sd_replay.specs.declared.fault.ScriptFault.{ScriptFault}
 use Rattle.sd_replay.specs.declared.fault.ScriptFault.TheVariants.{Word, Length, Truncated}
 use Rattle.sd_replay.specs.declared.run.ReplayEnd.{ReplayEnd}
-use Rattle.sd_replay.specs.declared.run.ReplayEnd.TheVariants.{Ok, Script, Unbuilt, ReadFault, WriteFault, Worn}
+use Rattle.sd_replay.specs.declared.run.ReplayEnd.TheVariants.{Ok, Script, ReadFault, WriteFault, Worn}
 
 abbrev pub fault_end : ScriptFault → End
 fault_end (Word at) = Faulted at BadWord
@@ -15,7 +15,6 @@ fault_end (Truncated at) = Faulted at CutShort
 abbrev pub end_of : ReplayEnd → End
 end_of (Ok totals) = Complete (totals_view totals)
 end_of (Script fault) = fault_end fault
-end_of (Unbuilt at) = NotBuilt at
 end_of ReadFault = ReadFailed
 end_of WriteFault = WriteFailed
 end_of (Worn turns) = WornOut turns

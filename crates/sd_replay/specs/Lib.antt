@@ -4,4 +4,5 @@ pub mod Room
 pub mod RoomInside
 pub mod Seen
 pub mod Sent
+pub mod Start
 pub mod Totals

@@ -1,5 +1,5 @@
 -- A packet that was repeated and counted.
-use Rattle.std.specs.Prelude.{◌≡◌, ℕ, Bool, List, length}
+use Rattle.std.specs.Prelude.{◌≡◌, ℕ, Bool, List}
 use Rattle.sd_model_outside.specs.Outside.{Object}
 use Rattle.sd_model_outside.specs.Wires.{AreSent}
 use Rattle.sd_model_record.specs.Record.{Tally}

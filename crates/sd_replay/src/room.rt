@@ -2,27 +2,24 @@ ghost use Rattle.std.specs.Prelude.{◌≡◌, IfOk};
 
 use crate::settings::{limits_of, policy_of};
 use sd_config::Settings;
-use sd_desk::Desk;
 use sd_epoch::Table;
 use sd_record::RecordScratch;
 use sd_script::Reader;
-use sd_shard::Shard;
+use sd_shard::{Dump, Keys, Shard};
 use std::alloc::{AllocError, Global};
 use std::marker::Model;
 
 /// How many shards run.
 const SHARDS: u16 = 1;
 
-/// The Unix second that the server's own counts start at. Nothing tells it so far.
-const START: u64 = 0;
-
 /// All that a replay works on, in room taken when it was opened for its settings. Nothing was done yet.
 #[derive(Drop)]
 pub struct ReplayRoom {
     pub(crate) shard: Shard,
     pub(crate) spare: Table,
-    pub(crate) desk: Desk,
     pub(crate) scratch: RecordScratch,
+    pub(crate) keys: Keys,
+    pub(crate) dump: Dump,
     pub(crate) reader: Reader,
 }
 
@@ -54,8 +51,9 @@ impl ReplayRoom {
         Ok(ReplayRoom {
             shard: Shard::open(alloc, limits, policy_of(settings))?,
             spare: Table::open(alloc, limits)?,
-            desk: Desk::new(START),
             scratch: RecordScratch::open(alloc, limits, SHARDS)?,
+            keys: Keys::open(alloc, limits.rows)?,
+            dump: Dump::open(alloc, limits.rows)?,
             reader: Reader::open(alloc, settings.receivers() as u16)?,
         })
     }

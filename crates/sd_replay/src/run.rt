@@ -1,6 +1,7 @@
-ghost use Rattle.std.specs.Prelude.{◌≡◌, ◌≤◌, ◌<◌, ◌^◌, length, map, OnErr, IfOk};
+ghost use Rattle.std.specs.Prelude.{◌≡◌, ◌≢◌, ◌≤◌, ◌<◌, ◌^◌, length, map, OnErr, IfOk};
 ghost use Rattle.sd_model_text.specs.Lines.{samples_of};
 ghost use Rattle.sd_model_outside.specs.Outside.{HasFailedBehind, given};
+ghost use Rattle.sd_model_record.specs.Desk.{new_desk};
 ghost use Rattle.sd_model_replay.specs.Settings.{goes_by};
 ghost use Rattle.sd_model_replay.specs.Replay.{packet_tally};
 ghost use Rattle.sd_model_replay.specs.Totals.{totals_text};
@@ -10,6 +11,7 @@ ghost use Rattle.sd_replay.specs.Ends.{end_of};
 ghost use Rattle.sd_replay.specs.Filed.{filed, lost};
 ghost use Rattle.sd_replay.specs.Room.{sizing_of};
 ghost use Rattle.sd_replay.specs.Seen.{seen_of};
+ghost use Rattle.sd_replay.specs.Start.{start_in};
 ghost use Rattle.sd_replay.specs.Sent.{IsPlayed};
 ghost use Rattle.sd_replay.specs.Totals.{totals_of_one, totals_view};
 
@@ -19,6 +21,7 @@ use crate::packet::file_packet;
 use crate::room::ReplayRoom;
 use crate::settings::targets_of;
 use crate::totals::{Totals, write_totals};
+use sd_command::carry_out;
 use sd_config::{Names, Settings};
 use sd_desk::{Desk, Tally};
 use sd_epoch::Who;
@@ -37,11 +40,9 @@ pub enum ReplayEnd {
     Ok(Totals),
     /// The script isn't legal: a record has a flaw.
     Script(ScriptFault),
-    /// At this place the script has a record that isn't built.
-    Unbuilt { at: u64 },
     /// A read of the script failed.
     ReadFault,
-    /// The totals couldn't be written whole.
+    /// A reply or the totals couldn't be written whole.
     WriteFault,
     /// So many records were carried out, the most that there may be.
     Worn { turns: u64 },
@@ -115,9 +116,30 @@ fn finish<O: Sink>(shard: &Shard, desk: &Desk, output: &mut O) -> Result<Totals,
     Ok(totals)
 }
 
+/// When a script starts whose first record stands next: the moment of the record.
+fn start_at(item: Item) -> u64
+    ensures { result ≡ start_in item }
+{
+    match item {
+        Item::Packet { moment, .. } | Item::Admin { moment } => moment,
+        Item::Flush { ts } => ts,
+        Item::End | Item::Fault(_) => 0,
+    }
+}
+
+/// Begins the desk anew where the first record stands next, which tells when the script starts.
+fn begin(desk: &mut Desk, turn: u64, item: Item)
+    ensures first { turn ≡ 0 → desk.new ≡ new_desk (start_in item) }
+    ensures later { turn ≢ 0 → desk.new ≡ desk.old }
+{
+    if turn == 0 {
+        *desk = Desk::new(start_at(item));
+    }
+}
+
 /// Carries out a script, record by record, by settings that the room was opened for. Each packet is sent on the first wires,
 /// one for each target of the repeater, where it is named; the backends that are used get each flush's record; and the output
-/// gets the totals at the end.
+/// gets the reply to each admin line, and the totals at the end.
 pub fn replay<R: Source, O: Sink, B: Backend, L: Wire>(
     settings: &Settings,
     room: ReplayRoom,
@@ -139,20 +161,23 @@ pub fn replay<R: Source, O: Sink, B: Backend, L: Wire>(
     let ReplayRoom {
         mut shard,
         mut spare,
-        mut desk,
         mut scratch,
+        mut keys,
+        mut dump,
         mut reader,
     } = room;
+    let mut desk = Desk::new(0);
     let names = Names::of(settings);
     let targets = targets_of(settings).len();
-    for _turn in 0..MOST_TURNS {
+    for turn in 0..MOST_TURNS {
         let Ok(item) = reader.next(script) else {
             return ReplayEnd::ReadFault;
         };
+        begin(&mut desk, turn, item);
         match item {
             Item::Packet { who, moment } => {
                 let used = &mut wires[..targets];
-                play_packet(&mut shard, &mut desk, used, who, moment, reader.datagram());
+                play_packet(&mut shard, &mut desk, used, who, moment, reader.body());
             }
             Item::Flush { ts } => {
                 let flushed = flush(
@@ -167,6 +192,21 @@ pub fn replay<R: Source, O: Sink, B: Backend, L: Wire>(
                 );
                 spare = flushed.spare;
             }
+            Item::Admin { moment } => {
+                let told = carry_out(
+                    &mut shard,
+                    &mut desk,
+                    &mut keys,
+                    &mut dump,
+                    settings,
+                    moment,
+                    reader.body(),
+                    output,
+                );
+                if told.is_err() {
+                    return ReplayEnd::WriteFault;
+                }
+            }
             Item::End => {
                 return match finish(&shard, &desk, output) {
                     Ok(totals) => ReplayEnd::Ok(totals),
@@ -174,7 +214,6 @@ pub fn replay<R: Source, O: Sink, B: Backend, L: Wire>(
                 };
             }
             Item::Fault(flaw) => return ReplayEnd::Script(fault_at(flaw, reader.at())),
-            Item::Unbuilt => return ReplayEnd::Unbuilt { at: reader.at() },
         }
     }
     ReplayEnd::Worn { turns: MOST_TURNS }

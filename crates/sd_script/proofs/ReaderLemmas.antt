@@ -1,51 +1,82 @@
 -- What stands at the front of the bytes ahead is read.
-use Rattle.std.proofs.Common.{◌≡◌, ℕ, ◌+◌, false, List, [], ◌∷◌, ◌++◌, length, take, drop, sym, ap, subst, refl, ◌∙◌, arith, length-append}
-use Rattle.std.specs.Prelude.{min}
-use Rattle.std.proofs.lemmas.List.{length-take-le}
-use Rattle.sd_model_outside.specs.Outside.{Told, Reads, last_count, put_back}
-use Rattle.sd_model_outside.proofs.OutsideLemmas.{put_back-append, Reads-nil}
-use Rattle.sd_model_replay.specs.Heads.{PacketHead, Body, head_line}
-use Rattle.sd_model_replay.specs.Script.{Packet as PacketRecord, spelled}
-use Rattle.sd_model_replay.specs.Next.{Next, Carried, Unbuilt, StandsNext}
-use Rattle.sd_model_replay.proofs.NextLemmas.{packet_stands, admin_stands}
-use Rattle.sd_script.specs.Found.{BeginsWith}
+use Rattle.std.proofs.Common.{◌≡◌, ℕ, ◌+◌, List, ◌∷◌, ◌++◌, Option, None, Some, length, drop, sym, ap, subst, refl, ◌∙◌, arith, length-append, length-drop}
+use Rattle.std.specs.Prelude.{min, option_map, IfSome}
+use Rattle.std.specs.Option.{option_map_or}
+use Rattle.sd_model_outside.specs.Outside.{Told, last_count, put_back}
+use Rattle.sd_model_outside.proofs.OutsideLemmas.{put_back-append}
+use Rattle.sd_model_replay.specs.Heads as model
+use Rattle.sd_model_replay.specs.Heads.{PacketHead, FlushHead, AdminHead, EndHead, Body, head_line, body_of, IsForm}
+use Rattle.sd_model_replay.specs.Next.{Next, StandsNext, next_text, IsWhole}
+use Rattle.sd_model_replay.proofs.NextLemmas.{whole_next, StandsInFront, body_stands, line_stands}
+use Rattle.sd_script.specs.Found.{BeginsWith, size_of}
+use Rattle.sd_script.specs.Head.{head_of, item_of}
+use Rattle.sd_script.specs.Reader.{lent_of, pending_of}
 use Rattle.sd_script.specs.Reading.{Reading, left}
-use Rattle.sd_script.specs.Reads.{at_behind}
-use Rattle.sd_script.specs.declared.head.Head.TheVariants.{Packet, Admin}
+use Rattle.sd_script.specs.Reads.{next_of, Lends, at_behind, ReadsItem}
+use Rattle.sd_script.specs.declared.head.Head.{Head}
+use Rattle.sd_script.specs.declared.head.Head.TheVariants.{Packet, Flush, Admin, End}
+use Rattle.sd_script.specs.declared.record.Found.{Found}
 
--- a text that stood at the front of what is held was read: what is left
-read_off : (text held pending : List ℕ) (old : Reading) (had has : Told) → put_back held has ≡ left old had → held ≡ text ++ pending → Reads (left old had) text (put_back pending has)
-read_off text held pending old had has same front = sym same ∙ ap (λ xs. put_back xs has) front ∙ sym (put_back-append text pending has)
+-- how many bytes the body has that a first line announces, if it does
+abbrev pub len_of : Option Body → Option ℕ
+len_of announced = option_map (λ b. b.len) announced
 
-module _ (receivers line : ℕ) (held : List ℕ) (old : Reading) (had has : Told) (same : put_back held has ≡ left old had) where
-  -- this was read, and a reader with so many bytes read and these ahead is left
-  pub record IsRead (next : Next) (at : ℕ) (pending : List ℕ) : Type 0 where
-    pub stands : StandsNext receivers next (left old had) pending has
-    pub counts : at ≡ at_behind next old.at
+-- what stands next is counted by its text
+counted : (head : model.Head) (bytes : List ℕ) (at : ℕ) → at_behind (whole_next head bytes) at ≡ min (at + length (next_text (whole_next head bytes))) last_count
+counted (PacketHead who moment len) bytes at = refl
+counted (FlushHead ts) bytes at = refl
+counted (AdminHead moment len) bytes at = refl
+counted EndHead bytes at = refl
 
-  pub reads_packet : (who moment len at : ℕ) (datagram pending : List ℕ) → BeginsWith receivers (record { head = Packet who moment len; line = line }) held
-      → datagram ≡ take len (drop line held) → pending ≡ drop (len + 1) (drop line held) → at ≡ min (min (old.at + line) last_count + (len + 1)) last_count → IsRead (Carried (PacketRecord who moment datagram)) at pending
-  reads_packet who moment len at datagram pending begins lent behind counts =
-      let rest = drop line held in
-      let d = take len rest in
-      let body : Body = record { len = len; most = 65507; is_line = false } in
-      let long : length d ≡ len = length-take-le len rest (omega (arith, begins.body.1)) in
-      let text = spelled (PacketRecord who moment d) in
-      let stands = packet_stands receivers who moment len held rest begins.front.form begins.front.whole begins.body in
-      let exact : head_line (PacketHead who moment (length d)) ≡ head_line (PacketHead who moment len) = ap (λ k. head_line (PacketHead who moment k)) long in
-      let size : length text ≡ line + (len + 1) =
-      omega (arith, length-append (head_line (PacketHead who moment (length d)) ++ 10 ∷ d) (10 ∷ []), length-append (head_line (PacketHead who moment (length d))) (10 ∷ d), ap length exact, begins.front.size, long) in
-      let read : IsRead (Carried (PacketRecord who moment d)) at pending =
-      record {
-        stands = record { begins = (stands.0, (pending, refl)); reads = read_off text held pending old had has same (stands.1 ∙ ap (λ xs. text ++ xs) (sym behind)) };
-        counts = omega (arith, counts, size);
-      } in
-      subst (λ xs. IsRead (Carried (PacketRecord who moment xs)) at pending) (sym lent) read
+-- what is answered says what stands next
+said : (head : Head) (bytes : List ℕ) → next_of (item_of head) bytes ≡ whole_next (head_of head) bytes
+said (Packet who moment len) bytes = refl
+said (Flush ts) bytes = refl
+said (Admin moment len) bytes = refl
+said End bytes = refl
 
-  -- nothing was read of what is held
-  nothing_read : Reads (left old had) [] (put_back held has)
-  nothing_read = sym same ∙ Reads-nil (put_back held has)
+-- a body is lent where the first line announces one
+lent : (head : Head) (rest : List ℕ) → Lends (item_of head) (lent_of (len_of (body_of (head_of head))) rest)
+lent (Packet who moment len) rest = tt
+lent (Flush ts) rest = refl
+lent (Admin moment len) rest = tt
+lent End rest = refl
 
-  pub finds_unbuilt : (moment len at : ℕ) (pending : List ℕ) → BeginsWith receivers (record { head = Admin moment len; line = line }) held → pending ≡ held → at ≡ old.at → IsRead Unbuilt at pending
-  finds_unbuilt moment len at pending begins all counts =
-      subst (λ xs. IsRead Unbuilt at xs) (sym all) (record { stands = record { begins = admin_stands receivers moment len held (drop line held) begins.front.form begins.front.whole begins.body; reads = nothing_read }; counts = counts })
+module _ (receivers : ℕ) (head : model.Head) (held rest : List ℕ) (form : IsForm receivers head) (whole : held ≡ head_line head ++ 10 ∷ rest) where
+  -- a first line, and its body behind it if it announces one
+  in_front : (announced : Option Body) → body_of head ≡ announced → IfSome announced (λ b. IsWhole b rest) → StandsInFront receivers (whole_next head (lent_of (len_of announced) rest)) held (pending_of (len_of announced) rest)
+  in_front None none so = line_stands receivers head held rest none form whole
+  in_front (Some body) some so = body_stands receivers head body held rest some form whole so
+
+  length-next_text : (announced : Option Body) → body_of head ≡ announced → IfSome announced (λ b. IsWhole b rest)
+      → length (next_text (whole_next head (lent_of (len_of announced) rest))) ≡ length (head_line head) + 1 + option_map_or (λ b. b.len + 1) announced 0
+  length-next_text None none so =
+      let text = next_text (whole_next head (lent_of None rest)) in
+      omega (arith, ap length (in_front None none so).whole, ap length whole, length-append text rest, length-append (head_line head) (10 ∷ rest))
+  length-next_text (Some body) some so =
+      let text = next_text (whole_next head (lent_of (Some body.len) rest)) in
+      let behind = drop (body.len + 1) rest in
+      omega (arith, so.1, ap length (in_front (Some body) some so).whole, ap length whole, length-append text behind, length-append (head_line head) (10 ∷ rest), length-drop (body.len + 1) rest)
+
+-- A record that stands at the front of what is held was read: its first line is let go, and its body is lent, if it has
+-- one.
+pub reads_record : (found : Found) (held : List ℕ) (old new : Reading) (had has : Told) (len : Option ℕ) → BeginsWith old.receivers found held → put_back held has ≡ left old had → len ≡ len_of (body_of (head_of found.head))
+    → new.body ≡ lent_of len (drop found.line held) → new.pending ≡ pending_of len (drop found.line held) → new.at ≡ min (old.at + size_of found) last_count → new.receivers ≡ old.receivers → ReadsItem (item_of found.head) old had new has
+reads_record found held old new had has len begins same is lends behind counts receivers =
+    let head = head_of found.head in
+    let rest = drop found.line held in
+    let text = lent_of (len_of (body_of head)) rest in
+    let next = whole_next head text in
+    let front = in_front old.receivers head held rest begins.front.form begins.front.whole (body_of head) refl begins.body in
+    let size = length-next_text old.receivers head held rest begins.front.form begins.front.whole (body_of head) refl begins.body in
+    let body : new.body ≡ text = rw is at lends in
+    let pending : new.pending ≡ pending_of (len_of (body_of head)) rest = rw is at behind in
+    let says : next_of (item_of found.head) new.body ≡ next = ap (next_of (item_of found.head)) body ∙ said found.head text in
+    let whole : held ≡ next_text next ++ new.pending = front.whole ∙ ap (λ xs. next_text next ++ xs) (sym pending) in
+    let reads = sym same ∙ ap (λ xs. put_back xs has) whole ∙ sym (put_back-append (next_text next) new.pending has) in
+    record {
+      stands = subst (λ (n : Next). StandsNext old.receivers n (left old had) new.pending has) (sym says) (record { begins = front.begins new.pending has; reads = reads });
+      at = omega (arith, counts, size, begins.front.size, counted head text old.at, ap (λ n. at_behind n old.at) says);
+      lends = subst (Lends (item_of found.head)) (sym body) (lent found.head rest);
+      receivers = receivers;
+    }

@@ -1,5 +1,6 @@
 -- What stands at the front of bytes.
 use Rattle.std.specs.Prelude.{◌≡◌, ℕ, ◌+◌, List, ◌∷◌, ◌++◌, length, drop, Result, Ok, Err, IfSome}
+use Rattle.std.specs.Option.{option_map_or}
 use Rattle.sd_model_outside.specs.Outside.{Told}
 use Rattle.sd_model_replay.specs.Heads.{head_line, body_of, IsForm}
 use Rattle.sd_model_replay.specs.Next.{HasFlaw, IsWhole}
@@ -24,3 +25,7 @@ pub record BeginsWith (receivers : ℕ) (found : Found) (bytes : List ℕ) : Typ
 abbrev pub IsFront : ℕ → List ℕ → Told → Result Found Flaw → Type 0
 IsFront receivers bytes left (Ok found) = BeginsWith receivers found bytes
 IsFront receivers bytes left (Err flaw) = HasFlaw receivers (flaw_of flaw) bytes left
+
+-- how many bytes a record has: its first line, and its body and the newline behind it, if it has one
+abbrev pub size_of : Found → ℕ
+size_of found = found.line + option_map_or (λ b. b.len + 1) (body_of (head_of found.head)) 0

@@ -5,6 +5,8 @@ use Rattle.sd_model_replay.specs.Heads.{PacketHead, FlushHead, AdminHead, EndHea
 use Rattle.sd_script.specs.declared.head.Body.{Body}
 use Rattle.sd_script.specs.declared.head.Head.{Head}
 use Rattle.sd_script.specs.declared.head.Head.TheVariants.{Packet, Flush, Admin, End}
+use Rattle.sd_script.specs.declared.reader.Item.{Item}
+use Rattle.sd_script.specs.declared.reader.Item.TheVariants.{Packet as PacketItem, Flush as FlushItem, Admin as AdminItem, End as EndItem}
 
 abbrev pub head_of : Head → model.Head
 head_of (Packet who moment len) = PacketHead who moment len
@@ -18,3 +20,10 @@ body_view b = record { len = b.len; most = b.most; is_line = b.is_line }
 -- the line is that of a form
 abbrev pub IsLineOf : ℕ → List ℕ → Head → Type 0
 IsLineOf receivers line head = (line ≡ head_line (head_of head)) × IsForm receivers (head_of head)
+
+-- what is answered where the record of this first line was read
+abbrev pub item_of : Head → Item
+item_of (Packet who moment len) = PacketItem who moment
+item_of (Flush ts) = FlushItem ts
+item_of (Admin moment len) = AdminItem moment
+item_of End = EndItem

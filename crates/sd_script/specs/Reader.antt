@@ -5,20 +5,20 @@ use Rattle.sd_script.specs.Ahead.{held_in}
 use Rattle.sd_script.specs.Reading.{Reading}
 use Rattle.sd_script.specs.declared.reader.Reader.TheInside.{Inside}
 
--- the datagram that was read last, where there is one: it stands at the front of the bytes ahead
-abbrev pub datagram_of : Option ℕ → List ℕ → List ℕ
-datagram_of None held = []
-datagram_of (Some len) held = take len held
+-- the body that was read last, where there is one: it stands at the front of the bytes ahead
+abbrev pub lent_of : Option ℕ → List ℕ → List ℕ
+lent_of None held = []
+lent_of (Some len) held = take len held
 
--- what stands behind that datagram and its newline
+-- what stands behind that body and its newline
 abbrev pub pending_of : Option ℕ → List ℕ → List ℕ
 pending_of None held = held
 pending_of (Some len) held = drop (len + 1) held
 
 -- what contracts see of the reader
 abbrev pub reading_of : Inside → Reading
-reading_of r = record { receivers = r.receivers; at = r.at; datagram = datagram_of r.packet (held_in r.ahead); pending = pending_of r.packet (held_in r.ahead) }
+reading_of r = record { receivers = r.receivers; at = r.at; body = lent_of r.body (held_in r.ahead); pending = pending_of r.body (held_in r.ahead) }
 
--- the datagram and its newline are held
+-- the body and its newline are held
 abbrev pub IsReader : Inside → Type 0
-IsReader r = ForSome r.packet (λ len. len < length (held_in r.ahead))
+IsReader r = ForSome r.body (λ len. len < length (held_in r.ahead))

@@ -8,7 +8,7 @@ use Rattle.sd_model_settings.specs.Defaults.{default_settings}
 use Rattle.sd_model_replay.specs.Settings.{Settings, goes_by}
 use Rattle.sd_model_replay.specs.Repeater.{wire_at}
 use Rattle.sd_model_replay.specs.AccountingTheorem.{Seen, Course, AccountingTheorem, seen_at}
-use Rattle.sd_model_replay.specs.Ends.{End, Complete, Faulted, NotBuilt, ReadFailed, WriteFailed, WornOut, Replayed}
+use Rattle.sd_model_replay.specs.Ends.{End, Complete, Faulted, ReadFailed, WriteFailed, WornOut, Replayed}
 use Rattle.sd_model_replay.proofs.AccountingLemmas.{are_accounted, are_documented}
 use Rattle.sd_model_call.specs.Words.{Form, Replay, form}
 use Rattle.sd_model_call.specs.Opening.{Part, OfSettings, OfScript, OfWire, OfGraphite, OfConsole, World, Opening, IsAccepted, IsOpened, IsUntouched, OnlySettings, UnusedStay, flags_of, openings, part_in, started}
@@ -29,7 +29,7 @@ nothing_done : (now : Seen) → AccountingTheorem plain nothing now now
 nothing_done now =
     record {
       read = Reads-nil now.script.told;
-      built = tt;
+      legal = tt;
       places = λ i below. are_accounted plain [] i;
       statistics = are_documented plain [];
       used = tt;
@@ -214,7 +214,6 @@ module _ (words : List (List ℕ)) (old new : World) (settings script : List ℕ
           by_end : (e : End) → Ran e (goes_by values) settings script h.course (started (goes_by values) script old.seen) old new → AnswersReplay settings script (goes_by values) (ending e) h.course (started (goes_by values) script old.seen) old new
           by_end (Complete totals) r = subst (λ t. Ran (Complete t) (goes_by values) settings script h.course (started (goes_by values) script old.seen) old new) r.ends.read.2 r
           by_end (Faulted at flaw) r = r
-          by_end (NotBuilt at) r = r
           by_end ReadFailed r = r
           by_end WriteFailed r = r
           by_end (WornOut turns) r = r

@@ -4,7 +4,7 @@ use Rattle.sd_model_call.specs.Call as model
 use Rattle.sd_top.specs.declared.status.Part.{Part}
 use Rattle.sd_top.specs.declared.status.Part.TheVariants.{Settings, Script, Wire, Graphite, Console}
 use Rattle.sd_top.specs.declared.status.Status.{Status}
-use Rattle.sd_top.specs.declared.status.Status.TheVariants.{Ok, OutOfMemory, Usage, Config, ReadFault, WriteFault, OpenFault, Worn, Unbuilt}
+use Rattle.sd_top.specs.declared.status.Status.TheVariants.{Ok, OutOfMemory, Usage, Config, ReadFault, WriteFault, OpenFault, Worn}
 use Rattle.sd_top.specs.declared.status.Status.TheVariants as status
 use Rattle.sd_config.specs.declared.fault.ConfigFault.{ConfigFault}
 use Rattle.sd_config.specs.declared.fault.ConfigFault.TheVariants as config
@@ -42,4 +42,3 @@ answer_of (ReadFault part) = model.NotRead (part_of part)
 answer_of WriteFault = model.NotWritten
 answer_of (OpenFault part) = model.NotOpened (part_of part)
 answer_of (Worn turns) = model.Worn turns
-answer_of (Unbuilt at) = model.Unbuilt at

@@ -3,7 +3,7 @@ use Rattle.std.specs.Prelude.{ℕ, List, [], ◌∷◌, ◌++◌, codes, decimal
 use Rattle.sd_top.specs.declared.status.Part.{Part}
 use Rattle.sd_top.specs.declared.status.Part.TheVariants.{Settings, Script, Wire, Graphite, Console}
 use Rattle.sd_top.specs.declared.status.Status.{Status}
-use Rattle.sd_top.specs.declared.status.Status.TheVariants.{Ok, OutOfMemory, Usage, Config, ReadFault, WriteFault, OpenFault, Worn, Unbuilt}
+use Rattle.sd_top.specs.declared.status.Status.TheVariants.{Ok, OutOfMemory, Usage, Config, ReadFault, WriteFault, OpenFault, Worn}
 use Rattle.sd_top.specs.declared.status.Status.TheVariants as status
 use Rattle.sd_config.specs.declared.fault.ConfigFault.{ConfigFault}
 use Rattle.sd_config.specs.declared.fault.ConfigFault.TheVariants as config
@@ -47,7 +47,6 @@ reason (ReadFault part) = codes "statsd: read fault " ++ part_name part
 reason WriteFault = codes "statsd: write fault"
 reason (OpenFault part) = codes "statsd: open fault " ++ part_name part
 reason (Worn turns) = codes "statsd: worn after " ++ decimal turns ++ codes " turns"
-reason (Unbuilt at) = codes "statsd: not built at " ++ decimal at
 
 -- what a status says: nothing for `Ok`, and else why the run ended, and a newline
 abbrev pub explanation : Status → List ℕ
@@ -60,7 +59,6 @@ explanation (ReadFault part) = reason (ReadFault part) ++ 10 ∷ []
 explanation WriteFault = reason WriteFault ++ 10 ∷ []
 explanation (OpenFault part) = reason (OpenFault part) ++ 10 ∷ []
 explanation (Worn turns) = reason (Worn turns) ++ 10 ∷ []
-explanation (Unbuilt at) = reason (Unbuilt at) ++ 10 ∷ []
 
 -- the number that the program exits with
 abbrev pub exit_code : Status → ℕ
@@ -77,4 +75,3 @@ exit_code (ReadFault part) = 5
 exit_code WriteFault = 6
 exit_code (OpenFault part) = 7
 exit_code (Worn turns) = 8
-exit_code (Unbuilt at) = 9

@@ -34,7 +34,6 @@ fn status_of(end: ReplayEnd) -> Status
     match end {
         ReplayEnd::Ok(_) => Status::Ok,
         ReplayEnd::Script(fault) => Status::Script(fault),
-        ReplayEnd::Unbuilt { at } => Status::Unbuilt { at },
         ReplayEnd::ReadFault => Status::ReadFault { part: Part::Script },
         ReplayEnd::WriteFault => Status::WriteFault,
         ReplayEnd::Worn { turns } => Status::Worn { turns },
@@ -81,8 +80,8 @@ fn carry_out<R: Source, O: Sink, B: Backend, L: Wire>(
 ///
 /// `replay SETTINGS SCRIPT` reads the settings file and carries out the script: each packet is sent on as it came to the targets
 /// of the repeater, where the settings name it, and its samples are filed; each flush gives the backends that they name the
-/// record's text. The output gets the totals at the script's end. Once the settings are accepted, the flags of `backs` say
-/// which backends they name.
+/// record's text; and the output gets the reply to each admin command. It gets the totals at the script's end. Once the
+/// settings are accepted, the flags of `backs` say which backends they name.
 pub fn statsd<R: Source, O: Sink, B: Backend, L: Wire>(
     alloc: Global,
     words: &[String],

@@ -44,8 +44,6 @@ pub enum Status {
     OpenFault { part: Part },
     /// A loop has made as many turns as it may, 2^62.
     Worn { turns: u64 },
-    /// The script's record at this place isn't built.
-    Unbuilt { at: u64 },
 }
 
 impl Status {
@@ -63,7 +61,6 @@ impl Status {
             Status::WriteFault => 6,
             Status::OpenFault { .. } => 7,
             Status::Worn { .. } => 8,
-            Status::Unbuilt { .. } => 9,
         }
     }
 }
@@ -171,7 +168,6 @@ fn push_reason(status: &Status, out: &mut Line)
             push_counted(b"statsd: worn after ", *turns, out);
             push_text(b" turns", out);
         }
-        Status::Unbuilt { at } => push_counted(b"statsd: not built at ", *at, out),
     }
 }
 

@@ -1,4 +1,4 @@
-use Rattle.sd_model_replay.specs.Next.{Faulty, Unbuilt}
+use Rattle.sd_model_replay.specs.Next.{Faulty}
 use Rattle.sd_model_call.proofs.ReplayEnds.{replay_completes, replay_stops, replay_wears_out}
 use Rattle.sd_model_call.proofs.completeness.unhindered_replays_complete.Goals as goal
 
@@ -7,9 +7,6 @@ returns-clause-complete c settings old new commands rest end free h = replay_com
 
 pub returns-clause-cut_off : goal.returns-clause-cut_off
 returns-clause-cut_off c settings old new commands flaw bytes end cut h = replay_stops settings old new commands (Faulty flaw) bytes end tt cut h
-
-pub returns-clause-unbuilt : goal.returns-clause-unbuilt
-returns-clause-unbuilt c settings old new commands bytes end cut h = replay_stops settings old new commands Unbuilt bytes end tt cut h
 
 pub returns-clause-longest : goal.returns-clause-longest
 returns-clause-longest c settings old new commands bytes end longest h = replay_wears_out settings old new commands bytes end longest h

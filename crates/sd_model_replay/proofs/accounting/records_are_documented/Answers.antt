@@ -8,4 +8,4 @@ pub returns-clause-statistics : goal.returns-clause-statistics
 returns-clause-statistics c settings played = are_documented settings played
 
 pub returns-clause-times : goal.returns-clause-times
-returns-clause-times c settings played = map-map (λ (r : Record). r.ts) (record_at settings) (flushes settings first_run played)
+returns-clause-times c settings played = map-map (λ (r : Record). r.ts) (record_at settings) (flushes settings (first_run played) played)

@@ -5,12 +5,12 @@ pub returns-clause-record : goal.returns-clause-record
 returns-clause-record c receivers d e r s a b same = one_record receivers d e r s a b same
 
 pub returns-clause-front : goal.returns-clause-front
-returns-clause-front c receivers commands front rest left built other same =
-    let h = ended_script receivers commands front rest left built other same in (h.behind, h.whole, h.stands)
+returns-clause-front c receivers commands front rest left legal other same =
+    let h = ended_script receivers commands front rest left legal other same in (h.behind, h.whole, h.stands)
 
 pub returns-clause-cut : goal.returns-clause-cut
-returns-clause-cut c receivers commands front bytes left none built other same =
-    let h = cut_script receivers commands front bytes left none built other same in (h.behind, h.whole, h.stands)
+returns-clause-cut c receivers commands front bytes left none legal other same =
+    let h = cut_script receivers commands front bytes left none legal other same in (h.behind, h.whole, h.stands)
 
 pub returns-clause-whole : goal.returns-clause-whole
-returns-clause-whole c receivers commands others rest left built other same = same_script receivers commands others rest left built other same
+returns-clause-whole c receivers commands others rest left legal other same = same_script receivers commands others rest left legal other same

@@ -10,7 +10,6 @@ use Rattle.sd_model_shard.specs.Shard as model
 use Rattle.sd_model_shard.specs.Shard.{Reply, Swapped, table_of}
 use Rattle.sd_config.specs.Plan.{plan_view}
 use Rattle.sd_epoch.specs.Table as epoch
-use Rattle.sd_record.specs.Record.{record_view}
 use Rattle.sd_desk.specs.Tally.{tally_of}
 use Rattle.sd_shard.specs.Shard.{state_of}
 use Rattle.sd_desk.specs.Marks.{mark_of}

@@ -1,0 +1,47 @@
+use Rattle.std.proofs.Common.{◌≡◌, List, sym, ap, subst, ◌∙◌, append-nil, flat_map, arith, Ok}
+use Rattle.sd_model_record.specs.Admin.{words, command}
+use Rattle.sd_model_record.specs.Admin as model
+use Rattle.sd_model_record.specs.Replies.{Reply, Stats, reply_text}
+use Rattle.sd_model_record.specs.Desk.{facts_of}
+use Rattle.sd_model_record.proofs.CommandLemmas.{names_read-at}
+use Rattle.sd_model_replay.specs.Settings.{goes_by}
+use Rattle.sd_model_replay.specs.Output.{replies_to_line}
+use Rattle.sd_model_replay.specs.Script.{Admin}
+use Rattle.sd_key.specs.Kind.{kind_of}
+use Rattle.sd_shard.specs.Shard.{state_of}
+use Rattle.sd_desk.specs.Facts.{facts_view}
+use Rattle.sd_admin.specs.Command.{answer_view}
+use Rattle.sd_command.specs.Commanded.{IsWritten, run_with}
+use Rattle.sd_command.proofs.CommandLemmas.{as_written, deletion_replied, few_names}
+use Rattle.sd_command.proofs.command.carry_out.Goals as goal
+
+pub delete-requires-clause-names : goal.delete-requires-clause-names
+delete-requires-clause-names g c i = names_read-at c.args.line.now (kind_of c.in-Delete.kind) (words c.in-Delete.names.now) i (sym c.read.ensures ∙ ap answer_view (c.in-Ok.is ∙ ap Ok c.in-Delete.is))
+
+pub delete-requires-clause-few : goal.delete-requires-clause-few
+delete-requires-clause-few g c = omega (arith, few_names c.args.line.now (kind_of c.in-Delete.kind) (words c.in-Delete.names.now) (sym c.read.ensures ∙ ap answer_view (c.in-Ok.is ∙ ap Ok c.in-Delete.is)))
+
+pub returns-in-Stats-clause-written : goal.returns-in-Stats-clause-written
+returns-in-Stats-clause-written g c =
+    let settings = goes_by c.args.settings.now in
+    let run = run_with (state_of c.args.shard.now) c.args.desk.now in
+    let now = c.args.now in
+    let line = c.args.line.now in
+    let result = c.write_reply-in-Stats.result in
+    let old = g.O.Faulty.seen c.args.output.now in
+    let new = g.O.Faulty.seen c.write_reply-in-Stats.new.sink in
+    let read : command line ≡ Ok model.Stats = sym c.read.ensures ∙ ap answer_view (c.in-Ok.is ∙ ap Ok c.in-Stats.is) in
+    let written = as_written (reply_text (Stats (facts_view c.facts-facts.result) now)) result old new c.write_reply-in-Stats.ensures.ok c.write_reply-in-Stats.ensures.failed in
+    subst (λ text. IsWritten text result old new) (
+    ap (λ facts. reply_text (Stats facts now)) c.facts-facts.ensures.facts
+    ∙ sym (append-nil (reply_text (Stats (facts_of c.args.desk.now) now)))
+    ∙ ap (λ answer. flat_map reply_text (replies_to_line settings run (Admin now line) now answer)) (sym read)) written
+
+pub returns-in-Delete-clause-written : goal.returns-in-Delete-clause-written
+returns-in-Delete-clause-written g c =
+    let run = run_with (state_of c.args.shard.now) c.args.desk.now in
+    let names = words c.in-Delete.names.now in
+    let kind = kind_of c.in-Delete.kind in
+    let read : command c.args.line.now ≡ Ok (model.Delete kind names) = sym c.read.ensures ∙ ap answer_view (c.in-Ok.is ∙ ap Ok c.in-Delete.is) in
+    subst (λ (replies : List Reply). IsWritten (flat_map reply_text replies) c.delete.result (g.O.Faulty.seen c.args.output.now) (g.O.Faulty.seen c.delete.new.output))
+    (sym (deletion_replied (goes_by c.args.settings.now) run c.args.now c.args.line.now kind names read)) c.delete.ensures.written

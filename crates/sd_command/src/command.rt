@@ -1,0 +1,175 @@
+ghost use Rattle.std.specs.Prelude.{◌≡◌, ◌≢◌, ◌≤◌, ◌<◌, ◌^◌, ℕ, List, [], ◌∷◌, ◌++◌, flat_map, length, slice_get};
+ghost use Rattle.std.specs.List.Sorted.{IsSorted};
+ghost use Rattle.std.specs.Ordering.{nat_cmp};
+ghost use Rattle.std.specs.Cmp.Lexicographic.{slice_cmp};
+ghost use Rattle.sd_model_text.specs.Names.{Set};
+ghost use Rattle.sd_model_outside.specs.Outside.{Object};
+ghost use Rattle.sd_model_record.specs.Admin.{command, name_at, names_of};
+ghost use Rattle.sd_model_record.specs.Replies.{Finish, IsInOrder, reply_text};
+ghost use Rattle.sd_model_shard.specs.Shard.{after_delete, deletion_of};
+ghost use Rattle.sd_model_replay.specs.Settings.{goes_by};
+ghost use Rattle.sd_model_replay.specs.Script.{Admin};
+ghost use Rattle.sd_model_replay.specs.Replay.{desk_after_line, health_after};
+ghost use Rattle.sd_model_replay.specs.Output.{keys_told, output_in};
+ghost use Rattle.sd_key.specs.Kind.{kind_of};
+ghost use Rattle.sd_shard.specs.Shard.{state_of};
+ghost use Rattle.sd_admin.specs.Command.{command_view, health_word_view};
+ghost use Rattle.sd_admin.specs.Reply.{reply_view};
+ghost use Rattle.sd_command.specs.Commanded.{IsWritten, commanded, deleted, replied, run_with, shown};
+
+use sd_admin::{Command, HealthWord, Reply, write_reply};
+use sd_config::Settings;
+use sd_desk::Desk;
+use sd_key::{Kind, Pattern};
+use sd_outside::{Sink, WriteFault};
+use sd_shard::{Dump, Keys, Shard};
+
+/// Writes a reply, where what was written so far was written whole.
+///
+/// # Errors
+///
+/// `WriteFault` where the output failed, now or before. Then a front of the text was written.
+fn tell<O: Sink>(
+    so_far: Result<(), WriteFault>,
+    reply: &Reply<'_>,
+    output: &mut O,
+) -> Result<(), WriteFault>
+    requires { IsInOrder (reply_view reply.now) }
+    ensures { (text : List ℕ) (old : Object) → IsWritten text so_far old (O.seen output.old)
+        → IsWritten (text ++ reply_text (reply_view reply.now)) result old (O.seen output.new) }
+{
+    so_far?;
+    write_reply(reply, output)
+}
+
+/// Replies with the rows of a kind.
+fn show<O: Sink>(
+    shard: &Shard,
+    kind: Kind,
+    dump: &mut Dump,
+    output: &mut O,
+) -> Result<(), WriteFault>
+    requires kind { kind_of kind ≢ Set }
+    requires room { (shard.now).table.limits.rows ≤ dump.old.room }
+    ensures written { IsWritten (reply_text (shown 1 (kind_of kind) (λ i. state_of shard.now))) result (O.seen output.old) (O.seen output.new) }
+    ensures room { dump.new.room ≡ dump.old.room }
+{
+    dump.clear();
+    // It has no more rows than its limits say, for which there is room.
+    let _ = shard.rows();
+    shard.dump(kind, dump);
+    dump.sort();
+    write_reply(&Reply::Rows { kind, dump }, output)
+}
+
+/// Deletes the rows of a kind that a name matches, and leaves their keys.
+fn delete_name(shard: &mut Shard, kind: Kind, name: &Pattern, keys: &mut Keys)
+    requires room { shard.old.table.limits.rows ≤ keys.old.room }
+    ensures state { state_of shard.new ≡ after_delete (kind_of kind) name.now (state_of shard.old) }
+    ensures limits { shard.new.table.limits ≡ shard.old.table.limits }
+    ensures policy { shard.new.policy ≡ shard.old.policy }
+    ensures keys { keys.new.keys ≡ keys_told (deletion_of (kind_of kind) name.now (state_of shard.old) ∷ []) }
+    ensures sorted { IsSorted (slice_cmp nat_cmp) keys.new.keys }
+    ensures room { keys.new.room ≡ keys.old.room }
+{
+    keys.clear();
+    // It has no more rows than its limits say, for which there is room.
+    let _ = shard.rows();
+    let _ = shard.delete(kind, name, keys);
+    keys.sort();
+}
+
+/// Deletes the rows of a kind that the names of a command match, name by name, and replies with the keys. Where the output
+/// fails nothing more is written, and the names behind are carried out all the same.
+fn delete<O: Sink>(
+    shard: &mut Shard,
+    kind: Kind,
+    names: &Command<'_>,
+    keys: &mut Keys,
+    output: &mut O,
+) -> Result<(), WriteFault>
+    requires names { (i : ℕ) → name_at (command_view names.now) i ≡ slice_get (names_of (command_view names.now)) i }
+    requires few { length (names_of (command_view names.now)) < 2 ^ 64 }
+    requires room { shard.old.table.limits.rows ≤ keys.old.room }
+    ensures state { state_of shard.new ≡ deleted (kind_of kind) (λ i. state_of shard.old) (names_of (command_view names.now)) 0 }
+    ensures limits { shard.new.table.limits ≡ shard.old.table.limits }
+    ensures policy { shard.new.policy ≡ shard.old.policy }
+    ensures room { keys.new.room ≡ keys.old.room }
+    ensures written { IsWritten
+        (flat_map reply_text (replied 1 (kind_of kind) (λ i. state_of shard.old) (names_of (command_view names.now)) ++ Finish ∷ []))
+        result (O.seen output.old) (O.seen output.new) }
+{
+    let mut written = Ok(());
+    let mut i = 0;
+    while let Some(name) = names.name(i) {
+        delete_name(shard, kind, &name, keys);
+        let reply = Reply::Gone {
+            pattern: &name,
+            keys,
+        };
+        written = tell(written, &reply, output);
+        i += 1;
+    }
+    tell(written, &Reply::Finish, output)
+}
+
+/// Sets the health, where the word does. Answers how it is then.
+fn health(desk: &mut Desk, word: HealthWord) -> bool
+    ensures desk { desk.new ≡ record desk.old { up = health_after (health_word_view word) (desk.old).up } }
+    ensures up { result ≡ health_after (health_word_view word) (desk.old).up }
+{
+    match word {
+        HealthWord::Up => desk.set_health(true),
+        HealthWord::Down => desk.set_health(false),
+        HealthWord::Ask => {}
+    }
+    desk.facts().up
+}
+
+/// Carries out an admin line that came now, and replies. Where the output fails, the command has its whole effect all the
+/// same.
+///
+/// # Errors
+///
+/// `WriteFault` where the output failed. Then a front of the reply was written.
+pub fn carry_out<O: Sink>(
+    shard: &mut Shard,
+    desk: &mut Desk,
+    keys: &mut Keys,
+    dump: &mut Dump,
+    settings: &Settings,
+    now: u64,
+    line: &[u8],
+    output: &mut O,
+) -> Result<(), WriteFault>
+    requires keys { shard.old.table.limits.rows ≤ keys.old.room }
+    requires dump { shard.old.table.limits.rows ≤ dump.old.room }
+    ensures state { state_of shard.new ≡ commanded (command line.now) (λ i. state_of shard.old) 0 }
+    ensures limits { shard.new.table.limits ≡ shard.old.table.limits }
+    ensures policy { shard.new.policy ≡ shard.old.policy }
+    ensures desk { desk.new ≡ desk_after_line desk.old (command line.now) }
+    ensures keys { keys.new.room ≡ keys.old.room }
+    ensures dump { dump.new.room ≡ dump.old.room }
+    ensures written { IsWritten (output_in (goes_by settings.now) (run_with (state_of shard.old) desk.old) (Admin now line.now))
+        result (O.seen output.old) (O.seen output.new) }
+{
+    let command = match Command::read(line) {
+        Ok(command) => command,
+        Err(fault) => return write_reply(&Reply::Fault { fault }, output),
+    };
+    match command {
+        Command::Stats => {
+            let facts = desk.facts();
+            let reply = Reply::Stats { facts: &facts, now };
+            write_reply(&reply, output)
+        }
+        Command::Config => write_reply(&Reply::Config { settings }, output),
+        Command::Quit => Ok(()),
+        Command::Show(kind) => show(shard, kind, dump, output),
+        Command::Delete { kind, names: _ } => delete(shard, kind, &command, keys, output),
+        Command::Health(word) => {
+            let up = health(desk, word);
+            write_reply(&Reply::Health { up }, output)
+        }
+    }
+}

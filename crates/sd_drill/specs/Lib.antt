@@ -1,0 +1,3 @@
+pub mod CountSink
+pub mod Drill
+pub mod Texts

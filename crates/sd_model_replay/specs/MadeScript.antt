@@ -1,0 +1,52 @@
+-- The made script: packets whose lines are made of a sequence of numbers, and flushes between them.
+use Rattle.std.specs.Prelude.{ℕ, zero, suc, ◌+◌, ◌*◌, ◌/◌, ◌%◌, ◌==◌, ◌||◌, if◌then◌else◌, List, [], ◌∷◌, ◌++◌, flat_map, codes, decimal}
+use Rattle.std.specs.List.{join_with_byte, range_with_len}
+use Rattle.sd_model_replay.specs.Script.{Command, Packet, Flush, script_text, end_word}
+
+-- the number that follows in the sequence, which is that of the ZX81's linear congruential generator
+abbrev pub next_number : ℕ → ℕ
+next_number x = (75 * x + 74) % 65537
+
+-- the numbers of the sequence, counted from 0: the first is 1
+abbrev pub made_number : ℕ → ℕ
+made_number zero = 1
+made_number (suc k) = next_number (made_number k)
+
+-- The line of a number x: `drill.`, a letter, x divided by 4 and rounded down, a colon, x, a bar and a type; both numbers are
+-- taken modulo 1000.
+abbrev pub made_line : List ℕ → List ℕ → ℕ → List ℕ
+made_line letter type x = codes "drill." ++ letter ++ decimal (x / 4 % 1000) ++ 58 ∷ decimal (x % 1000) ++ 124 ∷ type
+
+-- the lines of four numbers: of a counter, a timer, a gauge and a set
+abbrev pub made_lines : ℕ → ℕ → ℕ → ℕ → List (List ℕ)
+made_lines a b c d =
+    made_line (codes "c") (codes "c") a
+    ∷ made_line (codes "t") (codes "ms") b
+    ∷ made_line (codes "g") (codes "g") c
+    ∷ made_line (codes "s") (codes "s") d
+    ∷ []
+
+-- The datagram of packet j, counted from 0: the lines of the next four numbers, with newlines between them.
+unfoldable pub made_datagram : ℕ → List ℕ
+made_datagram j =
+    join_with_byte 10 (made_lines (made_number (4 * j + 1)) (made_number (4 * j + 2)) (made_number (4 * j + 3)) (made_number (4 * j + 4)))
+
+-- the moment behind so many flushes: the second 1000, and ten more for each
+abbrev pub made_moment : ℕ → ℕ
+made_moment flushes = 1000 + 10 * flushes
+
+-- packet j: two receivers get the packets in turn, at the moment behind the flushes so far, one for each thousand packets
+unfoldable pub made_packet : ℕ → Command
+made_packet j = Packet (j % 2) (made_moment (j / 1000)) (made_datagram j)
+
+-- the flush behind packet j of n, where there is one: behind each 1,000th packet, and behind the last
+abbrev pub flush_behind : ℕ → ℕ → List Command
+flush_behind n j = if (j + 1) % 1000 == 0 || j + 1 == n then Flush (made_moment (j / 1000 + 1)) ∷ [] else []
+
+-- The records of n packets: each packet, and the flush behind it.
+unfoldable pub made_commands : ℕ → List Command
+made_commands n = flat_map (λ j. made_packet j ∷ flush_behind n j) (range_with_len 0 n)
+
+-- The script of n packets: their records, and the word that ends it.
+abbrev pub made_script : ℕ → List ℕ
+made_script n = script_text (made_commands n) ++ end_word

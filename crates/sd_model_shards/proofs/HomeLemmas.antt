@@ -1,0 +1,276 @@
+-- A shard has rows of its own keys alone, whether or not samples are dropped. So no row and no key stands twice in what all
+-- shards tell.
+use Rattle.std.proofs.Common.{◌≡◌, ℕ, zero, suc, ◌<◌, Bool, true, false, cond, ◌||◌, eqb, List, [], ◌∷◌, ◌++◌, map, refl, sym, ap, subst, ◌∙◌}
+use Rattle.std.specs.Prelude.{⊤, Option, Some, None, not, option_map, option_and_then, is_some, flat_map, filter_map, Result, Ok, Err}
+use Rattle.std.specs.List.{AllByRecursion, IsDistinct, list_any, range_with_len}
+use Rattle.std.specs.Ordering.{nat_cmp, eq_by_cmp}
+use Rattle.std.specs.Cmp.Lexicographic.{slice_cmp}
+use Rattle.std.specs.FinMap.{contains_key, entries, entries_sorted, find, get, get-empty, get-insert, get-entries, retain_keys}
+use Rattle.std.specs.FinMap.Entries.{is_some-find}
+use Rattle.std.proofs.lemmas.Bool.{eqb-true}
+use Rattle.std.proofs.lemmas.List.{map-append}
+use Rattle.sd_model_text.specs.Names.{Kind, Counter, shard}
+use Rattle.sd_model_text.specs.Lines.{Sample, samples_of}
+use Rattle.sd_model_settings.specs.Defaults.{Plan}
+use Rattle.sd_model_shard.specs.Rows.{RowId, row_cmp, Kept, row_of, base_of, is_same_row}
+use Rattle.sd_model_shard.specs.Commands.{DumpRow, dump_of, dump_row, is_hit, is_of_kind, keys_of, rows_taken_out}
+use Rattle.sd_model_shard.specs.Shard as at_shard
+use Rattle.sd_model_shard.specs.Shard.{State, Cause, Limits, Policy, Event, Submit, Swap, Delete, Dump, Dumped, step, admitted, refusal, left_of, after_delete, deletion_of, table_of}
+use Rattle.sd_model_shard.specs.History.{Asked, part_of}
+use Rattle.sd_model_shard.proofs.RowLemmas.{rows_total}
+use Rattle.sd_model_shard.proofs.CarriedLemmas.{get-carried}
+use Rattle.sd_model_shard.proofs.DeletionLemmas.{get-rows_left}
+use Rattle.sd_model_shard.proofs.EntryLemmas.{StandApart, StandApart-sorted}
+use Rattle.sd_model_record.specs.Admin as admin
+use Rattle.sd_model_record.specs.Admin.{AdminFault}
+use Rattle.sd_model_record.specs.Record.{Row, row_value, table_rows}
+use Rattle.sd_model_replay.specs.Settings.{Settings}
+use Rattle.sd_model_replay.specs.Script.{Command, Packet, Flush, Admin}
+use Rattle.sd_model_replay.specs.Replay.{Outcome, Played, Run, first_run, home_of, events_in, admin_events, play, run_of, moments, FlushMoment, flushes}
+use Rattle.sd_model_replay.specs.Output.{answers_to, keys_in, rows_in}
+use Rattle.sd_model_replay.proofs.OrderLemmas.{by_key, StandOnce, StandOnce-shards, StandApart-shards, keys_once, rows_once, hit_of_kind}
+use Rattle.sd_model_shards.specs.Shards.{rows_before}
+use Rattle.sd_model_shards.proofs.ViewLemmas.{after_asked}
+use Rattle.sd_model_shards.proofs.EventsLemmas.{asks, submits, other_row}
+use Rattle.sd_model_shards.proofs.ToldLemmas.{find_retained, find_value}
+use Rattle.sd_model_shards.proofs.ShownLemmas.{answers_at, told_by_all, none_there, flushes_with}
+
+-- No shard has a row of another shard's key.
+abbrev pub AtHome : ℕ → (ℕ → State) → Type 0
+AtHome shards states = (i : ℕ) (id : RowId) → eqb i (shard id.key shards) ≡ false → get (states i).live id ≡ None
+
+abbrev IsForeign : RowId → Event → Type 0
+IsForeign id (Submit s) = is_same_row id (row_of s) ≡ false
+IsForeign id event = ⊤
+
+abbrev AreForeign : RowId → List Asked → Type 0
+AreForeign id asked = AllByRecursion (λ q. IsForeign id q.event) asked
+
+neither : (b : Bool) (o : Option Kept) → o ≡ None → cond b o None ≡ None
+neither true o h = h
+neither false o h = refl
+
+absent_sample : (state : State) (who : ℕ) (s : Sample) (answer : Option Cause) (id : RowId) → is_same_row id (row_of s) ≡ false → get state.live id ≡ None → get (admitted state who s answer).state.live id ≡ None
+absent_sample state who s None id foreign none =
+    let kept : Kept = record { base = base_of state.live (row_of s); swaps = 0 } in
+    get-insert rows_total state.live (row_of s) kept id ∙ ap (λ t. cond t (Some kept) (get state.live id)) foreign ∙ none
+absent_sample state who s (Some cause) id foreign none = none
+
+absent_delete : (kind : Kind) (pattern : List ℕ) (state : State) (id : RowId) → get state.live id ≡ None → get (after_delete kind pattern state).live id ≡ None
+absent_delete kind pattern state id none = get-rows_left kind pattern state.live id ∙ neither (not (is_hit kind pattern id)) (get state.live id) none
+
+absent_step : (limits : Limits) (policy : Policy) (state : State) (who : ℕ) (event : Event) (id : RowId) → IsForeign id event → get state.live id ≡ None → get (step limits policy state who event).state.live id ≡ None
+absent_step limits policy state who (Submit s) id foreign none = absent_sample state who s (refusal limits state s) id foreign none
+absent_step limits policy state who Swap id foreign none = get-carried policy state.live state.held id ∙ ap (option_and_then (left_of policy state.held id)) none
+absent_step limits policy state who (Delete kind pattern) id foreign none = absent_delete kind pattern state id none
+absent_step limits policy state who (Dump kind) id foreign none = none
+
+absent_asked : (limits : Limits) (policy : Policy) (state : State) (asked : List Asked) (id : RowId) → AreForeign id asked → get state.live id ≡ None → get (after_asked limits policy state asked).live id ≡ None
+absent_asked limits policy state [] id foreign none = none
+absent_asked limits policy state (q ∷ asked) id foreign none = absent_asked limits policy (step limits policy state q.who q.event).state asked id foreign.1 (absent_step limits policy state q.who q.event id foreign.0 none)
+
+module _ (settings : Settings) (i : ℕ) (id : RowId) (away : eqb i (shard id.key settings.shards) ≡ false) where
+  foreign_packet : (who : ℕ) (samples : List Sample) → AreForeign id (submits who (part_of (home_of settings) i samples))
+  foreign_packet who [] = tt
+  foreign_packet who (s ∷ samples) = by_test (eqb i (home_of settings s)) refl (foreign_packet who samples) where
+    by_test : (b : Bool) → eqb i (home_of settings s) ≡ b → AreForeign id (submits who (part_of (home_of settings) i samples))
+        → AreForeign id (submits who (cond b (s ∷ part_of (home_of settings) i samples) (part_of (home_of settings) i samples)))
+    by_test true here rest = (other_row settings i id s false away here, rest)
+    by_test false here rest = rest
+
+  foreign_names : (kind : Kind) (names : List (List ℕ)) → AreForeign id (asks (map (Delete kind) names))
+  foreign_names kind [] = tt
+  foreign_names kind (name ∷ names) = (tt, foreign_names kind names)
+
+  foreign_line : (answer : Result admin.Command AdminFault) → AreForeign id (asks (admin_events answer))
+  foreign_line (Ok admin.Stats) = tt
+  foreign_line (Ok admin.Config) = tt
+  foreign_line (Ok admin.Quit) = tt
+  foreign_line (Ok (admin.Show kind)) = (tt, tt)
+  foreign_line (Ok (admin.Delete kind names)) = foreign_names kind names
+  foreign_line (Ok (admin.Health word)) = tt
+  foreign_line (Err fault) = tt
+
+  foreign_command : (c : Command) → AreForeign id (events_in settings i c)
+  foreign_command (Packet who moment datagram) = foreign_packet who (samples_of datagram)
+  foreign_command (Flush ts) = (tt, tt)
+  foreign_command (Admin moment line) = foreign_line (admin.command line)
+
+pub AtHome-play : (settings : Settings) (run : Run) (p : Played) → AtHome settings.shards run.shards → AtHome settings.shards (play settings run p).shards
+AtHome-play settings run p h i id away = absent_asked settings.limits settings.policy (run.shards i) (events_in settings i p.command) id (foreign_command settings i id away p.command) (h i id away)
+
+pub AtHome-first : (shards : ℕ) (played : List Played) → AtHome shards (first_run played).shards
+AtHome-first shards played i id away = get-empty row_cmp id
+
+at_home_from : (settings : Settings) (run : Run) (played : List Played) → AtHome settings.shards run.shards → AtHome settings.shards (run_of settings run played).shards
+at_home_from settings run [] h = h
+at_home_from settings run (p ∷ played) h = at_home_from settings (play settings run p) played (AtHome-play settings run p h)
+
+pub AtHome-run : (settings : Settings) (played : List Played) → AtHome settings.shards (run_of settings (first_run played) played).shards
+AtHome-run settings played = at_home_from settings (first_run played) played (AtHome-first settings.shards played)
+
+AtHome-delete : (kind : Kind) (name : List ℕ) (shards : ℕ) (states : ℕ → State) → AtHome shards states → AtHome shards (λ i. after_delete kind name (states i))
+AtHome-delete kind name shards states h i id away = absent_delete kind name (states i) id (h i id away)
+
+-- a row stands in the shard of its key
+pub home_of_row : (shards : ℕ) (states : ℕ → State) → AtHome shards states → (i : ℕ) (id : RowId) → contains_key (states i).live id ≡ true → shard id.key shards ≡ i
+home_of_row shards states h i id has = by_place (eqb i (shard id.key shards)) refl where
+  by_place : (b : Bool) → eqb i (shard id.key shards) ≡ b → shard id.key shards ≡ i
+  by_place true is = sym (eqb-true i (shard id.key shards) is)
+  by_place false is = absurd (let both = sym (ap is_some (h i id is)) ∙ has in cc)
+
+any_key : {K X : Type 0} (p : K → Bool) (es : List (K × X)) → list_any p (map (λ e. e.0) es) ≡ list_any (λ e. p e.0) es
+any_key p [] = refl
+any_key p (e ∷ es) = ap (λ b. p e.0 || b) (any_key p es)
+
+-- what a key finds, where it stands in a list
+is_found : {X : Type 0} (q : RowId) (es : List (RowId × X)) → list_any (λ other. eq_by_cmp row_cmp q other.0) es ≡ true → is_some (find row_cmp q es) ≡ true
+is_found q es has = is_some-find row_cmp q es ∙ any_key (eq_by_cmp row_cmp q) es ∙ has
+
+is_told : {X : Type 0} (q : List ℕ) (es : List (List ℕ × X)) → list_any (λ other. eq_by_cmp (slice_cmp nat_cmp) q other.0) es ≡ true → is_some (find (slice_cmp nat_cmp) q es) ≡ true
+is_told q es has = is_some-find (slice_cmp nat_cmp) q es ∙ any_key (eq_by_cmp (slice_cmp nat_cmp) q) es ∙ has
+
+some_mapped : {X Y : Type 0} (f : X → Y) (o : Option X) → is_some (option_map f o) ≡ true → is_some o ≡ true
+some_mapped f None h = absurd (cc)
+some_mapped f (Some x) h = refl
+
+some_passed : (b : Bool) (o : Option Kept) → is_some (cond b o None) ≡ true → is_some o ≡ true
+some_passed true o h = h
+some_passed false o h = absurd (cc)
+
+module _ (shards : ℕ) (states : ℕ → State) (h : AtHome shards states) where
+  -- no row stands twice in the tables of all shards
+  pub rows_apart : StandApart row_cmp (flat_map (λ i. entries (states i).live) (range_with_len 0 shards))
+  rows_apart =
+      StandApart-shards row_cmp rows_total (λ id. shard id.key shards) (λ i. entries (states i).live) shards
+      (λ i below. StandApart-sorted row_cmp (entries (states i).live) (entries_sorted (states i).live))
+      (λ i below q has. home_of_row shards states h i q (ap is_some (get-entries (states i).live q) ∙ is_found q (entries (states i).live) has))
+
+  valued : (plan : Plan) (i : ℕ) (es : List (RowId × Kept)) → StandApart row_cmp es → StandApart row_cmp (map (λ e. (e.0, row_value plan (states i).held e.0 e.1)) es)
+  valued plan i [] apart = tt
+  valued plan i (e ∷ es) apart = (any_valued es ∙ apart.0, valued plan i es apart.1) where
+    any_valued : (ds : List (RowId × Kept)) → list_any (λ (other : RowId × Row). eq_by_cmp row_cmp e.0 other.0) (map (λ d. (d.0, row_value plan (states i).held d.0 d.1)) ds) ≡ list_any (λ (other : RowId × Kept). eq_by_cmp row_cmp e.0 other.0) ds
+    any_valued [] = refl
+    any_valued (d ∷ ds) = ap (λ b. eq_by_cmp row_cmp e.0 d.0 || b) (any_valued ds)
+
+  -- nor in the rows of their record
+  pub record_rows_apart : (plan : Plan) → StandApart row_cmp (flat_map (λ i. table_rows plan (table_of (states i))) (range_with_len 0 shards))
+  record_rows_apart plan =
+      StandApart-shards row_cmp rows_total (λ id. shard id.key shards) (λ i. table_rows plan (table_of (states i))) shards
+      (λ i below. valued plan i (entries (states i).live) (StandApart-sorted row_cmp (entries (states i).live) (entries_sorted (states i).live)))
+      (λ i below q has. home_of_row shards states h i q (
+      ap is_some (get-entries (states i).live q)
+      ∙ some_mapped (row_value plan (states i).held q) (find row_cmp q (entries (states i).live)) (ap is_some (sym (find_value plan (states i).held q (entries (states i).live))) ∙ is_found q (table_rows plan (table_of (states i))) has)))
+
+  -- no key stands twice in what all shards tell of rows of one kind
+  told_apart : {X : Type 0} (key : X → List ℕ) (kind : Kind) (p : RowId → Bool) → ((id : RowId) → p id ≡ true → is_of_kind kind id ≡ true) → (f : State → RowId × Kept → X)
+      → ((state : State) (e : RowId × Kept) → key (f state e) ≡ e.0.key) → ((i : ℕ) → i < shards → StandOnce key (map (f (states i)) (entries (retain_keys (states i).live p))))
+      → StandOnce key (flat_map (λ i. map (f (states i)) (entries (retain_keys (states i).live p))) (range_with_len 0 shards))
+  told_apart key kind p tells f same once =
+      StandOnce-shards key (λ q. shard q shards) (λ i. map (f (states i)) (entries (retain_keys (states i).live p))) shards once
+      (λ i below q has.
+      let id : RowId = record { kind = kind; key = q } in
+      home_of_row shards states h i id
+      (some_passed (p id) (get (states i).live id)
+      (some_mapped (λ kept. f (states i) (id, kept)) (cond (p id) (get (states i).live id) None)
+      (ap is_some (sym (find_retained key kind p tells (f (states i)) (same (states i)) (states i).live q)) ∙ is_told q (by_key key (map (f (states i)) (entries (retain_keys (states i).live p)))) has))))
+
+  pub all_keys_once : (kind : Kind) (name : List ℕ) → StandOnce (λ key. key) (flat_map (λ i. keys_of (rows_taken_out kind name (states i).live)) (range_with_len 0 shards))
+  all_keys_once kind name =
+      told_apart (λ (key : List ℕ). key) kind (is_hit kind name) (hit_of_kind kind name) (λ state row. row.0.key) (λ state e. refl) (λ i below. keys_once kind name (states i).live)
+
+  pub all_rows_once : (kind : Kind) → StandOnce (λ (row : DumpRow). row.key) (flat_map (λ i. dump_of kind (states i).live (states i).held) (range_with_len 0 shards))
+  all_rows_once kind =
+      told_apart (λ (row : DumpRow). row.key) kind (is_of_kind kind) (λ id is. is) (λ state. dump_row state.held) (λ state e. refl) (λ i below. rows_once kind (states i).live (states i).held)
+
+none_flat : {X : Type 0} (is : List ℕ) → flat_map {A = X} (λ i. []) is ≡ []
+none_flat [] = refl
+none_flat (i ∷ is) = none_flat is
+
+-- what shards that have no answer tell
+module _ {X : Type 0} (key : X → List ℕ) (tell : at_shard.Reply → List X) where
+  once_none : (is : List ℕ) → StandOnce key (flat_map tell (filter_map (λ i. None) is))
+  once_none is = subst (λ answers. StandOnce key (flat_map tell answers)) (sym (none_there is)) tt
+
+  once_told : (answer : ℕ → at_shard.Reply) (is : List ℕ) → StandOnce key (flat_map (λ i. tell (answer i)) is) → StandOnce key (flat_map tell (filter_map (λ i. Some (answer i)) is))
+  once_told answer is once = subst (StandOnce key) (sym (told_by_all tell answer is)) once
+
+  once_flat : (is : List ℕ) → StandOnce key (flat_map {A = X} (λ i. []) is)
+  once_flat is = subst (StandOnce key) (sym (none_flat is)) tt
+
+abbrev one_key : List ℕ → List ℕ
+one_key key = key
+
+abbrev key_in : DumpRow → List ℕ
+key_in row = row.key
+
+module _ (limits : Limits) (policy : Policy) (shards : ℕ) where
+  abbrev answers : (ℕ → State) → List Event → ℕ → List at_shard.Reply
+  answers states events k = answers_at limits policy shards states events k
+
+  names_once : (states : ℕ → State) → AtHome shards states → (kind : Kind) (names : List (List ℕ)) (k : ℕ)
+      → StandOnce one_key (flat_map keys_in (answers states (map (Delete kind) names) k)) × StandOnce key_in (flat_map rows_in (answers states (map (Delete kind) names) k))
+  names_once states h kind [] k = (once_none one_key keys_in (range_with_len 0 shards), once_none key_in rows_in (range_with_len 0 shards))
+  names_once states h kind (name ∷ names) zero = (
+    once_told one_key keys_in (λ i. deletion_of kind name (states i)) (range_with_len 0 shards) (all_keys_once shards states h kind name),
+    once_told key_in rows_in (λ i. deletion_of kind name (states i)) (range_with_len 0 shards) (once_flat key_in rows_in (range_with_len 0 shards)),
+  )
+  names_once states h kind (name ∷ names) (suc k) = names_once (λ i. after_delete kind name (states i)) (AtHome-delete kind name shards states h) kind names k
+
+  line_once : (states : ℕ → State) → AtHome shards states → (answer : Result admin.Command AdminFault) (k : ℕ)
+      → StandOnce one_key (flat_map keys_in (answers states (admin_events answer) k)) × StandOnce key_in (flat_map rows_in (answers states (admin_events answer) k))
+  line_once states h (Ok admin.Stats) k = names_once states h Counter [] k
+  line_once states h (Ok admin.Config) k = names_once states h Counter [] k
+  line_once states h (Ok admin.Quit) k = names_once states h Counter [] k
+  line_once states h (Ok (admin.Show kind)) zero = (
+    once_told one_key keys_in (λ i. Dumped (dump_of kind (states i).live (states i).held)) (range_with_len 0 shards) (once_flat one_key keys_in (range_with_len 0 shards)),
+    once_told key_in rows_in (λ i. Dumped (dump_of kind (states i).live (states i).held)) (range_with_len 0 shards) (all_rows_once shards states h kind),
+  )
+  line_once states h (Ok (admin.Show kind)) (suc k) = names_once states h kind [] k
+  line_once states h (Ok (admin.Delete kind names)) k = names_once states h kind names k
+  line_once states h (Ok (admin.Health word)) k = names_once states h Counter [] k
+  line_once states h (Err fault) k = names_once states h Counter [] k
+
+-- No key stands twice in the answers of all shards to an event of an admin line.
+pub keys_answered_once : (settings : Settings) (run : Run) → AtHome settings.shards run.shards → (moment : ℕ) (line : List ℕ) (k : ℕ) → StandOnce (λ key. key) (flat_map keys_in (answers_to settings run (Admin moment line) k))
+keys_answered_once settings run h moment line k = (line_once settings.limits settings.policy settings.shards run.shards h (admin.command line) k).0
+
+pub rows_answered_once : (settings : Settings) (run : Run) → AtHome settings.shards run.shards → (moment : ℕ) (line : List ℕ) (k : ℕ) → StandOnce (λ (row : DumpRow). row.key) (flat_map rows_in (answers_to settings run (Admin moment line) k))
+rows_answered_once settings run h moment line k = (line_once settings.limits settings.policy settings.shards run.shards h (admin.command line) k).1
+
+-- at each flush the rows are at home
+flushes_at_home : (settings : Settings) (run : Run) (played : List Played) → AtHome settings.shards run.shards → AllByRecursion (λ f. AtHome settings.shards f.before.shards) (flushes settings run played)
+flushes_at_home settings run [] h = tt
+flushes_at_home settings run (p ∷ played) h = by_command p.command p.outcome (flushes_at_home settings (play settings run p) played (AtHome-play settings run p h)) where
+  by_command : (c : Command) (outcome : Outcome) → AllByRecursion (λ f. AtHome settings.shards f.before.shards) (flushes settings (play settings run p) played)
+      → AllByRecursion (λ f. AtHome settings.shards f.before.shards) (flushes_with run c outcome (moments settings (play settings run p) played))
+  by_command (Packet who moment datagram) outcome rest = rest
+  by_command (Flush ts) outcome rest = (h, rest)
+  by_command (Admin moment line) outcome rest = rest
+
+pub AtHome-flushes : (settings : Settings) (played : List Played) → AllByRecursion (λ f. AtHome settings.shards f.before.shards) (flushes settings (first_run played) played)
+AtHome-flushes settings played = flushes_at_home settings (first_run played) played (AtHome-first settings.shards played)
+
+-- ids of rows that stand apart
+distinct_ids : (es : List (RowId × Kept)) → StandApart row_cmp es → IsDistinct is_same_row (map (λ (e : RowId × Kept). e.0) es)
+unfolding IsDistinct
+distinct_ids [] apart = tt
+distinct_ids (e ∷ es) apart = (others es apart.0, distinct_ids es apart.1) where
+  both : (a b : Bool) → (a || b) ≡ false → (a ≡ false) × (b ≡ false)
+  both true b h = absurd (cc)
+  both false b h = (refl, h)
+
+  others : (ds : List (RowId × Kept)) → list_any (λ other. is_same_row e.0 other.0) ds ≡ false → AllByRecursion (λ id. is_same_row e.0 id ≡ false) (map (λ (d : RowId × Kept). d.0) ds)
+  others [] h = tt
+  others (d ∷ ds) h =
+      let parts = both (is_same_row e.0 d.0) (list_any (λ other. is_same_row e.0 other.0) ds) h in
+      (parts.0, others ds parts.1)
+
+ids_listed : (g : ℕ → List (RowId × Kept)) (is : List ℕ) → map (λ (e : RowId × Kept). e.0) (flat_map g is) ≡ flat_map (λ i. map (λ (e : RowId × Kept). e.0) (g i)) is
+ids_listed g [] = refl
+ids_listed g (i ∷ is) = map-append (λ (e : RowId × Kept). e.0) (g i) (flat_map g is) ∙ ap (λ (rest : List RowId). map (λ (e : RowId × Kept). e.0) (g i) ++ rest) (ids_listed g is)
+
+pub rows_distinct : (settings : Settings) (f : FlushMoment) → AtHome settings.shards f.before.shards → IsDistinct is_same_row (rows_before settings f)
+rows_distinct settings f h =
+    subst (IsDistinct is_same_row) (ids_listed (λ i. entries (f.before.shards i).live) (range_with_len 0 settings.shards))
+    (distinct_ids (flat_map (λ i. entries (f.before.shards i).live) (range_with_len 0 settings.shards)) (rows_apart settings.shards f.before.shards h))

@@ -1,0 +1,30 @@
+-- That no sample is dropped, as the totals tell it.
+use Rattle.std.proofs.Common.{◌≡◌, ℕ, zero, suc, ◌+◌, ◌<◌, ◌≤◌, List, [], ◌∷◌, length, refl, ap, ◌∙◌, ⊎_elim, arith}
+use Rattle.std.proofs.lemmas.Bool.{cases_lt}
+use Rattle.std.specs.Prelude.{sum_by}
+use Rattle.std.specs.List.{range_with_len}
+use Rattle.std.proofs.lemmas.List.Sums.{sum_by-cons}
+use Rattle.sd_model_shard.specs.Shard.{State, Cause}
+use Rattle.sd_model_shard.specs.Whereabouts.{causes}
+use Rattle.sd_model_replay.specs.Settings.{Settings}
+use Rattle.sd_model_replay.specs.Replay.{Played, first_run, run_of, history_at}
+use Rattle.sd_model_replay.specs.Totals.{totals_after}
+use Rattle.sd_model_replay.proofs.AccountingLemmas.{are_accounted}
+use Rattle.sd_model_shards.specs.Shards.{NoneDropped}
+
+none_of_sum : (f : ℕ → ℕ) (i start count : ℕ) → sum_by f (range_with_len start count) ≡ 0 → start ≤ i → i < start + count → f i ≡ 0
+none_of_sum f i start zero none low high = absurd (omega arith)
+none_of_sum f i start (suc count) none low high = by_place (sum_by-cons f start (range_with_len (start + 1) count)) (λ z on. none_of_sum f i (start + 1) count z on (omega arith)) where
+  by_place : sum_by f (start ∷ range_with_len (start + 1) count) ≡ f start + sum_by f (range_with_len (start + 1) count) → (sum_by f (range_with_len (start + 1) count) ≡ 0 → start + 1 ≤ i → f i ≡ 0) → f i ≡ 0
+  by_place cut rest = ⊎_elim (λ (above : start < i). rest (omega arith) (omega arith)) (λ (here : i ≤ start). let same : i ≡ start = omega arith in ap f same ∙ omega arith) (cases_lt start i)
+
+no_causes : (cs : List Cause) → length cs ≡ 0 → cs ≡ []
+no_causes [] h = refl
+no_causes (c ∷ cs) h = absurd (omega arith)
+
+pub none_told : (settings : Settings) (played : List Played) → (totals_after settings played).dropped ≡ 0 → NoneDropped settings played
+none_told settings played told i below =
+    let accounted = are_accounted settings played i in
+    let zero_here = none_of_sum (λ j. ((run_of settings (first_run played) played).shards j).dropped) i 0 settings.shards told (omega arith) (omega arith) in
+    let dropped = ap (λ (s : State). s.dropped) accounted.state in
+    no_causes (causes (history_at settings i played)) (omega (arith, zero_here, dropped, accounted.places.dropped))

@@ -1,0 +1,44 @@
+-- What a script shows over several shards.
+use Rattle.std.specs.Prelude.{◌≡◌, ◌≢◌, ⊤, ℕ, ◌<◌, List, [], map, flat_map, Ok}
+use Rattle.std.specs.FinMap.{entries}
+use Rattle.std.specs.List.{AllByRecursion, range_with_len}
+use Rattle.sd_model_settings.specs.Settings as file
+use Rattle.sd_model_shard.specs.Rows.{RowId}
+use Rattle.sd_model_shard.specs.Whereabouts.{causes}
+use Rattle.sd_model_record.specs.Admin as admin
+use Rattle.sd_model_replay.specs.Settings.{Settings}
+use Rattle.sd_model_replay.specs.Script.{Command, Packet, Flush, Admin}
+use Rattle.sd_model_replay.specs.Backends.{Backend}
+use Rattle.sd_model_replay.specs.Replay.{Played, FlushMoment, history_at, records, deliveries}
+use Rattle.sd_model_replay.specs.Output.{output_of}
+use Rattle.sd_model_replay.specs.Totals.{totals_after}
+
+-- these settings over so many shards, where `config` tells others
+abbrev pub over : ℕ → file.Settings → Settings → Settings
+over n told settings = record settings { shards = n; in_force = told }
+
+-- No shard drops a sample.
+abbrev pub NoneDropped : Settings → List Played → Type 0
+NoneDropped settings played = (i : ℕ) → i < settings.shards → causes (history_at settings i played) ≡ []
+
+-- a record that doesn't ask for the settings
+abbrev pub ShowsNone : Command → Type 0
+ShowsNone (Packet who moment datagram) = ⊤
+ShowsNone (Flush ts) = ⊤
+ShowsNone (Admin moment line) = admin.command line ≢ Ok admin.Config
+
+-- No record asks for the settings, which tell the number of shards.
+abbrev pub ShowsNoSettings : List Played → Type 0
+ShowsNoSettings played = AllByRecursion (λ p. ShowsNone p.command) played
+
+-- Replays of a script by two settings show the same: each backend is given the same texts, and the records, the output and
+-- the totals are the same; the output but where the script asks for the settings.
+pub record ShowTheSame (one other : Settings) (played : List Played) : Type 0 where
+  pub deliveries : (back : Backend) → deliveries one back played ≡ deliveries other back played
+  pub records : records one played ≡ records other played
+  pub output : ShowsNoSettings played → output_of one played ≡ output_of other played
+  pub totals : totals_after one played ≡ totals_after other played
+
+-- the rows of all shards before a flush, shard by shard
+abbrev pub rows_before : Settings → FlushMoment → List RowId
+rows_before settings f = flat_map (λ i. map (λ row. row.0) (entries (f.before.shards i).live)) (range_with_len 0 settings.shards)
