@@ -1,6 +1,8 @@
 -- What the names of a deletion do and get replied, one after another, and what a whole line does.
-use Rattle.std.proofs.Common.{◌≡◌, ℕ, ◌+◌, ◌<◌, ◌≤◌, zero, suc, take, length, Bool, true, false, cond, List, [], ◌∷◌, ◌++◌, map, refl, ap, subst, ◌∙◌, arith, append-nil}
-use Rattle.std.specs.Prelude.{filter, filter_map, flat_map, slice_get, Some, None, Result, Ok, Err, OnOk, OnErr, is_err, not, nat_le, ⊤}
+use Rattle.std.proofs.Common.{◌≡◌, ℕ, ◌+◌, ◌<◌, ◌≤◌, zero, suc, take, length, Bool, true, false, cond, List, [], ◌∷◌, ◌++◌, map, refl, ap, ◌∙◌, arith, append-nil, sym}
+use Rattle.std.specs.Prelude.{filter, Option, filter_map, flat_map, slice_get, Some, None, Result, Ok, Err, OnOk, OnErr, is_err, not, nat_le, ⊤}
+use Rattle.std.specs.FinMap.{empty, get, get-empty, same_map}
+use Rattle.std.proofs.lemmas.List.{get_or_past}
 use Rattle.std.specs.List.{range_with_len, onto_first, slice_split}
 use Rattle.std.proofs.Math.Seq.{take-nil}
 use Rattle.std.proofs.lemmas.Grind.{flat_map-append, common_steps}
@@ -11,8 +13,11 @@ use Rattle.sd_model_text.specs.Lines.{is_empty}
 use Rattle.sd_model_outside.specs.Outside.{Object, HasFailedBehind, given}
 use Rattle.sd_model_outside.proofs.WriteLemmas.{given-given, behind-later}
 use Rattle.sd_model_shard.specs.Shard as shard
-use Rattle.sd_model_shard.specs.Shard.{State, Limits, Policy, Event, Delete, after_delete, deletion_of}
-use Rattle.sd_model_shard.specs.Commands.{dump_of}
+use Rattle.sd_model_shard.specs.Shard.{State, empty_state, Limits, Policy, Event, Delete, after_delete, deletion_of}
+use Rattle.sd_model_shard.specs.Rows.{Rows as RowMap, Kept, row_cmp}
+use Rattle.sd_model_shard.specs.Commands.{dump_of, is_hit, rows_left}
+use Rattle.sd_model_shard.proofs.RowLemmas.{rows_total, rows_exact}
+use Rattle.sd_model_shard.proofs.DeletionLemmas.{get-rows_left}
 use Rattle.sd_model_shard.specs.History.{Asked, answered, after_all}
 use Rattle.sd_model_record.specs.Admin as admin
 use Rattle.sd_model_record.specs.Admin.{AdminFault, TooLong, words, command_named, command_of_words, longest_line}
@@ -21,9 +26,7 @@ use Rattle.sd_model_replay.specs.Settings.{Settings}
 use Rattle.sd_model_replay.specs.Script.{Admin}
 use Rattle.sd_model_replay.specs.Replay.{Run, administrator, admin_events, acts_in}
 use Rattle.sd_model_replay.specs.Output.{keys_told, names_replied, replies_to_line, rows_told}
-use Rattle.std.specs.List.Sorted.{IsPermutation}
-use Rattle.std.proofs.lemmas.List.Sorted.{IsPermutation-sym, IsPermutation-trans}
-use Rattle.sd_shard.specs.Shard.{Appends}
+use Rattle.sd_shards.specs.Shards.{Group, AreAlike, state_at}
 use Rattle.sd_command.specs.Commanded.{IsWritten, deleted, replied, gone, shown, commanded}
 
 -- what is there for each number
@@ -75,7 +78,7 @@ replied-more shards kind states (n ∷ names) name = ap (λ (replies : List Repl
 pub text-more : (replies : List Reply) (reply : Reply) → flat_map reply_text (replies ++ reply ∷ []) ≡ flat_map reply_text replies ++ reply_text reply
 text-more replies reply = flat_map-append reply_text replies (reply ∷ []) ∙ ap (λ text. flat_map reply_text replies ++ text) (append-nil (reply_text reply))
 
-deleted-at : (kind : Kind) (states others : ℕ → State) (names : List (List ℕ)) (i : ℕ) → states i ≡ others i → deleted kind states names i ≡ deleted kind others names i
+pub deleted-at : (kind : Kind) (states others : ℕ → State) (names : List (List ℕ)) (i : ℕ) → states i ≡ others i → deleted kind states names i ≡ deleted kind others names i
 deleted-at kind states others [] i same = same
 deleted-at kind states others (name ∷ names) i same = deleted-at kind (λ j. after_delete kind name (states j)) (λ j. after_delete kind name (others j)) names i (ap (after_delete kind name) same)
 
@@ -146,11 +149,23 @@ take-more names i name found = ap (λ k. take k names) (let next : i + 1 ≡ suc
   next_taken (n ∷ ns) zero found = let same : n ≡ name = cc found in ap (λ x. x ∷ []) same
   next_taken (n ∷ ns) (suc k) found = ap (λ xs. n ∷ xs) (next_taken ns k found)
 
--- what was appended to nothing, and then put in order, is in another order than what was told
-pub moved : {X : Type 0} (told old new sorted : List X) → old ≡ [] → Appends told old new → IsPermutation new sorted → IsPermutation told sorted
-moved told old new sorted empty (added, is, shuffled) ordered =
-    let all : new ≡ added = is ∙ ap (λ xs. xs ++ added) empty in
-    IsPermutation-trans told added sorted (IsPermutation-sym added told shuffled) (subst (λ xs. IsPermutation xs sorted) all ordered)
+-- beyond the last shard there is none
+pub state_past : (group : Group) (i : ℕ) → length group.states ≤ i → state_at group i ≡ empty_state
+state_past group i past = get_or_past group.states i empty_state past
+
+-- a deletion leaves an empty shard as it is
+none_left : (b : Bool) (found : Option Kept) → found ≡ None → cond b found None ≡ found
+none_left true found none = refl
+none_left false found none = sym none
+
+pub idle_delete : (kind : Kind) (name : List ℕ) → after_delete kind name empty_state ≡ empty_state
+idle_delete kind name =
+    ap (λ (live : RowMap). record empty_state { live = live })
+    (same_map rows_total rows_exact (rows_left kind name empty) empty (λ q. get-rows_left kind name empty q ∙ none_left (not (is_hit kind name q)) (get empty q) (get-empty row_cmp q)))
+
+-- shards that are alike, and alike again
+pub both_alike : (one two three : Group) → AreAlike one two → AreAlike two three → AreAlike one three
+both_alike one two three a b = record { limits = b.limits ∙ a.limits; policy = b.policy ∙ a.policy; count = b.count ∙ a.count }
 
 -- a name that is found is one of them
 pub found_below : (names : List (List ℕ)) (i : ℕ) (name : List ℕ) → slice_get names i ≡ Some name → i < length names

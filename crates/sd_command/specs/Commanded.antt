@@ -41,6 +41,6 @@ abbrev pub commanded : Result Command AdminFault → (ℕ → State) → ℕ →
 commanded (Ok (Delete kind names)) states = deleted kind states names
 commanded answer states = states
 
--- a replay whose shards are all in one state
-abbrev pub run_with : State → Desk → Run
-run_with state desk = record { shards = λ i. state; desk = desk }
+-- a replay with these states of shards and this desk
+abbrev pub run_with : (ℕ → State) → Desk → Run
+run_with states desk = record { shards = states; desk = desk }

@@ -1,18 +1,14 @@
-ghost use Rattle.std.specs.Prelude.{◌≡◌, ◌≢◌, ◌≤◌, ◌<◌, ◌^◌, ℕ, List, [], ◌∷◌, ◌++◌, flat_map, length, slice_get};
-ghost use Rattle.std.specs.List.Sorted.{IsSorted};
-ghost use Rattle.std.specs.Ordering.{nat_cmp};
-ghost use Rattle.std.specs.Cmp.Lexicographic.{slice_cmp};
+ghost use Rattle.std.specs.Prelude.{◌≡◌, ◌≢◌, ◌≤◌, ◌<◌, ◌^◌, ◌*◌, ℕ, List, [], ◌∷◌, ◌++◌, flat_map, length, slice_get};
 ghost use Rattle.sd_model_text.specs.Names.{Set};
 ghost use Rattle.sd_model_outside.specs.Outside.{Object};
 ghost use Rattle.sd_model_record.specs.Admin.{command, name_at, names_of};
 ghost use Rattle.sd_model_record.specs.Replies.{Finish, IsInOrder, reply_text};
-ghost use Rattle.sd_model_shard.specs.Shard.{after_delete, deletion_of};
 ghost use Rattle.sd_model_replay.specs.Settings.{goes_by};
 ghost use Rattle.sd_model_replay.specs.Script.{Admin};
 ghost use Rattle.sd_model_replay.specs.Replay.{desk_after_line, health_after};
-ghost use Rattle.sd_model_replay.specs.Output.{keys_told, output_in};
+ghost use Rattle.sd_model_replay.specs.Output.{output_in};
 ghost use Rattle.sd_key.specs.Kind.{kind_of};
-ghost use Rattle.sd_shard.specs.Shard.{state_of};
+ghost use Rattle.sd_shards.specs.Shards.{AreAlike, state_at};
 ghost use Rattle.sd_admin.specs.Command.{command_view, health_word_view};
 ghost use Rattle.sd_admin.specs.Reply.{reply_view};
 ghost use Rattle.sd_command.specs.Commanded.{IsWritten, commanded, deleted, replied, run_with, shown};
@@ -20,9 +16,10 @@ ghost use Rattle.sd_command.specs.Commanded.{IsWritten, commanded, deleted, repl
 use sd_admin::{Command, HealthWord, Reply, write_reply};
 use sd_config::Settings;
 use sd_desk::Desk;
-use sd_key::{Kind, Pattern};
+use sd_key::Kind;
 use sd_outside::{Sink, WriteFault};
-use sd_shard::{Dump, Keys, Shard};
+use sd_shard::{Dump, Keys};
+use sd_shards::Shards;
 
 /// Writes a reply, where what was written so far was written whole.
 ///
@@ -44,45 +41,25 @@ fn tell<O: Sink>(
 
 /// Replies with the rows of a kind.
 fn show<O: Sink>(
-    shard: &Shard,
+    shards: &Shards,
     kind: Kind,
     dump: &mut Dump,
     output: &mut O,
 ) -> Result<(), WriteFault>
     requires kind { kind_of kind ≢ Set }
-    requires room { (shard.now).table.limits.rows ≤ dump.old.room }
-    ensures written { IsWritten (reply_text (shown 1 (kind_of kind) (λ i. state_of shard.now))) result (O.seen output.old) (O.seen output.new) }
+    requires room { length (shards.now).states * (shards.now).limits.rows ≤ dump.old.room }
+    ensures written { IsWritten (reply_text (shown (length (shards.now).states) (kind_of kind) (state_at shards.now)))
+        result (O.seen output.old) (O.seen output.new) }
     ensures room { dump.new.room ≡ dump.old.room }
 {
-    dump.clear();
-    // It has no more rows than its limits say, for which there is room.
-    let _ = shard.rows();
-    shard.dump(kind, dump);
-    dump.sort();
+    shards.dump(kind, dump);
     write_reply(&Reply::Rows { kind, dump }, output)
-}
-
-/// Deletes the rows of a kind that a name matches, and leaves their keys.
-fn delete_name(shard: &mut Shard, kind: Kind, name: &Pattern, keys: &mut Keys)
-    requires room { shard.old.table.limits.rows ≤ keys.old.room }
-    ensures state { state_of shard.new ≡ after_delete (kind_of kind) name.now (state_of shard.old) }
-    ensures limits { shard.new.table.limits ≡ shard.old.table.limits }
-    ensures policy { shard.new.policy ≡ shard.old.policy }
-    ensures keys { keys.new.keys ≡ keys_told (deletion_of (kind_of kind) name.now (state_of shard.old) ∷ []) }
-    ensures sorted { IsSorted (slice_cmp nat_cmp) keys.new.keys }
-    ensures room { keys.new.room ≡ keys.old.room }
-{
-    keys.clear();
-    // It has no more rows than its limits say, for which there is room.
-    let _ = shard.rows();
-    let _ = shard.delete(kind, name, keys);
-    keys.sort();
 }
 
 /// Deletes the rows of a kind that the names of a command match, name by name, and replies with the keys. Where the output
 /// fails nothing more is written, and the names behind are carried out all the same.
 fn delete<O: Sink>(
-    shard: &mut Shard,
+    shards: &mut Shards,
     kind: Kind,
     names: &Command<'_>,
     keys: &mut Keys,
@@ -90,19 +67,18 @@ fn delete<O: Sink>(
 ) -> Result<(), WriteFault>
     requires names { (i : ℕ) → name_at (command_view names.now) i ≡ slice_get (names_of (command_view names.now)) i }
     requires few { length (names_of (command_view names.now)) < 2 ^ 64 }
-    requires room { shard.old.table.limits.rows ≤ keys.old.room }
-    ensures state { state_of shard.new ≡ deleted (kind_of kind) (λ i. state_of shard.old) (names_of (command_view names.now)) 0 }
-    ensures limits { shard.new.table.limits ≡ shard.old.table.limits }
-    ensures policy { shard.new.policy ≡ shard.old.policy }
+    requires room { length shards.old.states * shards.old.limits.rows ≤ keys.old.room }
+    ensures states { (i : ℕ) → state_at shards.new i ≡ deleted (kind_of kind) (state_at shards.old) (names_of (command_view names.now)) i }
+    ensures alike { AreAlike shards.old shards.new }
     ensures room { keys.new.room ≡ keys.old.room }
     ensures written { IsWritten
-        (flat_map reply_text (replied 1 (kind_of kind) (λ i. state_of shard.old) (names_of (command_view names.now)) ++ Finish ∷ []))
+        (flat_map reply_text (replied (length shards.old.states) (kind_of kind) (state_at shards.old) (names_of (command_view names.now)) ++ Finish ∷ []))
         result (O.seen output.old) (O.seen output.new) }
 {
     let mut written = Ok(());
     let mut i = 0;
     while let Some(name) = names.name(i) {
-        delete_name(shard, kind, &name, keys);
+        shards.delete(kind, &name, keys);
         let reply = Reply::Gone {
             pattern: &name,
             keys,
@@ -133,7 +109,7 @@ fn health(desk: &mut Desk, word: HealthWord) -> bool
 ///
 /// `WriteFault` where the output failed. Then a front of the reply was written.
 pub fn carry_out<O: Sink>(
-    shard: &mut Shard,
+    shards: &mut Shards,
     desk: &mut Desk,
     keys: &mut Keys,
     dump: &mut Dump,
@@ -142,15 +118,15 @@ pub fn carry_out<O: Sink>(
     line: &[u8],
     output: &mut O,
 ) -> Result<(), WriteFault>
-    requires keys { shard.old.table.limits.rows ≤ keys.old.room }
-    requires dump { shard.old.table.limits.rows ≤ dump.old.room }
-    ensures state { state_of shard.new ≡ commanded (command line.now) (λ i. state_of shard.old) 0 }
-    ensures limits { shard.new.table.limits ≡ shard.old.table.limits }
-    ensures policy { shard.new.policy ≡ shard.old.policy }
+    requires count { length shards.old.states ≡ (goes_by settings.now).shards }
+    requires keys { length shards.old.states * shards.old.limits.rows ≤ keys.old.room }
+    requires dump { length shards.old.states * shards.old.limits.rows ≤ dump.old.room }
+    ensures states { (i : ℕ) → state_at shards.new i ≡ commanded (command line.now) (state_at shards.old) i }
+    ensures alike { AreAlike shards.old shards.new }
     ensures desk { desk.new ≡ desk_after_line desk.old (command line.now) }
     ensures keys { keys.new.room ≡ keys.old.room }
     ensures dump { dump.new.room ≡ dump.old.room }
-    ensures written { IsWritten (output_in (goes_by settings.now) (run_with (state_of shard.old) desk.old) (Admin now line.now))
+    ensures written { IsWritten (output_in (goes_by settings.now) (run_with (state_at shards.old) desk.old) (Admin now line.now))
         result (O.seen output.old) (O.seen output.new) }
 {
     let command = match Command::read(line) {
@@ -165,8 +141,8 @@ pub fn carry_out<O: Sink>(
         }
         Command::Config => write_reply(&Reply::Config { settings }, output),
         Command::Quit => Ok(()),
-        Command::Show(kind) => show(shard, kind, dump, output),
-        Command::Delete { kind, names: _ } => delete(shard, kind, &command, keys, output),
+        Command::Show(kind) => show(shards, kind, dump, output),
+        Command::Delete { kind, names: _ } => delete(shards, kind, &command, keys, output),
         Command::Health(word) => {
             let up = health(desk, word);
             write_reply(&Reply::Health { up }, output)

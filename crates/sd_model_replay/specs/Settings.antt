@@ -45,11 +45,11 @@ names_backend name s = list_any (bytes_eq name) s.addresses.backends
 abbrev pub targets_of : file.Settings → List Target
 targets_of s = if names_backend (codes "repeater") s then s.lists.repeater else []
 
--- What a replay goes by, as a file's settings say it; so far one shard runs, whatever they say.
+-- What a replay goes by, as a file's settings say it.
 abbrev pub goes_by : file.Settings → Settings
 goes_by s =
     record {
-      shards = 1;
+      shards = s.sizes.shards;
       limits = limits_of s;
       policy = policy_of s;
       plan = plan_of s;

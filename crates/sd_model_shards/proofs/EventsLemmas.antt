@@ -35,18 +35,19 @@ same_or_none : {A : Type 0} (b : Bool) (x : A) → cond b x x ≡ x
 same_or_none true x = refl
 same_or_none false x = refl
 
-module _ (settings : Settings) (i : ℕ) (id : RowId) where
+module _ (shards i : ℕ) (id : RowId) where
   -- a sample of another shard is of another row
-  pub other_row : (s : Sample) (b : Bool) → eqb i (shard id.key settings.shards) ≡ b → eqb i (home_of settings s) ≡ not b → is_same_row id (row_of s) ≡ false
+  pub other_row : (s : Sample) (b : Bool) → eqb i (shard id.key shards) ≡ b → eqb i (shard s.key shards) ≡ not b → is_same_row id (row_of s) ≡ false
   other_row s b mine here = by_tie (is_same_row id (row_of s)) refl where
     both : (b : Bool) → b ≡ not b → ⊥
     both true h = absurd (cc)
     both false h = absurd (cc)
 
     by_tie : (t : Bool) → is_same_row id (row_of s) ≡ t → t ≡ false
-    by_tie true is = absurd (both b (sym mine ∙ ap (λ (r : RowId). eqb i (shard r.key settings.shards)) (same_row id (row_of s) is) ∙ here))
+    by_tie true is = absurd (both b (sym mine ∙ ap (λ (r : RowId). eqb i (shard r.key shards)) (same_row id (row_of s) is) ∙ here))
     by_tie false is = refl
 
+module _ (settings : Settings) (i : ℕ) (id : RowId) where
   module _ (policy : Policy) where
     -- which it leaves
     unmoved : (s : Sample) (v : View) → is_same_row id (row_of s) ≡ false → row_event policy id v (Submit s) ≡ v
@@ -60,7 +61,7 @@ module _ (settings : Settings) (i : ℕ) (id : RowId) where
           → ((w : View) → fold (row_step policy id) w (submits who (part_of (home_of settings) i samples)) ≡ fold (row_step policy id) w (submits who samples))
           → fold (row_step policy id) v (submits who (cond b (s ∷ part_of (home_of settings) i samples) (part_of (home_of settings) i samples))) ≡ fold (row_step policy id) (row_event policy id v (Submit s)) (submits who samples)
       by_test true here rest = rest (row_event policy id v (Submit s))
-      by_test false here rest = rest v ∙ ap (λ (w : View). fold (row_step policy id) w (submits who samples)) (sym (unmoved s v (other_row s true mine here)))
+      by_test false here rest = rest v ∙ ap (λ (w : View). fold (row_step policy id) w (submits who samples)) (sym (unmoved s v (other_row settings.shards i id s true mine here)))
 
     packet_other : (who : ℕ) (samples : List Sample) (v : View) → eqb i (shard id.key settings.shards) ≡ false
         → fold (row_step policy id) v (submits who (part_of (home_of settings) i samples)) ≡ v
@@ -69,7 +70,7 @@ module _ (settings : Settings) (i : ℕ) (id : RowId) where
       by_test : (b : Bool) → eqb i (home_of settings s) ≡ b
           → fold (row_step policy id) v (submits who (part_of (home_of settings) i samples)) ≡ v
           → fold (row_step policy id) v (submits who (cond b (s ∷ part_of (home_of settings) i samples) (part_of (home_of settings) i samples))) ≡ v
-      by_test true here rest = ap (λ (w : View). fold (row_step policy id) w (submits who (part_of (home_of settings) i samples))) (unmoved s v (other_row s false mine here)) ∙ rest
+      by_test true here rest = ap (λ (w : View). fold (row_step policy id) w (submits who (part_of (home_of settings) i samples))) (unmoved s v (other_row settings.shards i id s false mine here)) ∙ rest
       by_test false here rest = rest
 
     command_mine : (c : Command) (v : View) → eqb i (shard id.key settings.shards) ≡ true → fold (row_step policy id) v (events_in settings i c) ≡ fold (row_step policy id) v (events_of c)

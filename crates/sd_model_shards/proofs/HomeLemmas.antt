@@ -15,7 +15,7 @@ use Rattle.sd_model_settings.specs.Defaults.{Plan}
 use Rattle.sd_model_shard.specs.Rows.{RowId, row_cmp, Kept, row_of, base_of, is_same_row}
 use Rattle.sd_model_shard.specs.Commands.{DumpRow, dump_of, dump_row, is_hit, is_of_kind, keys_of, rows_taken_out}
 use Rattle.sd_model_shard.specs.Shard as at_shard
-use Rattle.sd_model_shard.specs.Shard.{State, Cause, Limits, Policy, Event, Submit, Swap, Delete, Dump, Dumped, step, admitted, refusal, left_of, after_delete, deletion_of, table_of}
+use Rattle.sd_model_shard.specs.Shard.{State, Cause, Limits, Policy, Event, Submit, Swap, Delete, Dump, Dumped, step, admitted, refusal, left_of, after_swap, after_delete, deletion_of, table_of}
 use Rattle.sd_model_shard.specs.History.{Asked, part_of}
 use Rattle.sd_model_shard.proofs.RowLemmas.{rows_total}
 use Rattle.sd_model_shard.proofs.CarriedLemmas.{get-carried}
@@ -26,24 +26,21 @@ use Rattle.sd_model_record.specs.Admin.{AdminFault}
 use Rattle.sd_model_record.specs.Record.{Row, row_value, table_rows}
 use Rattle.sd_model_replay.specs.Settings.{Settings}
 use Rattle.sd_model_replay.specs.Script.{Command, Packet, Flush, Admin}
-use Rattle.sd_model_replay.specs.Replay.{Outcome, Played, Run, first_run, home_of, events_in, admin_events, play, run_of, moments, FlushMoment, flushes}
+use Rattle.sd_model_replay.specs.Replay.{Outcome, Played, Run, first_run, events_in, admin_events, play, run_of, moments, FlushMoment, flushes}
 use Rattle.sd_model_replay.specs.Output.{answers_to, keys_in, rows_in}
 use Rattle.sd_model_replay.proofs.OrderLemmas.{by_key, StandOnce, StandOnce-shards, StandApart-shards, keys_once, rows_once, hit_of_kind}
-use Rattle.sd_model_shards.specs.Shards.{rows_before}
+use Rattle.sd_model_shards.specs.Shards.{AtHome, rows_before}
 use Rattle.sd_model_shards.proofs.ViewLemmas.{after_asked}
 use Rattle.sd_model_shards.proofs.EventsLemmas.{asks, submits, other_row}
 use Rattle.sd_model_shards.proofs.ToldLemmas.{find_retained, find_value}
 use Rattle.sd_model_shards.proofs.ShownLemmas.{answers_at, told_by_all, none_there, flushes_with}
 
--- No shard has a row of another shard's key.
-abbrev pub AtHome : ℕ → (ℕ → State) → Type 0
-AtHome shards states = (i : ℕ) (id : RowId) → eqb i (shard id.key shards) ≡ false → get (states i).live id ≡ None
-
-abbrev IsForeign : RowId → Event → Type 0
+-- an event that isn't a sample of this row
+abbrev pub IsForeign : RowId → Event → Type 0
 IsForeign id (Submit s) = is_same_row id (row_of s) ≡ false
 IsForeign id event = ⊤
 
-abbrev AreForeign : RowId → List Asked → Type 0
+abbrev pub AreForeign : RowId → List Asked → Type 0
 AreForeign id asked = AllByRecursion (λ q. IsForeign id q.event) asked
 
 neither : (b : Bool) (o : Option Kept) → o ≡ None → cond b o None ≡ None
@@ -69,15 +66,16 @@ absent_asked : (limits : Limits) (policy : Policy) (state : State) (asked : List
 absent_asked limits policy state [] id foreign none = none
 absent_asked limits policy state (q ∷ asked) id foreign none = absent_asked limits policy (step limits policy state q.who q.event).state asked id foreign.1 (absent_step limits policy state q.who q.event id foreign.0 none)
 
-module _ (settings : Settings) (i : ℕ) (id : RowId) (away : eqb i (shard id.key settings.shards) ≡ false) where
-  foreign_packet : (who : ℕ) (samples : List Sample) → AreForeign id (submits who (part_of (home_of settings) i samples))
-  foreign_packet who [] = tt
-  foreign_packet who (s ∷ samples) = by_test (eqb i (home_of settings s)) refl (foreign_packet who samples) where
-    by_test : (b : Bool) → eqb i (home_of settings s) ≡ b → AreForeign id (submits who (part_of (home_of settings) i samples))
-        → AreForeign id (submits who (cond b (s ∷ part_of (home_of settings) i samples) (part_of (home_of settings) i samples)))
-    by_test true here rest = (other_row settings i id s false away here, rest)
-    by_test false here rest = rest
+-- the samples of a shard are of none of the rows of others
+pub foreign_samples : (shards i : ℕ) (id : RowId) → eqb i (shard id.key shards) ≡ false → (who : ℕ) (samples : List Sample) → AreForeign id (submits who (part_of (λ s. shard s.key shards) i samples))
+foreign_samples shards i id away who [] = tt
+foreign_samples shards i id away who (s ∷ samples) = by_test (eqb i (shard s.key shards)) refl (foreign_samples shards i id away who samples) where
+  by_test : (b : Bool) → eqb i (shard s.key shards) ≡ b → AreForeign id (submits who (part_of (λ s. shard s.key shards) i samples))
+      → AreForeign id (submits who (cond b (s ∷ part_of (λ s. shard s.key shards) i samples) (part_of (λ s. shard s.key shards) i samples)))
+  by_test true here rest = (other_row shards i id s false away here, rest)
+  by_test false here rest = rest
 
+module _ (settings : Settings) (i : ℕ) (id : RowId) (away : eqb i (shard id.key settings.shards) ≡ false) where
   foreign_names : (kind : Kind) (names : List (List ℕ)) → AreForeign id (asks (map (Delete kind) names))
   foreign_names kind [] = tt
   foreign_names kind (name ∷ names) = (tt, foreign_names kind names)
@@ -92,7 +90,7 @@ module _ (settings : Settings) (i : ℕ) (id : RowId) (away : eqb i (shard id.ke
   foreign_line (Err fault) = tt
 
   foreign_command : (c : Command) → AreForeign id (events_in settings i c)
-  foreign_command (Packet who moment datagram) = foreign_packet who (samples_of datagram)
+  foreign_command (Packet who moment datagram) = foreign_samples settings.shards i id away who (samples_of datagram)
   foreign_command (Flush ts) = (tt, tt)
   foreign_command (Admin moment line) = foreign_line (admin.command line)
 
@@ -109,8 +107,17 @@ at_home_from settings run (p ∷ played) h = at_home_from settings (play setting
 pub AtHome-run : (settings : Settings) (played : List Played) → AtHome settings.shards (run_of settings (first_run played) played).shards
 AtHome-run settings played = at_home_from settings (first_run played) played (AtHome-first settings.shards played)
 
-AtHome-delete : (kind : Kind) (name : List ℕ) (shards : ℕ) (states : ℕ → State) → AtHome shards states → AtHome shards (λ i. after_delete kind name (states i))
+pub AtHome-delete : (kind : Kind) (name : List ℕ) (shards : ℕ) (states : ℕ → State) → AtHome shards states → AtHome shards (λ i. after_delete kind name (states i))
 AtHome-delete kind name shards states h i id away = absent_delete kind name (states i) id (h i id away)
+
+-- nor does one get such a row by its samples, or by a swap
+pub AtHome-samples : (limits : Limits) (policy : Policy) (who : ℕ) (samples : List Sample) (shards : ℕ) (states : ℕ → State) → AtHome shards states
+    → AtHome shards (λ i. after_asked limits policy (states i) (submits who (part_of (λ s. shard s.key shards) i samples)))
+AtHome-samples limits policy who samples shards states h i id away =
+    absent_asked limits policy (states i) (submits who (part_of (λ s. shard s.key shards) i samples)) id (foreign_samples shards i id away who samples) (h i id away)
+
+pub AtHome-swap : (policy : Policy) (shards : ℕ) (states : ℕ → State) → AtHome shards states → AtHome shards (λ i. after_swap policy (states i))
+AtHome-swap policy shards states h i id away = get-carried policy (states i).live (states i).held id ∙ ap (option_and_then (left_of policy (states i).held id)) (h i id away)
 
 -- a row stands in the shard of its key
 pub home_of_row : (shards : ℕ) (states : ℕ → State) → AtHome shards states → (i : ℕ) (id : RowId) → contains_key (states i).live id ≡ true → shard id.key shards ≡ i

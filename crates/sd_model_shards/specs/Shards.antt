@@ -1,9 +1,11 @@
 -- What a script shows over several shards.
-use Rattle.std.specs.Prelude.{◌≡◌, ◌≢◌, ⊤, ℕ, ◌<◌, List, [], map, flat_map, Ok}
-use Rattle.std.specs.FinMap.{entries}
+use Rattle.std.specs.Prelude.{◌≡◌, ◌≢◌, ⊤, ℕ, ◌<◌, ◌==◌, false, List, [], map, flat_map, Ok, None}
+use Rattle.std.specs.FinMap.{entries, get}
 use Rattle.std.specs.List.{AllByRecursion, range_with_len}
+use Rattle.sd_model_text.specs.Names.{shard}
 use Rattle.sd_model_settings.specs.Settings as file
 use Rattle.sd_model_shard.specs.Rows.{RowId}
+use Rattle.sd_model_shard.specs.Shard.{State}
 use Rattle.sd_model_shard.specs.Whereabouts.{causes}
 use Rattle.sd_model_record.specs.Admin as admin
 use Rattle.sd_model_replay.specs.Settings.{Settings}
@@ -42,3 +44,7 @@ pub record ShowTheSame (one other : Settings) (played : List Played) : Type 0 wh
 -- the rows of all shards before a flush, shard by shard
 abbrev pub rows_before : Settings → FlushMoment → List RowId
 rows_before settings f = flat_map (λ i. map (λ row. row.0) (entries (f.before.shards i).live)) (range_with_len 0 settings.shards)
+
+-- No shard of so many has a row of another one's key.
+abbrev pub AtHome : ℕ → (ℕ → State) → Type 0
+AtHome shards states = (i : ℕ) (id : RowId) → (i == shard id.key shards) ≡ false → get (states i).live id ≡ None

@@ -1,34 +1,38 @@
 -- A replay so far, and one record more.
-use Rattle.std.proofs.Math.Nat.{mod-one}
-use Rattle.std.proofs.Common.{◌≡◌, ◌≢◌, inl, inr, ℕ, Bool, zero, suc, cond, ◌+◌, ◌<◌, ◌^◌, min, eqb, List, [], ◌∷◌, ◌++◌, length, map, refl, sym, ap, subst, ◌∙◌, append-nil, length-append, arith}
-use Rattle.std.specs.Prelude.{sum_by, flat_map, Result, Ok, Err}
+use Rattle.std.proofs.Math.Nat.{mod-lt}
+use Rattle.std.proofs.lemmas.Bool.{cases_lt, eqb-true}
+use Rattle.std.specs.FinMap.{empty, get, get-empty, same_map}
+use Rattle.std.specs.List.{range_with_len}
+use Rattle.std.proofs.Common.{◌≡◌, ◌≢◌, inl, inr, ℕ, Bool, true, false, cond, ◌+◌, ◌<◌, ◌≤◌, ◌^◌, min, eqb, List, [], ◌∷◌, ◌++◌, length, map, refl, sym, ap, subst, ◌∙◌, append-nil, length-append, arith}
+use Rattle.std.specs.Prelude.{sum_by, Option, Some, None, option_and_then, Result, Ok, Err}
 use Rattle.std.specs.List.{AllByRecursion}
 use Rattle.std.proofs.lemmas.List.{map-append}
-use Rattle.std.proofs.lemmas.List.Sums.{sum_by-cons}
-use Rattle.sd_model_text.specs.Names.{shard}
+use Rattle.sd_model_text.specs.Names.{Kind}
 use Rattle.sd_model_text.specs.Lines.{Sample, samples_of}
 use Rattle.sd_model_outside.specs.Outside.{Told, Object, Reads, Used, Rose, HasFailedBehind, FitsLastCount, given, last_count, put_back, telling}
 use Rattle.sd_model_outside.proofs.OutsideLemmas.{appended-nil, Reads-append, put_back-append}
 use Rattle.sd_model_outside.proofs.WriteLemmas.{given-given}
-use Rattle.sd_model_shard.specs.Shard.{State, Limits, Policy, Reply, Submit, after_swap, step, table_of}
-use Rattle.sd_model_shard.specs.History.{Act, Asked, History, after_all, answered, part_of}
+use Rattle.sd_model_shard.specs.Shard.{State, empty_state, Limits, Policy, Submit, after_swap, after_delete, carried, left_of, table_of}
+use Rattle.sd_model_shard.specs.Rows.{Rows, Kept, row_cmp}
+use Rattle.sd_model_shard.proofs.RowLemmas.{rows_total, rows_exact}
+use Rattle.sd_model_shard.proofs.CarriedLemmas.{get-carried}
+use Rattle.sd_model_shard.specs.History.{after_all, answered, part_of}
 use Rattle.sd_model_shard.specs.Whereabouts.{dropped_in}
 use Rattle.sd_model_record.specs.Desk.{Desk, Marks, new_desk, with_tally, with_repeater_faults, with_round}
 use Rattle.sd_model_record.specs.Record.{Record, record_of}
 use Rattle.sd_model_record.specs.Admin as admin
 use Rattle.sd_model_record.specs.Admin.{AdminFault}
-use Rattle.sd_model_record.specs.Replies.{reply_text}
-use Rattle.sd_command.specs.Commanded.{commanded, run_with}
-use Rattle.sd_command.proofs.CommandLemmas.{commanded-at, line_carried}
+use Rattle.sd_command.specs.Commanded.{commanded, deleted, run_with}
+use Rattle.sd_command.proofs.CommandLemmas.{deleted-at, idle_delete, line_carried, state_past}
 use Rattle.sd_model_settings.specs.Settings as file
 use Rattle.sd_model_replay.specs.Settings as model
 use Rattle.sd_model_replay.specs.Settings.{goes_by}
-use Rattle.sd_model_replay.specs.Backends.{Backend, Delivery, FitsUse, AfterMark, AfterDeliveries, is_used, mark_of, text_of}
+use Rattle.sd_model_replay.specs.Backends.{Backend, FitsUse, AfterMark, AfterDeliveries, is_used, mark_of, text_of}
 use Rattle.sd_model_replay.specs.Repeater.{AfterSendings, IsRepeated, failures}
 use Rattle.sd_model_replay.specs.Script.{Command, Packet, Flush, Admin, end_word, spelled, script_text, IsLegal}
 use Rattle.sd_model_replay.specs.Next.{ScriptFlaw, Faulty, Begins, IsUndecided}
-use Rattle.sd_model_replay.specs.Replay.{Played, Outcome, IsOutcome, no_marks, home_of, acts_in, packet_tally, moment_of, desk_after_line, Run, first_run, play, run_of, FlushMoment, deliveries, sendings}
-use Rattle.sd_model_replay.specs.Output.{output_in, output_of, replies_to_line}
+use Rattle.sd_model_replay.specs.Replay.{Played, IsOutcome, no_marks, home_of, events_in, replies_to, packet_tally, moment_of, desk_after_line, Run, begun_at, first_run, record_at, play, run_of, FlushMoment, deliveries, sendings}
+use Rattle.sd_model_replay.specs.Output.{output_in, output_of}
 use Rattle.sd_model_replay.specs.Totals.{Totals, totals_of, totals_after, totals_text}
 use Rattle.sd_model_replay.specs.AccountingTheorem.{Seen, Course, AccountingTheorem, seen_at}
 use Rattle.sd_model_replay.specs.Ends.{Complete, Faulted, ReadFailed, WriteFailed, WornOut, Replayed, text_length}
@@ -36,37 +40,38 @@ use Rattle.sd_model_replay.proofs.AccountingLemmas.{are_accounted, are_documente
 use Rattle.sd_model_replay.proofs.DeliveryLemmas.{AfterDeliveries-push}
 use Rattle.sd_model_replay.proofs.SendingLemmas.{AfterSendings-push}
 use Rattle.sd_model_replay.proofs.ReplayLemmas.{run_before, run_of-push, output_of-push, deliveries-push, delivery_of, sendings-push, script_text-end, AllByRecursion-push}
-use Rattle.sd_replay.specs.Filed.{filed, lost}
-use Rattle.sd_replay.specs.Totals.{totals_of_one}
+use Rattle.sd_shards.specs.Shards.{Group, AreAlike, numbers, state_at}
+use Rattle.sd_shards.specs.Filed.{filed_of, filed_at, replies_of, replies_at}
+use Rattle.sd_replay.specs.Totals.{totals_of_group}
 
 -- the records that were carried out
 abbrev commands_of : List Played → List Command
 commands_of played = map (λ p. p.command) played
 
 -- what a replay has done since it began
-pub record Progress (settings : model.Settings) (script left : Told) (old new : Backend → Object) (had has : List Object) (shard : State) (desk : Desk) (at turn : ℕ) : Type 0 where
+pub record Progress (settings : model.Settings) (script left : Told) (old new : Backend → Object) (had has : List Object) (states : ℕ → State) (desk : Desk) (at turn : ℕ) : Type 0 where
   pub played : List Played
   pub read : Reads script (script_text (commands_of played)) left
   pub legal : AllByRecursion (λ p. IsLegal settings.receivers p.command) played
   pub used : AllByRecursion (λ p. IsOutcome settings p.command p.outcome) played
   pub texts : (back : Backend) → AfterDeliveries (deliveries settings back played) (old back) (new back)
   pub sends : AfterSendings (sendings played) had has
-  pub same_shard : shard ≡ (run_of settings (first_run played) played).shards 0
+  pub same_states : states ≡ (run_of settings (first_run played) played).shards
   pub same_desk : desk ≡ (run_of settings (first_run played) played).desk
   pub same_place : at ≡ text_length played
   pub turns : length played ≡ turn
 
 -- nothing was done yet
-unfoldable pub nothing_played : (settings : model.Settings) (script left : Told) (backs : Backend → Object) (wires : List Object) (shard : State) (desk : Desk) (at : ℕ) → Reads script [] left → shard ≡ (first_run []).shards 0 → desk ≡ (first_run []).desk → at ≡ 0
-    → Progress settings script left backs backs wires wires shard desk at 0
-nothing_played settings script left backs wires shard desk at r s d a = record {
+unfoldable pub nothing_played : (settings : model.Settings) (script left : Told) (backs : Backend → Object) (wires : List Object) (states : ℕ → State) (desk : Desk) (at : ℕ) → Reads script [] left → states ≡ (first_run []).shards → desk ≡ (first_run []).desk → at ≡ 0
+    → Progress settings script left backs backs wires wires states desk at 0
+nothing_played settings script left backs wires states desk at r s d a = record {
   played = [];
   read = r;
   legal = tt;
   used = tt;
   texts = λ back. refl;
   sends = refl;
-  same_shard = s;
+  same_states = s;
   same_desk = d;
   same_place = a;
   turns = refl;
@@ -76,82 +81,86 @@ nothing_played settings script left backs wires shard desk at r s d a = record {
 pub given-nil : (o : Object) → FitsLastCount o.told → given [] o ≡ o
 given-nil o fits = ap (λ told. telling told o) (appended-nil o.told fits)
 
--- a sum over the one shard
-alone : (g : ℕ → ℕ) → sum_by g (0 ∷ []) ≡ g 0
-alone g = omega (arith, sum_by-cons g 0 [])
+-- shards that go by the settings
+pub record GoBy (settings : model.Settings) (group : Group) : Type 0 where
+  pub count : length group.states ≡ settings.shards
+  pub limits : group.limits ≡ settings.limits
+  pub policy : group.policy ≡ settings.policy
 
--- samples of one caller, as they are asked of a shard
-abbrev asked_of : ℕ → List Sample → List Asked
-asked_of who samples = map (λ s. record { who = who; event = Submit s }) samples
+pub still_go : (settings : model.Settings) (old new : Group) → GoBy settings old → AreAlike old new → GoBy settings new
+still_go settings old new by alike = record { count = alike.count ∙ by.count; limits = alike.limits ∙ by.limits; policy = alike.policy ∙ by.policy }
 
-filed_is : (limits : Limits) (policy : Policy) (who : ℕ) (state : State) (samples : List Sample) → filed limits policy who state samples ≡ after_all limits policy state (answered limits policy state (asked_of who samples))
-filed_is limits policy who state [] = refl
-filed_is limits policy who state (s ∷ samples) = filed_is limits policy who (step limits policy state who (Submit s)).state samples
+none_there : (f : Kept → Option Kept) (found : Option Kept) → found ≡ None → option_and_then f found ≡ found
+none_there f None none = refl
+none_there f (Some kept) none = absurd (cc)
 
-lost_is : (limits : Limits) (policy : Policy) (who : ℕ) (state : State) (samples : List Sample) → lost limits policy who state samples ≡ sum_by dropped_in (map (λ a. a.reply) (answered limits policy state (asked_of who samples)))
-lost_is limits policy who state [] = refl
-lost_is limits policy who state (s ∷ samples) =
-    let one = step limits policy state who (Submit s) in
-    let rest = map (λ (a : Act). a.reply) (answered limits policy one.state (asked_of who samples)) in
-    omega (arith, lost_is limits policy who one.state samples, sum_by-cons dropped_in one.reply rest)
+-- a swap leaves an empty shard as it is
+idle_swap : (policy : Policy) → after_swap policy empty_state ≡ empty_state
+idle_swap policy =
+    ap (λ (live : Rows). record empty_state { live = live })
+    (same_map rows_total rows_exact (carried policy empty []) empty (λ q. get-carried policy empty [] q ∙ none_there (left_of policy [] q) (get empty q) (get-empty row_cmp q)))
 
--- What a record does to the one shard of such settings.
-module _ (settings : file.Settings) (run : Run) where
-  -- of one shard, that is 0, every sample is its own
-  all_at_home : (samples : List Sample) → part_of (home_of (goes_by settings)) 0 samples ≡ samples
-  all_at_home [] = refl
-  all_at_home (s ∷ samples) = kept (home_of (goes_by settings) s) (mod-one _) (all_at_home samples) where
-    kept : (n : ℕ) → n ≡ 0 → part_of (home_of (goes_by settings)) 0 samples ≡ samples → cond (eqb 0 n) (s ∷ part_of (home_of (goes_by settings)) 0 samples) (part_of (home_of (goes_by settings)) 0 samples) ≡ s ∷ samples
-    kept zero is h = ap (λ (xs : List Sample). s ∷ xs) h
-    kept (suc n) is h = absurd (omega (arith, is))
+-- and so do the deletions of a line
+idle_deletes : (kind : Kind) (names : List (List ℕ)) (i : ℕ) → deleted kind (λ j. empty_state) names i ≡ empty_state
+idle_deletes kind [] i = refl
+idle_deletes kind (name ∷ names) i = deleted-at kind (λ j. after_delete kind name empty_state) (λ j. empty_state) names i (idle_delete kind name) ∙ idle_deletes kind names i
 
-  acts_of_packet : (who moment : ℕ) (datagram : List ℕ) → acts_in (goes_by settings) run 0 (Packet who moment datagram)
-      ≡ answered (goes_by settings).limits (goes_by settings).policy (run.shards 0) (asked_of who (samples_of datagram))
-  acts_of_packet who moment datagram =
-      ap (λ (samples : List Sample). answered (goes_by settings).limits (goes_by settings).policy (run.shards 0) (asked_of who samples)) (all_at_home (samples_of datagram))
+idle_line : (answer : Result admin.Command AdminFault) (i : ℕ) → commanded answer (λ j. empty_state) i ≡ empty_state
+idle_line (Ok admin.Stats) i = refl
+idle_line (Ok admin.Config) i = refl
+idle_line (Ok admin.Quit) i = refl
+idle_line (Ok (admin.Show kind)) i = refl
+idle_line (Ok (admin.Delete kind names)) i = idle_deletes kind names i
+idle_line (Ok (admin.Health word)) i = refl
+idle_line (Err fault) i = refl
 
-  packet_shard : (who moment : ℕ) (datagram : List ℕ) (outcome : Outcome)
-      → filed (goes_by settings).limits (goes_by settings).policy who (run.shards 0) (samples_of datagram) ≡ (play (goes_by settings) run (record { command = Packet who moment datagram; outcome = outcome })).shards 0
-  packet_shard who moment datagram outcome =
-      let limits = (goes_by settings).limits in
-      let policy = (goes_by settings).policy in
-      filed_is limits policy who (run.shards 0) (samples_of datagram)
-      ∙ ap (after_all limits policy (run.shards 0)) (sym (acts_of_packet who moment datagram))
+-- What a record does to shards. Beyond the last of them it does nothing.
+module _ (settings : model.Settings) (some : 0 < settings.shards) where
+  not_there : (i : ℕ) (s : Sample) (b : Bool) → eqb i (home_of settings s) ≡ b → settings.shards ≤ i → b ≡ false
+  not_there i s false is past = refl
+  not_there i s true is past = let same : i ≡ home_of settings s = eqb-true i (home_of settings s) is in let below : home_of settings s < settings.shards = mod-lt _ some in absurd (omega (arith, same, below, past))
 
-  packet_desk : (who moment : ℕ) (datagram : List ℕ) (outcome : Outcome)
-      → with_repeater_faults (with_tally run.desk (packet_tally datagram (lost (goes_by settings).limits (goes_by settings).policy who (run.shards 0) (samples_of datagram))) moment) (failures outcome.failed)
-      ≡ (play (goes_by settings) run (record { command = Packet who moment datagram; outcome = outcome })).desk
-  packet_desk who moment datagram outcome =
-      let limits = (goes_by settings).limits in
-      let policy = (goes_by settings).policy in
-      let replies : List Act → List Reply = map (λ (a : Act). a.reply) in
-      ap (λ n. with_repeater_faults (with_tally run.desk (packet_tally datagram n) moment) (failures outcome.failed)) (
-      lost_is limits policy who (run.shards 0) (samples_of datagram)
-      ∙ ap (λ (acts : History). sum_by dropped_in (replies acts)) (sym (acts_of_packet who moment datagram))
-      ∙ ap (sum_by dropped_in) (sym (append-nil (replies (acts_in (goes_by settings) run 0 (Packet who moment datagram))))))
+  none_of : (i : ℕ) (samples : List Sample) → settings.shards ≤ i → part_of (home_of settings) i samples ≡ []
+  none_of i [] past = refl
+  none_of i (s ∷ samples) past = kept (eqb i (home_of settings s)) (not_there i s (eqb i (home_of settings s)) refl past) (none_of i samples past) where
+    kept : (b : Bool) → b ≡ false → part_of (home_of settings) i samples ≡ [] → cond b (s ∷ part_of (home_of settings) i samples) (part_of (home_of settings) i samples) ≡ []
+    kept true is h = absurd (cc)
+    kept false is h = h
 
-  totals_one : totals_of_one (run.shards 0) run.desk ≡ totals_of (goes_by settings) run
-  totals_one =
-      let taken = sym (alone (λ i. (run.shards i).taken)) in
-      let dropped = sym (alone (λ i. (run.shards i).dropped)) in
-      let flushed = sym (alone (λ i. (run.shards i).flushed)) in
-      let held = sym (alone (λ i. length (run.shards i).held)) in
-      let deleted = sym (alone (λ i. (run.shards i).deleted)) in
-      λ i. record {
-        packets = run.desk.totals.packets;
-        lines = run.desk.totals.lines;
-        bad = run.desk.totals.bad;
-        taken = taken i;
-        dropped = dropped i;
-        flushed = flushed i;
-        held = held i;
-        deleted = deleted i;
-        rounds = run.desk.rounds;
-        graphite_faults = run.desk.graphite_faults;
-        console_faults = run.desk.console_faults;
-        repeater_faults = run.desk.repeater_faults;
-        admin_faults = run.desk.admin_faults;
-      }
+  -- a shard's state after what a record asks of it
+  abbrev asked_by : Command → ℕ → State → State
+  asked_by c i state = after_all settings.limits settings.policy state (answered settings.limits settings.policy state (events_in settings i c))
+
+  idle : (c : Command) (i : ℕ) → settings.shards ≤ i → asked_by c i empty_state ≡ empty_state
+  idle (Packet who moment datagram) i past =
+      ap (λ (samples : List Sample). after_all settings.limits settings.policy empty_state (answered settings.limits settings.policy empty_state (map (λ s. record { who = who; event = Submit s }) samples))) (none_of i (samples_of datagram) past)
+  idle (Flush ts) i past = idle_swap settings.policy
+  idle (Admin moment line) i past = line_carried settings (begun_at 0) moment line i ∙ idle_line (admin.command line) i
+
+  -- the states after a record, by those of the shards that there are
+  pub stepped : (run : Run) (p : Played) (old new : Group) → length old.states ≡ settings.shards → length new.states ≡ length old.states → state_at old ≡ run.shards
+      → ((i : ℕ) → i < settings.shards → state_at new i ≡ asked_by p.command i (state_at old i)) → state_at new ≡ (play settings run p).shards
+  stepped run p old new count alike same each = λ t i. at i t where
+    at : (i : ℕ) → state_at new i ≡ (play settings run p).shards i
+    at i = elim (cases_lt i settings.shards) [
+      | inl below ↦ each i below ∙ ap (λ (states : ℕ → State). asked_by p.command i (states i)) same
+      | inr past ↦ state_past new i (omega (arith, past, count, alike)) ∙ sym (idle p.command i past)
+          ∙ ap (asked_by p.command i) (sym (state_past old i (omega (arith, past, count)))) ∙ ap (λ (states : ℕ → State). asked_by p.command i (states i)) same
+    ]
+
+-- a datagram's samples in shards that go by the settings
+filed_by : (settings : model.Settings) (group : Group) (who moment : ℕ) (datagram : List ℕ) (i : ℕ) → GoBy settings group
+    → filed_at group who datagram i ≡ after_all settings.limits settings.policy (state_at group i) (answered settings.limits settings.policy (state_at group i) (events_in settings i (Packet who moment datagram)))
+filed_by settings group who moment datagram i by =
+    let filed : Limits → Policy → ℕ → State = λ limits policy n. filed_of limits policy who (samples_of datagram) n (state_at group) i in
+    ap (λ limits. filed limits group.policy (length group.states)) by.limits ∙ ap (λ policy. filed settings.limits policy (length group.states)) by.policy ∙ ap (filed settings.limits settings.policy) by.count
+
+replied_by : (settings : model.Settings) (run : Run) (group : Group) (who moment : ℕ) (datagram : List ℕ) → GoBy settings group → state_at group ≡ run.shards
+    → sum_by dropped_in (replies_at group who datagram) ≡ sum_by dropped_in (replies_to settings run (Packet who moment datagram))
+replied_by settings run group who moment datagram by same =
+    let told : Limits → Policy → ℕ → (ℕ → State) → ℕ = λ limits policy n states. sum_by dropped_in (replies_of limits policy who (samples_of datagram) n states) in
+    ap (λ limits. told limits group.policy (length group.states) (state_at group)) by.limits ∙ ap (λ policy. told settings.limits policy (length group.states) (state_at group)) by.policy
+    ∙ ap (λ n. told settings.limits settings.policy n (state_at group)) by.count ∙ ap (told settings.limits settings.policy settings.shards) same
 
 longer : (commands : List Command) (c : Command) (at : ℕ) → at ≡ min (length (script_text commands)) last_count → min (at + length (spelled c)) last_count ≡ min (length (script_text (commands ++ c ∷ []))) last_count
 longer commands c at e =
@@ -162,26 +171,8 @@ longer commands c at e =
 abbrev pub line_played : ℕ → List ℕ → Played
 line_played moment line = record { command = Admin moment line; outcome = record { marks = no_marks; failed = [] } }
 
--- What a line does to the one shard of such settings, and what is replied to it.
-module _ (settings : file.Settings) (run : Run) (moment : ℕ) (line : List ℕ) where
-  line_shard : (outcome : Outcome) → commanded (admin.command line) (λ i. run.shards 0) 0 ≡ (play (goes_by settings) run (record { command = Admin moment line; outcome = outcome })).shards 0
-  line_shard outcome = commanded-at (admin.command line) (λ i. run.shards 0) run.shards 0 refl ∙ sym (line_carried (goes_by settings) run moment line 0)
-
-  line_output : output_in (goes_by settings) (run_with (run.shards 0) run.desk) (Admin moment line) ≡ output_in (goes_by settings) run (Admin moment line)
-  line_output = by_answer (admin.command line) where
-    by_answer : (answer : Result admin.Command AdminFault)
-        → flat_map reply_text (replies_to_line (goes_by settings) (run_with (run.shards 0) run.desk) (Admin moment line) moment answer)
-        ≡ flat_map reply_text (replies_to_line (goes_by settings) run (Admin moment line) moment answer)
-    by_answer (Ok admin.Stats) = refl
-    by_answer (Ok admin.Config) = refl
-    by_answer (Ok admin.Quit) = refl
-    by_answer (Ok (admin.Show kind)) = refl
-    by_answer (Ok (admin.Delete kind names)) = refl
-    by_answer (Ok (admin.Health word)) = refl
-    by_answer (Err fault) = refl
-
 -- where records stand before a record, it tells no start
-same_shards : (settings : model.Settings) (played : List Played) (p : Played) → (run_of settings (first_run played) played).shards 0 ≡ (run_before settings played p).shards 0
+same_shards : (settings : model.Settings) (played : List Played) (p : Played) → (run_of settings (first_run played) played).shards ≡ (run_before settings played p).shards
 same_shards settings [] p = refl
 same_shards settings (q ∷ played) p = refl
 
@@ -200,21 +191,26 @@ desk_at_end settings [] desk begun same first later = first refl
 desk_at_end settings (q ∷ played) desk begun same first later = later (λ none. absurd (omega (arith, none))) ∙ same
 
 -- One record more. The desk is the one before it.
-module _ (settings : file.Settings) (script left left' : Told) (old new new' : Backend → Object) (had has has' : List Object) (shard shard' : State) (desk begun desk' : Desk) (at at' turn : ℕ) (so_far : Progress (goes_by settings) script left old new had has shard desk at turn) where
+module _ (settings : file.Settings) (some : 0 < (goes_by settings).shards) (script left left' : Told) (old new new' : Backend → Object) (had has has' : List Object) (group group' : Group) (desk begun desk' : Desk) (at at' turn : ℕ)
+    (so_far : Progress (goes_by settings) script left old new had has (state_at group) desk at turn) (by : GoBy (goes_by settings) group) (alike : AreAlike group group') where
   -- what was done with it, whose records are those so far and it
   abbrev pub More : Played → Type 0
-  More p = (progress : Progress (goes_by settings) script left' old new' had has' shard' desk' at' (turn + 1)) × (progress.played ≡ so_far.played ++ p ∷ [])
+  More p = (progress : Progress (goes_by settings) script left' old new' had has' (state_at group') desk' at' (turn + 1)) × (progress.played ≡ so_far.played ++ p ∷ [])
 
   abbrev pub before : Played → Run
   before p = run_before (goes_by settings) so_far.played p
+
+  -- the shards before it
+  states_before : (p : Played) → state_at group ≡ (before p).shards
+  states_before p = so_far.same_states ∙ same_shards (goes_by settings) so_far.played p
 
   -- whose text was read, and which left what it leaves
   one_more : (p : Played) → Reads left (spelled p.command) left' → IsLegal (goes_by settings).receivers p.command → IsOutcome (goes_by settings) p.command p.outcome
       → ((back : Backend) → AfterDeliveries (deliveries (goes_by settings) back (so_far.played ++ p ∷ [])) (old back) (new' back))
       → AfterSendings (sendings (so_far.played ++ p ∷ [])) had has'
-      → shard' ≡ (play (goes_by settings) (before p) p).shards 0 → desk' ≡ (play (goes_by settings) (before p) p).desk
+      → ((i : ℕ) → i < (goes_by settings).shards → state_at group' i ≡ asked_by (goes_by settings) some p.command i (state_at group i)) → desk' ≡ (play (goes_by settings) (before p) p).desk
       → at' ≡ min (at + length (spelled p.command)) last_count → More p
-  one_more p text legal used after sent s d a =
+  one_more p text legal used after sent each d a =
       let ps = so_far.played in
       let commands : commands_of (ps ++ p ∷ []) ≡ commands_of ps ++ p.command ∷ [] = map-append (λ (q : Played). q.command) ps (p ∷ []) in (
         record {
@@ -226,7 +222,7 @@ module _ (settings : file.Settings) (script left left' : Told) (old new new' : B
           used = AllByRecursion-push (λ (q : Played). IsOutcome (goes_by settings) q.command q.outcome) ps p so_far.used used;
           texts = after;
           sends = sent;
-          same_shard = s ∙ ap (λ (r : Run). r.shards 0) (sym (run_of-push (goes_by settings) ps p));
+          same_states = stepped (goes_by settings) some (before p) p group group' by.count alike.count (states_before p) each ∙ ap (λ (r : Run). r.shards) (sym (run_of-push (goes_by settings) ps p));
           same_desk = d ∙ ap (λ (r : Run). r.desk) (sym (run_of-push (goes_by settings) ps p));
           same_place = a ∙ longer (commands_of ps) p.command at so_far.same_place ∙ ap (λ cs. min (length (script_text cs)) last_count) (sym commands);
           turns = omega (arith, so_far.turns, length-append ps (p ∷ []));
@@ -234,88 +230,83 @@ module _ (settings : file.Settings) (script left left' : Told) (old new new' : B
         refl,
       )
 
-  -- the shard before it
-  shard_before : (p : Played) → shard ≡ (before p).shards 0
-  shard_before p = so_far.same_shard ∙ same_shards (goes_by settings) so_far.played p
+  -- a record that is no flush gives the backends nothing
+  no_delivery : (p : Played) → ((back : Backend) → deliveries (goes_by settings) back (so_far.played ++ p ∷ []) ≡ deliveries (goes_by settings) back so_far.played) → new' ≡ new
+      → (back : Backend) → AfterDeliveries (deliveries (goes_by settings) back (so_far.played ++ p ∷ [])) (old back) (new' back)
+  no_delivery p same kept back =
+      subst (λ ds. AfterDeliveries ds (old back) (new' back)) (sym (same back))
+      (subst (λ (f : Backend → Object). AfterDeliveries (deliveries (goes_by settings) back so_far.played) (old back) (f back)) (sym kept) (so_far.texts back))
+
+  -- and one that is no packet is sent on no wire
+  no_sending : (p : Played) → sendings (so_far.played ++ p ∷ []) ≡ sendings so_far.played → has' ≡ has → AfterSendings (sendings (so_far.played ++ p ∷ [])) had has'
+  no_sending p same kept = subst (λ ss. AfterSendings ss had has') (sym same) (subst (λ ws. AfterSendings (sendings so_far.played) had ws) (sym kept) so_far.sends)
 
   -- a packet more: it is sent on, its samples are filed, and it is counted
   pub packet_more : (who moment : ℕ) (datagram : List ℕ) (failed : List Bool) → Reads left (spelled (Packet who moment datagram)) left' → IsLegal (goes_by settings).receivers (Packet who moment datagram)
       → begun ≡ (before (record { command = Packet who moment datagram; outcome = record { marks = no_marks; failed = failed } })).desk
       → length failed ≡ length (goes_by settings).targets → IsRepeated datagram failed has has'
-      → shard' ≡ filed (goes_by settings).limits (goes_by settings).policy who shard (samples_of datagram)
-      → desk' ≡ with_repeater_faults (with_tally begun (packet_tally datagram (lost (goes_by settings).limits (goes_by settings).policy who shard (samples_of datagram))) moment) (failures failed)
+      → ((i : ℕ) → i < length group.states → state_at group' i ≡ filed_at group who datagram i)
+      → desk' ≡ with_repeater_faults (with_tally begun (packet_tally datagram (sum_by dropped_in (replies_at group who datagram))) moment) (failures failed)
       → at' ≡ min (at + length (spelled (Packet who moment datagram))) last_count → new' ≡ new
       → More (record { command = Packet who moment datagram; outcome = record { marks = no_marks; failed = failed } })
-  packet_more who moment datagram failed text legal same_desk count sent s d a kept =
-      let outcome : Outcome = record { marks = no_marks; failed = failed } in
-      let p : Played = record { command = Packet who moment datagram; outcome = outcome } in
-      let run = before p in
-      let limits = (goes_by settings).limits in
-      let policy = (goes_by settings).policy in
-      let same : (back : Backend) → deliveries (goes_by settings) back (so_far.played ++ p ∷ []) ≡ deliveries (goes_by settings) back so_far.played =
-      λ back. deliveries-push (goes_by settings) back so_far.played p ∙ append-nil (deliveries (goes_by settings) back so_far.played) in
-      let filed_by : State → Desk = λ state. with_repeater_faults (with_tally begun (packet_tally datagram (lost limits policy who state (samples_of datagram))) moment) (failures failed) in
-      let counted_by : Desk → Desk = λ e. with_repeater_faults (with_tally e (packet_tally datagram (lost limits policy who (run.shards 0) (samples_of datagram))) moment) (failures failed) in
+  packet_more who moment datagram failed text legal same_desk count sent each d a kept =
+      let p : Played = record { command = Packet who moment datagram; outcome = record { marks = no_marks; failed = failed } } in
+      let counted_by : Desk → ℕ → Desk = λ e n. with_repeater_faults (with_tally e (packet_tally datagram n) moment) (failures failed) in
       one_more p text legal (refl, count)
-      (λ back. subst (λ ds. AfterDeliveries ds (old back) (new' back)) (sym (same back)) (subst (λ (f : Backend → Object). AfterDeliveries (deliveries (goes_by settings) back so_far.played) (old back) (f back)) (sym kept) (so_far.texts back)))
+      (no_delivery p (λ back. deliveries-push (goes_by settings) back so_far.played p ∙ append-nil (deliveries (goes_by settings) back so_far.played)) kept)
       (subst (λ ss. AfterSendings ss had has') (sym (sendings-push so_far.played p)) (AfterSendings-push (sendings so_far.played) (record { packet = datagram; failed = failed }) had has has' so_far.sends sent))
-      (s ∙ ap (λ (state : State). filed limits policy who state (samples_of datagram)) (shard_before p) ∙ packet_shard settings run who moment datagram outcome)
-      (d ∙ ap filed_by (shard_before p) ∙ ap counted_by same_desk ∙ packet_desk settings run who moment datagram outcome)
+      (λ i below. each i (omega (arith, below, by.count)) ∙ filed_by (goes_by settings) group who moment datagram i by)
+      (d ∙ ap (counted_by begun) (replied_by (goes_by settings) (before p) group who moment datagram by (states_before p)) ∙ ap (λ e. counted_by e (sum_by dropped_in (replies_to (goes_by settings) (before p) p.command))) same_desk)
       a
 
-  -- a flush more: the shard is swapped, the tally is taken, and each backend was given the text, as its mark says
+  -- a flush more: the shards are swapped, the tally is taken, and each backend was given the text, as its mark says
   pub flush_more : (ts : ℕ) (marks : Marks) → Reads left (spelled (Flush ts)) left' → IsLegal (goes_by settings).receivers (Flush ts)
       → begun ≡ (before (record { command = Flush ts; outcome = record { marks = marks; failed = [] } })).desk
       → ((back : Backend) → FitsUse (is_used (goes_by settings) back) (mark_of back marks))
-      → ((back : Backend) → AfterMark (mark_of back marks) (text_of (goes_by settings) back (record_of (goes_by settings).plan (table_of shard ∷ []) begun.tally ts)) (new back) (new' back))
-      → shard' ≡ after_swap (goes_by settings).policy shard → desk' ≡ with_round begun marks
+      → ((back : Backend) → AfterMark (mark_of back marks) (text_of (goes_by settings) back (record_of (goes_by settings).plan (map (λ i. table_of (state_at group i)) (numbers group)) begun.tally ts)) (new back) (new' back))
+      → ((i : ℕ) → i < length group.states → state_at group' i ≡ after_swap group.policy (state_at group i)) → desk' ≡ with_round begun marks
       → at' ≡ min (at + length (spelled (Flush ts))) last_count → has' ≡ has → More (record { command = Flush ts; outcome = record { marks = marks; failed = [] } })
-  flush_more ts marks text legal same_desk uses after s d a kept =
+  flush_more ts marks text legal same_desk uses after each d a kept =
       let p : Played = record { command = Flush ts; outcome = record { marks = marks; failed = [] } } in
       let run = before p in
       let f : FlushMoment = record { before = run; ts = ts; marks = marks } in
-      let record_in : State → Desk → Record = λ state e. record_of (goes_by settings).plan (table_of state ∷ []) e.tally ts in
-      let delivered : (back : Backend) → AfterMark (mark_of back marks) (text_of (goes_by settings) back (record_in (run.shards 0) run.desk)) (new back) (new' back) =
-      λ back. subst (λ e. AfterMark (mark_of back marks) (text_of (goes_by settings) back (record_in (run.shards 0) e)) (new back) (new' back)) same_desk
-      (subst (λ state. AfterMark (mark_of back marks) (text_of (goes_by settings) back (record_in state begun)) (new back) (new' back)) (shard_before p) (after back)) in
-      let delivery : Backend → Delivery = λ back. delivery_of (goes_by settings) back f in
+      let record_in : ℕ → (ℕ → State) → Desk → Record = λ n states e. record_of (goes_by settings).plan (map (λ i. table_of (states i)) (range_with_len 0 n)) e.tally ts in
+      let same_record : record_in (length group.states) (state_at group) begun ≡ record_in (goes_by settings).shards run.shards run.desk =
+      ap (λ n. record_in n (state_at group) begun) by.count ∙ ap (λ states. record_in (goes_by settings).shards states begun) (states_before p) ∙ ap (record_in (goes_by settings).shards run.shards) same_desk in
+      let delivered : (back : Backend) → AfterMark (mark_of back marks) (text_of (goes_by settings) back (record_at (goes_by settings) f)) (new back) (new' back) =
+      λ back. subst (λ r. AfterMark (mark_of back marks) (text_of (goes_by settings) back r) (new back) (new' back)) same_record (after back) in
       one_more p text legal (refl, uses)
       (λ back. subst (λ ds. AfterDeliveries ds (old back) (new' back)) (sym (deliveries-push (goes_by settings) back so_far.played p))
-      (AfterDeliveries-push (deliveries (goes_by settings) back so_far.played) (delivery back) (old back) (new back) (new' back) (so_far.texts back) (delivered back)))
-      (subst (λ ss. AfterSendings ss had has') (sym (sendings-push so_far.played p ∙ append-nil (sendings so_far.played))) (subst (λ ws. AfterSendings (sendings so_far.played) had ws) (sym kept) so_far.sends))
-      (s ∙ ap (after_swap (goes_by settings).policy) (shard_before p))
+      (AfterDeliveries-push (deliveries (goes_by settings) back so_far.played) (delivery_of (goes_by settings) back f) (old back) (new back) (new' back) (so_far.texts back) (delivered back)))
+      (no_sending p (sendings-push so_far.played p ∙ append-nil (sendings so_far.played)) kept)
+      (λ i below. each i (omega (arith, below, by.count)) ∙ ap (λ policy. after_swap policy (state_at group i)) by.policy)
       (d ∙ ap (λ (e : Desk). with_round e marks) same_desk)
       a
 
   -- an admin line more: its command is carried out
   pub line_more : (moment : ℕ) (line : List ℕ) → Reads left (spelled (Admin moment line)) left' → IsLegal (goes_by settings).receivers (Admin moment line)
       → begun ≡ (before (line_played moment line)).desk
-      → shard' ≡ commanded (admin.command line) (λ i. shard) 0 → desk' ≡ desk_after_line begun (admin.command line)
+      → ((i : ℕ) → state_at group' i ≡ commanded (admin.command line) (state_at group) i) → desk' ≡ desk_after_line begun (admin.command line)
       → at' ≡ min (at + length (spelled (Admin moment line))) last_count → new' ≡ new → has' ≡ has → More (line_played moment line)
-  line_more moment line text legal same_desk s d a kept_backs kept_wires =
+  line_more moment line text legal same_desk each d a kept_backs kept_wires =
       let p = line_played moment line in
-      let run = before p in
-      let same : (back : Backend) → deliveries (goes_by settings) back (so_far.played ++ p ∷ []) ≡ deliveries (goes_by settings) back so_far.played =
-      λ back. deliveries-push (goes_by settings) back so_far.played p ∙ append-nil (deliveries (goes_by settings) back so_far.played) in
       one_more p text legal (refl, refl)
-      (λ back. subst (λ ds. AfterDeliveries ds (old back) (new' back)) (sym (same back)) (subst (λ (f : Backend → Object). AfterDeliveries (deliveries (goes_by settings) back so_far.played) (old back) (f back)) (sym kept_backs) (so_far.texts back)))
-      (subst (λ ss. AfterSendings ss had has') (sym (sendings-push so_far.played p ∙ append-nil (sendings so_far.played))) (subst (λ ws. AfterSendings (sendings so_far.played) had ws) (sym kept_wires) so_far.sends))
-      (s ∙ ap (λ (state : State). commanded (admin.command line) (λ i. state) 0) (shard_before p) ∙ line_shard settings run moment line p.outcome)
+      (no_delivery p (λ back. deliveries-push (goes_by settings) back so_far.played p ∙ append-nil (deliveries (goes_by settings) back so_far.played)) kept_backs)
+      (no_sending p (sendings-push so_far.played p ∙ append-nil (sendings so_far.played)) kept_wires)
+      (λ i below. each i ∙ sym (line_carried (goes_by settings) (run_with (state_at group) begun) moment line i))
       (d ∙ ap (λ (e : Desk). desk_after_line e (admin.command line)) same_desk)
       a
 
   -- the text of what is replied to it
   pub line_replied : (moment : ℕ) (line : List ℕ) → begun ≡ (before (line_played moment line)).desk
-      → output_in (goes_by settings) (run_with shard begun) (Admin moment line) ≡ output_in (goes_by settings) (run_before (goes_by settings) so_far.played (line_played moment line)) (Admin moment line)
+      → output_in (goes_by settings) (run_with (state_at group) begun) (Admin moment line) ≡ output_in (goes_by settings) (before (line_played moment line)) (Admin moment line)
   line_replied moment line same_desk =
-      let run = before (line_played moment line) in
-      ap (λ (state : State). output_in (goes_by settings) (run_with state begun) (Admin moment line)) (shard_before (line_played moment line))
-      ∙ ap (λ (e : Desk). output_in (goes_by settings) (run_with (run.shards 0) e) (Admin moment line)) same_desk
-      ∙ line_output settings run moment line
+      ap (λ (states : ℕ → State). output_in (goes_by settings) (run_with states begun) (Admin moment line)) (states_before (line_played moment line))
+      ∙ ap (λ (e : Desk). output_in (goes_by settings) (run_with (before (line_played moment line)).shards e) (Admin moment line)) same_desk
 
 -- How a replay ends, where these bytes were read behind what it has carried out.
-module _ (settings : file.Settings) (old new : Seen) (left : Told) (shard : State) (desk : Desk) (at turn : ℕ) (had has : Backend → Object) (before : (back : Backend) → had back ≡ seen_at back old) (now : (back : Backend) → has back ≡ seen_at back new)
-    (so_far : Progress (goes_by settings) old.script.told left had has old.wires new.wires shard desk at turn) (ahead : List ℕ) (behind : Reads left ahead new.script.told) (used : Used old.script new.script) where
+module _ (settings : file.Settings) (old new : Seen) (left : Told) (group : Group) (desk : Desk) (at turn : ℕ) (had has : Backend → Object) (before : (back : Backend) → had back ≡ seen_at back old) (now : (back : Backend) → has back ≡ seen_at back new)
+    (so_far : Progress (goes_by settings) old.script.told left had has old.wires new.wires (state_at group) desk at turn) (ahead : List ℕ) (behind : Reads left ahead new.script.told) (used : Used old.script new.script) where
   abbrev course : Course
   course = record { played = so_far.played; ahead = ahead }
 
@@ -335,21 +326,23 @@ module _ (settings : file.Settings) (old new : Seen) (left : Told) (shard : Stat
     sends = so_far.sends;
   }
 
-  same_totals : (begun : Desk) → begun ≡ (run_of (goes_by settings) (first_run so_far.played) so_far.played).desk → totals_of_one shard begun ≡ totals_after (goes_by settings) so_far.played
-  same_totals begun same_desk =
+  same_totals : (begun : Desk) → length group.states ≡ (goes_by settings).shards → begun ≡ (run_of (goes_by settings) (first_run so_far.played) so_far.played).desk → totals_of_group group begun ≡ totals_after (goes_by settings) so_far.played
+  same_totals begun count same_desk =
       let run = run_of (goes_by settings) (first_run so_far.played) so_far.played in
-      ap (λ (state : State). totals_of_one state begun) so_far.same_shard ∙ ap (totals_of_one (run.shards 0)) same_desk ∙ totals_one settings run
+      ap (λ n. totals_of (record (goes_by settings) { shards = n }) (run_with (state_at group) begun)) count
+      ∙ ap (λ (states : ℕ → State). totals_of (goes_by settings) (run_with states begun)) so_far.same_states
+      ∙ ap (λ (e : Desk). totals_of (goes_by settings) (run_with run.shards e)) same_desk
 
   -- the script counted no fault
   module _ (script_faults : new.script.faults ≡ old.script.faults) where
     -- the word was read, and these totals were written
-    pub completes : (begun : Desk) (totals : Totals) (rest : List ℕ) (output : Object) → begun ≡ (run_of (goes_by settings) (first_run so_far.played) so_far.played).desk → turn < 2 ^ 62 → ahead ≡ end_word ++ rest → totals ≡ totals_of_one shard begun
+    pub completes : length group.states ≡ (goes_by settings).shards → (begun : Desk) (totals : Totals) (rest : List ℕ) (output : Object) → begun ≡ (run_of (goes_by settings) (first_run so_far.played) so_far.played).desk → turn < 2 ^ 62 → ahead ≡ end_word ++ rest → totals ≡ totals_of_group group begun
         → HasWritten so_far.played output → new.output ≡ given (totals_text totals) output → Replayed (goes_by settings) (Complete totals) old new
-    completes begun totals rest output same_desk few word counts front written = record {
+    completes group_count begun totals rest output same_desk few word counts front written = record {
       course = course;
       theorem = theorem;
       ends = record {
-        read = (omega (arith, few, so_far.turns), (rest, word), counts ∙ same_totals begun same_desk);
+        read = (omega (arith, few, so_far.turns), (rest, word), counts ∙ same_totals begun group_count same_desk);
         script = used;
         script_faults = script_faults;
         output = written ∙ ap (given (totals_text totals)) front ∙ given-given (output_of (goes_by settings) so_far.played) (totals_text totals) old.output;
@@ -357,9 +350,9 @@ module _ (settings : file.Settings) (old new : Seen) (left : Told) (shard : Stat
     }
 
     -- the word was read, and a write of the totals failed
-    pub writes_part : (begun : Desk) (rest : List ℕ) (output : Object) → begun ≡ (run_of (goes_by settings) (first_run so_far.played) so_far.played).desk → turn < 2 ^ 62 → ahead ≡ end_word ++ rest
-        → HasWritten so_far.played output → HasFailedBehind (totals_text (totals_of_one shard begun)) output new.output → Replayed (goes_by settings) WriteFailed old new
-    writes_part begun rest output same_desk few word front failed = record {
+    pub writes_part : length group.states ≡ (goes_by settings).shards → (begun : Desk) (rest : List ℕ) (output : Object) → begun ≡ (run_of (goes_by settings) (first_run so_far.played) so_far.played).desk → turn < 2 ^ 62 → ahead ≡ end_word ++ rest
+        → HasWritten so_far.played output → HasFailedBehind (totals_text (totals_of_group group begun)) output new.output → Replayed (goes_by settings) WriteFailed old new
+    writes_part group_count begun rest output same_desk few word front failed = record {
       course = course;
       theorem = theorem;
       ends = record {
@@ -371,8 +364,8 @@ module _ (settings : file.Settings) (old new : Seen) (left : Told) (shard : Stat
           text = totals_text (totals_after (goes_by settings) so_far.played);
           few = omega (arith, few, so_far.turns);
           writing = inl (record { all = refl; ends = (rest, word); totals = refl });
-          failed = subst (λ totals. HasFailedBehind (totals_text totals) (given (output_of (goes_by settings) so_far.played) old.output) new.output) (same_totals begun same_desk)
-              (subst (λ (o : Object). HasFailedBehind (totals_text (totals_of_one shard begun)) o new.output) front failed);
+          failed = subst (λ totals. HasFailedBehind (totals_text totals) (given (output_of (goes_by settings) so_far.played) old.output) new.output) (same_totals begun group_count same_desk)
+              (subst (λ (o : Object). HasFailedBehind (totals_text (totals_of_group group begun)) o new.output) front failed);
         };
       };
     }

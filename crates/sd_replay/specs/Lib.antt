@@ -1,5 +1,4 @@
 pub mod Ends
-pub mod Filed
 pub mod Room
 pub mod RoomInside
 pub mod Seen

@@ -1,28 +1,25 @@
--- What a replay's room is opened for; tables that a shard can be swapped for; and room for records of the tables that it
--- gives.
-use Rattle.std.specs.Prelude.{◌≡◌, ◌≤◌, ℕ, []}
+-- What a replay's room is opened for; and room for what shards tell at once.
+use Rattle.std.specs.Prelude.{◌≤◌, ◌*◌, ℕ}
 use Rattle.sd_model_shard.specs.Shard.{Limits, Policy}
 use Rattle.sd_model_replay.specs.Settings.{Settings}
-use Rattle.sd_epoch.specs.Table.{Listing}
 use Rattle.sd_record.specs.Rows.{Room}
 
 -- what the room of a replay depends on
 pub record Sizing : Type 0 where
+  pub shards : ℕ
   pub limits : Limits
   pub policy : Policy
   pub receivers : ℕ
 
 -- that of settings
 abbrev pub sizing_of : Settings → Sizing
-sizing_of s = record { limits = s.limits; policy = s.policy; receivers = s.receivers }
+sizing_of s = record { shards = s.shards; limits = s.limits; policy = s.policy; receivers = s.receivers }
 
--- an empty table of these limits
-pub record IsSpareFor (most : Limits) (spare : Listing) : Type 0 where
-  pub limits : spare.limits ≡ most
-  pub no_rows : spare.listed ≡ []
-  pub no_entries : spare.held ≡ []
+-- room for the rows of so many shards of these limits
+abbrev pub HoldsRows : ℕ → Limits → ℕ → Type 0
+HoldsRows shards most room = shards * most.rows ≤ room
 
--- a table of these limits has room for its record
-pub record HasRoom (most : Limits) (room : Room) : Type 0 where
-  pub rows : most.rows ≤ room.rows
+-- tables of so many shards of these limits have room for their record
+pub record HasRoom (shards : ℕ) (most : Limits) (room : Room) : Type 0 where
+  pub rows : most.rows * shards ≤ room.rows
   pub entries : most.entries ≤ room.entries

@@ -1,8 +1,9 @@
 -- The totals of the code, as the definitions have them.
 use Rattle.std.specs.Prelude.{length}
-use Rattle.sd_model_shard.specs.Shard.{State}
 use Rattle.sd_model_record.specs.Desk.{Desk}
 use Rattle.sd_model_replay.specs.Totals as model
+use Rattle.sd_shards.specs.Shards.{Group}
+use Rattle.sd_shards.specs.Book.{summed}
 use Rattle.sd_replay.specs.declared.totals.Totals.{Totals}
 
 abbrev pub totals_view : Totals → model.Totals
@@ -23,18 +24,18 @@ totals_view t =
       admin_faults = t.admin_faults;
     }
 
--- the totals of one shard and a desk
-abbrev pub totals_of_one : State → Desk → model.Totals
-totals_of_one state desk =
+-- the totals of shards and a desk
+abbrev pub totals_of_group : Group → Desk → model.Totals
+totals_of_group group desk =
     record {
       packets = desk.totals.packets;
       lines = desk.totals.lines;
       bad = desk.totals.bad;
-      taken = state.taken;
-      dropped = state.dropped;
-      flushed = state.flushed;
-      held = length state.held;
-      deleted = state.deleted;
+      taken = summed group (λ state. state.taken);
+      dropped = summed group (λ state. state.dropped);
+      flushed = summed group (λ state. state.flushed);
+      held = summed group (λ state. length state.held);
+      deleted = summed group (λ state. state.deleted);
       rounds = desk.rounds;
       graphite_faults = desk.graphite_faults;
       console_faults = desk.console_faults;

@@ -1,9 +1,8 @@
-//! Scripts: the records of a script, carried out one after another on a shard.
+//! Scripts: the records of a script, carried out one after another on shards.
 #![tactic(auto)]
 
 mod fault;
 mod flush;
-mod packet;
 mod room;
 mod run;
 mod settings;

@@ -2,21 +2,17 @@ ghost use Rattle.std.specs.Prelude.{◌≡◌, IfOk};
 
 use crate::settings::{limits_of, policy_of};
 use sd_config::Settings;
-use sd_epoch::Table;
 use sd_record::RecordScratch;
 use sd_script::Reader;
-use sd_shard::{Dump, Keys, Shard};
+use sd_shard::{Dump, Keys};
+use sd_shards::Shards;
 use std::alloc::{AllocError, Global};
 use std::marker::Model;
-
-/// How many shards run.
-const SHARDS: u16 = 1;
 
 /// All that a replay works on, in room taken when it was opened for its settings. Nothing was done yet.
 #[derive(Drop)]
 pub struct ReplayRoom {
-    pub(crate) shard: Shard,
-    pub(crate) spare: Table,
+    pub(crate) shards: Shards,
     pub(crate) scratch: RecordScratch,
     pub(crate) keys: Keys,
     pub(crate) dump: Dump,
@@ -48,12 +44,13 @@ impl ReplayRoom {
         ensures { IfOk result (λ room. room ≡ sizing_of (goes_by settings.now)) }
     {
         let limits = limits_of(settings);
+        let shards = settings.shards() as u16;
+        let rows = u32::from(shards) * limits.rows;
         Ok(ReplayRoom {
-            shard: Shard::open(alloc, limits, policy_of(settings))?,
-            spare: Table::open(alloc, limits)?,
-            scratch: RecordScratch::open(alloc, limits, SHARDS)?,
-            keys: Keys::open(alloc, limits.rows)?,
-            dump: Dump::open(alloc, limits.rows)?,
+            shards: Shards::open(alloc, shards, limits, policy_of(settings))?,
+            scratch: RecordScratch::open(alloc, limits, shards)?,
+            keys: Keys::open(alloc, rows)?,
+            dump: Dump::open(alloc, rows)?,
             reader: Reader::open(alloc, settings.receivers() as u16)?,
         })
     }

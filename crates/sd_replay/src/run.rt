@@ -1,23 +1,22 @@
-ghost use Rattle.std.specs.Prelude.{◌≡◌, ◌≢◌, ◌≤◌, ◌<◌, ◌^◌, length, map, OnErr, IfOk};
-ghost use Rattle.sd_model_text.specs.Lines.{samples_of};
+ghost use Rattle.std.specs.Prelude.{◌≡◌, ◌≢◌, ◌≤◌, ◌<◌, ◌^◌, ℕ, length, map, sum_by, OnErr, IfOk};
 ghost use Rattle.sd_model_outside.specs.Outside.{HasFailedBehind, given};
+ghost use Rattle.sd_model_shard.specs.Whereabouts.{dropped_in};
 ghost use Rattle.sd_model_record.specs.Desk.{new_desk};
 ghost use Rattle.sd_model_replay.specs.Settings.{goes_by};
 ghost use Rattle.sd_model_replay.specs.Replay.{packet_tally};
 ghost use Rattle.sd_model_replay.specs.Totals.{totals_text};
 ghost use Rattle.sd_model_replay.specs.Ends.{Replayed};
-ghost use Rattle.sd_shard.specs.Shard.{state_of};
+ghost use Rattle.sd_shards.specs.Shards.{AreAlike, state_at};
+ghost use Rattle.sd_shards.specs.Filed.{filed_at, replies_at};
 ghost use Rattle.sd_replay.specs.Ends.{end_of};
-ghost use Rattle.sd_replay.specs.Filed.{filed, lost};
 ghost use Rattle.sd_replay.specs.Room.{sizing_of};
 ghost use Rattle.sd_replay.specs.Seen.{seen_of};
 ghost use Rattle.sd_replay.specs.Start.{start_in};
 ghost use Rattle.sd_replay.specs.Sent.{IsPlayed};
-ghost use Rattle.sd_replay.specs.Totals.{totals_of_one, totals_view};
+ghost use Rattle.sd_replay.specs.Totals.{totals_of_group, totals_view};
 
 use crate::fault::{ScriptFault, fault_at};
 use crate::flush::flush;
-use crate::packet::file_packet;
 use crate::room::ReplayRoom;
 use crate::settings::targets_of;
 use crate::totals::{Totals, write_totals};
@@ -28,7 +27,7 @@ use sd_epoch::Who;
 use sd_outside::{Backend, Backs, Sink, Source, Wire, WriteFault};
 use sd_repeater::repeat;
 use sd_script::Item;
-use sd_shard::Shard;
+use sd_shards::Shards;
 
 /// How many records a replay carries out at most.
 const MOST_TURNS: u64 = 1 << 62;
@@ -48,21 +47,21 @@ pub enum ReplayEnd {
     Worn { turns: u64 },
 }
 
-/// The totals of a shard and a desk.
-fn totals_of(shard: &Shard, desk: &Desk) -> Totals
-    ensures { totals_view result ≡ totals_of_one (state_of shard.now) desk.now }
+/// The totals of shards and a desk.
+fn totals_of(shards: &Shards, desk: &Desk) -> Totals
+    ensures { totals_view result ≡ totals_of_group shards.now desk.now }
 {
-    let book = shard.book();
+    let book = shards.book();
     let facts = desk.facts();
     Totals {
         packets: u128::from(facts.totals.packets),
         lines: u128::from(facts.totals.lines),
         bad: u128::from(facts.totals.bad),
-        taken: u128::from(book.taken),
-        dropped: u128::from(book.dropped),
-        flushed: u128::from(book.flushed),
-        held: u128::from(book.held),
-        deleted: u128::from(book.deleted),
+        taken: book.taken,
+        dropped: book.dropped,
+        flushed: book.flushed,
+        held: book.held,
+        deleted: book.deleted,
         rounds: u128::from(facts.rounds),
         graphite_faults: u128::from(facts.graphite_faults),
         console_faults: u128::from(facts.console_faults),
@@ -73,7 +72,7 @@ fn totals_of(shard: &Shard, desk: &Desk) -> Totals
 
 /// Sends a datagram on each wire, files its samples, and counts it at its moment.
 fn play_packet<L: Wire>(
-    shard: &mut Shard,
+    shards: &mut Shards,
     desk: &mut Desk,
     wires: &mut [L],
     who: u16,
@@ -82,15 +81,13 @@ fn play_packet<L: Wire>(
 )
     requires datagram { length datagram.now ≤ 65507 }
     requires wires { length wires.old < 2 ^ 32 }
-    ensures state { state_of shard.new ≡ filed shard.old.table.limits shard.old.policy who (state_of shard.old) (samples_of datagram.now) }
-    ensures played { IsPlayed datagram.now
-        (packet_tally datagram.now (lost shard.old.table.limits shard.old.policy who (state_of shard.old) (samples_of datagram.now)))
+    ensures states { (i : ℕ) → i < length shards.old.states → state_at shards.new i ≡ filed_at shards.old who datagram.now i }
+    ensures played { IsPlayed datagram.now (packet_tally datagram.now (sum_by dropped_in (replies_at shards.old who datagram.now)))
         moment (map L.seen wires.old) (map L.seen wires.new) desk.old desk.new }
-    ensures limits { shard.new.table.limits ≡ shard.old.table.limits }
-    ensures policy { shard.new.policy ≡ shard.old.policy }
+    ensures alike { AreAlike shards.old shards.new }
 {
     let failed = repeat(datagram, wires);
-    let filed = file_packet(shard, Who(who), datagram);
+    let filed = shards.file(Who(who), datagram);
     let tally = Tally {
         packets: 1,
         lines: filed.lines,
@@ -101,17 +98,17 @@ fn play_packet<L: Wire>(
     desk.repeater_faults(failed);
 }
 
-/// Writes the totals of a shard and a desk, and answers them.
+/// Writes the totals of shards and a desk, and answers them.
 ///
 /// # Errors
 ///
 /// `WriteFault` where the output failed. Then a front of their text was written.
-fn finish<O: Sink>(shard: &Shard, desk: &Desk, output: &mut O) -> Result<Totals, WriteFault>
-    ensures totals { IfOk result (λ totals. totals_view totals ≡ totals_of_one (state_of shard.now) desk.now) }
+fn finish<O: Sink>(shards: &Shards, desk: &Desk, output: &mut O) -> Result<Totals, WriteFault>
+    ensures totals { IfOk result (λ totals. totals_view totals ≡ totals_of_group shards.now desk.now) }
     ensures written { IfOk result (λ totals. O.seen output.new ≡ given (totals_text (totals_view totals)) (O.seen output.old)) }
-    ensures failed { OnErr result (HasFailedBehind (totals_text (totals_of_one (state_of shard.now) desk.now)) (O.seen output.old) (O.seen output.new)) }
+    ensures failed { OnErr result (HasFailedBehind (totals_text (totals_of_group shards.now desk.now)) (O.seen output.old) (O.seen output.new)) }
 {
-    let totals = totals_of(shard, desk);
+    let totals = totals_of(shards, desk);
     write_totals(&totals, output)?;
     Ok(totals)
 }
@@ -159,8 +156,7 @@ pub fn replay<R: Source, O: Sink, B: Backend, L: Wire>(
     ensures console_flag { backs.new.console_used ≡ backs.old.console_used }
 {
     let ReplayRoom {
-        mut shard,
-        mut spare,
+        mut shards,
         mut scratch,
         mut keys,
         mut dump,
@@ -177,12 +173,11 @@ pub fn replay<R: Source, O: Sink, B: Backend, L: Wire>(
         match item {
             Item::Packet { who, moment } => {
                 let used = &mut wires[..targets];
-                play_packet(&mut shard, &mut desk, used, who, moment, reader.body());
+                play_packet(&mut shards, &mut desk, used, who, moment, reader.body());
             }
             Item::Flush { ts } => {
-                let flushed = flush(
-                    &mut shard,
-                    spare,
+                let _ = flush(
+                    &mut shards,
                     &mut desk,
                     &mut scratch,
                     settings.plan(),
@@ -190,11 +185,10 @@ pub fn replay<R: Source, O: Sink, B: Backend, L: Wire>(
                     ts,
                     backs,
                 );
-                spare = flushed.spare;
             }
             Item::Admin { moment } => {
                 let told = carry_out(
-                    &mut shard,
+                    &mut shards,
                     &mut desk,
                     &mut keys,
                     &mut dump,
@@ -208,7 +202,7 @@ pub fn replay<R: Source, O: Sink, B: Backend, L: Wire>(
                 }
             }
             Item::End => {
-                return match finish(&shard, &desk, output) {
+                return match finish(&shards, &desk, output) {
                     Ok(totals) => ReplayEnd::Ok(totals),
                     Err(WriteFault) => ReplayEnd::WriteFault,
                 };

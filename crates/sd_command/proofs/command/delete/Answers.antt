@@ -1,13 +1,16 @@
-use Rattle.std.proofs.Common.{◌≡◌, ℕ, ◌+◌, [], ◌∷◌, ◌++◌, take, sym, ap, subst, ◌∙◌, arith, Some, None, slice_get, flat_map}
+use Rattle.std.proofs.Common.{◌≡◌, ◌<◌, map, inl, inr, ℕ, ◌+◌, ◌++◌, take, sym, ap, subst, ◌∙◌, arith, Some, None, slice_get, flat_map, List, length}
+use Rattle.std.proofs.lemmas.Bool.{cases_lt}
+use Rattle.std.specs.List.{range_with_len}
+use Rattle.sd_model_text.specs.Names.{Kind}
 use Rattle.sd_model_record.specs.Admin.{names_of}
 use Rattle.sd_model_record.specs.Replies.{Finish, Gone, reply_text}
 use Rattle.sd_model_shard.specs.Shard.{State, after_delete, deletion_of}
 use Rattle.sd_model_replay.specs.Output.{keys_told}
 use Rattle.sd_key.specs.Kind.{kind_of}
-use Rattle.sd_shard.specs.Shard.{state_of}
+use Rattle.sd_shards.specs.Shards.{Group, AreAlike, state_at}
 use Rattle.sd_admin.specs.Command.{command_view}
 use Rattle.sd_command.specs.Commanded.{IsWritten, deleted, replied, gone}
-use Rattle.sd_command.proofs.CommandLemmas.{deleted-more, replied-more, text-more, take-more, found_below, none_found}
+use Rattle.sd_command.proofs.CommandLemmas.{deleted-more, replied-more, text-more, take-more, found_below, none_found, state_past, idle_delete, both_alike}
 use Rattle.sd_command.proofs.command.delete.Goals as goal
 
 pub overflow_add-i : goal.overflow_add-i
@@ -22,41 +25,50 @@ loop-name-smaller g c =
     let found : slice_get names c.loop-name.i ≡ Some c.in-Some.name = sym (c.requires.names c.loop-name.i) ∙ sym c.name.ensures ∙ c.in-Some.is in
     omega (arith, found_below names c.loop-name.i c.in-Some.name found)
 
+-- what a deletion leaves of the shards, and beyond the last nothing
+left_by : (kind : Kind) (name : List ℕ) (old new : Group) → ((k : ℕ) → k < length old.states → state_at new k ≡ after_delete kind name (state_at old k)) → AreAlike old new → (k : ℕ) → state_at new k ≡ after_delete kind name (state_at old k)
+left_by kind name old new within alike k = elim (cases_lt k (length old.states)) [
+  | inl below ↦ within k below
+  | inr past ↦ state_past new k (omega (arith, past, alike.count)) ∙ sym (ap (after_delete kind name) (state_past old k past) ∙ idle_delete kind name)
+]
+
 pub loop-name-preserved : goal.loop-name-preserved
 loop-name-preserved g c =
     let names = names_of (command_view c.args.names.now) in
     let kind = kind_of c.args.kind in
-    let first : ℕ → State = λ j. state_of c.args.shard.now in
+    let shards = length c.args.shards.now.states in
+    let first = state_at c.args.shards.now in
     let i = c.loop-name.i in
     let name = c.in-Some.name in
     let so_far = take i names in
     let stands = c.loop-name.invariant in
     let found : slice_get names i ≡ Some name = sym (c.requires.names i) ∙ sym c.name.ensures ∙ c.in-Some.is in
     let more = take-more names i name found in
-    let text = flat_map reply_text (replied 1 kind first so_far) in
-    let told : text ++ reply_text (Gone name c.delete_name.new.keys.keys) ≡ flat_map reply_text (replied 1 kind first (take (i + 1) names)) =
-    ap (λ keys. text ++ reply_text (Gone name keys)) (c.delete_name.ensures.keys ∙ ap (λ state. keys_told (deletion_of kind name state ∷ [])) stands.1)
-    ∙ sym (text-more (replied 1 kind first so_far) (gone 1 kind (deleted kind first so_far) name))
-    ∙ ap (flat_map reply_text) (sym (replied-more 1 kind first so_far name) ∙ ap (replied 1 kind first) (sym more)) in (
+    let text = flat_map reply_text (replied shards kind first so_far) in
+    let here : state_at c.loop-name.shards ≡ deleted kind first so_far = λ t k. stands.1 k t in
+    let told : text ++ reply_text (Gone name c.delete.new.keys.keys) ≡ flat_map reply_text (replied shards kind first (take (i + 1) names)) =
+    ap (λ keys. text ++ reply_text (Gone name keys)) (
+    c.delete.ensures.keys ∙ ap (λ n. keys_told (map (λ k. deletion_of kind name (state_at c.loop-name.shards k)) (range_with_len 0 n))) stands.3.count
+    ∙ ap (λ (states : ℕ → State). keys_told (map (λ k. deletion_of kind name (states k)) (range_with_len 0 shards))) here)
+    ∙ sym (text-more (replied shards kind first so_far) (gone shards kind (deleted kind first so_far) name))
+    ∙ ap (flat_map reply_text) (sym (replied-more shards kind first so_far name) ∙ ap (replied shards kind first) (sym more)) in (
       omega (arith, found_below names i name found),
-      c.delete_name.ensures.state ∙ ap (after_delete kind name) stands.1 ∙ sym (deleted-more kind first so_far name 0) ∙ ap (λ ns. deleted kind first ns 0) (sym more),
+      (λ k. left_by kind name c.loop-name.shards c.delete.new.self c.delete.ensures.states c.delete.ensures.alike k ∙ ap (after_delete kind name) (stands.1 k) ∙ sym (deleted-more kind first so_far name k) ∙ ap (λ ns. deleted kind first ns k) (sym more)),
       subst (λ t. IsWritten t c.tell-written.result (g.O.Faulty.seen c.args.output.now) (g.O.Faulty.seen c.tell-written.new.output)) told (c.tell-written.ensures text (g.O.Faulty.seen c.args.output.now) stands.2),
-      c.delete_name.ensures.limits ∙ stands.3,
-      c.delete_name.ensures.policy ∙ stands.4,
-      c.delete_name.ensures.room ∙ stands.5,
+      both_alike c.args.shards.now c.loop-name.shards c.delete.new.self stands.3 c.delete.ensures.alike,
+      c.delete.ensures.room ∙ stands.4,
     )
 
-pub returns-clause-state : goal.returns-clause-state
-returns-clause-state g c =
+pub returns-clause-states : goal.returns-clause-states
+returns-clause-states g c k =
     let names = names_of (command_view c.args.names.now) in
     let none : slice_get names c.loop-name.i ≡ None = sym (c.requires.names c.loop-name.i) ∙ sym c.name.ensures ∙ c.in_default.is in
-    c.loop-name.invariant.1 ∙ ap (λ ns. deleted (kind_of c.args.kind) (λ j. state_of c.args.shard.now) ns 0) (none_found names c.loop-name.i none)
+    c.loop-name.invariant.1 k ∙ ap (λ ns. deleted (kind_of c.args.kind) (state_at c.args.shards.now) ns k) (none_found names c.loop-name.i none)
 
 pub returns-clause-written : goal.returns-clause-written
 returns-clause-written g c =
     let names = names_of (command_view c.args.names.now) in
-    let first : ℕ → State = λ j. state_of c.args.shard.now in
-    let replies = replied 1 (kind_of c.args.kind) first in
+    let replies = replied (length c.args.shards.now.states) (kind_of c.args.kind) (state_at c.args.shards.now) in
     let none : slice_get names c.loop-name.i ≡ None = sym (c.requires.names c.loop-name.i) ∙ sym c.name.ensures ∙ c.in_default.is in
     let old = g.O.Faulty.seen c.args.output.now in
     let written = subst (λ ns. IsWritten (flat_map reply_text (replies ns)) c.loop-name.written old (g.O.Faulty.seen c.loop-name.output)) (none_found names c.loop-name.i none) c.loop-name.invariant.2 in

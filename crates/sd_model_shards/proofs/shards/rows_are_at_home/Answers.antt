@@ -3,8 +3,8 @@ use Rattle.std.specs.List.{AllByRecursion, IsDistinct}
 use Rattle.sd_model_shard.specs.Rows.{is_same_row}
 use Rattle.sd_model_replay.specs.Settings.{Settings}
 use Rattle.sd_model_replay.specs.Replay.{FlushMoment, first_run, flushes, run_of}
-use Rattle.sd_model_shards.specs.Shards.{rows_before}
-use Rattle.sd_model_shards.proofs.HomeLemmas.{AtHome, AtHome-flushes, AtHome-run, home_of_row, rows_distinct}
+use Rattle.sd_model_shards.specs.Shards.{AtHome, rows_before}
+use Rattle.sd_model_shards.proofs.HomeLemmas.{AtHome-flushes, AtHome-run, home_of_row, rows_distinct}
 use Rattle.sd_model_shards.proofs.shards.rows_are_at_home.Goals as goal
 
 each : (settings : Settings) (fs : List FlushMoment) → AllByRecursion (λ f. AtHome settings.shards f.before.shards) fs → AllByRecursion (λ f. IsDistinct is_same_row (rows_before settings f)) fs

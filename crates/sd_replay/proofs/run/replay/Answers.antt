@@ -1,10 +1,10 @@
-use Rattle.std.proofs.Common.{◌≡◌, ◌≢◌, ◌≤◌, ℕ, ◌^◌, List, [], ◌∷◌, ◌++◌, map, take, drop, length, length-take, length-append, sym, subst, ap, ◌∙◌, refl, arith}
+use Rattle.std.proofs.Common.{◌≡◌, ◌≢◌, ◌<◌, ℕ, ◌^◌, List, [], ◌++◌, map, take, drop, length, length-take, length-append, sym, subst, ap, ◌∙◌, refl, arith}
 use Rattle.sd_model_outside.specs.Outside.{Object, Used, Rose, HasFailedBehind, given, put_back}
 use Rattle.sd_model_outside.specs.Wires.{AreSent}
 use Rattle.sd_model_outside.proofs.OutsideLemmas.{Reads-append, Reads-nil}
 use Rattle.sd_model_outside.proofs.WriteLemmas.{given-given}
-use Rattle.sd_model_text.specs.Lines.{samples_of}
-use Rattle.sd_model_shard.specs.Shard.{Limits, Policy, State, after_swap, table_of}
+use Rattle.std.specs.Prelude.{sum_by}
+use Rattle.sd_model_shard.specs.Shard.{table_of}
 use Rattle.sd_model_record.specs.Console.{console_text}
 use Rattle.sd_model_record.specs.Desk.{Desk, Marks, new_desk, with_tally, with_repeater_faults}
 use Rattle.sd_model_record.specs.Admin as admin
@@ -24,9 +24,10 @@ use Rattle.sd_command.specs.Commanded.{commanded, run_with}
 use Rattle.sd_command.proofs.CommandLemmas.{failed_of, written_of}
 use Rattle.sd_model_replay.specs.AccountingTheorem.{Seen, seen_at}
 use Rattle.sd_model_replay.specs.Ends.{Replayed}
-use Rattle.sd_shard.specs.Shard.{Standing, state_of}
+use Rattle.sd_shards.specs.Shards.{Group, AreAlike, numbers, state_at}
+use Rattle.sd_shards.specs.Filed.{filed_at, replies_at}
+use Rattle.sd_model_shard.specs.Whereabouts.{dropped_in}
 use Rattle.sd_replay.specs.Ends.{end_of}
-use Rattle.sd_replay.specs.Filed.{filed, lost}
 use Rattle.sd_desk.specs.Marks.{marks_of}
 use Rattle.sd_config.specs.Entries.{target_view}
 use Rattle.sd_model_replay.proofs.SendingLemmas.{repeated_from, length-sent}
@@ -34,7 +35,7 @@ use Rattle.std.proofs.lemmas.List.{map-append, length-map, take-append-drop, len
 use Rattle.sd_script.specs.Flaws.{flaw_of}
 use Rattle.sd_script.specs.Reading.{left}
 use Rattle.sd_script.specs.Reads.{ReadsItem}
-use Rattle.sd_replay.specs.Room.{Sizing, IsSpareFor, HasRoom, sizing_of}
+use Rattle.sd_replay.specs.Room.{Sizing, HasRoom, HoldsRows, sizing_of}
 use Rattle.sd_replay.specs.RoomInside.{sizing_in}
 use Rattle.sd_replay.specs.Seen.{back_of, seen_of}
 use Rattle.sd_replay.specs.Totals.{totals_view}
@@ -45,7 +46,7 @@ use Rattle.sd_model_replay.specs.Replay.{desk_after_line, first_run, run_of}
 use Rattle.sd_shard.specs.Keys.{KeyList}
 use Rattle.sd_shard.specs.Dump.{DumpList}
 use Rattle.sd_replay.specs.Start.{start_in}
-use Rattle.sd_replay.proofs.PlayLemmas.{given-nil, nothing_played, completes, writes_part, replies_part, finds_flaw, fails_to_read, wears_out, desk_before, desk_at_end, packet_more, flush_more, line_more, line_played, line_replied, quiet}
+use Rattle.sd_replay.proofs.PlayLemmas.{still_go, given-nil, nothing_played, completes, writes_part, replies_part, finds_flaw, fails_to_read, wears_out, desk_before, desk_at_end, packet_more, flush_more, line_more, line_played, line_replied, quiet}
 use Rattle.sd_replay.proofs.run.replay.Goals as goal
 use Rattle.sd_replay.proofs.run.replay.Goals.{in-Ok-finish, in-Err, in-Packet, in-Flush, in-Admin+else-is_err}
 
@@ -91,7 +92,7 @@ returns-in_default-clause-end g c =
     let new = seen c.next.new.script c.loop-turn.output c.loop-turn.backs c.loop-turn.wires in
     let now = shown c.next.new.script c.loop-turn.output c.loop-turn.backs c.loop-turn.wires in
     let pending = c.next.new.self.pending in
-    fails_to_read settings old new _ _ _ _ _ _ _ before now stands.progress pending (sym c.in_default.ensures.stays.left)
+    fails_to_read settings old new _ c.loop-turn.shards _ _ _ _ _ before now stands.progress pending (sym c.in_default.ensures.stays.left)
     (used_since old.script (g.R.Faulty.seen c.loop-turn.script) new.script stands.faults stands.place c.in_default.ensures.used)
     c.loop-turn-test.true (subst (λ n. IsUndecided n pending) stands.receivers c.in_default.ensures.asked)
     (subst (λ n. Rose n new.script.faults) stands.faults c.in_default.ensures.failed) stands.written
@@ -118,10 +119,10 @@ returns-in-End-clause-end g c =
     let output = g.O.Faulty.seen c.loop-turn.output in
     elim c.match-finish.branch [
       | in-Ok-finish w ↦ subst (λ r. Replayed (goes_by settings) (end_of r) old new) (sym w.result-is)
-          (completes settings old new _ _ _ _ _ _ _ before now stands.progress (end_word ++ pending) behind used faults desk (totals_view w.in-Ok-finish.totals) pending output same_desk c.loop-turn-test.true refl
+          (completes settings old new _ c.loop-turn.shards _ _ _ _ _ before now stands.progress (end_word ++ pending) behind used faults stands.by.count desk (totals_view w.in-Ok-finish.totals) pending output same_desk c.loop-turn-test.true refl
           w.in-Ok-finish.ensures.totals stands.written w.in-Ok-finish.ensures.written)
       | in-Err w ↦ subst (λ r. Replayed (goes_by settings) (end_of r) old new) (sym w.result-is)
-          (writes_part settings old new _ _ _ _ _ _ _ before now stands.progress (end_word ++ pending) behind used faults desk pending output same_desk c.loop-turn-test.true refl
+          (writes_part settings old new _ c.loop-turn.shards _ _ _ _ _ before now stands.progress (end_word ++ pending) behind used faults stands.by.count desk pending output same_desk c.loop-turn-test.true refl
           stands.written w.in-Err.ensures.failed)
     ]
 
@@ -144,18 +145,18 @@ returns-then-is_err-clause-end g c =
     let read = subst (λ item. ReadsItem item c.loop-turn.reader had c.next.new.self has) c.in-Admin.is c.in-Ok.ensures.item in
     let desk = c.begin.new.desk in
     let same_desk = before_record (goes_by settings) stands.progress.played p c.loop-turn.turn c.in-Ok.item c.loop-turn.desk desk stands.progress.turns (ap start_in c.in-Admin.is) (record { first = c.begin.ensures.first; later = c.begin.ensures.later }) stands.progress.same_desk in
-    let state = state_of c.loop-turn.shard in
-    let more = line_more settings _ _ (left c.next.new.self has) _ _ (back_of g.B.Faulty.seen c.loop-turn.backs) _ _ (map g.L.Faulty.seen c.loop-turn.wires) _ (state_of c.carry_out-told.new.shard) _ desk c.carry_out-told.new.desk _ c.next.new.self.at _ stands.progress
+    let group = c.loop-turn.shards in
+    let more = line_more settings stands.some _ _ (left c.next.new.self has) _ _ (back_of g.B.Faulty.seen c.loop-turn.backs) _ _ (map g.L.Faulty.seen c.loop-turn.wires) group c.carry_out-told.new.shards _ desk c.carry_out-told.new.desk _ c.next.new.self.at _ stands.progress stands.by c.carry_out-told.ensures.alike
     moment line read.stands.reads (subst (λ k. IsLegal k (Admin moment line)) stands.receivers read.stands.begins.0) same_desk
-    (c.carry_out-told.ensures.state ∙ ap (λ bytes. commanded (admin.command bytes) (λ i. state) 0) c.body-in-Admin.ensures)
+    (λ i. c.carry_out-told.ensures.states i ∙ ap (λ bytes. commanded (admin.command bytes) (state_at group) i) c.body-in-Admin.ensures)
     (c.carry_out-told.ensures.desk ∙ ap (λ bytes. desk_after_line desk (admin.command bytes)) c.body-in-Admin.ensures)
     read.at refl refl in
-    let replied = line_replied settings _ _ (left c.next.new.self has) _ _ (back_of g.B.Faulty.seen c.loop-turn.backs) _ _ (map g.L.Faulty.seen c.loop-turn.wires) _ (state_of c.carry_out-told.new.shard) _ desk c.carry_out-told.new.desk _ c.next.new.self.at _ stands.progress moment line same_desk in
+    let replied = line_replied settings stands.some _ _ (left c.next.new.self has) _ _ (back_of g.B.Faulty.seen c.loop-turn.backs) _ _ (map g.L.Faulty.seen c.loop-turn.wires) group c.carry_out-told.new.shards _ desk c.carry_out-told.new.desk _ c.next.new.self.at _ stands.progress stands.by c.carry_out-told.ensures.alike moment line same_desk in
     let failed = failed_of _ c.carry_out-told.result _ _ (sym c.is_err.ensures.value ∙ c.if-is_err.true) c.carry_out-told.ensures.written in
-    replies_part settings old new _ _ _ _ _ _ _ before now more.0 pending refl
+    replies_part settings old new _ c.carry_out-told.new.shards _ _ _ _ _ before now more.0 pending refl
     (used_since old.script (g.R.Faulty.seen c.loop-turn.script) new.script stands.faults stands.place c.in-Ok.ensures.used)
     (c.in-Ok.ensures.steady ∙ stands.faults) stands.progress.played p (g.O.Faulty.seen c.loop-turn.output) more.1 (omega (arith, c.loop-turn-test.true, stands.progress.turns)) stands.written
-    (subst (λ text. HasFailedBehind text (g.O.Faulty.seen c.loop-turn.output) new.output) (ap (λ bytes. output_in (goes_by settings) (run_with state desk) (Admin moment bytes)) c.body-in-Admin.ensures ∙ replied) failed)
+    (subst (λ text. HasFailedBehind text (g.O.Faulty.seen c.loop-turn.output) new.output) (ap (λ bytes. output_in (goes_by settings) (run_with (state_at group) desk) (Admin moment bytes)) c.body-in-Admin.ensures ∙ replied) failed)
 
 pub returns-in-Fault-clause-end : goal.returns-in-Fault-clause-end
 returns-in-Fault-clause-end g c =
@@ -173,7 +174,7 @@ returns-in-Fault-clause-end g c =
     let behind = read.stands.reads ∙ sym (Reads-nil (put_back pending told)) in
     let flaw = flaw_of c.in-Fault.flaw in
     subst (λ end. Replayed (goes_by settings) end old new) (sym c.fault_at.ensures)
-    (finds_flaw settings old new _ _ _ _ _ _ _ before now stands.progress pending behind
+    (finds_flaw settings old new _ c.loop-turn.shards _ _ _ _ _ before now stands.progress pending behind
     (used_since old.script (g.R.Faulty.seen c.loop-turn.script) new.script stands.faults stands.place c.in-Ok.ensures.used)
     (c.in-Ok.ensures.steady ∙ stands.faults) flaw c.at.result (c.at.ensures ∙ read.at) c.loop-turn-test.true
     (subst (λ n. Begins n (Faulty flaw) pending told) stands.receivers read.stands.begins) stands.written)
@@ -188,7 +189,7 @@ returns-clause-end g c =
     let before = shown c.args.script.now c.args.output.now c.args.backs.now c.args.wires.now in
     let new = seen c.loop-turn.script c.loop-turn.output c.loop-turn.backs c.loop-turn.wires in
     let now = shown c.loop-turn.script c.loop-turn.output c.loop-turn.backs c.loop-turn.wires in
-    wears_out settings old new _ _ _ _ _ _ _ before now stands.progress c.loop-turn.reader.pending refl
+    wears_out settings old new _ c.loop-turn.shards _ _ _ _ _ before now stands.progress c.loop-turn.reader.pending refl
     (record { faults = omega (arith, stands.faults); opened_at = stands.place }) stands.faults (2 ^ 62) refl (omega arith) stands.written
 
 pub loop-turn-init : goal.loop-turn-init
@@ -198,20 +199,20 @@ loop-turn-init g c =
     let settings = goes_by c.args.settings.now in
     let opened : sizing_in c.room.inside ≡ sizing_of settings = c.room.view_is ∙ c.requires.room in
     let limits = ap (λ (s : Sizing). s.limits) opened in
+    let shards = ap (λ (s : Sizing). s.shards) opened in
     let told = (g.R.Faulty.seen c.args.script.now).told in
     let backs = back_of g.B.Faulty.seen c.args.backs.now in
     let wires = map g.L.Faulty.seen c.args.wires.now in
-    let shard = state_of c.room.inside.shard in
+    let group = c.room.inside.shards in
     let at = c.room.inside.reader.at in (
       record {
-        progress = nothing_played settings told (left c.room.inside.reader told) backs wires shard c.new-desk.result at (Reads-nil told ∙ ap (put_back []) (Reads-nil told ∙ ap (λ pending. put_back pending told) (sym fresh.pending))) fresh.state c.new-desk.ensures fresh.start;
+        progress = nothing_played settings told (left c.room.inside.reader told) backs wires (state_at group) c.new-desk.result at (Reads-nil told ∙ ap (put_back []) (Reads-nil told ∙ ap (λ pending. put_back pending told) (sym fresh.pending))) (λ t i. fresh.states i t) c.new-desk.ensures fresh.start;
         written = sym (given-nil (g.O.Faulty.seen c.args.output.now) (g.met.O.Sink.number_fits c.args.output.now));
-        limits = limits;
-        policy = ap (λ (s : Sizing). s.policy) opened;
-        spare = subst (λ most. IsSpareFor most c.room.inside.spare) limits fresh.spare;
-        room = subst (λ most. HasRoom most c.room.inside.scratch.room) limits fresh.scratch;
-        keys = subst (λ (most : Limits). most.rows ≤ c.room.inside.keys.room) limits fresh.keys;
-        dump = subst (λ (most : Limits). most.rows ≤ c.room.inside.dump.room) limits fresh.dump;
+        some = subst (λ n. 0 < n) shards fresh.some;
+        by = record { count = shards; limits = limits; policy = ap (λ (s : Sizing). s.policy) opened };
+        room = subst (λ n. HasRoom n settings.limits c.room.inside.scratch.room) shards (subst (λ most. HasRoom (length group.states) most c.room.inside.scratch.room) limits fresh.scratch);
+        keys = subst (λ n. HoldsRows n settings.limits c.room.inside.keys.room) shards (subst (λ most. HoldsRows (length group.states) most c.room.inside.keys.room) limits fresh.keys);
+        dump = subst (λ n. HoldsRows n settings.limits c.room.inside.dump.room) shards (subst (λ most. HoldsRows (length group.states) most c.room.inside.dump.room) limits fresh.dump);
         receivers = ap (λ (s : Sizing). s.receivers) opened;
         faults = refl;
         place = refl;
@@ -228,7 +229,7 @@ pub loop-turn-preserved : goal.loop-turn-preserved
 loop-turn-preserved g c =
     let settings = c.args.settings.now in
     let stands = c.loop-turn.invariant.0 in
-    let before = state_of c.loop-turn.shard in
+    let group = c.loop-turn.shards in
     let had = (g.R.Faulty.seen c.loop-turn.script).told in
     let has = (g.R.Faulty.seen c.next.new.script).told in
     let reads : Item → Type 0 = λ item. ReadsItem item c.loop-turn.reader had c.next.new.self has in
@@ -248,8 +249,6 @@ loop-turn-preserved g c =
           let wires = c.loop-turn.wires in
           let sent_on = w.play_packet.new.wires in
           let failed = w.play_packet.ensures.played.failed in
-          let filing : Limits → Policy → List ℕ → State = λ limits policy bytes. filed limits policy who before (samples_of bytes) in
-          let tallied : Limits → Policy → List ℕ → Desk = λ limits policy bytes. with_repeater_faults (with_tally begun_desk (packet_tally bytes (lost limits policy who before (samples_of bytes))) moment) (failures failed) in
           let after : c.match-item.wires ≡ sent_on ++ drop n wires = w.wires-is in
           let behind = map g.L.Faulty.seen (drop n wires) in
           let sends : AreSent datagram failed (map g.L.Faulty.seen (take n wires)) (map g.L.Faulty.seen sent_on) =
@@ -260,23 +259,21 @@ loop-turn-preserved g c =
           (repeated_from datagram failed _ _ behind sends)) in
           let count : length failed ≡ length (goes_by settings).targets =
           omega (arith, length-sent datagram failed _ _ sends, length-map (take n wires) g.L.Faulty.seen, length-take n wires, length-map c.targets_of-targets.result.now target_view, ap length c.targets_of-targets.ensures.targets, c.requires.wires, c.loop-turn.invariant.3) in
-          let more = packet_more settings _ _ (left c.next.new.self has) _ _ (back_of g.B.Faulty.seen c.match-item.backs) _ _ (map g.L.Faulty.seen c.match-item.wires) _ (state_of c.match-item.shard) _ begun_desk c.match-item.desk _ c.next.new.self.at _ stands.progress
+          let alike = subst (AreAlike group) (sym w.shards-is) w.play_packet.ensures.alike in
+          let more = packet_more settings stands.some _ _ (left c.next.new.self has) _ _ (back_of g.B.Faulty.seen c.match-item.backs) _ _ (map g.L.Faulty.seen c.match-item.wires) group c.match-item.shards _ begun_desk c.match-item.desk _ c.next.new.self.at _ stands.progress stands.by alike
           who moment datagram failed read.stands.reads (subst (λ k. IsLegal k (Packet who moment datagram)) stands.receivers read.stands.begins.0)
           (before_record (goes_by settings) played _ c.loop-turn.turn c.in-Ok.item c.loop-turn.desk begun_desk stands.progress.turns (ap start_in w.in-Packet.is) b stands.progress.same_desk) count repeated
-          (ap state_of w.shard-is ∙ w.play_packet.ensures.state ∙ ap (λ limits. filing limits c.loop-turn.shard.policy w.body.result.now) stands.limits
-          ∙ ap (λ policy. filing (goes_by settings).limits policy w.body.result.now) stands.policy ∙ ap (filing (goes_by settings).limits (goes_by settings).policy) w.body.ensures)
-          (w.desk-is ∙ w.play_packet.ensures.played.counted ∙ ap (λ limits. tallied limits c.loop-turn.shard.policy w.body.result.now) stands.limits
-          ∙ ap (λ policy. tallied (goes_by settings).limits policy w.body.result.now) stands.policy ∙ ap (tallied (goes_by settings).limits (goes_by settings).policy) w.body.ensures)
+          (λ i below. ap (λ (gr : Group). state_at gr i) w.shards-is ∙ w.play_packet.ensures.states i below ∙ ap (λ bytes. filed_at group who bytes i) w.body.ensures)
+          (w.desk-is ∙ w.play_packet.ensures.played.counted ∙ ap (λ bytes. with_repeater_faults (with_tally begun_desk (packet_tally bytes (sum_by dropped_in (replies_at group who bytes))) moment) (failures failed)) w.body.ensures)
           read.at (ap (back_of g.B.Faulty.seen) w.backs-is) in (
             record {
               progress = more.0;
               written = ap g.O.Faulty.seen w.output-is ∙ stands.written ∙ ap (λ text. given text first) (sym (ap (output_of (goes_by settings)) more.1 ∙ quiet (goes_by settings) played _ refl));
-              limits = ap (λ (s : Standing). s.table.limits) w.shard-is ∙ w.play_packet.ensures.limits ∙ stands.limits;
-              policy = ap (λ (s : Standing). s.policy) w.shard-is ∙ w.play_packet.ensures.policy ∙ stands.policy;
-              spare = subst (IsSpareFor (goes_by settings).limits) (sym w.spare-is) stands.spare;
-              room = subst (λ s. HasRoom (goes_by settings).limits s.room) (sym w.scratch-is) stands.room;
-              keys = subst (λ (s : KeyList). (goes_by settings).limits.rows ≤ s.room) (sym w.keys-is) stands.keys;
-              dump = subst (λ (s : DumpList). (goes_by settings).limits.rows ≤ s.room) (sym w.dump-is) stands.dump;
+              some = stands.some;
+              by = still_go (goes_by settings) group c.match-item.shards stands.by alike;
+              room = subst (λ s. HasRoom (goes_by settings).shards (goes_by settings).limits s.room) (sym w.scratch-is) stands.room;
+              keys = subst (λ (s : KeyList). HoldsRows (goes_by settings).shards (goes_by settings).limits s.room) (sym w.keys-is) stands.keys;
+              dump = subst (λ (s : DumpList). HoldsRows (goes_by settings).shards (goes_by settings).limits s.room) (sym w.dump-is) stands.dump;
               receivers = read.receivers ∙ stands.receivers;
               faults = faults;
               place = place;
@@ -289,37 +286,37 @@ loop-turn-preserved g c =
           let read = subst reads w.in-Flush.is c.in-Ok.ensures.item in
           let ts = w.in-Flush.ts in
           let old = c.loop-turn.backs in
-          let new = w.flush-flushed.new.backs in
-          let marks = marks_of w.flush-flushed.result.marks in
-          let rec : Plan → Record = λ plan. record_of plan (table_of before ∷ []) begun_desk.tally ts in
+          let new = w.flush.new.backs in
+          let marks = marks_of w.flush.result in
+          let rec : Plan → Record = λ plan. record_of plan (map (λ i. table_of (state_at group i)) (numbers group)) begun_desk.tally ts in
           let graphite = subst (λ names. AfterMark marks.graphite (graphite_text names (rec (plan_of settings))) (g.B.Faulty.seen old.graphite) (g.B.Faulty.seen new.graphite)) c.of-names.ensures
-          (subst (λ plan. AfterMark marks.graphite (graphite_text c.of-names.result (rec plan)) (g.B.Faulty.seen old.graphite) (g.B.Faulty.seen new.graphite)) w.plan.ensures w.flush-flushed.ensures.graphite) in
-          let console = subst (λ plan. AfterMark marks.console (console_text (rec plan)) (g.B.Faulty.seen old.console) (g.B.Faulty.seen new.console)) w.plan.ensures w.flush-flushed.ensures.console in
+          (subst (λ plan. AfterMark marks.graphite (graphite_text c.of-names.result (rec plan)) (g.B.Faulty.seen old.graphite) (g.B.Faulty.seen new.graphite)) w.plan.ensures w.flush.ensures.graphite) in
+          let console = subst (λ plan. AfterMark marks.console (console_text (rec plan)) (g.B.Faulty.seen old.console) (g.B.Faulty.seen new.console)) w.plan.ensures w.flush.ensures.console in
           let uses = both_fit (goes_by settings) marks
-          (subst (λ used. FitsUse used marks.graphite) (c.loop-turn.invariant.1 ∙ c.requires.graphite_used) w.flush-flushed.ensures.graphite_used)
-          (subst (λ used. FitsUse used marks.console) (c.loop-turn.invariant.2 ∙ c.requires.console_used) w.flush-flushed.ensures.console_used) in
+          (subst (λ used. FitsUse used marks.graphite) (c.loop-turn.invariant.1 ∙ c.requires.graphite_used) w.flush.ensures.graphite_used)
+          (subst (λ used. FitsUse used marks.console) (c.loop-turn.invariant.2 ∙ c.requires.console_used) w.flush.ensures.console_used) in
           let after = both_given (goes_by settings) marks (rec (plan_of settings)) (back_of g.B.Faulty.seen old) (back_of g.B.Faulty.seen new) graphite console in
-          let more = flush_more settings _ _ (left c.next.new.self has) _ _ (back_of g.B.Faulty.seen c.match-item.backs) _ _ (map g.L.Faulty.seen c.match-item.wires) _ (state_of c.match-item.shard) _ begun_desk c.match-item.desk _ c.next.new.self.at _ stands.progress
+          let alike = subst (AreAlike group) (sym w.shards-is) w.flush.ensures.alike in
+          let more = flush_more settings stands.some _ _ (left c.next.new.self has) _ _ (back_of g.B.Faulty.seen c.match-item.backs) _ _ (map g.L.Faulty.seen c.match-item.wires) group c.match-item.shards _ begun_desk c.match-item.desk _ c.next.new.self.at _ stands.progress stands.by alike
           ts marks read.stands.reads (subst (λ k. IsLegal k (Flush ts)) stands.receivers read.stands.begins.0)
           (before_record (goes_by settings) played _ c.loop-turn.turn c.in-Ok.item c.loop-turn.desk begun_desk stands.progress.turns (ap start_in w.in-Flush.is) b stands.progress.same_desk) uses
           (subst (λ (f : Backend → Object). (back : Backend) → AfterMark (mark_at back marks) (text_of (goes_by settings) back (rec (plan_of settings))) (back_of g.B.Faulty.seen old back) (f back)) (ap (back_of g.B.Faulty.seen) (sym w.backs-is)) after)
-          (ap state_of w.shard-is ∙ w.flush-flushed.ensures.state ∙ ap (λ policy. after_swap policy before) stands.policy)
-          (w.desk-is ∙ w.flush-flushed.ensures.desk) read.at (ap (map g.L.Faulty.seen) w.wires-is) in (
+          (λ i below. ap (λ (gr : Group). state_at gr i) w.shards-is ∙ w.flush.ensures.states i below)
+          (w.desk-is ∙ w.flush.ensures.desk) read.at (ap (map g.L.Faulty.seen) w.wires-is) in (
             record {
               progress = more.0;
               written = ap g.O.Faulty.seen w.output-is ∙ stands.written ∙ ap (λ text. given text first) (sym (ap (output_of (goes_by settings)) more.1 ∙ quiet (goes_by settings) played _ refl));
-              limits = ap (λ (s : Standing). s.table.limits) w.shard-is ∙ w.flush-flushed.ensures.limits ∙ stands.limits;
-              policy = ap (λ (s : Standing). s.policy) w.shard-is ∙ w.flush-flushed.ensures.policy ∙ stands.policy;
-              spare = subst (IsSpareFor (goes_by settings).limits) (sym w.spare-is) (subst (λ limits. IsSpareFor limits w.flush-flushed.result.spare) stands.limits w.flush-flushed.ensures.spare);
-              room = subst (λ s. HasRoom (goes_by settings).limits s.room) (sym w.scratch-is) (subst (HasRoom (goes_by settings).limits) (sym w.flush-flushed.ensures.room) stands.room);
-              keys = subst (λ (s : KeyList). (goes_by settings).limits.rows ≤ s.room) (sym w.keys-is) stands.keys;
-              dump = subst (λ (s : DumpList). (goes_by settings).limits.rows ≤ s.room) (sym w.dump-is) stands.dump;
+              some = stands.some;
+              by = still_go (goes_by settings) group c.match-item.shards stands.by alike;
+              room = subst (λ s. HasRoom (goes_by settings).shards (goes_by settings).limits s.room) (sym w.scratch-is) (subst (HasRoom (goes_by settings).shards (goes_by settings).limits) (sym w.flush.ensures.room) stands.room);
+              keys = subst (λ (s : KeyList). HoldsRows (goes_by settings).shards (goes_by settings).limits s.room) (sym w.keys-is) stands.keys;
+              dump = subst (λ (s : DumpList). HoldsRows (goes_by settings).shards (goes_by settings).limits s.room) (sym w.dump-is) stands.dump;
               receivers = read.receivers ∙ stands.receivers;
               faults = faults;
               place = place;
             },
-            ap (λ (b : Backs _). b.graphite_used) w.backs-is ∙ w.flush-flushed.ensures.graphite_flag ∙ c.loop-turn.invariant.1,
-            ap (λ (b : Backs _). b.console_used) w.backs-is ∙ w.flush-flushed.ensures.console_flag ∙ c.loop-turn.invariant.2,
+            ap (λ (b : Backs _). b.graphite_used) w.backs-is ∙ w.flush.ensures.graphite_flag ∙ c.loop-turn.invariant.1,
+            ap (λ (b : Backs _). b.console_used) w.backs-is ∙ w.flush.ensures.console_flag ∙ c.loop-turn.invariant.2,
             ap length w.wires-is ∙ c.loop-turn.invariant.3,
           )
       | in-Admin+else-is_err w ↦
@@ -328,27 +325,27 @@ loop-turn-preserved g c =
           let line = c.next.new.self.body in
           let p = line_played moment line in
           let same_desk = before_record (goes_by settings) played p c.loop-turn.turn c.in-Ok.item c.loop-turn.desk begun_desk stands.progress.turns (ap start_in w.in-Admin.is) b stands.progress.same_desk in
-          let more = line_more settings _ _ (left c.next.new.self has) _ _ (back_of g.B.Faulty.seen c.match-item.backs) _ _ (map g.L.Faulty.seen c.match-item.wires) _ (state_of c.match-item.shard) _ begun_desk c.match-item.desk _ c.next.new.self.at _ stands.progress
+          let alike = subst (AreAlike group) (sym w.shards-is) w.carry_out-told.ensures.alike in
+          let more = line_more settings stands.some _ _ (left c.next.new.self has) _ _ (back_of g.B.Faulty.seen c.match-item.backs) _ _ (map g.L.Faulty.seen c.match-item.wires) group c.match-item.shards _ begun_desk c.match-item.desk _ c.next.new.self.at _ stands.progress stands.by alike
           moment line read.stands.reads (subst (λ k. IsLegal k (Admin moment line)) stands.receivers read.stands.begins.0) same_desk
-          (ap state_of w.shard-is ∙ w.carry_out-told.ensures.state ∙ ap (λ bytes. commanded (admin.command bytes) (λ i. before) 0) w.body-in-Admin.ensures)
+          (λ i. ap (λ (gr : Group). state_at gr i) w.shards-is ∙ w.carry_out-told.ensures.states i ∙ ap (λ bytes. commanded (admin.command bytes) (state_at group) i) w.body-in-Admin.ensures)
           (w.desk-is ∙ w.carry_out-told.ensures.desk ∙ ap (λ bytes. desk_after_line begun_desk (admin.command bytes)) w.body-in-Admin.ensures)
           read.at (ap (back_of g.B.Faulty.seen) w.backs-is) (ap (map g.L.Faulty.seen) w.wires-is) in
-          let replied = line_replied settings _ _ (left c.next.new.self has) _ _ (back_of g.B.Faulty.seen c.match-item.backs) _ _ (map g.L.Faulty.seen c.match-item.wires) _ (state_of c.match-item.shard) _ begun_desk c.match-item.desk _ c.next.new.self.at _ stands.progress moment line same_desk in
+          let replied = line_replied settings stands.some _ _ (left c.next.new.self has) _ _ (back_of g.B.Faulty.seen c.match-item.backs) _ _ (map g.L.Faulty.seen c.match-item.wires) group c.match-item.shards _ begun_desk c.match-item.desk _ c.next.new.self.at _ stands.progress stands.by alike moment line same_desk in
           let told = written_of _ w.carry_out-told.result _ _ (sym w.is_err.ensures.value ∙ w.if-is_err.false) w.carry_out-told.ensures.written in
           let output = g.O.Faulty.seen c.loop-turn.output in
           let text = output_in (goes_by settings) (run_before (goes_by settings) played p) (Admin moment line) in (
             record {
               progress = more.0;
               written = ap g.O.Faulty.seen w.output-is ∙ told
-                  ∙ ap (λ bytes. given (output_in (goes_by settings) (run_with before begun_desk) (Admin moment bytes)) output) w.body-in-Admin.ensures
+                  ∙ ap (λ bytes. given (output_in (goes_by settings) (run_with (state_at group) begun_desk) (Admin moment bytes)) output) w.body-in-Admin.ensures
                   ∙ ap (λ t. given t output) replied ∙ ap (given text) stands.written ∙ given-given (output_of (goes_by settings) played) text first
                   ∙ ap (λ t. given t first) (sym (ap (output_of (goes_by settings)) more.1 ∙ output_of-push (goes_by settings) played p));
-              limits = ap (λ (s : Standing). s.table.limits) w.shard-is ∙ w.carry_out-told.ensures.limits ∙ stands.limits;
-              policy = ap (λ (s : Standing). s.policy) w.shard-is ∙ w.carry_out-told.ensures.policy ∙ stands.policy;
-              spare = subst (IsSpareFor (goes_by settings).limits) (sym w.spare-is) stands.spare;
-              room = subst (λ s. HasRoom (goes_by settings).limits s.room) (sym w.scratch-is) stands.room;
-              keys = subst (λ n. (goes_by settings).limits.rows ≤ n) (sym (ap (λ (s : KeyList). s.room) w.keys-is ∙ w.carry_out-told.ensures.keys)) stands.keys;
-              dump = subst (λ n. (goes_by settings).limits.rows ≤ n) (sym (ap (λ (s : DumpList). s.room) w.dump-is ∙ w.carry_out-told.ensures.dump)) stands.dump;
+              some = stands.some;
+              by = still_go (goes_by settings) group c.match-item.shards stands.by alike;
+              room = subst (λ s. HasRoom (goes_by settings).shards (goes_by settings).limits s.room) (sym w.scratch-is) stands.room;
+              keys = subst (HoldsRows (goes_by settings).shards (goes_by settings).limits) (sym (ap (λ (s : KeyList). s.room) w.keys-is ∙ w.carry_out-told.ensures.keys)) stands.keys;
+              dump = subst (HoldsRows (goes_by settings).shards (goes_by settings).limits) (sym (ap (λ (s : DumpList). s.room) w.dump-is ∙ w.carry_out-told.ensures.dump)) stands.dump;
               receivers = read.receivers ∙ stands.receivers;
               faults = faults;
               place = place;

@@ -1,29 +1,27 @@
-use Rattle.std.proofs.Common.{◌≡◌, ◌≤◌, ℕ, List, length, map}
+use Rattle.std.proofs.Common.{◌≡◌, ◌<◌, ℕ, List, length, map}
 use Rattle.sd_model_outside.specs.Outside.{Object, given}
 use Rattle.sd_model_settings.specs.Settings as file
 use Rattle.sd_model_record.specs.Desk.{Desk}
 use Rattle.sd_model_replay.specs.Settings.{goes_by}
 use Rattle.sd_model_replay.specs.Backends.{Backend}
 use Rattle.sd_model_replay.specs.Output.{output_of}
-use Rattle.sd_shard.specs.Shard.{Standing, state_of}
-use Rattle.sd_epoch.specs.Table.{Listing}
+use Rattle.sd_shards.specs.Shards.{Group, state_at}
 use Rattle.sd_script.specs.Reading.{Reading, left}
 use Rattle.sd_record.specs.Rows.{Room}
-use Rattle.sd_replay.specs.Room.{IsSpareFor, HasRoom}
+use Rattle.sd_replay.specs.Room.{HasRoom, HoldsRows}
 use Rattle.sd_replay.specs.Seen.{back_of}
-use Rattle.sd_replay.proofs.PlayLemmas.{Progress}
+use Rattle.sd_replay.proofs.PlayLemmas.{Progress, GoBy}
 use Rattle.sd_replay.proofs.run.replay.Given as goal
 
 -- what stands after so many turns
-pub record Stands (settings : file.Settings) (script now : Object) (old new : Backend → Object) (had has : List Object) (given_first given_now : Object) (shard : Standing) (empty_table : Listing) (desk : Desk) (scratch_room : Room) (keys_room dump_room : ℕ) (reader : Reading) (turn : ℕ) : Type 0 where
-  pub progress : Progress (goes_by settings) script.told (left reader now.told) old new had has (state_of shard) desk reader.at turn
+pub record Stands (settings : file.Settings) (script now : Object) (old new : Backend → Object) (had has : List Object) (given_first given_now : Object) (group : Group) (desk : Desk) (scratch_room : Room) (keys_room dump_room : ℕ) (reader : Reading) (turn : ℕ) : Type 0 where
+  pub progress : Progress (goes_by settings) script.told (left reader now.told) old new had has (state_at group) desk reader.at turn
   pub written : given_now ≡ given (output_of (goes_by settings) progress.played) given_first
-  pub limits : shard.table.limits ≡ (goes_by settings).limits
-  pub policy : shard.policy ≡ (goes_by settings).policy
-  pub spare : IsSpareFor (goes_by settings).limits empty_table
-  pub room : HasRoom (goes_by settings).limits scratch_room
-  pub keys : (goes_by settings).limits.rows ≤ keys_room
-  pub dump : (goes_by settings).limits.rows ≤ dump_room
+  pub some : 0 < (goes_by settings).shards
+  pub by : GoBy (goes_by settings) group
+  pub room : HasRoom (goes_by settings).shards (goes_by settings).limits scratch_room
+  pub keys : HoldsRows (goes_by settings).shards (goes_by settings).limits keys_room
+  pub dump : HoldsRows (goes_by settings).shards (goes_by settings).limits dump_room
   pub receivers : reader.receivers ≡ (goes_by settings).receivers
   pub faults : now.faults ≡ script.faults
   pub place : now.opened_at ≡ script.opened_at
@@ -31,7 +29,7 @@ pub record Stands (settings : file.Settings) (script now : Object) (old new : Ba
 abbrev pub invariant-loop-turn : goal.invariant-loop-turn
 invariant-loop-turn g l =
     Stands l.fn.settings (g.R.Faulty.seen l.fn.script) (g.R.Faulty.seen l.script) (back_of g.B.Faulty.seen l.fn.backs) (back_of g.B.Faulty.seen l.backs)
-    (map g.L.Faulty.seen l.fn.wires) (map g.L.Faulty.seen l.wires) (g.O.Faulty.seen l.fn.output) (g.O.Faulty.seen l.output) l.shard l.spare l.desk l.scratch.room l.keys.room l.dump.room l.reader l.turn
+    (map g.L.Faulty.seen l.fn.wires) (map g.L.Faulty.seen l.wires) (g.O.Faulty.seen l.fn.output) (g.O.Faulty.seen l.output) l.shards l.desk l.scratch.room l.keys.room l.dump.room l.reader l.turn
     × (l.backs.graphite_used ≡ l.fn.backs.graphite_used)
     × (l.backs.console_used ≡ l.fn.backs.console_used)
     × (length l.wires ≡ length l.fn.wires)

@@ -1,0 +1,8 @@
+mod EachLemmas
+mod FiledLemmas
+mod HomeLemmas
+mod InsideLemmas
+mod RoomLemmas
+mod StandingLemmas
+mod TableLemmas
+mod ToldLemmas

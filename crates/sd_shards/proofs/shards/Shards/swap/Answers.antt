@@ -1,0 +1,68 @@
+use Rattle.std.proofs.Common.{◌≡◌, ◌++◌, List, [], length, map, sym, ap, subst, ◌∙◌, arith}
+use Rattle.std.specs.Prelude.{All}
+use Rattle.std.specs.List.{range_with_len}
+use Rattle.std.specs.Vec.{with_items}
+use Rattle.sd_model_shard.specs.Shard.{Limits, after_swap, table_of}
+use Rattle.sd_model_shards.specs.Shards.{AtHome}
+use Rattle.sd_model_shards.proofs.HomeLemmas.{AtHome-swap}
+use Rattle.sd_epoch.specs.Table.{Listing, table_of as table_seen}
+use Rattle.sd_shard.specs.Shard.{Standing, state_of}
+use Rattle.sd_shards.specs.Shards.{Group}
+use Rattle.sd_shards.specs.Standings.{state_in, limits_in, policy_in, IsSpareFor, IsWithin}
+use Rattle.sd_shards.proofs.EachLemmas.{map-group, map-states}
+use Rattle.sd_shards.proofs.HomeLemmas.{tables_disjoint}
+use Rattle.sd_shards.proofs.InsideLemmas.{AreAlike-kept, AreKept-within}
+use Rattle.sd_shards.proofs.shards.Shards.swap.Goals as goal
+
+-- the tables that shards gave, where none were there before
+given : (shards : List Standing) (before now : List Listing) → before ≡ [] → map table_seen now ≡ map table_seen before ++ map (λ s. table_of (state_of s)) shards
+    → map table_seen now ≡ map (λ i. table_of (state_in shards i)) (range_with_len 0 (length shards))
+given shards before now none tables =
+    tables ∙ ap (λ (ts : List Listing). map table_seen ts ++ map (λ (s : Standing). table_of (state_of s)) shards) none ∙ sym (map-states shards table_of)
+
+pub swap_all-requires-clause-fits : goal.swap_all-requires-clause-fits
+swap_all-requires-clause-fits c =
+    subst (λ (xs : List Standing). All (IsSpareFor (limits_in xs)) c.reclaim.new.spares.items) (sym c.deref_mut.ensures.value)
+    (c.reclaim.ensures.spares (limits_in c.self.inside.shards.items) c.self.invariant.spares c.self.invariant.swapped)
+
+pub invariant_of-self : goal.invariant_of-self
+invariant_of-self c =
+    let s = c.self.inside in
+    let are = c.self.invariant in
+    let old = c.deref_mut.result.now in
+    let new = c.swap_all.new.shards in
+    let policy = policy_in old in
+    let kept =
+    AreKept-within s are old new c.deref_mut.ensures.value (omega arith) (omega arith) c.swap_all.ensures.bounds
+    (λ i. after_swap policy (state_in old i)) c.swap_all.ensures.states (AtHome-swap policy (length old) (state_in old)) in
+    let limits : limits_in old ≡ limits_in (with_items s.shards new).items = ap limits_in c.deref_mut.ensures.value ∙ sym kept.limits in
+    let home : AtHome (length old) (state_in old) = subst (λ xs. AtHome (length xs) (state_in xs)) (sym c.deref_mut.ensures.value) are.home in
+    record {
+      some = are.some;
+      few = are.few;
+      bounds = kept.bounds;
+      home = kept.home;
+      spares = subst (λ (l : Limits). All (IsSpareFor l) c.swap_all.new.spares.items) limits c.swap_all.ensures.spares;
+      swapped = subst (λ (l : Limits). All (IsWithin l) c.swap_all.new.swapped.items) limits c.swap_all.ensures.within;
+      disjoint = tables_disjoint (length old) (state_in old) home c.swap_all.new.swapped.items
+          (given old c.reclaim.new.swapped.items c.swap_all.new.swapped.items c.reclaim.ensures.swapped c.swap_all.ensures.tables);
+      tables = omega arith;
+      spare_room = omega arith;
+      swapped_room = omega arith;
+    }
+
+pub returns-clause-swapped : goal.returns-clause-swapped
+returns-clause-swapped c =
+    let old = c.deref_mut.result.now in
+    given old c.reclaim.new.swapped.items c.swap_all.new.swapped.items c.reclaim.ensures.swapped c.swap_all.ensures.tables
+    ∙ sym (map-group c.args.self.now old (ap (λ (g : Group). g.states) (sym c.self.view_is) ∙ ap (map state_of) (sym c.deref_mut.ensures.value)) table_of)
+
+pub returns-clause-alike : goal.returns-clause-alike
+returns-clause-alike c =
+    let s = c.self.inside in
+    let old = c.deref_mut.result.now in
+    let new = c.swap_all.new.shards in
+    let policy = policy_in old in
+    AreAlike-kept c.args.self.now s (record { shards = with_items s.shards new; spares = c.swap_all.new.spares; swapped = c.swap_all.new.swapped }) c.self.view_is
+    (AreKept-within s c.self.invariant old new c.deref_mut.ensures.value (omega arith) (omega arith) c.swap_all.ensures.bounds
+    (λ i. after_swap policy (state_in old i)) c.swap_all.ensures.states (AtHome-swap policy (length old) (state_in old)))

@@ -1,0 +1,53 @@
+-- Shards of the code one beside another, and tables that they are swapped for.
+use Rattle.std.specs.Prelude.{◌≡◌, ◌≢◌, ◌≤◌, ℕ, List, [], ◌∷◌, false, length, map, get_or, All}
+use Rattle.sd_model_text.specs.Names.{shard}
+use Rattle.sd_model_text.specs.Lines.{Sample}
+use Rattle.sd_model_shard.specs.Shard.{Limits, Policy, State, Stepped, Submit, empty_state, step}
+use Rattle.sd_model_shard.specs.Whereabouts.{dropped_in}
+use Rattle.sd_epoch.specs.Table.{Listing}
+use Rattle.sd_shard.specs.Shard.{Standing, state_of}
+
+-- the state of shard i
+abbrev pub state_in : List Standing → ℕ → State
+state_in shards i = get_or (map state_of shards) i empty_state
+
+-- the limits of the first
+abbrev pub limits_in : List Standing → Limits
+limits_in [] = record { rows = 0; entries = 0 }
+limits_in (s ∷ shards) = s.table.limits
+
+-- the policy of the first
+abbrev pub policy_in : List Standing → Policy
+policy_in [] = record { counters = false; timers = false; gauges = false; sets = false; max_ttl = 0 }
+policy_in (s ∷ shards) = s.policy
+
+-- each has these limits and this policy
+abbrev pub GoBy : Limits → Policy → List Standing → Type 0
+GoBy limits policy shards = All (λ s. (s.table.limits ≡ limits) × (s.policy ≡ policy)) shards
+
+-- each has those of the first
+abbrev pub GoTogether : List Standing → Type 0
+GoTogether shards = GoBy (limits_in shards) (policy_in shards) shards
+
+-- an empty table of these limits
+pub record IsSpareFor (most : Limits) (spare : Listing) : Type 0 where
+  pub limits : spare.limits ≡ most
+  pub no_rows : spare.listed ≡ []
+  pub no_entries : spare.held ≡ []
+
+-- a table of these limits, and within them
+pub record IsWithin (most : Limits) (table : Listing) : Type 0 where
+  pub limits : table.limits ≡ most
+  pub rows : length table.listed ≤ most.rows
+  pub entries : length table.held ≤ most.entries
+
+-- what the shard of a sample's key does with it
+abbrev pub filing : ℕ → Sample → List Standing → Stepped
+filing who s shards = step (limits_in shards) (policy_in shards) (state_in shards (shard s.key (length shards))) who (Submit s)
+
+-- The shard of a sample's key took its step, and the others are as they were.
+pub record IsFiled (who : ℕ) (s : Sample) (old new : List Standing) (dropped : ℕ) : Type 0 where
+  pub bounds : GoBy (limits_in old) (policy_in old) new
+  pub here : state_in new (shard s.key (length old)) ≡ (filing who s old).state
+  pub others : (i : ℕ) → i ≢ shard s.key (length old) → state_in new i ≡ state_in old i
+  pub drops : dropped ≡ dropped_in (filing who s old).reply

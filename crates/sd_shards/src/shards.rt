@@ -1,0 +1,164 @@
+ghost use Rattle.std.specs.Prelude.{◌≡◌, ℕ, ◌<◌, ◌≤◌, ◌+◌, ◌*◌, [], length, map, replicate, sum_by, All, IfOk};
+ghost use Rattle.std.specs.List.Sorted.{IsSorted, IsSortedByKey};
+ghost use Rattle.std.specs.Ordering.{nat_cmp};
+ghost use Rattle.std.specs.Cmp.Lexicographic.{slice_cmp};
+ghost use Rattle.sd_model_text.specs.Lines.{pieces, bad_of};
+ghost use Rattle.sd_model_shard.specs.Shard.{Dumped, empty_state, after_swap, after_delete, deletion_of, table_of};
+ghost use Rattle.sd_model_shard.specs.Commands.{dump_of};
+ghost use Rattle.sd_model_shard.specs.Whereabouts.{dropped_in};
+ghost use Rattle.sd_model_replay.specs.Output.{keys_told, rows_told};
+ghost use Rattle.sd_key.specs.Kind.{kind_of};
+ghost use Rattle.sd_epoch.specs.Limits.{limits_of, AreLimits};
+ghost use Rattle.sd_epoch.specs.Table.{table_of as table_seen};
+ghost use Rattle.sd_shard.specs.Policy.{policy_of};
+ghost use Rattle.sd_record.specs.Rows.{AreDisjoint};
+ghost use Rattle.sd_shards.specs.Book.{summed};
+ghost use Rattle.sd_shards.specs.Filed.{filed_at, replies_at};
+ghost use Rattle.sd_shards.specs.Shards.{AreAlike, numbers, state_at};
+
+use crate::book::{ShardsBook, book_of};
+use crate::commands::{delete_all, dump_all};
+use crate::open::{open_shards, open_spares};
+use crate::packet::{Filed, file_packet};
+use crate::swap::{reclaim, swap_all};
+use sd_epoch::{Limits, Table, Who};
+use sd_key::{Kind, Pattern};
+use sd_shard::{Dump, Keys, Policy, Shard};
+use std::alloc::{AllocError, Global};
+use std::marker::Model;
+
+/// The shards of a server: each has the rows and entries of its own keys.
+#[derive(Debug, Drop)]
+pub struct Shards {
+    shards: Vec<Shard>,
+    spares: Vec<Table>,
+    swapped: Vec<Table>,
+}
+
+impl Model for Shards {
+    ghost use Rattle.sd_shards.specs.Shards.{Group};
+    ghost use Rattle.sd_shards.specs.GroupCode.{group_code};
+
+    ghost Value = { Group };
+
+    ghost coded = { group_code };
+
+    ghost use Rattle.sd_shards.specs.Inside.{group_of, AreShards};
+
+    ghost view = { group_of };
+
+    ghost invariant = { AreShards };
+}
+
+impl Shards {
+    /// So many empty shards. All of their room is taken here, that of the tables to swap them for too.
+    ///
+    /// # Errors
+    ///
+    /// Where no memory is left for it.
+    pub fn open(alloc: Global, n: u16, limits: Limits, policy: Policy) -> Result<Shards, AllocError>
+        requires some { 1 ≤ n }
+        requires few { n ≤ 16 }
+        requires limits { AreLimits (limits_of limits) }
+        ensures limits { IfOk result (λ s. s.limits ≡ limits_of limits) }
+        ensures policy { IfOk result (λ s. s.policy ≡ policy_of policy) }
+        ensures states { IfOk result (λ s. s.states ≡ replicate n empty_state) }
+        ensures swapped { IfOk result (λ s. s.swapped ≡ []) }
+    {
+        let shards = open_shards(alloc, n, limits, policy)?;
+        let spares = open_spares(alloc, n, limits)?;
+        let swapped = Vec::with_capacity(alloc, usize::from(n))?;
+        Ok(Shards {
+            shards,
+            spares,
+            swapped,
+        })
+    }
+
+    /// How many there are.
+    pub fn len(&self) -> u16
+        ensures len { result ≡ length self.now.states }
+        ensures some { 1 ≤ result }
+        ensures few { result ≤ 16 }
+    {
+        self.shards.len() as u16
+    }
+
+    /// Files the good samples of a datagram of a caller, in order, each in the shard of its key.
+    pub fn file(&mut self, who: Who, datagram: &[u8]) -> Filed
+        requires { length datagram.now ≤ 65507 }
+        ensures states { (i : ℕ) → i < length self.old.states → state_at self.new i ≡ filed_at self.old who.0 datagram.now i }
+        ensures dropped { result.dropped ≡ sum_by dropped_in (replies_at self.old who.0 datagram.now) }
+        ensures lines { result.lines ≡ length (pieces datagram.now) }
+        ensures bad { result.bad ≡ bad_of datagram.now }
+        ensures few { result.dropped + result.bad ≤ result.lines }
+        ensures small { result.lines ≤ 65508 }
+        ensures alike { AreAlike self.old self.new }
+        ensures swapped { self.new.swapped ≡ self.old.swapped }
+    {
+        file_packet(&mut self.shards, who, datagram)
+    }
+
+    /// Swaps each shard, in order, and keeps the tables that they give up to the next swap.
+    pub fn swap(&mut self)
+        ensures states { (i : ℕ) → i < length self.old.states → state_at self.new i ≡ after_swap self.old.policy (state_at self.old i) }
+        ensures swapped { self.new.swapped ≡ map (λ i. table_of (state_at self.old i)) (numbers self.old) }
+        ensures alike { AreAlike self.old self.new }
+    {
+        reclaim(&mut self.swapped, &mut self.spares);
+        swap_all(&mut self.shards, &mut self.spares, &mut self.swapped);
+    }
+
+    /// The tables that the last swap took out, in the order of the shards. No row stands in two of them.
+    pub fn swapped(&self) -> &[Table]
+        ensures tables { map table_seen result.now ≡ self.now.swapped }
+        ensures rows { sum_by (λ t. length t.listed) result.now ≤ self.now.limits.rows * length self.now.states }
+        ensures entries { All (λ t. length t.held ≤ self.now.limits.entries) result.now }
+        ensures disjoint { AreDisjoint result.now }
+    {
+        self.swapped.as_slice()
+    }
+
+    /// Takes the rows of a kind that a pattern matches out of each shard, with all their entries, and leaves their keys, in
+    /// the order of their bytes.
+    pub fn delete(&mut self, kind: Kind, name: &Pattern, keys: &mut Keys)
+        requires { length self.old.states * self.old.limits.rows ≤ keys.old.room }
+        ensures states { (i : ℕ) → i < length self.old.states
+            → state_at self.new i ≡ after_delete (kind_of kind) name.now (state_at self.old i) }
+        ensures keys { keys.new.keys
+            ≡ keys_told (map (λ i. deletion_of (kind_of kind) name.now (state_at self.old i)) (numbers self.old)) }
+        ensures sorted { IsSorted (slice_cmp nat_cmp) keys.new.keys }
+        ensures room { keys.new.room ≡ keys.old.room }
+        ensures alike { AreAlike self.old self.new }
+        ensures swapped { self.new.swapped ≡ self.old.swapped }
+    {
+        keys.clear();
+        delete_all(&mut self.shards, kind, name, keys);
+        keys.sort();
+    }
+
+    /// Leaves each row of a kind of all shards with what its samples come to, in the order of the bytes of their keys.
+    pub fn dump(&self, kind: Kind, dump: &mut Dump)
+        requires { length self.now.states * self.now.limits.rows ≤ dump.old.room }
+        ensures rows { dump.new.rows
+            ≡ rows_told (map (λ i. Dumped (dump_of (kind_of kind) (state_at self.now i).live (state_at self.now i).held)) (numbers self.now)) }
+        ensures sorted { IsSortedByKey (λ row. row.key) (slice_cmp nat_cmp) dump.new.rows }
+        ensures room { dump.new.room ≡ dump.old.room }
+    {
+        dump.clear();
+        dump_all(&self.shards, kind, dump);
+        dump.sort();
+    }
+
+    /// The numbers of all shards together, as they stand.
+    pub fn book(&self) -> ShardsBook
+        ensures taken { result.taken ≡ summed self.now (λ s. s.taken) }
+        ensures flushed { result.flushed ≡ summed self.now (λ s. s.flushed) }
+        ensures deleted { result.deleted ≡ summed self.now (λ s. s.deleted) }
+        ensures dropped { result.dropped ≡ summed self.now (λ s. s.dropped) }
+        ensures held { result.held ≡ summed self.now (λ s. length s.held) }
+        ensures conserved { result.taken ≡ result.flushed + result.deleted + result.held }
+    {
+        book_of(&self.shards)
+    }
+}
