@@ -1,7 +1,8 @@
 ghost use Rattle.std.specs.Prelude.{◌≡◌, ◌<◌, length, IfOk};
 
 use sd_case::{Refusal, bytes_of, number};
-use sd_outside::{Backs, MemBackend, MemSink, MemSource, MemWire};
+use sd_drill::{Drill, MOST_PACKETS};
+use sd_outside::{Backs, MemBackend, MemSink, MemSource, MemWire, read_full};
 use sd_top::World;
 use std::alloc::Global;
 use std::str;
@@ -89,12 +90,13 @@ impl Case {
         Ok(case)
     }
 
-    /// Takes a part: `settings=TEXT`, `script=TEXT`, `output=BYTES`, `graphite=BYTES/LISTS`, `console=BYTES/LISTS`,
+    /// Takes a part: `settings=TEXT`, `script=TEXT`, `made=PACKETS` for the made script, `output=BYTES`, `graphite=BYTES/LISTS`, `console=BYTES/LISTS`,
     /// `wires=BYTES/PACKETS` or `fail=CALL:NUMBER`.
     fn set(&mut self, alloc: Global, part: &str) -> Result<(), Refusal> {
         match part.split_once('=') {
             Some(("settings", text)) => self.settings = bytes_of(alloc, text)?,
             Some(("script", text)) => self.script = bytes_of(alloc, text)?,
+            Some(("made", packets)) => self.script = made_script(alloc, number(packets)?)?,
             Some(("output", bytes)) => self.output_bytes = number(bytes)?,
             Some(("graphite", room)) => {
                 (self.graphite_bytes, self.graphite_lists) = room_of(room)?;
@@ -147,6 +149,22 @@ impl Case {
         }
         Ok(world)
     }
+}
+
+/// The bytes that a packet of the made script has at most, with its record's line and what stands behind it.
+const MOST_MADE: usize = 128;
+
+/// The made script of so many packets.
+fn made_script(alloc: Global, packets: u32) -> Result<Vec<u8>, Refusal> {
+    if packets == 0 || packets > MOST_PACKETS {
+        return Err(Refusal::Malformed);
+    }
+    let mut script = vec![in alloc; 0u8; packets as usize * MOST_MADE]?;
+    let Ok(len) = read_full(&mut Drill::new(packets), &mut script) else {
+        return Err(Refusal::Malformed);
+    };
+    script.truncate(len);
+    Ok(script)
 }
 
 /// The room that a word writes as two numbers with a slash between them.

@@ -16,6 +16,7 @@ fn run_case(alloc: Global, words: &[&str], out: &mut Answer) -> Result<(), Refus
     match words {
         ["run", parts @ ..] => run::whole(alloc, parts, out),
         ["cut", record, parts @ ..] => run::each_truncation(alloc, record, parts, out),
+        ["both", first, second, parts @ ..] => run::by_both(alloc, first, second, parts, out),
         ["status", fields @ ..] => status::texts_of(alloc, fields, out),
         _ => Err(Refusal::UnknownCall),
     }

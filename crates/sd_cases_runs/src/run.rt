@@ -1,6 +1,7 @@
 use crate::case::Case;
 use crate::report::report;
 use sd_case::{Answer, Refusal, bytes_of};
+use sd_outside::MemBackend;
 use sd_top::statsd;
 use std::alloc::Global;
 
@@ -47,4 +48,49 @@ fn report_of_front(alloc: Global, front: &[u8], parts: &[&str]) -> Result<String
     let mut report = Answer::new(alloc);
     carry_out(alloc, &case, &mut report)?;
     report.finish()
+}
+
+/// `both TEXT TEXT WORDS : PARTS`: how many bytes Graphite is given in the run with each of two settings files, and whether
+/// all that comes of the two runs is the same.
+pub(crate) fn by_both(
+    alloc: Global,
+    first: &str,
+    second: &str,
+    parts: &[&str],
+    out: &mut Answer,
+) -> Result<(), Refusal> {
+    let first = report_by(alloc, first, parts, out)?;
+    let second = report_by(alloc, second, parts, out)?;
+    out.text(if first == second {
+        "\n  the same"
+    } else {
+        "\n  not the same"
+    });
+    Ok(())
+}
+
+/// What comes of the run with this settings file. The number of Graphite's bytes is appended.
+fn report_by(
+    alloc: Global,
+    settings: &str,
+    parts: &[&str],
+    out: &mut Answer,
+) -> Result<String, Refusal> {
+    let mut case = Case::of(alloc, parts)?;
+    case.settings = bytes_of(alloc, settings)?;
+    let mut world = case.world(alloc)?;
+    let status = statsd(alloc, &case.words, &mut world);
+    out.count("\n  graphite ", bytes_in(&world.backs.graphite));
+    let mut text = Answer::new(alloc);
+    report(&status, &world, &mut text);
+    text.finish()
+}
+
+/// How many bytes a backend was given.
+fn bytes_in(backend: &MemBackend) -> u64 {
+    let mut bytes = 0u64;
+    for place in 0..backend.lists() {
+        bytes = bytes.saturating_add(backend.list(place).len() as u64);
+    }
+    bytes
 }

@@ -7,22 +7,13 @@ use sd_decimal::Line;
 use sd_record::Record;
 use sd_text::{push_text, push_whole};
 
-/// A line that begins with these bytes.
-pub(crate) fn begun(text: &[u8]) -> Line
-    requires { length text.now ≤ 64 }
-    ensures { result.items ≡ text.now }
-{
-    let mut line = Line::new();
-    push_text(text, &mut line);
-    line
-}
-
 /// The line of a word and a Unix second.
 pub(crate) fn second_line(word: &[u8], ts: u64) -> Line
     requires { length word.now ≤ 64 }
     ensures { result.items ≡ word.now ++ 32 ∷ decimal ts ++ 10 ∷ [] }
 {
-    let mut line = begun(word);
+    let mut line = Line::new();
+    push_text(word, &mut line);
     push_whole(ts, &mut line);
     line.push(b'\n');
     line
@@ -33,7 +24,8 @@ fn count_line(name: &[u8], count: u64) -> Line
     requires { length name.now ≤ 64 }
     ensures { result.items ≡ console_count name.now count }
 {
-    let mut line = begun(b"tail ");
+    let mut line = Line::new();
+    push_text(b"tail ", &mut line);
     push_text(name, &mut line);
     push_whole(count, &mut line);
     line.push(b'\n');

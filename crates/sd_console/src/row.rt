@@ -4,7 +4,6 @@ ghost use Rattle.sd_model_record.specs.Console.{console_figure};
 ghost use Rattle.sd_record.specs.Figures.{figure_view};
 ghost use Rattle.sd_console.specs.Texts.{counter_line, gauge_line, set_line};
 
-use crate::line::begun;
 use sd_decimal::{Line, Micro, Sum};
 use sd_key::Key;
 use sd_record::{Figure, Row};
@@ -31,60 +30,65 @@ impl RowText for ConsoleRows {
         }
     }
 
-    fn row_line(&self, row: &Row, place: usize) -> Line {
+    fn put_line(&self, row: &Row, place: usize, line: &mut Line) {
         match row {
-            Row::Counter { key, count, rate } => counter_line(key, *count, *rate),
-            Row::Timer { key, timer } => figure_line(key, &timer.figure(place)),
-            Row::Gauge { key, value } => gauge_line(key, *value),
-            Row::Set { key, count } => set_line(key, *count),
+            Row::Counter { key, count, rate } => put_counter(key, *count, *rate, line),
+            Row::Timer { key, timer } => put_figure(key, &timer.figure(place), line),
+            Row::Gauge { key, value } => put_gauge(key, *value, line),
+            Row::Set { key, count } => put_set(key, *count, line),
         }
     }
 }
 
-/// The line of a counter.
-fn counter_line(key: &Key, count: Sum, rate: Sum) -> Line
-    ensures { result.items ≡ counter_line key.now count.0 rate.0 }
+/// Begins a line with these bytes, in place of what it has.
+fn begin(text: &[u8], line: &mut Line)
+    requires { length text.now ≤ 64 }
+    ensures { line.new.items ≡ text.now }
 {
-    let mut line = begun(b"counter ");
-    push_text(key.as_slice(), &mut line);
-    push_number(count, &mut line);
-    push_number(rate, &mut line);
-    line.push(b'\n');
-    line
+    line.clear();
+    push_text(text, line);
 }
 
-/// The line of a timer's figure.
-fn figure_line(key: &Key, figure: &Figure) -> Line
+/// Puts the line of a counter into `line`.
+fn put_counter(key: &Key, count: Sum, rate: Sum, line: &mut Line)
+    ensures { line.new.items ≡ counter_line key.now count.0 rate.0 }
+{
+    begin(b"counter ", line);
+    push_text(key.as_slice(), line);
+    push_number(count, line);
+    push_number(rate, line);
+    line.push(b'\n');
+}
+
+/// Puts the line of a timer's figure into `line`.
+fn put_figure(key: &Key, figure: &Figure, line: &mut Line)
     requires { length figure.now.name.items ≤ 64 }
-    ensures { result.items ≡ console_figure key.now (figure_view figure.now) }
+    ensures { line.new.items ≡ console_figure key.now (figure_view figure.now) }
 {
-    let mut line = begun(b"timer ");
-    push_text(key.as_slice(), &mut line);
+    begin(b"timer ", line);
+    push_text(key.as_slice(), line);
     line.push(b' ');
-    push_text(figure.name.as_slice(), &mut line);
-    push_number(figure.value, &mut line);
+    push_text(figure.name.as_slice(), line);
+    push_number(figure.value, line);
     line.push(b'\n');
-    line
 }
 
-/// The line of a gauge.
-fn gauge_line(key: &Key, value: Micro) -> Line
-    ensures { result.items ≡ gauge_line key.now value.0 }
+/// Puts the line of a gauge into `line`.
+fn put_gauge(key: &Key, value: Micro, line: &mut Line)
+    ensures { line.new.items ≡ gauge_line key.now value.0 }
 {
-    let mut line = begun(b"gauge ");
-    push_text(key.as_slice(), &mut line);
-    push_number(Sum(i128::from(value.0)), &mut line);
+    begin(b"gauge ", line);
+    push_text(key.as_slice(), line);
+    push_number(Sum(i128::from(value.0)), line);
     line.push(b'\n');
-    line
 }
 
-/// The line of a set.
-fn set_line(key: &Key, count: u64) -> Line
-    ensures { result.items ≡ set_line key.now count }
+/// Puts the line of a set into `line`.
+fn put_set(key: &Key, count: u64, line: &mut Line)
+    ensures { line.new.items ≡ set_line key.now count }
 {
-    let mut line = begun(b"set ");
-    push_text(key.as_slice(), &mut line);
-    push_whole(count, &mut line);
+    begin(b"set ", line);
+    push_text(key.as_slice(), line);
+    push_whole(count, line);
     line.push(b'\n');
-    line
 }

@@ -1,7 +1,7 @@
 ghost use Rattle.std.specs.Prelude.{◌≡◌, ◌+◌, ◌≤◌, ◌∷◌, ◌++◌, [], length, decimal};
 ghost use Rattle.arrayvec.specs.ArrayVec.{array_vec_len};
 ghost use Rattle.sd_model_text.specs.Numbers.{number_text};
-ghost use Rattle.sd_model_record.specs.Graphite.{dotted, suffix, front, line};
+ghost use Rattle.sd_model_record.specs.Graphite.{dotted, suffix, front, line as line_text};
 ghost use Rattle.sd_graphite.specs.Texts.{path_text};
 
 use crate::path::Path;
@@ -23,21 +23,20 @@ fn push_dotted(part: &[u8], line: &mut Line)
     line.push(b'.');
 }
 
-/// What stands before a key.
-fn front_of(names: &Names, legacy: &[u8], prefix: &[u8]) -> Line
+/// Appends what stands before a key.
+fn push_front(names: &Names, legacy: &[u8], prefix: &[u8], line: &mut Line)
     requires legacy { length legacy.now ≤ 64 }
     requires prefix { length prefix.now ≤ 64 }
-    ensures text { result.items ≡ front names.now legacy.now prefix.now }
-    ensures len { array_vec_len result ≤ 130 }
+    requires room { array_vec_len line.old ≤ 256 }
+    ensures text { line.new.items ≡ line.old.items ++ front names.now legacy.now prefix.now }
+    ensures len { array_vec_len line.new ≤ array_vec_len line.old + 130 }
 {
-    let mut path = Line::new();
     if names.legacy_namespace() {
-        push_text(legacy, &mut path);
-        return path;
+        push_text(legacy, line);
+        return;
     }
-    push_dotted(names.global_prefix().as_slice(), &mut path);
-    push_dotted(prefix, &mut path);
-    path
+    push_dotted(names.global_prefix().as_slice(), line);
+    push_dotted(prefix, line);
 }
 
 /// Appends what stands behind each path.
@@ -63,15 +62,15 @@ fn push_second(ts: u64, line: &mut Line)
     line.push(b'\n');
 }
 
-/// The line of a path and a number.
-pub(crate) fn line_of(names: &Names, path: &Path<'_>, number: Sum, ts: u64) -> Line
-    ensures { result.items ≡ line names.now (path_text names.now path.now) (number_text number.0) ts }
+/// Puts the line of a path and a number into `line`, in place of what it has.
+pub(crate) fn put_path(names: &Names, path: &Path<'_>, number: Sum, ts: u64, line: &mut Line)
+    ensures { line.new.items ≡ line_text names.now (path_text names.now path.now) (number_text number.0) ts }
 {
-    let mut line = front_of(names, path.legacy, path.prefix);
-    push_text(path.key, &mut line);
-    push_text(path.back, &mut line);
-    push_suffix(names, &mut line);
-    push_number(number, &mut line);
-    push_second(ts, &mut line);
-    line
+    line.clear();
+    push_front(names, path.legacy, path.prefix, line);
+    push_text(path.key, line);
+    push_text(path.back, line);
+    push_suffix(names, line);
+    push_number(number, line);
+    push_second(ts, line);
 }

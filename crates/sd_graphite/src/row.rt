@@ -3,13 +3,14 @@ ghost use Rattle.sd_model_record.specs.Graphite.{counter_back, figure_line};
 ghost use Rattle.sd_record.specs.Figures.{figure_view};
 ghost use Rattle.sd_graphite.specs.Texts.{rate_line, count_line, gauge_line, set_line};
 
-use crate::line::line_of;
+use crate::line::put_path;
 use crate::path::Path;
+use arrayvec::ArrayVec;
 use sd_config::Names;
 use sd_decimal::{Line, Micro, Sum};
 use sd_key::Key;
 use sd_record::{Figure, Row, whole_number};
-use sd_text::{RowText, push_text};
+use sd_text::RowText;
 
 /// How Graphite gets the rows of a record under these names, at this Unix second.
 #[derive(Clone, Copy)]
@@ -36,17 +37,17 @@ impl<'a> RowText for GraphiteRows<'a> {
         }
     }
 
-    fn row_line(&self, row: &Row, place: usize) -> Line {
+    fn put_line(&self, row: &Row, place: usize, line: &mut Line) {
         match row {
             Row::Counter { key, count, rate } => match place {
-                0 => rate_line(key, *rate, self.names, self.ts),
-                _ => count_line(key, *count, self.names, self.ts),
+                0 => put_rate(key, *rate, self.names, self.ts, line),
+                _ => put_count(key, *count, self.names, self.ts, line),
             },
             Row::Timer { key, timer } => {
-                figure_line(key, &timer.figure(place), self.names, self.ts)
+                put_figure(key, &timer.figure(place), self.names, self.ts, line);
             }
-            Row::Gauge { key, value } => gauge_line(key, *value, self.names, self.ts),
-            Row::Set { key, count } => set_line(key, *count, self.names, self.ts),
+            Row::Gauge { key, value } => put_gauge(key, *value, self.names, self.ts, line),
+            Row::Set { key, count } => put_set(key, *count, self.names, self.ts, line),
         }
     }
 }
@@ -60,9 +61,9 @@ fn counter_back<'a>(names: &Names, back: &'a [u8]) -> &'a [u8]
     if names.legacy_namespace() { b"" } else { back }
 }
 
-/// The line of a counter's count per second.
-fn rate_line(key: &Key, rate: Sum, names: &Names, ts: u64) -> Line
-    ensures { result.items ≡ rate_line names.now ts key.now rate.0 }
+/// Puts the line of a counter's count per second into `line`.
+fn put_rate(key: &Key, rate: Sum, names: &Names, ts: u64, line: &mut Line)
+    ensures { line.new.items ≡ rate_line names.now ts key.now rate.0 }
 {
     let path = Path {
         legacy: b"stats.",
@@ -70,12 +71,12 @@ fn rate_line(key: &Key, rate: Sum, names: &Names, ts: u64) -> Line
         key: key.as_slice(),
         back: counter_back(names, b".rate"),
     };
-    line_of(names, &path, rate, ts)
+    put_path(names, &path, rate, ts, line);
 }
 
-/// The line of a counter's count.
-fn count_line(key: &Key, count: Sum, names: &Names, ts: u64) -> Line
-    ensures { result.items ≡ count_line names.now ts key.now count.0 }
+/// Puts the line of a counter's count into `line`.
+fn put_count(key: &Key, count: Sum, names: &Names, ts: u64, line: &mut Line)
+    ensures { line.new.items ≡ count_line names.now ts key.now count.0 }
 {
     let path = Path {
         legacy: b"stats_counts.",
@@ -83,24 +84,33 @@ fn count_line(key: &Key, count: Sum, names: &Names, ts: u64) -> Line
         key: key.as_slice(),
         back: counter_back(names, b".count"),
     };
-    line_of(names, &path, count, ts)
+    put_path(names, &path, count, ts, line);
 }
 
-/// The line of a timer's figure.
-fn figure_line(key: &Key, figure: &Figure, names: &Names, ts: u64) -> Line
+/// What stands behind a timer's key: a point and the name of a figure.
+fn figure_back(figure: &Figure) -> ArrayVec<u8, 65>
     requires { length figure.now.name.items ≤ 64 }
-    ensures { result.items ≡ figure_line names.now ts key.now (figure_view figure.now) }
+    ensures { result.items ≡ 46 ∷ figure.now.name.items }
 {
-    let mut back = Line::new();
+    let mut back = ArrayVec::new();
     back.push(b'.');
-    push_text(figure.name.as_slice(), &mut back);
+    back.try_extend_from_slice(figure.name.as_slice()).unwrap();
+    back
+}
+
+/// Puts the line of a timer's figure into `line`.
+fn put_figure(key: &Key, figure: &Figure, names: &Names, ts: u64, line: &mut Line)
+    requires { length figure.now.name.items ≤ 64 }
+    ensures { line.new.items ≡ figure_line names.now ts key.now (figure_view figure.now) }
+{
+    let back = figure_back(figure);
     let path = Path {
         legacy: b"stats.timers.",
         prefix: names.prefix_timer().as_slice(),
         key: key.as_slice(),
         back: back.as_slice(),
     };
-    line_of(names, &path, figure.value, ts)
+    put_path(names, &path, figure.value, ts, line);
 }
 
 /// A value as a sum of one.
@@ -110,9 +120,9 @@ fn as_sum(value: Micro) -> Sum
     Sum(i128::from(value.0))
 }
 
-/// The line of a gauge.
-fn gauge_line(key: &Key, value: Micro, names: &Names, ts: u64) -> Line
-    ensures { result.items ≡ gauge_line names.now ts key.now value.0 }
+/// Puts the line of a gauge into `line`.
+fn put_gauge(key: &Key, value: Micro, names: &Names, ts: u64, line: &mut Line)
+    ensures { line.new.items ≡ gauge_line names.now ts key.now value.0 }
 {
     let path = Path {
         legacy: b"stats.gauges.",
@@ -120,12 +130,12 @@ fn gauge_line(key: &Key, value: Micro, names: &Names, ts: u64) -> Line
         key: key.as_slice(),
         back: b"",
     };
-    line_of(names, &path, as_sum(value), ts)
+    put_path(names, &path, as_sum(value), ts, line);
 }
 
-/// The line of a set.
-fn set_line(key: &Key, count: u64, names: &Names, ts: u64) -> Line
-    ensures { result.items ≡ set_line names.now ts key.now count }
+/// Puts the line of a set into `line`.
+fn put_set(key: &Key, count: u64, names: &Names, ts: u64, line: &mut Line)
+    ensures { line.new.items ≡ set_line names.now ts key.now count }
 {
     let path = Path {
         legacy: b"stats.sets.",
@@ -133,5 +143,5 @@ fn set_line(key: &Key, count: u64, names: &Names, ts: u64) -> Line
         key: key.as_slice(),
         back: b".count",
     };
-    line_of(names, &path, whole_number(count), ts)
+    put_path(names, &path, whole_number(count), ts, line);
 }

@@ -7,7 +7,7 @@ ghost use Rattle.sd_record.specs.Record.{record_view};
 ghost use Rattle.sd_record.specs.Row.{row_view};
 ghost use Rattle.sd_graphite.specs.Texts.{own_text, rows_line, tail_text};
 
-use crate::line::line_of;
+use crate::line::put_path;
 use crate::path::Path;
 use crate::row::GraphiteRows;
 use sd_config::Names;
@@ -63,9 +63,9 @@ fn write_own_counter<K: Sink>(
     write_row(&form, &own_row(name, number, names, rec), sink)
 }
 
-/// The line of the number of rows.
-fn rows_line(rows: u64, names: &Names, ts: u64) -> Line
-    ensures { result.items ≡ rows_line names.now rows ts }
+/// Puts the line of the number of rows into `line`.
+fn put_rows(rows: u64, names: &Names, ts: u64, line: &mut Line)
+    ensures { line.new.items ≡ rows_line names.now rows ts }
 {
     let path = Path {
         legacy: b"",
@@ -73,7 +73,7 @@ fn rows_line(rows: u64, names: &Names, ts: u64) -> Line
         key: names.prefix_stats().as_slice(),
         back: b".numStats",
     };
-    line_of(names, &path, whole_number(rows), ts)
+    put_path(names, &path, whole_number(rows), ts, line);
 }
 
 /// Writes the lines at the end of a record.
@@ -90,5 +90,7 @@ pub(crate) fn write_tail<K: Sink>(
     write_own_counter(b"packets_received", tally.packets, names, rec, sink)?;
     write_own_counter(b"metrics_received", tally.lines, names, rec, sink)?;
     write_own_counter(b"samples_dropped", tally.dropped, names, rec, sink)?;
-    write_line(&rows_line(rec.rows() as u64, names, rec.ts()), sink)
+    let mut line = Line::new();
+    put_rows(rec.rows() as u64, names, rec.ts(), &mut line);
+    write_line(&line, sink)
 }

@@ -16,7 +16,7 @@ use Rattle.sd_model_replay.specs.AccountingTheorem.{Seen, Course, AccountingTheo
 use Rattle.sd_model_replay.specs.Ends.{End, Complete, Faulted, ReadFailed, WriteFailed, WornOut, Replayed}
 use Rattle.sd_model_call.specs.Words.{Form}
 use Rattle.sd_model_call.specs.Opening.{World, Part, OfSettings, OfScript, OfWire, OfGraphite, OfConsole, AreRead, longest_file, started}
-use Rattle.sd_model_call.specs.Call.{Answer, Done, NoMemory, NoForm, Misset, BadScript, NotOpened, NotRead, NotWritten, Worn, Answers, AnswersReplay, Accounts, StopsAt, TakesSettings, Ran, ending}
+use Rattle.sd_model_call.specs.Call.{Account, Answer, Done, NoMemory, NoForm, Misset, BadScript, NotOpened, NotRead, NotWritten, Worn, Answers, AnswersReplay, Accounts, StopsAt, TakesSettings, Ran, ending}
 use Rattle.sd_model_call.specs.Completeness.{Asks, AsksPlainly, IsSteady, IsUnhindered, IsCutOff, IsLongest, IsWhole, IsFull, IsBlocked, IsOutward, CarriedOut, NoneMissed, refusal}
 use Rattle.sd_model_call.proofs.ReplayEnds.{LeftBehind, left_behind, carries_out}
 use Rattle.sd_model_call.proofs.Openings.{IsNamed, is_named, opened_where_faults, opened_wire_faults}
@@ -45,9 +45,10 @@ module _ (s : Settings) (name : List ℕ) (old new : Seen) where
     wires i below = subst (λ (n : ℕ). ¬ Rose n (wire_at i new.wires).faults) (sym (opened_wire_faults s.targets old.wires i)) (none.wires i below)
 
 -- a replay that the program began, from what was seen then
-pub replayed : (end : End) (s : Settings) (name script : List ℕ) (course : Course) (start : Seen) (old new : World) → AccountingTheorem s course start new.seen → Ran end s name script course start old new → Replayed s end (started s script old.seen) new.seen
-replayed end s name script course start old new theorem ran =
-    subst (λ (at : Seen). Replayed s end at new.seen) ran.since (record { course = course; theorem = theorem; ends = ran.ends })
+pub replayed : (end : End) (name script : List ℕ) (a : Account) (old new : World) → AccountingTheorem a.force a.course a.start a.end → Ran end name script a old new → Replayed a.force end (started a.force script old.seen) new.seen
+replayed end name script a old new theorem ran =
+    subst (λ (at : Seen). Replayed a.force end at new.seen) ran.since
+    (subst (λ (at : Seen). Replayed a.force end a.start at) ran.until (record { course = a.course; theorem = theorem; ends = ran.ends }))
 
 -- a file that is too long has that flaw
 too_long : (bytes : List ℕ) → longest_file < length bytes → settings bytes ≡ Err (OutOfRange (codes "file"))
@@ -82,42 +83,42 @@ module _ (words : List (List ℕ)) (values : file.Settings) (old new : World) (p
   in_force taken h = let same : Ok taken ≡ Ok values = sym h.file.accepted ∙ says h.file.bytes h.file.read in cc
 
   -- a replay ran by these settings
-  pub ran_by : (end : End) (s : Settings) (course : Course) (start : Seen) → Ran end s name script course start old new → s ≡ goes_by values
-  ran_by end s course start ran = ran.force ∙ ap goes_by (in_force ran.values ran.taken)
+  pub ran_by : (end : End) (a : Account) → Ran end name script a old new → a.force ≡ goes_by values
+  ran_by end a ran = ran.force ∙ ap goes_by (in_force ran.values ran.taken)
 
-  pub answers_so : (answer : Answer) (h : Accounts words old new answer) → AnswersReplay name script h.force answer h.course h.start old new
-  answers_so answer h = subst (λ (f : Option Form). Answers f h.force answer h.course h.start old new) plainly.asks.form h.answers
+  pub answers_so : (answer : Answer) (h : Accounts words old new answer) → AnswersReplay name script answer h.account old new
+  answers_so answer h = subst (λ (f : Option Form). Answers f answer h.account old new) plainly.asks.form h.answers
 
   module _ (expected : Answer)
       (only : (end : End) → Replayed (goes_by values) end (started (goes_by values) script old.seen) new.seen → ending end ≡ expected)
       (script_faults : ¬ Rose old.seen.script.faults new.seen.script.faults) where
-    at_end : (end : End) (s : Settings) (course : Course) (start : Seen) → AccountingTheorem s course start new.seen → Ran end s name script course start old new → IsFull expected (ending end)
-    at_end end s course start theorem ran =
-        inl (inl (only end (subst (λ (f : Settings). Replayed f end (started f script old.seen) new.seen) (ran_by end s course start ran) (replayed end s name script course start old new theorem ran))))
+    at_end : (end : End) (a : Account) → AccountingTheorem a.force a.course a.start a.end → Ran end name script a old new → IsFull expected (ending end)
+    at_end end a theorem ran =
+        inl (inl (only end (subst (λ (f : Settings). Replayed f end (started f script old.seen) new.seen) (ran_by end a ran) (replayed end name script a old new theorem ran))))
 
-    full_by : (s : Settings) (answer : Answer) (course : Course) (start : Seen) → AccountingTheorem s course start new.seen → AnswersReplay name script s answer course start old new → IsFull expected answer
-    full_by s Done course start theorem h = at_end (Complete (totals_after s course.played)) s course start theorem h
-    full_by s NoMemory course start theorem h = inl (inr refl)
-    full_by s NoForm course start theorem h = absurd h
-    full_by s (Misset flaw) course start theorem h = let same : Err flaw ≡ Ok values = sym h.0.file.refused ∙ says h.0.file.bytes h.0.file.read in absurd (cc)
-    full_by s (BadScript at flaw) course start theorem h = at_end (Faulted at flaw) s course start theorem h
-    full_by s (NotOpened OfSettings) course start theorem h = absurd (plainly.settings_faults h.0.failed.rose)
-    full_by s (NotOpened OfScript) course start theorem h = absurd (script_faults h.0.fails.failed.rose)
-    full_by s (NotOpened (OfWire i)) course start theorem h = inr (OfWire i, tt, refl)
-    full_by s (NotOpened OfGraphite) course start theorem h = inr (OfGraphite, tt, refl)
-    full_by s (NotOpened OfConsole) course start theorem h = inr (OfConsole, tt, refl)
-    full_by s (NotRead OfSettings) course start theorem h =
+    full_by : (answer : Answer) (a : Account) → AccountingTheorem a.force a.course a.start a.end → AnswersReplay name script answer a old new → IsFull expected answer
+    full_by Done a theorem h = at_end (Complete (totals_after a.force a.course.played)) a theorem h
+    full_by NoMemory a theorem h = inl (inr refl)
+    full_by NoForm a theorem h = absurd h
+    full_by (Misset flaw) a theorem h = let same : Err flaw ≡ Ok values = sym h.0.file.refused ∙ says h.0.file.bytes h.0.file.read in absurd (cc)
+    full_by (BadScript at flaw) a theorem h = at_end (Faulted at flaw) a theorem h
+    full_by (NotOpened OfSettings) a theorem h = absurd (plainly.settings_faults h.0.failed.rose)
+    full_by (NotOpened OfScript) a theorem h = absurd (script_faults h.0.fails.failed.rose)
+    full_by (NotOpened (OfWire i)) a theorem h = inr (OfWire i, tt, refl)
+    full_by (NotOpened OfGraphite) a theorem h = inr (OfGraphite, tt, refl)
+    full_by (NotOpened OfConsole) a theorem h = inr (OfConsole, tt, refl)
+    full_by (NotRead OfSettings) a theorem h =
         let before = ap (λ (o : Object). o.faults) h.0.failed.read in
         absurd (plainly.settings_faults (subst (λ (n : ℕ). Rose n new.settings.faults) (sym before) h.0.failed.failed.rose))
-    full_by s (NotRead OfScript) course start theorem h = at_end ReadFailed s course start theorem h
-    full_by s (NotRead (OfWire i)) course start theorem h = absurd h
-    full_by s (NotRead OfGraphite) course start theorem h = absurd h
-    full_by s (NotRead OfConsole) course start theorem h = absurd h
-    full_by s NotWritten course start theorem h = at_end WriteFailed s course start theorem h
-    full_by s (Worn turns) course start theorem h = at_end (WornOut turns) s course start theorem h
+    full_by (NotRead OfScript) a theorem h = at_end ReadFailed a theorem h
+    full_by (NotRead (OfWire i)) a theorem h = absurd h
+    full_by (NotRead OfGraphite) a theorem h = absurd h
+    full_by (NotRead OfConsole) a theorem h = absurd h
+    full_by NotWritten a theorem h = at_end WriteFailed a theorem h
+    full_by (Worn turns) a theorem h = at_end (WornOut turns) a theorem h
 
     pub full_answer : (answer : Answer) → Accounts words old new answer → IsFull expected answer
-    full_answer answer h = full_by h.force answer h.course h.start h.theorem (answers_so answer h)
+    full_answer answer h = full_by answer h.account h.theorem (answers_so answer h)
 
   -- a wire or a backend that couldn't be opened is named
   stop_named : (part : Part) (stops : StopsAt part name script old new) → IsNamed (goes_by values) part
@@ -140,13 +141,16 @@ module _ (words : List (List ℕ)) (values : file.Settings) (old new : World) (p
   pub done_carries_out : (commands : List Command) (rest : List ℕ) → IsUnhindered (goes_by values) old.seen new.seen commands rest
       → Accounts words old new Done → CarriedOut (goes_by values) (started (goes_by values) script old.seen) new.seen commands rest
   done_carries_out commands rest free h =
+      let a = h.account in
       let ran = answers_so Done h in
-      let end = Complete (totals_after h.force h.course.played) in
-      let s : h.force ≡ goes_by values = ran_by end h.force h.course h.start ran in
+      let s : a.force ≡ goes_by values = ran_by (Complete (totals_after a.force a.course.played)) a ran in
+      let known = unhindered_started a.force script old.seen new.seen commands rest (subst (λ (f : Settings). IsUnhindered f old.seen new.seen commands rest) (sym s) free) in
+      let unhindered : IsUnhindered a.force a.start a.end commands rest = subst (λ (to : Seen). IsUnhindered a.force a.start to commands rest) (sym ran.until)
+      (subst (λ (from : Seen). IsUnhindered a.force from new.seen commands rest) (sym ran.since) known) in
       subst (λ (f : Settings). CarriedOut f (started f script old.seen) new.seen commands rest) s
-      (subst (λ (at : Seen). IsUnhindered h.force at new.seen commands rest → CarriedOut h.force at new.seen commands rest) ran.since
-      (λ known. carries_out h.force h.start new.seen commands rest known h.course h.theorem ran.ends)
-      (unhindered_started h.force script old.seen new.seen commands rest (subst (λ (f : Settings). IsUnhindered f old.seen new.seen commands rest) (sym s) free)))
+      (subst (λ (from : Seen). CarriedOut a.force from new.seen commands rest) ran.since
+      (subst (λ (to : Seen). CarriedOut a.force a.start to commands rest) ran.until
+      (carries_out a.force a.start a.end commands rest unhindered.steady unhindered.few a.course h.theorem ran.ends)))
 
 -- a call of settings that are refused
 module _ (words : List (List ℕ)) (old new : World) (bytes : List ℕ) (refused : Answer) (asks : Asks words old new bytes) (is : refusal (settings bytes) ≡ Some refused) where
@@ -159,39 +163,39 @@ module _ (words : List (List ℕ)) (old new : World) (bytes : List ℕ) (refused
       let taken : refusal (settings h.file.bytes) ≡ None = ap refusal h.file.accepted in
       let both : None ≡ Some refused = sym taken ∙ says_so h.file.bytes h.file.read in absurd (cc)
 
-  blocked_by : (s : Settings) (answer : Answer) (course : Course) (start : Seen) → AnswersReplay asks.settings asks.script s answer course start old new → IsBlocked refused answer
-  blocked_by s Done course start h = not_taken h.values h.taken
-  blocked_by s NoMemory course start h = inl (inr refl)
-  blocked_by s NoForm course start h = absurd h
-  blocked_by s (Misset flaw) course start h =
+  blocked_by : (answer : Answer) (a : Account) → AnswersReplay asks.settings asks.script answer a old new → IsBlocked refused answer
+  blocked_by Done a h = not_taken h.values h.taken
+  blocked_by NoMemory a h = inl (inr refl)
+  blocked_by NoForm a h = absurd h
+  blocked_by (Misset flaw) a h =
       let said : Some (Misset flaw) ≡ Some refused = ap refusal (sym h.0.file.refused) ∙ says_so h.0.file.bytes h.0.file.read in inl (inl cc)
-  blocked_by s (BadScript at flaw) course start h = not_taken h.values h.taken
-  blocked_by s (NotOpened OfSettings) course start h = inr (inl refl)
-  blocked_by s (NotOpened OfScript) course start h = not_taken h.0.values h.0.taken
-  blocked_by s (NotOpened (OfWire i)) course start h = not_taken h.0.values h.0.taken
-  blocked_by s (NotOpened OfGraphite) course start h = not_taken h.0.values h.0.taken
-  blocked_by s (NotOpened OfConsole) course start h = not_taken h.0.values h.0.taken
-  blocked_by s (NotRead OfSettings) course start h = inr (inr refl)
-  blocked_by s (NotRead OfScript) course start h = not_taken h.values h.taken
-  blocked_by s (NotRead (OfWire i)) course start h = absurd h
-  blocked_by s (NotRead OfGraphite) course start h = absurd h
-  blocked_by s (NotRead OfConsole) course start h = absurd h
-  blocked_by s NotWritten course start h = not_taken h.values h.taken
-  blocked_by s (Worn turns) course start h = not_taken h.values h.taken
+  blocked_by (BadScript at flaw) a h = not_taken h.values h.taken
+  blocked_by (NotOpened OfSettings) a h = inr (inl refl)
+  blocked_by (NotOpened OfScript) a h = not_taken h.0.values h.0.taken
+  blocked_by (NotOpened (OfWire i)) a h = not_taken h.0.values h.0.taken
+  blocked_by (NotOpened OfGraphite) a h = not_taken h.0.values h.0.taken
+  blocked_by (NotOpened OfConsole) a h = not_taken h.0.values h.0.taken
+  blocked_by (NotRead OfSettings) a h = inr (inr refl)
+  blocked_by (NotRead OfScript) a h = not_taken h.values h.taken
+  blocked_by (NotRead (OfWire i)) a h = absurd h
+  blocked_by (NotRead OfGraphite) a h = absurd h
+  blocked_by (NotRead OfConsole) a h = absurd h
+  blocked_by NotWritten a h = not_taken h.values h.taken
+  blocked_by (Worn turns) a h = not_taken h.values h.taken
 
-  refused_so : (answer : Answer) (h : Accounts words old new answer) → AnswersReplay asks.settings asks.script h.force answer h.course h.start old new
-  refused_so answer h = subst (λ (f : Option Form). Answers f h.force answer h.course h.start old new) asks.form h.answers
+  refused_so : (answer : Answer) (h : Accounts words old new answer) → AnswersReplay asks.settings asks.script answer h.account old new
+  refused_so answer h = subst (λ (f : Option Form). Answers f answer h.account old new) asks.form h.answers
 
   pub blocked_answer : (answer : Answer) → Accounts words old new answer → IsBlocked refused answer
-  blocked_answer answer h = blocked_by h.force answer h.course h.start (refused_so answer h)
+  blocked_answer answer h = blocked_by answer h.account (refused_so answer h)
 
   not_closed : ¬ Rose old.settings.faults new.settings.faults → (answer : Answer) → answer ≡ NotOpened OfSettings → Accounts words old new answer → ⊥
   not_closed steady answer closed h =
-      steady (subst (λ a. AnswersReplay asks.settings asks.script h.force a h.course h.start old new) closed (refused_so answer h)).0.failed.rose
+      steady (subst (λ a. AnswersReplay asks.settings asks.script a h.account old new) closed (refused_so answer h)).0.failed.rose
 
   not_failed : ¬ Rose old.settings.faults new.settings.faults → (answer : Answer) → answer ≡ NotRead OfSettings → Accounts words old new answer → ⊥
   not_failed steady answer failed h =
-      let stops = (subst (λ a. AnswersReplay asks.settings asks.script h.force a h.course h.start old new) failed (refused_so answer h)).0 in
+      let stops = (subst (λ a. AnswersReplay asks.settings asks.script a h.account old new) failed (refused_so answer h)).0 in
       steady (subst (λ (n : ℕ). Rose n new.settings.faults) (sym (ap (λ (o : Object). o.faults) stops.failed.read)) stops.failed.failed.rose)
 
   pub blocked_whole : (answer : Answer) → ¬ Rose old.settings.faults new.settings.faults → Accounts words old new answer → IsWhole refused answer

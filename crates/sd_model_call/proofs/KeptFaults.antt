@@ -11,9 +11,9 @@ use Rattle.sd_model_replay.specs.Replay.{deliveries, sendings}
 use Rattle.sd_model_replay.specs.Totals.{totals_after}
 use Rattle.sd_model_replay.specs.AccountingTheorem.{Seen, Course, AccountingTheorem, seen_at}
 use Rattle.sd_model_replay.specs.Ends.{End, Complete, Faulted, ReadFailed, WriteFailed, WornOut, OutputAfter}
-use Rattle.sd_model_call.specs.Words.{Form, Replay, form}
+use Rattle.sd_model_call.specs.Words.{Form, Replay, Drill, form}
 use Rattle.sd_model_call.specs.Opening.{World, Opening, Part, OfSettings, OfScript, OfWire, OfGraphite, OfConsole, IsOpened, IsUntouched, OnlySettings, UnusedStay, backend_openings, openings, part_in, started, wire_openings}
-use Rattle.sd_model_call.specs.Call.{Answer, Done, NoMemory, NoForm, Misset, BadScript, NotOpened, NotRead, NotWritten, Worn, Answers, AnswersReplay, Accounts, NotBegun, TakesSettings, StopsAt, Ran}
+use Rattle.sd_model_call.specs.Call.{Account, Answer, Done, NoMemory, NoForm, Misset, BadScript, NotOpened, NotRead, NotWritten, Worn, Answers, AnswersDrill, AnswersReplay, Accounts, OnlyOutput, NotBegun, TakesSettings, StopsAt, Ran}
 use Rattle.sd_model_replay.proofs.DeliveryLemmas.{all_counts}
 use Rattle.sd_model_replay.proofs.SendingLemmas.{wire_counts}
 use Rattle.sd_model_call.proofs.Openings.{all_append, all_behind, opened_where_faults, opened_wire_faults, wire_beyond, wire_opening}
@@ -89,8 +89,8 @@ module _ (old new : World) where
   ]
 
   -- a call that began no replay once its settings were taken
-  kept_parts : (name script : List ℕ) (values : file.Settings) (course : Course) (start : Seen) → TakesSettings name values old new → AllByRecursion IsKept (openings (goes_by values) script) → UnusedStay (goes_by values) old new → NotBegun course start old new → Kept old new
-  kept_parts name script values course start taken all unused idle =
+  kept_parts : (name script : List ℕ) (values : file.Settings) (a : Account) → TakesSettings name values old new → AllByRecursion IsKept (openings (goes_by values) script) → UnusedStay (goes_by values) old new → NotBegun a old new → Kept old new
+  kept_parts name script values a taken all unused idle =
       let s = goes_by values in
       let graphite = backend_openings OfGraphite s.uses_graphite in
       let console = backend_openings OfConsole s.uses_console in
@@ -104,9 +104,10 @@ module _ (old new : World) where
         wires = λ i. wire_kept s script i all unused;
       }
 
-  kept_run : (end : End) (s : Settings) (name script : List ℕ) (course : Course) (start : Seen) → AccountingTheorem s course start new.seen → Ran end s name script course start old new → Kept old new
-  kept_run end s name script course start theorem ran =
-      let r = replayed end s name script course start old new theorem ran in
+  kept_run : (end : End) (name script : List ℕ) (a : Account) → AccountingTheorem a.force a.course a.start a.end → Ran end name script a old new → Kept old new
+  kept_run end name script a theorem ran =
+      let s = a.force in
+      let r = replayed end name script a old new theorem ran in
       let began = started s script old.seen in
       let graphite = all_counts (deliveries s Graphite r.course.played) began.graphite new.seen.graphite (r.theorem.texts Graphite) in
       let console = all_counts (deliveries s Console r.course.played) began.console new.seen.console (r.theorem.texts Console) in
@@ -121,43 +122,75 @@ module _ (old new : World) where
         wires = λ i. omega (arith, opened_wire_faults s.targets old.seen.wires i, (wire_counts (sendings r.course.played) i began.wires new.seen.wires r.theorem.sends).used.faults);
       }
 
-  kept_stop : (part : Part) (name script : List ℕ) (course : Course) (start : Seen) → StopsAt part name script old new → NotBegun course start old new → Kept old new
-  kept_stop part name script course start h idle =
-      kept_parts name script h.values course start h.taken
+  kept_stop : (part : Part) (name script : List ℕ) (a : Account) → StopsAt part name script old new → NotBegun a old new → Kept old new
+  kept_stop part name script a h idle =
+      kept_parts name script h.values a h.taken
       (subst (AllByRecursion IsKept) (sym h.fails.order) (all_append IsKept h.fails.before (record { part = part; place = h.fails.place } ∷ h.fails.behind) (opened_kept h.fails.before h.fails.opened) (h.fails.failed.used.faults, untouched_kept h.fails.behind h.fails.untouched)))
       h.unused idle
 
-  kept_by : (name script : List ℕ) (s : Settings) (answer : Answer) (course : Course) (start : Seen) → AccountingTheorem s course start new.seen → AnswersReplay name script s answer course start old new → Kept old new
-  kept_by name script s Done course start theorem h = kept_run (Complete (totals_after s course.played)) s name script course start theorem h
-  kept_by name script s NoMemory course start theorem (inl h, idle) = kept_settings (left_off h.settings) h.only where
+  kept_by : (name script : List ℕ) (answer : Answer) (a : Account) → AccountingTheorem a.force a.course a.start a.end → AnswersReplay name script answer a old new → Kept old new
+  kept_by name script Done a theorem h = kept_run (Complete (totals_after a.force a.course.played)) name script a theorem h
+  kept_by name script NoMemory a theorem (inl h, idle) = kept_settings (left_off h.settings) h.only where
     left_off : (new.settings ≡ old.settings) ⊎ ((bytes : List ℕ) × HasRead bytes (opened (File name) old.settings) new.settings) → old.settings.faults ≤ new.settings.faults
     left_off (inl same) = let faults = ap (λ (o : Object). o.faults) same in omega (arith, faults)
     left_off (inr (bytes, read)) = read_faults bytes (File name) old.settings new.settings read
-  kept_by name script s NoMemory course start theorem (inr h, idle) =
-      kept_parts name script h.values course start h.taken
+  kept_by name script NoMemory a theorem (inr h, idle) =
+      kept_parts name script h.values a h.taken
       (subst (AllByRecursion IsKept) (sym h.some.order) (all_append IsKept h.some.before h.some.behind (opened_kept h.some.before h.some.opened) (untouched_kept h.some.behind h.some.untouched)))
       h.unused idle
-  kept_by name script s NoForm course start theorem h = absurd h
-  kept_by name script s (Misset flaw) course start theorem h = kept_settings (read_faults h.0.file.bytes (File name) old.settings new.settings h.0.file.read.read) h.0.only
-  kept_by name script s (BadScript at flaw) course start theorem h = kept_run (Faulted at flaw) s name script course start theorem h
-  kept_by name script s (NotOpened OfSettings) course start theorem h = kept_settings h.0.failed.used.faults h.0.only
-  kept_by name script s (NotOpened OfScript) course start theorem h = kept_stop OfScript name script course start h.0 h.1
-  kept_by name script s (NotOpened (OfWire i)) course start theorem h = kept_stop (OfWire i) name script course start h.0 h.1
-  kept_by name script s (NotOpened OfGraphite) course start theorem h = kept_stop OfGraphite name script course start h.0 h.1
-  kept_by name script s (NotOpened OfConsole) course start theorem h = kept_stop OfConsole name script course start h.0 h.1
-  kept_by name script s (NotRead OfSettings) course start theorem h =
+  kept_by name script NoForm a theorem h = absurd h
+  kept_by name script (Misset flaw) a theorem h = kept_settings (read_faults h.0.file.bytes (File name) old.settings new.settings h.0.file.read.read) h.0.only
+  kept_by name script (BadScript at flaw) a theorem h = kept_run (Faulted at flaw) name script a theorem h
+  kept_by name script (NotOpened OfSettings) a theorem h = kept_settings h.0.failed.used.faults h.0.only
+  kept_by name script (NotOpened OfScript) a theorem h = kept_stop OfScript name script a h.0 h.1
+  kept_by name script (NotOpened (OfWire i)) a theorem h = kept_stop (OfWire i) name script a h.0 h.1
+  kept_by name script (NotOpened OfGraphite) a theorem h = kept_stop OfGraphite name script a h.0 h.1
+  kept_by name script (NotOpened OfConsole) a theorem h = kept_stop OfConsole name script a h.0 h.1
+  kept_by name script (NotRead OfSettings) a theorem h =
       let first = read_faults h.0.failed.bytes (File name) old.settings h.0.failed.before h.0.failed.read in
       kept_settings (omega (arith, first, h.0.failed.failed.used.faults)) h.0.only
-  kept_by name script s (NotRead OfScript) course start theorem h = kept_run ReadFailed s name script course start theorem h
-  kept_by name script s (NotRead (OfWire i)) course start theorem h = absurd h
-  kept_by name script s (NotRead OfGraphite) course start theorem h = absurd h
-  kept_by name script s (NotRead OfConsole) course start theorem h = absurd h
-  kept_by name script s NotWritten course start theorem h = kept_run WriteFailed s name script course start theorem h
-  kept_by name script s (Worn turns) course start theorem h = kept_run (WornOut turns) s name script course start theorem h
+  kept_by name script (NotRead OfScript) a theorem h = kept_run ReadFailed name script a theorem h
+  kept_by name script (NotRead (OfWire i)) a theorem h = absurd h
+  kept_by name script (NotRead OfGraphite) a theorem h = absurd h
+  kept_by name script (NotRead OfConsole) a theorem h = absurd h
+  kept_by name script NotWritten a theorem h = kept_run WriteFailed name script a theorem h
+  kept_by name script (Worn turns) a theorem h = kept_run (WornOut turns) name script a theorem h
 
-  kept_form : (f : Option Form) (s : Settings) (answer : Answer) (course : Course) (start : Seen) → AccountingTheorem s course start new.seen → Answers f s answer course start old new → Kept old new
-  kept_form None s answer course start theorem h = kept_settings (let faults = ap (λ (w : World). w.settings.faults) h.unused in omega (arith, faults)) (record { seen = ap (λ (w : World). w.seen) h.unused; flags = ap (λ (w : World). w.flags) h.unused })
-  kept_form (Some (Replay name script)) s answer course start theorem h = kept_by name script s answer course start theorem h
+  -- a call that used nothing but the output
+  kept_output : OnlyOutput old new → Used old.seen.output new.seen.output → Kept old new
+  kept_output only used =
+      let settings = ap (λ (w : World). w.settings.faults) only in
+      let script = ap (λ (w : World). w.seen.script.faults) only in
+      let graphite = ap (λ (w : World). w.seen.graphite.faults) only in
+      let console = ap (λ (w : World). w.seen.console.faults) only in
+      record {
+        settings = omega (arith, settings);
+        script = omega (arith, script);
+        graphite = omega (arith, graphite);
+        console = omega (arith, console);
+        output = used;
+        wires = λ i. omega (arith, ap (λ (w : World). (wire_at i w.seen.wires).faults) only);
+      }
+
+  -- a call that changed nothing
+  kept_all : new ≡ old → Kept old new
+  kept_all same = kept_settings (let faults = ap (λ (w : World). w.settings.faults) same in omega (arith, faults)) (record { seen = ap (λ (w : World). w.seen) same; flags = ap (λ (w : World). w.flags) same })
+
+  kept_drill : (n : ℕ) (answer : Answer) (a : Account) → AnswersDrill n answer a old new → Kept old new
+  kept_drill n Done a h = let faults = ap (λ (o : Object). o.faults) h.1 in kept_output h.0.only (record { faults = omega (arith, faults); opened_at = ap (λ (o : Object). o.opened_at) h.1 })
+  kept_drill n NoMemory a h = kept_all h.0
+  kept_drill n NoForm a h = absurd h
+  kept_drill n (Misset flaw) a h = absurd h
+  kept_drill n (BadScript at flaw) a h = absurd h
+  kept_drill n (NotOpened part) a h = absurd h
+  kept_drill n (NotRead part) a h = absurd h
+  kept_drill n NotWritten a h = kept_output h.0.only h.1.used
+  kept_drill n (Worn turns) a h = absurd h
+
+  kept_form : (f : Option Form) (answer : Answer) (a : Account) → AccountingTheorem a.force a.course a.start a.end → Answers f answer a old new → Kept old new
+  kept_form None answer a theorem h = kept_all h.unused
+  kept_form (Some (Replay name script)) answer a theorem h = kept_by name script answer a theorem h
+  kept_form (Some (Drill n)) answer a theorem h = kept_drill n answer a h
 
 pub kept : (words : List (List ℕ)) (old new : World) (answer : Answer) → Accounts words old new answer → Kept old new
-kept words old new answer h = kept_form old new (form words) h.force answer h.course h.start h.theorem h.answers
+kept words old new answer h = kept_form old new (form words) answer h.account h.theorem h.answers

@@ -1,14 +1,14 @@
 -- How a replay ends whose script tells its records, where no fault was counted.
-use Rattle.std.proofs.Common.{◌≡◌, ℕ, suc, ◌+◌, ◌<◌, Bool, true, false, cond, get_or, IsTrue, List, [], ◌∷◌, ◌++◌, length, map, min, refl, sym, ap, subst, ◌∙◌, arith, append_assoc, append-nil, length-append, inl, inr}
+use Rattle.std.proofs.Common.{◌≡◌, ◌⊎◌, ℕ, suc, ◌+◌, ◌<◌, Bool, true, false, cond, get_or, IsTrue, List, [], ◌∷◌, ◌++◌, length, map, min, refl, sym, ap, subst, ◌∙◌, arith, append_assoc, append-nil, length-append, inl, inr}
 use Rattle.std.specs.Prelude.{⊤}
 use Rattle.std.specs.List.{AllByRecursion}
 use Rattle.std.proofs.lemmas.List.{length-map}
 use Rattle.std.proofs.lemmas.List.Sums.{sum_by-cons}
-use Rattle.sd_model_outside.specs.Outside.{Told, Untold, Left, Number, Bytes, Rounds, Packets, put_back, given, last_count}
+use Rattle.sd_model_outside.specs.Outside.{Told, Untold, Left, Number, Bytes, Rounds, Packets, Rose, put_back, given, last_count}
 use Rattle.sd_model_record.specs.Desk.{Mark, fault_of}
 use Rattle.sd_model_replay.specs.Settings.{Settings}
 use Rattle.sd_model_replay.specs.Backends.{Backend, Graphite, Console, Delivery, AfterDeliveries, FitsUse, is_used, mark_of, missed}
-use Rattle.sd_model_replay.specs.Script.{Command, Packet, Flush, Admin, spelled, end_word, script_text, IsLegal, BeginsRecord}
+use Rattle.sd_model_replay.specs.Script.{Command, Packet, Flush, Admin, spelled, end_word, script_text, IsLegal, BeginsEnd, BeginsRecord}
 use Rattle.sd_model_replay.specs.Next.{Next, Carried, Ending, Faulty, Begins}
 use Rattle.sd_model_settings.specs.Entries.{Target}
 use Rattle.sd_model_replay.specs.Repeater.{AfterSendings, missed_on, wire_at, Sending}
@@ -17,7 +17,8 @@ use Rattle.sd_model_replay.specs.Output.{output_in, output_of}
 use Rattle.sd_model_replay.specs.Totals.{Totals, totals_after, totals_text}
 use Rattle.sd_model_replay.specs.AccountingTheorem.{Seen, Course, AccountingTheorem, seen_at}
 use Rattle.sd_model_replay.specs.Ends.{End, Complete, Faulted, ReadFailed, WriteFailed, WornOut, most_records, AreFew, StopsFor, IsInReply, IsBrokenOff, EndsAs, Replayed, behind}
-use Rattle.sd_model_call.specs.Completeness.{IsSilent, IsHeard, IsSteady, IsUnhindered, IsCutOff, IsLongest, CarriedOut, CarriedOutWell, NoneMissed, well, well_mark, well_sent}
+use Rattle.sd_model_call.specs.Completeness.{IsSilent, IsHeard, IsSteady, IsUnhindered, IsCutOff, IsLongest, CarriedOut, CarriedOutWell, NoneMissed}
+use Rattle.sd_model_call.specs.Faultless.{well, well_mark, well_sent}
 use Rattle.sd_model_replay.proofs.ReadingLemmas.{Behind, ended_script, cut_script, one_script, one_end, not_end, begins, begins_record}
 use Rattle.sd_model_replay.proofs.NextLemmas.{one_next, next_stays}
 use Rattle.sd_model_replay.proofs.DeliveryLemmas.{all_counts, none_missed, written_mark}
@@ -38,7 +39,7 @@ left_behind front whole (Bytes bytes) same = absurd (cc)
 left_behind front whole (Rounds rounds open_list) same = absurd (cc)
 left_behind front whole (Packets packets) same = absurd (cc)
 
-abbrev commands_of : List Played → List Command
+abbrev pub commands_of : List Played → List Command
 commands_of played = map (λ p. p.command) played
 
 all_legal : (receivers : ℕ) (played : List Played) → AllByRecursion (λ p. IsLegal receivers p.command) played → AllByRecursion (IsLegal receivers) (commands_of played)
@@ -102,7 +103,7 @@ module _ (settings : Settings) (old new : Seen) (commands : List Command) (bytes
   no_read_failed ends = absurd (steady.script_faults ends.script_faults)
 
 -- nothing is written of a record that is silent
-silent_in : (settings : Settings) (run : Run) (c : Command) → IsSilent c → output_in settings run c ≡ []
+pub silent_in : (settings : Settings) (run : Run) (c : Command) → IsSilent c → output_in settings run c ≡ []
 silent_in settings run (Packet who moment datagram) silent = refl
 silent_in settings run (Flush ts) silent = refl
 silent_in settings run (Admin moment line) silent = absurd silent
@@ -121,50 +122,70 @@ no_reply_failed settings old new commands behind course heard whole h reply =
     omega (arith, h.failed.front.1, ap length nothing)
 
 -- of a script that ends behind its records
-module _ (settings : Settings) (old new : Seen) (commands : List Command) (rest : List ℕ) (free : IsUnhindered settings old new commands rest) (course : Course) (theorem : AccountingTheorem settings course old new) where
-  ended_behind : (r : Reached settings old new commands (end_word ++ rest) free.steady course theorem)
+module _ (settings : Settings) (old new : Seen) (commands : List Command) (rest : List ℕ) (steady : IsSteady settings old new commands (end_word ++ rest)) (few : length commands < most_records) (course : Course) (theorem : AccountingTheorem settings course old new) where
+  ended_behind : (r : Reached settings old new commands (end_word ++ rest) steady course theorem)
       → Behind settings.receivers commands (commands_of course.played) (end_word ++ rest) (course.ahead ++ r.left)
   ended_behind r =
-      ended_script settings.receivers commands (commands_of course.played) rest (course.ahead ++ r.left) free.steady.legal (all_legal settings.receivers course.played theorem.legal) r.same
+      ended_script settings.receivers commands (commands_of course.played) rest (course.ahead ++ r.left) steady.legal (all_legal settings.receivers course.played theorem.legal) r.same
 
-  reached_end : Reached settings old new commands (end_word ++ rest) free.steady course theorem
-  reached_end = reached settings old new commands (end_word ++ rest) free.steady course theorem
+  reached_end : Reached settings old new commands (end_word ++ rest) steady course theorem
+  reached_end = reached settings old new commands (end_word ++ rest) steady course theorem
 
   no_stop : (next : Next) (at : ℕ) → IsStop next → StopsFor settings next at course new → ⊥
   no_stop next at stop ends =
       let r = reached_end in
       let h = ended_behind r in
-      let stands = subst (λ bs. Begins settings.receivers next bs (Left [])) h.stands (stop_stands settings old new commands (end_word ++ rest) free.steady course theorem r next at ends) in
+      let stands = subst (λ bs. Begins settings.receivers next bs (Left [])) h.stands (stop_stands settings old new commands (end_word ++ rest) steady course theorem r next at ends) in
       elim (begins settings.receivers h.behind rest (Left []) h.legal) [
         | inl end ↦ not_stop settings.receivers (script_text h.behind ++ (end_word ++ rest)) next Ending (Left []) (Left []) stop (λ h. h) stands end
         | inr one ↦ not_stop settings.receivers (script_text h.behind ++ (end_word ++ rest)) next (Carried one.0) (Left []) (Left []) stop (λ h. h) stands one.1
       ]
 
-  ends_complete : (end : End) → EndsAs settings end course old new → (totals : Totals) × (end ≡ Complete totals)
-  ends_complete (Complete totals) ends = (totals, refl)
-  ends_complete (Faulted at flaw) ends = absurd (no_stop (Faulty flaw) at tt ends.read)
-  ends_complete ReadFailed ends = absurd (no_read_failed settings old new commands (end_word ++ rest) free.steady course theorem ends)
-  ends_complete WriteFailed ends = absurd (free.output_faults ends.output.failed.rose)
-  ends_complete (WornOut turns) ends =
+  -- a replay comes to the end of such a script, or a write failed
+  pub ends_whole : (end : End) → EndsAs settings end course old new → ((totals : Totals) × (end ≡ Complete totals)) ⊎ (end ≡ WriteFailed)
+  ends_whole (Complete totals) ends = inl (totals, refl)
+  ends_whole (Faulted at flaw) ends = absurd (no_stop (Faulty flaw) at tt ends.read)
+  ends_whole ReadFailed ends = absurd (no_read_failed settings old new commands (end_word ++ rest) steady course theorem ends)
+  ends_whole WriteFailed ends = inr refl
+  ends_whole (WornOut turns) ends =
       let h = ended_behind reached_end in
-      absurd (omega (arith, free.few, ends.read.1, ap length h.whole, length-append (commands_of course.played) h.behind, length-map course.played (λ (p : Played). p.command)))
+      absurd (omega (arith, few, ends.read.1, ap length h.whole, length-append (commands_of course.played) h.behind, length-map course.played (λ (p : Played). p.command)))
+
+  -- and not of a reply, where nothing is replied
+  pub no_reply : IsHeard old new commands → (h : IsBrokenOff settings course old.output new.output) → IsInReply settings course h.before h.text → ⊥
+  no_reply heard h reply = let b = ended_behind reached_end in no_reply_failed settings old new commands b.behind course heard b.whole h reply
+
+  ends_complete : ¬ Rose old.output.faults new.output.faults → (end : End) → EndsAs settings end course old new → (totals : Totals) × (end ≡ Complete totals)
+  ends_complete steady_output end ends = elim (ends_whole end ends) [
+    | inl complete ↦ complete
+    | inr failed ↦ absurd (steady_output (subst (λ (e : End). EndsAs settings e course old new) failed ends).output.failed.rose)
+  ]
+
+  -- where the end was come to, no record stands behind those that were carried out
+  none_behind : (r : Reached settings old new commands (end_word ++ rest) steady course theorem) → BeginsEnd course.ahead → (ended_behind r).behind ≡ []
+  none_behind r word =
+      let h = ended_behind r in
+      (one_end settings.receivers h.behind (end_word ++ rest) (word.0 ++ r.left) (end_stands settings old new commands (end_word ++ rest) steady course theorem r word.0 word.1 ∙ h.stands)).0
+
+  pub all_carried_out : BeginsEnd course.ahead → commands_of course.played ≡ commands
+  all_carried_out word =
+      let h = ended_behind reached_end in
+      sym (h.whole ∙ ap (λ cs. commands_of course.played ++ cs) (none_behind reached_end word) ∙ append-nil (commands_of course.played))
 
   pub carries_out : EndsAs settings (Complete (totals_after settings course.played)) course old new → CarriedOut settings old new commands rest
   carries_out ends =
       let r = reached_end in
       let h = ended_behind r in
-      let word = ends.read.1 in
-      let last = one_end settings.receivers h.behind (end_word ++ rest) (word.0 ++ r.left) (end_stands settings old new commands (end_word ++ rest) free.steady course theorem r word.0 word.1 ∙ h.stands) in
       record {
         course = course;
         theorem = theorem;
-        all = sym (h.whole ∙ ap (λ cs. commands_of course.played ++ cs) last.0 ∙ append-nil (commands_of course.played));
-        left = r.told ∙ ap Left (h.stands ∙ ap (λ cs. script_text cs ++ (end_word ++ rest)) last.0);
+        all = all_carried_out ends.read.1;
+        left = r.told ∙ ap Left (h.stands ∙ ap (λ cs. script_text cs ++ (end_word ++ rest)) (none_behind r ends.read.1));
         output = ends.output;
       }
 
 pub replay_completes : (settings : Settings) (old new : Seen) (commands : List Command) (rest : List ℕ) (end : End) → IsUnhindered settings old new commands rest → Replayed settings end old new → (totals : Totals) × (end ≡ Complete totals)
-replay_completes settings old new commands rest end free h = ends_complete settings old new commands rest free h.course h.theorem end h.ends
+replay_completes settings old new commands rest end free h = ends_complete settings old new commands rest free.steady free.few h.course h.theorem free.output_faults end h.ends
 
 -- of a script that is cut off behind its records
 module _ (settings : Settings) (old new : Seen) (commands : List Command) (next : Next) (bytes : List ℕ) (stop : IsStop next) (cut : IsCutOff settings old new commands next bytes) (course : Course) (theorem : AccountingTheorem settings course old new) where
@@ -289,7 +310,7 @@ none_failed (f ∷ failed) [] count none = absurd (omega (arith, count))
 -- Records carried out where no backend that is used missed a flush, and no packet was missed on the wire of a target.
 module _ (settings : Settings) where
   -- what flushes have for a backend, from a state on
-  abbrev deliveries_from : Run → Backend → List Played → List Delivery
+  abbrev pub deliveries_from : Run → Backend → List Played → List Delivery
   deliveries_from run back played = map (delivery_of settings back) (flushes settings run played)
 
   -- no backend that is used missed one
@@ -340,14 +361,20 @@ module _ (settings : Settings) where
   all_well run [] used met sent = refl
   all_well run (p ∷ played) used met sent = one_well run p.command p.outcome played used.0 met sent (all_well (play settings run p) played used.1)
 
+-- records carried out between two times, where no backend that is used missed a flush, and no packet was missed, were
+-- carried out well
+pub played_well : (settings : Settings) (old new : Seen) (course : Course) → AccountingTheorem settings course old new → NoneMissed settings old new → course.played ≡ map (well settings) (commands_of course.played)
+played_well settings old new course theorem none =
+    let played = course.played in
+    let met : IsMet settings (first_run played) played = λ back on. none_missed (missed (deliveries settings back played)) (seen_at back old) (seen_at back new) (none.backends back on)
+    (all_counts (deliveries settings back played) (seen_at back old) (seen_at back new) (theorem.texts back)) in
+    let sent : AreAllSent settings played = λ i below. none_missed (missed_on i (sendings played)) (wire_at i old.wires) (wire_at i new.wires) (none.wires i below)
+    (wire_counts (sendings played) i old.wires new.wires theorem.sends) in
+    all_well settings (first_run played) played theorem.used met sent
+
 pub carries_out_well : (settings : Settings) (old new : Seen) (commands : List Command) (rest : List ℕ) → NoneMissed settings old new → CarriedOut settings old new commands rest → CarriedOutWell settings old new commands
 carries_out_well settings old new commands rest none out =
-    let played = out.course.played in
-    let met : IsMet settings (first_run played) played = λ back on. none_missed (missed (deliveries settings back played)) (seen_at back old) (seen_at back new) (none.backends back on)
-    (all_counts (deliveries settings back played) (seen_at back old) (seen_at back new) (out.theorem.texts back)) in
-    let sent : AreAllSent settings played = λ i below. none_missed (missed_on i (sendings played)) (wire_at i old.wires) (wire_at i new.wires) (none.wires i below)
-    (wire_counts (sendings played) i old.wires new.wires out.theorem.sends) in
-    let alike : played ≡ map (well settings) commands = all_well settings (first_run played) played out.theorem.used met sent ∙ ap (map (well settings)) out.all in
+    let alike : out.course.played ≡ map (well settings) commands = played_well settings old new out.course out.theorem none ∙ ap (map (well settings)) out.all in
     record {
       backends = λ back. subst (λ ps. AfterDeliveries (deliveries settings back ps) (seen_at back old) (seen_at back new)) alike (out.theorem.texts back);
       wires = subst (λ ps. AfterSendings (sendings ps) old.wires new.wires) alike out.theorem.sends;

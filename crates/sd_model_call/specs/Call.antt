@@ -1,6 +1,6 @@
 -- What the program answers to its words, and what was done by then.
 use Rattle.std.specs.Prelude.{◌≡◌, ◌⊎◌, ℕ, List, [], Option, Some, None}
-use Rattle.sd_model_outside.specs.Outside.{File, HasFailed}
+use Rattle.sd_model_outside.specs.Outside.{File, Number, Object, HasFailed, HasFailedBehind, given}
 use Rattle.sd_model_settings.specs.Settings as file
 use Rattle.sd_model_settings.specs.Settings.{SettingsFlaw}
 use Rattle.sd_model_replay.specs.Settings.{Settings, goes_by}
@@ -8,7 +8,8 @@ use Rattle.sd_model_replay.specs.Totals.{totals_after}
 use Rattle.sd_model_replay.specs.AccountingTheorem.{Seen, Course, AccountingTheorem}
 use Rattle.sd_model_replay.specs.Next.{ScriptFlaw}
 use Rattle.sd_model_replay.specs.Ends.{End, Complete, Faulted, ReadFailed, WriteFailed, WornOut, EndsAs}
-use Rattle.sd_model_call.specs.Words.{Form, Replay, form}
+use Rattle.sd_model_call.specs.Drill.{bytes_counted, drill_settings, drill_start, drill_text, drilled}
+use Rattle.sd_model_call.specs.Words.{Form, Replay, Drill, form}
 use Rattle.sd_model_call.specs.Opening.{Part, OfSettings, OfScript, OfWire, OfGraphite, OfConsole, World, flags_of, IsFlawed, IsAccepted, FailsBehind, IsLeftOff, OnlySettings, openings, UnusedStay, OpensSome, FailsToOpen, started}
 
 -- How the program answers: all was done; no memory was left; the words are of no form; the settings have this flaw; the
@@ -73,59 +74,98 @@ pub record StopsAt (part : Part) (name script : List ℕ) (old new : World) : Ty
   pub fails : FailsToOpen part (openings (goes_by values) script) old new
   pub unused : UnusedStay (goes_by values) old new
 
--- The replay didn't begin: no record was carried out, and the output is untouched.
-pub record NotBegun (course : Course) (start : Seen) (old new : World) : Type 0 where
-  pub played : course.played ≡ []
-  pub ahead : course.ahead ≡ []
-  pub since : start ≡ new.seen
+-- The account of a call: the settings in force, what was carried out, and what was seen of the objects that were used when
+-- the records began and when they ended.
+pub record Account : Type 0 where
+  pub force : Settings
+  pub course : Course
+  pub start : Seen
+  pub end : Seen
+
+-- No record was carried out, and the output is untouched.
+pub record NotBegun (a : Account) (old new : World) : Type 0 where
+  pub played : a.course.played ≡ []
+  pub ahead : a.course.ahead ≡ []
+  pub since : a.start ≡ new.seen
+  pub until : a.end ≡ new.seen
   pub output : new.seen.output ≡ old.seen.output
 
 -- A replay by settings that were read, of a script that was opened, as was a wire for each target and each backend that is
 -- used, ended so.
-pub record Ran (end : End) (s : Settings) (name script : List ℕ) (course : Course) (start : Seen) (old new : World) : Type 0 where
+pub record Ran (end : End) (name script : List ℕ) (a : Account) (old new : World) : Type 0 where
   pub values : file.Settings
   pub taken : TakesSettings name values old new
-  pub force : s ≡ goes_by values
-  pub since : start ≡ started s script old.seen
-  pub ends : EndsAs s end course start new.seen
+  pub force : a.force ≡ goes_by values
+  pub since : a.start ≡ started a.force script old.seen
+  pub until : a.end ≡ new.seen
+  pub ends : EndsAs a.force end a.course a.start a.end
 
--- Why the program answers so where it is asked for a replay, and what was done by then, with these settings in force.
-abbrev pub AnswersReplay : List ℕ → List ℕ → Settings → Answer → Course → Seen → World → World → Type 0
-AnswersReplay name script s Done course start old new = Ran (Complete (totals_after s course.played)) s name script course start old new
-AnswersReplay name script s NoMemory course start old new = (LeavesOff name old new ⊎ LacksMemory name script old new) × NotBegun course start old new
-AnswersReplay name script s NoForm course start old new = ⊥
-AnswersReplay name script s (Misset flaw) course start old new = HasFlaw flaw name old new × NotBegun course start old new
-AnswersReplay name script s (BadScript at flaw) course start old new = Ran (Faulted at flaw) s name script course start old new
-AnswersReplay name script s (NotOpened OfSettings) course start old new = FailsToOpenSettings old new × NotBegun course start old new
-AnswersReplay name script s (NotOpened OfScript) course start old new = StopsAt OfScript name script old new × NotBegun course start old new
-AnswersReplay name script s (NotOpened (OfWire i)) course start old new = StopsAt (OfWire i) name script old new × NotBegun course start old new
-AnswersReplay name script s (NotOpened OfGraphite) course start old new = StopsAt OfGraphite name script old new × NotBegun course start old new
-AnswersReplay name script s (NotOpened OfConsole) course start old new = StopsAt OfConsole name script old new × NotBegun course start old new
-AnswersReplay name script s (NotRead OfSettings) course start old new = FailsToRead name old new × NotBegun course start old new
-AnswersReplay name script s (NotRead OfScript) course start old new = Ran ReadFailed s name script course start old new
-AnswersReplay name script s (NotRead (OfWire i)) course start old new = ⊥
-AnswersReplay name script s (NotRead OfGraphite) course start old new = ⊥
-AnswersReplay name script s (NotRead OfConsole) course start old new = ⊥
-AnswersReplay name script s NotWritten course start old new = Ran WriteFailed s name script course start old new
-AnswersReplay name script s (Worn turns) course start old new = Ran (WornOut turns) s name script course start old new
+-- Why the program answers so where it is asked for a replay, and what was done by then.
+abbrev pub AnswersReplay : List ℕ → List ℕ → Answer → Account → World → World → Type 0
+AnswersReplay name script Done a old new = Ran (Complete (totals_after a.force a.course.played)) name script a old new
+AnswersReplay name script NoMemory a old new = (LeavesOff name old new ⊎ LacksMemory name script old new) × NotBegun a old new
+AnswersReplay name script NoForm a old new = ⊥
+AnswersReplay name script (Misset flaw) a old new = HasFlaw flaw name old new × NotBegun a old new
+AnswersReplay name script (BadScript at flaw) a old new = Ran (Faulted at flaw) name script a old new
+AnswersReplay name script (NotOpened OfSettings) a old new = FailsToOpenSettings old new × NotBegun a old new
+AnswersReplay name script (NotOpened OfScript) a old new = StopsAt OfScript name script old new × NotBegun a old new
+AnswersReplay name script (NotOpened (OfWire i)) a old new = StopsAt (OfWire i) name script old new × NotBegun a old new
+AnswersReplay name script (NotOpened OfGraphite) a old new = StopsAt OfGraphite name script old new × NotBegun a old new
+AnswersReplay name script (NotOpened OfConsole) a old new = StopsAt OfConsole name script old new × NotBegun a old new
+AnswersReplay name script (NotRead OfSettings) a old new = FailsToRead name old new × NotBegun a old new
+AnswersReplay name script (NotRead OfScript) a old new = Ran ReadFailed name script a old new
+AnswersReplay name script (NotRead (OfWire i)) a old new = ⊥
+AnswersReplay name script (NotRead OfGraphite) a old new = ⊥
+AnswersReplay name script (NotRead OfConsole) a old new = ⊥
+AnswersReplay name script NotWritten a old new = Ran WriteFailed name script a old new
+AnswersReplay name script (Worn turns) a old new = Ran (WornOut turns) name script a old new
+
+-- All records of the made script of n packets were carried out by the settings of an empty file, none with a fault, over
+-- objects of the program's own and this output; and Graphite's bytes were counted.
+pub record Drilled (n : ℕ) (a : Account) (output : Object) : Type 0 where
+  pub force : a.force ≡ drill_settings
+  pub since : a.start ≡ drill_start n output
+  pub played : a.course.played ≡ drilled n
+  pub counted : a.end.graphite.told ≡ Number (bytes_counted drill_settings (drilled n))
+
+-- nothing but the output was used
+abbrev pub OnlyOutput : World → World → Type 0
+OnlyOutput old new = new ≡ record old { seen = record old.seen { output = new.seen.output } }
+
+-- a drill was carried out, and nothing but the output was used
+pub record RanDrill (n : ℕ) (a : Account) (old new : World) : Type 0 where
+  pub drilled : Drilled n a old.seen.output
+  pub only : OnlyOutput old new
+
+-- Why the program answers so where it is asked for a drill of n packets, and what was done by then: a drill has no fault but
+-- that of the output, which was given a front of the drill's text, and not all of it.
+abbrev pub AnswersDrill : ℕ → Answer → Account → World → World → Type 0
+AnswersDrill n Done a old new = RanDrill n a old new × (new.seen.output ≡ given (drill_text n) old.seen.output)
+AnswersDrill n NoMemory a old new = (new ≡ old) × NotBegun a old new
+AnswersDrill n NoForm a old new = ⊥
+AnswersDrill n (Misset flaw) a old new = ⊥
+AnswersDrill n (BadScript at flaw) a old new = ⊥
+AnswersDrill n (NotOpened part) a old new = ⊥
+AnswersDrill n (NotRead part) a old new = ⊥
+AnswersDrill n NotWritten a old new = RanDrill n a old new × HasFailedBehind (drill_text n) old.seen.output new.seen.output
+AnswersDrill n (Worn turns) a old new = ⊥
 
 -- words of no form are refused, and nothing is opened or used
-pub record Refuses (answer : Answer) (course : Course) (start : Seen) (old new : World) : Type 0 where
+pub record Refuses (answer : Answer) (a : Account) (old new : World) : Type 0 where
   pub refused : answer ≡ NoForm
   pub unused : new ≡ old
-  pub not_begun : NotBegun course start old new
+  pub not_begun : NotBegun a old new
 
 -- Why the program answers so, by the form of its words.
-abbrev pub Answers : Option Form → Settings → Answer → Course → Seen → World → World → Type 0
-Answers None s answer course start old new = Refuses answer course start old new
-Answers (Some (Replay name script)) s answer course start old new = AnswersReplay name script s answer course start old new
+abbrev pub Answers : Option Form → Answer → Account → World → World → Type 0
+Answers None answer a old new = Refuses answer a old new
+Answers (Some (Replay name script)) answer a old new = AnswersReplay name script answer a old new
+Answers (Some (Drill n)) answer a old new = AnswersDrill n answer a old new
 
 -- A call, by its words, what is seen of its objects before and after it, and its answer: whatever it answers, the
--- accounting theorem holds of the records that it carried out under the settings in force, from what was seen when the replay
--- began; and the answer has its cause.
+-- accounting theorem holds of the records that it carried out under the settings in force, between what was seen when they
+-- began and when they ended; and the answer has its cause.
 pub record Accounts (words : List (List ℕ)) (old new : World) (answer : Answer) : Type 0 where
-  pub force : Settings
-  pub course : Course
-  pub start : Seen
-  pub theorem : AccountingTheorem force course start new.seen
-  pub answers : Answers (form words) force answer course start old new
+  pub account : Account
+  pub theorem : AccountingTheorem account.force account.course account.start account.end
+  pub answers : Answers (form words) answer account old new

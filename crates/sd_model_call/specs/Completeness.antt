@@ -1,21 +1,20 @@
 -- What a call has to come to, by its words, what its objects tell, and where no fault was counted.
-use Rattle.std.specs.Prelude.{◌≡◌, ◌⊎◌, ℕ, ◌<◌, Bool, false, IsTrue, ⊤, if◌then◌else◌, List, [], ◌++◌, length, map, Option, Some, None, Result, Ok, Err}
+use Rattle.std.specs.Prelude.{◌≡◌, ◌⊎◌, ℕ, ◌<◌, IsTrue, ⊤, List, [], ◌++◌, length, map, Option, Some, None, Result, Ok, Err}
 use Rattle.std.specs.List.{AllByRecursion}
 use Rattle.sd_model_outside.specs.Outside.{Left, Rose, given}
-use Rattle.sd_model_record.specs.Desk.{Mark, NotUsed, Written}
 use Rattle.sd_model_replay.specs.Settings.{Settings}
 use Rattle.sd_model_replay.specs.Backends.{Backend, AfterDeliveries, is_used}
 use Rattle.sd_model_replay.specs.Script.{Command, Packet, Flush, Admin, end_word, script_text, IsLegal}
 use Rattle.sd_model_replay.specs.Next.{Next, Begins}
 use Rattle.sd_model_replay.specs.Repeater.{AfterSendings, wire_at}
-use Rattle.sd_model_replay.specs.Replay.{Played, no_marks, deliveries, sendings}
+use Rattle.sd_model_replay.specs.Replay.{deliveries, sendings}
 use Rattle.sd_model_replay.specs.Output.{output_of}
 use Rattle.sd_model_replay.specs.Totals.{totals_after, totals_text}
 use Rattle.sd_model_replay.specs.AccountingTheorem.{Seen, Course, AccountingTheorem, seen_at}
 use Rattle.sd_model_replay.specs.Ends.{most_records, behind}
+use Rattle.sd_model_call.specs.Faultless.{well}
 use Rattle.sd_model_call.specs.Words.{Replay, form}
 use Rattle.sd_model_settings.specs.Settings as file
-use Rattle.sd_model_settings.specs.Entries.{Target}
 use Rattle.sd_model_settings.specs.Settings.{SettingsFlaw, settings}
 use Rattle.sd_model_call.specs.Opening.{World, Part, OfSettings, OfScript, OfWire, OfGraphite, OfConsole}
 use Rattle.sd_model_call.specs.Call.{Answer, NoMemory, Misset, NotOpened, NotRead}
@@ -108,24 +107,6 @@ pub record CarriedOut (settings : Settings) (old new : Seen) (commands : List Co
   pub all : map (λ p. p.command) course.played ≡ commands
   pub left : behind course new ≡ Left (end_word ++ rest)
   pub output : new.output ≡ given (output_of settings course.played ++ totals_text (totals_after settings course.played)) old.output
-
--- the mark of a backend at a flush with no fault
-abbrev pub well_mark : Bool → Mark
-well_mark used = if used then Written else NotUsed
-
--- a send to each target, of which none failed
-abbrev pub well_sent : List Target → List Bool
-well_sent targets = map (λ t. false) targets
-
--- a record carried out with no fault
-abbrev pub well : Settings → Command → Played
-well settings (Packet who moment datagram) = record { command = Packet who moment datagram; outcome = record { marks = no_marks; failed = well_sent settings.targets } }
-well settings (Flush ts) =
-    record {
-      command = Flush ts;
-      outcome = record { marks = record { graphite = well_mark settings.uses_graphite; console = well_mark settings.uses_console }; failed = [] };
-    }
-well settings (Admin moment line) = record { command = Admin moment line; outcome = record { marks = no_marks; failed = [] } }
 
 -- each backend that is used got the whole text of each flush of these records, each other one is untouched, the wire of each
 -- target got each packet, and the output got their replies and then their totals

@@ -1,4 +1,6 @@
-pub mod Words
-pub mod Opening
 pub mod Call
 pub mod Completeness
+pub mod Drill
+pub mod Faultless
+pub mod Opening
+pub mod Words

@@ -1,5 +1,5 @@
-ghost use Rattle.std.specs.Prelude.{◌≡◌, ◌≤◌, ℕ, List, length, min, Some};
-ghost use Rattle.sd_model_outside.specs.Outside.{Rose, Used, last_count};
+ghost use Rattle.std.specs.Prelude.{◌≡◌, ◌<◌, ◌≤◌, ℕ, List, [], ◌∷◌, length, min, codes, decimal, Some};
+ghost use Rattle.sd_model_outside.specs.Outside.{Rose, Used, given, last_count};
 ghost use Rattle.sd_model_settings.specs.Settings as file;
 ghost use Rattle.sd_model_settings.specs.Settings.{settings};
 ghost use Rattle.sd_model_replay.specs.Settings.{Settings, goes_by};
@@ -10,7 +10,9 @@ ghost use Rattle.sd_model_replay.specs.AccountingTheorem.{Seen};
 ghost use Rattle.sd_model_replay.specs.Next.{Faulty, ScriptFlaw};
 ghost use Rattle.sd_model_replay.specs.Ends.{Complete, End, Faulted, Replayed, WornOut, most_records};
 ghost use Rattle.sd_model_call.specs.Opening.{World, started};
-ghost use Rattle.sd_model_call.specs.Call.{Accounts, Answer, BadScript, Done, Worn};
+ghost use Rattle.sd_model_call.specs.Words.{Drill, form};
+ghost use Rattle.sd_model_call.specs.Drill.{drill_text};
+ghost use Rattle.sd_model_call.specs.Call.{Accounts, Answer, BadScript, Done, OnlyOutput, Worn};
 ghost use Rattle.sd_model_call.specs.Completeness.{Asks, AsksPlainly, CarriedOut, CarriedOutWell, IsBlocked, IsCutOff, IsFull, IsLongest, IsUnhindered, IsWhole, NoneMissed, refusal};
 
 /// A replay that nothing hinders comes to the word that ends the script. Where no reply fails to be written, one whose
@@ -59,6 +61,24 @@ pub fn blocked_calls_stop()
     ensures whole { (words : List (List ℕ)) (old new : World) (bytes : List ℕ) (refused answer : Answer)
         → Asks words old new bytes → refusal (settings bytes) ≡ Some refused → ¬ Rose old.settings.faults new.settings.faults
         → Accounts words old new answer → IsWhole refused answer }
+{}
+
+/// A drill whose output counts no fault writes its text, unless memory is lacking; and whatever it answers, it uses nothing
+/// but the output.
+pub fn drills_complete()
+    ensures answer { (words : List (List ℕ)) (n : ℕ) (old new : World) (answer : Answer)
+        → form words ≡ Some (Drill n) → ¬ Rose old.seen.output.faults new.seen.output.faults → Accounts words old new answer → IsWhole Done answer }
+    ensures done { (words : List (List ℕ)) (n : ℕ) (old new : World)
+        → form words ≡ Some (Drill n) → Accounts words old new Done → new.seen.output ≡ given (drill_text n) old.seen.output }
+    ensures only { (words : List (List ℕ)) (n : ℕ) (old new : World) (answer : Answer)
+        → form words ≡ Some (Drill n) → Accounts words old new answer → OnlyOutput old new }
+{}
+
+/// A drill is asked for by just these words: `drill`, and the decimal text of a number from 1 to 100,000.
+pub fn drill_words_are_decimal()
+    ensures written { (n : ℕ) → 0 < n → n ≤ 100000 → form (codes "drill" ∷ decimal n ∷ []) ≡ Some (Drill n) }
+    ensures read { (words : List (List ℕ)) (n : ℕ) → form words ≡ Some (Drill n)
+        → (words ≡ codes "drill" ∷ decimal n ∷ []) × (0 < n) × (n ≤ 100000) }
 {}
 
 /// A call keeps the counts of faults: none falls. And the output stays where it was opened.

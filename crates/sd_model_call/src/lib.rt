@@ -5,5 +5,6 @@
 mod completeness;
 
 pub use completeness::{
-    blocked_calls_stop, faults_are_kept, unhindered_calls_complete, unhindered_replays_complete,
+    blocked_calls_stop, drill_words_are_decimal, drills_complete, faults_are_kept,
+    unhindered_calls_complete, unhindered_replays_complete,
 };

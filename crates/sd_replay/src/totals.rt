@@ -4,7 +4,8 @@ ghost use Rattle.sd_model_replay.specs.Totals.{total_line, totals_text as lines_
 ghost use Rattle.sd_replay.specs.Totals.{totals_view};
 
 use sd_decimal::{Line, write_whole};
-use sd_outside::{Sink, WriteFault, write_all};
+use sd_outside::{Sink, WriteFault};
+use sd_text::write_line;
 
 /// What a replay counted, in whole numbers.
 #[derive(Clone, Copy, Debug, PartialEq, Eq)]
@@ -57,6 +58,21 @@ fn totals_text(totals: &Totals) -> Line
     line
 }
 
+/// Writes a line of totals: the name, a space, the number and a newline.
+///
+/// # Errors
+///
+/// `WriteFault` where the sink failed. Then a front of the line was written.
+pub fn write_total<O: Sink>(name: &[u8], n: u128, output: &mut O) -> Result<(), WriteFault>
+    requires { length name.now ≤ 255 }
+    ensures ok { OnOk result (O.seen output.new ≡ given (total_line name.now n) (O.seen output.old)) }
+    ensures failed { OnErr result (HasFailedBehind (total_line name.now n) (O.seen output.old) (O.seen output.new)) }
+{
+    let mut line = Line::new();
+    push_total(name, n, &mut line);
+    write_line(&line, output)
+}
+
 /// Writes the totals.
 ///
 /// # Errors
@@ -66,9 +82,5 @@ pub(crate) fn write_totals<O: Sink>(totals: &Totals, output: &mut O) -> Result<(
     ensures ok { OnOk result (O.seen output.new ≡ given (lines_of (totals_view totals.now)) (O.seen output.old)) }
     ensures failed { OnErr result (HasFailedBehind (lines_of (totals_view totals.now)) (O.seen output.old) (O.seen output.new)) }
 {
-    let text = totals_text(totals);
-    match write_all(output, text.as_slice()) {
-        Ok(()) => Ok(()),
-        Err(_) => Err(WriteFault),
-    }
+    write_line(&totals_text(totals), output)
 }

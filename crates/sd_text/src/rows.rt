@@ -23,10 +23,10 @@ pub trait RowText {
     fn line_count(&self, row: &Row) -> usize
         ensures { result ≡ length (lines_of self.now (row_view row.now)) };
 
-    /// The line of a row at a place, counted from 0.
-    fn row_line(&self, row: &Row, place: usize) -> Line
+    /// Puts the line of a row at a place, counted from 0, into `line`, in place of what it has.
+    fn put_line(&self, row: &Row, place: usize, line: &mut Line)
         requires { place < length (lines_of self.now (row_view row.now)) }
-        ensures { slice_get (lines_of self.now (row_view row.now)) place ≡ Some result.items };
+        ensures { slice_get (lines_of self.now (row_view row.now)) place ≡ Some line.new.items };
 }
 
 /// Writes the lines of a row.
@@ -38,8 +38,22 @@ pub fn write_row<T: RowText, K: Sink>(form: &T, row: &Row, sink: &mut K) -> Resu
     ensures ok { OnOk result (K.seen sink.new ≡ given (concat (T.lines_of form.now (row_view row.now))) (K.seen sink.old)) }
     ensures failed { OnErr result (HasFailedBehind (concat (T.lines_of form.now (row_view row.now))) (K.seen sink.old) (K.seen sink.new)) }
 {
+    write_row_through(form, row, &mut Line::new(), sink)
+}
+
+/// Writes the lines of a row, each of which is put into `line` first.
+fn write_row_through<T: RowText, K: Sink>(
+    form: &T,
+    row: &Row,
+    line: &mut Line,
+    sink: &mut K,
+) -> Result<(), WriteFault>
+    ensures ok { OnOk result (K.seen sink.new ≡ given (concat (T.lines_of form.now (row_view row.now))) (K.seen sink.old)) }
+    ensures failed { OnErr result (HasFailedBehind (concat (T.lines_of form.now (row_view row.now))) (K.seen sink.old) (K.seen sink.new)) }
+{
     for place in 0..form.line_count(row) {
-        write_line(&form.row_line(row, place), sink)?;
+        form.put_line(row, place, line);
+        write_line(line, sink)?;
     }
     Ok(())
 }
@@ -62,8 +76,9 @@ pub fn write_rows<T: RowText, K: Sink>(
     ensures room { room_of rec.new ≡ room_of rec.old }
     ensures same_scratch { SameScratch rec.new rec.old }
 {
+    let mut line = Line::new();
     for i in 0..rec.rows() {
-        write_row(form, &rec.row(i), sink)?;
+        write_row_through(form, &rec.row(i), &mut line, sink)?;
     }
     Ok(())
 }

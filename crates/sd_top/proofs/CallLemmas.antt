@@ -1,7 +1,7 @@
 -- What a call answers, by the step that ended it.
 use Rattle.std.proofs.Common.{◌≡◌, ◌⊎◌, List, ℕ, [], ◌∷◌, ◌++◌, length, drop, Option, Some, None, inl, inr, refl, sym, ap, subst, ◌∙◌}
 use Rattle.std.specs.List.{AllByRecursion}
-use Rattle.sd_model_outside.specs.Outside.{File, Object, HasFailed, opened}
+use Rattle.sd_model_outside.specs.Outside.{File, Object, HasFailed, HasFailedBehind, given, opened}
 use Rattle.sd_model_outside.proofs.OutsideLemmas.{Reads-nil}
 use Rattle.sd_model_settings.specs.Settings as file
 use Rattle.sd_model_settings.specs.Defaults.{default_settings}
@@ -10,11 +10,12 @@ use Rattle.sd_model_replay.specs.Repeater.{wire_at}
 use Rattle.sd_model_replay.specs.AccountingTheorem.{Seen, Course, AccountingTheorem, seen_at}
 use Rattle.sd_model_replay.specs.Ends.{End, Complete, Faulted, ReadFailed, WriteFailed, WornOut, Replayed}
 use Rattle.sd_model_replay.proofs.AccountingLemmas.{are_accounted, are_documented}
-use Rattle.sd_model_call.specs.Words.{Form, Replay, form}
+use Rattle.sd_model_call.specs.Drill.{drill_text}
+use Rattle.sd_model_call.specs.Words.{Form, Replay, Drill, form}
 use Rattle.sd_model_call.specs.Opening.{Part, OfSettings, OfScript, OfWire, OfGraphite, OfConsole, World, Opening, IsAccepted, IsOpened, IsUntouched, OnlySettings, UnusedStay, flags_of, openings, part_in, started}
-use Rattle.sd_model_call.specs.Call.{Answer, NoForm, NoMemory, NotOpened, Answers, AnswersReplay, Accounts, NotBegun, Ran, StopsAt, TakesSettings, ending}
+use Rattle.sd_model_call.specs.Call.{Account, Answer, Done, NoForm, NoMemory, NotOpened, NotWritten, Answers, AnswersReplay, Accounts, NotBegun, Ran, StopsAt, TakesSettings, ending}
 use Rattle.sd_model_call.proofs.Openings.{IsNamed, all_behind, all_named}
-use Rattle.sd_top.specs.Causes.{IsNotTaken, IsNotStarted, Stops}
+use Rattle.sd_top.specs.Causes.{HasDrilled, IsDrill, IsNotTaken, IsNotStarted, IsReplay, Stops}
 
 -- no record and no byte
 abbrev nothing : Course
@@ -37,21 +38,55 @@ nothing_done now =
       sends = refl;
     }
 
+-- the account of a call that carried out nothing
+abbrev idle_account : Seen → Account
+idle_account now = record { force = plain; course = nothing; start = now; end = now }
+
 -- nothing was carried out, and the output is untouched
-not_begun : (old new : World) → new.seen.output ≡ old.seen.output → NotBegun nothing new.seen old new
-not_begun old new output = record { played = refl; ahead = refl; since = refl; output = output }
+not_begun : (old new : World) → new.seen.output ≡ old.seen.output → NotBegun (idle_account new.seen) old new
+not_begun old new output = record { played = refl; ahead = refl; since = refl; until = refl; output = output }
 
 -- the words are of no form
 pub by_words : (words : List (List ℕ)) (old : World) → form words ≡ None → Accounts words old old NoForm
 by_words words old none =
     record {
-      force = plain;
-      course = nothing;
-      start = old.seen;
+      account = idle_account old.seen;
       theorem = nothing_done old.seen;
-      answers = subst (λ (f : Option Form). Answers f plain NoForm nothing old.seen old old) (sym none)
+      answers = subst (λ (f : Option Form). Answers f NoForm (idle_account old.seen) old old) (sym none)
           (record { refused = refl; unused = refl; not_begun = not_begun old old refl });
     }
+
+-- they ask for a replay
+pub by_files : (words : List (List ℕ)) (settings script : List ℕ) (old new : World) (answer : Answer) → form words ≡ Some (Replay settings script) → IsReplay settings script answer old new → Accounts words old new answer
+by_files words settings script old new answer asked h =
+    record {
+      account = h.account;
+      theorem = h.theorem;
+      answers = subst (λ (f : Option Form). Answers f answer h.account old new) (sym asked) h.answers;
+    }
+
+-- they ask for a drill, which used nothing but the output
+pub by_drill : (words : List (List ℕ)) (n : ℕ) (old : World) (output : Object) (answer : Answer) → form words ≡ Some (Drill n) → IsDrill n answer old.seen.output output → Accounts words old (record old { seen = record old.seen { output = output } }) answer
+by_drill words n old output answer asked (inl (is, kept)) =
+    let new : World = record old { seen = record old.seen { output = output } } in
+    let same : new ≡ old = λ i. record old { seen = record old.seen { output = kept i } } in
+    record {
+      account = idle_account new.seen;
+      theorem = nothing_done new.seen;
+      answers = subst (λ (f : Option Form). Answers f answer (idle_account new.seen) old new) (sym asked)
+          (subst (λ (a : Answer). Answers (Some (Drill n)) a (idle_account new.seen) old new) (sym is) (same, not_begun old new kept));
+    }
+by_drill words n old output answer asked (inr h) =
+    let new : World = record old { seen = record old.seen { output = output } } in
+    record {
+      account = h.account;
+      theorem = h.theorem;
+      answers = subst (λ (f : Option Form). Answers f answer h.account old new) (sym asked) (by_output h.output);
+    } where
+      by_output : (answer ≡ Done) × (output ≡ given (drill_text n) old.seen.output) ⊎ (answer ≡ NotWritten) × HasFailedBehind (drill_text n) old.seen.output output
+          → Answers (Some (Drill n)) answer h.account old (record old { seen = record old.seen { output = output } })
+      by_output (inl (is, written)) = subst (λ (a : Answer). Answers (Some (Drill n)) a h.account old (record old { seen = record old.seen { output = output } })) (sym is) (record { drilled = h.drilled; only = refl }, written)
+      by_output (inr (is, failed)) = subst (λ (a : Answer). Answers (Some (Drill n)) a h.account old (record old { seen = record old.seen { output = output } })) (sym is) (record { drilled = h.drilled; only = refl }, failed)
 
 -- what is seen of a part, but for the settings, is seen of it in a world that differs in these and in the flags
 part_same : (s : Settings) (a b : World) (part : Part) → a.seen ≡ b.seen → IsNamed s part → part_in a part ≡ part_in b part
@@ -92,32 +127,25 @@ module _ (s : Settings) (old mid new : World) (same : mid.seen ≡ old.seen) whe
 pub takes : (name : List ℕ) (values : file.Settings) (old new : World) (settings : Object) → IsAccepted values (File name) old.settings settings → new.settings ≡ settings → new.flags ≡ flags_of (goes_by values) → TakesSettings name values old new
 takes name values old new settings accepted kept flags = record { file = subst (IsAccepted values (File name) old.settings) (sym kept) accepted; flags = flags }
 
-module _ (words : List (List ℕ)) (old new : World) (settings script : List ℕ) (same : form words ≡ Some (Replay settings script)) where
+module _ (old new : World) (settings script : List ℕ) where
   -- such a call did nothing but open and read
-  stopped : (answer : Answer) → AnswersReplay settings script plain answer nothing new.seen old new → Accounts words old new answer
-  stopped answer answers =
-      record {
-        force = plain;
-        course = nothing;
-        start = new.seen;
-        theorem = nothing_done new.seen;
-        answers = subst (λ (f : Option Form). Answers f plain answer nothing new.seen old new) (sym same) answers;
-      }
+  stopped : (answer : Answer) → AnswersReplay settings script answer (idle_account new.seen) old new → IsReplay settings script answer old new
+  stopped answer answers = record { account = idle_account new.seen; theorem = nothing_done new.seen; answers = answers }
 
   -- such a call gives this answer
   abbrev Gives : Answer → Type 0
-  Gives answer = AnswersReplay settings script plain answer nothing new.seen old new
+  Gives answer = AnswersReplay settings script answer (idle_account new.seen) old new
 
   -- nothing but the settings was opened
   module _ (unused : new.seen ≡ old.seen) (flags : new.flags ≡ old.flags) where
-    idle : NotBegun nothing new.seen old new
+    idle : NotBegun (idle_account new.seen) old new
     idle = not_begun old new (ap (λ (s : Seen). s.output) unused)
 
     only : OnlySettings old new
     only = record { seen = unused; flags = flags }
 
     -- the settings ended it
-    pub by_settings : (answer : Answer) → IsNotTaken answer (File settings) old.settings new.settings → Accounts words old new answer
+    pub by_settings : (answer : Answer) → IsNotTaken answer (File settings) old.settings new.settings → IsReplay settings script answer old new
     by_settings answer why = stopped answer (by_cause why) where
       by_cause : IsNotTaken answer (File settings) old.settings new.settings → Gives answer
       by_cause (inl (is, left)) = subst Gives (sym is) (inl (record { settings = left; only = only }), idle)
@@ -128,7 +156,7 @@ module _ (words : List (List ℕ)) (old new : World) (settings script : List ℕ
   -- the settings were taken
   module _ (values : file.Settings) (taken : TakesSettings settings values old new) where
     -- a part of these couldn't be opened
-    stop_answer : (part : Part) → IsNamed (goes_by values) part → StopsAt part settings script old new → NotBegun nothing new.seen old new → Gives (NotOpened part)
+    stop_answer : (part : Part) → IsNamed (goes_by values) part → StopsAt part settings script old new → NotBegun (idle_account new.seen) old new → Gives (NotOpened part)
     stop_answer OfSettings is stops idle = absurd is
     stop_answer OfScript is stops idle = (stops, idle)
     stop_answer (OfWire i) is stops idle = (stops, idle)
@@ -136,9 +164,9 @@ module _ (words : List (List ℕ)) (old new : World) (settings script : List ℕ
     stop_answer OfConsole is stops idle = (stops, idle)
 
     -- an opening, or memory, ended it
-    pub by_opening : (answer : Answer) (mid : World) → mid.seen ≡ old.seen → IsNotStarted (goes_by values) script answer mid new → Accounts words old new answer
+    pub by_opening : (answer : Answer) (mid : World) → mid.seen ≡ old.seen → IsNotStarted (goes_by values) script answer mid new → IsReplay settings script answer old new
     by_opening answer mid same h = stopped answer (by_cause h.why) where
-      idle : NotBegun nothing new.seen old new
+      idle : NotBegun (idle_account new.seen) old new
       idle = not_begun old new (h.output ∙ ap (λ (seen : Seen). seen.output) same)
 
       unused : UnusedStay (goes_by values) old new
@@ -198,21 +226,17 @@ module _ (words : List (List ℕ)) (old new : World) (settings script : List ℕ
       by_cause (inr stops) = by_stop stops
 
     -- a replay ended it
-    pub by_replay : (answer : Answer) (end : End) → answer ≡ ending end → Replayed (goes_by values) end (started (goes_by values) script old.seen) new.seen → Accounts words old new answer
+    pub by_replay : (answer : Answer) (end : End) → answer ≡ ending end → Replayed (goes_by values) end (started (goes_by values) script old.seen) new.seen → IsReplay settings script answer old new
     by_replay answer end is h =
-        record {
-          force = goes_by values;
-          course = h.course;
-          start = started (goes_by values) script old.seen;
-          theorem = h.theorem;
-          answers = subst (λ (f : Option Form). Answers f (goes_by values) answer h.course (started (goes_by values) script old.seen) old new) (sym same)
-              (subst (λ (a : Answer). AnswersReplay settings script (goes_by values) a h.course (started (goes_by values) script old.seen) old new) (sym is) (by_end end ran));
-        } where
-          ran : Ran end (goes_by values) settings script h.course (started (goes_by values) script old.seen) old new
-          ran = record { values = values; taken = taken; force = refl; since = refl; ends = h.ends }
+        record { account = account; theorem = h.theorem; answers = subst (λ (a : Answer). AnswersReplay settings script a account old new) (sym is) (by_end end ran) } where
+          account : Account
+          account = record { force = goes_by values; course = h.course; start = started (goes_by values) script old.seen; end = new.seen }
 
-          by_end : (e : End) → Ran e (goes_by values) settings script h.course (started (goes_by values) script old.seen) old new → AnswersReplay settings script (goes_by values) (ending e) h.course (started (goes_by values) script old.seen) old new
-          by_end (Complete totals) r = subst (λ t. Ran (Complete t) (goes_by values) settings script h.course (started (goes_by values) script old.seen) old new) r.ends.read.2 r
+          ran : Ran end settings script account old new
+          ran = record { values = values; taken = taken; force = refl; since = refl; until = refl; ends = h.ends }
+
+          by_end : (e : End) → Ran e settings script account old new → AnswersReplay settings script (ending e) account old new
+          by_end (Complete totals) r = subst (λ t. Ran (Complete t) settings script account old new) r.ends.read.2 r
           by_end (Faulted at flaw) r = r
           by_end ReadFailed r = r
           by_end WriteFailed r = r

@@ -1,3 +1,5 @@
 mod CallLemmas
+mod DrillLemmas
 mod OpeningLemmas
 mod SettingsLemmas
+mod WordsLemmas

@@ -1,12 +1,14 @@
 -- Why a step before a replay ended the call, and what was done by then.
 use Rattle.std.specs.Prelude.{◌≡◌, ◌⊎◌, ℕ, ◌+◌, List, [], ◌∷◌, ◌++◌, length, Err}
 use Rattle.std.specs.List.{AllByRecursion}
-use Rattle.sd_model_outside.specs.Outside.{Object, Place, HasFailed, opened}
+use Rattle.sd_model_outside.specs.Outside.{Object, Place, HasFailed, HasFailedBehind, given, opened}
 use Rattle.sd_model_settings.specs.Settings.{SettingsFlaw, settings}
 use Rattle.sd_model_settings.specs.Entries.{Target}
 use Rattle.sd_model_replay.specs.Settings.{Settings}
 use Rattle.sd_model_call.specs.Opening.{Part, OfSettings, OfWire, World, Opening, IsFlawed, FailsBehind, IsLeftOff, IsOpened, IsUntouched, UnusedStay, longest_file, openings, part_in, target_place}
-use Rattle.sd_model_call.specs.Call.{Answer, NoMemory, Misset, NotOpened, NotRead}
+use Rattle.sd_model_replay.specs.AccountingTheorem.{AccountingTheorem}
+use Rattle.sd_model_call.specs.Drill.{drill_text}
+use Rattle.sd_model_call.specs.Call.{Account, Answer, AnswersReplay, Done, Drilled, NoMemory, Misset, NotOpened, NotRead, NotWritten}
 
 -- an object wasn't opened: no memory was left, or it failed
 abbrev pub IsNotOpened : Part → Answer → Object → Object → Type 0
@@ -53,3 +55,20 @@ pub record IsNotStarted (s : Settings) (name : List ℕ) (answer : Answer) (old 
   pub why : (answer ≡ NoMemory) × (new ≡ old) ⊎ Stops (openings s name) answer old new
   pub unused : UnusedStay s old new
   pub output : new.seen.output ≡ old.seen.output
+
+-- A replay that was asked for answered so.
+pub record IsReplay (name script : List ℕ) (answer : Answer) (old new : World) : Type 0 where
+  pub account : Account
+  pub theorem : AccountingTheorem account.force account.course account.start account.end
+  pub answers : AnswersReplay name script answer account old new
+
+-- A drill of n packets was carried out, and its text was written to the output; or a write of it failed.
+pub record HasDrilled (n : ℕ) (answer : Answer) (old new : Object) : Type 0 where
+  pub account : Account
+  pub theorem : AccountingTheorem account.force account.course account.start account.end
+  pub drilled : Drilled n account old
+  pub output : (answer ≡ Done) × (new ≡ given (drill_text n) old) ⊎ (answer ≡ NotWritten) × HasFailedBehind (drill_text n) old new
+
+-- a drill answered so: no memory was left for it, and the output is untouched; or it was carried out
+abbrev pub IsDrill : ℕ → Answer → Object → Object → Type 0
+IsDrill n answer old new = (answer ≡ NoMemory) × (new ≡ old) ⊎ HasDrilled n answer old new

@@ -1,6 +1,8 @@
 -- What the words ask for, as the definitions have it.
 use Rattle.sd_model_call.specs.Words as model
-use Rattle.sd_top.specs.declared.words.ReplayFiles.{ReplayFiles}
+use Rattle.sd_top.specs.declared.words.Form.{Form}
+use Rattle.sd_top.specs.declared.words.Form.TheVariants.{Replay, Drill}
 
-abbrev pub form_view : ReplayFiles → model.Form
-form_view files = model.Replay files.settings.items files.script.items
+abbrev pub form_view : Form → model.Form
+form_view (Replay settings script) = model.Replay settings.items script.items
+form_view (Drill packets) = model.Drill packets

@@ -5,13 +5,14 @@ ghost use Rattle.sd_model_call.specs.Opening.{flags_of, started};
 ghost use Rattle.sd_model_call.specs.Call.{Accounts, ending};
 ghost use Rattle.sd_replay.specs.Ends.{end_of};
 ghost use Rattle.sd_top.specs.Answers.{answer_of};
-ghost use Rattle.sd_top.specs.Causes.{IsNotStarted};
+ghost use Rattle.sd_top.specs.Causes.{IsNotStarted, IsReplay};
 ghost use Rattle.sd_top.specs.World.{world_of};
 
+use crate::drill::drill;
 use crate::opening::open_parts;
 use crate::settings::read_settings;
 use crate::status::{Part, Status};
-use crate::words::form_of;
+use crate::words::{Form, form_of};
 use sd_config::Settings;
 use sd_outside::{Address, Backend, Backs, Name, Sink, Source, Wire};
 use sd_replay::{ReplayEnd, ReplayRoom, names_backend, replay};
@@ -28,7 +29,7 @@ pub struct World<R, O, B, L> {
 }
 
 /// What the program answers where a replay ends so.
-fn status_of(end: ReplayEnd) -> Status
+pub(crate) fn status_of(end: ReplayEnd) -> Status
     ensures { answer_of result ≡ ending (end_of end) }
 {
     match end {
@@ -76,7 +77,34 @@ fn carry_out<R: Source, O: Sink, B: Backend, L: Wire>(
     ))
 }
 
+/// Reads a settings file, and carries out a script by the settings.
+fn replay_files<R: Source, O: Sink, B: Backend, L: Wire>(
+    alloc: Global,
+    settings: Name,
+    script: Name,
+    world: &mut World<R, O, B, L>,
+) -> Status
+    requires wires { 256 ≤ length (world.old).wires.items }
+    ensures { IsReplay settings.items script.items (answer_of result)
+        (world_of R.seen O.seen B.seen L.seen world.old)
+        (world_of R.seen O.seen B.seen L.seen world.new) }
+{
+    let settings = match read_settings(alloc, &mut world.settings, &Address::File(settings)) {
+        Ok(settings) => settings,
+        Err(status) => return status,
+    };
+    world.backs.graphite_used = names_backend(&settings, b"graphite");
+    world.backs.console_used = names_backend(&settings, b"console");
+    match carry_out(alloc, &settings, script, world) {
+        Ok(end) => status_of(end),
+        Err(status) => status,
+    }
+}
+
 /// Carries out what the words ask for.
+///
+/// `drill N` carries out the made script of N packets by the settings of an empty file, and writes the totals and the number of
+/// Graphite's bytes to the output.
 ///
 /// `replay SETTINGS SCRIPT` reads the settings file and carries out the script: each packet is sent on as it came to the targets
 /// of the repeater, where the settings name it, and its samples are filed; each flush gives the backends that they name the
@@ -93,18 +121,9 @@ pub fn statsd<R: Source, O: Sink, B: Backend, L: Wire>(
         (world_of R.seen O.seen B.seen L.seen world.new)
         (answer_of result) }
 {
-    let Some(files) = form_of(words) else {
-        return Status::Usage;
-    };
-    let at = Address::File(files.settings);
-    let settings = match read_settings(alloc, &mut world.settings, &at) {
-        Ok(settings) => settings,
-        Err(status) => return status,
-    };
-    world.backs.graphite_used = names_backend(&settings, b"graphite");
-    world.backs.console_used = names_backend(&settings, b"console");
-    match carry_out(alloc, &settings, files.script, world) {
-        Ok(end) => status_of(end),
-        Err(status) => status,
+    match form_of(words) {
+        Some(Form::Replay { settings, script }) => replay_files(alloc, settings, script, world),
+        Some(Form::Drill { packets }) => drill(alloc, packets, &mut world.output),
+        None => Status::Usage,
     }
 }

@@ -2,6 +2,7 @@
 #![tactic(auto)]
 
 mod call;
+mod drill;
 mod opening;
 mod settings;
 mod status;

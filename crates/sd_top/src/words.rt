@@ -1,15 +1,18 @@
-ghost use Rattle.std.specs.Prelude.{◌≡◌, ◌≤◌, ◌<◌, length, map, string_bytes, option_map, true, IsTrue};
-ghost use Rattle.sd_model_call.specs.Words.{form, is_file_word as names_file};
+ghost use Rattle.std.specs.Prelude.{◌≡◌, ◌≤◌, ◌<◌, length, map, string_bytes, option_map, true, IsTrue, IfSome};
+ghost use Rattle.sd_model_call.specs.Words.{drill_form, form, is_file_word as names_file, packets_in, replay_form};
 ghost use Rattle.sd_top.specs.Words.{form_view};
 
 use arrayvec::ArrayVec;
+use sd_drill::MOST_PACKETS;
 use sd_outside::Name;
 
-/// The files that the words of a replay name.
+/// What the words ask for.
 #[derive(Debug, Drop)]
-pub(crate) struct ReplayFiles {
-    pub settings: Name,
-    pub script: Name,
+pub(crate) enum Form {
+    /// To carry out a script by a settings file.
+    Replay { settings: Name, script: Name },
+    /// To carry out the made script of so many packets.
+    Drill { packets: u32 },
 }
 
 /// Whether a word names a file: 1 to 255 bytes, the first of which isn't `-`.
@@ -34,21 +37,47 @@ fn name_of(word: &str) -> Name
     name
 }
 
-/// What the words ask for, where they are of a form that is built.
-pub(crate) fn form_of(words: &[String]) -> Option<ReplayFiles>
-    ensures { option_map form_view result ≡ form (map (λ w. string_bytes w) words.now) }
+/// A replay by the files that two words name.
+fn replay_of(settings: &str, script: &str) -> Option<Form>
+    ensures { option_map form_view result ≡ replay_form settings.now script.now }
 {
-    let [name, settings, script] = words else {
-        return None;
-    };
-    if name.as_str() != "replay"
-        || !is_file_word(settings.as_str())
-        || !is_file_word(script.as_str())
-    {
+    if !is_file_word(settings) || !is_file_word(script) {
         return None;
     }
-    Some(ReplayFiles {
-        settings: name_of(settings.as_str()),
-        script: name_of(script.as_str()),
+    Some(Form::Replay {
+        settings: name_of(settings),
+        script: name_of(script),
     })
+}
+
+/// How many packets a word asks for: 1 to 100,000, in decimal digits, the first of which isn't 0.
+fn packets_of(word: &str) -> Option<u32>
+    ensures { result ≡ packets_in word.now }
+{
+    let [b'1'..=b'9', ..] = word.as_bytes() else {
+        return None;
+    };
+    let packets = word.parse::<u32>().ok()?;
+    (packets <= MOST_PACKETS).then_some(packets)
+}
+
+/// A drill of as many packets as a word asks for.
+fn drill_of(packets: &str) -> Option<Form>
+    ensures { option_map form_view result ≡ drill_form packets.now }
+{
+    let packets = packets_of(packets)?;
+    Some(Form::Drill { packets })
+}
+
+/// What the words ask for, where they are of a form that is built.
+pub(crate) fn form_of(words: &[String]) -> Option<Form>
+    ensures { option_map form_view result ≡ form (map (λ w. string_bytes w) words.now) }
+{
+    match words {
+        [name, settings, script] if name.as_str() == "replay" => {
+            replay_of(settings.as_str(), script.as_str())
+        }
+        [name, packets] if name.as_str() == "drill" => drill_of(packets.as_str()),
+        _ => None,
+    }
 }

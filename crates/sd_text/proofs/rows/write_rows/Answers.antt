@@ -8,14 +8,14 @@ use Rattle.sd_text.proofs.RowLemmas.{rows_text-more, rows_text-split}
 use Rattle.sd_text.proofs.WriteSteps.{next_part, next_front, front_front}
 use Rattle.sd_text.proofs.rows.write_rows.Goals as goal
 
-pub returns-in_err-write_row-clause-failed : goal.returns-in_err-write_row-clause-failed
-returns-in_err-write_row-clause-failed g c =
+pub returns-in_err-write_row_through-clause-failed : goal.returns-in_err-write_row_through-clause-failed
+returns-in_err-write_row_through-clause-failed g c =
     let r = record_view c.args.rec.now in
     let lines = g.T.RowText.lines_of c.args.form.now in
     let failed = err_from_is_err_and c.from_residual.result c.from_residual.ensures.1 in
     let there = subst (λ (s : Record). slice_get s.rows c.loop-i.i ≡ Some (row_view c.row.result)) c.loop-i.invariant.same c.row.ensures.row in
     let more = rows_text-more lines r.rows c.loop-i.i _ there in
-    let front = next_front _ _ _ (rows_text lines (take c.loop-i.i r.rows)) _ _ c.loop-i.invariant.written more c.in_err-write_row.ensures.failed in
+    let front = next_front _ _ _ (rows_text lines (take c.loop-i.i r.rows)) _ _ c.loop-i.invariant.written more c.in_err-write_row_through.ensures.failed in
     rw failed.1 (front_front _ _ _ _ _ (rows_text-split lines r.rows (c.loop-i.i + 1)) front)
 
 pub loop-i-preserved : goal.loop-i-preserved
@@ -24,7 +24,7 @@ loop-i-preserved g c =
     let lines = g.T.RowText.lines_of c.args.form.now in
     let there = subst (λ (s : Record). slice_get s.rows c.loop-i.i ≡ Some (row_view c.row.result)) c.loop-i.invariant.same c.row.ensures.row in
     record {
-      written = next_part _ _ _ (rows_text lines (take c.loop-i.i r.rows)) _ _ c.loop-i.invariant.written (rows_text-more lines r.rows c.loop-i.i _ there) c.in_ok-write_row.ensures.ok;
+      written = next_part _ _ _ (rows_text lines (take c.loop-i.i r.rows)) _ _ c.loop-i.invariant.written (rows_text-more lines r.rows c.loop-i.i _ there) c.in_ok-write_row_through.ensures.ok;
       all = c.loop-i.invariant.all;
       same = c.row.ensures.record ∙ c.loop-i.invariant.same;
       room = c.row.ensures.room ∙ c.loop-i.invariant.room;

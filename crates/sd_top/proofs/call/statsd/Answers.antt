@@ -1,38 +1,28 @@
-use Rattle.std.proofs.Common.{refl, sym, ap, subst, ◌∙◌, option_map}
-use Rattle.sd_model_outside.specs.Outside.{File}
-use Rattle.sd_model_call.specs.Opening.{IsAccepted, World}
-use Rattle.sd_model_call.specs.Call.{TakesSettings}
-use Rattle.sd_replay.specs.Ends.{end_of}
+use Rattle.std.proofs.Common.{◌≡◌, Option, Some, map, string_bytes, sym, ap, ◌∙◌, option_map}
+use Rattle.sd_model_call.specs.Words as model
+use Rattle.sd_model_call.proofs.WordsLemmas.{drill_read}
 use Rattle.sd_top.specs.Words.{form_view}
-use Rattle.sd_top.specs.World.{world_of}
-use Rattle.sd_top.proofs.CallLemmas.{by_words, by_settings, by_opening, by_replay, takes}
+use Rattle.sd_top.specs.declared.words.Form.{Form}
+use Rattle.sd_top.proofs.CallLemmas.{by_words, by_files, by_drill}
 use Rattle.sd_top.proofs.call.statsd.Goals as goal
 
-pub returns-in_default : goal.returns-in_default
-returns-in_default g c = record { accounting = by_words _ _ (sym c.form_of.ensures ∙ ap (option_map form_view) c.in_default.is) }
+-- what the words ask for, where it was told as this form
+asked : (form : Option model.Form) (told : Option Form) (f g : Form) → option_map form_view told ≡ form → told ≡ Some f → f ≡ g → form ≡ Some (form_view g)
+asked form told f g views some same = sym views ∙ ap (option_map form_view) some ∙ ap (λ h. Some (form_view h)) same
 
-pub returns-in-Err : goal.returns-in-Err
-returns-in-Err g c =
-    let asked = sym c.form_of.ensures ∙ ap (option_map form_view) c.in-Some.is in
-    record { accounting = by_settings _ _ _ _ _ asked refl refl _ c.in-Err.ensures.refused }
+pub returns-in-None : goal.returns-in-None
+returns-in-None g c = record { accounting = by_words _ _ (sym c.form_of.ensures ∙ ap (option_map form_view) c.in-None.is) }
 
-pub carry_out-requires-clause-flags : goal.carry_out-requires-clause-flags
-carry_out-requires-clause-flags g c = λ i. record { graphite = c.names_backend-world.ensures i; console = c.names_backend-world-2.ensures i }
+pub returns-in-Some-Replay : goal.returns-in-Some-Replay
+returns-in-Some-Replay g c =
+    record { accounting = by_files _ _ _ _ _ _ (asked _ _ _ _ c.form_of.ensures c.in-Some-Replay.is c.in-Some-Replay.field-0-is) c.replay_files.ensures }
 
-pub returns-in-Ok-carry_out : goal.returns-in-Ok-carry_out
-returns-in-Ok-carry_out g c =
-    let asked = sym c.form_of.ensures ∙ ap (option_map form_view) c.in-Some.is in
-    let old = world_of g.R.Faulty.seen g.O.Faulty.seen g.B.Faulty.seen g.L.Faulty.seen c.args.world.now in
-    let new = world_of g.R.Faulty.seen g.O.Faulty.seen g.B.Faulty.seen g.L.Faulty.seen c.carry_out.new.world in
-    let taken = takes c.in-Some.files.settings.items c.in-Ok.settings old new _ c.in-Ok.ensures.accepted (ap g.R.Faulty.seen c.carry_out.ensures.settings)
-    (c.carry_out.ensures.flags ∙ (λ i. record { graphite = c.names_backend-world.ensures i; console = c.names_backend-world-2.ensures i })) in
-    record { accounting = by_replay _ old new _ _ asked c.in-Ok.settings taken _ (end_of c.in-Ok-carry_out.end) c.status_of.ensures c.in-Ok-carry_out.ensures.end }
+pub drill-requires-clause-some : goal.drill-requires-clause-some
+drill-requires-clause-some g c = (drill_read (map (λ w. string_bytes w) c.args.words.now) _ (asked _ _ _ _ c.form_of.ensures c.in-Some-Drill.is c.in-Some-Drill.field-0-is)).1
 
-pub returns-in-Err-carry_out : goal.returns-in-Err-carry_out
-returns-in-Err-carry_out g c =
-    let asked = sym c.form_of.ensures ∙ ap (option_map form_view) c.in-Some.is in
-    let old = world_of g.R.Faulty.seen g.O.Faulty.seen g.B.Faulty.seen g.L.Faulty.seen c.args.world.now in
-    let new = world_of g.R.Faulty.seen g.O.Faulty.seen g.B.Faulty.seen g.L.Faulty.seen c.carry_out.new.world in
-    let taken = takes c.in-Some.files.settings.items c.in-Ok.settings old new _ c.in-Ok.ensures.accepted (ap g.R.Faulty.seen c.carry_out.ensures.settings)
-    (c.carry_out.ensures.flags ∙ (λ i. record { graphite = c.names_backend-world.ensures i; console = c.names_backend-world-2.ensures i })) in
-    record { accounting = by_opening _ old new _ _ asked c.in-Ok.settings taken _ _ refl c.in-Err-carry_out.ensures.refused }
+pub drill-requires-clause-most : goal.drill-requires-clause-most
+drill-requires-clause-most g c = (drill_read (map (λ w. string_bytes w) c.args.words.now) _ (asked _ _ _ _ c.form_of.ensures c.in-Some-Drill.is c.in-Some-Drill.field-0-is)).2
+
+pub returns-in-Some-Drill : goal.returns-in-Some-Drill
+returns-in-Some-Drill g c =
+    record { accounting = by_drill _ _ _ _ _ (asked _ _ _ _ c.form_of.ensures c.in-Some-Drill.is c.in-Some-Drill.field-0-is) c.drill.ensures }

@@ -1,0 +1,189 @@
+-- How a replay of a made script ends, over objects that count no fault.
+use Rattle.std.proofs.Common.{◌≡◌, ◌⊎◌, ℕ, zero, suc, ◌+◌, ◌*◌, ◌/◌, ◌%◌, ◌<◌, ◌≤◌, Bool, true, false, IsTrue, List, [], ◌∷◌, ◌++◌, length, map, min, refl, sym, ap, subst, ◌∙◌, arith, length-append, inl, inr}
+use Rattle.std.specs.Prelude.{⊤, if◌then◌else◌, flat_map, sum_by}
+use Rattle.std.specs.List.{AllByRecursion, range_with_len}
+use Rattle.std.proofs.lemmas.List.Sums.{sum_by-cons}
+use Rattle.sd_model_outside.specs.Outside.{Told, Left, Number, Object, Rose, HasFailedBehind, appended, begun, ended, given, last_count}
+use Rattle.sd_model_record.specs.Desk.{Mark, NotUsed, Written, Fault}
+use Rattle.sd_model_replay.specs.Settings.{Settings}
+use Rattle.sd_model_replay.specs.Backends.{Backend, Graphite, Console, Delivery, AfterMark, AfterDeliveries, is_used}
+use Rattle.sd_model_replay.specs.Repeater.{wire_at}
+use Rattle.sd_model_replay.specs.Script.{Command, Packet, Flush, Admin, end_word, IsLegal}
+use Rattle.sd_model_replay.specs.MadeScript.{made_commands, made_moment, made_packet, flush_behind}
+use Rattle.sd_model_replay.specs.Replay.{Played, Run, first_run, play, flushes, deliveries, moments}
+use Rattle.sd_model_replay.specs.Output.{output_in, output_of}
+use Rattle.sd_model_replay.specs.Totals.{totals_after, totals_text}
+use Rattle.sd_model_replay.specs.AccountingTheorem.{Seen, Course, AccountingTheorem, seen_at}
+use Rattle.sd_model_replay.specs.Ends.{End, Complete, WriteFailed, EndsAs, IsInTotals, most_records}
+use Rattle.sd_model_call.specs.Words.{most_packets}
+use Rattle.sd_model_call.specs.Faultless.{well, well_mark}
+use Rattle.sd_model_call.specs.Drill.{bytes_counted, counted_text, drill_settings, drill_start, drill_text, drilled}
+use Rattle.sd_model_call.specs.Completeness.{IsSilent, IsSteady, NoneMissed}
+use Rattle.sd_model_replay.proofs.MadeLemmas.{legal_commands}
+use Rattle.sd_model_replay.proofs.ReplayLemmas.{delivery_of}
+use Rattle.sd_model_outside.proofs.WriteLemmas.{behind-later}
+use Rattle.sd_model_call.proofs.ReplayEnds.{all_carried_out, commands_of, deliveries_from, ends_whole, no_reply, played_well, silent_in}
+
+-- the flush behind a packet, before others: one record more at most, to which nothing is replied
+flush_by_length : (b : Bool) (ts n : ℕ) (behind : List Command) → length behind ≤ n → length ((if b then Flush ts ∷ [] else []) ++ behind) ≤ n + 1
+flush_by_length true ts n behind few = omega (arith, few)
+flush_by_length false ts n behind few = omega (arith, few)
+
+flush_by_silent : (b : Bool) (ts : ℕ) (behind : List Command) → AllByRecursion IsSilent behind → AllByRecursion IsSilent ((if b then Flush ts ∷ [] else []) ++ behind)
+flush_by_silent true ts behind all = (tt, all)
+flush_by_silent false ts behind all = all
+
+length-made_from : (n j k : ℕ) → length (flat_map (λ i. made_packet i ∷ flush_behind n i) (range_with_len j k)) ≤ 2 * k
+length-made_from n j zero = omega arith
+length-made_from n j (suc k) =
+    let others = flat_map (λ i. made_packet i ∷ flush_behind n i) (range_with_len (j + 1) k) in
+    let rest : length (flush_behind n j ++ others) ≤ 2 * k + 1 = flush_by_length _ (made_moment (j / 1000 + 1)) (2 * k) others (length-made_from n (j + 1) k) in
+    omega (arith, rest)
+
+length-made : (n : ℕ) → length (made_commands n) ≤ 2 * n
+unfolding made_commands
+length-made n = length-made_from n 0 n
+
+silent_packet : (j : ℕ) → IsSilent (made_packet j)
+unfolding made_packet
+silent_packet j = tt
+
+silent_from : (n j k : ℕ) → AllByRecursion IsSilent (flat_map (λ i. made_packet i ∷ flush_behind n i) (range_with_len j k))
+silent_from n j zero = tt
+silent_from n j (suc k) = (silent_packet j, flush_by_silent _ (made_moment (j / 1000 + 1)) _ (silent_from n (j + 1) k))
+
+made_silent : (n : ℕ) → AllByRecursion IsSilent (made_commands n)
+unfolding made_commands
+made_silent n = silent_from n 0 n
+
+-- records to which nothing is replied write nothing
+module _ (s : Settings) where
+  nothing_from : (run : Run) (played : List Played) → AllByRecursion IsSilent (commands_of played) → flat_map (λ m. output_in s m.before m.played.command) (moments s run played) ≡ []
+  nothing_from run [] silent = refl
+  nothing_from run (p ∷ played) silent =
+      ap (λ out. out ++ flat_map (λ m. output_in s m.before m.played.command) (moments s (play s run p) played)) (silent_in s run p.command silent.0) ∙ nothing_from (play s run p) played silent.1
+
+  nothing_written : (played : List Played) → AllByRecursion IsSilent (commands_of played) → output_of s played ≡ []
+  nothing_written played silent = nothing_from (first_run played) played silent
+
+-- what is told of a backend that counts its bytes, after flushes that were all written
+abbrev IsWritten : Delivery → Type 0
+IsWritten d = d.mark ≡ Written
+
+min_min : (a b c : ℕ) → min (min (a + b) last_count + c) last_count ≡ min (a + (b + c)) last_count
+min_min a b c = omega arith
+
+count_one : (mark : Mark) (text : List ℕ) (k : ℕ) (old new : Object) → mark ≡ Written → old.told ≡ Number k → AfterMark mark text old new → new.told ≡ Number (min (k + length text) last_count)
+count_one Written text k old new is told h = ap (λ (o : Object). o.told) h ∙ ap (λ w. ended (appended (begun w) text)) told
+count_one NotUsed text k old new is told h = absurd (cc)
+count_one Fault text k old new is told h = absurd (cc)
+
+abbrev length_of : Delivery → ℕ
+length_of d = length d.text
+
+count_all : (ds : List Delivery) (k : ℕ) (old new : Object) → k ≤ last_count → AllByRecursion IsWritten ds → old.told ≡ Number k → AfterDeliveries ds old new → new.told ≡ Number (min (k + sum_by length_of ds) last_count)
+count_all [] k old new fits all told h = ap (λ (o : Object). o.told) h ∙ told ∙ ap Number (omega (arith, fits))
+count_all (d ∷ ds) k old new fits all told (mid, one, others) =
+    let first = count_one d.mark d.text k old mid all.0 told one in
+    count_all ds (min (k + length d.text) last_count) mid new (omega arith) all.1 first others
+    ∙ ap Number (min_min k (length d.text) (sum_by length_of ds) ∙ ap (λ n. min (k + n) last_count) (sym (sum_by-cons length_of d ds)))
+
+-- flushes of records that are carried out well are written where Graphite is used
+module _ (s : Settings) (used : s.uses_graphite ≡ true) where
+  all_written : (run : Run) (cs : List Command) → AllByRecursion IsWritten (deliveries_from s run Graphite (map (well s) cs))
+  all_written run [] = tt
+  all_written run (Packet who moment datagram ∷ cs) = all_written (play s run (well s (Packet who moment datagram))) cs
+  all_written run (Flush ts ∷ cs) = (ap well_mark used, all_written (play s run (well s (Flush ts))) cs)
+  all_written run (Admin moment line ∷ cs) = all_written (play s run (well s (Admin moment line))) cs
+
+abbrev pub drill_totals : ℕ → List ℕ
+drill_totals n = totals_text (totals_after drill_settings (drilled n))
+
+-- How a replay of a made script ended: all records were carried out with no fault, Graphite's bytes were counted, and the
+-- totals were written, or a front of them before a write that failed.
+pub record DrillEnd (n : ℕ) (end : End) (course : Course) (output : Object) (new : Seen) : Type 0 where
+  pub played : course.played ≡ drilled n
+  pub counted : new.graphite.told ≡ Number (bytes_counted drill_settings (drilled n))
+  pub ends : (end ≡ Complete (totals_after drill_settings (drilled n))) × (new.output ≡ given (drill_totals n) output)
+      ⊎ (end ≡ WriteFailed) × HasFailedBehind (drill_totals n) output new.output
+
+uses_graphite : drill_settings.uses_graphite ≡ true
+unfolding drill_settings
+uses_graphite = refl
+
+module _ (n : ℕ) (few : n ≤ most_packets) (output : Object) (new : Seen) (script_faults : new.script.faults ≡ 0) (graphite_faults : new.graphite.faults ≡ 0) (course : Course)
+    (theorem : AccountingTheorem drill_settings course (drill_start n output) new) where
+  steady : IsSteady drill_settings (drill_start n output) new (made_commands n) (end_word ++ [])
+  unfolding drill_settings
+  steady = record { script = refl; legal = legal_commands n (omega (arith, few)); script_faults = λ rose. absurd (omega (arith, rose, script_faults)) }
+
+  few_records : length (made_commands n) < most_records
+  few_records = omega (arith, few, length-made n)
+
+  none_missed : NoneMissed drill_settings (drill_start n output) new
+  unfolding drill_settings
+  none_missed = record { backends = backends; wires = λ i below. absurd (omega (arith, below)) } where
+    backends : (back : Backend) → IsTrue (is_used drill_settings back) → ¬ Rose (seen_at back (drill_start n output)).faults (seen_at back new).faults
+    backends Graphite used rose = absurd (omega (arith, rose, graphite_faults))
+    backends Console used rose = absurd (cc)
+
+  all_played : commands_of course.played ≡ made_commands n → course.played ≡ drilled n
+  unfolding drilled
+  all_played is = played_well drill_settings (drill_start n output) new course theorem none_missed ∙ ap (map (well drill_settings)) is
+
+  all_silent : AllByRecursion IsSilent (commands_of (drilled n))
+  unfolding drilled
+  all_silent = subst (AllByRecursion IsSilent) (commands_well (made_commands n)) (made_silent n) where
+    command_well : (c : Command) → c ≡ (well drill_settings c).command
+    command_well (Packet who moment datagram) = refl
+    command_well (Flush ts) = refl
+    command_well (Admin moment line) = refl
+
+    commands_well : (cs : List Command) → cs ≡ commands_of (map (well drill_settings) cs)
+    commands_well [] = refl
+    commands_well (c ∷ cs) = λ i. command_well c i ∷ commands_well cs i
+
+  nothing : output_of drill_settings (drilled n) ≡ []
+  nothing = nothing_written drill_settings (drilled n) all_silent
+
+  counts : course.played ≡ drilled n → new.graphite.told ≡ Number (bytes_counted drill_settings (drilled n))
+  unfolding drilled
+  counts is =
+      count_all (deliveries drill_settings Graphite (drilled n)) 0 (drill_start n output).graphite new.graphite (omega arith)
+      (all_written drill_settings uses_graphite (first_run (drilled n)) (made_commands n)) refl
+      (subst (λ ps. AfterDeliveries (deliveries drill_settings Graphite ps) (drill_start n output).graphite new.graphite) is (theorem.texts Graphite))
+      ∙ ap Number (omega arith)
+
+  pub drill_ends : (end : End) → EndsAs drill_settings end course (drill_start n output) new → DrillEnd n end course output new
+  drill_ends end ends = elim (ends_whole drill_settings (drill_start n output) new (made_commands n) [] steady few_records course theorem end ends) [
+    | inl complete ↦
+        let h = subst (λ (e : End). EndsAs drill_settings e course (drill_start n output) new) complete.1 ends in
+        let is = all_played (all_carried_out drill_settings (drill_start n output) new (made_commands n) [] steady few_records course theorem h.read.1) in
+        let totals = h.read.2 ∙ ap (totals_after drill_settings) is in
+        record {
+          played = is;
+          counted = counts is;
+          ends = inl (
+            complete.1 ∙ ap Complete totals,
+            h.output ∙ ap (λ out. given (out ++ totals_text complete.0) output) (ap (output_of drill_settings) is ∙ nothing) ∙ ap (λ t. given (totals_text t) output) totals,
+          );
+        }
+    | inr failed ↦
+        let h = (subst (λ (e : End). EndsAs drill_settings e course (drill_start n output) new) failed ends).output in
+        elim h.writing [
+          | inl totals ↦
+              let is = all_played (all_carried_out drill_settings (drill_start n output) new (made_commands n) [] steady few_records course theorem totals.ends) in
+              let text = totals.totals ∙ ap (λ ps. totals_text (totals_after drill_settings ps)) is in
+              let before = ap (output_of drill_settings) (totals.all ∙ is) ∙ nothing in
+              record {
+                played = is;
+                counted = counts is;
+                ends = inr (
+                  failed,
+                  behind-later [] (drill_totals n) output (given [] output) new.output refl
+                      (subst (λ t. HasFailedBehind t (given [] output) new.output) text (subst (λ out. HasFailedBehind h.text (given out output) new.output) before h.failed)),
+                );
+              }
+          | inr reply ↦ absurd (no_reply drill_settings (drill_start n output) new (made_commands n) [] steady few_records course theorem (λ rose. made_silent n) h reply)
+        ]
+  ]

@@ -1,0 +1,86 @@
+-- What a drill answers, by how its replay ended.
+use Rattle.std.proofs.Common.{◌≡◌, ◌⊎◌, ℕ, ◌≤◌, List, [], ◌++◌, Ok, codes, refl, sym, ap, subst, ◌∙◌, inl, inr}
+use Rattle.sd_model_outside.specs.Outside.{Object, Number, HasFailedBehind, given}
+use Rattle.sd_model_outside.proofs.WriteLemmas.{behind-later, behind-longer, given-given}
+use Rattle.sd_model_settings.specs.Settings as file
+use Rattle.sd_model_settings.specs.Defaults.{default_settings}
+use Rattle.sd_model_settings.proofs.OnLiterals.{settings_on_literals}
+use Rattle.sd_model_replay.specs.Settings.{Settings, goes_by}
+use Rattle.sd_model_replay.specs.Totals.{Totals, total_line}
+use Rattle.sd_model_replay.specs.AccountingTheorem.{Seen}
+use Rattle.sd_model_replay.specs.Ends.{End, Complete, WriteFailed, Replayed}
+use Rattle.sd_model_call.specs.Words.{most_packets}
+use Rattle.sd_model_call.specs.Drill.{bytes_counted, drill_settings, drill_start, drill_text, drilled}
+use Rattle.sd_model_call.specs.Call.{Account, Answer, Done, Drilled, NotWritten, ending}
+use Rattle.sd_model_call.proofs.DrillEnds.{DrillEnd, drill_ends, drill_totals}
+use Rattle.sd_replay.specs.Ends.{end_of}
+use Rattle.sd_replay.specs.declared.fault.ScriptFault.TheVariants.{Word, Length, Truncated}
+use Rattle.sd_replay.specs.declared.run.ReplayEnd.{ReplayEnd}
+use Rattle.sd_replay.specs.declared.run.ReplayEnd.TheVariants as code
+use Rattle.sd_replay.specs.declared.totals.Totals.{Totals as CodeTotals}
+use Rattle.sd_top.specs.Causes.{HasDrilled, IsDrill}
+
+-- the settings of an empty file
+empty_file : file.settings [] ≡ Ok default_settings
+unfolding settings_on_literals
+empty_file = refl
+
+pub in_force : (values : file.Settings) → file.settings [] ≡ Ok values → values ≡ default_settings
+in_force values is = let same : Ok values ≡ Ok default_settings = sym is ∙ empty_file in cc
+
+-- a replay of the code that didn't end with `Ok` isn't complete
+pub not_complete : (r : ReplayEnd) → ((totals : CodeTotals) → r ≡ code.Ok totals → ⊥) → (totals : Totals) → end_of r ≡ Complete totals → ⊥
+not_complete (code.Ok t) other totals is = other t refl
+not_complete (code.Script (Word at)) other totals is = absurd (cc)
+not_complete (code.Script (Length at)) other totals is = absurd (cc)
+not_complete (code.Script (Truncated at)) other totals is = absurd (cc)
+not_complete code.ReadFault other totals is = absurd (cc)
+not_complete code.WriteFault other totals is = absurd (cc)
+not_complete (code.Worn turns) other totals is = absurd (cc)
+
+module _ (n : ℕ) (few : n ≤ most_packets) (values : file.Settings) (is : values ≡ default_settings) (output : Object) (start end : Seen) (began : start ≡ drill_start n output)
+    (script_faults : end.script.faults ≡ 0) (graphite_faults : end.graphite.faults ≡ 0) (e : End) (replayed : Replayed (goes_by values) e start end) where
+  ran : Replayed drill_settings e (drill_start n output) end
+  unfolding drill_settings
+  ran = subst (λ (from : Seen). Replayed drill_settings e from end) began (subst (λ (v : file.Settings). Replayed (goes_by v) e start end) is replayed)
+
+  abbrev account : Account
+  account = record { force = drill_settings; course = ran.course; start = drill_start n output; end = end }
+
+  ended : DrillEnd n e ran.course output end
+  ended = drill_ends n few output end script_faults graphite_faults ran.course ran.theorem e ran.ends
+
+  all_drilled : Drilled n account output
+  all_drilled = record { force = refl; since = refl; played = ended.played; counted = ended.counted }
+
+  has_drilled : (answer : Answer) (new : Object) → (answer ≡ Done) × (new ≡ given (drill_text n) output) ⊎ (answer ≡ NotWritten) × HasFailedBehind (drill_text n) output new → IsDrill n answer output new
+  has_drilled answer new wrote = inr (record { account = account; theorem = ran.theorem; drilled = all_drilled; output = wrote })
+
+  -- a replay that isn't complete failed to write the totals
+  pub by_failure : (answer : Answer) → answer ≡ ending e → ((totals : Totals) → e ≡ Complete totals → ⊥) → IsDrill n answer output end.output
+  by_failure answer is other = elim ended.ends [
+    | inl complete ↦ absurd (other _ complete.0)
+    | inr failed ↦ has_drilled answer end.output (inr (is ∙ ap ending failed.0, behind-longer (drill_totals n) _ output end.output failed.1))
+  ]
+
+  -- the totals were written, and then the number of Graphite's bytes was
+  module _ (totals : Totals) (complete : e ≡ Complete totals) (count : ℕ) (counted : end.graphite.told ≡ Number count) where
+    abbrev bytes_line : List ℕ
+    bytes_line = total_line (codes "bytes") count
+
+    totals_written : end.output ≡ given (drill_totals n) output
+    totals_written = elim ended.ends [
+      | inl h ↦ h.1
+      | inr failed ↦ let both : Complete totals ≡ WriteFailed = sym complete ∙ failed.0 in absurd (cc)
+    ]
+
+    text : drill_totals n ++ bytes_line ≡ drill_text n
+    text = let both : Number count ≡ Number (bytes_counted drill_settings (drilled n)) = sym counted ∙ ended.counted in
+        let same : count ≡ bytes_counted drill_settings (drilled n) = cc in ap (λ m. drill_totals n ++ total_line (codes "bytes") m) same
+
+    pub by_bytes : (new : Object) → new ≡ given bytes_line end.output → IsDrill n Done output new
+    by_bytes new written = has_drilled Done new (inl (refl, written ∙ ap (given bytes_line) totals_written ∙ given-given (drill_totals n) bytes_line output ∙ ap (λ t. given t output) text))
+
+    pub by_bytes_failed : (new : Object) → HasFailedBehind bytes_line end.output new → IsDrill n NotWritten output new
+    by_bytes_failed new failed =
+        has_drilled NotWritten new (inr (refl, subst (λ t. HasFailedBehind t output new) text (behind-later (drill_totals n) bytes_line output end.output new totals_written failed)))

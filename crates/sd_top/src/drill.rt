@@ -1,0 +1,44 @@
+ghost use Rattle.std.specs.Prelude.{◌<◌, ◌≤◌};
+ghost use Rattle.sd_drill.specs.declared.drill.TheConstants.{MOST_PACKETS};
+ghost use Rattle.sd_top.specs.Answers.{answer_of};
+ghost use Rattle.sd_top.specs.Causes.{IsDrill};
+
+use crate::call::status_of;
+use crate::status::Status;
+use sd_config::Settings;
+use sd_drill::{CountSink, Drill};
+use sd_outside::{Backs, MemWire, Sink, WriteFault};
+use sd_replay::{ReplayEnd, ReplayRoom, replay, write_total};
+use std::alloc::Global;
+
+/// Carries out the made script of so many packets by the settings of an empty file, and writes the totals and the number of
+/// Graphite's bytes to the output.
+pub(crate) fn drill<O: Sink>(alloc: Global, packets: u32, output: &mut O) -> Status
+    requires some { 0 < packets }
+    requires most { packets ≤ MOST_PACKETS }
+    ensures { IsDrill packets (answer_of result) (O.seen output.old) (O.seen output.new) }
+{
+    let Ok(settings) = Settings::read(alloc, b"") else {
+        return Status::OutOfMemory;
+    };
+    let Ok(room) = ReplayRoom::open(alloc, &settings) else {
+        return Status::OutOfMemory;
+    };
+    let mut script = Drill::new(packets);
+    let mut backs = Backs {
+        graphite: CountSink::new(),
+        console: CountSink::new(),
+        graphite_used: true,
+        console_used: false,
+    };
+    let mut wires: [MemWire; 0] = [];
+    match replay(&settings, room, &mut script, output, &mut backs, &mut wires) {
+        ReplayEnd::Ok(_) => {
+            match write_total(b"bytes", u128::from(backs.graphite.count()), output) {
+                Ok(()) => Status::Ok,
+                Err(WriteFault) => Status::WriteFault,
+            }
+        }
+        end => status_of(end),
+    }
+}
