@@ -90,8 +90,8 @@ impl Case {
         Ok(case)
     }
 
-    /// Takes a part: `settings=TEXT`, `script=TEXT`, `made=PACKETS` for the made script, `output=BYTES`, `graphite=BYTES/LISTS`, `console=BYTES/LISTS`,
-    /// `wires=BYTES/PACKETS` or `fail=CALL:NUMBER`.
+    /// Takes a part: `settings=TEXT`, `script=TEXT`, `made=PACKETS` for the made script, `output=BYTES`,
+    /// `graphite=BYTES/LISTS`, `console=BYTES/LISTS`, `wires=BYTES/PACKETS` or `fail=CALL:NUMBER`.
     fn set(&mut self, alloc: Global, part: &str) -> Result<(), Refusal> {
         match part.split_once('=') {
             Some(("settings", text)) => self.settings = bytes_of(alloc, text)?,
@@ -151,15 +151,15 @@ impl Case {
     }
 }
 
-/// The bytes that a packet of the made script has at most, with its record's line and what stands behind it.
-const MOST_MADE: usize = 128;
+/// Room for a packet of the made script with its record's line and what stands behind it, in bytes.
+const ROOM_FOR_MADE: usize = 128;
 
 /// The made script of so many packets.
 fn made_script(alloc: Global, packets: u32) -> Result<Vec<u8>, Refusal> {
     if packets == 0 || packets > MOST_PACKETS {
         return Err(Refusal::Malformed);
     }
-    let mut script = vec![in alloc; 0u8; packets as usize * MOST_MADE]?;
+    let mut script = vec![in alloc; 0u8; packets as usize * ROOM_FOR_MADE]?;
     let Ok(len) = read_full(&mut Drill::new(packets), &mut script) else {
         return Err(Refusal::Malformed);
     };

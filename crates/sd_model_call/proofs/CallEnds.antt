@@ -10,9 +10,9 @@ use Rattle.sd_model_replay.specs.Settings.{Settings, goes_by}
 use Rattle.sd_model_replay.specs.Backends.{Backend, Graphite, Console, is_used}
 use Rattle.sd_model_replay.specs.Repeater.{wire_at}
 use Rattle.sd_model_replay.specs.Script.{Command, end_word}
-use Rattle.sd_model_replay.specs.Next.{Next}
+use Rattle.sd_model_replay.specs.Next.{ScriptFlaw}
 use Rattle.sd_model_replay.specs.Totals.{totals_after}
-use Rattle.sd_model_replay.specs.AccountingTheorem.{Seen, Course, AccountingTheorem, seen_at}
+use Rattle.sd_model_replay.specs.AccountingTheorem.{Seen, AccountingTheorem, seen_at}
 use Rattle.sd_model_replay.specs.Ends.{End, Complete, Faulted, ReadFailed, WriteFailed, WornOut, Replayed}
 use Rattle.sd_model_call.specs.Words.{Form}
 use Rattle.sd_model_call.specs.Opening.{World, Part, OfSettings, OfScript, OfWire, OfGraphite, OfConsole, AreRead, longest_file, started}
@@ -29,8 +29,8 @@ module _ (s : Settings) (name : List ℕ) (old new : Seen) where
   pub unhindered_started : (commands : List Command) (rest : List ℕ) → IsUnhindered s old new commands rest → IsUnhindered s (started s name old) new commands rest
   unhindered_started commands rest h = record { steady = steady_started commands (end_word ++ rest) h.steady; few = h.few; output_faults = h.output_faults }
 
-  pub cut_started : (commands : List Command) (next : Next) (bytes : List ℕ) → IsCutOff s old new commands next bytes → IsCutOff s (started s name old) new commands next bytes
-  cut_started commands next bytes h = record { steady = steady_started commands bytes h.steady; few = h.few; begins = h.begins; heard = h.heard }
+  pub cut_started : (commands : List Command) (flaw : ScriptFlaw) (bytes : List ℕ) → IsCutOff s old new commands flaw bytes → IsCutOff s (started s name old) new commands flaw bytes
+  cut_started commands flaw bytes h = record { steady = steady_started commands bytes h.steady; few = h.few; begins = h.begins; heard = h.heard }
 
   pub longest_started : (commands : List Command) (bytes : List ℕ) → IsLongest s old new commands bytes → IsLongest s (started s name old) new commands bytes
   longest_started commands bytes h = record { steady = steady_started commands bytes h.steady; most = h.most; heard = h.heard }

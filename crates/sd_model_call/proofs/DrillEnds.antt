@@ -1,26 +1,24 @@
 -- How a replay of a made script ends, over objects that count no fault.
-use Rattle.std.proofs.Common.{◌≡◌, ◌⊎◌, ℕ, zero, suc, ◌+◌, ◌*◌, ◌/◌, ◌%◌, ◌<◌, ◌≤◌, Bool, true, false, IsTrue, List, [], ◌∷◌, ◌++◌, length, map, min, refl, sym, ap, subst, ◌∙◌, arith, length-append, inl, inr}
-use Rattle.std.specs.Prelude.{⊤, if◌then◌else◌, flat_map, sum_by}
+use Rattle.std.proofs.Common.{◌≡◌, ◌⊎◌, ℕ, zero, suc, ◌+◌, ◌*◌, ◌/◌, ◌<◌, ◌≤◌, Bool, true, false, IsTrue, List, [], ◌∷◌, ◌++◌, length, map, min, refl, sym, ap, subst, ◌∙◌, arith, inl, inr}
+use Rattle.std.specs.Prelude.{if◌then◌else◌, flat_map, sum_by}
 use Rattle.std.specs.List.{AllByRecursion, range_with_len}
 use Rattle.std.proofs.lemmas.List.Sums.{sum_by-cons}
-use Rattle.sd_model_outside.specs.Outside.{Told, Left, Number, Object, Rose, HasFailedBehind, appended, begun, ended, given, last_count}
+use Rattle.sd_model_outside.specs.Outside.{Number, Object, Rose, HasFailedBehind, appended, begun, ended, given, last_count}
 use Rattle.sd_model_record.specs.Desk.{Mark, NotUsed, Written, Fault}
 use Rattle.sd_model_replay.specs.Settings.{Settings}
 use Rattle.sd_model_replay.specs.Backends.{Backend, Graphite, Console, Delivery, AfterMark, AfterDeliveries, is_used}
-use Rattle.sd_model_replay.specs.Repeater.{wire_at}
-use Rattle.sd_model_replay.specs.Script.{Command, Packet, Flush, Admin, end_word, IsLegal}
+use Rattle.sd_model_replay.specs.Script.{Command, Packet, Flush, Admin, end_word}
 use Rattle.sd_model_replay.specs.MadeScript.{made_commands, made_moment, made_packet, flush_behind}
-use Rattle.sd_model_replay.specs.Replay.{Played, Run, first_run, play, flushes, deliveries, moments}
+use Rattle.sd_model_replay.specs.Replay.{Played, Run, first_run, play, deliveries, moments}
 use Rattle.sd_model_replay.specs.Output.{output_in, output_of}
 use Rattle.sd_model_replay.specs.Totals.{totals_after, totals_text}
 use Rattle.sd_model_replay.specs.AccountingTheorem.{Seen, Course, AccountingTheorem, seen_at}
-use Rattle.sd_model_replay.specs.Ends.{End, Complete, WriteFailed, EndsAs, IsInTotals, most_records}
+use Rattle.sd_model_replay.specs.Ends.{End, Complete, WriteFailed, EndsAs, most_records}
 use Rattle.sd_model_call.specs.Words.{most_packets}
 use Rattle.sd_model_call.specs.Faultless.{well, well_mark}
-use Rattle.sd_model_call.specs.Drill.{bytes_counted, counted_text, drill_settings, drill_start, drill_text, drilled}
+use Rattle.sd_model_call.specs.Drill.{bytes_counted, drill_settings, drill_start, drilled}
 use Rattle.sd_model_call.specs.Completeness.{IsSilent, IsSteady, NoneMissed}
 use Rattle.sd_model_replay.proofs.MadeLemmas.{legal_commands}
-use Rattle.sd_model_replay.proofs.ReplayLemmas.{delivery_of}
 use Rattle.sd_model_outside.proofs.WriteLemmas.{behind-later}
 use Rattle.sd_model_call.proofs.ReplayEnds.{all_carried_out, commands_of, deliveries_from, ends_whole, no_reply, played_well, silent_in}
 

@@ -156,7 +156,7 @@ module _ (old new : World) where
   kept_by name script NotWritten a theorem h = kept_run WriteFailed name script a theorem h
   kept_by name script (Worn turns) a theorem h = kept_run (WornOut turns) name script a theorem h
 
-  -- a call that used nothing but the output
+  -- a call that changed nothing but the output
   kept_output : OnlyOutput old new → Used old.seen.output new.seen.output → Kept old new
   kept_output only used =
       let settings = ap (λ (w : World). w.settings.faults) only in
@@ -177,7 +177,7 @@ module _ (old new : World) where
   kept_all same = kept_settings (let faults = ap (λ (w : World). w.settings.faults) same in omega (arith, faults)) (record { seen = ap (λ (w : World). w.seen) same; flags = ap (λ (w : World). w.flags) same })
 
   kept_drill : (n : ℕ) (answer : Answer) (a : Account) → AnswersDrill n answer a old new → Kept old new
-  kept_drill n Done a h = let faults = ap (λ (o : Object). o.faults) h.1 in kept_output h.0.only (record { faults = omega (arith, faults); opened_at = ap (λ (o : Object). o.opened_at) h.1 })
+  kept_drill n Done a h = let faults = ap (λ (o : Object). o.faults) h.2 in kept_output h.0.only (record { faults = omega (arith, faults); opened_at = ap (λ (o : Object). o.opened_at) h.2 })
   kept_drill n NoMemory a h = kept_all h.0
   kept_drill n NoForm a h = absurd h
   kept_drill n (Misset flaw) a h = absurd h

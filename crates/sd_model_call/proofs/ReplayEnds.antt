@@ -9,7 +9,7 @@ use Rattle.sd_model_record.specs.Desk.{Mark, fault_of}
 use Rattle.sd_model_replay.specs.Settings.{Settings}
 use Rattle.sd_model_replay.specs.Backends.{Backend, Graphite, Console, Delivery, AfterDeliveries, FitsUse, is_used, mark_of, missed}
 use Rattle.sd_model_replay.specs.Script.{Command, Packet, Flush, Admin, spelled, end_word, script_text, IsLegal, BeginsEnd, BeginsRecord}
-use Rattle.sd_model_replay.specs.Next.{Next, Carried, Ending, Faulty, Begins}
+use Rattle.sd_model_replay.specs.Next.{ScriptFlaw, Next, Carried, Ending, Faulty, Begins}
 use Rattle.sd_model_settings.specs.Entries.{Target}
 use Rattle.sd_model_replay.specs.Repeater.{AfterSendings, missed_on, wire_at, Sending}
 use Rattle.sd_model_replay.specs.Replay.{Outcome, Played, Run, IsOutcome, first_run, run_of, play, flushes, deliveries, sendings}
@@ -61,12 +61,6 @@ IsLast (Faulty flaw) = ⊤
 -- what stands next is no other where a replay stops for it
 not_stop : (receivers : ℕ) (bytes : List ℕ) (next other : Next) (left right : Told) → IsStop next → (IsStop other → ⊥) → Begins receivers next bytes left → Begins receivers other bytes right → ⊥
 not_stop receivers bytes next other left right stop other_stop first second = other_stop (subst IsStop (one_next receivers bytes next other left right first second) stop)
-
--- how a replay ends where it stops so
-abbrev pub stop_end : Next → ℕ → End
-stop_end (Faulty flaw) at = Faulted at flaw
-stop_end (Carried command) at = ReadFailed
-stop_end Ending at = ReadFailed
 
 module _ (settings : Settings) (old new : Seen) (commands : List Command) (bytes : List ℕ) (steady : IsSteady settings old new commands bytes) (course : Course) (theorem : AccountingTheorem settings course old new) where
   abbrev carried_out : List Command
@@ -188,27 +182,27 @@ pub replay_completes : (settings : Settings) (old new : Seen) (commands : List C
 replay_completes settings old new commands rest end free h = ends_complete settings old new commands rest free.steady free.few h.course h.theorem free.output_faults end h.ends
 
 -- of a script that is cut off behind its records
-module _ (settings : Settings) (old new : Seen) (commands : List Command) (next : Next) (bytes : List ℕ) (stop : IsStop next) (cut : IsCutOff settings old new commands next bytes) (course : Course) (theorem : AccountingTheorem settings course old new) where
+module _ (settings : Settings) (old new : Seen) (commands : List Command) (flaw : ScriptFlaw) (bytes : List ℕ) (cut : IsCutOff settings old new commands flaw bytes) (course : Course) (theorem : AccountingTheorem settings course old new) where
   reached_cut : Reached settings old new commands bytes cut.steady course theorem
   reached_cut = reached settings old new commands bytes cut.steady course theorem
 
   no_record_there : ¬ BeginsRecord settings.receivers bytes
-  no_record_there (command, rest, legal, is) = not_stop settings.receivers bytes next (Carried command) (Left []) (Left []) stop (λ h. h) cut.begins (legal, (rest, is))
+  no_record_there (command, rest, legal, is) = not_stop settings.receivers bytes (Faulty flaw) (Carried command) (Left []) (Left []) tt (λ h. h) cut.begins (legal, (rest, is))
 
   cut_behind : (r : Reached settings old new commands bytes cut.steady course theorem) → Behind settings.receivers commands (commands_of course.played) bytes (course.ahead ++ r.left)
   cut_behind r =
       cut_script settings.receivers commands (commands_of course.played) bytes (course.ahead ++ r.left) no_record_there cut.steady.legal (all_legal settings.receivers course.played theorem.legal) r.same
 
   -- what stands behind the records carried out, and is no record, is what the script is cut off by
-  found : (r : Reached settings old new commands bytes cut.steady course theorem) (other : Next) → IsLast other → Begins settings.receivers other (course.ahead ++ r.left) (Left []) → (commands ≡ commands_of course.played) × (next ≡ other)
+  found : (r : Reached settings old new commands bytes cut.steady course theorem) (other : Next) → IsLast other → Begins settings.receivers other (course.ahead ++ r.left) (Left []) → (commands ≡ commands_of course.played) × (Faulty flaw ≡ other)
   found r other last begins_other = found_by h.behind h.whole h.legal h.stands where
     h : Behind settings.receivers commands (commands_of course.played) bytes (course.ahead ++ r.left)
     h = cut_behind r
 
-    found_by : (behind : List Command) → commands ≡ commands_of course.played ++ behind → AllByRecursion (IsLegal settings.receivers) behind → course.ahead ++ r.left ≡ script_text behind ++ bytes → (commands ≡ commands_of course.played) × (next ≡ other)
+    found_by : (behind : List Command) → commands ≡ commands_of course.played ++ behind → AllByRecursion (IsLegal settings.receivers) behind → course.ahead ++ r.left ≡ script_text behind ++ bytes → (commands ≡ commands_of course.played) × (Faulty flaw ≡ other)
     found_by [] whole legal stands = (
       whole ∙ append-nil (commands_of course.played),
-      one_next settings.receivers bytes next other (Left []) (Left []) cut.begins (subst (λ bs. Begins settings.receivers other bs (Left [])) stands begins_other),
+      one_next settings.receivers bytes (Faulty flaw) other (Left []) (Left []) cut.begins (subst (λ bs. Begins settings.receivers other bs (Left [])) stands begins_other),
     )
     found_by (c ∷ behind) whole legal stands =
         let there = subst (λ bs. Begins settings.receivers other bs (Left [])) stands begins_other in
@@ -219,17 +213,18 @@ module _ (settings : Settings) (old new : Seen) (commands : List Command) (next 
   no_end_there rest word =
       let r = reached_cut in
       let end = found r Ending tt (rest ++ r.left, sym (end_stands settings old new commands bytes cut.steady course theorem r rest word)) in
-      subst IsStop end.1 stop
+      subst IsStop end.1 tt
 
-  ends_stop : (other : Next) (at : ℕ) → IsLast other → StopsFor settings other at course new → stop_end other at ≡ stop_end next (min (length (script_text commands)) last_count)
-  ends_stop other at last ends =
+  ends_stop : (other : ScriptFlaw) (at : ℕ) → StopsFor settings (Faulty other) at course new → Faulted at other ≡ Faulted (min (length (script_text commands)) last_count) flaw
+  ends_stop other at ends =
       let r = reached_cut in
-      let same = found r other last (stop_stands settings old new commands bytes cut.steady course theorem r other at ends) in
-      ap (λ (n : Next). stop_end n at) (sym same.1) ∙ ap (stop_end next) (ends.place ∙ ap (λ cs. min (length (script_text cs)) last_count) (sym same.0))
+      let same = found r (Faulty other) tt (stop_stands settings old new commands bytes cut.steady course theorem r (Faulty other) at ends) in
+      let same_flaw : flaw ≡ other = (let both : Faulty flaw ≡ Faulty other = same.1 in cc) in
+      ap (λ f. Faulted at f) (sym same_flaw) ∙ ap (λ n. Faulted n flaw) (ends.place ∙ ap (λ cs. min (length (script_text cs)) last_count) (sym same.0))
 
-  ends_cut : (end : End) → EndsAs settings end course old new → end ≡ stop_end next (min (length (script_text commands)) last_count)
+  ends_cut : (end : End) → EndsAs settings end course old new → end ≡ Faulted (min (length (script_text commands)) last_count) flaw
   ends_cut (Complete totals) ends = absurd (no_end_there ends.read.1.0 ends.read.1.1)
-  ends_cut (Faulted at flaw) ends = ends_stop (Faulty flaw) at tt ends.read
+  ends_cut (Faulted at other) ends = ends_stop other at ends.read
   ends_cut ReadFailed ends = absurd (no_read_failed settings old new commands bytes cut.steady course theorem ends)
   ends_cut WriteFailed ends = elim ends.output.writing [
     | inl totals ↦ absurd (no_end_there totals.ends.0 totals.ends.1)
@@ -239,8 +234,8 @@ module _ (settings : Settings) (old new : Seen) (commands : List Command) (next 
       let h = cut_behind reached_cut in
       absurd (omega (arith, cut.few, ends.read.1, ap length h.whole, length-append (commands_of course.played) h.behind, length-map course.played (λ (p : Played). p.command)))
 
-pub replay_stops : (settings : Settings) (old new : Seen) (commands : List Command) (next : Next) (bytes : List ℕ) (end : End) → IsStop next → IsCutOff settings old new commands next bytes → Replayed settings end old new → end ≡ stop_end next (min (length (script_text commands)) last_count)
-replay_stops settings old new commands next bytes end stop cut h = ends_cut settings old new commands next bytes stop cut h.course h.theorem end h.ends
+pub replay_stops : (settings : Settings) (old new : Seen) (commands : List Command) (flaw : ScriptFlaw) (bytes : List ℕ) (end : End) → IsCutOff settings old new commands flaw bytes → Replayed settings end old new → end ≡ Faulted (min (length (script_text commands)) last_count) flaw
+replay_stops settings old new commands flaw bytes end cut h = ends_cut settings old new commands flaw bytes cut h.course h.theorem end h.ends
 
 -- of a script of as many records as there may be
 module _ (settings : Settings) (old new : Seen) (commands : List Command) (bytes : List ℕ) (longest : IsLongest settings old new commands bytes) (course : Course) (theorem : AccountingTheorem settings course old new) where

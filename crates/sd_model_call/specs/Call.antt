@@ -120,19 +120,27 @@ AnswersReplay name script (NotRead OfConsole) a old new = ⊥
 AnswersReplay name script NotWritten a old new = Ran WriteFailed name script a old new
 AnswersReplay name script (Worn turns) a old new = Ran (WornOut turns) name script a old new
 
+-- how the replay of a drill of n packets ends where its totals are written
+abbrev pub drill_end : ℕ → End
+drill_end n = Complete (totals_after drill_settings (drilled n))
+
 -- All records of the made script of n packets were carried out by the settings of an empty file, none with a fault, over
--- objects of the program's own and this output; and Graphite's bytes were counted.
+-- objects of the program's own and this output; Graphite's bytes were counted; and the replay ended so: its totals were
+-- written, or a write of them failed.
 pub record Drilled (n : ℕ) (a : Account) (output : Object) : Type 0 where
   pub force : a.force ≡ drill_settings
   pub since : a.start ≡ drill_start n output
   pub played : a.course.played ≡ drilled n
   pub counted : a.end.graphite.told ≡ Number (bytes_counted drill_settings (drilled n))
+  pub end : End
+  pub ends : EndsAs a.force end a.course a.start a.end
+  pub told : (end ≡ drill_end n) ⊎ (end ≡ WriteFailed)
 
--- nothing but the output was used
+-- nothing that is seen of any other object changed
 abbrev pub OnlyOutput : World → World → Type 0
 OnlyOutput old new = new ≡ record old { seen = record old.seen { output = new.seen.output } }
 
--- a drill was carried out, and nothing but the output was used
+-- a drill was carried out, and of the world's objects the output alone was changed
 pub record RanDrill (n : ℕ) (a : Account) (old new : World) : Type 0 where
   pub drilled : Drilled n a old.seen.output
   pub only : OnlyOutput old new
@@ -140,7 +148,7 @@ pub record RanDrill (n : ℕ) (a : Account) (old new : World) : Type 0 where
 -- Why the program answers so where it is asked for a drill of n packets, and what was done by then: a drill has no fault but
 -- that of the output, which was given a front of the drill's text, and not all of it.
 abbrev pub AnswersDrill : ℕ → Answer → Account → World → World → Type 0
-AnswersDrill n Done a old new = RanDrill n a old new × (new.seen.output ≡ given (drill_text n) old.seen.output)
+AnswersDrill n Done a old new = (ran : RanDrill n a old new) × (ran.drilled.end ≡ drill_end n) × (new.seen.output ≡ given (drill_text n) old.seen.output)
 AnswersDrill n NoMemory a old new = (new ≡ old) × NotBegun a old new
 AnswersDrill n NoForm a old new = ⊥
 AnswersDrill n (Misset flaw) a old new = ⊥

@@ -5,7 +5,7 @@ use Rattle.sd_model_outside.specs.Outside.{Left, Rose, given}
 use Rattle.sd_model_replay.specs.Settings.{Settings}
 use Rattle.sd_model_replay.specs.Backends.{Backend, AfterDeliveries, is_used}
 use Rattle.sd_model_replay.specs.Script.{Command, Packet, Flush, Admin, end_word, script_text, IsLegal}
-use Rattle.sd_model_replay.specs.Next.{Next, Begins}
+use Rattle.sd_model_replay.specs.Next.{ScriptFlaw, Faulty, Begins}
 use Rattle.sd_model_replay.specs.Repeater.{AfterSendings, wire_at}
 use Rattle.sd_model_replay.specs.Replay.{deliveries, sendings}
 use Rattle.sd_model_replay.specs.Output.{output_of}
@@ -42,12 +42,12 @@ IsSilent (Admin moment line) = ⊥
 abbrev pub IsHeard : Seen → Seen → List Command → Type 0
 IsHeard old new commands = Rose old.output.faults new.output.faults → AllByRecursion IsSilent commands
 
--- fewer records than there may be, whose replies nothing hinders, and behind them this stands next in all that the script
--- has left: a flaw
-pub record IsCutOff (settings : Settings) (old new : Seen) (commands : List Command) (next : Next) (bytes : List ℕ) : Type 0 where
+-- fewer records than there may be, whose replies nothing hinders, and behind them this flaw stands next in all that the script
+-- has left
+pub record IsCutOff (settings : Settings) (old new : Seen) (commands : List Command) (flaw : ScriptFlaw) (bytes : List ℕ) : Type 0 where
   pub steady : IsSteady settings old new commands bytes
   pub few : length commands < most_records
-  pub begins : Begins settings.receivers next bytes (Left [])
+  pub begins : Begins settings.receivers (Faulty flaw) bytes (Left [])
   pub heard : IsHeard old new commands
 
 -- as many records as there may be, whose replies nothing hinders

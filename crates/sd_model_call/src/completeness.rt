@@ -7,7 +7,7 @@ ghost use Rattle.sd_model_replay.specs.Script.{Command, script_text};
 ghost use Rattle.sd_model_replay.specs.Totals.{Totals};
 ghost use Rattle.sd_model_replay.specs.Repeater.{wire_at};
 ghost use Rattle.sd_model_replay.specs.AccountingTheorem.{Seen};
-ghost use Rattle.sd_model_replay.specs.Next.{Faulty, ScriptFlaw};
+ghost use Rattle.sd_model_replay.specs.Next.{ScriptFlaw};
 ghost use Rattle.sd_model_replay.specs.Ends.{Complete, End, Faulted, Replayed, WornOut, most_records};
 ghost use Rattle.sd_model_call.specs.Opening.{World, started};
 ghost use Rattle.sd_model_call.specs.Words.{Drill, form};
@@ -22,7 +22,7 @@ pub fn unhindered_replays_complete()
     ensures complete { (settings : Settings) (old new : Seen) (commands : List Command) (rest : List ℕ) (end : End)
         → IsUnhindered settings old new commands rest → Replayed settings end old new → (totals : Totals) × (end ≡ Complete totals) }
     ensures cut_off { (settings : Settings) (old new : Seen) (commands : List Command) (flaw : ScriptFlaw) (bytes : List ℕ) (end : End)
-        → IsCutOff settings old new commands (Faulty flaw) bytes → Replayed settings end old new
+        → IsCutOff settings old new commands flaw bytes → Replayed settings end old new
         → end ≡ Faulted (min (length (script_text commands)) last_count) flaw }
     ensures longest { (settings : Settings) (old new : Seen) (commands : List Command) (bytes : List ℕ) (end : End)
         → IsLongest settings old new commands bytes → Replayed settings end old new → end ≡ WornOut most_records }
@@ -44,7 +44,7 @@ pub fn unhindered_calls_complete()
         → IsUnhindered (goes_by values) old.seen new.seen commands rest → NoneMissed (goes_by values) old.seen new.seen
         → Accounts words old new Done → CarriedOutWell (goes_by values) (started (goes_by values) plainly.asks.script old.seen) new.seen commands }
     ensures cut_off { (words : List (List ℕ)) (values : file.Settings) (old new : World) (commands : List Command) (flaw : ScriptFlaw) (bytes : List ℕ) (answer : Answer)
-        → AsksPlainly words values old new → IsCutOff (goes_by values) old.seen new.seen commands (Faulty flaw) bytes
+        → AsksPlainly words values old new → IsCutOff (goes_by values) old.seen new.seen commands flaw bytes
         → Accounts words old new answer → IsFull (BadScript (min (length (script_text commands)) last_count) flaw) answer }
     ensures longest { (words : List (List ℕ)) (values : file.Settings) (old new : World) (commands : List Command) (bytes : List ℕ) (answer : Answer)
         → AsksPlainly words values old new → IsLongest (goes_by values) old.seen new.seen commands bytes
@@ -63,8 +63,8 @@ pub fn blocked_calls_stop()
         → Accounts words old new answer → IsWhole refused answer }
 {}
 
-/// A drill whose output counts no fault writes its text, unless memory is lacking; and whatever it answers, it uses nothing
-/// but the output.
+/// A drill whose output counts no fault writes its text, unless memory is lacking; and whatever it answers, nothing that is
+/// seen of any object but the output changed.
 pub fn drills_complete()
     ensures answer { (words : List (List ℕ)) (n : ℕ) (old new : World) (answer : Answer)
         → form words ≡ Some (Drill n) → ¬ Rose old.seen.output.faults new.seen.output.faults → Accounts words old new answer → IsWhole Done answer }

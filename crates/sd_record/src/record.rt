@@ -70,7 +70,20 @@ impl<'a> Record<'a> {
         ensures room { room_of self.new ≡ room_of self.old }
         ensures same_scratch { SameScratch self.new self.old }
     {
-        self.scratch.row(i, self.tables, self.plan)
+        let mut row = Row::new();
+        self.put_row(i, &mut row);
+        row
+    }
+
+    /// Puts the i-th row into `row`, in place of what it has.
+    pub fn put_row(&mut self, i: usize, row: &mut Row)
+        requires { i < length (record_view self.old).rows }
+        ensures row { slice_get (record_view self.old).rows i ≡ Some (row_view row.new) }
+        ensures record { record_view self.new ≡ record_view self.old }
+        ensures room { room_of self.new ≡ room_of self.old }
+        ensures same_scratch { SameScratch self.new self.old }
+    {
+        self.scratch.put_row(i, self.tables, self.plan, row);
     }
 
     /// The Unix second of the flush.

@@ -1,3 +1,7 @@
+ghost use Rattle.std.specs.Prelude.{◌≡◌, []};
+ghost use Rattle.sd_model_record.specs.Record.{SetRow};
+ghost use Rattle.sd_record.specs.Row.{row_view};
+
 use arrayvec::ArrayVec;
 use sd_decimal::{Limit, Micro, Sum};
 use sd_key::Key;
@@ -38,4 +42,16 @@ pub enum Row {
     Gauge { key: Key, value: Micro },
     /// A set: how many of its members differ.
     Set { key: Key, count: u64 },
+}
+
+impl Row {
+    /// A row to put others into: a set with no name and no members.
+    pub fn new() -> Row
+        ensures { row_view result ≡ SetRow [] 0 }
+    {
+        Row::Set {
+            key: Key::of(b"").unwrap(),
+            count: 0,
+        }
+    }
 }

@@ -11,7 +11,7 @@ ghost use Rattle.sd_record.specs.Rows.{all_rows, with_id};
 
 use crate::placed::{PlacedRow, place_all};
 use crate::row::Row;
-use crate::values::row_of;
+use crate::values::put_row;
 use sd_config::Reckoning;
 use sd_epoch::{Limits, Scratch, Table};
 use std::alloc::{AllocError, Global};
@@ -72,15 +72,21 @@ impl RecordScratch {
         self.rows.len()
     }
 
-    /// The i-th row, as a record has it.
-    pub(crate) fn row(&mut self, i: usize, tables: &[Table], plan: &Reckoning) -> Row
+    /// Puts the i-th row, as a record has it, into `row`, in place of what it has.
+    pub(crate) fn put_row(&mut self, i: usize, tables: &[Table], plan: &Reckoning, row: &mut Row)
         requires row { i < length self.old.placed }
         requires placed { All (IsPlaced tables.now) self.old.placed }
         requires room { All (λ t. length t.held ≤ self.old.room.entries) tables.now }
-        ensures row { slice_get (map (value_at (plan_view plan.now) tables.now) self.old.placed) i ≡ Some (row_view result) }
+        ensures row { slice_get (map (value_at (plan_view plan.now) tables.now) self.old.placed) i ≡ Some (row_view row.new) }
         ensures same { self.new ≡ self.old }
     {
         let place = self.rows[i].place;
-        row_of(&tables[place.table], place.row, plan, &mut self.gathered)
+        put_row(
+            &tables[place.table],
+            place.row,
+            plan,
+            &mut self.gathered,
+            row,
+        );
     }
 }

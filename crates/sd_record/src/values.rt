@@ -1,7 +1,7 @@
-ghost use Rattle.std.specs.Prelude.{◌≡◌, ◌*◌, ◌^◌, ◌<◌, ◌≤◌, length, unsigned_abs, slice_get, IfSome};
+ghost use Rattle.std.specs.Prelude.{◌≡◌, ◌<◌, ◌≤◌, length, slice_get, IfSome};
 ghost use Rattle.sd_model_text.specs.Names.{Counter, Timer};
 ghost use Rattle.sd_model_record.specs.Record.{row_value, row_of_kind, GaugeRow, SetRow};
-ghost use Rattle.sd_model_shard.specs.Statistics.{weight_of, gauge_value, members_of};
+ghost use Rattle.sd_model_shard.specs.Statistics.{gauge_value, members_of};
 ghost use Rattle.sd_model_shard.specs.Values.{distinct};
 ghost use Rattle.sd_config.specs.Plan.{plan_view};
 ghost use Rattle.sd_record.specs.Row.{row_view};
@@ -9,23 +9,27 @@ ghost use Rattle.sd_record.specs.Row.{row_view};
 use crate::row::Row;
 use crate::timers::timer_of;
 use sd_config::Reckoning;
-use sd_decimal::{Sum, per_second};
-use sd_epoch::{RowFacts, Scratch, Table};
+use sd_decimal::per_second;
+use sd_epoch::{Scratch, Table};
 use sd_key::{Key, Kind};
 use sd_stats::distinct;
 
-/// The row of a record for the i-th row of a table. The room is for the values and members of its samples.
-pub(crate) fn row_of(table: &Table, i: u32, plan: &Reckoning, room: &mut Scratch) -> Row
+/// Puts the row of a record for the i-th row of a table into `row`, in place of what it has. The room is for the values
+/// and members of its samples.
+///
+/// Of a row that stays a counter, a gauge or a set the fields alone are written. To make one anew writes as many bytes
+/// as a timer has.
+pub(crate) fn put_row(table: &Table, i: u32, plan: &Reckoning, room: &mut Scratch, row: &mut Row)
     requires place { i < length table.now.listed }
     requires room { length table.now.held ≤ room.old.room }
-    ensures row { IfSome (slice_get table.now.listed i) (λ e. row_view result ≡ row_value (plan_view plan.now) table.now.held e.0 e.1) }
+    ensures row { IfSome (slice_get table.now.listed i) (λ e. row_view row.new ≡ row_value (plan_view plan.now) table.now.held e.0 e.1) }
     ensures room { room.new.room ≡ room.old.room }
 {
     match table.get(i).kind {
-        Kind::Counter => counter(table, i, plan),
-        Kind::Timer => timer(table, i, plan, room),
-        Kind::Gauge => gauge(table, i),
-        Kind::Set => set(table, i, room),
+        Kind::Counter => put_counter(table, i, plan, row),
+        Kind::Timer => put_timer(table, i, plan, room, row),
+        Kind::Gauge => put_gauge(table, i, row),
+        Kind::Set => put_set(table, i, room, row),
     }
 }
 
@@ -37,72 +41,76 @@ fn key_of(table: &Table, i: u32) -> Key
     table.get(i).key.clone().unwrap()
 }
 
-/// What the samples of the i-th row of a table weigh together.
-fn weight_of(table: &Table, i: u32) -> Sum
+/// Puts the i-th row of a table into `row` as a counter.
+fn put_counter(table: &Table, i: u32, plan: &Reckoning, row: &mut Row)
     requires { i < length table.now.listed }
-    ensures value { IfSome (slice_get table.now.listed i) (λ e. result.0 ≡ weight_of e.0 table.now.held) }
-    ensures bound { unsigned_abs result.0 ≤ 2 ^ 20 * 10 ^ 24 }
+    ensures { IfSome (slice_get table.now.listed i) (λ e. row_view row.new ≡ row_of_kind Counter (plan_view plan.now) table.now.held e.0 e.1) }
 {
-    let RowFacts {
-        kind: _,
-        key: _,
-        base: _,
-        swaps: _,
-        samples: _,
-        weight,
-    } = table.row(i);
-    weight
-}
-
-/// The i-th row of a table as a counter.
-fn counter(table: &Table, i: u32, plan: &Reckoning) -> Row
-    requires { i < length table.now.listed }
-    ensures { IfSome (slice_get table.now.listed i) (λ e. row_view result ≡ row_of_kind Counter (plan_view plan.now) table.now.held e.0 e.1) }
-{
-    let weight = weight_of(table, i);
-    Row::Counter {
-        key: key_of(table, i),
-        count: weight,
-        rate: per_second(weight, plan.interval_ms),
+    let facts = table.row(i);
+    let per_second = per_second(facts.weight, plan.interval_ms);
+    if let Row::Counter { key, count, rate } = row {
+        *key = facts.key;
+        *count = facts.weight;
+        *rate = per_second;
+    } else {
+        *row = Row::Counter {
+            key: facts.key,
+            count: facts.weight,
+            rate: per_second,
+        };
     }
 }
 
-/// The i-th row of a table as a timer.
-fn timer(table: &Table, i: u32, plan: &Reckoning, room: &mut Scratch) -> Row
+/// Puts the i-th row of a table into `row` as a timer.
+fn put_timer(table: &Table, i: u32, plan: &Reckoning, room: &mut Scratch, row: &mut Row)
     requires place { i < length table.now.listed }
     requires kind { IfSome (slice_get table.now.listed i) (λ e. e.0.kind ≡ Timer) }
     requires room { length table.now.held ≤ room.old.room }
-    ensures row { IfSome (slice_get table.now.listed i) (λ e. row_view result ≡ row_of_kind Timer (plan_view plan.now) table.now.held e.0 e.1) }
+    ensures row { IfSome (slice_get table.now.listed i) (λ e. row_view row.new ≡ row_of_kind Timer (plan_view plan.now) table.now.held e.0 e.1) }
     ensures room { room.new.room ≡ room.old.room }
 {
-    let key = key_of(table, i);
-    let weight = weight_of(table, i);
+    let facts = table.row(i);
     table.values_of(i, room);
-    let timer = timer_of(&key, weight, room.values(), plan);
-    Row::Timer { key, timer }
+    let timer = timer_of(&facts.key, facts.weight, room.values(), plan);
+    *row = Row::Timer {
+        key: facts.key,
+        timer,
+    };
 }
 
-/// The i-th row of a table as a gauge.
-fn gauge(table: &Table, i: u32) -> Row
+/// Puts the i-th row of a table into `row` as a gauge.
+fn put_gauge(table: &Table, i: u32, row: &mut Row)
     requires { i < length table.now.listed }
-    ensures { IfSome (slice_get table.now.listed i) (λ e. row_view result ≡ GaugeRow e.0.key (gauge_value e.0 e.1.base table.now.held)) }
+    ensures { IfSome (slice_get table.now.listed i) (λ e. row_view row.new ≡ GaugeRow e.0.key (gauge_value e.0 e.1.base table.now.held)) }
 {
-    Row::Gauge {
-        key: key_of(table, i),
-        value: table.gauge_of(i),
+    let gauge = table.gauge_of(i);
+    if let Row::Gauge { key, value } = row {
+        *key = key_of(table, i);
+        *value = gauge;
+    } else {
+        *row = Row::Gauge {
+            key: key_of(table, i),
+            value: gauge,
+        };
     }
 }
 
-/// The i-th row of a table as a set.
-fn set(table: &Table, i: u32, room: &mut Scratch) -> Row
+/// Puts the i-th row of a table into `row` as a set.
+fn put_set(table: &Table, i: u32, room: &mut Scratch, row: &mut Row)
     requires place { i < length table.now.listed }
     requires room { length table.now.held ≤ room.old.room }
-    ensures row { IfSome (slice_get table.now.listed i) (λ e. row_view result ≡ SetRow e.0.key (distinct (members_of e.0 table.now.held))) }
+    ensures row { IfSome (slice_get table.now.listed i) (λ e. row_view row.new ≡ SetRow e.0.key (distinct (members_of e.0 table.now.held))) }
     ensures room { room.new.room ≡ room.old.room }
 {
     table.members_of(i, room);
-    Row::Set {
-        key: key_of(table, i),
-        count: distinct(room.members()),
+    let members = distinct(room.members());
+    if let Row::Set { key, count } = row {
+        *key = key_of(table, i);
+        *count = members;
+    } else {
+        *row = Row::Set {
+            key: key_of(table, i),
+            count: members,
+        };
     }
 }

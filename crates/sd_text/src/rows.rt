@@ -76,9 +76,11 @@ pub fn write_rows<T: RowText, K: Sink>(
     ensures room { room_of rec.new ≡ room_of rec.old }
     ensures same_scratch { SameScratch rec.new rec.old }
 {
+    let mut row = Row::new();
     let mut line = Line::new();
     for i in 0..rec.rows() {
-        write_row_through(form, &rec.row(i), &mut line, sink)?;
+        rec.put_row(i, &mut row);
+        write_row_through(form, &row, &mut line, sink)?;
     }
     Ok(())
 }

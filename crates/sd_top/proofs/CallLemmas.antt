@@ -13,9 +13,9 @@ use Rattle.sd_model_replay.proofs.AccountingLemmas.{are_accounted, are_documente
 use Rattle.sd_model_call.specs.Drill.{drill_text}
 use Rattle.sd_model_call.specs.Words.{Form, Replay, Drill, form}
 use Rattle.sd_model_call.specs.Opening.{Part, OfSettings, OfScript, OfWire, OfGraphite, OfConsole, World, Opening, IsAccepted, IsOpened, IsUntouched, OnlySettings, UnusedStay, flags_of, openings, part_in, started}
-use Rattle.sd_model_call.specs.Call.{Account, Answer, Done, NoForm, NoMemory, NotOpened, NotWritten, Answers, AnswersReplay, Accounts, NotBegun, Ran, StopsAt, TakesSettings, ending}
+use Rattle.sd_model_call.specs.Call.{Account, Answer, Done, drill_end, NoForm, NoMemory, NotOpened, NotWritten, Answers, AnswersReplay, Accounts, NotBegun, Ran, StopsAt, TakesSettings, ending}
 use Rattle.sd_model_call.proofs.Openings.{IsNamed, all_behind, all_named}
-use Rattle.sd_top.specs.Causes.{HasDrilled, IsDrill, IsNotTaken, IsNotStarted, IsReplay, Stops}
+use Rattle.sd_top.specs.Causes.{IsDrill, IsNotTaken, IsNotStarted, IsReplay, Stops}
 
 -- no record and no byte
 abbrev nothing : Course
@@ -83,9 +83,9 @@ by_drill words n old output answer asked (inr h) =
       theorem = h.theorem;
       answers = subst (λ (f : Option Form). Answers f answer h.account old new) (sym asked) (by_output h.output);
     } where
-      by_output : (answer ≡ Done) × (output ≡ given (drill_text n) old.seen.output) ⊎ (answer ≡ NotWritten) × HasFailedBehind (drill_text n) old.seen.output output
+      by_output : (answer ≡ Done) × (h.drilled.end ≡ drill_end n) × (output ≡ given (drill_text n) old.seen.output) ⊎ (answer ≡ NotWritten) × HasFailedBehind (drill_text n) old.seen.output output
           → Answers (Some (Drill n)) answer h.account old (record old { seen = record old.seen { output = output } })
-      by_output (inl (is, written)) = subst (λ (a : Answer). Answers (Some (Drill n)) a h.account old (record old { seen = record old.seen { output = output } })) (sym is) (record { drilled = h.drilled; only = refl }, written)
+      by_output (inl (is, complete, written)) = subst (λ (a : Answer). Answers (Some (Drill n)) a h.account old (record old { seen = record old.seen { output = output } })) (sym is) (record { drilled = h.drilled; only = refl }, complete, written)
       by_output (inr (is, failed)) = subst (λ (a : Answer). Answers (Some (Drill n)) a h.account old (record old { seen = record old.seen { output = output } })) (sym is) (record { drilled = h.drilled; only = refl }, failed)
 
 -- what is seen of a part, but for the settings, is seen of it in a world that differs in these and in the flags

@@ -5,20 +5,20 @@ use Rattle.sd_model_outside.proofs.WriteLemmas.{behind-later, behind-longer, giv
 use Rattle.sd_model_settings.specs.Settings as file
 use Rattle.sd_model_settings.specs.Defaults.{default_settings}
 use Rattle.sd_model_settings.proofs.OnLiterals.{settings_on_literals}
-use Rattle.sd_model_replay.specs.Settings.{Settings, goes_by}
+use Rattle.sd_model_replay.specs.Settings.{goes_by}
 use Rattle.sd_model_replay.specs.Totals.{Totals, total_line}
 use Rattle.sd_model_replay.specs.AccountingTheorem.{Seen}
 use Rattle.sd_model_replay.specs.Ends.{End, Complete, WriteFailed, Replayed}
 use Rattle.sd_model_call.specs.Words.{most_packets}
 use Rattle.sd_model_call.specs.Drill.{bytes_counted, drill_settings, drill_start, drill_text, drilled}
-use Rattle.sd_model_call.specs.Call.{Account, Answer, Done, Drilled, NotWritten, ending}
+use Rattle.sd_model_call.specs.Call.{Account, Answer, Done, Drilled, drill_end, NotWritten, ending}
 use Rattle.sd_model_call.proofs.DrillEnds.{DrillEnd, drill_ends, drill_totals}
 use Rattle.sd_replay.specs.Ends.{end_of}
 use Rattle.sd_replay.specs.declared.fault.ScriptFault.TheVariants.{Word, Length, Truncated}
 use Rattle.sd_replay.specs.declared.run.ReplayEnd.{ReplayEnd}
 use Rattle.sd_replay.specs.declared.run.ReplayEnd.TheVariants as code
 use Rattle.sd_replay.specs.declared.totals.Totals.{Totals as CodeTotals}
-use Rattle.sd_top.specs.Causes.{HasDrilled, IsDrill}
+use Rattle.sd_top.specs.Causes.{IsDrill}
 
 -- the settings of an empty file
 empty_file : file.settings [] ≡ Ok default_settings
@@ -51,9 +51,22 @@ module _ (n : ℕ) (few : n ≤ most_packets) (values : file.Settings) (is : val
   ended = drill_ends n few output end script_faults graphite_faults ran.course ran.theorem e ran.ends
 
   all_drilled : Drilled n account output
-  all_drilled = record { force = refl; since = refl; played = ended.played; counted = ended.counted }
+  all_drilled =
+      record {
+        force = refl;
+        since = refl;
+        played = ended.played;
+        counted = ended.counted;
+        end = e;
+        ends = ran.ends;
+        told = elim ended.ends [
+          | inl complete ↦ inl complete.0
+          | inr failed ↦ inr failed.0
+        ];
+      }
 
-  has_drilled : (answer : Answer) (new : Object) → (answer ≡ Done) × (new ≡ given (drill_text n) output) ⊎ (answer ≡ NotWritten) × HasFailedBehind (drill_text n) output new → IsDrill n answer output new
+  has_drilled : (answer : Answer) (new : Object) → (answer ≡ Done) × (e ≡ drill_end n) × (new ≡ given (drill_text n) output) ⊎ (answer ≡ NotWritten) × HasFailedBehind (drill_text n) output new → IsDrill n answer output new
+  unfolding all_drilled
   has_drilled answer new wrote = inr (record { account = account; theorem = ran.theorem; drilled = all_drilled; output = wrote })
 
   -- a replay that isn't complete failed to write the totals
@@ -68,9 +81,9 @@ module _ (n : ℕ) (few : n ≤ most_packets) (values : file.Settings) (is : val
     abbrev bytes_line : List ℕ
     bytes_line = total_line (codes "bytes") count
 
-    totals_written : end.output ≡ given (drill_totals n) output
+    totals_written : (e ≡ drill_end n) × (end.output ≡ given (drill_totals n) output)
     totals_written = elim ended.ends [
-      | inl h ↦ h.1
+      | inl h ↦ h
       | inr failed ↦ let both : Complete totals ≡ WriteFailed = sym complete ∙ failed.0 in absurd (cc)
     ]
 
@@ -79,8 +92,8 @@ module _ (n : ℕ) (few : n ≤ most_packets) (values : file.Settings) (is : val
         let same : count ≡ bytes_counted drill_settings (drilled n) = cc in ap (λ m. drill_totals n ++ total_line (codes "bytes") m) same
 
     pub by_bytes : (new : Object) → new ≡ given bytes_line end.output → IsDrill n Done output new
-    by_bytes new written = has_drilled Done new (inl (refl, written ∙ ap (given bytes_line) totals_written ∙ given-given (drill_totals n) bytes_line output ∙ ap (λ t. given t output) text))
+    by_bytes new written = has_drilled Done new (inl (refl, totals_written.0, written ∙ ap (given bytes_line) totals_written.1 ∙ given-given (drill_totals n) bytes_line output ∙ ap (λ t. given t output) text))
 
     pub by_bytes_failed : (new : Object) → HasFailedBehind bytes_line end.output new → IsDrill n NotWritten output new
     by_bytes_failed new failed =
-        has_drilled NotWritten new (inr (refl, subst (λ t. HasFailedBehind t output new) text (behind-later (drill_totals n) bytes_line output end.output new totals_written failed)))
+        has_drilled NotWritten new (inr (refl, subst (λ t. HasFailedBehind t output new) text (behind-later (drill_totals n) bytes_line output end.output new totals_written.1 failed)))

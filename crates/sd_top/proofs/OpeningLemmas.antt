@@ -1,16 +1,16 @@
 -- The parts of a replay, of which one wasn't opened.
-use Rattle.std.proofs.Common.{◌≡◌, ◌⊎◌, ℕ, zero, suc, ◌+◌, ◌≤◌, Bool, true, false, List, [], ◌∷◌, ◌++◌, length, take, drop, inl, inr, refl, sym, ap, subst, ◌∙◌, append-nil, arith}
+use Rattle.std.proofs.Common.{◌≡◌, ◌⊎◌, ℕ, suc, ◌+◌, ◌≤◌, Bool, true, false, List, [], ◌∷◌, ◌++◌, length, take, drop, inl, inr, refl, sym, ap, subst, ◌∙◌, append-nil, arith}
 use Rattle.std.specs.List.{AllByRecursion}
 use Rattle.std.proofs.lemmas.List.{take-append-le}
 use Rattle.std.proofs.Math.Seq.{take-length}
-use Rattle.sd_model_outside.specs.Outside.{Object, File, HasFailed, opened}
+use Rattle.sd_model_outside.specs.Outside.{Object, File, opened}
 use Rattle.sd_model_settings.specs.Entries.{Target}
 use Rattle.sd_model_replay.specs.Settings.{Settings}
 use Rattle.sd_model_replay.specs.Backends.{Backend, Graphite, Console, is_used}
 use Rattle.sd_model_replay.specs.Repeater.{wire_at}
-use Rattle.sd_model_replay.specs.AccountingTheorem.{Seen, seen_at}
-use Rattle.sd_model_call.specs.Opening.{World, Opening, Part, OfScript, OfWire, OfGraphite, OfConsole, IsOpened, IsUntouched, UnusedStay, backend_openings, openings, opened_where, opened_wires, part_in, target_place, wire_openings}
-use Rattle.sd_model_call.specs.Call.{Answer, NoMemory, NotOpened}
+use Rattle.sd_model_replay.specs.AccountingTheorem.{seen_at}
+use Rattle.sd_model_call.specs.Opening.{World, Opening, Part, OfScript, OfWire, OfGraphite, OfConsole, IsOpened, IsUntouched, UnusedStay, backend_openings, opened_where, opened_wires, part_in, target_place, wire_openings}
+use Rattle.sd_model_call.specs.Call.{Answer}
 use Rattle.sd_model_call.proofs.Openings.{all_append}
 use Rattle.sd_top.specs.Causes.{IsNotOpened, IsNotStarted, Stops, WiresStop}
 

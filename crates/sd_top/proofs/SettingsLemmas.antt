@@ -1,10 +1,10 @@
 -- What a settings file comes to, by the bytes that were read of it.
-use Rattle.std.proofs.Common.{◌≡◌, ◌⊎◌, ◌≤◌, ◌<◌, ℕ, List, Result, Err, length, inl, inr, refl}
+use Rattle.std.proofs.Common.{ℕ, List, inl, inr, refl}
 use Rattle.sd_model_outside.specs.Outside.{Object, Place}
 use Rattle.sd_model_settings.specs.Settings as file
 use Rattle.sd_model_settings.specs.Settings.{SettingsFlaw, settings}
 use Rattle.sd_model_call.specs.Opening.{AreRead}
-use Rattle.sd_model_call.specs.Call.{Answer, NoMemory, Misset}
+use Rattle.sd_model_call.specs.Call.{Answer}
 use Rattle.sd_config.specs.Answers.{Fails}
 use Rattle.sd_config.specs.declared.fault.ConfigFault.{ConfigFault}
 use Rattle.sd_config.specs.declared.fault.ConfigFault.TheVariants.{OutOfMemory, NotToml, Unknown, WrongKind, OutOfRange}

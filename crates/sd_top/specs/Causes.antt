@@ -8,7 +8,7 @@ use Rattle.sd_model_replay.specs.Settings.{Settings}
 use Rattle.sd_model_call.specs.Opening.{Part, OfSettings, OfWire, World, Opening, IsFlawed, FailsBehind, IsLeftOff, IsOpened, IsUntouched, UnusedStay, longest_file, openings, part_in, target_place}
 use Rattle.sd_model_replay.specs.AccountingTheorem.{AccountingTheorem}
 use Rattle.sd_model_call.specs.Drill.{drill_text}
-use Rattle.sd_model_call.specs.Call.{Account, Answer, AnswersReplay, Done, Drilled, NoMemory, Misset, NotOpened, NotRead, NotWritten}
+use Rattle.sd_model_call.specs.Call.{Account, Answer, AnswersReplay, Done, Drilled, drill_end, NoMemory, Misset, NotOpened, NotRead, NotWritten}
 
 -- an object wasn't opened: no memory was left, or it failed
 abbrev pub IsNotOpened : Part → Answer → Object → Object → Type 0
@@ -67,7 +67,7 @@ pub record HasDrilled (n : ℕ) (answer : Answer) (old new : Object) : Type 0 wh
   pub account : Account
   pub theorem : AccountingTheorem account.force account.course account.start account.end
   pub drilled : Drilled n account old
-  pub output : (answer ≡ Done) × (new ≡ given (drill_text n) old) ⊎ (answer ≡ NotWritten) × HasFailedBehind (drill_text n) old new
+  pub output : (answer ≡ Done) × (drilled.end ≡ drill_end n) × (new ≡ given (drill_text n) old) ⊎ (answer ≡ NotWritten) × HasFailedBehind (drill_text n) old new
 
 -- a drill answered so: no memory was left for it, and the output is untouched; or it was carried out
 abbrev pub IsDrill : ℕ → Answer → Object → Object → Type 0

@@ -2,7 +2,7 @@ ghost use Rattle.std.specs.Prelude.{◌≡◌, ◌≤◌, length, map, string_by
 ghost use Rattle.sd_model_replay.specs.Settings.{goes_by};
 ghost use Rattle.sd_model_replay.specs.Ends.{Replayed};
 ghost use Rattle.sd_model_call.specs.Opening.{flags_of, started};
-ghost use Rattle.sd_model_call.specs.Call.{Accounts, ending};
+ghost use Rattle.sd_model_call.specs.Call.{Accounts};
 ghost use Rattle.sd_replay.specs.Ends.{end_of};
 ghost use Rattle.sd_top.specs.Answers.{answer_of};
 ghost use Rattle.sd_top.specs.Causes.{IsNotStarted, IsReplay};
@@ -11,7 +11,7 @@ ghost use Rattle.sd_top.specs.World.{world_of};
 use crate::drill::drill;
 use crate::opening::open_parts;
 use crate::settings::read_settings;
-use crate::status::{Part, Status};
+use crate::status::{Status, status_of};
 use crate::words::{Form, form_of};
 use sd_config::Settings;
 use sd_outside::{Address, Backend, Backs, Name, Sink, Source, Wire};
@@ -26,19 +26,6 @@ pub struct World<R, O, B, L> {
     pub output: O,
     pub backs: Backs<B>,
     pub wires: Vec<L>,
-}
-
-/// What the program answers where a replay ends so.
-pub(crate) fn status_of(end: ReplayEnd) -> Status
-    ensures { answer_of result ≡ ending (end_of end) }
-{
-    match end {
-        ReplayEnd::Ok(_) => Status::Ok,
-        ReplayEnd::Script(fault) => Status::Script(fault),
-        ReplayEnd::ReadFault => Status::ReadFault { part: Part::Script },
-        ReplayEnd::WriteFault => Status::WriteFault,
-        ReplayEnd::Worn { turns } => Status::Worn { turns },
-    }
 }
 
 /// Opens what a replay by these settings uses, and carries out the script.

@@ -3,8 +3,7 @@ ghost use Rattle.sd_drill.specs.declared.drill.TheConstants.{MOST_PACKETS};
 ghost use Rattle.sd_top.specs.Answers.{answer_of};
 ghost use Rattle.sd_top.specs.Causes.{IsDrill};
 
-use crate::call::status_of;
-use crate::status::Status;
+use crate::status::{Status, status_of};
 use sd_config::Settings;
 use sd_drill::{CountSink, Drill};
 use sd_outside::{Backs, MemWire, Sink, WriteFault};

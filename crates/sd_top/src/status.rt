@@ -1,10 +1,13 @@
 ghost use Rattle.std.specs.Prelude.{◌≡◌, ◌+◌, ◌≤◌, ◌++◌, length, decimal};
+ghost use Rattle.sd_model_call.specs.Call.{ending};
+ghost use Rattle.sd_replay.specs.Ends.{end_of};
+ghost use Rattle.sd_top.specs.Answers.{answer_of};
 ghost use Rattle.sd_top.specs.Status.{config_reason, explanation, reason, part_name, exit_code, script_reason};
 
 use sd_config::ConfigFault;
 use sd_decimal::{Line, write_whole};
 use sd_outside::Name;
-use sd_replay::ScriptFault;
+use sd_replay::{ReplayEnd, ScriptFault};
 
 /// How the program is called.
 const USAGE: &[u8] =
@@ -62,6 +65,19 @@ impl Status {
             Status::OpenFault { .. } => 7,
             Status::Worn { .. } => 8,
         }
+    }
+}
+
+/// What the program answers where a replay ends so.
+pub(crate) fn status_of(end: ReplayEnd) -> Status
+    ensures { answer_of result ≡ ending (end_of end) }
+{
+    match end {
+        ReplayEnd::Ok(_) => Status::Ok,
+        ReplayEnd::Script(fault) => Status::Script(fault),
+        ReplayEnd::ReadFault => Status::ReadFault { part: Part::Script },
+        ReplayEnd::WriteFault => Status::WriteFault,
+        ReplayEnd::Worn { turns } => Status::Worn { turns },
     }
 }
 

@@ -35,7 +35,7 @@ pub returns-clause-answer : goal.returns-clause-answer
 returns-clause-answer c words n old new answer is steady h = whole n old new answer h.account steady (asked words n old new answer is h)
 
 pub returns-clause-done : goal.returns-clause-done
-returns-clause-done c words n old new is h = (asked words n old new Done is h).1
+returns-clause-done c words n old new is h = (asked words n old new Done is h).2
 
 pub returns-clause-only : goal.returns-clause-only
 returns-clause-only c words n old new answer is h = output_only n old new answer h.account (asked words n old new answer is h)

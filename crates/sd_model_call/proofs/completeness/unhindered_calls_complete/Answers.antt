@@ -1,7 +1,6 @@
 -- By what the replay of such a call can end in.
 use Rattle.std.proofs.Common.{ap, subst, inl, inr}
 use Rattle.sd_model_replay.specs.Settings.{goes_by}
-use Rattle.sd_model_replay.specs.Next.{Faulty}
 use Rattle.sd_model_call.specs.Call.{Accounts, Answer, Done, ending}
 use Rattle.sd_model_call.proofs.ReplayEnds.{replay_completes, replay_stops, replay_wears_out, carries_out_well}
 use Rattle.sd_model_call.proofs.CallEnds.{unhindered_started, cut_started, longest_started, none_missed_started, full_answer, outward_opens, done_carries_out}
@@ -30,7 +29,7 @@ returns-clause-well c words values old new commands rest plainly free none h =
 
 pub returns-clause-cut_off : goal.returns-clause-cut_off
 returns-clause-cut_off c words values old new commands flaw bytes answer plainly cut h =
-    full_answer words values old new plainly _ (λ end r. ap ending (replay_stops _ _ _ _ (Faulty flaw) _ end tt (cut_started (goes_by values) plainly.asks.script old.seen new.seen commands (Faulty flaw) bytes cut) r)) cut.steady.script_faults answer h
+    full_answer words values old new plainly _ (λ end r. ap ending (replay_stops _ _ _ _ flaw _ end (cut_started (goes_by values) plainly.asks.script old.seen new.seen commands flaw bytes cut) r)) cut.steady.script_faults answer h
 
 pub returns-clause-longest : goal.returns-clause-longest
 returns-clause-longest c words values old new commands bytes answer plainly longest h =

@@ -13,7 +13,7 @@ returns-in_err-write_row_through-clause-failed g c =
     let r = record_view c.args.rec.now in
     let lines = g.T.RowText.lines_of c.args.form.now in
     let failed = err_from_is_err_and c.from_residual.result c.from_residual.ensures.1 in
-    let there = subst (λ (s : Record). slice_get s.rows c.loop-i.i ≡ Some (row_view c.row.result)) c.loop-i.invariant.same c.row.ensures.row in
+    let there = subst (λ (s : Record). slice_get s.rows c.loop-i.i ≡ Some (row_view c.put_row.new.row)) c.loop-i.invariant.same c.put_row.ensures.row in
     let more = rows_text-more lines r.rows c.loop-i.i _ there in
     let front = next_front _ _ _ (rows_text lines (take c.loop-i.i r.rows)) _ _ c.loop-i.invariant.written more c.in_err-write_row_through.ensures.failed in
     rw failed.1 (front_front _ _ _ _ _ (rows_text-split lines r.rows (c.loop-i.i + 1)) front)
@@ -22,11 +22,11 @@ pub loop-i-preserved : goal.loop-i-preserved
 loop-i-preserved g c =
     let r = record_view c.args.rec.now in
     let lines = g.T.RowText.lines_of c.args.form.now in
-    let there = subst (λ (s : Record). slice_get s.rows c.loop-i.i ≡ Some (row_view c.row.result)) c.loop-i.invariant.same c.row.ensures.row in
+    let there = subst (λ (s : Record). slice_get s.rows c.loop-i.i ≡ Some (row_view c.put_row.new.row)) c.loop-i.invariant.same c.put_row.ensures.row in
     record {
       written = next_part _ _ _ (rows_text lines (take c.loop-i.i r.rows)) _ _ c.loop-i.invariant.written (rows_text-more lines r.rows c.loop-i.i _ there) c.in_ok-write_row_through.ensures.ok;
       all = c.loop-i.invariant.all;
-      same = c.row.ensures.record ∙ c.loop-i.invariant.same;
-      room = c.row.ensures.room ∙ c.loop-i.invariant.room;
-      scratch = c.row.ensures.same_scratch ∙ c.loop-i.invariant.scratch;
+      same = c.put_row.ensures.record ∙ c.loop-i.invariant.same;
+      room = c.put_row.ensures.room ∙ c.loop-i.invariant.room;
+      scratch = c.put_row.ensures.same_scratch ∙ c.loop-i.invariant.scratch;
     }

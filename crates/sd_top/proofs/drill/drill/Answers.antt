@@ -1,4 +1,4 @@
-use Rattle.std.proofs.Common.{◌≡◌, ◌≤◌, ℕ, length, List, [], refl, sym, ap, subst, ◌∙◌, codes, arith}
+use Rattle.std.proofs.Common.{◌≡◌, ℕ, length, [], refl, sym, ap, subst, ◌∙◌, codes, arith}
 use Rattle.sd_model_outside.specs.Outside.{HasFailedBehind, given}
 use Rattle.sd_model_settings.specs.Settings as file
 use Rattle.sd_model_replay.specs.Settings.{names_backend, targets_of}

@@ -1,6 +1,5 @@
 use Rattle.std.proofs.Common.{take}
 use Rattle.std.proofs.lemmas.Result.{IfOk-weaker, IfErr-weaker}
-use Rattle.sd_outside.specs.Places.{place_of}
 use Rattle.sd_top.specs.Answers.{answer_of}
 use Rattle.sd_top.proofs.SettingsLemmas.{not_taken}
 use Rattle.sd_top.proofs.settings.read_through.Goals as goal
