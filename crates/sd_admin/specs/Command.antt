@@ -19,7 +19,7 @@ command_view Stats = model.Stats
 command_view Config = model.Config
 command_view Quit = model.Quit
 command_view (Show kind) = model.Show (kind_of kind)
-command_view (Delete kind names) = model.Delete (kind_of kind) (model.words names.now)
+command_view (Delete kind names) = model.Delete (kind_of kind) (model.words names.text.now)
 command_view (Health word) = model.Health (health_word_view word)
 
 abbrev pub fault_view : AdminFault → model.AdminFault

@@ -1,9 +1,10 @@
-ghost use Rattle.std.specs.Prelude.{◌≡◌};
+ghost use Rattle.std.specs.Prelude.{◌≡◌, ◌≤◌, length};
 ghost use Rattle.sd_model_record.specs.Admin.{words, deletion, health_word, command_named};
 ghost use Rattle.sd_key.specs.Kind.{kind_of};
 ghost use Rattle.sd_admin.specs.Command.{health_word_view, answer_view};
 
-use crate::words::{first_word, word_at};
+use crate::names::NameList;
+use crate::words::first_word;
 use sd_key::{Kind, Pattern};
 
 // The most bytes of a line.
@@ -32,7 +33,7 @@ pub enum Command<'a> {
     /// The rows of a kind.
     Show(Kind),
     /// That the rows of a kind go which the names match. `name` tells the names.
-    Delete { kind: Kind, names: &'a [u8] },
+    Delete { kind: Kind, names: NameList<'a> },
     /// The health.
     Health(HealthWord),
 }
@@ -71,13 +72,12 @@ impl<'a> Command<'a> {
         }
     }
 
-    /// The i-th name of a deletion, counted from 0. None past the last, for a name of over 1,023 bytes, which no line that
-    /// was read has, and for another command.
+    /// The i-th name of a deletion, counted from 0. None past the last, and for another command.
     pub fn name(&self, i: usize) -> Option<Pattern>
         ensures { result ≡ name_at (command_view self.now) i }
     {
         match self {
-            Command::Delete { kind: _, names } => Pattern::of(word_at(names, i)?),
+            Command::Delete { kind: _, names } => names.name(i),
             _ => None,
         }
     }
@@ -85,6 +85,7 @@ impl<'a> Command<'a> {
 
 /// The command that a first word names, with what stands behind the word.
 fn named<'a>(word: &[u8], rest: &'a [u8]) -> Result<Command<'a>, AdminFault>
+    requires { length rest.now ≤ 1023 }
     ensures { answer_view result ≡ command_named word.now (words rest.now) }
 {
     if word == b"stats".as_slice() {
@@ -114,10 +115,14 @@ fn named<'a>(word: &[u8], rest: &'a [u8]) -> Result<Command<'a>, AdminFault>
 
 /// The deletion of rows of a kind by the names, of which there is at least one.
 fn deletion(kind: Kind, names: &[u8]) -> Result<Command<'_>, AdminFault>
+    requires { length names.now ≤ 1023 }
     ensures { answer_view result ≡ deletion (kind_of kind) (words names.now) }
 {
     match first_word(names) {
-        Some(_) => Ok(Command::Delete { kind, names }),
+        Some(_) => Ok(Command::Delete {
+            kind,
+            names: NameList::of(names),
+        }),
         None => Err(AdminFault::MissingName),
     }
 }

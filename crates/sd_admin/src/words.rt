@@ -1,4 +1,4 @@
-ghost use Rattle.std.specs.Prelude.{◌≡◌, ◌≤◌, ◌∷◌, [], length, MatchOption, option_map, slice_get, not};
+ghost use Rattle.std.specs.Prelude.{◌≡◌, ◌≤◌, ◌∷◌, [], length, IfSome, MatchOption, option_map, slice_get, not};
 ghost use Rattle.std.specs.List.{position_or_len};
 ghost use Rattle.sd_model_text.specs.Lists.{is_white_space};
 ghost use Rattle.sd_model_record.specs.Admin.{words};
@@ -36,7 +36,8 @@ fn word_len(bytes: &[u8]) -> usize
 
 /// The first word of a line, where it has one.
 pub(crate) fn first_word(line: &[u8]) -> Option<Word<'_>>
-    ensures { MatchOption result (words line.now ≡ []) (λ w. words line.now ≡ w.text.now ∷ words w.rest.now) }
+    ensures words { MatchOption result (words line.now ≡ []) (λ w. words line.now ≡ w.text.now ∷ words w.rest.now) }
+    ensures within { IfSome result (λ w. (length w.text.now ≤ length line.now) × (length w.rest.now ≤ length line.now)) }
 {
     let from_word = &line[leading_blanks(line)..];
     if from_word.is_empty() {
@@ -48,7 +49,8 @@ pub(crate) fn first_word(line: &[u8]) -> Option<Word<'_>>
 
 /// The i-th word of a line, from 0, where it has one.
 pub(crate) fn word_at(line: &[u8], i: usize) -> Option<&[u8]>
-    ensures { option_map (λ w. w.now) result ≡ slice_get (words line.now) i }
+    ensures word { option_map (λ w. w.now) result ≡ slice_get (words line.now) i }
+    ensures within { IfSome result (λ w. length w.now ≤ length line.now) }
 {
     let mut rest = line;
     for _ in 0..i {

@@ -1,7 +1,7 @@
-ghost use Rattle.std.specs.Prelude.{◌≡◌, ◌≢◌, ◌≤◌, ◌<◌, ◌^◌, ◌*◌, ℕ, List, [], ◌∷◌, ◌++◌, flat_map, length, slice_get};
+ghost use Rattle.std.specs.Prelude.{◌≡◌, ◌≢◌, ◌≤◌, ◌<◌, ◌^◌, ◌*◌, ℕ, List, [], ◌∷◌, ◌++◌, flat_map, length};
 ghost use Rattle.sd_model_text.specs.Names.{Set};
 ghost use Rattle.sd_model_outside.specs.Outside.{Object};
-ghost use Rattle.sd_model_record.specs.Admin.{command, name_at, names_of};
+ghost use Rattle.sd_model_record.specs.Admin.{command, names_of};
 ghost use Rattle.sd_model_record.specs.Replies.{Finish, IsInOrder, reply_text};
 ghost use Rattle.sd_model_replay.specs.Settings.{goes_by};
 ghost use Rattle.sd_model_replay.specs.Script.{Admin};
@@ -65,7 +65,6 @@ fn delete<O: Sink>(
     keys: &mut Keys,
     output: &mut O,
 ) -> Result<(), WriteFault>
-    requires names { (i : ℕ) → name_at (command_view names.now) i ≡ slice_get (names_of (command_view names.now)) i }
     requires few { length (names_of (command_view names.now)) < 2 ^ 64 }
     requires room { length shards.old.states * shards.old.limits.rows ≤ keys.old.room }
     ensures states { (i : ℕ) → state_at shards.new i ≡ deleted (kind_of kind) (state_at shards.old) (names_of (command_view names.now)) i }

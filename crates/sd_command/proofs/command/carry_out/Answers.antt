@@ -3,7 +3,6 @@ use Rattle.sd_model_record.specs.Admin.{words, command}
 use Rattle.sd_model_record.specs.Admin as model
 use Rattle.sd_model_record.specs.Replies.{Reply, Stats, Finish, reply_text}
 use Rattle.sd_model_record.specs.Desk.{facts_of}
-use Rattle.sd_model_record.proofs.CommandLemmas.{names_read-at}
 use Rattle.sd_model_replay.specs.Settings.{goes_by}
 use Rattle.sd_model_replay.specs.Output.{replies_to_line}
 use Rattle.sd_model_replay.specs.Script.{Admin}
@@ -15,11 +14,8 @@ use Rattle.sd_command.specs.Commanded.{IsWritten, replied, shown, run_with}
 use Rattle.sd_command.proofs.CommandLemmas.{as_written, deletion_replied, dump_replied, few_names}
 use Rattle.sd_command.proofs.command.carry_out.Goals as goal
 
-pub delete-requires-clause-names : goal.delete-requires-clause-names
-delete-requires-clause-names g c i = names_read-at c.args.line.now (kind_of c.in-Delete.kind) (words c.in-Delete.names.now) i (sym c.read.ensures ∙ ap answer_view (c.in-Ok.is ∙ ap Ok c.in-Delete.is))
-
 pub delete-requires-clause-few : goal.delete-requires-clause-few
-delete-requires-clause-few g c = omega (arith, few_names c.args.line.now (kind_of c.in-Delete.kind) (words c.in-Delete.names.now) (sym c.read.ensures ∙ ap answer_view (c.in-Ok.is ∙ ap Ok c.in-Delete.is)))
+delete-requires-clause-few g c = omega (arith, few_names c.args.line.now (kind_of c.in-Delete.kind) (words c.in-Delete.names.text.now) (sym c.read.ensures ∙ ap answer_view (c.in-Ok.is ∙ ap Ok c.in-Delete.is)))
 
 pub returns-in-Stats-clause-written : goal.returns-in-Stats-clause-written
 returns-in-Stats-clause-written g c =
@@ -40,7 +36,7 @@ returns-in-Stats-clause-written g c =
 pub returns-in-Delete-clause-written : goal.returns-in-Delete-clause-written
 returns-in-Delete-clause-written g c =
     let run = run_with (state_at c.args.shards.now) c.args.desk.now in
-    let names = words c.in-Delete.names.now in
+    let names = words c.in-Delete.names.text.now in
     let kind = kind_of c.in-Delete.kind in
     let read : command c.args.line.now ≡ Ok (model.Delete kind names) = sym c.read.ensures ∙ ap answer_view (c.in-Ok.is ∙ ap Ok c.in-Delete.is) in
     subst (λ (replies : List Reply). IsWritten (flat_map reply_text replies) c.delete.result (g.O.Faulty.seen c.args.output.now) (g.O.Faulty.seen c.delete.new.output))

@@ -16,13 +16,13 @@ use Rattle.sd_command.proofs.command.delete.Goals as goal
 pub overflow_add-i : goal.overflow_add-i
 overflow_add-i g c =
     let names = names_of (command_view c.args.names.now) in
-    let found : slice_get names c.loop-name.i ≡ Some c.in-Some.name = sym (c.requires.names c.loop-name.i) ∙ sym c.name.ensures ∙ c.in-Some.is in
+    let found : slice_get names c.loop-name.i ≡ Some c.in-Some.name = sym c.name.ensures ∙ c.in-Some.is in
     omega (arith, found_below names c.loop-name.i c.in-Some.name found, c.requires.few)
 
 pub loop-name-smaller : goal.loop-name-smaller
 loop-name-smaller g c =
     let names = names_of (command_view c.args.names.now) in
-    let found : slice_get names c.loop-name.i ≡ Some c.in-Some.name = sym (c.requires.names c.loop-name.i) ∙ sym c.name.ensures ∙ c.in-Some.is in
+    let found : slice_get names c.loop-name.i ≡ Some c.in-Some.name = sym c.name.ensures ∙ c.in-Some.is in
     omega (arith, found_below names c.loop-name.i c.in-Some.name found)
 
 -- what a deletion leaves of the shards, and beyond the last nothing
@@ -42,7 +42,7 @@ loop-name-preserved g c =
     let name = c.in-Some.name in
     let so_far = take i names in
     let stands = c.loop-name.invariant in
-    let found : slice_get names i ≡ Some name = sym (c.requires.names i) ∙ sym c.name.ensures ∙ c.in-Some.is in
+    let found : slice_get names i ≡ Some name = sym c.name.ensures ∙ c.in-Some.is in
     let more = take-more names i name found in
     let text = flat_map reply_text (replied shards kind first so_far) in
     let here : state_at c.loop-name.shards ≡ deleted kind first so_far = λ t k. stands.1 k t in
@@ -62,14 +62,14 @@ loop-name-preserved g c =
 pub returns-clause-states : goal.returns-clause-states
 returns-clause-states g c k =
     let names = names_of (command_view c.args.names.now) in
-    let none : slice_get names c.loop-name.i ≡ None = sym (c.requires.names c.loop-name.i) ∙ sym c.name.ensures ∙ c.in_default.is in
+    let none : slice_get names c.loop-name.i ≡ None = sym c.name.ensures ∙ c.in_default.is in
     c.loop-name.invariant.1 k ∙ ap (λ ns. deleted (kind_of c.args.kind) (state_at c.args.shards.now) ns k) (none_found names c.loop-name.i none)
 
 pub returns-clause-written : goal.returns-clause-written
 returns-clause-written g c =
     let names = names_of (command_view c.args.names.now) in
     let replies = replied (length c.args.shards.now.states) (kind_of c.args.kind) (state_at c.args.shards.now) in
-    let none : slice_get names c.loop-name.i ≡ None = sym (c.requires.names c.loop-name.i) ∙ sym c.name.ensures ∙ c.in_default.is in
+    let none : slice_get names c.loop-name.i ≡ None = sym c.name.ensures ∙ c.in_default.is in
     let old = g.O.Faulty.seen c.args.output.now in
     let written = subst (λ ns. IsWritten (flat_map reply_text (replies ns)) c.loop-name.written old (g.O.Faulty.seen c.loop-name.output)) (none_found names c.loop-name.i none) c.loop-name.invariant.2 in
     subst (λ t. IsWritten t c.tell.result old (g.O.Faulty.seen c.tell.new.output)) (sym (text-more (replies names) Finish)) (c.tell.ensures (flat_map reply_text (replies names)) old written)
