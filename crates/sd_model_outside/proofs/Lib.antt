@@ -1,2 +1,3 @@
+pub mod LineWrites
 pub mod OutsideLemmas
 pub mod WriteLemmas
