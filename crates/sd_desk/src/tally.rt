@@ -21,7 +21,7 @@ impl Tally {
     ghost use Rattle.sd_desk.specs.Tally.{tally_of};
 
     /// Nothing was counted.
-    pub(crate) fn none() -> Tally
+    pub fn none() -> Tally
         ensures { tally_of result ≡ nothing }
     {
         Tally {
@@ -32,8 +32,8 @@ impl Tally {
         }
     }
 
-    /// Two tallies in one.
-    pub(crate) fn and(self, more: Tally) -> Tally
+    /// Two tallies in one. Each count stops at 2^63.
+    pub fn and(self, more: Tally) -> Tally
         ensures { tally_of result ≡ add_tally (tally_of self) (tally_of more) }
     {
         Tally {

@@ -1,6 +1,6 @@
 pub mod Cut
 pub mod Named
-pub mod Parts
+pub mod Reading
 pub mod Piece
-pub mod Pieces
+pub mod Lines
 pub mod Sample

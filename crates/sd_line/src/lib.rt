@@ -7,8 +7,10 @@ mod lines;
 mod named;
 mod parts;
 mod piece;
+mod reading;
 mod sample;
 
 pub use lines::Lines;
+pub use parts::{Parts, name_before_colon};
 pub use piece::Bad;
 pub use sample::{Member, Sample};

@@ -1,122 +1,89 @@
-ghost use Rattle.std.specs.Prelude.{◌≡◌, ◌^◌, ◌≤◌, pos, ◌≤ℤ◌, true, false, length, unsigned_abs, Ok};
-ghost use Rattle.sd_model_text.specs.Names.{Timer, clean as clean_name, cleaned};
-ghost use Rattle.sd_model_text.specs.Lines.{sample, is_long_member};
-ghost use Rattle.sd_model_text.specs.Lines as model;
-ghost use Rattle.sd_model_text.specs.Numbers as numbers;
-ghost use Rattle.sd_key.specs.Kind.{kind_of};
+ghost use Rattle.std.specs.Prelude.{◌≡◌, ◌<◌, [], ◌∷◌, length, IsNone, IfSome, MatchOption, option_map};
+ghost use Rattle.sd_model_text.specs.Lines.{lines, name_in_line};
+ghost use Rattle.sd_line.specs.Lines.{with_line};
 
-use crate::named::Named;
-use crate::sample::{Member, Sample};
-use sd_decimal::Micro;
-use sd_key::{Key, Kind, clean};
+use crate::cut::{Cut, first_cut, trimmed};
 use std::marker::Model;
 
-/// The rate 1.
-pub(crate) const ONE: Micro = Micro(1_000_000);
+/// What stands before the next newline without the white space at its end, and what stands behind it.
+fn next_line(bytes: &[u8]) -> Cut<'_>
+    requires { 0 < length bytes.now }
+    ensures lines { lines bytes.now ≡ with_line result.part.now (lines result.rest.now) }
+    ensures shorter { length result.rest.now < length bytes.now }
+{
+    match first_cut(bytes, b'\n') {
+        Some(line) => Cut {
+            part: trimmed(line.part),
+            rest: line.rest,
+        },
+        None => Cut {
+            part: trimmed(bytes),
+            rest: &[],
+        },
+    }
+}
 
-/// What a good piece says. Its bytes aren't copied.
-#[derive(Drop)]
-pub(crate) struct Parts<'a> {
-    kind: Kind,
-    name: &'a [u8],
-    is_key: bool,
-    value: Micro,
-    rate: Micro,
-    signed: bool,
-    member: &'a [u8],
+/// The next line of a datagram and what stands behind it, where there is one.
+pub(crate) fn next_part(bytes: &[u8]) -> Option<Cut<'_>>
+    ensures { MatchOption result (lines bytes.now ≡ []) (λ c. lines bytes.now ≡ c.part.now ∷ lines c.rest.now) }
+{
+    let mut rest = bytes;
+    while !rest.is_empty() {
+        let line = next_line(rest);
+        if !line.part.is_empty() {
+            return Some(line);
+        }
+        rest = line.rest;
+    }
+    None
+}
+
+/// The lines of a datagram that are left, in order, as bytes: its parts between newlines, without the white space behind them,
+/// and without the empty ones.
+#[derive(Debug, Drop)]
+pub struct Parts<'a> {
+    rest: &'a [u8],
 }
 
 impl<'a> Model for Parts<'a> {
-    ghost use Rattle.sd_model_text.specs.Lines.{Sample as Value'};
+    ghost use Rattle.std.specs.Prelude.{ℕ, List};
+    ghost use Rattle.sd_model_text.specs.Lines.{lines};
 
-    ghost Value = { Value' };
+    ghost Value = { List (List ℕ) };
 
-    ghost use Rattle.sd_line.specs.Parts.{parts_view, AreParts};
-
-    ghost view = { parts_view };
-
-    ghost invariant = { AreParts };
-}
-
-/// Whether a text begins with `+` or `-`.
-pub(crate) fn has_sign(text: &[u8]) -> bool
-    ensures { result ≡ numbers.has_sign text.now }
-{
-    matches!(text, [b'-' | b'+', ..])
-}
-
-/// The member of a value; an empty one is `0`.
-fn member_of(text: &[u8]) -> &[u8]
-    ensures { result.now ≡ model.member_of text.now }
-{
-    if text.is_empty() { b"0" } else { text }
+    ghost view = { λ p. lines p.rest.now };
 }
 
 impl<'a> Parts<'a> {
-    /// What a name and the fields behind it say.
-    pub(crate) fn of(
-        kind: Kind,
-        named: &Named<'a>,
-        text: &'a [u8],
-        value: Micro,
-        rate: Micro,
-    ) -> Parts<'a>
-        requires named { clean_name named.now.name.now ≡ Ok (cleaned named.now.name.now) }
-        requires plain { named.now.is_key ≡ true → clean_name named.now.name.now ≡ Ok named.now.name.now }
-        requires rate_low { pos 1 ≤ℤ rate.0 }
-        requires rate_high { rate.0 ≤ℤ pos (10 ^ 9) }
-        requires value { unsigned_abs value.0 ≤ 10 ^ 18 }
-        requires timer { kind_of kind ≡ Timer → (pos 0 ≤ℤ value.0) × (value.0 ≤ℤ pos (10 ^ 16)) }
-        requires member { is_long_member (kind_of kind) text.now ≡ false }
-        ensures { result ≡ sample (kind_of kind) (cleaned named.now.name.now) text.now value.0 (unsigned_abs rate.0) }
+    /// The lines of a datagram.
+    pub fn new(datagram: &'a [u8]) -> Parts<'a>
+        ensures { result ≡ lines datagram.now }
     {
-        let (rate, signed, member) = match kind {
-            Kind::Counter | Kind::Timer => (rate, false, b"".as_slice()),
-            Kind::Gauge => (ONE, has_sign(text), b"".as_slice()),
-            Kind::Set => (ONE, false, member_of(text)),
-        };
-        Parts {
-            kind,
-            name: named.name,
-            is_key: named.is_key,
-            value,
-            rate,
-            signed,
-            member,
-        }
+        Parts { rest: datagram }
     }
 
-    /// The key. A name that is one as it stands isn't cleaned again.
-    fn key(&self) -> Key
-        ensures { result ≡ self.now.key }
+    /// The next line. None at the end.
+    pub fn next(&mut self) -> Option<&'a [u8]>
+        ensures end { IsNone result → (self.old ≡ []) × (self.new ≡ []) }
+        ensures next { IfSome result (λ line. self.old ≡ line.now ∷ self.new) }
     {
-        if self.is_key {
-            Key::of(self.name).unwrap()
-        } else {
-            clean(self.name).unwrap()
+        match next_part(self.rest) {
+            Some(line) => {
+                self.rest = line.rest;
+                Some(line.part)
+            }
+            None => {
+                self.rest = &[];
+                None
+            }
         }
     }
+}
 
-    /// The member's bytes in their place.
-    fn member(&self) -> Member
-        ensures { result.items ≡ self.now.member }
-    {
-        let mut member = Member::new();
-        member.try_extend_from_slice(self.member).unwrap();
-        member
-    }
-
-    /// The sample.
-    pub(crate) fn sample(&self) -> Sample
-        ensures { result ≡ self.now }
-    {
-        Sample {
-            kind: self.kind,
-            key: self.key(),
-            value: self.value,
-            rate: self.rate,
-            signed: self.signed,
-            member: self.member(),
-        }
-    }
+/// The name of a line: what stands before its first colon, where it has one.
+pub fn name_before_colon(line: &[u8]) -> Option<&[u8]>
+    ensures { option_map (λ name. name.now) result ≡ name_in_line line.now }
+{
+    let cut = first_cut(line, b':')?;
+    Some(cut.part)
 }

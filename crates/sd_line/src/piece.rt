@@ -9,7 +9,7 @@ ghost use Rattle.sd_line.specs.Piece.{Gives};
 
 use crate::fields::Fields;
 use crate::named::{Named, name_of};
-use crate::parts::{ONE, Parts, has_sign};
+use crate::reading::{ONE, Reading, has_sign};
 use sd_decimal::{Micro, NumberFault, read};
 use sd_key::{KeyFault, Kind, clean};
 
@@ -164,9 +164,9 @@ fn not_over(fields: &Fields<'_>, rest: &[u8]) -> Result<(), Bad>
 
 /// What a name and what stands behind its colon say, or why they say nothing.
 #[tactic(auto, unfolding(sd_model_text::specs::Lines::reading_behind))]
-fn parts_behind<'a>(named: &Named<'a>) -> Result<Parts<'a>, Bad>
+fn read_behind<'a>(named: &Named<'a>) -> Result<Reading<'a>, Bad>
     requires { named.now.is_key ≡ true → names.clean named.now.name.now ≡ Ok named.now.name.now }
-    ensures { Gives (λ p. p) result (model.reading_behind named.now.name.now named.now.rest.now (split 124 named.now.rest.now)) }
+    ensures { Gives (λ r. r) result (model.reading_behind named.now.name.now named.now.rest.now (split 124 named.now.rest.now)) }
 {
     let fields = Fields::of(named.rest);
     let kind = kind_of(fields.kind)?;
@@ -176,15 +176,15 @@ fn parts_behind<'a>(named: &Named<'a>) -> Result<Parts<'a>, Bad>
     has_key(named)?;
     not_long(kind, fields.value)?;
     not_over(&fields, named.rest)?;
-    Ok(Parts::of(kind, named, fields.value, value, rate))
+    Ok(Reading::of(kind, named, fields.value, value, rate))
 }
 
 /// What a piece says, or why it says nothing.
-pub(crate) fn parts_of(piece: &[u8]) -> Result<Parts<'_>, Bad>
-    ensures { Gives (λ p. p) result (model.reading piece.now) }
+pub(crate) fn read_piece(piece: &[u8]) -> Result<Reading<'_>, Bad>
+    ensures { Gives (λ r. r) result (model.reading piece.now) }
 {
     match name_of(piece) {
-        Some(named) => parts_behind(&named),
+        Some(named) => read_behind(&named),
         None => Err(Bad::NoValue),
     }
 }

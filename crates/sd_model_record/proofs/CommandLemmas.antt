@@ -1,11 +1,11 @@
 -- What the commands that were read have.
-use Rattle.std.proofs.Common.{◌≡◌, ℕ, zero, suc, ◌≤◌, Bool, true, false, cond, List, [], ◌∷◌, length, refl, ap, subst, arith, Some, None, slice_get, Ok, Err}
-use Rattle.std.specs.Prelude.{Result, nat_le, option_and_then}
+use Rattle.std.proofs.Common.{◌≡◌, ℕ, suc, ◌≤◌, Bool, true, false, cond, List, [], ◌∷◌, length, refl, ap, subst, arith, Ok, Err}
+use Rattle.std.specs.Prelude.{Result, nat_le}
 use Rattle.std.specs.List.{All}
 use Rattle.std.proofs.lemmas.Grind.{common_steps}
 use Rattle.std.proofs.lemmas.Bool.Decides.{nat_tests}
 use Rattle.sd_model_text.specs.Names.{Kind}
-use Rattle.sd_model_record.specs.Admin.{Command, AdminFault, TooLong, Delete, IsWord, words, command, command_named, command_of_words, longest_line, as_pattern, name_at}
+use Rattle.sd_model_record.specs.Admin.{Command, AdminFault, TooLong, Delete, IsWord, words, command, command_named, command_of_words, longest_line}
 use Rattle.sd_model_record.proofs.WordLemmas.{words_are}
 
 -- the names of a deletion are the words behind the first
@@ -22,21 +22,11 @@ short_line : (b : Bool) (r : Result Command AdminFault) (command : Command) → 
 short_line true r command h = (refl, h)
 short_line false r command h = absurd (cc)
 
-within : (b : Bool) (name : List ℕ) → nat_le (length name) longest_line ≡ b → length name ≤ longest_line → cond b (Some name) None ≡ Some name
-within true name is short = refl
-within false name is short = absurd (grind (arith, nat_tests))
-
--- short names are patterns
-patterns_at : (names : List (List ℕ)) → All (λ name. length name ≤ longest_line) names → (i : ℕ) → option_and_then as_pattern (slice_get names i) ≡ slice_get names i
-patterns_at [] short i = refl
-patterns_at (name ∷ names) short zero = within (nat_le (length name) longest_line) name refl (short zero name (omega arith))
-patterns_at (name ∷ names) short (suc i) = patterns_at names (λ k d inside. short (suc k) d (omega (arith, inside))) i
-
--- the names of a deletion that was read are patterns
-pub names_read-at : (line : List ℕ) (kind : Kind) (names : List (List ℕ)) (i : ℕ) → command line ≡ Ok (Delete kind names) → name_at (Delete kind names) i ≡ slice_get names i
-names_read-at line kind names i h =
+-- the names of a deletion that was read are no longer than a line may be
+pub names_read-short : (line : List ℕ) (kind : Kind) (names : List (List ℕ)) → command line ≡ Ok (Delete kind names) → All (λ name. length name ≤ longest_line) names
+names_read-short line kind names h =
     let read = short_line (nat_le (length line) longest_line) (command_of_words (words line)) (Delete kind names) h in
     let parts = words_behind (words line) kind names read.1 in
     let all = subst (λ ws. All (λ word. IsWord word × (length word ≤ length line)) ws) parts.1 (words_are line) in
     let few : length line ≤ longest_line = grind (arith, nat_tests) in
-    patterns_at names (λ k d inside. let at = all (suc k) d (omega (arith, inside)) in omega (arith, at.1, few)) i
+    λ k d inside. let at = all (suc k) d (omega (arith, inside)) in omega (arith, at.1, few)

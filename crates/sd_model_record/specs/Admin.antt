@@ -1,6 +1,6 @@
 -- Admin commands: what a line asks for, or why it asks for nothing. The commands but `config` and `quit` are those of
 -- StatsD's admin interface (docs/admin_interface.md).
-use Rattle.std.specs.Prelude.{◌≡◌, ℕ, ◌<◌, false, not, nat_le, if◌then◌else◌, List, [], ◌∷◌, length, filter, Option, Some, None, option_and_then, Result, Ok, Err, slice_get, codes}
+use Rattle.std.specs.Prelude.{◌≡◌, ℕ, ◌<◌, false, not, nat_le, if◌then◌else◌, List, [], ◌∷◌, length, filter, Option, Result, Ok, Err, slice_get, codes}
 use Rattle.std.specs.List.{All, slice_split}
 use Rattle.std.specs.Str.{bytes_eq}
 use Rattle.sd_model_text.specs.Lists.{is_white_space}
@@ -83,10 +83,6 @@ abbrev pub names_of : Command → List (List ℕ)
 names_of (Delete kind names) = names
 names_of command = []
 
--- a name as a pattern, which is as long as a line at most
-abbrev pub as_pattern : List ℕ → Option (List ℕ)
-as_pattern name = if nat_le (length name) longest_line then Some name else None
-
--- the i-th name of a command, from 0, as a pattern
+-- the i-th name of a command, from 0
 abbrev pub name_at : Command → ℕ → Option (List ℕ)
-name_at command i = option_and_then as_pattern (slice_get (names_of command) i)
+name_at command i = slice_get (names_of command) i

@@ -5,3 +5,4 @@ pub mod Graphite
 pub mod Console
 pub mod Admin
 pub mod Replies
+pub mod Counts

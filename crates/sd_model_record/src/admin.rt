@@ -1,8 +1,8 @@
-ghost use Rattle.std.specs.Prelude.{◌≡◌, ◌≢◌, ℕ, ◌<◌, ◌≤◌, true, List, ◌∷◌, length, All, Ok, slice_get};
+ghost use Rattle.std.specs.Prelude.{◌≡◌, ◌≢◌, ℕ, ◌<◌, ◌≤◌, true, List, ◌∷◌, length, All, Ok};
 ghost use Rattle.std.specs.List.{join_with_byte};
 ghost use Rattle.sd_model_text.specs.Lists.{is_white_space, trim_end};
 ghost use Rattle.sd_model_text.specs.Names.{Kind, Set};
-ghost use Rattle.sd_model_record.specs.Admin.{Command, Show, Delete, IsWord, words, command, name_at, longest_line};
+ghost use Rattle.sd_model_record.specs.Admin.{Command, Show, Delete, IsWord, words, command, longest_line};
 
 /// The words of a line have no white space, and words with a space between them are the words of the line that they make.
 /// White space at a line's ends doesn't change its words.
@@ -13,11 +13,11 @@ pub fn lines_have_words()
     ensures behind { (line : List ℕ) → words (trim_end is_white_space line) ≡ words line }
 {}
 
-/// A deletion that was read has a name, each of its names is a pattern, and it isn't of sets.
+/// A deletion that was read has a name, none of its names is longer than a line may be, and it isn't of sets.
 pub fn deletions_have_names()
     ensures some { (line : List ℕ) (kind : Kind) (names : List (List ℕ)) → command line ≡ Ok (Delete kind names) → 0 < length names }
-    ensures patterns { (line : List ℕ) (kind : Kind) (names : List (List ℕ)) (i : ℕ)
-        → command line ≡ Ok (Delete kind names) → name_at (Delete kind names) i ≡ slice_get names i }
+    ensures short { (line : List ℕ) (kind : Kind) (names : List (List ℕ))
+        → command line ≡ Ok (Delete kind names) → All (λ name. length name ≤ longest_line) names }
     ensures kind { (line : List ℕ) (kind : Kind) (names : List (List ℕ)) → command line ≡ Ok (Delete kind names) → kind ≢ Set }
 {}
 

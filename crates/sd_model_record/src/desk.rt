@@ -1,6 +1,7 @@
 ghost use Rattle.std.specs.Prelude.{ℕ, Bool};
 ghost use Rattle.sd_model_record.specs.Record.{Tally};
 ghost use Rattle.sd_model_record.specs.Desk.{Desk, Marks, new_desk, with_tally, taken, marked, with_round, with_health, with_admin_fault, with_repeater_faults, AddsUp, IsBalanced, IsInRange, KeepsCounts};
+ghost use Rattle.sd_model_record.specs.Counts.{Amounts, GrewBy, HasCounted, Part, nothing, plus, of_tally, of_taken, of_marks, of_sessions, of_sends};
 
 /// The totals of a new desk are the tallies taken and the tally, and its counts are in range. Each change of a desk
 /// keeps both, and lets no count fall.
@@ -18,4 +19,20 @@ pub fn desks_keep_counts()
 /// While no count has reached its end, the totals are the tallies taken and the tally.
 pub fn desks_are_balanced()
     ensures { (d : Desk) → AddsUp d → IsBalanced d }
+{}
+
+/// What each change of a desk adds to its thirteen numbers.
+pub fn desks_count()
+    ensures tally { (d : Desk) (t : Tally) (now : ℕ) → IsInRange d → GrewBy (of_tally t) d (with_tally d t now) }
+    ensures taken { (d : Desk) → IsInRange d → GrewBy (of_taken d.tally) d (taken d) }
+    ensures marks { (d : Desk) (m : Marks) → IsInRange d → GrewBy (of_marks m) d (marked d m) }
+    ensures health { (d : Desk) (up : Bool) → IsInRange d → GrewBy nothing d (with_health d up) }
+    ensures admin { (d : Desk) → IsInRange d → GrewBy (of_sessions 1) d (with_admin_fault d) }
+    ensures repeater { (d : Desk) (n : ℕ) → IsInRange d → GrewBy (of_sends n) d (with_repeater_faults d n) }
+{}
+
+/// What a caller adds in two steps is what it adds in both together.
+pub fn parts_add_up()
+    ensures none { (p : Part) → HasCounted nothing p p }
+    ensures next { (a b : Amounts) (old mid new : Part) → HasCounted a old mid → HasCounted b mid new → HasCounted (plus a b) old new }
 {}

@@ -7,4 +7,4 @@ mod admin;
 mod desk;
 
 pub use admin::{deletions_have_names, lines_have_words, sets_are_not_shown};
-pub use desk::{desks_are_balanced, desks_keep_counts};
+pub use desk::{desks_are_balanced, desks_count, desks_keep_counts, parts_add_up};

@@ -13,38 +13,21 @@ use Rattle.std.proofs.lemmas.List.{length-map, get_or-map, map-append}
 use Rattle.std.proofs.lemmas.List.Sorted.{IsPermutation-map}
 use Rattle.sd_model_text.specs.Names.{Kind, rank, matches}
 use Rattle.sd_model_shard.specs.Rows.{RowId, row_cmp, Kept, Rows, Entry}
-use Rattle.sd_model_shard.specs.Commands.{DumpRow, dump_row, dump_of, is_hit, is_of_kind, keys_of, rows_taken_out}
+use Rattle.sd_model_shard.specs.Commands.{DumpRow, dump_row, dump_of, in_key_order, is_hit, is_of_kind, keys_of, rows_taken_out}
 use Rattle.sd_model_shard.proofs.RowLemmas.{rows_exact, rows_total}
 use Rattle.sd_model_shard.proofs.EntryLemmas.{StandApart, StandApart-sorted, entries-sorted}
-use Rattle.sd_model_replay.specs.Output.{in_key_order}
-
--- each with its key
-abbrev pub by_key : {X : Type 0} → (X → List ℕ) → List X → List (List ℕ × X)
-by_key key xs = map (λ x. (key x, x)) xs
+use Rattle.sd_model_shard.proofs.ToldLemmas.{by_key, keyed_back, keyed_sorted}
 
 -- no key stands twice
 abbrev pub StandOnce : {X : Type 0} → (X → List ℕ) → List X → Type 0
 StandOnce key xs = StandApart (slice_cmp nat_cmp) (by_key key xs)
 
 module _ {X : Type 0} (key : X → List ℕ) where
-  keyed_back : (xs : List X) → map (λ (e : List ℕ × X). e.1) (by_key key xs) ≡ xs
-  keyed_back [] = refl
-  keyed_back (x ∷ xs) = ap (λ ys. x ∷ ys) (keyed_back xs)
-
-  keyed_sorted : (xs : List X) → IsSortedByKey key (slice_cmp nat_cmp) xs → IsSortedByKey (λ (e : List ℕ × X). e.0) (slice_cmp nat_cmp) (by_key key xs)
-  keyed_sorted [] up = λ k d low high. absurd (omega arith)
-  keyed_sorted (x ∷ xs) up = λ k d low high.
-      let es = by_key key (x ∷ xs) in
-      let few : k + 1 < length (x ∷ xs) = omega (arith, length-map {B = List ℕ × X} (x ∷ xs) (λ (y : X). (key y, y))) in
-      ap (λ (e : List ℕ × X). is_lt (slice_cmp nat_cmp e.0 (get_or es k d).0)) (get_or-map (λ (y : X). (key y, y)) (x ∷ xs) (k + 1) x d few)
-      ∙ ap (λ (e : List ℕ × X). is_lt (slice_cmp nat_cmp (key (get_or (x ∷ xs) (k + 1) x)) e.0)) (get_or-map (λ (y : X). (key y, y)) (x ∷ xs) k x d (omega arith))
-      ∙ up k x low few
-
   -- things of which no key stands twice, sorted by their keys
   pub in_key_order_is : (xs ys : List X) → StandOnce key xs → IsPermutation xs ys → IsSortedByKey key (slice_cmp nat_cmp) ys → ys ≡ in_key_order key xs
   in_key_order_is xs ys once moved up =
-      sym (keyed_back ys)
-      ∙ sym (ap (map (λ (e : List ℕ × X). e.1)) (entries-sorted nat_list_cmp_total (slice_cmp-IsAntisymmetric nat_cmp-IsAntisymmetric) (by_key key xs) (by_key key ys) once (IsPermutation-map (λ (x : X). (key x, x)) xs ys moved) (keyed_sorted ys up)))
+      sym (keyed_back key ys)
+      ∙ sym (ap (map (λ (e : List ℕ × X). e.1)) (entries-sorted nat_list_cmp_total (slice_cmp-IsAntisymmetric nat_cmp-IsAntisymmetric) (by_key key xs) (by_key key ys) once (IsPermutation-map (λ (x : X). (key x, x)) xs ys moved) (keyed_sorted key ys up)))
 
 -- keys of which none stands twice, sorted
 pub keys_in_order : (keys sorted : List (List ℕ)) → StandOnce (λ key. key) keys → IsPermutation keys sorted → IsSorted (slice_cmp nat_cmp) sorted → sorted ≡ in_key_order (λ key. key) keys

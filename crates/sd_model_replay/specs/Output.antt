@@ -1,10 +1,7 @@
 -- What a replay writes to its output before the totals: the replies to admin lines.
 use Rattle.std.specs.Prelude.{ℕ, ◌+◌, List, [], ◌∷◌, ◌++◌, map, flat_map, filter_map, slice_get, Result, Ok, Err}
 use Rattle.std.specs.List.{range_with_len}
-use Rattle.std.specs.FinMap.{entries, from_entries}
-use Rattle.std.specs.Ordering.{nat_cmp}
-use Rattle.std.specs.Cmp.Lexicographic.{slice_cmp}
-use Rattle.sd_model_shard.specs.Commands.{DumpRow}
+use Rattle.sd_model_shard.specs.Commands.{DumpRow, in_key_order}
 use Rattle.sd_model_shard.specs.Shard as shard
 use Rattle.sd_model_record.specs.Admin as admin
 use Rattle.sd_model_record.specs.Admin.{AdminFault}
@@ -28,10 +25,6 @@ keys_in answer = []
 abbrev pub rows_in : shard.Reply → List DumpRow
 rows_in (shard.Dumped rows) = rows
 rows_in answer = []
-
--- things with keys, of which no key stands twice, in the order of the bytes of their keys
-abbrev pub in_key_order : {X : Type 0} → (X → List ℕ) → List X → List X
-in_key_order key xs = map (λ e. e.1) (entries (from_entries {R = slice_cmp nat_cmp} (map (λ x. (key x, x)) xs)))
 
 -- the keys that all shards tell as deleted
 abbrev pub keys_told : List shard.Reply → List (List ℕ)

@@ -146,7 +146,7 @@ module _ {K X : Type 0} {R : K → K → Ordering} (o : IsTotalOrder R) where
         ] refl h
 
     -- two lists of the same entries, which stand apart in the first, have the same values at all keys
-    find-IsPermutation : (es fs : List (K × X)) → StandApart R es → IsPermutation es fs → (q : K) → find R q es ≡ find R q fs
+    pub find-IsPermutation : (es fs : List (K × X)) → StandApart R es → IsPermutation es fs → (q : K) → find R q es ≡ find R q fs
     find-IsPermutation es fs a moved q =
         elim (find R q fs) as (λ r. find R q fs ≡ r → find R q es ≡ r) [
           | None ↦ λ none. none_of (find R q es)

@@ -10,3 +10,4 @@ pub mod SortedLemmas
 pub mod ToldLemmas
 pub mod ValuesLemmas
 pub mod PartLemmas
+pub mod NumberLemmas

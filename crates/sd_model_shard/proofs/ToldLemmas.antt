@@ -12,8 +12,9 @@ use Rattle.std.proofs.lemmas.List.{length-map, get_or-map}
 use Rattle.std.proofs.lemmas.List.Sorted.{IsPermutation-map, IsPermutation-sym}
 use Rattle.sd_model_text.specs.Names.{rank}
 use Rattle.sd_model_shard.specs.Rows.{RowId, row_cmp, Kept, Rows}
+use Rattle.sd_model_shard.specs.Commands.{in_key_order}
 use Rattle.sd_model_shard.proofs.RowLemmas.{rows_exact, rows_total}
-use Rattle.sd_model_shard.proofs.EntryLemmas.{StandApart-sorted, entries-from_entries, entries-sorted}
+use Rattle.sd_model_shard.proofs.EntryLemmas.{StandApart-sorted, entries-from_entries, entries-sorted, find-IsPermutation}
 use Rattle.sd_model_shard.proofs.ListedLemmas.{retained}
 
 both : (a b : Bool) → T a → T b → T (a && b)
@@ -29,15 +30,15 @@ second true b p = p
 second false b p = absurd p
 
 -- each with its key
-abbrev by_key : {X : Type 0} → (X → List ℕ) → List X → List (List ℕ × X)
+abbrev pub by_key : {X : Type 0} → (X → List ℕ) → List X → List (List ℕ × X)
 by_key key xs = map (λ x. (key x, x)) xs
 
 module _ {X : Type 0} (key : X → List ℕ) where
-  keyed_back : (xs : List X) → map (λ (e : List ℕ × X). e.1) (by_key key xs) ≡ xs
+  pub keyed_back : (xs : List X) → map (λ (e : List ℕ × X). e.1) (by_key key xs) ≡ xs
   keyed_back [] = refl
   keyed_back (x ∷ xs) = ap (λ ys. x ∷ ys) (keyed_back xs)
 
-  keyed_sorted : (xs : List X) → IsSortedByKey key (slice_cmp nat_cmp) xs → IsSortedByKey (λ (e : List ℕ × X). e.0) (slice_cmp nat_cmp) (by_key key xs)
+  pub keyed_sorted : (xs : List X) → IsSortedByKey key (slice_cmp nat_cmp) xs → IsSortedByKey (λ (e : List ℕ × X). e.0) (slice_cmp nat_cmp) (by_key key xs)
   keyed_sorted [] up = λ k d low high. absurd (omega arith)
   keyed_sorted (x ∷ xs) up = λ k d low high.
       let es = by_key key (x ∷ xs) in
@@ -56,6 +57,20 @@ module _ {X : Type 0} (key : X → List ℕ) where
       sym (entries-sorted nat_list_cmp_total exact es fs (StandApart-sorted (slice_cmp nat_cmp) es strict) (IsPermutation-map (λ (x : X). (key x, x)) told xs (IsPermutation-sym xs told moved)) (keyed_sorted xs up))
       ∙ entries-from_entries nat_list_cmp_total exact es strict in
       sym (keyed_back xs) ∙ ap (map (λ (e : List ℕ × X). e.1)) same ∙ keyed_back told
+
+  -- what is told in strict order is what any order of it comes to
+  reordered : (told xs : List X) → T (is_sorted (slice_cmp nat_cmp) (by_key key told)) → IsPermutation told xs → in_key_order key xs ≡ told
+  reordered told xs strict moved =
+      let exact = slice_cmp-IsAntisymmetric nat_cmp-IsAntisymmetric in
+      let es = by_key key told in
+      let fs = by_key key xs in
+      let same : entries (from_entries {R = slice_cmp nat_cmp} fs) ≡ es =
+      ap entries (same_map nat_list_cmp_total exact (from_entries fs) (from_entries es) (λ q.
+      get-from_entries nat_list_cmp_total fs q
+      ∙ sym (find-IsPermutation nat_list_cmp_total exact es fs (StandApart-sorted (slice_cmp nat_cmp) es strict) (IsPermutation-map (λ (x : X). (key x, x)) told xs moved) q)
+      ∙ sym (get-from_entries nat_list_cmp_total es q)))
+      ∙ entries-from_entries nat_list_cmp_total exact es strict in
+      ap (map (λ (e : List ℕ × X). e.1)) same ∙ keyed_back told
 
 below-filter : (p : RowId → Bool) (id : RowId) (es : List (RowId × Kept)) → T (below_all row_cmp id es) → T (below_all row_cmp id (filter (λ (e : RowId × Kept). p e.0) es))
 below-filter p id [] h = tt
@@ -116,10 +131,17 @@ module _ {X : Type 0} (key : X → List ℕ) (f : RowId × Kept → X) (same : (
       both (below_all (slice_cmp nat_cmp) (key (f e)) (by_key key (map f es))) (is_sorted (slice_cmp nat_cmp) (by_key key (map f es)))
       (below_keys e es all.0 all.1 (first _ _ h)) (strict_keys es all.1 (second _ _ h))
 
-  -- what is told of the rows of a kind that pass a test, put into the order of the keys
+  strict_told : (live : Rows) (p : RowId → Bool) → ((id : RowId) → p id ≡ true → rank id.kind ≡ n) → T (is_sorted (slice_cmp nat_cmp) (by_key key (map f (entries (retain_keys live p)))))
+  strict_told live p tells =
+      strict_keys (entries (retain_keys live p)) (subst (AreOfRank n) (sym (entries-retain_keys live p)) (of_rank n p tells (entries live))) (entries_sorted (retain_keys live p))
+
+  -- what is told of the rows of a kind that pass a test, sorted by the keys
   pub told_in_order : (live : Rows) (p : RowId → Bool) → ((id : RowId) → p id ≡ true → rank id.kind ≡ n) → (xs : List X)
       → IsPermutation xs (map f (entries (retain_keys live p))) → IsSortedByKey key (slice_cmp nat_cmp) xs → xs ≡ map f (entries (retain_keys live p))
-  told_in_order live p tells xs moved up =
-      in_order key (map f (entries (retain_keys live p))) xs
-      (strict_keys (entries (retain_keys live p)) (subst (AreOfRank n) (sym (entries-retain_keys live p)) (of_rank n p tells (entries live))) (entries_sorted (retain_keys live p)))
-      moved up
+  told_in_order live p tells xs moved up = in_order key (map f (entries (retain_keys live p))) xs (strict_told live p tells) moved up
+
+  -- the same, in any order
+  pub told_in_any_order : (live : Rows) (p : RowId → Bool) → ((id : RowId) → p id ≡ true → rank id.kind ≡ n) → (xs : List X)
+      → IsPermutation xs (map f (entries (retain_keys live p))) → in_key_order key xs ≡ map f (entries (retain_keys live p))
+  told_in_any_order live p tells xs moved =
+      reordered key (map f (entries (retain_keys live p))) xs (strict_told live p tells) (IsPermutation-sym xs (map f (entries (retain_keys live p))) moved)

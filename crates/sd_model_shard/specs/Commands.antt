@@ -1,6 +1,8 @@
 -- What an admin asks of rows and entries: which of them a deletion takes out, and what a dump tells of them.
 use Rattle.std.specs.Prelude.{ℕ, ◌==◌, ◌&&◌, Bool, not, ℤ, List, length, filter, map}
-use Rattle.std.specs.FinMap.{entries, retain_keys}
+use Rattle.std.specs.Ordering.{nat_cmp}
+use Rattle.std.specs.Cmp.Lexicographic.{slice_cmp}
+use Rattle.std.specs.FinMap.{entries, from_entries, retain_keys}
 use Rattle.sd_model_text.specs.Names.{Kind, rank, matches}
 use Rattle.sd_model_shard.specs.Rows.{RowId, Kept, Rows, Entry, row_of, entries_of}
 use Rattle.sd_model_shard.specs.Statistics.{amount_of}
@@ -47,3 +49,7 @@ dump_row held row =
 -- what a dump tells of the rows of a kind, in the order of the bytes of their keys
 abbrev pub dump_of : Kind → Rows → List Entry → List DumpRow
 dump_of kind live held = map (dump_row held) (entries (retain_keys live (is_of_kind kind)))
+
+-- things with keys, of which no key stands twice, in the order of the bytes of their keys
+abbrev pub in_key_order : {X : Type 0} → (X → List ℕ) → List X → List X
+in_key_order key xs = map (λ e. e.1) (entries (from_entries {R = slice_cmp nat_cmp} (map (λ x. (key x, x)) xs)))

@@ -5,3 +5,4 @@ pub mod Statistics
 pub mod Values
 pub mod History
 pub mod Whereabouts
+pub mod Codes

@@ -4,7 +4,7 @@ use Rattle.std.specs.List.{range_with_len}
 use Rattle.std.specs.List.Sorted.{IsPermutation, IsStrictlyIncreasing}
 use Rattle.sd_model_text.specs.Lines.{Sample}
 use Rattle.sd_model_shard.specs.Rows.{Rows, Entry, row_of, touched}
-use Rattle.sd_model_shard.specs.Shard.{State, empty_state, Limits, Policy, Placed, Taken, Dropped, Cause, Table, Event, Submit, Swap, Delete, Reply, Answered, Swapped, carried, last_number}
+use Rattle.sd_model_shard.specs.Shard.{State, empty_state, Limits, Policy, Placed, Taken, Dropped, Cause, Table, Event, Submit, Swap, Delete, Reply, Answered, Swapped, Deleted, carried, last_number}
 use Rattle.sd_model_shard.specs.Commands.{rows_left, entries_taken_out}
 use Rattle.sd_model_shard.specs.History.{History, acts_from, state_after}
 
@@ -80,10 +80,36 @@ deleted_from limits policy state acts = flat_map (λ m. taken_out m.before m.act
 abbrev pub deletions : Limits → Policy → History → List Entry
 deletions limits policy acts = deleted_from limits policy empty_state acts
 
+-- how many samples a reply takes: 1 where it took one, and else 0
+abbrev pub taken_in : Reply → ℕ
+taken_in (Answered (Taken number)) = 1
+taken_in reply = 0
+
 -- 1 for a drop, and else 0
 abbrev pub dropped_in : Reply → ℕ
 dropped_in (Answered (Dropped cause)) = 1
 dropped_in reply = 0
+
+-- how many entries a reply hands out
+abbrev pub flushed_in : Reply → ℕ
+flushed_in (Swapped table) = length table.held
+flushed_in reply = 0
+
+-- how many entries a reply deletes
+abbrev pub deleted_in : Reply → ℕ
+deleted_in (Deleted keys rows samples) = samples
+deleted_in reply = 0
+
+-- the replies of a history, each weighed, added up
+abbrev pub told_by : (Reply → ℕ) → History → ℕ
+told_by weigh acts = sum_by (λ a. weigh a.reply) acts
+
+-- The numbers of the state after a history are what its replies add up to; drops are counted up to the last number.
+pub record AreSums (acts : History) (last : State) : Type 0 where
+  pub taken : last.taken ≡ told_by taken_in acts
+  pub flushed : last.flushed ≡ told_by flushed_in acts
+  pub deleted : last.deleted ≡ told_by deleted_in acts
+  pub dropped : last.dropped ≡ min (told_by dropped_in acts) last_number
 
 -- Each sample submitted has one fate. Those that were taken have the numbers 0, 1, 2 and so on, and stand, each once,
 -- in the journals of the swaps, in what the deletions took out, or among the entries held; the others were dropped.

@@ -6,7 +6,7 @@ ghost use Rattle.sd_model_text.specs.Names.{Kind};
 ghost use Rattle.sd_model_shard.specs.Commands.{is_hit, rows_left};
 ghost use Rattle.sd_model_shard.specs.Shard.{State, empty_state, Limits, Policy, Event, carried, left_of, step};
 ghost use Rattle.sd_model_shard.specs.History.{Act, Asked, History, Legal, StandsAt, act_of, after, after_all, answered, state_after};
-ghost use Rattle.sd_model_shard.specs.Whereabouts.{Accounted, RowsAreCarried, StandsOnce, arrival_in, arrivals, rows_with};
+ghost use Rattle.sd_model_shard.specs.Whereabouts.{Accounted, AreSums, RowsAreCarried, StandsOnce, arrival_in, arrivals, rows_with};
 
 /// Each sample of a legal history is in one place: the journal of one swap, what one deletion took out, among the
 /// entries held, or dropped. The rows that each swap answers are those carried in, without those deleted since, and
@@ -16,6 +16,11 @@ pub fn histories_are_accounted()
     ensures once { (limits : Limits) (policy : Policy) (acts : History) → Legal limits policy acts
         → (number : ℕ) → number < (state_after limits policy acts).taken → StandsOnce limits policy acts number }
     ensures rows { (limits : Limits) (policy : Policy) (acts : History) → Legal limits policy acts → RowsAreCarried policy empty acts }
+{}
+
+/// The numbers of the state after a legal history are what its replies add up to.
+pub fn numbers_are_sums()
+    ensures { (limits : Limits) (policy : Policy) (acts : History) → Legal limits policy acts → AreSums acts (state_after limits policy acts) }
 {}
 
 /// A history is legal where its front is and each act behind it is a step; and events with the replies of the step

@@ -28,7 +28,8 @@ use Rattle.sd_model_replay.specs.Settings.{Settings}
 use Rattle.sd_model_replay.specs.Script.{Command, Packet, Flush, Admin}
 use Rattle.sd_model_replay.specs.Replay.{Outcome, Played, Run, first_run, events_in, admin_events, play, run_of, moments, FlushMoment, flushes}
 use Rattle.sd_model_replay.specs.Output.{answers_to, keys_in, rows_in}
-use Rattle.sd_model_replay.proofs.OrderLemmas.{by_key, StandOnce, StandOnce-shards, StandApart-shards, keys_once, rows_once, hit_of_kind}
+use Rattle.sd_model_shard.proofs.ToldLemmas.{by_key}
+use Rattle.sd_model_replay.proofs.OrderLemmas.{StandOnce, StandOnce-shards, StandApart-shards, keys_once, rows_once, hit_of_kind}
 use Rattle.sd_model_shards.specs.Shards.{AtHome, rows_before}
 use Rattle.sd_model_shards.proofs.ViewLemmas.{after_asked}
 use Rattle.sd_model_shards.proofs.EventsLemmas.{asks, submits, other_row}

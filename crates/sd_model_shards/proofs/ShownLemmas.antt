@@ -10,7 +10,7 @@ use Rattle.sd_model_text.specs.Names.{Kind, shard}
 use Rattle.sd_model_text.specs.Lines.{Sample}
 use Rattle.sd_model_settings.specs.Settings as file
 use Rattle.sd_model_shard.specs.Rows.{RowId, row_cmp}
-use Rattle.sd_model_shard.specs.Commands.{dump_of}
+use Rattle.sd_model_shard.specs.Commands.{dump_of, in_key_order}
 use Rattle.sd_model_shard.specs.Shard as at_shard
 use Rattle.sd_model_shard.specs.Shard.{State, Cause, Limits, Policy, Event, Submit, Swap, Delete, Dump, Table, step, admitted, refusal, deletion_of, after_delete, table_of, Dumped}
 use Rattle.sd_model_shard.specs.History.{Act, Asked, act_of, answered}
@@ -26,7 +26,7 @@ use Rattle.sd_model_replay.specs.Script.{Command, Packet, Flush, Admin}
 use Rattle.sd_model_replay.specs.Backends.{Backend, Graphite, Console, Delivery, text_of, mark_of}
 use Rattle.sd_model_replay.specs.Repeater.{failures}
 use Rattle.sd_model_replay.specs.Replay.{Outcome, Played, Run, first_run, events_in, events_at, acts_in, admin_events, replies_to, packet_tally, health_after, desk_after, desk_after_line, play, run_of, Moment, moments, FlushMoment, flush_by, flushes, record_at, records, deliveries}
-use Rattle.sd_model_replay.specs.Output.{answers_to, keys_in, rows_in, keys_told, rows_told, in_key_order, names_replied, replies_to_line, replies_in, output_in, output_of}
+use Rattle.sd_model_replay.specs.Output.{answers_to, keys_in, rows_in, keys_told, rows_told, names_replied, replies_to_line, replies_in, output_in, output_of}
 use Rattle.sd_model_shards.specs.Shards.{over, NoneDropped, ShowsNone, ShowsNoSettings}
 use Rattle.sd_model_shards.proofs.ViewLemmas.{View, nothing, view-empty}
 use Rattle.sd_model_shards.proofs.EventsLemmas.{asks, Reflects, Reflects-command, Reflects-delete, seen_after, seen_left, NoneIn, none_cut}

@@ -17,13 +17,13 @@ use Rattle.sd_model_settings.specs.Defaults.{Plan}
 use Rattle.sd_model_shard.specs.Rows.{RowId, row_cmp, Kept, Rows, Entry, entries_of}
 use Rattle.sd_model_shard.specs.Values.{total, distinct}
 use Rattle.sd_model_shard.specs.Statistics.{sample_weight, weight_of, values_of, members_of, gauge_value, gauge_after, amount_by}
-use Rattle.sd_model_shard.specs.Commands.{DumpRow, dump_row, dump_of, is_hit, is_of_kind, keys_of, rows_taken_out}
+use Rattle.sd_model_shard.specs.Commands.{DumpRow, dump_row, dump_of, in_key_order, is_hit, is_of_kind, keys_of, rows_taken_out}
 use Rattle.sd_model_shard.specs.Shard.{State, table_of}
 use Rattle.sd_model_shard.proofs.RowLemmas.{rows_exact, rows_total}
 use Rattle.sd_model_shard.proofs.DeletionLemmas.{same_row}
 use Rattle.sd_model_record.specs.Record.{Row, CounterRow, TimerRow, GaugeRow, SetRow, timer_figures, row_of_kind, row_value, table_rows}
-use Rattle.sd_model_replay.specs.Output.{in_key_order}
-use Rattle.sd_model_replay.proofs.OrderLemmas.{by_key, by_key-flat_map, AreOfKind, retained_of_kind, hit_of_kind, tie_by_key}
+use Rattle.sd_model_shard.proofs.ToldLemmas.{by_key}
+use Rattle.sd_model_replay.proofs.OrderLemmas.{by_key-flat_map, AreOfKind, retained_of_kind, hit_of_kind, tie_by_key}
 use Rattle.sd_model_shards.proofs.ViewLemmas.{View, nothing, view, came_to, gauge_from}
 use Rattle.sd_model_shards.proofs.EventsLemmas.{Reflects}
 use Rattle.sd_model_shards.proofs.MergedLemmas.{merged_alike}

@@ -1,6 +1,6 @@
 -- Datagrams and lines: the pieces of a datagram, and the sample of a piece. The form of a line is that of
 -- StatsD, `NAME:VALUE|TYPE`, with or without `|@RATE` behind it.
-use Rattle.std.specs.Prelude.{ℕ, ◌+◌, ◌^◌, ◌==◌, ◌&&◌, ◌||◌, Bool, true, false, not, nat_lt, nat_le, ℤ, pos, negsuc, unsigned_abs, int_lt, List, [], ◌∷◌, length, map, filter, if◌then◌else◌, Option, Some, None, Result, Ok, Err, slice_get, unwrap_or, ok_or, filter_map, count_by, codes}
+use Rattle.std.specs.Prelude.{ℕ, ◌+◌, ◌^◌, ◌==◌, ◌&&◌, ◌||◌, Bool, true, false, not, nat_lt, nat_le, ℤ, pos, negsuc, unsigned_abs, int_lt, List, [], ◌∷◌, length, map, filter, if◌then◌else◌, Option, Some, None, Result, Ok, Err, slice_get, unwrap_or, option_map, ok_or, filter_map, count_by, codes}
 use Rattle.std.specs.List.{list_any}
 use Rattle.std.specs.Str.{bytes_eq}
 use Rattle.sd_model_text.specs.Lists.{is_white_space, trim_end, split, cut_at, Cut}
@@ -34,9 +34,17 @@ abbrev pub is_empty : {A : Type 0} → List A → Bool
 is_empty [] = true
 is_empty (x ∷ xs) = false
 
--- the pieces of a datagram: its lines without the white space behind them, and without the empty ones
+-- the lines of a datagram: its parts between newlines, without the white space behind them, and without the empty ones
+abbrev pub lines : List ℕ → List (List ℕ)
+lines datagram = filter (λ line. not (is_empty line)) (map (trim_end is_white_space) (split 10 datagram))
+
+-- the pieces of a datagram: each line is one
 abbrev pub pieces : List ℕ → List (List ℕ)
-pieces datagram = filter (λ piece. not (is_empty piece)) (map (trim_end is_white_space) (split 10 datagram))
+pieces datagram = lines datagram
+
+-- the name of a line: what stands before its first colon, where it has one
+abbrev pub name_in_line : List ℕ → Option (List ℕ)
+name_in_line line = option_map (λ c. c.part) (cut_at 58 line)
 
 -- the type of each kind
 abbrev pub type_text : Kind → List ℕ

@@ -1,6 +1,8 @@
 -- Totals over lists that change at one place, and numbers that stand once.
 use Rattle.std.proofs.Common.{◌≡◌, ℕ, zero, suc, ◌+◌, ◌<◌, ◌≤◌, ◌≢◌, Bool, true, false, eqb, eq-eqb, ne_eqb, List, [], ◌∷◌, ◌++◌, set, sym, refl, ap, subst, ⊎_elim, add-zero, add-one, zero-add, map, length, ◌∙◌, arith, All, Any}
+use Rattle.std.specs.Prelude.{sum_by}
 use Rattle.std.proofs.lemmas.List.Elements.{All-nil, All-cons}
+use Rattle.std.proofs.lemmas.List.Sums.{sum_by-cons}
 use mathlib.Core.Logic.{dite}
 use native.Mathlib.Decide.{ℕ_discrete}
 use mathlib.Core.Option.{some, some-injective, some-ne-none}
@@ -32,6 +34,11 @@ module _ {A : Type 0} where
     pub total-append : (l m : List A) → total g (l ++ m) ≡ total g l + total g m
     total-append [] m = omega arith
     total-append (x ∷ xs) m = omega (arith, total-append xs m)
+
+    -- the same as the library has it
+    pub total-sum_by : (l : List A) → total g l ≡ sum_by g l
+    total-sum_by [] = refl
+    total-sum_by (x ∷ xs) = omega (arith, sum_by-cons g x xs, total-sum_by xs)
 
     pub total-set : (l : List A) (j : ℕ) (v w : A) → get_elem? l j ≡ some v → total g (set l j w) + g v ≡ total g l + g w
     total-set [] j v w e = absurd (some-ne-none v (sym e))

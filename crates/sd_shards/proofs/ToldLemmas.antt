@@ -8,8 +8,8 @@ use Rattle.std.proofs.lemmas.List.Folds.{flat_map-map}
 use Rattle.std.proofs.lemmas.List.Sorted.{IsPermutation-append, IsPermutation-sym, IsPermutation-trans, length_permutation}
 use Rattle.sd_model_text.specs.Names.{Kind}
 use Rattle.sd_model_shard.specs.Shard.{State, Dumped, deletion_of}
-use Rattle.sd_model_shard.specs.Commands.{DumpRow, dump_of}
-use Rattle.sd_model_replay.specs.Output.{in_key_order, keys_in, keys_told, rows_in, rows_told}
+use Rattle.sd_model_shard.specs.Commands.{DumpRow, dump_of, in_key_order}
+use Rattle.sd_model_replay.specs.Output.{keys_in, keys_told, rows_in, rows_told}
 use Rattle.sd_model_replay.proofs.OrderLemmas.{in_key_order_is, keys_in_order}
 use Rattle.sd_model_shards.specs.Shards.{AtHome}
 use Rattle.sd_model_shards.proofs.HomeLemmas.{all_keys_once, all_rows_once}

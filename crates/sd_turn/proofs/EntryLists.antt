@@ -39,3 +39,8 @@ Any-seat {X} {N} account number same all accounts are count numbered n below =
     let third = total-map account (λ (a : Account N). is n a.number) all in
     let a = Any-numbered (λ x. (account x).number) n all (omega arith) in
     (a.0, a.1, a.2, a.3, sym (same a.1) ∙ a.4)
+
+-- the numbers of accounts are those of their seats
+pub numbers-map : {X N : Type 0} (account : X → Account N) (number : X → ℕ) → ((x : X) → (account x).number ≡ number x) → (all : List X) → map (λ (a : Account N). a.number) (map account all) ≡ map number all
+numbers-map account number same [] = refl
+numbers-map account number same (x ∷ all) = λ i. same x i ∷ numbers-map account number same all i

@@ -1,6 +1,7 @@
 -- What contracts read of a turn with a history and of its seats.
-use Rattle.std.specs.Prelude.{◌≡◌, ℕ, ◌<◌, List, [], Some, All, Any}
+use Rattle.std.specs.Prelude.{◌≡◌, ℕ, ◌<◌, List, [], map, Some, All, Any}
 use Rattle.sd_seats.specs.declared.view.Account.{Account}
+use Rattle.sd_seats.specs.Lists.{total, span}
 use Rattle.sd_seats.specs.Views.{first_account}
 use Rattle.sd_turn.specs.Entries.{Begins, entries_by}
 use Rattle.sd_turn.specs.declared.stepped.Stepped.{Ghosts}
@@ -55,3 +56,4 @@ module _ {V A R N F : Type 0} {g : Ghosts V A R N F} where
     pub entries : All (λ s. own s ≡ entries_by g.who (number_of s) log) seats
     pub whose : All (λ e. Any (λ s. number_of s ≡ g.who e) seats) log
     pub inside : All (λ e. g.who e < seats_of t) log
+    pub numbered : (weigh : ℕ → ℕ) → total weigh (map number_of seats) ≡ total weigh (span 0 (seats_of t))

@@ -3,10 +3,10 @@ use Rattle.std.specs.Prelude.{◌≡◌, ◌^◌, ◌≤◌, true, pos, ◌≤�
 use Rattle.sd_model_text.specs.Lines as model
 use Rattle.sd_model_text.specs.Names.{Timer, clean, cleaned}
 use Rattle.sd_key.specs.Kind.{kind_of}
-use Rattle.sd_line.specs.declared.parts.Parts.TheInside.{Inside}
+use Rattle.sd_line.specs.declared.reading.Reading.TheInside.{Inside}
 
-abbrev pub parts_view : Inside → model.Sample
-parts_view p =
+abbrev pub reading_view : Inside → model.Sample
+reading_view p =
     record {
       kind = kind_of p.kind;
       key = cleaned p.name.now;
@@ -18,7 +18,7 @@ parts_view p =
 
 -- The name has a key, which it is as it stands where that is known; and the numbers and the member are within the limits of
 -- samples.
-pub record AreParts (p : Inside) : Type 0 where
+pub record IsReading (p : Inside) : Type 0 where
   pub named : clean p.name.now ≡ Ok (cleaned p.name.now)
   pub plain : p.is_key ≡ true → clean p.name.now ≡ Ok p.name.now
   pub rate_low : pos 1 ≤ℤ p.rate.0
