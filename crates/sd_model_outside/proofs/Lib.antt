@@ -1,2 +1,4 @@
+pub mod DeliveryLemmas
 pub mod OutsideLemmas
+pub mod TurnLemmas
 pub mod WriteLemmas
