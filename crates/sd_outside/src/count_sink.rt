@@ -1,4 +1,7 @@
-use sd_outside::{Address, Backend, Failed, Faulty, OpenRefusal, Opens, Sink};
+use crate::address::Address;
+use crate::backend::Backend;
+use crate::opens::{Failed, Faulty, OpenRefusal, Opens};
+use crate::sink::Sink;
 
 /// A sink and a backend that counts the bytes that it is given, up to 2^64 - 1, where the count stays, and keeps none
 /// of them. It takes whole pieces, takes no memory, and never fails.
@@ -10,11 +13,11 @@ pub struct CountSink {
 
 impl CountSink {
     ghost use Rattle.std.specs.Prelude.{◌≡◌, None};
-    ghost use Rattle.sd_model_outside.specs.Outside.{Number};
+    ghost use Rattle.sd_model_outside.specs.Outside.{Number, fresh};
 
     /// A sink that was given nothing.
     pub fn new() -> CountSink
-        ensures { ⟦<CountSink as Faulty>⟧.seen result ≡ record { told = Number 0; faults = 0; opened_at = None } }
+        ensures { ⟦<CountSink as Faulty>⟧.seen result ≡ fresh (Number 0) }
     {
         CountSink {
             count: 0,
@@ -32,7 +35,7 @@ impl CountSink {
 
 impl Faulty for CountSink {
     ghost use Rattle.std.proofs.Common.{arith};
-    ghost use Rattle.sd_drill.specs.CountSink.{seen_of};
+    ghost use Rattle.sd_outside.specs.CountSink.{seen_of};
 
     ghost seen = { seen_of };
 
@@ -42,7 +45,7 @@ impl Faulty for CountSink {
 impl Opens for CountSink {
     ghost use Rattle.std.specs.Prelude.{◌≡◌, IsOkAnd};
     ghost use Rattle.sd_model_outside.specs.Outside.{opened};
-    ghost use Rattle.sd_drill.specs.CountSink.{seen_of};
+    ghost use Rattle.sd_outside.specs.CountSink.{seen_of};
     ghost use Rattle.sd_outside.specs.Places.{place_of};
 
     fn open_at(&mut self, at: &Address) -> Result<(), OpenRefusal>
@@ -57,7 +60,7 @@ impl Sink for CountSink {
     ghost use Rattle.std.specs.Prelude.{◌≡◌, ◌<◌, length, IsOkAnd};
     ghost use Rattle.std.proofs.Common.{arith};
     ghost use Rattle.sd_model_outside.specs.Outside.{given};
-    ghost use Rattle.sd_drill.specs.CountSink.{Takes, seen_of};
+    ghost use Rattle.sd_outside.specs.CountSink.{Takes, seen_of};
 
     fn write(&mut self, bytes: &[u8]) -> Result<usize, Failed>
         requires { 0 < length bytes.now }

@@ -1,6 +1,6 @@
-use Rattle.sd_model_replay.specs.Backends.{missed}
-use Rattle.sd_model_replay.proofs.DeliveryLemmas.{all_counts, none_missed, written_flush}
-use Rattle.sd_model_replay.proofs.accounting.no_fault_no_failure.Goals as goal
+use Rattle.sd_model_outside.specs.Deliveries.{missed}
+use Rattle.sd_model_outside.proofs.DeliveryLemmas.{all_counts, none_missed, written_flush}
+use Rattle.sd_model_outside.proofs.deliveries.no_fault_no_failure.Goals as goal
 
 pub returns-clause-flush : goal.returns-clause-flush
 returns-clause-flush c mark text old new used steady after = written_flush mark text old new used steady after

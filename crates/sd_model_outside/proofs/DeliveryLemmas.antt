@@ -3,8 +3,7 @@ use Rattle.std.proofs.Common.{◌≡◌, ◌+◌, ◌≢◌, ℕ, zero, suc, fal
 use Rattle.std.proofs.lemmas.List.Elements.{filter-append}
 use Rattle.std.proofs.lemmas.List.Sums.{sum_by-cons}
 use Rattle.sd_model_outside.specs.Outside.{Round, Told, Rounds, Object, Used, Rose, RoseBy, appended, begun, ended, lists_of, told_lists}
-use Rattle.sd_model_record.specs.Desk.{Mark, NotUsed, Written, Fault, fault_of, is_written}
-use Rattle.sd_model_replay.specs.Backends.{Delivery, AfterMark, AfterDeliveries, missed, whole_list, LeavesLists, LeaveLists, HasLists, texts_written}
+use Rattle.sd_model_outside.specs.Deliveries.{Mark, NotUsed, Written, Fault, fault_of, is_written, Delivery, AfterMark, AfterDeliveries, missed, whole_list, LeavesLists, LeaveLists, HasLists, texts_written}
 
 -- what one flush leaves to such a backend, which goes on to tell its lists
 record ToldAfter (mark : Mark) (text : List ℕ) (before : List Round) (now : Told) : Type 0 where

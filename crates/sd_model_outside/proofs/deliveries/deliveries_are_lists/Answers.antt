@@ -1,5 +1,5 @@
-use Rattle.sd_model_replay.proofs.DeliveryLemmas.{all_told, ended_told, all_counts}
-use Rattle.sd_model_replay.proofs.accounting.deliveries_are_lists.Goals as goal
+use Rattle.sd_model_outside.proofs.DeliveryLemmas.{all_told, ended_told, all_counts}
+use Rattle.sd_model_outside.proofs.deliveries.deliveries_are_lists.Goals as goal
 
 pub returns-clause-lists : goal.returns-clause-lists
 returns-clause-lists c deliveries rounds open_list old new told h = all_told deliveries rounds open_list old new told h
