@@ -7,7 +7,8 @@ use crate::command::AdminFault;
 use crate::reply_lines::{
     config_line, end_line, fault_line, gone_line, health_line, rows_line, stats_line,
 };
-use sd_config::{LineText, ReplyLine, Settings, write_lines};
+use sd_config::Settings;
+use sd_config_text::{LineText, ReplyLine, config_line_count, write_lines};
 use sd_desk::DeskFacts;
 use sd_key::{Kind, Pattern};
 use sd_outside::{Failed, Sink, WriteFault};
@@ -57,7 +58,7 @@ impl LineText for Reply<'_> {
             Reply::Gone { pattern: _, keys } => keys.len().max(1),
             Reply::Finish => 2,
             Reply::Health { up: _ } | Reply::Fault { fault: _ } => 1,
-            Reply::Config { settings } => settings.config_line_count() + 2,
+            Reply::Config { settings } => config_line_count(settings) + 2,
         }
     }
 

@@ -8,7 +8,8 @@ ghost use Rattle.sd_desk.specs.Facts.{facts_view};
 ghost use Rattle.sd_admin.specs.Command.{fault_view};
 
 use crate::command::AdminFault;
-use sd_config::{ReplyLine, Settings, line_of, number_line, push_text};
+use sd_config::Settings;
+use sd_config_text::{ReplyLine, config_line_count, line_of, number_line, push_text};
 use sd_decimal::{Line, write, write_whole};
 use sd_desk::DeskFacts;
 use sd_key::{Kind, Pattern};
@@ -125,9 +126,9 @@ pub(crate) fn health_line(up: bool, place: usize) -> Option<ReplyLine>
 pub(crate) fn config_line(settings: &Settings, place: usize) -> Option<ReplyLine>
     ensures { option_map (λ l. l.items) result ≡ slice_get (config_lines settings.now ++ end_lines) place }
 {
-    let lines = settings.config_line_count();
+    let lines = config_line_count(settings);
     if place < lines {
-        settings.config_line(place)
+        sd_config_text::config_line(settings, place)
     } else {
         end_line(place - lines)
     }

@@ -1,10 +1,14 @@
-//! Cases of numbers, names and datagrams: reads a call and its arguments from each line, makes the call, and prints the
-//! line with its answer.
+//! Cases of numbers, names, datagrams, statistics and rings: reads a call and its arguments from each line, makes the call,
+//! and prints the line with its answer.
 #![tactic(auto)]
 
 mod datagrams;
+mod members;
 mod names;
 mod numbers;
+mod rings;
+mod timers;
+mod values;
 
 use sd_case::{Answer, Refusal, answer_cases};
 use std::alloc::Global;
@@ -12,8 +16,28 @@ use std::io;
 
 /// Makes the call of a case.
 fn call(alloc: Global, words: &[&str], out: &mut Answer) -> Result<(), Refusal> {
-    out.text(" = ");
     match words {
+        ["nodes", nodes] => rings::nodes(alloc, nodes, out),
+        ["owners", nodes, cache, ups, keys @ ..] => {
+            rings::owners(alloc, nodes, cache, ups, keys, out)
+        }
+        _ => {
+            out.text(" = ");
+            call_of_values(alloc, words, out)
+        }
+    }
+}
+
+/// Makes a call of statistics, or one of one or two arguments.
+fn call_of_values(alloc: Global, words: &[&str], out: &mut Answer) -> Result<(), Refusal> {
+    match words {
+        ["sorted", values @ ..] => timers::sorted(alloc, values, out),
+        ["whole", weight, interval, values @ ..] => {
+            timers::whole(alloc, weight, interval, values, out)
+        }
+        ["pct", threshold, values @ ..] => timers::pct(alloc, threshold, values, out),
+        ["bin", from, below, values @ ..] => timers::bin(alloc, from, below, values, out),
+        ["distinct", members @ ..] => members::distinct_of(alloc, members, out),
         [call, argument] => call_of_one(alloc, call, argument, out),
         [call, first, second] => call_of_two(alloc, call, first, second, out),
         _ => Err(Refusal::UnknownCall),

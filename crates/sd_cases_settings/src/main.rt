@@ -5,8 +5,10 @@
 mod values;
 
 use sd_case::{Answer, Refusal, answer_cases, bytes_of, number};
-use sd_config::{ConfigFault, Names, Reckoning, Settings};
+use sd_config::{ConfigFault, NamesOf, Settings};
+use sd_config_text::{ConfigText, config_line};
 use sd_outside::{Failed, MemSink, Name};
+use sd_plan::{Names, Reckoning};
 use std::alloc::Global;
 use std::io;
 use values::{CALLS, show_histogram, show_names, show_thresholds, show_value};
@@ -80,7 +82,7 @@ fn show_all(settings: &Settings, out: &mut Answer) -> Result<(), Refusal> {
 /// Appends the lines of the reply to `config`, each on a line.
 fn show_config(settings: &Settings, out: &mut Answer) {
     for place in 0..usize::MAX {
-        match settings.config_line(place) {
+        match config_line(settings, place) {
             Some(line) => {
                 out.text("\n  ");
                 out.bytes(line.as_slice());

@@ -1,5 +1,6 @@
 use sd_case::{Answer, Refusal};
-use sd_config::{Classes, Names, Node, Settings, Target};
+use sd_config::Settings;
+use sd_plan::{Classes, Names, Node, Target};
 use sd_decimal::{Limit, Micro};
 use sd_outside::Name;
 

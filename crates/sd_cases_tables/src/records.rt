@@ -2,7 +2,8 @@ ghost use Rattle.std.specs.Prelude.{◌≡◌, ◌≤◌, length, IfOk};
 ghost use Rattle.sd_record.specs.Record.{room_of, SameScratch};
 
 use sd_case::{Answer, Refusal, number};
-use sd_config::{Names, Settings};
+use sd_config::Settings;
+use sd_plan::Names;
 use sd_decimal::Limit;
 use sd_desk::Tally;
 use sd_epoch::Table;

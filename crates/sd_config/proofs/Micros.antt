@@ -4,7 +4,7 @@ use Rattle.std.specs.List.{list_all, list_any}
 use Rattle.std.specs.Ordering.{int_eq}
 use Rattle.sd_decimal.specs.declared.number.Micro.{Micro}
 use Rattle.sd_model_settings.specs.Values.{are_distinct}
-use Rattle.sd_config.specs.Values.{micros}
+use Rattle.sd_plan.specs.Values.{micros}
 
 pub list_all_micros : (p : ℤ → Bool) (xs : List Micro) → list_all p (micros xs) ≡ list_all (λ m. p m.0) xs
 list_all_micros p [] = refl

@@ -1,12 +1,12 @@
 -- The groups of settings as the definitions have them.
 use Rattle.std.specs.Prelude.{map}
 use Rattle.sd_model_settings.specs.Settings as model
-use Rattle.sd_config.specs.Values.{micros, name_bytes}
-use Rattle.sd_config.specs.Entries.{classes_view, target_view, node_view}
+use Rattle.sd_plan.specs.Values.{micros, name_bytes}
+use Rattle.sd_plan.specs.Entries.{classes_view, target_view, node_view}
 use Rattle.sd_config.specs.declared.groups.Server.{Server}
 use Rattle.sd_config.specs.declared.groups.Deletions.{Deletions}
 use Rattle.sd_config.specs.declared.groups.Addresses.{Addresses}
-use Rattle.sd_config.specs.declared.groups.Namespace.{Namespace}
+use Rattle.sd_plan.specs.declared.names.Namespace.{Namespace}
 use Rattle.sd_config.specs.declared.groups.EntryLists.{EntryLists}
 use Rattle.sd_config.specs.declared.groups.Sizes.{Sizes}
 
@@ -38,18 +38,6 @@ addresses_view s =
       backends = name_bytes s.backends.items;
       graphite_host = s.graphite_host.items;
       graphite_port = s.graphite_port;
-    }
-
-abbrev pub namespace_view : Namespace → model.Namespace
-namespace_view s =
-    record {
-      legacy = s.legacy;
-      global_prefix = s.global_prefix.items;
-      prefix_counter = s.prefix_counter.items;
-      prefix_timer = s.prefix_timer.items;
-      prefix_gauge = s.prefix_gauge.items;
-      prefix_set = s.prefix_set.items;
-      global_suffix = s.global_suffix.items;
     }
 
 abbrev pub entry_lists_view : EntryLists → model.EntryLists

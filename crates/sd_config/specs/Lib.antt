@@ -1,5 +1,3 @@
 pub mod Answers
 pub mod Values
-pub mod Entries
 pub mod Groups
-pub mod Plan

@@ -39,11 +39,3 @@ members_of (Some t) = table_view t.now
 -- a table with what stands before its names
 abbrev pub section_of : Section → model.Section
 section_of s = record { prefix = s.prefix.now; members = members_of s.table }
-
--- numbers as millionths
-abbrev pub micros : List Micro → List ℤ
-micros = map (λ m. m.0)
-
--- names as lists of bytes
-abbrev pub name_bytes : List (ArrayVec ℕ) → List (List ℕ)
-name_bytes = map (λ n. n.items)

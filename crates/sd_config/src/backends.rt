@@ -2,7 +2,7 @@ ghost use Rattle.std.specs.Prelude.{◌≡◌};
 ghost use Rattle.toml.specs.View.{view};
 ghost use Rattle.sd_model_settings.specs.Entries.{backends};
 ghost use Rattle.sd_config.specs.Answers.{seen_by};
-ghost use Rattle.sd_config.specs.Values.{name_bytes};
+ghost use Rattle.sd_plan.specs.Values.{name_bytes};
 
 use crate::fault::ValueFault;
 use crate::lists::{Element, are_distinct, listed};

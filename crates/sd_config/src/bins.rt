@@ -6,7 +6,7 @@ ghost use Rattle.sd_model_settings.specs.Values.{required};
 ghost use Rattle.sd_model_text.specs.Numbers.{ascends, limit_lt};
 ghost use Rattle.sd_model_settings.specs.Entries.{is_inf, has_early_inf, is_limit, are_limits, bins_of, bins};
 ghost use Rattle.sd_config.specs.Answers.{seen_by};
-ghost use Rattle.sd_config.specs.Entries.{limit_of, limits_of};
+ghost use Rattle.sd_plan.specs.Entries.{limit_of, limits_of};
 
 use crate::fault::ValueFault;
 use crate::fields::found;
@@ -32,7 +32,7 @@ fn is_inf(value: &Value) -> bool
 impl Element for Limit {
     ghost use Rattle.sd_model_text.specs.Numbers.{Limit as ModelLimit};
     ghost use Rattle.sd_model_settings.specs.Entries.{limit};
-    ghost use Rattle.sd_config.specs.Entries.{limit_of};
+    ghost use Rattle.sd_plan.specs.Entries.{limit_of};
 
     ghost Seen = { ModelLimit };
 

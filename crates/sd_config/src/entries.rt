@@ -2,40 +2,15 @@ ghost use Rattle.std.specs.Prelude.{◌≡◌};
 ghost use Rattle.toml.specs.View.{table_view};
 ghost use Rattle.sd_model_settings.specs.Entries.{classes_of, target_of, node_of};
 ghost use Rattle.sd_config.specs.Answers.{seen_by};
-ghost use Rattle.sd_config.specs.Entries.{classes_view, target_view, node_view};
+ghost use Rattle.sd_plan.specs.Entries.{classes_view, target_view, node_view};
 
 use crate::bins::required_bins;
 use crate::fault::ValueFault;
 use crate::fields::{both, optional_port, required_port, required_text};
 use crate::lists::Element;
 use crate::values::TextRule;
-use arrayvec::ArrayVec;
-use sd_decimal::Limit;
-use sd_outside::Name;
+use sd_plan::{Classes, Node, Target};
 use toml::{Table, Value};
-
-/// The bins of the timers whose names have the part `metric`: their upper limits, which ascend. The empty part
-/// stands in each name.
-#[derive(Clone, Debug, Default, PartialEq, Eq, Drop)]
-pub struct Classes {
-    pub metric: Name,
-    pub limits: ArrayVec<Limit, 64>,
-}
-
-/// Where packets are repeated to.
-#[derive(Clone, Debug, Default, PartialEq, Eq, Drop)]
-pub struct Target {
-    pub host: Name,
-    pub port: u16,
-}
-
-/// A server behind the proxy, with the port at which it answers about itself.
-#[derive(Clone, Debug, Default, PartialEq, Eq, Drop)]
-pub struct Node {
-    pub host: Name,
-    pub port: u16,
-    pub adminport: u16,
-}
 
 fn classes_of(table: &Table) -> Result<Classes, ValueFault>
     ensures { seen_by classes_view result ≡ classes_of (table_view table.now) }

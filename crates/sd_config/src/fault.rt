@@ -1,8 +1,8 @@
 ghost use Rattle.std.specs.Prelude.{◌≡◌, ◌≤◌, ◌++◌, length, take};
 ghost use Rattle.sd_model_settings.specs.Settings.{shown};
 
-use crate::text::name_of;
 use sd_outside::Name;
+use sd_plan::name_of;
 
 /// Why a file sets nothing. A name is cut to its first 64 bytes, and one in a table stands behind the table's
 /// name and a point.

@@ -1,15 +1,16 @@
 ghost use Rattle.sd_model_settings.specs.Settings.{server, deletions, addresses, namespace, entry_lists, sizes};
 ghost use Rattle.sd_config.specs.Answers.{Gives};
 ghost use Rattle.sd_config.specs.Values.{section_of};
-ghost use Rattle.sd_config.specs.Groups.{server_view, deletions_view, addresses_view, namespace_view, entry_lists_view, sizes_view};
+ghost use Rattle.sd_config.specs.Groups.{server_view, deletions_view, addresses_view, entry_lists_view, sizes_view};
+ghost use Rattle.sd_plan.specs.Names.{namespace_view};
 
-use crate::entries::{Classes, Node, Target};
 use crate::fault::ConfigFault;
 use crate::section::Section;
 use crate::values::TextRule;
 use arrayvec::ArrayVec;
 use sd_decimal::Micro;
 use sd_outside::Name;
+use sd_plan::{Classes, Namespace, Node, Target};
 
 /// Ports, the interval between flushes in milliseconds, and the thresholds of timers.
 #[derive(Debug, Drop)]
@@ -93,18 +94,6 @@ pub(crate) fn addresses_in(top: &Section) -> Result<Addresses, ConfigFault>
         graphite_host,
         graphite_port,
     })
-}
-
-/// How Graphite's names are made.
-#[derive(Debug, Drop)]
-pub(crate) struct Namespace {
-    pub(crate) legacy: bool,
-    pub(crate) global_prefix: Name,
-    pub(crate) prefix_counter: Name,
-    pub(crate) prefix_timer: Name,
-    pub(crate) prefix_gauge: Name,
-    pub(crate) prefix_set: Name,
-    pub(crate) global_suffix: Name,
 }
 
 #[tactic(auto, unfolding(sd_model_settings::specs::Settings::namespace))]

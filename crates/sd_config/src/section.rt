@@ -6,17 +6,18 @@ ghost use Rattle.sd_model_settings.specs.Values.{whole, flag, text, listed, memb
 ghost use Rattle.sd_model_settings.specs.Entries.{thresholds, backends};
 ghost use Rattle.sd_model_settings.specs.Settings.{named, setting};
 ghost use Rattle.sd_config.specs.Answers.{Gives, seen_by};
-ghost use Rattle.sd_config.specs.Values.{passes, section_of, members_of, micros, name_bytes};
+ghost use Rattle.sd_config.specs.Values.{passes, section_of, members_of};
+ghost use Rattle.sd_plan.specs.Values.{micros, name_bytes};
 
 use crate::fault::{ConfigFault, ValueFault, shown};
 use crate::fields::found;
 use crate::lists::{self, Element};
-use crate::text::name_of;
 use crate::values::{self, TextRule};
 use crate::{backends, thresholds};
 use arrayvec::ArrayVec;
 use sd_decimal::Micro;
 use sd_outside::Name;
+use sd_plan::name_of;
 use toml::{Table, Value};
 
 /// A table of settings, where it is there, and what stands before its names in a fault.

@@ -4,23 +4,21 @@ ghost use Rattle.sd_model_settings.specs.Settings.{top, settings_in, document, s
 ghost use Rattle.sd_model_settings.specs.Defaults.{plan_of};
 ghost use Rattle.sd_model_settings.specs.Ranges.{IsWithin, IsPrefix, IsHost, AreThresholds, AreBackends, AreHistograms, AreTargets, AreNodes, InRange};
 ghost use Rattle.sd_config.specs.Answers.{Gives};
-ghost use Rattle.sd_config.specs.Values.{micros, name_bytes};
-ghost use Rattle.sd_config.specs.Entries.{classes_view, target_view, node_view};
-ghost use Rattle.sd_config.specs.Plan.{plan_view};
+ghost use Rattle.sd_plan.specs.Values.{micros, name_bytes};
+ghost use Rattle.sd_plan.specs.Entries.{classes_view, target_view, node_view};
+ghost use Rattle.sd_plan.specs.Plan.{plan_view};
 
-use crate::entries::{Classes, Node, Target};
 use crate::fault::{ConfigFault, shown};
 use crate::groups::{
-    Addresses, Deletions, EntryLists, Namespace, Server, Sizes, addresses_in, deletions_in,
+    Addresses, Deletions, EntryLists, Server, Sizes, addresses_in, deletions_in,
     entry_lists_in, namespace_in, server_in, sizes_in,
 };
 use crate::known_names::unknown;
-use crate::reckoning::{Histograms, Reckoning};
 use crate::section::Section;
-use crate::thresholds::Thresholds;
 use arrayvec::ArrayVec;
 use sd_decimal::Micro;
 use sd_outside::Name;
+use sd_plan::{Classes, Histograms, Namespace, Node, Reckoning, Target, Thresholds};
 use std::alloc::Global;
 use std::marker::Model;
 use toml::Table;
@@ -46,8 +44,9 @@ impl Model for Settings {
     ghost use Rattle.std.specs.Prelude.{map};
     ghost use Rattle.sd_model_settings.specs.Settings.{Settings as ModelSettings};
     ghost use Rattle.sd_model_settings.specs.Ranges.{IsWithin, AddressesInRange, NamespaceInRange, AreTargets, AreNodes, SizesInRange};
-    ghost use Rattle.sd_config.specs.Entries.{target_view, node_view};
-    ghost use Rattle.sd_config.specs.Groups.{deletions_view, addresses_view, namespace_view, sizes_view};
+    ghost use Rattle.sd_plan.specs.Entries.{target_view, node_view};
+    ghost use Rattle.sd_config.specs.Groups.{deletions_view, addresses_view, sizes_view};
+    ghost use Rattle.sd_plan.specs.Names.{namespace_view};
 
     ghost Value = { ModelSettings };
 

@@ -4,54 +4,14 @@ ghost use Rattle.std.specs.Ordering.{int_eq};
 ghost use Rattle.toml.specs.View.{view};
 ghost use Rattle.sd_model_settings.specs.Entries.{is_threshold, are_thresholds, thresholds};
 ghost use Rattle.sd_config.specs.Answers.{seen_by};
-ghost use Rattle.sd_config.specs.Values.{micros};
+ghost use Rattle.sd_plan.specs.Values.{micros};
 
 use crate::fault::ValueFault;
 use crate::lists::{Element, are_distinct, each, one_or_list};
 use crate::values;
 use arrayvec::ArrayVec;
 use sd_decimal::Micro;
-use std::marker::Model;
 use toml::Value;
-
-/// The thresholds of timers, in the order of the file: at most 16, each from -100 to 100 and not 0, and no two
-/// equal.
-#[derive(Debug, Drop)]
-pub struct Thresholds {
-    numbers: ArrayVec<Micro, 16>,
-}
-
-impl Model for Thresholds {
-    ghost use Rattle.std.specs.Prelude.{ℤ, List};
-    ghost use Rattle.sd_model_settings.specs.Ranges.{AreThresholds};
-    ghost use Rattle.sd_config.specs.Values.{micros};
-
-    ghost Value = { List ℤ };
-
-    ghost view = { λ t. micros t.numbers.items };
-
-    ghost invariant = { λ t. AreThresholds (micros t.numbers.items) };
-}
-
-impl Thresholds {
-    ghost use Rattle.sd_model_settings.specs.Ranges.{AreThresholds};
-
-    /// Thresholds that are in range.
-    pub(crate) fn of(numbers: ArrayVec<Micro, 16>) -> Thresholds
-        requires { AreThresholds (micros numbers.items) }
-        ensures { result ≡ micros numbers.items }
-    {
-        Thresholds { numbers }
-    }
-
-    /// The numbers.
-    pub fn as_slice(&self) -> &[Micro]
-        ensures numbers { micros result.now ≡ self.now }
-        ensures range { AreThresholds self.now }
-    {
-        self.numbers.as_slice()
-    }
-}
 
 impl Element for Micro {
     ghost use Rattle.std.specs.Prelude.{ℤ};

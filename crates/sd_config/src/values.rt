@@ -9,9 +9,9 @@ ghost use Rattle.sd_config.specs.Answers.{seen_by};
 ghost use Rattle.sd_config.specs.Values.{passes, longest};
 
 use crate::fault::ValueFault;
-use crate::text::name_of;
 use sd_decimal::{Micro, NumberFault};
 use sd_outside::Name;
+use sd_plan::name_of;
 use toml::Value;
 
 /// Which texts a setting takes.

@@ -8,7 +8,7 @@ ghost use Rattle.sd_record.specs.Record.{record_view, room_of, SameScratch};
 ghost use Rattle.sd_desk.specs.Marks.{mark_of};
 
 use crate::form::{ConsoleText, GraphiteText, RecordText};
-use sd_config::Names;
+use sd_plan::Names;
 use sd_desk::{Mark, RoundMarks};
 use sd_outside::{Backend, Backs, Failed};
 use sd_record::Record;

@@ -1,4 +1,4 @@
-use sd_config::Names;
+use sd_plan::Names;
 use sd_outside::{Sink, WriteFault};
 use sd_record::Record;
 

@@ -1,6 +1,6 @@
 -- What a drill has left, and what a read gives.
 use Rattle.std.specs.Prelude.{◌≡◌, ℕ, ◌≤◌, List, [], ◌++◌, length, take, drop}
-use Rattle.sd_model_outside.specs.Outside.{Object, Left, HasRead}
+use Rattle.sd_model_outside.specs.Outside.{Object, Left, HasRead, object_of}
 use Rattle.sd_outside.specs.Places.{last_place}
 use Rattle.sd_drill.specs.Texts.{text_from}
 use Rattle.sd_drill.specs.declared.drill.Drill.{Drill}
@@ -15,7 +15,7 @@ left_of d = at_hand d ++ text_from d.packets d.next
 
 -- what is seen of it, which never failed
 abbrev pub seen_of : Drill → Object
-seen_of d = record { told = Left (left_of d); faults = 0; opened_at = last_place d.opened_at }
+seen_of d = object_of (Left (left_of d)) 0 (last_place d.opened_at)
 
 -- A read put the next n bytes into the front of a buffer: none only at the end.
 pub record Gives (old new : Drill) (buf filled : List ℕ) (n : ℕ) : Type 0 where

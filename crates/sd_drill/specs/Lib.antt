@@ -1,3 +1,2 @@
-pub mod CountSink
 pub mod Drill
 pub mod Texts

@@ -33,7 +33,7 @@ pub struct Drill {
 
 impl Drill {
     ghost use Rattle.std.specs.Prelude.{◌≡◌, ◌<◌, ◌≤◌, None, []};
-    ghost use Rattle.sd_model_outside.specs.Outside.{Left};
+    ghost use Rattle.sd_model_outside.specs.Outside.{Left, fresh};
     ghost use Rattle.sd_model_replay.specs.MadeScript.{made_script};
     ghost use Rattle.sd_drill.specs.Drill.{at_hand, left_of};
     ghost use Rattle.sd_drill.specs.Texts.{text_at};
@@ -42,7 +42,7 @@ impl Drill {
     pub fn new(n: u32) -> Drill
         requires some { 0 < n }
         requires most { n ≤ MOST_PACKETS }
-        ensures { ⟦<Drill as Faulty>⟧.seen result ≡ record { told = Left (made_script n); faults = 0; opened_at = None } }
+        ensures { ⟦<Drill as Faulty>⟧.seen result ≡ fresh (Left (made_script n)) }
     {
         Drill {
             packets: n,

@@ -49,7 +49,7 @@ none_held rows kind key (e ∷ entries) absent l =
     ap (λ b. cond b (entry_view rows e ∷ entries_of (id_of kind key) (held_in rows entries)) (entries_of (id_of kind key) (held_in rows entries))) (absent_id rows e.place kind key absent l.0)
     ∙ none_held rows kind key entries absent l.1
 
-unset_none : (xs : List (Option Row)) (i : ℕ) → get_or (set xs i None) i None ≡ None
+pub unset_none : (xs : List (Option Row)) (i : ℕ) → get_or (set xs i None) i None ≡ None
 unset_none [] i = refl
 unset_none (x ∷ xs) zero = refl
 unset_none (x ∷ xs) (suc i) = unset_none xs i

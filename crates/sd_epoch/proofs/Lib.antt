@@ -4,5 +4,7 @@ pub mod HeldLemmas
 pub mod LeftLemmas
 pub mod ListingLemmas
 pub mod MemberLemmas
+pub mod OrderLemmas
 pub mod PlaceLemmas
 pub mod TableLemmas
+pub mod TurnLemmas

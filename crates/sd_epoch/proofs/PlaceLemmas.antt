@@ -51,15 +51,15 @@ pub absent_id : (rows : List (Option Row)) (place : ℕ) (kind : Kind) (key : Li
 absent_id rows place kind key absent l =
     not_true _ (λ t. absent place (has_holds kind key (row_at rows place) (has_in rows place (id_of kind key) l ∙ t)))
 
-either : (a b : Bool) → (a || b) ≡ true → (a ≡ true) ⊎ (b ≡ true)
+pub either : (a b : Bool) → (a || b) ≡ true → (a ≡ true) ⊎ (b ≡ true)
 either true b h = inl refl
 either false b h = inr h
 
-or_left : (a b : Bool) → a ≡ true → (a || b) ≡ true
+pub or_left : (a b : Bool) → a ≡ true → (a || b) ≡ true
 or_left true b h = refl
 or_left false b h = absurd (cc)
 
-or_right : (a b : Bool) → b ≡ true → (a || b) ≡ true
+pub or_right : (a b : Bool) → b ≡ true → (a || b) ≡ true
 or_right true b h = refl
 or_right false b h = h
 
@@ -182,7 +182,7 @@ none_found true = refl
 none_found false = refl
 
 -- what is found of the id of a place of the order
-find_among : (rows : List (Option Row)) (order : List ℕ) (at : ℕ) → places.AreApart rows → row_at rows at ≢ None → AllLive rows order → is_among at order ≡ true
+pub find_among : (rows : List (Option Row)) (order : List ℕ) (at : ℕ) → places.AreApart rows → row_at rows at ≢ None → AllLive rows order → is_among at order ≡ true
     → find row_cmp (id_in rows at) (listed_in rows order) ≡ Some (listed_as (row_at rows at)).1
 find_among rows [] at w here l h = absurd (cc)
 find_among rows (p ∷ order) at w here l h =

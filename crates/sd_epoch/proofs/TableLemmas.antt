@@ -1,5 +1,5 @@
 -- What the fields of a table say of the rows and entries that it stands for.
-use Rattle.std.proofs.Common.{◌≡◌, ◌≢◌, ℕ, zero, suc, ◌<◌, List, [], ◌∷◌, length, get_or, map, replicate, Option, Some, None, is_some, option_map, MatchOption, refl, sym, ap, subst, ◌∙◌, arith, All, pos, ◌≤ℤ◌, ◌^◌, true}
+use Rattle.std.proofs.Common.{◌≡◌, ◌≢◌, ℕ, zero, suc, ◌<◌, cond, false, List, [], ◌∷◌, length, get_or, map, replicate, Option, Some, None, is_some, option_map, MatchOption, refl, sym, ap, subst, ◌∙◌, arith, All, pos, ◌≤ℤ◌, ◌^◌, true}
 use Rattle.std.proofs.lemmas.List.{length-map, get_or_read_under}
 use Rattle.std.proofs.lemmas.Option.{slice_get-map, slice_get_read}
 use Rattle.std.specs.List.{slice_get, list_any}
@@ -11,9 +11,10 @@ use Rattle.sd_key.specs.declared.kind.Kind.{Kind}
 use Rattle.sd_rows.specs.Rows.{row_at, Holds, IsAbsent}
 use Rattle.sd_rows.specs.declared.row.Row.{Row}
 use Rattle.sd_rows.proofs.IndexLemmas.{present_within, replicate_at}
-use Rattle.sd_epoch.specs.Entries.{listed_as, listed_in, live_in, entry_view, AllLive, AreRows, IsTally, AreTallies, IsTimed}
+use Rattle.sd_rows.proofs.MapLemmas.{not_true}
+use Rattle.sd_epoch.specs.Entries.{listed_as, id_in, listed_in, live_in, entry_view, held_in, places_of, AllLive, AreRows, IsTally, AreTallies, IsTimed}
 use Rattle.sd_epoch.specs.Scratch.{micros, AreTimerValues}
-use Rattle.sd_epoch.specs.Table.{Listing, id_of, row_view}
+use Rattle.sd_epoch.specs.Table.{Listing, id_of, row_view, listed_with}
 use Rattle.sd_epoch.specs.TableInside.{listing_of, IsTable}
 use Rattle.sd_epoch.specs.declared.entry.Entry.{Entry}
 use Rattle.sd_epoch.specs.declared.table.Table.TheInside.{Inside}
@@ -64,21 +65,21 @@ pub record IsAt (t : Inside) (i place : ℕ) (row : Row) : Type 0 where
   pub within : place < length t.rows
   pub tally : (x : Tally) → x ≡ get_or t.tallies.items place x → IsTally (kind_of row.kind) row.base.0 (entries_of (row_view row).0 (listing_of t).held) x
 
-module _ (t : Inside) (w : IsTable t) (self : Listing) (view : listing_of t ≡ self) (i place : ℕ) (below : i < length self.listed) (read : place ≡ get_or t.order.items i place) where
-  in_order : i < length t.order.items
-  in_order = omega (arith, below, ap (λ (s : Listing). length s.listed) view, length-map t.order.items (λ p. listed_as (row_at t.rows p)))
+module _ (t : Inside) (w : IsTable t) (self : Listing) (view : listing_of t ≡ self) (i place : ℕ) (below : i < length self.listed) (read : place ≡ get_or t.order.places.items i place) where
+  in_order : i < length t.order.places.items
+  in_order = omega (arith, below, ap (λ (s : Listing). length s.listed) view, length-map t.order.places.items (λ p. listed_as (row_at t.rows p)))
 
   pub place_live : row_at t.rows place ≢ None
   place_live none =
-      live_order t.rows t.order.items i w.rows.live in_order (ap (row_at t.rows) (sym (get_or_read_under t.order.items i t.order.len place 0 read (omega (arith, in_order, t.order.ok.0)) t.order.ok.0)) ∙ none)
+      live_order t.rows t.order.places.items i w.rows.live in_order (ap (row_at t.rows) (sym (get_or_read_under t.order.places.items i t.order.places.len place 0 read (omega (arith, in_order, t.order.places.ok.0)) t.order.places.ok.0)) ∙ none)
 
   pub place_within : place < length t.rows
   place_within = present_within t.rows place place_live
 
   pub at_place : (row : Row) → row_at t.rows place ≡ Some row → IsAt t i place row
   at_place row is = record {
-    listed = slice_get-map (λ p. listed_as (row_at t.rows p)) t.order.items i
-        ∙ ap (option_map (λ p. listed_as (row_at t.rows p))) (slice_get_read t.order.items t.order.len i place t.order.ok.0 (omega (arith, in_order, t.order.ok.0)) read)
+    listed = slice_get-map (λ p. listed_as (row_at t.rows p)) t.order.places.items i
+        ∙ ap (option_map (λ p. listed_as (row_at t.rows p))) (slice_get_read t.order.places.items t.order.places.len i place t.order.places.ok.0 (omega (arith, in_order, t.order.places.ok.0)) read)
         ∙ ap (λ (o : Option Row). Some (listed_as o)) is;
     is = is;
     live = place_live;
@@ -104,3 +105,12 @@ timed_values rows id (e ∷ own) timer timed same =
     ap (λ (i : RowId). i.kind) (sym (same_row id (row_of (entry_view rows e).sample) (All-head (λ (x : model.Entry). is_same_row id (row_of x.sample) ≡ true) (entry_view rows e) (map (entry_view rows) own) same))) ∙ timer in
     All-cons (λ (v : Micro). (pos 0 ≤ℤ v.0) × (v.0 ≤ℤ pos (10 ^ 16))) e.value (map (λ (x : Entry). x.value) own) (All-head IsTimed (entry_view rows e) (map (entry_view rows) own) timed kind)
     (timed_values rows id own timer (All-tail IsTimed (entry_view rows e) (map (entry_view rows) own) timed) (All-tail (λ (x : model.Entry). is_same_row id (row_of x.sample) ≡ true) (entry_view rows e) (map (entry_view rows) own) same))
+
+-- a row that isn't listed has no entries
+pub none_listed : (rows : List (Option Row)) (order : List ℕ) (id : RowId) (entries : List Entry) → AreRows rows order → AllLive rows (places_of entries)
+    → listed_with id (listed_in rows order) ≡ false → entries_of id (held_in rows entries) ≡ []
+none_listed rows order id [] w l absent = refl
+none_listed rows order id (e ∷ entries) w l absent =
+    ap (λ b. cond b (entry_view rows e ∷ entries_of id (held_in rows entries)) (entries_of id (held_in rows entries)))
+    (not_true (is_same_row id (id_in rows e.place)) (λ t. absurd (cc (absent, ap (λ (i : RowId). listed_with i (listed_in rows order)) (same_row id (id_in rows e.place) t), listed_among rows order e.place (w.all e.place l.0)))))
+    ∙ none_listed rows order id entries w l.1 absent

@@ -1,6 +1,7 @@
 pub mod Chain
 pub mod Entries
 pub mod Limits
+pub mod Order
 pub mod Scratch
 pub mod ScratchInside
 pub mod ScratchLends

@@ -1,31 +1,24 @@
-ghost use Rattle.std.specs.Prelude.{◌≡◌, ◌+◌, ◌^◌, ◌<◌, ◌≤◌, is_some, filter, vec_len, vec_capacity, length, set};
+ghost use Rattle.std.specs.Prelude.{◌≡◌, ◌+◌, ◌^◌, ◌<◌, ◌≤◌, is_some, None, filter, vec_len, vec_capacity, length, set};
 ghost use Rattle.sd_model_shard.specs.Rows.{is_same_row};
 ghost use Rattle.sd_model_shard.specs.Commands.{is_hit};
 ghost use Rattle.sd_key.specs.Kind.{kind_of};
 ghost use Rattle.sd_rows.specs.Rows.{row_at};
 ghost use Rattle.sd_epoch.specs.Chain.{IsChain};
-ghost use Rattle.sd_epoch.specs.Entries.{left_by, AreLeft, places_of};
+ghost use Rattle.sd_epoch.specs.Entries.{left_by, AreLeft, AreRows, places_of};
+ghost use Rattle.sd_epoch.specs.Order.{IsRanked};
 ghost use Rattle.sd_epoch.specs.Table.{id_of};
 
 use crate::chain::Chain;
 use crate::entry::Entry;
+use crate::order::Order;
 use sd_key::{Key, Kind, Pattern};
 use sd_rows::Rows;
 
 /// Whether a place has a row.
-fn is_live(rows: &Rows, place: u32) -> bool
+pub(crate) fn is_live(rows: &Rows, place: u32) -> bool
     ensures { result ≡ is_some (row_at rows.now place) }
 {
     place < rows.len() && rows.row(place).is_some()
-}
-
-/// Takes the places out of an order that have no row.
-fn drop_places(rows: &Rows, order: &mut Vec<u32>)
-    ensures order { order.new.items ≡ filter (λ place. is_some (row_at rows.now place)) order.old.items }
-    ensures few { vec_len order.new ≤ vec_len order.old }
-    ensures capacity { vec_capacity order.new ≡ vec_capacity order.old }
-{
-    order.retain(|place| is_live(rows, *place));
 }
 
 /// Takes the entries out whose place has no row.
@@ -40,16 +33,19 @@ fn drop_entries(rows: &Rows, entries: &mut Vec<Entry>)
 /// Takes the places and the entries out that have no row, and chains those anew that are left. Answers how many entries went.
 pub(crate) fn close_up(
     rows: &Rows,
-    order: &mut Vec<u32>,
+    order: &mut Order,
     entries: &mut Vec<Entry>,
     chain: &mut Chain,
 ) -> u64
+    requires ranked { IsRanked order.old.places.items order.old.rank.items }
     requires places { length chain.old.last.items ≡ length rows.now }
     requires room { vec_len entries.old ≤ vec_capacity chain.old.before }
     requires few { vec_len entries.old ≤ 2 ^ 20 }
-    ensures order { order.new.items ≡ filter (λ place. is_some (row_at rows.now place)) order.old.items }
-    ensures order_few { vec_len order.new ≤ vec_len order.old }
-    ensures order_capacity { vec_capacity order.new ≡ vec_capacity order.old }
+    ensures order { order.new.places.items ≡ filter (λ place. is_some (row_at rows.now place)) order.old.places.items }
+    ensures ranked { IsRanked order.new.places.items order.new.rank.items }
+    ensures ranks { length order.new.rank.items ≡ length order.old.rank.items }
+    ensures order_few { vec_len order.new.places ≤ vec_len order.old.places }
+    ensures order_capacity { vec_capacity order.new.places ≡ vec_capacity order.old.places }
     ensures entries { entries.new.items ≡ filter (λ e. is_some (row_at rows.now e.place)) entries.old.items }
     ensures capacity { vec_capacity entries.new ≡ vec_capacity entries.old }
     ensures count { result + vec_len entries.new ≡ vec_len entries.old }
@@ -58,7 +54,7 @@ pub(crate) fn close_up(
     ensures link_capacity { vec_capacity chain.new.before ≡ vec_capacity chain.old.before }
 {
     let before = entries.len();
-    drop_places(rows, order);
+    order.retain_live(rows);
     drop_entries(rows, entries);
     chain.chain_anew(entries);
     (before - entries.len()) as u64
@@ -93,5 +89,23 @@ pub(crate) fn drop_hits(rows: &mut Rows, kind: Kind, pattern: &Pattern)
 {
     for place in 0..rows.len() {
         drop_hit(rows, place, kind, pattern);
+    }
+}
+
+/// Empties a place, whatever it has.
+pub(crate) fn empty_at(rows: &mut Rows, order: &mut Order, at: u32)
+    requires within { at < length rows.old }
+    requires rows { AreRows rows.old order.old.places.items }
+    requires ranked { IsRanked order.old.places.items order.old.rank.items }
+    ensures places { rows.new ≡ set rows.old at None }
+    ensures rows { AreRows rows.new order.new.places.items }
+    ensures ranked { IsRanked order.new.places.items order.new.rank.items }
+    ensures ranks { length order.new.rank.items ≡ length order.old.rank.items }
+    ensures few { vec_len order.new.places ≤ vec_len order.old.places }
+    ensures capacity { vec_capacity order.new.places ≡ vec_capacity order.old.places }
+{
+    if rows.row(at).is_some() {
+        rows.remove(at);
+        order.remove(at);
     }
 }

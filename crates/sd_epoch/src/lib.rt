@@ -9,6 +9,7 @@ mod entry;
 mod forget;
 mod limits;
 mod members;
+mod order;
 mod placing;
 mod scratch;
 mod table;

@@ -1,28 +1,32 @@
-ghost use Rattle.std.specs.Prelude.{◌≡◌, ◌+◌, ◌*◌, ◌^◌, ◌<◌, ◌≤◌, unsigned_abs, slice_get, false, not, filter, [], ◌∷◌, ◌++◌, length, IfOk, IfSome, Some};
+ghost use Rattle.std.specs.Prelude.{◌≡◌, ◌+◌, ◌*◌, ◌^◌, ◌<◌, ◌≤◌, ◌≢◌, unsigned_abs, slice_get, false, not, filter, [], ◌∷◌, ◌++◌, length, set, IfOk, IfSome, MatchOption, Some, None};
 ghost use Rattle.std.specs.FinMap.{len, contains_key, insert, remove};
-ghost use Rattle.sd_model_shard.specs.Rows.{row_of, touched, entries_of, is_same_row};
+ghost use Rattle.sd_model_shard.specs.Rows.{RowId, row_of, touched, entries_of, is_same_row};
 ghost use Rattle.sd_model_shard.specs.Commands.{rows_left, entries_left, entries_taken_out};
 ghost use Rattle.sd_model_shard.specs.Statistics.{weight_of, gauge_value, values_of, members_of, amount_of};
 ghost use Rattle.sd_key.specs.Kind.{kind_of};
 ghost use Rattle.sd_epoch.specs.Limits.{limits_of, AreLimits};
 ghost use Rattle.sd_model_text.specs.Names.{Timer};
 ghost use Rattle.sd_epoch.specs.Scratch.{micros, texts, AreTimerValues};
-ghost use Rattle.sd_epoch.specs.Table.{live_of, AreApart, row_view, id_of};
+ghost use Rattle.sd_epoch.specs.Table.{live_of, AreApart, HasPlaces, row_view, id_of};
+ghost use Rattle.sd_rows.specs.Rows.{row_at, StandsNowhereElse, reset};
+ghost use Rattle.sd_rows.specs.RowMap.{copy_steps};
 
 use crate::chain::Chain;
 use crate::entry::{Entry, copy_key, new_entry};
-use crate::forget::{close_up, drop_hits, drop_row};
+use crate::forget::{close_up, drop_hits, drop_row, empty_at};
 use crate::limits::{Limits, Who};
 use crate::members::distinct_sum;
-use crate::placing::{add_row, live_row, touch};
+use crate::order::Order;
+use crate::placing::{add_row, carry_in, clear_tallies, live_row, touch};
 use crate::scratch::Scratch;
 use crate::tally::{Tally, empty_tally, with_sample};
 use sd_decimal::{Micro, Sum};
 use sd_key::{Key, Kind, Pattern};
 use sd_line::Sample;
-use sd_rows::{Row, Rows};
+use sd_rows::{Row, Rows, Steps};
 use std::alloc::{AllocError, Global};
 use std::marker::Model;
+use std::sync::ledger::Ledger;
 
 /// What a table says of one of its rows.
 #[derive(Debug, Drop)]
@@ -42,7 +46,7 @@ pub struct RowFacts {
 pub struct Table {
     limits: Limits,
     rows: Rows,
-    order: Vec<u32>,
+    order: Order,
     tallies: Vec<Tally>,
     entries: Vec<Entry>,
     chain: Chain,
@@ -71,7 +75,7 @@ impl Table {
         Ok(Table {
             limits,
             rows: Rows::open(alloc, limits.rows)?,
-            order: Vec::with_capacity(alloc, limits.rows as usize)?,
+            order: Order::open(alloc, limits.rows)?,
             tallies: vec![in alloc; empty_tally(Micro(0)); limits.rows as usize]?,
             entries: Vec::with_capacity(alloc, limits.entries as usize)?,
             chain: Chain::open(alloc, limits)?,
@@ -80,7 +84,9 @@ impl Table {
 
     /// The limits that it was opened for.
     pub fn limits(&self) -> Limits
-        ensures { limits_of result ≡ self.now.limits }
+        ensures limits { limits_of result ≡ self.now.limits }
+        ensures range { AreLimits self.now.limits }
+        ensures places { HasPlaces self.now }
     {
         self.limits
     }
@@ -92,12 +98,13 @@ impl Table {
         ensures apart { AreApart self.now.listed }
         ensures within { result ≤ self.now.limits.rows }
     {
-        self.order.len() as u32
+        self.order.places.len() as u32
     }
 
-    /// How many entries it has.
+    /// How many entries it has. Each has its row: where a row is absent, it has no entries.
     pub fn entries(&self) -> u32
         ensures held { result ≡ length self.now.held }
+        ensures owned { (id : RowId) → contains_key (live_of self.now) id ≡ false → entries_of id self.now.held ≡ [] }
         ensures within { result ≤ self.now.limits.entries }
     {
         self.entries.len() as u32
@@ -118,17 +125,10 @@ impl Table {
         ensures weight { result.weight.0 ≡ weight_of (id_of result.kind result.key) self.now.held }
         ensures bound { unsigned_abs result.weight.0 ≤ 2 ^ 20 * 10 ^ 24 }
     {
-        let place = self.order[i as usize];
+        let place = self.order.places[i as usize];
         let row = live_row(&self.rows, place);
         let tally = self.tallies[place as usize];
-        RowFacts {
-            kind: row.kind,
-            key: copy_key(&row.key),
-            base: row.base,
-            swaps: row.swaps,
-            samples: tally.samples,
-            weight: tally.weight,
-        }
+        facts_of(row, tally)
     }
 
     /// Its i-th row, in some order.
@@ -136,7 +136,7 @@ impl Table {
         requires { i < length self.now.listed }
         ensures { slice_get self.now.listed i ≡ Some (row_view result.now) }
     {
-        live_row(&self.rows, self.order[i as usize])
+        live_row(&self.rows, self.order.places[i as usize])
     }
 
     /// The value of its i-th row as a gauge.
@@ -144,7 +144,7 @@ impl Table {
         requires { i < length self.now.listed }
         ensures { IfSome (slice_get self.now.listed i) (λ row. result.0 ≡ gauge_value row.0 row.1.base self.now.held) }
     {
-        self.tallies[self.order[i as usize] as usize].gauge
+        self.tallies[self.order.places[i as usize] as usize].gauge
     }
 
     /// Puts the values of its i-th row's samples into the scratch, in the order in which they came.
@@ -157,7 +157,7 @@ impl Table {
         ensures members { out.new.members ≡ out.old.members }
         ensures room { out.new.room ≡ out.old.room }
     {
-        out.put_values(&self.entries, &self.chain, self.order[i as usize]);
+        out.put_values(&self.entries, &self.chain, self.order.places[i as usize]);
     }
 
     /// Puts the members of its i-th row's samples into the scratch, in the order in which they came.
@@ -168,7 +168,7 @@ impl Table {
         ensures values { out.new.values ≡ out.old.values }
         ensures room { out.new.room ≡ out.old.room }
     {
-        out.put_members(&self.entries, &self.chain, self.order[i as usize]);
+        out.put_members(&self.entries, &self.chain, self.order.places[i as usize]);
     }
 
     /// What the samples of its i-th row come to: a counter's count, the sum of a timer's values, a gauge's value, or how
@@ -177,7 +177,7 @@ impl Table {
         requires { i < length self.now.listed }
         ensures { IfSome (slice_get self.now.listed i) (λ row. result.0 ≡ amount_of row.0 row.1.base self.now.held) }
     {
-        let place = self.order[i as usize];
+        let place = self.order.places[i as usize];
         let tally = self.tallies[place as usize];
         match live_row(&self.rows, place).kind {
             Kind::Counter => tally.weight,
@@ -251,6 +251,94 @@ impl Table {
         self.chain.clear();
     }
 
+    /// Takes all entries out. The rows stay where they are.
+    pub fn clear_entries(&mut self)
+        ensures places { self.new.places ≡ self.old.places }
+        ensures rows { self.new.listed ≡ self.old.listed }
+        ensures entries { self.new.held ≡ [] }
+        ensures limits { self.new.limits ≡ self.old.limits }
+    {
+        clear_tallies(&self.rows, &mut self.tallies);
+        self.entries.clear();
+        self.chain.clear();
+    }
+
+    /// The row in a place, or none where it is empty.
+    pub fn get_at(&self, at: u32) -> Option<&Row>
+        requires { at < self.now.limits.rows }
+        ensures { MatchOption result (row_at self.now.places at ≡ None) (λ row. row_at self.now.places at ≡ Some row.now) }
+    {
+        self.rows.row(at)
+    }
+
+    /// The value of the row in a place as a gauge.
+    pub fn gauge_at(&self, at: u32) -> Micro
+        requires { row_at self.now.places at ≢ None }
+        ensures { IfSome (row_at self.now.places at) (λ row. result.0 ≡ gauge_value (row_view row).0 row.base.0 self.now.held) }
+    {
+        self.tallies[at as usize].gauge
+    }
+
+    /// What it says of the row in a place, or none where it is empty.
+    pub fn row_at(&self, at: u32) -> Option<RowFacts>
+        requires { at < self.now.limits.rows }
+        ensures place { MatchOption result (row_at self.now.places at ≡ None)
+            (λ row. row_at self.now.places at ≡ Some (record { kind = row.kind; key = row.key; base = row.base; swaps = row.swaps })) }
+        ensures samples { IfSome result (λ row. row.samples ≡ length (entries_of (id_of row.kind row.key) self.now.held)) }
+        ensures weight { IfSome result (λ row. row.weight.0 ≡ weight_of (id_of row.kind row.key) self.now.held) }
+        ensures bound { IfSome result (λ row. unsigned_abs row.weight.0 ≤ 2 ^ 20 * 10 ^ 24) }
+    {
+        match self.rows.row(at) {
+            None => None,
+            Some(row) => Some(facts_of(row, self.tallies[at as usize])),
+        }
+    }
+
+    /// Empties a place. The others stay.
+    pub fn drop_place(&mut self, at: u32)
+        requires within { at < self.old.limits.rows }
+        requires no_entries { self.old.held ≡ [] }
+        ensures places { self.new.places ≡ set self.old.places at None }
+        ensures listing { HasPlaces self.new }
+        ensures entries { self.new.held ≡ [] }
+        ensures limits { self.new.limits ≡ self.old.limits }
+    {
+        empty_at(&mut self.rows, &mut self.order, at);
+    }
+
+    /// Makes a place that of another table's row, with this base and these swaps, and without samples. The others stay.
+    ///
+    /// It takes no step where the place has that kind and key already, and else one.
+    pub fn carry_row<L: Ledger>(
+        &mut self,
+        from: &Table,
+        at: u32,
+        base: Micro,
+        swaps: u32,
+        steps: &mut Steps<L>,
+    )
+        requires limits { from.now.limits ≡ self.old.limits }
+        requires live { row_at from.now.places at ≢ None }
+        requires no_entries { self.old.held ≡ [] }
+        requires apart { StandsNowhereElse (row_at from.now.places at) at self.old.places }
+        ensures places { self.new.places ≡ set self.old.places at (reset (row_at from.now.places at) base swaps) }
+        ensures listing { HasPlaces self.new }
+        ensures entries { self.new.held ≡ [] }
+        ensures limits { self.new.limits ≡ self.old.limits }
+        ensures steps { steps.new ≤ steps.old + copy_steps (row_at from.now.places at) (row_at self.old.places at) }
+    {
+        carry_in(
+            &mut self.rows,
+            &mut self.order,
+            &mut self.tallies,
+            &from.rows,
+            at,
+            base,
+            swaps,
+            steps,
+        );
+    }
+
     /// Appends an entry. Its row is made where it is absent, and has no swap since its last sample then.
     pub fn push(&mut self, who: Who, number: u64, s: &Sample)
         requires row_room { contains_key (live_of self.old) (row_of s.now) ≡ false → len (live_of self.old) < self.old.limits.rows }
@@ -269,5 +357,21 @@ impl Table {
         self.tallies[place as usize] = with_sample(self.tallies[place as usize], s);
         self.entries.push_reserved(new_entry(who, number, place, s));
         self.chain.push(place);
+    }
+}
+
+/// What a row and its tally say.
+fn facts_of(row: &Row, tally: Tally) -> RowFacts
+    ensures row { row.now ≡ record { kind = result.kind; key = result.key; base = result.base; swaps = result.swaps } }
+    ensures samples { result.samples ≡ tally.samples }
+    ensures weight { result.weight ≡ tally.weight }
+{
+    RowFacts {
+        kind: row.kind,
+        key: copy_key(&row.key),
+        base: row.base,
+        swaps: row.swaps,
+        samples: tally.samples,
+        weight: tally.weight,
     }
 }

@@ -10,7 +10,7 @@ ghost use Rattle.sd_graphite.specs.Texts.{own_text, rows_line, tail_text};
 use crate::line::put_path;
 use crate::path::Path;
 use crate::row::GraphiteRows;
-use sd_config::Names;
+use sd_plan::Names;
 use sd_decimal::{Line, per_second};
 use sd_key::Key;
 use sd_outside::{Sink, WriteFault};

@@ -14,7 +14,7 @@ use Rattle.sd_model_replay.specs.Ends.{End, Complete, Faulted, ReadFailed, Write
 use Rattle.sd_model_call.specs.Words.{Form, Replay, Drill, form}
 use Rattle.sd_model_call.specs.Opening.{World, Opening, Part, OfSettings, OfScript, OfWire, OfGraphite, OfConsole, IsOpened, IsUntouched, OnlySettings, UnusedStay, backend_openings, openings, part_in, started, wire_openings}
 use Rattle.sd_model_call.specs.Call.{Account, Answer, Done, NoMemory, NoForm, Misset, BadScript, NotOpened, NotRead, NotWritten, Worn, Answers, AnswersDrill, AnswersReplay, Accounts, OnlyOutput, NotBegun, TakesSettings, StopsAt, Ran}
-use Rattle.sd_model_replay.proofs.DeliveryLemmas.{all_counts}
+use Rattle.sd_model_outside.proofs.DeliveryLemmas.{all_counts}
 use Rattle.sd_model_replay.proofs.SendingLemmas.{wire_counts}
 use Rattle.sd_model_call.proofs.Openings.{all_append, all_behind, opened_where_faults, opened_wire_faults, wire_beyond, wire_opening}
 use Rattle.sd_model_call.proofs.CallEnds.{replayed}

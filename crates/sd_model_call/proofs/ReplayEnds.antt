@@ -4,10 +4,10 @@ use Rattle.std.specs.Prelude.{⊤}
 use Rattle.std.specs.List.{AllByRecursion}
 use Rattle.std.proofs.lemmas.List.{length-map}
 use Rattle.std.proofs.lemmas.List.Sums.{sum_by-cons}
-use Rattle.sd_model_outside.specs.Outside.{Told, Untold, Left, Number, Bytes, Rounds, Packets, Rose, put_back, given, last_count}
-use Rattle.sd_model_record.specs.Desk.{Mark, fault_of}
+use Rattle.sd_model_outside.specs.Outside.{Told, Untold, Left, Number, Bytes, Buffer, Rounds, Packets, Datagrams, Ticks, Sessions, Replies, Rose, put_back, given, last_count}
+use Rattle.sd_model_outside.specs.Deliveries.{Mark, fault_of, Delivery, AfterDeliveries, FitsUse, missed}
 use Rattle.sd_model_replay.specs.Settings.{Settings}
-use Rattle.sd_model_replay.specs.Backends.{Backend, Graphite, Console, Delivery, AfterDeliveries, FitsUse, is_used, mark_of, missed}
+use Rattle.sd_model_replay.specs.Backends.{Backend, Graphite, Console, is_used, mark_of}
 use Rattle.sd_model_replay.specs.Script.{Command, Packet, Flush, Admin, spelled, end_word, script_text, IsLegal, BeginsEnd, BeginsRecord}
 use Rattle.sd_model_replay.specs.Next.{ScriptFlaw, Next, Carried, Ending, Faulty, Begins}
 use Rattle.sd_model_settings.specs.Entries.{Target}
@@ -21,7 +21,7 @@ use Rattle.sd_model_call.specs.Completeness.{IsSilent, IsHeard, IsSteady, IsUnhi
 use Rattle.sd_model_call.specs.Faultless.{well, well_mark, well_sent}
 use Rattle.sd_model_replay.proofs.ReadingLemmas.{Behind, ended_script, cut_script, one_script, one_end, not_end, begins, begins_record}
 use Rattle.sd_model_replay.proofs.NextLemmas.{one_next, next_stays}
-use Rattle.sd_model_replay.proofs.DeliveryLemmas.{all_counts, none_missed, written_mark}
+use Rattle.sd_model_outside.proofs.DeliveryLemmas.{all_counts, none_missed, written_mark}
 use Rattle.sd_model_replay.proofs.ReplayLemmas.{delivery_of}
 use Rattle.sd_model_replay.proofs.SendingLemmas.{wire_counts}
 
@@ -36,8 +36,13 @@ left_behind front whole (Left bytes) same = record { bytes = bytes; is = refl; s
 left_behind front whole Untold same = absurd (cc)
 left_behind front whole (Number n) same = absurd (cc)
 left_behind front whole (Bytes bytes) same = absurd (cc)
+left_behind front whole (Buffer size bytes) same = absurd (cc)
 left_behind front whole (Rounds rounds open_list) same = absurd (cc)
 left_behind front whole (Packets packets) same = absurd (cc)
+left_behind front whole (Datagrams left) same = absurd (cc)
+left_behind front whole (Ticks left) same = absurd (cc)
+left_behind front whole (Sessions left back) same = absurd (cc)
+left_behind front whole (Replies left questions) same = absurd (cc)
 
 abbrev pub commands_of : List Played → List Command
 commands_of played = map (λ p. p.command) played

@@ -2,8 +2,9 @@
 use Rattle.std.specs.Prelude.{◌≡◌, ◌⊎◌, ℕ, ◌<◌, IsTrue, ⊤, List, [], ◌++◌, length, map, Option, Some, None, Result, Ok, Err}
 use Rattle.std.specs.List.{AllByRecursion}
 use Rattle.sd_model_outside.specs.Outside.{Left, Rose, given}
+use Rattle.sd_model_outside.specs.Deliveries.{AfterDeliveries}
 use Rattle.sd_model_replay.specs.Settings.{Settings}
-use Rattle.sd_model_replay.specs.Backends.{Backend, AfterDeliveries, is_used}
+use Rattle.sd_model_replay.specs.Backends.{Backend, is_used}
 use Rattle.sd_model_replay.specs.Script.{Command, Packet, Flush, Admin, end_word, script_text, IsLegal}
 use Rattle.sd_model_replay.specs.Next.{ScriptFlaw, Faulty, Begins}
 use Rattle.sd_model_replay.specs.Repeater.{AfterSendings, wire_at}

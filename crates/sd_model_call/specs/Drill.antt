@@ -1,6 +1,6 @@
 -- A drill: the made script, carried out by the settings of an empty file, with a count of bytes in Graphite's place.
 use Rattle.std.specs.Prelude.{ℕ, min, List, [], ◌++◌, length, map, sum_by, codes, None}
-use Rattle.sd_model_outside.specs.Outside.{Told, Left, Number, Object, last_count}
+use Rattle.sd_model_outside.specs.Outside.{Left, Number, Object, fresh, last_count}
 use Rattle.sd_model_settings.specs.Defaults.{default_settings}
 use Rattle.sd_model_replay.specs.Settings.{Settings, goes_by}
 use Rattle.sd_model_replay.specs.Backends.{Graphite}
@@ -29,10 +29,6 @@ counted_text settings played = totals_text (totals_after settings played) ++ tot
 -- what a drill of n packets writes to the output
 abbrev pub drill_text : ℕ → List ℕ
 drill_text n = counted_text drill_settings (drilled n)
-
--- an object that has never failed and wasn't opened
-abbrev pub fresh : Told → Object
-fresh told = record { told = told; faults = 0; opened_at = None }
 
 -- what is seen where a drill of n packets begins: the made script, backends that count their bytes, and no wires
 abbrev pub drill_start : ℕ → Object → Seen

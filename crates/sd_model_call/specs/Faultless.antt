@@ -1,7 +1,7 @@
 -- How records are carried out where no fault is counted.
 use Rattle.std.specs.Prelude.{Bool, false, if◌then◌else◌, List, [], map}
 use Rattle.sd_model_settings.specs.Entries.{Target}
-use Rattle.sd_model_record.specs.Desk.{Mark, NotUsed, Written}
+use Rattle.sd_model_outside.specs.Deliveries.{Mark, NotUsed, Written}
 use Rattle.sd_model_replay.specs.Settings.{Settings}
 use Rattle.sd_model_replay.specs.Script.{Command, Packet, Flush, Admin}
 use Rattle.sd_model_replay.specs.Replay.{Played, no_marks}

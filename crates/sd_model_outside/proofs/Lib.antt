@@ -1,2 +1,5 @@
+pub mod DeliveryLemmas
+pub mod LineWrites
 pub mod OutsideLemmas
+pub mod TurnLemmas
 pub mod WriteLemmas

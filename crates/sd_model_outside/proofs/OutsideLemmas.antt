@@ -1,6 +1,6 @@
 -- Laws of what objects tell.
 use Rattle.std.proofs.Common.{◌≡◌, ℕ, ◌+◌, List, [], ◌∷◌, ◌++◌, length, Some, None, refl, sym, ap, ◌∙◌, arith, append_assoc, append-nil, length-append, min}
-use Rattle.sd_model_outside.specs.Outside.{Told, Untold, Left, Number, Bytes, Rounds, Packets, FitsLastCount, Reads, put_back, appended, last_count}
+use Rattle.sd_model_outside.specs.Outside.{Told, Untold, Left, Number, Bytes, Buffer, Rounds, Packets, Datagrams, Ticks, Sessions, Replies, FitsLastCount, Reads, put_back, appended, last_count}
 
 -- a count that stops at its end, after two rises
 min-add-min : (n a b : ℕ) → min (min (n + a) last_count + b) last_count ≡ min (n + (a + b)) last_count
@@ -12,10 +12,15 @@ appended-appended Untold xs ys = refl
 appended-appended (Left bytes) xs ys = refl
 appended-appended (Number n) xs ys = ap Number (rw length-append (min-add-min n (length xs) (length ys)))
 appended-appended (Bytes zs) xs ys = ap Bytes (append_assoc zs xs ys)
+appended-appended (Buffer size zs) xs ys = ap (Buffer size) (append_assoc zs xs ys)
 appended-appended (Rounds rounds (Some zs)) xs ys = ap (λ bytes. Rounds rounds (Some bytes)) (append_assoc zs xs ys)
 appended-appended (Rounds rounds None) [] ys = refl
 appended-appended (Rounds rounds None) (x ∷ xs) ys = refl
 appended-appended (Packets packets) xs ys = refl
+appended-appended (Datagrams left) xs ys = refl
+appended-appended (Ticks left) xs ys = refl
+appended-appended (Sessions left back) xs ys = refl
+appended-appended (Replies left questions) xs ys = refl
 
 -- a write of nothing
 pub appended-nil : (w : Told) → FitsLastCount w → appended w [] ≡ w
@@ -23,9 +28,14 @@ appended-nil Untold fits = refl
 appended-nil (Left bytes) fits = refl
 appended-nil (Number n) fits = ap Number (omega arith)
 appended-nil (Bytes zs) fits = ap Bytes (append-nil zs)
+appended-nil (Buffer size zs) fits = ap (Buffer size) (append-nil zs)
 appended-nil (Rounds rounds (Some zs)) fits = ap (λ bytes. Rounds rounds (Some bytes)) (append-nil zs)
 appended-nil (Rounds rounds None) fits = refl
 appended-nil (Packets packets) fits = refl
+appended-nil (Datagrams left) fits = refl
+appended-nil (Ticks left) fits = refl
+appended-nil (Sessions left back) fits = refl
+appended-nil (Replies left questions) fits = refl
 
 -- nothing was read
 pub Reads-nil : (told : Told) → Reads told [] told
@@ -33,8 +43,13 @@ Reads-nil Untold = refl
 Reads-nil (Left bytes) = refl
 Reads-nil (Number n) = refl
 Reads-nil (Bytes bytes) = refl
+Reads-nil (Buffer size bytes) = refl
 Reads-nil (Rounds rounds open_list) = refl
 Reads-nil (Packets packets) = refl
+Reads-nil (Datagrams left) = refl
+Reads-nil (Ticks left) = refl
+Reads-nil (Sessions left back) = refl
+Reads-nil (Replies left questions) = refl
 
 -- bytes before other bytes before what is left
 pub put_back-append : (xs ys : List ℕ) (told : Told) → put_back xs (put_back ys told) ≡ put_back (xs ++ ys) told
@@ -42,8 +57,13 @@ put_back-append xs ys Untold = refl
 put_back-append xs ys (Left rest) = ap Left (sym (append_assoc xs ys rest))
 put_back-append xs ys (Number n) = refl
 put_back-append xs ys (Bytes bytes) = refl
+put_back-append xs ys (Buffer size bytes) = refl
 put_back-append xs ys (Rounds rounds open_list) = refl
 put_back-append xs ys (Packets packets) = refl
+put_back-append xs ys (Datagrams left) = refl
+put_back-append xs ys (Ticks left) = refl
+put_back-append xs ys (Sessions left back) = refl
+put_back-append xs ys (Replies left questions) = refl
 
 -- two texts were read one after the other
 pub Reads-append : (old mid new : Told) (xs ys : List ℕ) → Reads old xs mid → Reads mid ys new → Reads old (xs ++ ys) new

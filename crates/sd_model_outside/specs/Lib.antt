@@ -1,2 +1,5 @@
 pub mod Outside
 pub mod Wires
+pub mod Turns
+pub mod Probes
+pub mod Deliveries

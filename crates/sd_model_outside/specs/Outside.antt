@@ -1,5 +1,5 @@
--- What the program may know of the objects outside it: what they tell of their content, how often they failed, and
--- where they were opened.
+-- What the program may know of the objects outside it: what they tell of their content, how often they failed, where
+-- they were opened, and what else they always tell.
 use Rattle.std.specs.Prelude.{◌≡◌, ℕ, ◌+◌, ◌-◌, ◌^◌, ◌<◌, ◌≤◌, min, take, Bool, true, false, List, [], ◌∷◌, ◌++◌, length, Option, Some, None, IfSome, ⊤}
 
 -- Where an object is opened: at a file by its name, or at a host and a port.
@@ -28,22 +28,53 @@ pub record Round : Type 0 where
   pub bytes : List ℕ
   pub is_ended : Bool
 
+-- What the two ends of a session tell: the bytes that are left to read of it, and those that were written to it.
+pub record Session : Type 0 where
+  pub left : Option (List ℕ)
+  pub written : Option (List ℕ)
+
+-- one question of a probe: where it was asked, and whether it was answered
+pub record Question : Type 0 where
+  pub place : Place
+  pub is_answered : Bool
+
 -- What an object tells of its content: nothing; of a source the bytes that it has left; of a sink how many bytes it was
--- given, up to the last count, or which; of a backend a list of bytes for each round, those that no write goes to any
--- more and then the open one; of a wire the packets that were sent.
+-- given, up to the last count, or which, and of one with a size that size too; of a backend a list of bytes for each
+-- round, those that no write goes to any more and then the open one; of a wire the packets that were sent; of a source of
+-- datagrams those that it has left; of a beat the Unix seconds of the flushes that it has left; of a door the sessions
+-- that it has left, and those that were given back; of a probe the replies that it has left, and the questions.
 pub data Told : Type 0 where
   Untold : Told
   Left : (bytes : List ℕ) → Told
   Number : (n : ℕ) → Told
   Bytes : (bytes : List ℕ) → Told
+  Buffer : (size : ℕ) (bytes : List ℕ) → Told
   Rounds : (rounds : List Round) (open_list : Option (List ℕ)) → Told
   Packets : (packets : List (List ℕ)) → Told
+  Datagrams : (left : List (List ℕ)) → Told
+  Ticks : (left : List ℕ) → Told
+  Sessions : (left back : List Session) → Told
+  Replies : (left : List (List ℕ)) (questions : List Question) → Told
 
--- What is seen of an object: what it tells, how often it failed, and where it was last opened, if it was.
+-- What is seen of an object: what it tells, how often it failed, and where it was last opened, if it was; of a source of
+-- datagrams, a beat or a door the turns that it took; of a door whether a session is out; and of a beat the interval of
+-- its last start, in milliseconds, if it was started.
 pub record Object : Type 0 where
   pub told : Told
   pub faults : ℕ
   pub opened_at : Option Place
+  pub turns : ℕ
+  pub is_out : Bool
+  pub interval : Option ℕ
+
+-- an object that takes no turns
+abbrev pub object_of : Told → ℕ → Option Place → Object
+object_of told faults opened_at =
+    record { told = told; faults = faults; opened_at = opened_at; turns = 0; is_out = false; interval = None }
+
+-- an object that tells this, has never failed, and was neither opened nor started
+abbrev pub fresh : Told → Object
+fresh told = object_of told 0 None
 
 -- an object that tells this instead
 abbrev pub telling : Told → Object → Object
@@ -58,11 +89,11 @@ pub record Used (old new : Object) : Type 0 where
   pub faults : old.faults ≤ new.faults
   pub opened_at : new.opened_at ≡ old.opened_at
 
--- A call on an object failed: it was used, its count of faults rose, and it tells what it told.
+-- A call on an object failed: it was used, its count of faults rose, and nothing else of it changed.
 pub record HasFailed (old new : Object) : Type 0 where
   pub used : Used old new
   pub rose : Rose old.faults new.faults
-  pub told : new.told ≡ old.told
+  pub same : new ≡ record old { faults = new.faults }
 
 -- the bytes that a source has left, where it tells them
 abbrev pub left_in : Told → Option (List ℕ)
@@ -103,6 +134,7 @@ FitsLastCount told = ⊤
 abbrev pub appended : Told → List ℕ → Told
 appended (Number n) xs = Number (min (n + length xs) last_count)
 appended (Bytes ys) xs = Bytes (ys ++ xs)
+appended (Buffer size ys) xs = Buffer size (ys ++ xs)
 appended (Rounds rounds (Some ys)) xs = Rounds rounds (Some (ys ++ xs))
 appended (Rounds rounds None) [] = Rounds rounds None
 appended (Rounds rounds None) (x ∷ xs) = Rounds rounds (Some (x ∷ xs))

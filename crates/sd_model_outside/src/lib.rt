@@ -1,7 +1,11 @@
-//! The definitions of the outside: what an object tells of what was read and written, how it counts its
-//! faults, and where it was opened. The functions have no code, and each states a law of the definitions.
+//! The definitions of the outside: what an object tells of its content, how it counts its faults and turns, where it was
+//! opened, and what flushes do to a backend. The functions have no code, and each states a law of the definitions.
 #![tactic(auto)]
 
+mod deliveries;
 mod outside;
+mod turns;
 
+pub use deliveries::{deliveries_are_lists, no_fault_no_failure};
 pub use outside::{empty_write, fronts_join, reads_join, whole_round, writes_join};
+pub use turns::steps_join;

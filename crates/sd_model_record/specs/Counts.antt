@@ -1,7 +1,8 @@
 -- The desk's numbers that only grow, and what callers add to them.
 use Rattle.std.specs.Prelude.{◌≡◌, ℕ, ◌+◌, ◌<◌, ◌≤◌, List, [], ◌∷◌, slice_index}
 use Rattle.sd_model_record.specs.Record.{Tally}
-use Rattle.sd_model_record.specs.Desk.{Desk, Facts, Marks, fault_of, counted, last_counted}
+use Rattle.sd_model_outside.specs.Deliveries.{fault_of}
+use Rattle.sd_model_record.specs.Desk.{Desk, Facts, Marks, counted, last_counted}
 
 -- The thirteen numbers: the four totals, the four sums of the tallies that were taken, the rounds, and the four counts of
 -- faults.

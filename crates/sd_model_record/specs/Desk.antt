@@ -1,5 +1,6 @@
 -- The desk: what the server counts of itself.
 use Rattle.std.specs.Prelude.{◌≡◌, ℕ, ◌+◌, ◌^◌, ◌<◌, ◌≤◌, min, Bool, true, false}
+use Rattle.sd_model_outside.specs.Deliveries.{Mark, fault_of}
 use Rattle.sd_model_record.specs.Record.{Tally}
 
 -- where the desk's counts stop
@@ -24,28 +25,10 @@ add_tally a b =
       dropped = counted a.dropped b.dropped;
     }
 
--- How a backend took part in a flush.
-pub data Mark : Type 0 where
-  NotUsed : Mark
-  Written : Mark
-  Fault : Mark
-
 -- the marks of a flush
 pub record Marks : Type 0 where
   pub graphite : Mark
   pub console : Mark
-
--- what a mark counts as a fault
-abbrev pub fault_of : Mark → ℕ
-fault_of NotUsed = 0
-fault_of Written = 0
-fault_of Fault = 1
-
--- whether a mark says that the whole text was written
-abbrev pub is_written : Mark → Bool
-is_written NotUsed = false
-is_written Written = true
-is_written Fault = false
 
 -- The desk: when the server started, when the last datagram came, and whether the server is well; the tally since it was
 -- last taken; and since the start the totals, the tallies that were taken, the flushes, and the faults of each backend, of

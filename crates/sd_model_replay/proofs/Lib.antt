@@ -1,6 +1,5 @@
 pub mod AccountingLemmas
 mod Decisions
-pub mod DeliveryLemmas
 pub mod HistoryLemmas
 pub mod LineLemmas
 pub mod MadeLemmas

@@ -7,7 +7,8 @@ use Rattle.std.proofs.lemmas.List.{map-append}
 use Rattle.std.proofs.lemmas.List.Elements.{filter_map-append}
 use Rattle.std.proofs.lemmas.List.Sums.{fold_push}
 use Rattle.sd_model_replay.specs.Settings.{Settings}
-use Rattle.sd_model_replay.specs.Backends.{Backend, Delivery, text_of, mark_of}
+use Rattle.sd_model_outside.specs.Deliveries.{Delivery}
+use Rattle.sd_model_replay.specs.Backends.{Backend, text_of, mark_of}
 use Rattle.sd_model_replay.specs.Script.{Command, spelled, script_text}
 use Rattle.sd_model_replay.specs.Replay.{Played, Run, first_run, play, run_of, Moment, moments, FlushMoment, flush_by, flushes, record_at, deliveries, sending_by, sendings}
 use Rattle.sd_model_replay.specs.Output.{output_in, output_of}

@@ -6,7 +6,7 @@ use Rattle.std.proofs.lemmas.List.Sums.{sum_by-cons}
 use Rattle.sd_model_outside.specs.Outside.{Object, Packets}
 use Rattle.sd_model_outside.specs.Wires.{HasSent, AreSent}
 use Rattle.sd_model_replay.specs.Repeater.{Sending, IsRepeated, AfterSendings, HasPackets, wire_at, missed_on, sent_on}
-use Rattle.sd_model_replay.proofs.DeliveryLemmas.{Counts, same_counts, joined_counts}
+use Rattle.sd_model_outside.proofs.DeliveryLemmas.{Counts, same_counts, joined_counts}
 
 -- a send on one wire
 one_send : (packet : List ℕ) (f : Bool) (old new : Object) → HasSent packet f old new → Counts (cond f 1 0) old new
@@ -33,7 +33,7 @@ abbrev more : Bool → List ℕ → List (List ℕ) → List (List ℕ)
 more failed packet packets = if failed then packets else packets ++ packet ∷ []
 
 one_told : (packet : List ℕ) (f : Bool) (old new : Object) (packets : List (List ℕ)) → old.told ≡ Packets packets → HasSent packet f old new → new.told ≡ Packets (more f packet packets)
-one_told packet true old new packets told h = h.told ∙ told
+one_told packet true old new packets told h = ap (λ (o : Object). o.told) h.same ∙ told
 one_told packet false old new packets told h = ap (λ (o : Object). o.told) h ∙ rw told refl
 
 wire_told : (packet : List ℕ) (failed : List Bool) (i : ℕ) (old new : List Object) (packets : List (List ℕ)) → (wire_at i old).told ≡ Packets packets → IsRepeated packet failed old new → (wire_at i new).told ≡ Packets (more (get_or failed i true) packet packets)

@@ -3,12 +3,13 @@ use Rattle.std.specs.Prelude.{◌≡◌, ℕ, ◌<◌, List, ◌++◌, length, m
 use Rattle.std.specs.FinMap.{empty}
 use Rattle.std.specs.List.{range_with_len, AllByRecursion}
 use Rattle.sd_model_outside.specs.Outside.{Object, Reads}
+use Rattle.sd_model_outside.specs.Deliveries.{AfterDeliveries}
 use Rattle.sd_model_shard.specs.Shard.{Table}
 use Rattle.sd_model_shard.specs.History.{part_of, state_after}
 use Rattle.sd_model_shard.specs.Whereabouts.{Accounted, RowsAreCarried, arrivals, tables}
 use Rattle.sd_model_record.specs.Record.{Record, record_rows}
 use Rattle.sd_model_replay.specs.Settings.{Settings}
-use Rattle.sd_model_replay.specs.Backends.{Backend, Graphite, Console, AfterDeliveries}
+use Rattle.sd_model_replay.specs.Backends.{Backend, Graphite, Console}
 use Rattle.sd_model_replay.specs.Repeater.{AfterSendings}
 use Rattle.sd_model_replay.specs.Script.{script_text, IsLegal}
 use Rattle.sd_model_replay.specs.Replay.{Played, IsOutcome, home_of, first_run, run_of, history_at, samples_at, records, deliveries, sendings}

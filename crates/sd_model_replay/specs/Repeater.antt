@@ -1,6 +1,6 @@
 -- The repeater: what packets do to the wires that they are repeated on.
 use Rattle.std.specs.Prelude.{◌≡◌, ℕ, Bool, true, false, List, [], ◌∷◌, ◌++◌, count_by, get_or, filter_map, Some, None, if◌then◌else◌}
-use Rattle.sd_model_outside.specs.Outside.{Object, Untold, Told, Packets}
+use Rattle.sd_model_outside.specs.Outside.{Object, Untold, Told, Packets, fresh}
 use Rattle.sd_model_outside.specs.Wires.{HasSent}
 
 -- A packet that was repeated, and of each of its sends whether it failed.
@@ -26,7 +26,7 @@ AfterSendings (s ∷ sendings) old new = (mid : List Object) × IsRepeated s.pac
 
 -- what is seen of a wire by its number, and of one that isn't there
 abbrev pub wire_at : ℕ → List Object → Object
-wire_at i wires = get_or wires i (record { told = Untold; faults = 0; opened_at = None })
+wire_at i wires = get_or wires i (fresh Untold)
 
 -- how many packets wire i missed: those whose send on it failed
 abbrev pub missed_on : ℕ → List Sending → ℕ

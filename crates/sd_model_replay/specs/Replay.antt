@@ -9,9 +9,10 @@ use Rattle.sd_model_shard.specs.Whereabouts.{Arrival, dropped_in}
 use Rattle.sd_model_record.specs.Record.{Tally, Record, record_of}
 use Rattle.sd_model_record.specs.Admin as admin
 use Rattle.sd_model_record.specs.Admin.{AdminFault, HealthWord, Up, Down, Ask}
-use Rattle.sd_model_record.specs.Desk.{Desk, new_desk, with_tally, with_repeater_faults, with_round, with_health, Marks, NotUsed}
+use Rattle.sd_model_outside.specs.Deliveries.{NotUsed, Delivery, FitsUse}
+use Rattle.sd_model_record.specs.Desk.{Desk, new_desk, with_tally, with_repeater_faults, with_round, with_health, Marks}
 use Rattle.sd_model_replay.specs.Settings.{Settings}
-use Rattle.sd_model_replay.specs.Backends.{Backend, Delivery, FitsUse, text_of, mark_of, is_used}
+use Rattle.sd_model_replay.specs.Backends.{Backend, text_of, mark_of, is_used}
 use Rattle.sd_model_replay.specs.Repeater.{Sending, failures}
 use Rattle.sd_model_replay.specs.Script.{Command, Packet, Flush, Admin}
 

@@ -6,9 +6,6 @@ mod accounting;
 mod made;
 mod script;
 
-pub use accounting::{
-    deliveries_are_lists, no_fault_no_failure, records_are_documented, samples_are_accounted,
-    sendings_are_packets,
-};
+pub use accounting::{records_are_documented, samples_are_accounted, sendings_are_packets};
 pub use made::made_records_are_legal;
 pub use script::{one_thing_stands_next, scripts_have_one_reading};

@@ -23,7 +23,8 @@ use Rattle.sd_model_record.specs.Record.{Record, record_rows, table_rows}
 use Rattle.sd_model_record.specs.Replies.{Stats, Rows, Gone, Finish, Health, reply_text}
 use Rattle.sd_model_replay.specs.Settings.{Settings}
 use Rattle.sd_model_replay.specs.Script.{Command, Packet, Flush, Admin}
-use Rattle.sd_model_replay.specs.Backends.{Backend, Graphite, Console, Delivery, text_of, mark_of}
+use Rattle.sd_model_outside.specs.Deliveries.{Delivery}
+use Rattle.sd_model_replay.specs.Backends.{Backend, Graphite, Console, text_of, mark_of}
 use Rattle.sd_model_replay.specs.Repeater.{failures}
 use Rattle.sd_model_replay.specs.Replay.{Outcome, Played, Run, first_run, events_in, events_at, acts_in, admin_events, replies_to, packet_tally, health_after, desk_after, desk_after_line, play, run_of, Moment, moments, FlushMoment, flush_by, flushes, record_at, records, deliveries}
 use Rattle.sd_model_replay.specs.Output.{answers_to, keys_in, rows_in, keys_told, rows_told, names_replied, replies_to_line, replies_in, output_in, output_of}

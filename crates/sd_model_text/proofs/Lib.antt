@@ -7,5 +7,6 @@ pub mod ListLemmas
 pub mod NamesLemmas
 pub mod PartLemmas
 pub mod PieceCounts
+pub mod Places
 pub mod Rounding
 pub mod Trims

@@ -2,7 +2,7 @@
 use Rattle.std.proofs.Common.{◌≡◌, ℕ, ◌+◌, ◌-◌, ◌≤◌, List, ◌++◌, length, take, drop, refl, sym, ap, ◌∙◌, arith, append_assoc, length-append, length-take}
 use Rattle.std.proofs.lemmas.List.{take_at, take-append-drop, drop-drop, take-append-le, length-take-le, length-drop}
 use Rattle.std.proofs.Math.Seq.{take-append-add}
-use Rattle.sd_model_outside.specs.Outside.{Told, Untold, Left, Number, Bytes, Rounds, Packets, Object, HasRead, put_back, telling}
+use Rattle.sd_model_outside.specs.Outside.{Told, Untold, Left, Number, Bytes, Buffer, Rounds, Packets, Datagrams, Ticks, Sessions, Replies, Object, HasRead, put_back, telling}
 
 -- the next n bytes after those that were taken, copied into the front of a buffer
 pub take-copied : (bytes rest copied : List ℕ) (taken n : ℕ) → copied ≡ take n (drop taken bytes) → length copied ≡ n → drop taken bytes ≡ take n (copied ++ rest) ++ drop (taken + n) bytes
@@ -29,8 +29,13 @@ reads_on xs ys old mid new first second =
       joined Untold = refl
       joined (Number n) = refl
       joined (Bytes bytes) = refl
+      joined (Buffer size bytes) = refl
       joined (Rounds rounds open_list) = refl
       joined (Packets packets) = refl
+      joined (Datagrams left) = refl
+      joined (Ticks left) = refl
+      joined (Sessions left back) = refl
+      joined (Replies left questions) = refl
 
 -- a buffer whose rest was read anew has its length
 pub length-filled : (buf new : List ℕ) (len : ℕ) → len ≤ length buf → length new ≡ length (take (length buf - len) (drop len buf)) → length (take len buf ++ (new ++ drop (len + (length buf - len)) buf)) ≡ length buf

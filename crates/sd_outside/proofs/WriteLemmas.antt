@@ -26,6 +26,6 @@ fails_behind old now next bytes rest (done, cut, is) some failed =
       front = (
         length done,
         omega (arith, length-append done rest, ap length cut),
-        failed.told ∙ ap (λ (o : Object). o.told) is ∙ ap (appended old.told) (sym (ap (take (length done)) cut ∙ take_at done rest (length done) refl)),
+        ap (λ (o : Object). o.told) failed.same ∙ ap (λ (o : Object). o.told) is ∙ ap (appended old.told) (sym (ap (take (length done)) cut ∙ take_at done rest (length done) refl)),
       );
     }

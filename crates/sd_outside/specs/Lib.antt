@@ -1,5 +1,12 @@
+pub mod Answers
 pub mod ByteStore
+pub mod CountSink
 pub mod MemBackend
+pub mod MemBeat
+pub mod MemDatagrams
+pub mod MemDoor
+pub mod MemProbe
+pub mod MemSessions
 pub mod MemSink
 pub mod MemSource
 pub mod MemWire

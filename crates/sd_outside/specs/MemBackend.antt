@@ -1,13 +1,13 @@
 -- What a backend in memory has, and what its calls leave.
 use Rattle.std.specs.Prelude.{◌≡◌, ℕ, ◌+◌, ◌<◌, ◌⊎◌, List, Option, IsNone, OnSome, IfNone, length, take, min}
-use Rattle.sd_model_outside.specs.Outside.{Round, Object, HasFailed, begun, ended, given, last_count, raised, telling}
+use Rattle.sd_model_outside.specs.Outside.{Round, Object, HasFailed, begun, ended, given, last_count, object_of, raised, telling}
 use Rattle.sd_outside.specs.RoundStore as store
 use Rattle.sd_outside.specs.Places.{last_place}
 use Rattle.sd_outside.specs.declared.mem_backend.MemBackend.{MemBackend}
 
 -- what is seen of it
 abbrev pub seen_of : MemBackend → Object
-seen_of b = record { told = store.told_by b.store; faults = min b.faults last_count; opened_at = last_place b.opened_at }
+seen_of b = object_of (store.told_by b.store) (min b.faults last_count) (last_place b.opened_at)
 
 -- the open list, if there is one
 abbrev pub open_in : MemBackend → Option (List ℕ)
@@ -39,9 +39,9 @@ pub record Calls : Type 0 where
 abbrev pub calls_of : MemBackend → Calls
 calls_of b = record { openings = b.openings; writes = b.writes; begins = b.begins; finishes = b.finishes }
 
--- a write of xs took the n bytes at its front, as many as there was room for
+-- a write of xs took the n bytes at its front, as many as there was room for and as a write takes
 pub record Takes (old new : MemBackend) (xs : List ℕ) (n : ℕ) : Type 0 where
-  pub count : n ≡ min (length xs) (byte_room_in old)
+  pub count : n ≡ min (min (length xs) old.most) (byte_room_in old)
   pub some : 0 < n
   pub content : seen_of new ≡ given (take n xs) (seen_of old)
   pub byte_room : byte_room_in new + n ≡ byte_room_in old
@@ -71,9 +71,10 @@ pub record Fails (old new : MemBackend) : Type 0 where
   pub faults : (seen_of new).faults ≡ raised (seen_of old).faults
   pub room : SameRoom old new
 
--- the calls that are to fail are as they were
-pub record SameFailures (old new : MemBackend) : Type 0 where
+-- the calls that are to fail, and how much a write takes at most, are as they were
+pub record SameChoices (old new : MemBackend) : Type 0 where
   pub fail_open : new.fail_open ≡ old.fail_open
   pub fail_call : new.fail_call ≡ old.fail_call
   pub fail_begin : new.fail_begin ≡ old.fail_begin
   pub fail_finish : new.fail_finish ≡ old.fail_finish
+  pub most : new.most ≡ old.most

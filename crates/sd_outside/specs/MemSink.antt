@@ -1,12 +1,12 @@
 -- What a sink in memory has, and what a write does to it.
 use Rattle.std.specs.Prelude.{◌≡◌, ℕ, ◌+◌, ◌<◌, List, length, take, min, None}
-use Rattle.sd_model_outside.specs.Outside.{Object, Bytes, HasFailed, given, last_count, raised}
+use Rattle.sd_model_outside.specs.Outside.{Object, Bytes, HasFailed, given, last_count, object_of, raised}
 use Rattle.sd_outside.specs.ByteStore as store
 use Rattle.sd_outside.specs.declared.mem_sink.MemSink.{MemSink}
 
 -- what is seen of it, which is opened nowhere
 abbrev pub seen_of : MemSink → Object
-seen_of s = record { told = Bytes (store.bytes_in s.store); faults = min s.faults last_count; opened_at = None }
+seen_of s = object_of (Bytes (store.bytes_in s.store)) (min s.faults last_count) None
 
 -- how many bytes more it has room for
 abbrev pub room_in : MemSink → ℕ
@@ -16,9 +16,9 @@ room_in s = store.room_in s.store
 abbrev pub writes_of : MemSink → ℕ
 writes_of s = s.writes
 
--- a write of xs took the n bytes at its front, as many as there was room for
+-- a write of xs took the n bytes at its front, as many as there was room for and as a write takes
 pub record Takes (old new : MemSink) (xs : List ℕ) (n : ℕ) : Type 0 where
-  pub count : n ≡ min (length xs) (room_in old)
+  pub count : n ≡ min (min (length xs) old.most) (room_in old)
   pub some : 0 < n
   pub content : seen_of new ≡ given (take n xs) (seen_of old)
   pub room : room_in new + n ≡ room_in old

@@ -1,6 +1,6 @@
 -- What a source in memory has, and what its calls leave.
 use Rattle.std.specs.Prelude.{◌≡◌, ℕ, ◌≤◌, List, drop, length, take, min}
-use Rattle.sd_model_outside.specs.Outside.{Object, Left, HasFailed, HasRead, last_count, raised}
+use Rattle.sd_model_outside.specs.Outside.{Object, Left, HasFailed, HasRead, last_count, object_of, raised}
 use Rattle.sd_outside.specs.Places.{last_place}
 use Rattle.sd_outside.specs.declared.mem_source.MemSource.{MemSource}
 
@@ -10,7 +10,7 @@ left_of s = drop s.taken s.bytes.items
 
 -- what is seen of it
 abbrev pub seen_of : MemSource → Object
-seen_of s = record { told = Left (left_of s); faults = min s.faults last_count; opened_at = last_place s.opened_at }
+seen_of s = object_of (Left (left_of s)) (min s.faults last_count) (last_place s.opened_at)
 
 -- how often each call was asked for, up to the last count
 pub record Calls : Type 0 where
@@ -20,9 +20,9 @@ pub record Calls : Type 0 where
 abbrev pub calls_of : MemSource → Calls
 calls_of s = record { openings = s.openings; reads = s.reads }
 
--- a read put the next n bytes into the front of a buffer, as many as there were and as it had room for
+-- a read put the next n bytes into the front of a buffer, as many as there were, as it had room for, and as a read gives
 pub record Gives (old new : MemSource) (buf filled : List ℕ) (n : ℕ) : Type 0 where
-  pub count : n ≡ min (length buf) (length (left_of old))
+  pub count : n ≡ min (min (length buf) (length (left_of old))) old.most
   pub within : n ≤ length filled
   pub content : HasRead (take n filled) (seen_of old) (seen_of new)
   pub rest : drop n filled ≡ drop n buf
@@ -32,7 +32,8 @@ pub record Fails (old new : MemSource) : Type 0 where
   pub failed : HasFailed (seen_of old) (seen_of new)
   pub faults : (seen_of new).faults ≡ raised (seen_of old).faults
 
--- the calls that are to fail are as they were
-pub record SameFailures (old new : MemSource) : Type 0 where
+-- the calls that are to fail, and how much a read gives at most, are as they were
+pub record SameChoices (old new : MemSource) : Type 0 where
   pub fail_open : new.fail_open ≡ old.fail_open
   pub fail_call : new.fail_call ≡ old.fail_call
+  pub most : new.most ≡ old.most

@@ -1,6 +1,6 @@
 -- What a wire in memory has, and what its calls leave.
 use Rattle.std.specs.Prelude.{◌≡◌, ℕ, ◌+◌, ◌<◌, ◌⊎◌, List, length, min}
-use Rattle.sd_model_outside.specs.Outside.{Object, Packets, HasFailed, sent, last_count, raised}
+use Rattle.sd_model_outside.specs.Outside.{Object, Packets, HasFailed, sent, last_count, object_of, raised}
 use Rattle.sd_outside.specs.RoundStore as store
 use Rattle.sd_outside.specs.Places.{last_place}
 use Rattle.sd_outside.specs.declared.mem_wire.MemWire.{MemWire}
@@ -11,7 +11,7 @@ packets_in w = store.bytes_of_lists w.store
 
 -- what is seen of it
 abbrev pub seen_of : MemWire → Object
-seen_of w = record { told = Packets (packets_in w); faults = min w.faults last_count; opened_at = last_place w.opened_at }
+seen_of w = object_of (Packets (packets_in w)) (min w.faults last_count) (last_place w.opened_at)
 
 -- how many bytes more it has room for
 abbrev pub byte_room_in : MemWire → ℕ

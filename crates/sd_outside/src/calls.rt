@@ -1,7 +1,7 @@
 ghost use Rattle.std.specs.Prelude.{◌≡◌, ◌≤◌, ◌↔◌, IsTrue, Contains};
 ghost use Rattle.sd_model_outside.specs.Outside.{raised};
 
-use crate::opens::Failed;
+use crate::opens::{Failed, OpenRefusal};
 
 /// Counts a call, and answers whether its number is among those that are to fail.
 pub(crate) fn next_call_fails(calls: &mut u64, listed: &[u64]) -> bool
@@ -19,4 +19,14 @@ pub fn fault(faults: &mut u64) -> Failed
 {
     *faults = faults.saturating_add(1);
     Failed
+}
+
+/// Counts a fault of an object, up to 2^64 - 1, and answers that it wasn't opened.
+pub fn opening_fault(faults: &mut u64) -> OpenRefusal
+    ensures counted { faults.new ≡ raised faults.old }
+    ensures stays { faults.old ≤ faults.new }
+    ensures refusal { result ≡ OpenRefusal.Failed }
+{
+    fault(faults);
+    OpenRefusal::Failed
 }

@@ -1,6 +1,8 @@
+ghost use Rattle.std.specs.Prelude.{◌<◌};
+
 use crate::address::Address;
 use crate::backend::Backend;
-use crate::calls::{fault, next_call_fails};
+use crate::calls::{fault, next_call_fails, opening_fault};
 use crate::opens::{Failed, Faulty, OpenRefusal, Opens};
 use crate::round_store::RoundStore;
 use crate::sink::Sink;
@@ -24,23 +26,26 @@ pub struct MemBackend {
     pub fail_begin: Vec<u64>,
     /// The numbers of the calls of `finish` that are to fail, counted from 1.
     pub fail_finish: Vec<u64>,
+    /// How many bytes a write takes at most. Not 0.
+    pub most: usize,
+    ghost some_at_most: { 0 < most },
 }
 
 impl MemBackend {
     ghost use Rattle.std.specs.Prelude.{◌≡◌, ◌<◌, min, length, IfOk, None, Some, [], option_copied, slice_get};
     ghost use Rattle.std.specs.Option.{option_map};
-    ghost use Rattle.sd_model_outside.specs.Outside.{Rounds};
+    ghost use Rattle.sd_model_outside.specs.Outside.{Rounds, fresh};
     ghost use Rattle.sd_outside.specs.MemBackend.{HasNoRoom, Calls, byte_room_in, calls_of, list_room_in, lists_in};
     ghost use Rattle.sd_outside.specs.Places.{last_place};
 
     /// A backend with no list, and room for that many bytes in all its lists together and for that many
-    /// lists, of which no call is to fail.
+    /// lists, of which no call is to fail, and whose writes take as much as they can.
     ///
     /// # Errors
     ///
     /// Where no memory is left for the room.
     pub fn open(alloc: Global, bytes: usize, rounds: usize) -> Result<MemBackend, AllocError>
-        ensures seen { IfOk result (λ b. ⟦<MemBackend as Faulty>⟧.seen b ≡ record { told = Rounds [] None; faults = 0; opened_at = None }) }
+        ensures seen { IfOk result (λ b. ⟦<MemBackend as Faulty>⟧.seen b ≡ fresh (Rounds [] None)) }
         ensures byte_room { IfOk result (λ b. byte_room_in b ≡ bytes) }
         ensures list_room { IfOk result (λ b. list_room_in b ≡ rounds) }
         ensures no_calls { IfOk result
@@ -49,6 +54,7 @@ impl MemBackend {
         ensures fails_no_write { IfOk result (λ b. b.fail_call.items ≡ []) }
         ensures fails_no_begin { IfOk result (λ b. b.fail_begin.items ≡ []) }
         ensures fails_no_finish { IfOk result (λ b. b.fail_finish.items ≡ []) }
+        ensures most { IfOk result (λ b. b.most ≡ usize.MAX) }
     {
         Ok(MemBackend {
             store: RoundStore::open(alloc, bytes, rounds)?,
@@ -62,6 +68,7 @@ impl MemBackend {
             fail_call: Vec::new(alloc),
             fail_begin: Vec::new(alloc),
             fail_finish: Vec::new(alloc),
+            most: usize::MAX,
         })
     }
 
@@ -102,13 +109,13 @@ impl MemBackend {
         self.opened_at.as_ref()
     }
 
-    /// How many bytes of a write fit, or none where the write needs a list for which there is no room.
+    /// How many bytes a write takes, or none where it needs a list for which there is no room.
     fn fitting(&self, len: usize) -> usize
         ensures no_room { HasNoRoom self.now → result ≡ 0 }
-        ensures room { ¬ (HasNoRoom self.now) → result ≡ min len (byte_room_in self.now) }
+        ensures room { ¬ (HasNoRoom self.now) → result ≡ min (min len self.now.most) (byte_room_in self.now) }
     {
         if self.store.is_open() || self.store.has_list_room() {
-            len.min(self.store.byte_room())
+            len.min(self.most).min(self.store.byte_room())
         } else {
             0
         }
@@ -127,7 +134,7 @@ impl Faulty for MemBackend {
 impl Opens for MemBackend {
     ghost use Rattle.std.specs.Prelude.{◌≡◌, ◌↔◌, OnOk, OnErr, IfErr, IsErr, Contains};
     ghost use Rattle.sd_model_outside.specs.Outside.{opened, raised};
-    ghost use Rattle.sd_outside.specs.MemBackend.{Calls, Fails, SameFailures, SameRoom, calls_of, seen_of};
+    ghost use Rattle.sd_outside.specs.MemBackend.{Calls, Fails, SameChoices, SameRoom, calls_of, seen_of};
     ghost use Rattle.sd_outside.specs.Places.{place_of};
 
     fn open_at(&mut self, at: &Address) -> Result<(), OpenRefusal>
@@ -138,11 +145,10 @@ impl Opens for MemBackend {
         ensures room { SameRoom self.old self.new }
         ensures counted { calls_of self.new
             ≡ record (calls_of self.old) { openings = raised (calls_of self.old).openings } }
-        ensures failures_stay { SameFailures self.old self.new }
+        ensures choices_stay { SameChoices self.old self.new }
     {
         if next_call_fails(&mut self.openings, &self.fail_open) {
-            fault(&mut self.faults);
-            return Err(OpenRefusal::Failed);
+            return Err(opening_fault(&mut self.faults));
         }
         self.opened_at = Some(at.copied());
         Ok(())
@@ -152,7 +158,7 @@ impl Opens for MemBackend {
 impl Sink for MemBackend {
     ghost use Rattle.std.specs.Prelude.{◌≡◌, ◌<◌, ◌⊎◌, ◌↔◌, length, IfOk, OnErr, IsErr, Contains};
     ghost use Rattle.sd_model_outside.specs.Outside.{raised};
-    ghost use Rattle.sd_outside.specs.MemBackend.{Calls, Takes, Fails, HasNoRoom, SameFailures, calls_of};
+    ghost use Rattle.sd_outside.specs.MemBackend.{Calls, Takes, Fails, HasNoRoom, SameChoices, calls_of};
 
     fn write(&mut self, bytes: &[u8]) -> Result<usize, Failed>
         requires { 0 < length bytes.now }
@@ -162,7 +168,7 @@ impl Sink for MemBackend {
             ↔ (Contains self.old.fail_call.items (calls_of self.new).writes ⊎ HasNoRoom self.old) }
         ensures counted { calls_of self.new
             ≡ record (calls_of self.old) { writes = raised (calls_of self.old).writes } }
-        ensures failures_stay { SameFailures self.old self.new }
+        ensures choices_stay { SameChoices self.old self.new }
     {
         let count = self.fitting(bytes.len());
         if next_call_fails(&mut self.writes, &self.fail_call) || count == 0 {
@@ -178,7 +184,7 @@ impl Sink for MemBackend {
 impl Backend for MemBackend {
     ghost use Rattle.std.specs.Prelude.{◌≡◌, ◌⊎◌, ◌↔◌, OnOk, OnErr, IsErr, Contains};
     ghost use Rattle.sd_model_outside.specs.Outside.{raised};
-    ghost use Rattle.sd_outside.specs.MemBackend.{Begins, Calls, Fails, Finishes, SameFailures, calls_of, list_room_in};
+    ghost use Rattle.sd_outside.specs.MemBackend.{Begins, Calls, Fails, Finishes, SameChoices, calls_of, list_room_in};
 
     fn begin(&mut self) -> Result<(), Failed>
         ensures begins { OnOk result (Begins self.old self.new) }
@@ -187,7 +193,7 @@ impl Backend for MemBackend {
             ↔ (Contains self.old.fail_begin.items (calls_of self.new).begins ⊎ (list_room_in self.old ≡ 0)) }
         ensures counted { calls_of self.new
             ≡ record (calls_of self.old) { begins = raised (calls_of self.old).begins } }
-        ensures failures_stay { SameFailures self.old self.new }
+        ensures choices_stay { SameChoices self.old self.new }
     {
         if next_call_fails(&mut self.begins, &self.fail_begin) || !self.store.has_list_room() {
             return Err(fault(&mut self.faults));
@@ -202,7 +208,7 @@ impl Backend for MemBackend {
         ensures cause { IsErr result ↔ Contains self.old.fail_finish.items (calls_of self.new).finishes }
         ensures counted { calls_of self.new
             ≡ record (calls_of self.old) { finishes = raised (calls_of self.old).finishes } }
-        ensures failures_stay { SameFailures self.old self.new }
+        ensures choices_stay { SameChoices self.old self.new }
     {
         if next_call_fails(&mut self.finishes, &self.fail_finish) {
             return Err(fault(&mut self.faults));

@@ -1,3 +1,5 @@
+ghost use Rattle.std.specs.Prelude.{◌<◌};
+
 use crate::byte_store::ByteStore;
 use crate::calls::{fault, next_call_fails};
 use crate::opens::{Failed, Faulty};
@@ -12,29 +14,35 @@ pub struct MemSink {
     writes: u64,
     /// The numbers of the writes that are to fail, counted from 1.
     pub fail_call: Vec<u64>,
+    /// How many bytes a write takes at most. Not 0.
+    pub most: usize,
+    ghost some_at_most: { 0 < most },
 }
 
 impl MemSink {
     ghost use Rattle.std.specs.Prelude.{◌≡◌, None, [], IfOk};
-    ghost use Rattle.sd_model_outside.specs.Outside.{Bytes};
+    ghost use Rattle.sd_model_outside.specs.Outside.{Bytes, fresh};
     ghost use Rattle.sd_outside.specs.MemSink.{room_in, writes_of};
 
-    /// An empty sink with room for that many bytes, of which no write is to fail.
+    /// An empty sink with room for that many bytes, of which no write is to fail, and whose writes take as much as they
+    /// can.
     ///
     /// # Errors
     ///
     /// Where no memory is left for the room.
     pub fn open(alloc: Global, bytes: usize) -> Result<MemSink, AllocError>
-        ensures seen { IfOk result (λ s. ⟦<MemSink as Faulty>⟧.seen s ≡ record { told = Bytes []; faults = 0; opened_at = None }) }
+        ensures seen { IfOk result (λ s. ⟦<MemSink as Faulty>⟧.seen s ≡ fresh (Bytes [])) }
         ensures room { IfOk result (λ s. room_in s ≡ bytes) }
         ensures no_writes { IfOk result (λ s. writes_of s ≡ 0) }
         ensures fails_no_write { IfOk result (λ s. s.fail_call.items ≡ []) }
+        ensures most { IfOk result (λ s. s.most ≡ usize.MAX) }
     {
         Ok(MemSink {
             store: ByteStore::open(alloc, bytes)?,
             faults: 0,
             writes: 0,
             fail_call: Vec::new(alloc),
+            most: usize::MAX,
         })
     }
 
@@ -75,8 +83,9 @@ impl Sink for MemSink {
             ↔ (Contains self.old.fail_call.items (writes_of self.new) ⊎ (room_in self.old ≡ 0)) }
         ensures counted { writes_of self.new ≡ raised (writes_of self.old) }
         ensures list_stays { self.new.fail_call ≡ self.old.fail_call }
+        ensures most_stays { self.new.most ≡ self.old.most }
     {
-        let count = bytes.len().min(self.store.room());
+        let count = bytes.len().min(self.most).min(self.store.room());
         if next_call_fails(&mut self.writes, &self.fail_call) || count == 0 {
             return Err(fault(&mut self.faults));
         }

@@ -1,7 +1,7 @@
-ghost use Rattle.std.specs.Prelude.{◌≡◌, ◌≤◌, [], option_copied, vec_len};
+ghost use Rattle.std.specs.Prelude.{◌<◌, ◌≤◌, vec_len};
 
 use crate::address::Address;
-use crate::calls::{fault, next_call_fails};
+use crate::calls::{fault, next_call_fails, opening_fault};
 use crate::opens::{Failed, Faulty, OpenRefusal, Opens};
 use crate::source::Source;
 
@@ -18,21 +18,25 @@ pub struct MemSource {
     pub fail_open: Vec<u64>,
     /// The numbers of the reads that are to fail, counted from 1.
     pub fail_call: Vec<u64>,
+    /// How many bytes a read gives at most. Not 0.
+    pub most: usize,
+    ghost some_at_most: { 0 < most },
     ghost taken_within: { taken ≤ vec_len bytes },
 }
 
 impl MemSource {
     ghost use Rattle.std.specs.Prelude.{◌≡◌, None, [], option_copied};
-    ghost use Rattle.sd_model_outside.specs.Outside.{Left};
+    ghost use Rattle.sd_model_outside.specs.Outside.{Left, fresh};
     ghost use Rattle.sd_outside.specs.MemSource.{calls_of};
     ghost use Rattle.sd_outside.specs.Places.{last_place};
 
-    /// A source that has the bytes left, and of which no call is to fail.
+    /// A source that has the bytes left, of which no call is to fail, and whose reads give as much as they can.
     pub fn of(bytes: Vec<u8>) -> MemSource
-        ensures seen { ⟦<MemSource as Faulty>⟧.seen result ≡ record { told = Left bytes.items; faults = 0; opened_at = None } }
+        ensures seen { ⟦<MemSource as Faulty>⟧.seen result ≡ fresh (Left bytes.items) }
         ensures no_calls { calls_of result ≡ record { openings = 0; reads = 0 } }
         ensures fails_no_opening { result.fail_open.items ≡ [] }
         ensures fails_no_read { result.fail_call.items ≡ [] }
+        ensures most { result.most ≡ usize.MAX }
     {
         let alloc = *bytes.allocator();
         MemSource {
@@ -44,6 +48,7 @@ impl MemSource {
             reads: 0,
             fail_open: Vec::new(alloc),
             fail_call: Vec::new(alloc),
+            most: usize::MAX,
         }
     }
 
@@ -81,7 +86,7 @@ impl Faulty for MemSource {
 impl Opens for MemSource {
     ghost use Rattle.std.specs.Prelude.{◌≡◌, ◌↔◌, OnOk, OnErr, IfErr, IsErr, Contains};
     ghost use Rattle.sd_model_outside.specs.Outside.{opened, raised};
-    ghost use Rattle.sd_outside.specs.MemSource.{Calls, Fails, SameFailures, calls_of, seen_of};
+    ghost use Rattle.sd_outside.specs.MemSource.{Calls, Fails, SameChoices, calls_of, seen_of};
     ghost use Rattle.sd_outside.specs.Places.{place_of};
 
     fn open_at(&mut self, at: &Address) -> Result<(), OpenRefusal>
@@ -91,11 +96,10 @@ impl Opens for MemSource {
         ensures cause { IsErr result ↔ Contains self.old.fail_open.items (calls_of self.new).openings }
         ensures counted { calls_of self.new
             ≡ record (calls_of self.old) { openings = raised (calls_of self.old).openings } }
-        ensures failures_stay { SameFailures self.old self.new }
+        ensures choices_stay { SameChoices self.old self.new }
     {
         if next_call_fails(&mut self.openings, &self.fail_open) {
-            fault(&mut self.faults);
-            return Err(OpenRefusal::Failed);
+            return Err(opening_fault(&mut self.faults));
         }
         self.opened_at = Some(at.copied());
         Ok(())
@@ -105,7 +109,7 @@ impl Opens for MemSource {
 impl Source for MemSource {
     ghost use Rattle.std.specs.Prelude.{◌≡◌, ◌<◌, ◌↔◌, length, IfOk, OnErr, IsErr, Contains};
     ghost use Rattle.sd_model_outside.specs.Outside.{raised};
-    ghost use Rattle.sd_outside.specs.MemSource.{Calls, Gives, Fails, SameFailures, calls_of};
+    ghost use Rattle.sd_outside.specs.MemSource.{Calls, Gives, Fails, SameChoices, calls_of};
 
     fn read(&mut self, buf: &mut [u8]) -> Result<usize, Failed>
         requires { 0 < length buf.old }
@@ -115,13 +119,13 @@ impl Source for MemSource {
         ensures cause { IsErr result ↔ Contains self.old.fail_call.items (calls_of self.new).reads }
         ensures counted { calls_of self.new
             ≡ record (calls_of self.old) { reads = raised (calls_of self.old).reads } }
-        ensures failures_stay { SameFailures self.old self.new }
+        ensures choices_stay { SameChoices self.old self.new }
     {
         if next_call_fails(&mut self.reads, &self.fail_call) {
             return Err(fault(&mut self.faults));
         }
         let rest = &self.bytes[self.taken..];
-        let count = rest.len().min(buf.len());
+        let count = rest.len().min(buf.len()).min(self.most);
         buf[..count].copy_from_slice(&rest[..count]);
         self.taken += count;
         Ok(count)

@@ -2,7 +2,7 @@ ghost use Rattle.std.specs.Prelude.{IsNone};
 ghost use Rattle.sd_outside.specs.RoundStore.{open_in};
 
 use crate::address::Address;
-use crate::calls::{fault, next_call_fails};
+use crate::calls::{fault, next_call_fails, opening_fault};
 use crate::opens::{Failed, Faulty, OpenRefusal, Opens};
 use crate::round_store::RoundStore;
 use crate::wire::Wire;
@@ -25,7 +25,7 @@ pub struct MemWire {
 
 impl MemWire {
     ghost use Rattle.std.specs.Prelude.{◌≡◌, ◌<◌, ◌≤◌, ◌↔◌, length, IfOk, IsTrue, None, Some, [], option_copied, slice_get};
-    ghost use Rattle.sd_model_outside.specs.Outside.{Packets};
+    ghost use Rattle.sd_model_outside.specs.Outside.{Packets, fresh};
     ghost use Rattle.sd_outside.specs.MemWire.{HasNoRoomFor, Calls, byte_room_in, calls_of, packet_room_in, packets_in};
     ghost use Rattle.sd_outside.specs.Places.{last_place};
 
@@ -36,7 +36,7 @@ impl MemWire {
     ///
     /// Where no memory is left for the room.
     pub fn open(alloc: Global, bytes: usize, packets: usize) -> Result<MemWire, AllocError>
-        ensures seen { IfOk result (λ w. ⟦<MemWire as Faulty>⟧.seen w ≡ record { told = Packets []; faults = 0; opened_at = None }) }
+        ensures seen { IfOk result (λ w. ⟦<MemWire as Faulty>⟧.seen w ≡ fresh (Packets [])) }
         ensures byte_room { IfOk result (λ w. byte_room_in w ≡ bytes) }
         ensures packet_room { IfOk result (λ w. packet_room_in w ≡ packets) }
         ensures no_calls { IfOk result (λ w. calls_of w ≡ record { openings = 0; sends = 0 }) }
@@ -117,8 +117,7 @@ impl Opens for MemWire {
         ensures failures_stay { SameFailures self.old self.new }
     {
         if next_call_fails(&mut self.openings, &self.fail_open) {
-            fault(&mut self.faults);
-            return Err(OpenRefusal::Failed);
+            return Err(opening_fault(&mut self.faults));
         }
         self.opened_at = Some(at.copied());
         Ok(())

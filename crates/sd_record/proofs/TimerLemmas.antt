@@ -12,9 +12,9 @@ use Rattle.sd_model_shard.specs.Values.{bin}
 use Rattle.sd_model_record.specs.Record.{limits_for}
 use Rattle.sd_epoch.proofs.ListingLemmas.{left_from}
 use Rattle.sd_decimal.specs.declared.number.Micro.{Micro}
-use Rattle.sd_config.specs.Values.{micros}
-use Rattle.sd_config.specs.Entries.{limits_of, classes_view}
-use Rattle.sd_config.specs.declared.entries.Classes.{Classes}
+use Rattle.sd_plan.specs.Values.{micros}
+use Rattle.sd_plan.specs.Entries.{limits_of, classes_view}
+use Rattle.sd_plan.specs.declared.entries.Classes.{Classes}
 
 pub threshold_at : (ts : List Micro) (i : ℕ) (d : Micro) → i < length ts → All IsThreshold (micros ts) → IsThreshold (get_or ts i d).0
 threshold_at ts i d below all =

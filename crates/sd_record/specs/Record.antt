@@ -2,7 +2,7 @@
 use Rattle.std.specs.Prelude.{◌≡◌, map}
 use Rattle.std.specs.Borrow.{MutBor}
 use Rattle.sd_model_record.specs.Record as model
-use Rattle.sd_config.specs.Plan.{plan_view}
+use Rattle.sd_plan.specs.Plan.{plan_view}
 use Rattle.sd_epoch.specs.Table.{table_of}
 use Rattle.sd_record.specs.Rows.{Room}
 use Rattle.sd_record.specs.Placed.{Places}

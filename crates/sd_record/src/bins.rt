@@ -1,6 +1,6 @@
 ghost use Rattle.std.specs.Prelude.{◌≡◌, ◌≤◌, length, map};
 ghost use Rattle.sd_model_shard.specs.Values.{bin, bins};
-ghost use Rattle.sd_config.specs.Entries.{limit_of, limits_of};
+ghost use Rattle.sd_plan.specs.Entries.{limit_of, limits_of};
 ghost use Rattle.sd_stats.specs.Seen.{timer_seen};
 ghost use Rattle.sd_record.specs.Row.{bin_view};
 

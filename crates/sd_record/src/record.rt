@@ -1,6 +1,6 @@
 ghost use Rattle.std.specs.Prelude.{◌≡◌, ◌<◌, ◌≤◌, length, map, sum_by, All, slice_get, Some};
 ghost use Rattle.sd_model_record.specs.Record.{record_of};
-ghost use Rattle.sd_config.specs.Plan.{plan_view};
+ghost use Rattle.sd_plan.specs.Plan.{plan_view};
 ghost use Rattle.sd_epoch.specs.Table.{table_of};
 ghost use Rattle.sd_record.specs.Placed.{AreInOrder};
 ghost use Rattle.sd_record.specs.Row.{row_view};
@@ -9,7 +9,7 @@ ghost use Rattle.sd_desk.specs.Tally.{tally_of};
 
 use crate::row::Row;
 use crate::scratch::RecordScratch;
-use sd_config::Reckoning;
+use sd_plan::Reckoning;
 use sd_desk::Tally;
 use sd_epoch::Table;
 

@@ -1,7 +1,7 @@
 ghost use Rattle.std.specs.Prelude.{◌≡◌, ◌<◌, ◌≤◌, [], length, map, slice_get, Some, sum_by, All, IfOk};
 ghost use Rattle.std.specs.List.Sorted.{IsPermutation, IsSortedByKey};
 ghost use Rattle.sd_model_shard.specs.Rows.{row_cmp};
-ghost use Rattle.sd_config.specs.Plan.{plan_view};
+ghost use Rattle.sd_plan.specs.Plan.{plan_view};
 ghost use Rattle.sd_epoch.specs.Limits.{limits_of, AreLimits};
 ghost use Rattle.sd_epoch.specs.Table.{AreApart};
 ghost use Rattle.sd_record.specs.Placed.{row_id, seen_in, value_at, IsPlaced};
@@ -12,7 +12,7 @@ ghost use Rattle.sd_record.specs.Rows.{all_rows, with_id};
 use crate::placed::{PlacedRow, place_all};
 use crate::row::Row;
 use crate::values::put_row;
-use sd_config::Reckoning;
+use sd_plan::Reckoning;
 use sd_epoch::{Limits, Scratch, Table};
 use std::alloc::{AllocError, Global};
 use std::marker::Model;

@@ -1,14 +1,14 @@
 ghost use Rattle.std.specs.Prelude.{◌≡◌, ◌^◌, ◌≤◌, length, map, unsigned_abs, All};
 ghost use Rattle.sd_model_record.specs.Record.{timer_figures, limits_for};
-ghost use Rattle.sd_config.specs.Entries.{limits_of, classes_view};
-ghost use Rattle.sd_config.specs.Plan.{plan_view};
+ghost use Rattle.sd_plan.specs.Entries.{limits_of, classes_view};
+ghost use Rattle.sd_plan.specs.Plan.{plan_view};
 ghost use Rattle.sd_stats.specs.Timer.{numbers, IsTimerValue};
 ghost use Rattle.sd_record.specs.Row.{timer_view};
 
 use crate::bins::bins_of;
 use crate::parts::parts_of;
 use crate::row::{Bins, Parts, TimerRow};
-use sd_config::{Classes, Reckoning};
+use sd_plan::{Classes, Reckoning};
 use sd_decimal::{Limit, Micro, Sum, per_second};
 use sd_key::{Key, has_part};
 use sd_stats::TimerStats;

@@ -3,12 +3,12 @@ ghost use Rattle.sd_model_text.specs.Names.{Counter, Timer};
 ghost use Rattle.sd_model_record.specs.Record.{row_value, row_of_kind, GaugeRow, SetRow};
 ghost use Rattle.sd_model_shard.specs.Statistics.{gauge_value, members_of};
 ghost use Rattle.sd_model_shard.specs.Values.{distinct};
-ghost use Rattle.sd_config.specs.Plan.{plan_view};
+ghost use Rattle.sd_plan.specs.Plan.{plan_view};
 ghost use Rattle.sd_record.specs.Row.{row_view};
 
 use crate::row::Row;
 use crate::timers::timer_of;
-use sd_config::Reckoning;
+use sd_plan::Reckoning;
 use sd_decimal::per_second;
 use sd_epoch::{Scratch, Table};
 use sd_key::{Key, Kind};

@@ -5,12 +5,12 @@ ghost use Rattle.sd_model_record.specs.Graphite.{graphite_text};
 ghost use Rattle.sd_model_record.specs.Record.{record_of};
 ghost use Rattle.sd_model_replay.specs.Backends.{AfterMark, FitsUse};
 ghost use Rattle.sd_model_shard.specs.Shard.{after_swap, table_of};
-ghost use Rattle.sd_config.specs.Plan.{plan_view};
+ghost use Rattle.sd_plan.specs.Plan.{plan_view};
 ghost use Rattle.sd_desk.specs.Marks.{mark_of, marks_of};
 ghost use Rattle.sd_shards.specs.Shards.{AreAlike, numbers, state_at};
 ghost use Rattle.sd_replay.specs.Room.{HasRoom};
 
-use sd_config::{Names, Reckoning};
+use sd_plan::{Names, Reckoning};
 use sd_delivery::deliver;
 use sd_desk::{Desk, RoundMarks};
 use sd_outside::{Backend, Backs};

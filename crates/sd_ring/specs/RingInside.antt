@@ -3,7 +3,7 @@ use Rattle.std.specs.Prelude.{◌≡◌, ℕ, ◌-◌, ◌^◌, List, map, Some}
 use Rattle.std.specs.List.Sorted.{IsPermutation}
 use Rattle.sd_model_settings.specs.Entries as model
 use Rattle.sd_model_ring.specs.Ring.{points, owner}
-use Rattle.sd_config.specs.Entries.{node_view}
+use Rattle.sd_plan.specs.Entries.{node_view}
 use Rattle.sd_ring.specs.Homes.{Remembers}
 use Rattle.sd_ring.specs.Points.{Ascends}
 use Rattle.sd_ring.specs.declared.ring.Ring.TheInside.{Inside}

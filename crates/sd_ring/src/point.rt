@@ -1,10 +1,10 @@
 ghost use Rattle.std.specs.Prelude.{◌≡◌, ◌+◌, ◌≤◌};
 ghost use Rattle.md5.specs.Md5.{md5, word_at};
 ghost use Rattle.sd_model_ring.specs.Ring.{node_text, number_of_key, is_up};
-ghost use Rattle.sd_config.specs.Entries.{node_view};
+ghost use Rattle.sd_plan.specs.Entries.{node_view};
 
 use md5::{Digest, Md5};
-use sd_config::Node;
+use sd_plan::Node;
 use sd_decimal::{Line, write_whole};
 use sd_key::Key;
 use std::marker::Model;

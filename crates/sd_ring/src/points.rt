@@ -1,10 +1,10 @@
 ghost use Rattle.std.specs.Prelude.{◌≡◌, ◌≤◌, ◌++◌, length, map, IfOk, OnOk, option_map};
 ghost use Rattle.sd_model_ring.specs.Ring.{points, points_of, points_at, points_up, next_point};
-ghost use Rattle.sd_config.specs.Entries.{node_view};
+ghost use Rattle.sd_plan.specs.Entries.{node_view};
 ghost use Rattle.sd_ring.specs.Points.{Ascends, first_up, words_of};
 
 use crate::point::{Point, is_up, node_digest, word_at};
-use sd_config::Node;
+use sd_plan::Node;
 use std::alloc::{AllocError, Global};
 
 /// How many texts of a node are hashed to its points.

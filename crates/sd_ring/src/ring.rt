@@ -1,13 +1,13 @@
 ghost use Rattle.std.specs.Prelude.{◌≡◌, ◌↔◌, ℕ, ◌<◌, ◌≤◌, length, map, IsNone, IfOk, IfSome, true, false};
 ghost use Rattle.sd_model_ring.specs.Ring.{owner, is_up};
-ghost use Rattle.sd_config.specs.Entries.{node_view};
+ghost use Rattle.sd_plan.specs.Entries.{node_view};
 ghost use Rattle.sd_ring.specs.RingInside.{all_up};
 
 use crate::homes::{recall, remember};
 use crate::point::{Point, is_up, number_of_key};
 use crate::points::{next_node, points_of_nodes};
 use lru::LruCache;
-use sd_config::Node;
+use sd_plan::Node;
 use sd_key::Key;
 use std::alloc::{AllocError, Global};
 use std::marker::Model;

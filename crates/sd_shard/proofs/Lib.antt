@@ -2,3 +2,4 @@ mod CarryLemmas
 mod CommandLemmas
 mod DumpLemmas
 mod RoomLemmas
+mod SwapLemmas

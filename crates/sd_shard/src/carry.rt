@@ -1,54 +1,173 @@
-ghost use Rattle.std.specs.Prelude.{◌≡◌, ◌<◌, ◌≤◌, [], length, option_map, slice_get, IfSome};
-ghost use Rattle.sd_model_shard.specs.Shard.{kept_by, left_of, carried};
-ghost use Rattle.sd_epoch.specs.Table.{live_of, row_view};
+ghost use Rattle.std.specs.Prelude.{◌≡◌, ◌≢◌, ℕ, ◌+◌, ◌<◌, ◌≤◌, [], Some, None, is_some, set, map, ◌↔◌, IsTrue, MatchOption, IfSome, sum_by};
+ghost use Rattle.std.specs.List.{range_with_len};
+ghost use Rattle.sd_model_shard.specs.Shard.{kept_by, carried};
+ghost use Rattle.sd_key.specs.Kind.{kind_of};
+ghost use Rattle.sd_rows.specs.Rows.{row_at, StandsNowhereElse, reset};
+ghost use Rattle.sd_rows.specs.RowMap.{copy_steps};
+ghost use Rattle.sd_epoch.specs.Table.{live_of, row_view, HasPlaces};
 ghost use Rattle.sd_shard.specs.Policy.{policy_of};
+ghost use Rattle.sd_shard.specs.Swap.{row_left, staying, swap_steps};
 
 use crate::policy::Policy;
 use sd_decimal::Micro;
 use sd_epoch::Table;
 use sd_key::Kind;
-use sd_rows::Row;
+use sd_rows::{Row, Steps};
+use std::sync::ledger::Ledger;
 
 /// Where the swaps of a row end.
 const LAST_SWAPS: u32 = 1_000_000_000;
 
-/// What a table's i-th row keeps at a swap.
-fn kept_at(table: &Table, i: u32) -> Row
-    requires { i < length table.now.listed }
-    ensures { IfSome (slice_get table.now.listed i) (λ row. row_view result ≡ (row.0, kept_by row.0.kind table.now.held row.0 row.1)) }
+/// With what a row goes on after a swap.
+#[derive(Clone, Copy, Debug)]
+struct Left {
+    base: Micro,
+    swaps: u32,
+}
+
+/// What the row of a table's place keeps at a swap.
+fn kept_at(table: &Table, at: u32, row: &Row) -> Left
+    requires { row_at table.now.places at ≡ Some row.now }
+    ensures { record { base = result.base.0; swaps = result.swaps } ≡ kept_by (kind_of row.now.kind) table.now.held (row_view row.now).0 (row_view row.now).1 }
 {
-    let mut row = table.get(i).clone().unwrap();
     if row.kind == Kind::Gauge {
-        row.base = table.gauge_of(i);
-        row.swaps = row.swaps.saturating_add(1).min(LAST_SWAPS);
-    }
-    row
-}
-
-/// What is left of a table's i-th row at a swap.
-fn left_at(table: &Table, i: u32, policy: &Policy) -> Option<Row>
-    requires { i < length table.now.listed }
-    ensures { IfSome (slice_get table.now.listed i) (λ row. option_map row_view result
-        ≡ option_map (λ kept. (row.0, kept)) (left_of (policy_of policy.now) table.now.held row.0 row.1)) }
-{
-    let row = kept_at(table, i);
-    if policy.goes_idle(row.kind, row.swaps) {
-        return None;
-    }
-    Some(row)
-}
-
-/// Puts the rows that stay at a swap into an empty table.
-pub(crate) fn carry(table: &Table, policy: &Policy, into: &mut Table)
-    requires limits { into.old.limits ≡ table.now.limits }
-    requires no_rows { into.old.listed ≡ [] }
-    ensures live { live_of into.new ≡ carried (policy_of policy.now) (live_of table.now) table.now.held }
-    ensures limits { into.new.limits ≡ into.old.limits }
-    ensures held { into.new.held ≡ into.old.held }
-{
-    for i in 0..table.rows() {
-        if let Some(row) = left_at(table, i, policy) {
-            into.keep_row(row.kind, &row.key, row.base, row.swaps);
+        Left {
+            base: table.gauge_at(at),
+            swaps: row.swaps.saturating_add(1).min(LAST_SWAPS),
+        }
+    } else {
+        Left {
+            base: row.base,
+            swaps: row.swaps,
         }
     }
+}
+
+/// What is left of the row of a table's place at a swap.
+fn left_at(table: &Table, at: u32, policy: &Policy) -> Option<Left>
+    requires { at < table.now.limits.rows }
+    ensures left { MatchOption result (row_left (policy_of policy.now) table.now.held (row_at table.now.places at) ≡ None)
+        (λ left. row_left (policy_of policy.now) table.now.held (row_at table.now.places at) ≡ reset (row_at table.now.places at) left.base left.swaps) }
+    ensures live { IfSome result (λ left. row_at table.now.places at ≢ None) }
+{
+    let row = table.get_at(at)?;
+    let left = kept_at(table, at, row);
+    if policy.goes_idle(row.kind, left.swaps) {
+        None
+    } else {
+        Some(left)
+    }
+}
+
+/// Whether two rows are of one kind and key.
+fn is_same(row: &Row, other: &Row) -> bool
+    ensures { IsTrue result ↔ ((other.now.kind ≡ row.now.kind) × (other.now.key ≡ row.now.key)) }
+{
+    other.kind == row.kind && other.key == row.key
+}
+
+/// Whether a place has a row of one kind and key in both tables.
+fn is_same_at(table: &Table, other: &Table, at: u32) -> bool
+    requires within { at < table.now.limits.rows }
+    requires limits { other.now.limits ≡ table.now.limits }
+    ensures { result ≡ is_some (staying (row_at table.now.places at) (row_at other.now.places at)) }
+{
+    match (table.get_at(at), other.get_at(at)) {
+        (Some(row), Some(there)) => is_same(row, there),
+        _ => false,
+    }
+}
+
+/// Empties a place of the spare table, unless it has the kind and key of the row that is carried there.
+fn empty_other(table: &Table, at: u32, policy: &Policy, into: &mut Table)
+    requires within { at < table.now.limits.rows }
+    requires limits { into.old.limits ≡ table.now.limits }
+    requires no_entries { into.old.held ≡ [] }
+    requires listing { HasPlaces into.old }
+    ensures places { into.new.places ≡ set into.old.places at (staying (row_left (policy_of policy.now) table.now.held (row_at table.now.places at)) (row_at into.old.places at)) }
+    ensures listing { HasPlaces into.new }
+    ensures limits { into.new.limits ≡ into.old.limits }
+    ensures entries { into.new.held ≡ [] }
+{
+    if into.get_at(at).is_some()
+        && (left_at(table, at, policy).is_none() || !is_same_at(table, into, at))
+    {
+        into.drop_place(at);
+    }
+}
+
+/// Empties each place of the spare table whose row isn't carried there.
+fn empty_others(table: &Table, policy: &Policy, into: &mut Table)
+    requires limits { into.old.limits ≡ table.now.limits }
+    requires no_entries { into.old.held ≡ [] }
+    ensures places { (p : ℕ) → row_at into.new.places p
+        ≡ staying (row_left (policy_of policy.now) table.now.held (row_at table.now.places p)) (row_at into.old.places p) }
+    ensures listing { HasPlaces into.new }
+    ensures limits { into.new.limits ≡ into.old.limits }
+    ensures entries { into.new.held ≡ [] }
+{
+    for at in 0..into.limits().rows {
+        empty_other(table, at, policy, into);
+    }
+}
+
+/// Carries the row of a place, if it stays.
+fn carry_at<L: Ledger>(
+    table: &Table,
+    at: u32,
+    policy: &Policy,
+    into: &mut Table,
+    steps: &mut Steps<L>,
+)
+    requires within { at < table.now.limits.rows }
+    requires limits { into.old.limits ≡ table.now.limits }
+    requires no_entries { into.old.held ≡ [] }
+    requires listing { HasPlaces into.old }
+    requires apart { StandsNowhereElse (row_at table.now.places at) at into.old.places }
+    requires empty { row_left (policy_of policy.now) table.now.held (row_at table.now.places at) ≡ None → row_at into.old.places at ≡ None }
+    ensures places { into.new.places ≡ set into.old.places at (row_left (policy_of policy.now) table.now.held (row_at table.now.places at)) }
+    ensures listing { HasPlaces into.new }
+    ensures limits { into.new.limits ≡ into.old.limits }
+    ensures entries { into.new.held ≡ [] }
+    ensures steps { steps.new ≤ steps.old + copy_steps (row_left (policy_of policy.now) table.now.held (row_at table.now.places at)) (row_at into.old.places at) }
+{
+    if let Some(left) = left_at(table, at, policy) {
+        into.carry_row(table, at, left.base, left.swaps, steps);
+    }
+}
+
+/// Carries the rows that stay into a table that has no other rows than these, each in its place.
+fn carry_rows<L: Ledger>(table: &Table, policy: &Policy, into: &mut Table, steps: &mut Steps<L>)
+    requires limits { into.old.limits ≡ table.now.limits }
+    requires no_entries { into.old.held ≡ [] }
+    requires listing { HasPlaces into.old }
+    requires staying { (p : ℕ) → row_at into.old.places p
+        ≡ staying (row_left (policy_of policy.now) table.now.held (row_at table.now.places p)) (row_at into.old.places p) }
+    ensures places { into.new.places ≡ map (row_left (policy_of policy.now) table.now.held) table.now.places }
+    ensures live { live_of into.new ≡ carried (policy_of policy.now) (live_of table.now) table.now.held }
+    ensures limits { into.new.limits ≡ into.old.limits }
+    ensures entries { into.new.held ≡ [] }
+    ensures steps { steps.new ≤ steps.old + swap_steps (policy_of policy.now) table.now into.old }
+{
+    for at in 0..table.limits().rows {
+        carry_at(table, at, policy, into, steps);
+    }
+}
+
+/// Makes the rows of a spare table those that stay at a swap, each in the place that it has.
+pub(crate) fn carry<L: Ledger>(
+    table: &Table,
+    policy: &Policy,
+    into: &mut Table,
+    steps: &mut Steps<L>,
+)
+    requires limits { into.old.limits ≡ table.now.limits }
+    requires no_entries { into.old.held ≡ [] }
+    ensures live { live_of into.new ≡ carried (policy_of policy.now) (live_of table.now) table.now.held }
+    ensures limits { into.new.limits ≡ into.old.limits }
+    ensures held { into.new.held ≡ [] }
+    ensures steps { steps.new ≤ steps.old + swap_steps (policy_of policy.now) table.now into.old }
+{
+    empty_others(table, policy, into);
+    carry_rows(table, policy, into, steps);
 }

@@ -14,6 +14,7 @@ pub(crate) fn push_keys(table: &Table, kind: Kind, pattern: &Pattern, out: &mut 
     requires { length out.old.keys + length table.now.listed ≤ out.old.room }
     ensures keys { out.new.keys ≡ out.old.keys ++ map (λ row. row.0.key) (filter (λ row. is_hit (kind_of kind) pattern.now row.0) table.now.listed) }
     ensures count { result ≡ length (filter (λ row. is_hit (kind_of kind) pattern.now row.0) table.now.listed) }
+    ensures few { result ≤ table.now.limits.rows }
     ensures room { out.new.room ≡ out.old.room }
     ensures apart { AreApart table.now.listed }
 {
@@ -45,6 +46,7 @@ fn dump_row(table: &Table, i: u32) -> DumpRow
 pub(crate) fn push_rows(table: &Table, kind: Kind, out: &mut Dump)
     requires { length out.old.rows + length table.now.listed ≤ out.old.room }
     ensures rows { out.new.rows ≡ out.old.rows ++ map (dump_row table.now.held) (filter (λ row. is_of_kind (kind_of kind) row.0) table.now.listed) }
+    ensures few { length out.new.rows ≤ length out.old.rows + table.now.limits.rows }
     ensures room { out.new.room ≡ out.old.room }
     ensures apart { AreApart table.now.listed }
 {

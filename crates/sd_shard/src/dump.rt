@@ -49,6 +49,17 @@ impl Dump {
         })
     }
 
+    /// No rows, and no room: what stands in the place of a list that is elsewhere. It takes no memory.
+    pub fn none(alloc: Global) -> Dump
+        ensures room { result.room ≡ 0 }
+        ensures empty { result.rows ≡ [] }
+    {
+        Dump {
+            rows: Vec::new(alloc),
+            room: 0,
+        }
+    }
+
     /// How many rows there are.
     pub fn len(&self) -> usize
         ensures len { result ≡ length self.now.rows }

@@ -38,6 +38,17 @@ impl Keys {
         })
     }
 
+    /// No keys, and no room: what stands in the place of a list that is elsewhere. It takes no memory.
+    pub fn none(alloc: Global) -> Keys
+        ensures room { result.room ≡ 0 }
+        ensures empty { result.keys ≡ [] }
+    {
+        Keys {
+            keys: Vec::new(alloc),
+            room: 0,
+        }
+    }
+
     /// How many there are.
     pub fn len(&self) -> usize
         ensures len { result ≡ length self.now.keys }

@@ -4,7 +4,8 @@ ghost use Rattle.sd_key.specs.Kind.{kind_of};
 ghost use Rattle.sd_epoch.specs.Limits.{limits_of, AreLimits};
 ghost use Rattle.sd_epoch.specs.Table.{table_of};
 ghost use Rattle.sd_shard.specs.Policy.{policy_of};
-ghost use Rattle.sd_shard.specs.Shard.{state_of, cause_of, placed_of, IsDeletion, IsDump};
+ghost use Rattle.sd_shard.specs.Shard.{state_of, cause_of, placed_of, IsDeletion, IsDump, IsInRange};
+ghost use Rattle.sd_shard.specs.Swap.{swap_steps};
 
 use crate::carry::carry;
 use crate::commands::{push_keys, push_rows};
@@ -14,9 +15,11 @@ use crate::policy::Policy;
 use sd_epoch::{Limits, Table, Who};
 use sd_key::{Kind, Pattern};
 use sd_line::Sample;
+use sd_rows::Steps;
 use std::alloc::{AllocError, Global};
 use std::marker::Model;
 use std::mem;
+use std::sync::ledger::Ledger;
 
 /// Where the numbers of a shard end.
 const LAST_NUMBER: u64 = 1 << 63;
@@ -49,7 +52,7 @@ pub struct Deleted {
 }
 
 /// The numbers of a shard.
-#[derive(Clone, Copy, Debug, PartialEq, Eq)]
+#[derive(Clone, Copy, Debug, Default, PartialEq, Eq)]
 pub struct ShardBook {
     pub taken: u64,
     pub flushed: u64,
@@ -144,9 +147,11 @@ impl Shard {
     }
 
     /// Hands out the table, and goes on with the spare one and the rows that stay.
-    pub fn swap(&mut self, spare: Table) -> Table
+    ///
+    /// Rows that the spare table has in their places are left there, so it takes at most one step for each row that is carried to a place
+    /// at which the spare table doesn't have that kind and key.
+    pub fn swap<L: Ledger>(&mut self, spare: Table, steps: &mut Steps<L>) -> Table
         requires limits { spare.limits ≡ self.old.table.limits }
-        requires no_rows { spare.listed ≡ [] }
         requires no_entries { spare.held ≡ [] }
         ensures table { (who : ℕ) → Swapped (table_of result)
             ≡ (step self.old.table.limits self.old.policy (state_of self.old) who Swap).reply }
@@ -157,9 +162,10 @@ impl Shard {
             ≡ (step self.old.table.limits self.old.policy (state_of self.old) who Swap).state }
         ensures limits { self.new.table.limits ≡ self.old.table.limits }
         ensures policy { self.new.policy ≡ self.old.policy }
+        ensures steps { steps.new ≤ steps.old + swap_steps self.old.policy self.old.table spare }
     {
         let table = mem::replace(&mut self.table, spare);
-        carry(&table, &self.policy, &mut self.table);
+        carry(&table, &self.policy, &mut self.table, steps);
         self.flushed += u64::from(table.entries());
         table
     }
@@ -171,6 +177,7 @@ impl Shard {
             ≡ (step self.old.table.limits self.old.policy (state_of self.old) who (Delete (kind_of kind) pattern.now)).state }
         ensures answer { (who : ℕ) → IsDeletion (step self.old.table.limits self.old.policy (state_of self.old) who (Delete (kind_of kind) pattern.now)).reply
             out.old.keys out.new.keys result }
+        ensures few { length out.new.keys ≤ length out.old.keys + self.old.table.limits.rows }
         ensures room { out.new.room ≡ out.old.room }
         ensures limits { self.new.table.limits ≡ self.old.table.limits }
         ensures policy { self.new.policy ≡ self.old.policy }
@@ -188,6 +195,7 @@ impl Shard {
             ≡ (step self.now.table.limits self.now.policy (state_of self.now) who (DumpOf (kind_of kind))).state }
         ensures answer { (who : ℕ) → IsDump (step self.now.table.limits self.now.policy (state_of self.now) who (DumpOf (kind_of kind))).reply
             out.old.rows out.new.rows }
+        ensures few { length out.new.rows ≤ length out.old.rows + self.now.table.limits.rows }
         ensures room { out.new.room ≡ out.old.room }
     {
         push_rows(&self.table, kind, out);
@@ -209,6 +217,7 @@ impl Shard {
         ensures dropped { result.dropped ≡ (state_of self.now).dropped }
         ensures held { result.held ≡ length (state_of self.now).held }
         ensures conserved { result.taken ≡ result.flushed + result.deleted + result.held }
+        ensures range { IsInRange result }
     {
         ShardBook {
             taken: self.taken,

@@ -18,7 +18,7 @@ group_of s =
     }
 
 -- The shards go by one pair of limits and policy, and each has the rows of its own keys alone. There is a table for each,
--- either an empty one or one that was swapped out.
+-- either a spare one, which may have rows of earlier swaps, or one that was swapped out.
 pub record AreShards (s : Inside) : Type 0 where
   pub some : 1 ≤ vec_len s.shards
   pub few : vec_len s.shards ≤ 16

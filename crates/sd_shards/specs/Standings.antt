@@ -29,10 +29,9 @@ GoBy limits policy shards = All (λ s. (s.table.limits ≡ limits) × (s.policy 
 abbrev pub GoTogether : List Standing → Type 0
 GoTogether shards = GoBy (limits_in shards) (policy_in shards) shards
 
--- an empty table of these limits
+-- a table of these limits, without entries
 pub record IsSpareFor (most : Limits) (spare : Listing) : Type 0 where
   pub limits : spare.limits ≡ most
-  pub no_rows : spare.listed ≡ []
   pub no_entries : spare.held ≡ []
 
 -- a table of these limits, and within them

@@ -1,13 +1,17 @@
-ghost use Rattle.std.specs.Prelude.{◌≡◌, ℕ, ◌<◌, ◌≤◌, ◌+◌, ◌-◌, [], ◌∷◌, ◌++◌, length, map, take, vec_len, vec_capacity, All};
+ghost use Rattle.std.specs.Prelude.{◌≡◌, ℕ, ◌<◌, ◌≤◌, ◌+◌, ◌-◌, [], ◌∷◌, ◌++◌, length, map, reverse, take, vec_len, vec_capacity, All};
 ghost use Rattle.sd_model_shard.specs.Shard.{Limits as ModelLimits, after_swap, table_of};
 ghost use Rattle.sd_epoch.specs.Table.{table_of as table_seen};
 ghost use Rattle.sd_shard.specs.Shard.{state_of};
 ghost use Rattle.sd_shards.specs.Standings.{state_in, limits_in, policy_in, GoBy, GoTogether, IsSpareFor, IsWithin};
 
 use sd_epoch::Table;
+use sd_rows::Steps;
 use sd_shard::Shard;
+use std::marker::Brand;
+use std::sync::ledger::{Blank, Ledger};
 
-/// Clears the tables that were swapped out, and makes them spares.
+/// Takes the entries out of the tables that were swapped out, and makes them spares with their rows in place. The last spare is
+/// then that of the first shard, so each shard gets its own table back, and its rows are there already.
 pub(crate) fn reclaim(swapped: &mut Vec<Table>, spares: &mut Vec<Table>)
     requires { vec_len spares.old + vec_len swapped.old ≤ vec_capacity spares.old }
     ensures swapped { swapped.new.items ≡ [] }
@@ -15,16 +19,18 @@ pub(crate) fn reclaim(swapped: &mut Vec<Table>, spares: &mut Vec<Table>)
     ensures len { vec_len spares.new ≡ vec_len spares.old + vec_len swapped.old }
     ensures spares { (limits : ModelLimits) → All (IsSpareFor limits) spares.old.items → All (IsWithin limits) swapped.old.items
         → All (IsSpareFor limits) spares.new.items }
+    ensures turned { map (λ table. table.places) spares.new.items
+        ≡ map (λ table. table.places) spares.old.items ++ reverse (map (λ table. table.places) swapped.old.items) }
     ensures room { vec_capacity spares.new ≡ vec_capacity spares.old }
     ensures swapped_room { vec_capacity swapped.new ≡ vec_capacity swapped.old }
 {
     while let Some(mut table) = swapped.pop() {
-        table.clear();
+        table.clear_entries();
         spares.push_reserved(table);
     }
 }
 
-/// Swaps a shard for a spare table, and keeps the table that it gives.
+/// Swaps a shard for the last spare table, and keeps the table that it gives.
 fn swap_one(shard: &mut Shard, spares: &mut Vec<Table>, swapped: &mut Vec<Table>)
     requires enough { 1 ≤ vec_len spares.old }
     requires room { vec_len swapped.old + 1 ≤ vec_capacity swapped.old }
@@ -41,7 +47,24 @@ fn swap_one(shard: &mut Shard, spares: &mut Vec<Table>, swapped: &mut Vec<Table>
     ensures room { vec_capacity swapped.new ≡ vec_capacity swapped.old }
 {
     let spare = spares.pop().unwrap();
-    swapped.push_reserved(shard.swap(spare));
+    swapped.push_reserved(swap_counted::<Brand>(shard, spare, Blank::new(1)));
+}
+
+/// Swaps a shard, with steps that are counted in a ledger of their own.
+fn swap_counted<L: Ledger>(shard: &mut Shard, spare: Table, blank: Blank) -> Table
+    requires limits { spare.limits ≡ shard.old.table.limits }
+    requires no_entries { spare.held ≡ [] }
+    requires name { blank.name ≡ L.name }
+    requires parts { blank.parts ≡ L.parts }
+    requires some { 0 < blank.parts }
+    ensures table { table_seen result ≡ table_of (state_of shard.old) }
+    ensures within { IsWithin shard.old.table.limits result }
+    ensures state { state_of shard.new ≡ after_swap shard.old.policy (state_of shard.old) }
+    ensures limits { shard.new.table.limits ≡ shard.old.table.limits }
+    ensures policy { shard.new.policy ≡ shard.old.policy }
+{
+    let mut steps: Steps<L> = Steps::new(blank);
+    shard.swap(spare, &mut steps)
 }
 
 /// Swaps each shard, in order.

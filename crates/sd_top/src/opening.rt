@@ -2,7 +2,7 @@ ghost use Rattle.std.specs.Prelude.{◌≡◌, ◌+◌, ◌<◌, ◌≤◌, ◌^
 ghost use Rattle.sd_model_outside.specs.Outside.{opened};
 ghost use Rattle.sd_model_replay.specs.Settings.{goes_by};
 ghost use Rattle.sd_model_call.specs.Opening.{flags_of, opened_where, opened_wires, started, target_place};
-ghost use Rattle.sd_config.specs.Entries.{target_view};
+ghost use Rattle.sd_plan.specs.Entries.{target_view};
 ghost use Rattle.sd_outside.specs.Places.{place_of};
 ghost use Rattle.sd_top.specs.Answers.{answer_of, part_of};
 ghost use Rattle.sd_top.specs.Causes.{IsNotOpened, IsNotStarted, WiresStop};
@@ -10,7 +10,8 @@ ghost use Rattle.sd_top.specs.World.{world_of};
 
 use crate::call::World;
 use crate::status::{Part, Status};
-use sd_config::{Settings, Target};
+use sd_config::Settings;
+use sd_plan::Target;
 use sd_outside::{Address, Backend, Name, OpenRefusal, Opens, Sink, Source, Wire};
 use sd_replay::targets_of;
 

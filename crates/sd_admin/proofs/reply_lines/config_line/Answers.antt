@@ -1,7 +1,7 @@
 use Rattle.std.proofs.Common.{◌-◌, slice_get, sym, ap, ◌∙◌, arith}
 use Rattle.sd_model_settings.specs.ConfigText.{config_lines}
 use Rattle.sd_model_record.specs.Replies.{end_lines}
-use Rattle.sd_config.proofs.ConfigPlaces.{get_behind}
+use Rattle.sd_model_text.proofs.Places.{get_behind}
 use Rattle.sd_admin.proofs.reply_lines.config_line.Goals as goal
 
 pub returns-else-place-lines : goal.returns-else-place-lines

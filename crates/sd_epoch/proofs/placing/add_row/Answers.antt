@@ -5,10 +5,14 @@ use Rattle.sd_rows.specs.declared.row.Row.{Row}
 use Rattle.sd_epoch.specs.Entries.{AreRows, live_in, StayAt}
 use Rattle.sd_epoch.proofs.PlaceLemmas.{written, unwritten, add_rows, add_live, add_stays}
 use Rattle.sd_epoch.proofs.HeldLemmas.{count_below, add_tallies}
+use Rattle.sd_epoch.proofs.TurnLemmas.{absent_place}
 use Rattle.sd_epoch.proofs.placing.add_row.Goals as goal
 
+pub push-requires-clause-absent : goal.push-requires-clause-absent
+push-requires-clause-absent c = absent_place c.args.rows.now c.args.order.now.places.items c.add-place.result c.requires.rows.live c.add-place.ensures.empty
+
 pub add-place-requires-clause-room : goal.add-place-requires-clause-room
-add-place-requires-clause-room c = omega (arith, count_below c.args.rows.now c.args.order.now.items c.requires.rows.all, c.args.order.now.ok.0)
+add-place-requires-clause-room c = omega (arith, count_below c.args.rows.now c.args.order.now.places.items c.requires.rows.all, c.args.order.now.places.ok.0)
 
 -- the row that is written in the end, with its base and swaps
 rows_are : (rows mid new : List (Option Row)) (at : ℕ) (first row : Row) → at < length rows → mid ≡ set rows at (Some first) → new ≡ set mid at (reset (row_at mid at) row.base row.swaps)
@@ -31,18 +35,18 @@ returns-clause-rows c =
     let row : Row = record { kind = c.args.kind; key = c.args.key.now; base = c.args.base; swaps = c.args.swaps } in
     let at = c.add-place.result in
     let are = rows_are c.args.rows.now c.add-place.new.self c.set.new.self at _ row c.add-place.ensures.within c.add-place.ensures.places c.set.ensures refl refl in
-    subst (λ (xs : List (Option Row)). AreRows xs c.push_reserved.new.self.items) (sym are)
-    (subst (AreRows (set c.args.rows.now at (Some row))) (sym c.push_reserved.ensures.items)
-    (add_rows c.args.rows.now at row c.add-place.ensures.within c.add-place.ensures.empty c.requires.absent c.args.order.now.items c.requires.rows))
+    subst (λ (xs : List (Option Row)). AreRows xs c.push.new.self.places.items) (sym are)
+    (subst (AreRows (set c.args.rows.now at (Some row))) (sym c.push.ensures.places)
+    (add_rows c.args.rows.now at row c.add-place.ensures.within c.add-place.ensures.empty c.requires.absent c.args.order.now.places.items c.requires.rows))
 
 pub returns-clause-live : goal.returns-clause-live
 returns-clause-live c =
     let row : Row = record { kind = c.args.kind; key = c.args.key.now; base = c.args.base; swaps = c.args.swaps } in
     let at = c.add-place.result in
     let are = rows_are c.args.rows.now c.add-place.new.self c.set.new.self at _ row c.add-place.ensures.within c.add-place.ensures.places c.set.ensures refl refl in
-    ap (λ (xs : List (Option Row)). live_in xs c.push_reserved.new.self.items) are
-    ∙ ap (λ (ps : List ℕ). live_in (set c.args.rows.now at (Some row)) ps) c.push_reserved.ensures.items
-    ∙ add_live c.args.rows.now at row c.add-place.ensures.within c.add-place.ensures.empty c.requires.absent c.args.order.now.items c.requires.rows
+    ap (λ (xs : List (Option Row)). live_in xs c.push.new.self.places.items) are
+    ∙ ap (λ (ps : List ℕ). live_in (set c.args.rows.now at (Some row)) ps) c.push.ensures.places
+    ∙ add_live c.args.rows.now at row c.add-place.ensures.within c.add-place.ensures.empty c.requires.absent c.args.order.now.places.items c.requires.rows
 
 pub returns-clause-stay : goal.returns-clause-stay
 returns-clause-stay c =

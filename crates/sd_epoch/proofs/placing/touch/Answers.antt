@@ -12,7 +12,7 @@ use Rattle.sd_epoch.proofs.placing.touch.Goals as goal
 pub returns-in-Some-clause-row : goal.returns-in-Some-clause-row
 returns-in-Some-clause-row c =
     let rows = c.args.rows.now in
-    let order = c.args.order.now.items in
+    let order = c.args.order.now.places.items in
     let at = c.in-Some.place in
     let row = c.live_row.result.now in
     let fresh : Row = record row { swaps = 0 } in
@@ -25,7 +25,7 @@ returns-in-Some-clause-row c =
 pub returns-in-Some-clause-rows : goal.returns-in-Some-clause-rows
 returns-in-Some-clause-rows c =
     let rows = c.args.rows.now in
-    let order = c.args.order.now.items in
+    let order = c.args.order.now.places.items in
     let at = c.in-Some.place in
     let row = c.live_row.result.now in
     let fresh : Row = record row { swaps = 0 } in
@@ -37,7 +37,7 @@ returns-in-Some-clause-rows c =
 pub returns-in-Some-clause-live : goal.returns-in-Some-clause-live
 returns-in-Some-clause-live c =
     let rows = c.args.rows.now in
-    let order = c.args.order.now.items in
+    let order = c.args.order.now.places.items in
     let at = c.in-Some.place in
     let row = c.live_row.result.now in
     let fresh : Row = record row { swaps = 0 } in
@@ -53,7 +53,7 @@ returns-in-Some-clause-live c =
 pub returns-in-Some-clause-stay : goal.returns-in-Some-clause-stay
 returns-in-Some-clause-stay c =
     let rows = c.args.rows.now in
-    let order = c.args.order.now.items in
+    let order = c.args.order.now.places.items in
     let at = c.in-Some.place in
     let row = c.live_row.result.now in
     let fresh : Row = record row { swaps = 0 } in
@@ -65,7 +65,7 @@ returns-in-Some-clause-stay c =
 pub returns-in-Some-clause-tallies : goal.returns-in-Some-clause-tallies
 returns-in-Some-clause-tallies c held w absent =
     let rows = c.args.rows.now in
-    let order = c.args.order.now.items in
+    let order = c.args.order.now.places.items in
     let at = c.in-Some.place in
     let row = c.live_row.result.now in
     let fresh : Row = record row { swaps = 0 } in
@@ -79,7 +79,7 @@ returns-in-Some-clause-tallies c held w absent =
 pub returns-in-None-clause-live : goal.returns-in-None-clause-live
 returns-in-None-clause-live c =
     let rows = c.args.rows.now in
-    let order = c.args.order.now.items in
+    let order = c.args.order.now.places.items in
     c.add_row.ensures.live
     ∙ ap (λ b. insert (live_in rows order) (id_of c.args.kind c.args.key.now) (record { base = b; swaps = 0 }))
     (sym (base_absent rows order c.args.kind c.args.key.now c.requires.rows c.in-None.ensures.found))

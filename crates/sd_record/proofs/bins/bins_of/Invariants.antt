@@ -1,6 +1,6 @@
 use Rattle.std.proofs.Common.{◌≡◌, ◌++◌, length, drop, map}
 use Rattle.sd_model_shard.specs.Values.{bins, bins_from}
-use Rattle.sd_config.specs.Entries.{limit_of, limits_of}
+use Rattle.sd_plan.specs.Entries.{limit_of, limits_of}
 use Rattle.sd_stats.specs.Seen.{timer_seen}
 use Rattle.sd_record.specs.Row.{bin_view}
 use Rattle.sd_record.proofs.bins.bins_of.Given as goal

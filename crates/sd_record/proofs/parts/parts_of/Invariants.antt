@@ -1,7 +1,7 @@
 use Rattle.std.proofs.Common.{◌≡◌, ◌≤◌, ◌++◌, length, drop, map}
 use Rattle.std.specs.Prelude.{filter_map}
 use Rattle.sd_model_shard.specs.Values.{pct}
-use Rattle.sd_config.specs.Values.{micros}
+use Rattle.sd_plan.specs.Values.{micros}
 use Rattle.sd_stats.specs.Seen.{timer_seen}
 use Rattle.sd_stats.specs.Timer.{part_of}
 use Rattle.sd_record.proofs.parts.parts_of.Given as goal

@@ -1,5 +1,5 @@
 use Rattle.std.proofs.Common.{ap, ◌∙◌, arith}
-use Rattle.sd_config.specs.Entries.{limits_of}
+use Rattle.sd_plan.specs.Entries.{limits_of}
 use Rattle.sd_record.proofs.TimerLemmas.{told_part, entry_applies, entry_passed}
 use Rattle.sd_record.proofs.timers.limits_for.Goals as goal
 

@@ -1,6 +1,6 @@
 use Rattle.std.proofs.Common.{◌≡◌, drop, map}
 use Rattle.sd_model_record.specs.Record.{limits_for}
-use Rattle.sd_config.specs.Entries.{classes_view}
+use Rattle.sd_plan.specs.Entries.{classes_view}
 use Rattle.sd_record.proofs.timers.limits_for.Given as goal
 
 -- no entry so far applies

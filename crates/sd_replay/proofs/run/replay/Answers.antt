@@ -29,7 +29,7 @@ use Rattle.sd_shards.specs.Filed.{filed_at, replies_at}
 use Rattle.sd_model_shard.specs.Whereabouts.{dropped_in}
 use Rattle.sd_replay.specs.Ends.{end_of}
 use Rattle.sd_desk.specs.Marks.{marks_of}
-use Rattle.sd_config.specs.Entries.{target_view}
+use Rattle.sd_plan.specs.Entries.{target_view}
 use Rattle.sd_model_replay.proofs.SendingLemmas.{repeated_from, length-sent}
 use Rattle.std.proofs.lemmas.List.{map-append, length-map, take-append-drop, length-drop}
 use Rattle.sd_script.specs.Flaws.{flaw_of}

@@ -1,6 +1,6 @@
 use Rattle.std.proofs.Common.{◌≡◌, take, map}
 use Rattle.sd_model_ring.specs.Ring.{points}
-use Rattle.sd_config.specs.Entries.{node_view}
+use Rattle.sd_plan.specs.Entries.{node_view}
 use Rattle.sd_ring.proofs.points.points_of_nodes.Given as goal
 
 abbrev pub invariant-loop-place : goal.invariant-loop-place

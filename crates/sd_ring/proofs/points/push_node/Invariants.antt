@@ -1,6 +1,6 @@
 use Rattle.std.proofs.Common.{◌≡◌, ◌++◌}
 use Rattle.sd_model_ring.specs.Ring.{numbers_of_texts, points_at}
-use Rattle.sd_config.specs.Entries.{node_view}
+use Rattle.sd_plan.specs.Entries.{node_view}
 use Rattle.sd_ring.proofs.points.push_node.Given as goal
 
 abbrev pub invariant-loop-i : goal.invariant-loop-i

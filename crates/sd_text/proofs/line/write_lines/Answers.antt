@@ -1,5 +1,5 @@
 use Rattle.std.proofs.lemmas.Result.{err_from_is_err_and}
-use Rattle.sd_config.proofs.ConfigWrites.{line_written, line_failed}
+use Rattle.sd_model_outside.proofs.LineWrites.{line_written, line_failed}
 use Rattle.sd_text.proofs.RowLemmas.{map-at}
 use Rattle.sd_text.proofs.line.write_lines.Goals as goal
 

@@ -2,7 +2,7 @@ use Rattle.std.proofs.Common.{◌≤◌, ap, length, arith}
 use Rattle.std.proofs.lemmas.List.{take_all}
 use Rattle.std.specs.List.{concat}
 use Rattle.std.proofs.lemmas.Result.{err_from_is_err_and}
-use Rattle.sd_config.proofs.ConfigWrites.{line_written, line_failed}
+use Rattle.sd_model_outside.proofs.LineWrites.{line_written, line_failed}
 use Rattle.sd_record.specs.Row.{row_view}
 use Rattle.sd_text.proofs.WriteSteps.{same_part}
 use Rattle.sd_text.proofs.rows.write_row_through.Goals as goal

@@ -5,8 +5,8 @@ use Rattle.sd_model_replay.specs.Settings.{goes_by}
 use Rattle.sd_model_call.specs.Opening.{Flags, World, opened_where, opened_wires}
 use Rattle.sd_model_outside.specs.Outside.{Object}
 use Rattle.sd_model_settings.specs.Entries as model
-use Rattle.sd_config.specs.Entries.{target_view}
-use Rattle.sd_config.specs.declared.entries.Target.{Target}
+use Rattle.sd_plan.specs.Entries.{target_view}
+use Rattle.sd_plan.specs.declared.entries.Target.{Target}
 use Rattle.sd_top.specs.Answers.{answer_of}
 use Rattle.sd_top.specs.Causes.{IsNotStarted, WiresStop}
 use Rattle.sd_top.specs.World.{world_of}

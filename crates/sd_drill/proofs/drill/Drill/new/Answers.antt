@@ -1,6 +1,5 @@
 use Rattle.std.proofs.Common.{◌++◌, ◌∙◌, List, ℕ, ap, drop}
-use Rattle.std.specs.Prelude.{None}
-use Rattle.sd_model_outside.specs.Outside.{Left}
+use Rattle.sd_model_outside.specs.Outside.{Left, fresh}
 use Rattle.sd_drill.specs.Texts.{text_from}
 use Rattle.sd_drill.proofs.TextLemmas.{text_from_start}
 use Rattle.sd_drill.proofs.drill.Drill.new.Goals as goal
@@ -8,4 +7,4 @@ use Rattle.sd_drill.proofs.drill.Drill.new.Goals as goal
 pub returns : goal.returns
 returns c =
     let text = ap (λ xs. drop 0 xs ++ text_from c.args.n 0) c.new.ensures in
-    ap (λ (bytes : List ℕ). record { told = Left bytes; faults = 0; opened_at = None }) (text ∙ text_from_start c.args.n c.requires.some)
+    ap (λ (bytes : List ℕ). fresh (Left bytes)) (text ∙ text_from_start c.args.n c.requires.some)

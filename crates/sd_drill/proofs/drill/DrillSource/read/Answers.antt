@@ -1,7 +1,7 @@
 use Rattle.std.proofs.Common.{◌∙◌, ◌≡◌, ◌++◌, ◌+◌, ap, sym, arith, length, drop, take, List, ℕ, append_assoc, length-append, length-take-le, []}
 use Rattle.std.specs.Prelude.{Option}
 use Rattle.std.proofs.lemmas.List.{take_rest, drop_at, nil_from_length}
-use Rattle.sd_model_outside.specs.Outside.{Left, Place, HasRead}
+use Rattle.sd_model_outside.specs.Outside.{Left, Place, HasRead, object_of}
 use Rattle.sd_outside.specs.Places.{last_place}
 use Rattle.sd_outside.proofs.ReadLemmas.{take-copied}
 use Rattle.sd_drill.specs.Texts.{text_from}
@@ -9,7 +9,7 @@ use Rattle.sd_drill.specs.Drill.{at_hand, left_of}
 use Rattle.sd_drill.proofs.drill.DrillSource.read.Goals as goal
 
 -- a source that never failed, of whose bytes some were read
-has_read : (left bytes rest : List ℕ) (old new : Option Place) → left ≡ bytes ++ rest → new ≡ old → HasRead bytes (record { told = Left left; faults = 0; opened_at = old }) (record { told = Left rest; faults = 0; opened_at = new })
+has_read : (left bytes rest : List ℕ) (old new : Option Place) → left ≡ bytes ++ rest → new ≡ old → HasRead bytes (object_of (Left left) 0 old) (object_of (Left rest) 0 new)
 has_read left bytes rest old new is at = cc
 
 pub returns : goal.returns

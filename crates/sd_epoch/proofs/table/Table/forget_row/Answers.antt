@@ -21,7 +21,9 @@ invariant_of-self c =
     let are = c.drop_row.ensures.left in
     let held = ap (held_in rows) c.close_up.ensures.entries ∙ held_left gone t.rows rows are t.entries.items w.owned in record {
       limits = w.limits;
-      rows = subst (AreRows rows) (sym c.close_up.ensures.order) (left_rows gone t.rows rows are t.order.items w.rows);
+      rows = subst (AreRows rows) (sym c.close_up.ensures.order) (left_rows gone t.rows rows are t.order.places.items w.rows);
+      ranked = c.close_up.ensures.ranked;
+      ranks = c.close_up.ensures.ranks ∙ w.ranks;
       tallies = subst (AreTallies rows t.tallies.items) (sym held) (left_tallies gone t.rows rows are t.tallies.items (held_in t.rows t.entries.items) w.tallies);
       owned = subst (λ (es : List Entry). AllLive rows (places_of es)) (sym c.close_up.ensures.entries) (all_owned rows t.entries.items);
       timed = subst (All IsTimed) (sym held) (All-filter (λ (e : model.Entry). not (gone (row_of e.sample))) IsTimed (held_in t.rows t.entries.items) w.timed);
@@ -42,8 +44,8 @@ returns-clause-live c =
     let w = c.self.invariant in
     let rows = c.drop_row.new.rows in
     let gone : RowId → Bool = is_same_row (id_of c.args.kind c.args.key.now) in
-    ap (λ (es : List (RowId × Kept)). from_entries {R = row_cmp} es) (ap (listed_in rows) c.close_up.ensures.order ∙ listed_left gone t.rows rows c.drop_row.ensures.left t.order.items w.rows.live)
-    ∙ without_row (id_of c.args.kind c.args.key.now) (listed_in t.rows t.order.items)
+    ap (λ (es : List (RowId × Kept)). from_entries {R = row_cmp} es) (ap (listed_in rows) c.close_up.ensures.order ∙ listed_left gone t.rows rows c.drop_row.ensures.left t.order.places.items w.rows.live)
+    ∙ without_row (id_of c.args.kind c.args.key.now) (listed_in t.rows t.order.places.items)
     ∙ ap (λ (s : Listing). remove (live_of s) (id_of c.args.kind c.args.key.now)) c.self.view_is
 
 pub returns-clause-held : goal.returns-clause-held

@@ -7,5 +7,5 @@ use Rattle.sd_epoch.proofs.table.Table.has_row.Goals as goal
 pub returns : goal.returns
 returns c =
     let id = id_of c.args.kind c.args.key.now in
-    c.is_some.ensures ∙ find_tells c.self.inside.rows c.self.inside.order.items c.args.kind c.args.key.now c.find.result c.self.invariant.rows c.find.ensures.found
+    c.is_some.ensures ∙ find_tells c.self.inside.rows c.self.inside.order.places.items c.args.kind c.args.key.now c.find.result c.self.invariant.rows c.find.ensures.found
     ∙ ap (λ (s : Listing). contains_key (live_of s) id) c.self.view_is

@@ -18,12 +18,12 @@ add_row-requires-clause-absent c p h =
     let t = c.self.inside in
     let id = id_of c.args.kind c.args.key.now in
     both (contains_key (live_of c.args.self.now) id)
-    (sym (find_tells t.rows t.order.items c.args.kind c.args.key.now (Some p) c.self.invariant.rows h ∙ ap (λ (s : Listing). contains_key (live_of s) id) c.self.view_is)) c.requires.absent
+    (sym (find_tells t.rows t.order.places.items c.args.kind c.args.key.now (Some p) c.self.invariant.rows h ∙ ap (λ (s : Listing). contains_key (live_of s) id) c.self.view_is)) c.requires.absent
 
 pub add_row-requires-clause-room : goal.add_row-requires-clause-room
 add_row-requires-clause-room c =
     let t = c.self.inside in
-    omega (arith, c.requires.room, ap (λ (s : Listing). length s.listed) c.self.view_is, ap (λ (s : Listing). s.limits.rows) c.self.view_is, length-map t.order.items (λ p. listed_as (row_at t.rows p)), t.order.ok.0, c.self.invariant.places)
+    omega (arith, c.requires.room, ap (λ (s : Listing). length s.listed) c.self.view_is, ap (λ (s : Listing). s.limits.rows) c.self.view_is, length-map t.order.places.items (λ p. listed_as (row_at t.rows p)), t.order.places.ok.0, c.self.invariant.places)
 
 pub invariant_of-self : goal.invariant_of-self
 invariant_of-self c =
@@ -32,9 +32,11 @@ invariant_of-self c =
     let rows = c.add_row.new.rows in
     let entries = t.entries.items in
     let absent : (p : ℕ) → Holds c.args.kind c.args.key.now (row_at t.rows p) → ⊥ = λ p h. both (contains_key (live_of c.args.self.now) (id_of c.args.kind c.args.key.now))
-    (sym (find_tells t.rows t.order.items c.args.kind c.args.key.now (Some p) w.rows h ∙ ap (λ (s : Listing). contains_key (live_of s) (id_of c.args.kind c.args.key.now)) c.self.view_is)) c.requires.absent in record {
+    (sym (find_tells t.rows t.order.places.items c.args.kind c.args.key.now (Some p) w.rows h ∙ ap (λ (s : Listing). contains_key (live_of s) (id_of c.args.kind c.args.key.now)) c.self.view_is)) c.requires.absent in record {
       limits = w.limits;
       rows = c.add_row.ensures.rows;
+      ranked = c.add_row.ensures.ranked;
+      ranks = c.add_row.ensures.ranks ∙ w.ranks;
       tallies = subst (AreTallies rows c.add_row.new.tallies.items) (sym (held_stays t.rows rows entries c.add_row.ensures.stay w.owned))
           (c.add_row.ensures.tallies (held_in t.rows entries) w.tallies (none_held t.rows c.args.kind c.args.key.now entries absent w.owned));
       owned = AllLive-stays t.rows rows (places_of entries) c.add_row.ensures.stay w.owned;
@@ -43,7 +45,7 @@ invariant_of-self c =
       places = c.add_row.ensures.places ∙ w.places;
       tally_places = c.add_row.ensures.tally_places ∙ w.tally_places;
       chain_places = w.chain_places;
-      order = omega (arith, c.requires.room, ap (λ (s : Listing). length s.listed) c.self.view_is, ap (λ (s : Listing). s.limits.rows) c.self.view_is, length-map t.order.items (λ p. listed_as (row_at t.rows p)), t.order.ok.0, c.add_row.ensures.len);
+      order = omega (arith, c.requires.room, ap (λ (s : Listing). length s.listed) c.self.view_is, ap (λ (s : Listing). s.limits.rows) c.self.view_is, length-map t.order.places.items (λ p. listed_as (row_at t.rows p)), t.order.places.ok.0, c.add_row.ensures.len);
       order_room = omega (arith, c.add_row.ensures.capacity, w.order_room);
       entries = w.entries;
       entry_room = w.entry_room;

@@ -38,8 +38,8 @@ touch-place-requires-clause-room c = λ absent.
     let w = c.self.invariant in
     let self = c.args.self.now in
     let room = subst (λ (s : Sample). contains_key (live_of self) (row_of s) ≡ false → len (live_of self) < self.limits.rows) (sym c.s.view_is) c.requires.row_room in
-    let none = sym (find_tells t.rows t.order.items c.s.inside.kind c.s.inside.key None w.rows absent ∙ ap (λ (s : Listing). contains_key (live_of s) (id_of c.s.inside.kind c.s.inside.key)) c.self.view_is) in
-    omega (arith, room none, live_count t.rows t.order.items w.rows, ap (λ (s : Listing). len (live_of s)) c.self.view_is, ap (λ (s : Listing). s.limits.rows) c.self.view_is, w.places, t.order.ok.0)
+    let none = sym (find_tells t.rows t.order.places.items c.s.inside.kind c.s.inside.key None w.rows absent ∙ ap (λ (s : Listing). contains_key (live_of s) (id_of c.s.inside.kind c.s.inside.key)) c.self.view_is) in
+    omega (arith, room none, live_count t.rows t.order.places.items w.rows, ap (λ (s : Listing). len (live_of s)) c.self.view_is, ap (λ (s : Listing). s.limits.rows) c.self.view_is, w.places, t.order.places.ok.0)
 
 pub with_sample-requires-clause-samples : goal.with_sample-requires-clause-samples
 with_sample-requires-clause-samples c =
@@ -103,6 +103,8 @@ invariant_of-self c =
     ap places_of c.push_reserved.ensures.items ∙ map-append (λ (x : Entry). x.place) entries (c.new_entry.result ∷ []) ∙ ap (λ p. places_of entries ++ p ∷ []) c.new_entry.ensures.place in record {
       limits = w.limits;
       rows = c.touch-place.ensures.rows;
+      ranked = c.touch-place.ensures.ranked;
+      ranks = c.touch-place.ensures.ranks ∙ w.ranks;
       tallies = subst (AreTallies rows (set tallies place c.with_sample.result)) (sym held_new) pushed;
       owned = subst (AllLive rows) (sym places_new) (AllLive-push rows (places_of entries) place (AllLive-stays t.rows rows (places_of entries) c.touch-place.ensures.stay w.owned) live);
       timed = subst (All IsTimed) (sym held_new) (All-push IsTimed held e w.timed (subst (λ (x : Sample). x.kind ≡ text.Timer → (pos 0 ≤ℤ x.value) × (x.value ≤ℤ pos (10 ^ 16))) c.s.view_is c.s.invariant.timer));

@@ -1,6 +1,6 @@
 use Rattle.std.proofs.Common.{◌≡◌, ◌∙◌, map, Contains, ap, sym, subst}
 use Rattle.std.specs.List.Sorted.{IsPermutation}
-use Rattle.sd_config.specs.Entries.{node_view}
+use Rattle.sd_plan.specs.Entries.{node_view}
 use Rattle.sd_model_ring.specs.Ring.{points}
 use Rattle.sd_model_ring.proofs.Least.{Contains-none}
 use Rattle.sd_ring.proofs.Ascending.{Ascends-from_sorted, compared}

@@ -1,0 +1,2 @@
+pub mod ConfigLengths
+pub mod ConfigPlaces

@@ -1,0 +1,10 @@
+//! The lines of the reply to `config`, and texts that are made line by line.
+#![tactic(auto)]
+
+mod config_lines;
+mod config_value;
+mod line_text;
+
+pub use config_lines::{ConfigText, config_line, config_line_count, line_of, number_line};
+pub use config_value::{ReplyLine, push_text};
+pub use line_text::{LineText, write_lines};

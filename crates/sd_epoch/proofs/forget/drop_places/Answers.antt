@@ -1,7 +1,0 @@
-use Rattle.std.proofs.Common.{is_some, rules}
-use Rattle.std.proofs.lemmas.Fn.{filter_same}
-use Rattle.sd_rows.specs.Rows.{row_at}
-use Rattle.sd_epoch.proofs.forget.drop_places.Goals as goal
-
-pub returns-clause-order : goal.returns-clause-order
-returns-clause-order c = filter_same _ (λ place. is_some (row_at c.args.rows.now place)) _ (λ x b f' k. search rules) _ _ c.retain.ensures.filtered

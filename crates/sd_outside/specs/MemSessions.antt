@@ -1,0 +1,21 @@
+-- The sessions of a door in memory.
+use Rattle.std.specs.Prelude.{◌≡◌, ℕ, Bool, true, false}
+use Rattle.sd_model_outside.specs.Outside.{Session}
+use Rattle.sd_model_outside.specs.Turns.{session_of}
+use Rattle.sd_outside.specs.MemSource as source
+use Rattle.sd_outside.specs.MemSink as sink
+use Rattle.sd_outside.specs.declared.mem_source.MemSource.{MemSource}
+use Rattle.sd_outside.specs.declared.mem_sink.MemSink.{MemSink}
+
+-- what the two ends of a session tell
+abbrev pub session_in : MemSource × MemSink → Session
+session_in s = session_of (source.seen_of s.0) (sink.seen_of s.1)
+
+-- the ends of a session have no faults yet
+abbrev pub IsFresh : MemSource × MemSink → Type 0
+IsFresh s = ((source.seen_of s.0).faults ≡ 0) × ((sink.seen_of s.1).faults ≡ 0)
+
+-- how many sessions are out
+abbrev pub number_out : Bool → ℕ
+number_out true = 1
+number_out false = 0

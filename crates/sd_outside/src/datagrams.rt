@@ -1,0 +1,35 @@
+ghost use Rattle.std.specs.Prelude.{◌≡◌, ◌≤◌, length, take};
+ghost use Rattle.sd_model_outside.specs.Outside.{HasFailed, last_count};
+ghost use Rattle.sd_model_outside.specs.Turns.{GivesDatagram, IsSpent, most_datagram, turned};
+ghost use Rattle.sd_outside.specs.Answers.{MatchNext};
+
+use crate::opens::Opens;
+
+/// What a source of datagrams answers.
+#[derive(Clone, Copy, Debug, PartialEq, Eq)]
+pub enum Next {
+    /// A datagram of so many bytes.
+    Packet { len: usize },
+    /// No datagram is left.
+    End,
+    /// None came for now.
+    Idle,
+    /// The source failed, and its count of faults rose.
+    Failed,
+}
+
+/// An object that datagrams come from. It tells the datagrams that it has left, or nothing, and always its turns: how
+/// often it answered `Packet` or `Idle`, up to 2^64 - 1.
+pub trait Datagrams: Opens {
+    /// Puts the next datagram at the front of the buffer. It may wait.
+    fn next(&mut self, buf: &mut [u8]) -> Next
+        requires { most_datagram ≤ length buf.old }
+        ensures { MatchNext result
+            (λ n. (n ≤ most_datagram) × GivesDatagram (take n buf.new) (Self.seen self.old) (Self.seen self.new))
+            ((Self.seen self.new ≡ Self.seen self.old) × IsSpent (Self.seen self.old).told)
+            (Self.seen self.new ≡ turned (Self.seen self.old))
+            (HasFailed (Self.seen self.old) (Self.seen self.new)) };
+
+    /// Its turns aren't above the last count.
+    ghost turns_fit: { (s : Self) → (Self.seen s).turns ≤ last_count };
+}

@@ -1,0 +1,4 @@
+pub mod Values
+pub mod Entries
+pub mod Names
+pub mod Plan

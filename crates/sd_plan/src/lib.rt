@@ -1,0 +1,14 @@
+//! What flush records and Graphite's names go by, and the entries of the settings' lists.
+#![tactic(auto)]
+
+mod entries;
+mod names;
+mod reckoning;
+mod text;
+mod thresholds;
+
+pub use entries::{Classes, Node, Target};
+pub use names::{Names, Namespace};
+pub use reckoning::{Histograms, Reckoning};
+pub use text::{copied, name_of};
+pub use thresholds::Thresholds;

@@ -1,0 +1,78 @@
+ghost use Rattle.sd_model_settings.specs.Ranges.{IsWithin};
+
+use crate::entries::Classes;
+use crate::thresholds::Thresholds;
+use arrayvec::ArrayVec;
+use sd_decimal::Micro;
+use std::marker::Model;
+
+/// The bins of timers by parts of their names, in the order of the file: at most 16.
+#[derive(Debug, Drop)]
+pub struct Histograms {
+    entries: ArrayVec<Classes, 16>,
+}
+
+impl Model for Histograms {
+    ghost use Rattle.std.specs.Prelude.{List, map};
+    ghost use Rattle.sd_model_settings.specs.Entries.{Classes as ModelClasses};
+    ghost use Rattle.sd_model_settings.specs.Ranges.{AreHistograms};
+    ghost use Rattle.sd_plan.specs.Entries.{classes_view};
+
+    ghost Value = { List ModelClasses };
+
+    ghost view = { λ h. map classes_view h.entries.items };
+
+    ghost invariant = { λ h. AreHistograms (map classes_view h.entries.items) };
+}
+
+impl Histograms {
+    ghost use Rattle.std.specs.Prelude.{◌≡◌, map};
+    ghost use Rattle.sd_model_settings.specs.Ranges.{AreHistograms};
+    ghost use Rattle.sd_plan.specs.Entries.{classes_view};
+
+    /// Histograms that are in range.
+    pub fn of(entries: ArrayVec<Classes, 16>) -> Histograms
+        requires { AreHistograms (map classes_view entries.items) }
+        ensures { result ≡ map classes_view entries.items }
+    {
+        Histograms { entries }
+    }
+
+    /// The entries.
+    pub fn as_slice(&self) -> &[Classes]
+        ensures entries { map classes_view result.now ≡ self.now }
+        ensures range { AreHistograms self.now }
+    {
+        self.entries.as_slice()
+    }
+}
+
+/// What a record is reckoned by: the interval of its rates in milliseconds, which isn't 0, the thresholds and
+/// the bins of timers.
+#[derive(Debug, Drop)]
+pub struct Reckoning {
+    pub interval_ms: u32,
+    pub thresholds: Thresholds,
+    pub histograms: Histograms,
+    ghost interval: { IsWithin 1 86400000 interval_ms },
+}
+
+impl Reckoning {
+    ghost use Rattle.std.specs.Prelude.{◌≡◌};
+    ghost use Rattle.sd_model_settings.specs.Defaults.{plan_of, default_settings};
+    ghost use Rattle.sd_plan.specs.Plan.{plan_view};
+
+    /// What the defaults make: 10 seconds, the threshold 90, and no bins.
+    #[tactic(auto, using(sd_model_settings::proofs::DefaultsInRange::defaults_in_range))]
+    pub fn plain() -> Reckoning
+        ensures { plan_view result ≡ plan_of default_settings }
+    {
+        let mut numbers = ArrayVec::new();
+        numbers.push(Micro(90_000_000));
+        Reckoning {
+            interval_ms: 10_000,
+            thresholds: Thresholds::of(numbers),
+            histograms: Histograms::of(ArrayVec::new()),
+        }
+    }
+}
