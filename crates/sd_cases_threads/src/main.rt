@@ -3,12 +3,15 @@
 #![tactic(auto)]
 
 mod book;
+mod desk;
 mod meter;
 mod puts;
 mod register;
 
 use book::add_both;
+use desk::{Counted, add_and_take, each_call};
 use puts::{Done, put_both};
+use sd_desk::Tally;
 use std::alloc::{AllocError, Global};
 use std::io;
 use std::sync::Wait;
@@ -83,6 +86,44 @@ fn turn_case<R: Threads + Wait + Sync>(
     )
 }
 
+fn tally_text(alloc: Global, t: Tally) -> Result<String, AllocError> {
+    format!(in alloc;
+        "{} packets, {} lines, {} bad, {} dropped",
+        t.packets, t.lines, t.bad, t.dropped
+    )
+}
+
+// The first thread adds datagrams of 2 pieces, the second datagrams of 5 pieces, of which 3 are bad, while a third takes
+// the tally a thousand times.
+fn desk_case<R: Threads + Wait + Sync>(
+    rt: &R,
+    alloc: Global,
+    first: u32,
+    second: u32,
+) -> Result<String, AllocError> {
+    let Counted { totals, taken } = add_and_take(rt, alloc, first, second)?;
+    let all = tally_text(alloc, totals)?;
+    let sum = tally_text(alloc, taken)?;
+    format!(in alloc; "{all}, taken with the last: {sum}")
+}
+
+// Each call of a shared desk once.
+fn facts_case<R: Wait>(rt: &R, alloc: Global, lines: u32, bad: u32) -> Result<String, AllocError> {
+    let facts = each_call(rt, alloc, lines, bad)?;
+    let totals = tally_text(alloc, facts.totals)?;
+    format!(in alloc;
+        "start {}, last {}, {totals}, well {}, rounds {}, faults {} {} {} {}",
+        facts.start,
+        facts.last,
+        facts.up,
+        facts.rounds,
+        facts.graphite_faults,
+        facts.console_faults,
+        facts.repeater_faults,
+        facts.admin_faults
+    )
+}
+
 fn answer<R: Threads + Wait + Sync>(
     rt: &R,
     alloc: Global,
@@ -95,6 +136,8 @@ fn answer<R: Threads + Wait + Sync>(
     match (name, first, second) {
         ("ledger", Ok(first), Ok(second)) => ledger_case(rt, alloc, first, second),
         ("turn", Ok(first), Ok(second)) => turn_case(rt, alloc, first, second),
+        ("desk", Ok(first), Ok(second)) => desk_case(rt, alloc, first, second),
+        ("facts", Ok(lines), Ok(bad)) => facts_case(rt, alloc, lines, bad),
         _ => format!(in alloc; "no such case"),
     }
 }
