@@ -7,6 +7,7 @@ mod rooms;
 mod samples;
 mod shards;
 mod tables;
+mod turns;
 
 use sd_case::{Answer, Refusal, answer_cases};
 use std::alloc::Global;

@@ -1,12 +1,16 @@
-ghost use Rattle.std.specs.Prelude.{◌≡◌, ◌<◌, length, IfOk};
+ghost use Rattle.std.specs.Prelude.{◌≡◌, ◌<◌, [], length, IfOk};
+ghost use Rattle.std.specs.Option.{ForSome};
 ghost use Rattle.sd_epoch.specs.Limits.{limits_of, AreLimits};
 
 use crate::samples::sample_of;
+use crate::turns::{most_steps, rows_at, swap_counted};
 use sd_case::{Answer, Refusal, bytes_of, kind_of, kind_word, number};
 use sd_epoch::{Limits, RowFacts, Table, Who};
 use sd_key::{Key, Kind, Pattern};
 use sd_shard::{Cause, Dump, Keys, Placed, Policy, Shard, ShardBook};
 use std::alloc::Global;
+use std::marker::Brand;
+use std::sync::ledger::Blank;
 
 // the most rows, and the most entries
 const MOST: u32 = 1 << 20;
@@ -62,13 +66,19 @@ pub(crate) fn goes_idle(
     Ok(())
 }
 
-/// A shard, and the limits that it was opened for.
+/// A shard, the limits and the policy that it was opened for, the table that came out at the last turn, and how many steps
+/// that turn was allowed.
 #[derive(Drop)]
 struct Bench {
     limits: Limits,
+    policy: Policy,
     shard: Shard,
+    spare: Option<Table>,
+    most: u64,
     ghost allowed: { AreLimits (limits_of limits) },
     ghost opened: { shard.table.limits ≡ limits_of limits },
+    ghost spare_limits: { ForSome spare (λ table. table.limits ≡ limits_of limits) },
+    ghost no_entries: { ForSome spare (λ table. table.held ≡ []) },
 }
 
 impl Bench {
@@ -82,10 +92,15 @@ impl Bench {
         }
     }
 
-    /// Carries out a step without an argument: `swap`, `book`, or else the sample that it writes.
+    /// Carries out a step without an argument: `swap`, `turn`, `steps`, `book`, or else the sample that it writes.
     fn plain_step(&mut self, alloc: Global, step: &str, out: &mut Answer) -> Result<(), Refusal> {
         match step {
             "swap" => self.swap(alloc, out),
+            "turn" => self.turn(alloc, out),
+            "steps" => {
+                out.count("at most ", self.most);
+                Ok(())
+            }
             "book" => {
                 show_book(&self.shard.book(), out);
                 Ok(())
@@ -101,8 +116,23 @@ impl Bench {
     /// Swaps in an empty table, and shows the one that comes out.
     fn swap(&mut self, alloc: Global, out: &mut Answer) -> Result<(), Refusal> {
         let spare = Table::open(alloc, self.limits)?;
-        let table = self.shard.swap(spare);
+        let table = swap_counted::<Brand>(&mut self.shard, spare, Blank::new(1));
         show_table(alloc, &table, out)
+    }
+
+    /// Swaps in the table that came out at the last turn, with its rows in place, and shows the one that comes out.
+    fn turn(&mut self, alloc: Global, out: &mut Answer) -> Result<(), Refusal> {
+        let spare = match self.spare.take() {
+            Some(table) => table,
+            None => Table::open(alloc, self.limits)?,
+        };
+        let there = rows_at(alloc, &spare)?;
+        let mut table = swap_counted::<Brand>(&mut self.shard, spare, Blank::new(1));
+        self.most = most_steps(&table, &self.policy, &there);
+        show_table(alloc, &table, out)?;
+        table.clear_entries();
+        self.spare = Some(table);
+        Ok(())
     }
 
     /// Deletes rows, and shows how many rows and entries went, and the keys in order.
@@ -240,8 +270,15 @@ pub(crate) fn steps_on_shard(
     out: &mut Answer,
 ) -> Result<(), Refusal> {
     let limits = limits_from(limits)?;
-    let shard = Shard::open(alloc, limits, policy_from(kinds)?)?;
-    let mut bench = Bench { limits, shard };
+    let policy = policy_from(kinds)?;
+    let shard = Shard::open(alloc, limits, policy)?;
+    let mut bench = Bench {
+        limits,
+        policy,
+        shard,
+        spare: None,
+        most: 0,
+    };
     for step in steps {
         out.step(step);
         bench.step(alloc, step, out)?;

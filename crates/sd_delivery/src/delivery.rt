@@ -1,17 +1,18 @@
 ghost use Rattle.std.specs.Prelude.{◌≡◌, ◌≢◌, IsTrue};
 ghost use Rattle.sd_model_outside.specs.Outside.{Rose};
+ghost use Rattle.sd_model_outside.specs.Deliveries.{NotUsed, AfterMark, FitsUse};
 ghost use Rattle.sd_model_record.specs.Console.{console_text};
-ghost use Rattle.sd_model_record.specs.Desk.{NotUsed};
 ghost use Rattle.sd_model_record.specs.Graphite.{graphite_text};
-ghost use Rattle.sd_model_replay.specs.Backends.{AfterMark, FitsUse};
 ghost use Rattle.sd_record.specs.Record.{record_view, room_of, SameScratch};
 ghost use Rattle.sd_desk.specs.Marks.{mark_of};
 
-use crate::form::{ConsoleText, GraphiteText, RecordText};
-use sd_plan::Names;
+use sd_console::ConsoleText;
 use sd_desk::{Mark, RoundMarks};
+use sd_graphite::GraphiteText;
 use sd_outside::{Backend, Backs, Failed};
+use sd_plan::Names;
 use sd_record::Record;
+use sd_text::RecordText;
 
 /// Gives a backend the text of a record, in a list that is begun and ended. After the first call that fails it isn't
 /// called again. Where its count of faults doesn't rise, the text was written.

@@ -2,6 +2,5 @@
 #![tactic(auto)]
 
 mod delivery;
-mod form;
 
 pub use delivery::deliver;

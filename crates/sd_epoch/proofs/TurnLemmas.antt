@@ -1,7 +1,7 @@
 -- Rows that are carried into a place, and the map that the places make.
-use Rattle.std.proofs.Common.{◌≡◌, ◌≢◌, ℕ, ◌<◌, Bool, true, false, ◌||◌, ◌==◌, ◌⊎◌, ℤ, pos, List, [], ◌∷◌, length, set, filter, Option, Some, None, MatchOption, is_some, inl, inr, refl, sym, ap, subst, ◌∙◌, arith}
+use Rattle.std.proofs.Common.{◌≡◌, ◌≢◌, ℕ, ◌<◌, Bool, true, false, ◌||◌, ◌==◌, ◌⊎◌, List, [], ◌∷◌, length, set, Option, Some, None, MatchOption, is_some, inl, inr, refl, sym, ap, subst, ◌∙◌, arith}
 use Rattle.std.proofs.lemmas.Bool.{cases_eq, eq-eqb}
-use Rattle.std.proofs.lemmas.List.{set-set, length-set, set-get_or, get_or-set_other}
+use Rattle.std.proofs.lemmas.List.{set-set, length-set, get_or-set_other}
 use Rattle.std.specs.FinMap.{find, get, len, get-from_entries, same_map}
 use Rattle.sd_model_shard.specs.Rows.{RowId, row_cmp, is_same_row}
 use Rattle.sd_model_shard.proofs.RowLemmas.{rows_exact, rows_total}
@@ -14,9 +14,9 @@ use Rattle.sd_rows.specs.declared.row.Row.{Row}
 use Rattle.sd_rows.proofs.IndexLemmas.{set_differs, some_of, present_within}
 use Rattle.sd_rows.proofs.MapLemmas.{not_true, map-get, map-found, map-count, find-absent}
 use Rattle.sd_rows.proofs.RowsLemmas.{fill_apart, empty_apart, copy_absent}
-use Rattle.sd_epoch.specs.Entries.{listed_as, id_in, listed_in, live_in, AllLive, is_among, AreRows, IsTally, AreTallies, held_in}
+use Rattle.sd_epoch.specs.Entries.{listed_as, id_in, listed_in, live_in, AllLive, is_among, AreRows, AreTallies, held_in}
 use Rattle.sd_epoch.specs.Order.{AreDifferent, IsWithout}
-use Rattle.sd_epoch.specs.Table.{AreApart, HasPlaces, row_view, listed_with}
+use Rattle.sd_epoch.specs.Table.{AreApart, HasPlaces, listed_with}
 use Rattle.sd_epoch.specs.TableInside.{listing_of, IsTable}
 use Rattle.sd_epoch.specs.declared.entry.Entry.{Entry}
 use Rattle.sd_epoch.specs.declared.tally.Tally.{Tally}
@@ -27,7 +27,6 @@ use Rattle.sd_epoch.proofs.PlaceLemmas.{id_here, has_in, test_place, listed_amon
 use Rattle.sd_epoch.proofs.TableLemmas.{live_count}
 use Rattle.sd_epoch.proofs.OrderLemmas.{different_head, different_tail}
 use Rattle.sd_epoch.proofs.HeldLemmas.{unset_none}
-use Rattle.sd_model_text.specs.Names as text
 
 both : (b : Bool) → b ≡ true → b ≡ false → ⊥
 both true t f = absurd (cc)
@@ -118,10 +117,6 @@ has_places t w = record { len = w.places; apart = w.rows.apart; rows = map_of_pl
 pub order_count : (rows : List (Option Row)) (order : List ℕ) → AreRows rows order → length order ≡ taken_count rows
 order_count rows order w = sym (live_count rows order w) ∙ ap (len) (map_of_places rows order w) ∙ map-count rows w.apart
 
--- a tally without samples
-pub no_samples : (kind : text.Kind) (base : ℤ) (t : Tally) → t.samples ≡ 0 → t.weight.0 ≡ pos 0 → t.sum.0 ≡ pos 0 → t.gauge.0 ≡ base → IsTally kind base [] t
-no_samples kind base t s e m g = record { samples = s; weight = e; sum = m; gauge = g; weight_bound = rw e (omega arith); sum_bound = rw m (omega arith) }
-
 -- where no row stands, the order has no place
 pub absent_place : (rows : List (Option Row)) (order : List ℕ) (at : ℕ) → AllLive rows order → row_at rows at ≡ None → is_among at order ≡ false
 absent_place rows order at l none = not_true (is_among at order) (λ h. live_among rows order at l h none)
@@ -155,9 +150,6 @@ emptied_rows rows at order left w here without =
           without.others p (w.all p (λ none. l (other p away ∙ none))) away;
       listed = different_listed (set rows at None) left apart live without.different;
     }
-
-pub none_set : (rows : List (Option Row)) (at : ℕ) → row_at rows at ≡ None → set rows at None ≡ rows
-none_set rows at none = ap (set rows at) (sym none) ∙ set-get_or rows at None
 
 pub emptied_tallies : (rows : List (Option Row)) (at : ℕ) (tallies : List Tally) → places.AreApart rows → AreTallies rows tallies [] → AreTallies (set rows at None) tallies []
 emptied_tallies rows at tallies apart w p row other is = w p row other (there (cases_eq p at)) where

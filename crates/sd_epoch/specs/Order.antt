@@ -1,5 +1,5 @@
 -- Places in an order, and the rank of each.
-use Rattle.std.specs.Prelude.{◌≡◌, ◌≢◌, ℕ, ◌<◌, Bool, true, false, List, [], ◌∷◌, length, get_or, ⊤}
+use Rattle.std.specs.Prelude.{◌≡◌, ◌≢◌, ℕ, ◌<◌, true, List, length, get_or}
 use Rattle.sd_epoch.specs.Entries.{is_among}
 
 -- each place is below a number

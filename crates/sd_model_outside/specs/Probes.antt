@@ -12,8 +12,8 @@ abbrev most_line : ℕ
 most_line = 1024
 
 -- what an answered question puts out: the first line of the reply, cut
-abbrev pub line_of : List ℕ → List ℕ
-line_of reply = take most_line (take_while (λ byte. not (byte == newline)) reply)
+abbrev pub first_line_of : List ℕ → List ℕ
+first_line_of reply = take most_line (take_while (λ byte. not (byte == newline)) reply)
 
 -- a question at this place
 abbrev pub question : Place → Bool → Question
@@ -22,7 +22,7 @@ question place is_answered = record { place = place; is_answered = is_answered }
 -- what a probe tells after a question that was answered by a line, which takes the next reply, or that failed
 abbrev pub Tells : Place → Option (List ℕ) → Told → Told → Type 0
 Tells place (Some line) (Replies (reply ∷ left) questions) new =
-    (line ≡ line_of reply) × (new ≡ Replies left (questions ++ question place true ∷ []))
+    (line ≡ first_line_of reply) × (new ≡ Replies left (questions ++ question place true ∷ []))
 Tells place (Some line) (Replies [] questions) new = ⊥
 Tells place None (Replies left questions) new = new ≡ Replies left (questions ++ question place false ∷ [])
 Tells place answer told new = new ≡ told

@@ -45,9 +45,9 @@ GivesDatagram datagram old new = turned old ≡ telling (with_datagrams (datagra
 abbrev pub GivesTick : ℕ → Object → Object → Type 0
 GivesTick second old new = turned old ≡ telling (with_ticks (second ∷ []) new.told) new
 
--- a beat that was started with an interval in milliseconds
-abbrev pub started : ℕ → Object → Object
-started interval o = record o { interval = Some interval }
+-- a beat once it was started with an interval, in milliseconds
+abbrev pub with_interval : ℕ → Object → Object
+with_interval interval o = record o { interval = Some interval }
 
 -- the bytes that a sink was given, where it tells them
 abbrev pub written_in : Told → Option (List ℕ)

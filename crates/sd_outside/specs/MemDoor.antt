@@ -1,15 +1,23 @@
 -- What a door in memory has, and what its calls leave.
-use Rattle.std.specs.Prelude.{◌≡◌, ℕ, ◌<◌, ◌⊎◌, [], Contains, None, map, min}
-use Rattle.sd_model_outside.specs.Outside.{Object, Sessions, HasFailed, last_count, raised}
+use Rattle.std.specs.Prelude.{◌≡◌, ℕ, ◌<◌, ◌⊎◌, List, [], Contains, None, map, min}
+use Rattle.sd_model_outside.specs.Outside.{Object, Session, Sessions, HasFailed, last_count, raised}
 use Rattle.sd_outside.specs.MemSessions.{session_in}
 use Rattle.sd_outside.specs.Places.{last_place}
 use Rattle.sd_outside.specs.declared.mem_door.MemDoor.{MemDoor}
+
+-- the sessions that it has left
+abbrev pub left_of : MemDoor → List Session
+left_of d = map session_in d.left.items
+
+-- the sessions that were given back
+abbrev pub back_of : MemDoor → List Session
+back_of d = map session_in d.back.items
 
 -- what is seen of it
 abbrev pub seen_of : MemDoor → Object
 seen_of d =
     record {
-      told = Sessions (map session_in d.left.items) (map session_in d.back.items);
+      told = Sessions (left_of d) (back_of d);
       faults = min d.faults last_count;
       opened_at = last_place d.opened_at;
       turns = min d.turns last_count;
@@ -31,7 +39,7 @@ IsToFail old new = Contains old.fail_call.items (calls_of new).nexts
 
 -- it has nothing left, and nothing changed
 pub record HasEnded (old new : MemDoor) : Type 0 where
-  pub none : old.left.items ≡ []
+  pub none : left_of old ≡ []
   pub same : seen_of new ≡ seen_of old
 
 -- a call failed, which was counted

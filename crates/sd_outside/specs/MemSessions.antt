@@ -12,8 +12,8 @@ abbrev pub session_in : MemSource × MemSink → Session
 session_in s = session_of (source.seen_of s.0) (sink.seen_of s.1)
 
 -- the ends of a session have no faults yet
-abbrev pub IsFresh : MemSource × MemSink → Type 0
-IsFresh s = ((source.seen_of s.0).faults ≡ 0) × ((sink.seen_of s.1).faults ≡ 0)
+abbrev pub HasNoFaults : MemSource × MemSink → Type 0
+HasNoFaults s = ((source.seen_of s.0).faults ≡ 0) × ((sink.seen_of s.1).faults ≡ 0)
 
 -- how many sessions are out
 abbrev pub number_out : Bool → ℕ

@@ -1,6 +1,6 @@
 ghost use Rattle.std.specs.Prelude.{◌≡◌, ◌≤◌};
 ghost use Rattle.sd_model_outside.specs.Outside.{HasFailed, last_count};
-ghost use Rattle.sd_model_outside.specs.Turns.{GivesTick, IsSpent, started};
+ghost use Rattle.sd_model_outside.specs.Turns.{GivesTick, IsSpent, with_interval};
 ghost use Rattle.sd_outside.specs.Answers.{MatchTick};
 
 use crate::opens::Faulty;
@@ -21,7 +21,7 @@ pub enum Tick {
 pub trait Beat: Faulty {
     /// Starts it with an interval between flushes, in milliseconds.
     fn start(&mut self, interval_ms: u32)
-        ensures { Self.seen self.new ≡ started interval_ms (Self.seen self.old) };
+        ensures { Self.seen self.new ≡ with_interval interval_ms (Self.seen self.old) };
 
     /// The Unix second of the next flush. It may wait.
     fn next(&mut self) -> Tick

@@ -83,12 +83,12 @@ impl Beat for MemBeat {
     ghost use Rattle.std.specs.Prelude.{◌≡◌};
     ghost use Rattle.std.proofs.Common.{arith};
     ghost use Rattle.sd_model_outside.specs.Outside.{raised};
-    ghost use Rattle.sd_model_outside.specs.Turns.{started};
+    ghost use Rattle.sd_model_outside.specs.Turns.{with_interval};
     ghost use Rattle.sd_outside.specs.Answers.{MatchTick};
     ghost use Rattle.sd_outside.specs.MemBeat.{Gives, Fails, HasEnded, IsToFail, calls_of, seen_of};
 
     fn start(&mut self, interval_ms: u32)
-        ensures started { seen_of self.new ≡ started interval_ms (seen_of self.old) }
+        ensures started { seen_of self.new ≡ with_interval interval_ms (seen_of self.old) }
         ensures no_call { calls_of self.new ≡ calls_of self.old }
         ensures failures_stay { self.new.fail_call ≡ self.old.fail_call }
     {

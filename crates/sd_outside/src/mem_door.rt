@@ -1,5 +1,5 @@
 ghost use Rattle.std.specs.Prelude.{◌+◌, ◌≤◌, All, vec_len, vec_capacity};
-ghost use Rattle.sd_outside.specs.MemSessions.{IsFresh, number_out};
+ghost use Rattle.sd_outside.specs.MemSessions.{HasNoFaults, number_out};
 
 use crate::address::Address;
 use crate::calls::{fault, next_call_fails, opening_fault};
@@ -25,14 +25,14 @@ pub struct MemDoor {
     /// The numbers of the calls of `next_session` that are to fail, counted from 1.
     pub fail_call: Vec<u64>,
     ghost room: { vec_len left + (number_out is_out + vec_len back) ≤ vec_capacity back },
-    ghost fresh: { All IsFresh left.items },
+    ghost fresh: { All HasNoFaults left.items },
 }
 
 impl MemDoor {
     ghost use Rattle.std.specs.Prelude.{◌≡◌, All, IfOk, [], map, option_copied};
     ghost use Rattle.sd_model_outside.specs.Outside.{Sessions, fresh};
-    ghost use Rattle.sd_outside.specs.MemDoor.{calls_of};
-    ghost use Rattle.sd_outside.specs.MemSessions.{IsFresh, session_in};
+    ghost use Rattle.sd_outside.specs.MemDoor.{back_of, calls_of, left_of};
+    ghost use Rattle.sd_outside.specs.MemSessions.{HasNoFaults, session_in};
     ghost use Rattle.sd_outside.specs.Places.{last_place};
 
     /// A door that has the sessions left, whose ends have no faults yet, with room for all of them to be given back, and of
@@ -42,7 +42,7 @@ impl MemDoor {
     ///
     /// Where no memory is left for the room.
     pub fn open(sessions: Vec<(MemSource, MemSink)>) -> Result<MemDoor, AllocError>
-        requires { All IsFresh sessions.items }
+        requires { All HasNoFaults sessions.items }
         ensures seen { IfOk result (λ d. ⟦<MemDoor as Faulty>⟧.seen d ≡ fresh (Sessions (map session_in sessions.items) [])) }
         ensures no_calls { IfOk result (λ d. calls_of d ≡ record { openings = 0; nexts = 0 }) }
         ensures fails_no_opening { IfOk result (λ d. d.fail_open.items ≡ []) }
@@ -65,14 +65,14 @@ impl MemDoor {
 
     /// The sessions that it has left.
     pub fn remaining(&self) -> &[(MemSource, MemSink)]
-        ensures { map session_in result.now ≡ map session_in self.now.left.items }
+        ensures { map session_in result.now ≡ left_of self.now }
     {
         &self.left
     }
 
     /// The sessions that were given back.
     pub fn back(&self) -> &[(MemSource, MemSink)]
-        ensures { map session_in result.now ≡ map session_in self.now.back.items }
+        ensures { map session_in result.now ≡ back_of self.now }
     {
         &self.back
     }

@@ -1,5 +1,5 @@
 ghost use Rattle.std.specs.Prelude.{◌≡◌, ◌≤◌, length, vec_len, vec_capacity};
-ghost use Rattle.sd_model_outside.specs.Probes.{line_of};
+ghost use Rattle.sd_model_outside.specs.Probes.{first_line_of};
 
 use crate::address::Address;
 use crate::calls::{fault, next_call_fails};
@@ -96,7 +96,7 @@ impl MemProbe {
 
 /// The first line of a reply, cut to 1,024 bytes.
 fn first_line(reply: &[u8]) -> &[u8]
-    ensures line { result.now ≡ line_of reply.now }
+    ensures line { result.now ≡ first_line_of reply.now }
     ensures size { length result.now ≤ MOST_LINE }
 {
     let mut len = 0;

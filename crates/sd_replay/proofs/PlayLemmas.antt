@@ -10,6 +10,7 @@ use Rattle.std.proofs.lemmas.List.{map-append}
 use Rattle.sd_model_text.specs.Names.{Kind}
 use Rattle.sd_model_text.specs.Lines.{Sample, samples_of}
 use Rattle.sd_model_outside.specs.Outside.{Told, Object, Reads, Used, Rose, HasFailedBehind, FitsLastCount, given, last_count, put_back, telling}
+use Rattle.sd_model_outside.specs.Deliveries.{FitsUse, AfterMark, AfterDeliveries}
 use Rattle.sd_model_outside.proofs.OutsideLemmas.{appended-nil, Reads-append, put_back-append}
 use Rattle.sd_model_outside.proofs.WriteLemmas.{given-given}
 use Rattle.sd_model_shard.specs.Shard.{State, empty_state, Limits, Policy, Submit, after_swap, after_delete, carried, left_of, table_of}
@@ -27,7 +28,7 @@ use Rattle.sd_command.proofs.CommandLemmas.{deleted-at, idle_delete, line_carrie
 use Rattle.sd_model_settings.specs.Settings as file
 use Rattle.sd_model_replay.specs.Settings as model
 use Rattle.sd_model_replay.specs.Settings.{goes_by}
-use Rattle.sd_model_replay.specs.Backends.{Backend, FitsUse, AfterMark, AfterDeliveries, is_used, mark_of, text_of}
+use Rattle.sd_model_replay.specs.Backends.{Backend, is_used, mark_of, text_of}
 use Rattle.sd_model_replay.specs.Repeater.{AfterSendings, IsRepeated, failures}
 use Rattle.sd_model_replay.specs.Script.{Command, Packet, Flush, Admin, end_word, spelled, script_text, IsLegal}
 use Rattle.sd_model_replay.specs.Next.{ScriptFlaw, Faulty, Begins, IsUndecided}
@@ -37,7 +38,7 @@ use Rattle.sd_model_replay.specs.Totals.{Totals, totals_of, totals_after, totals
 use Rattle.sd_model_replay.specs.AccountingTheorem.{Seen, Course, AccountingTheorem, seen_at}
 use Rattle.sd_model_replay.specs.Ends.{Complete, Faulted, ReadFailed, WriteFailed, WornOut, Replayed, text_length}
 use Rattle.sd_model_replay.proofs.AccountingLemmas.{are_accounted, are_documented}
-use Rattle.sd_model_replay.proofs.DeliveryLemmas.{AfterDeliveries-push}
+use Rattle.sd_model_outside.proofs.DeliveryLemmas.{AfterDeliveries-push}
 use Rattle.sd_model_replay.proofs.SendingLemmas.{AfterSendings-push}
 use Rattle.sd_model_replay.proofs.ReplayLemmas.{run_before, run_of-push, output_of-push, deliveries-push, delivery_of, sendings-push, script_text-end, AllByRecursion-push}
 use Rattle.sd_shards.specs.Shards.{Group, AreAlike, numbers, state_at}

@@ -3,7 +3,7 @@ ghost use Rattle.sd_model_record.specs.Console.{console_text};
 ghost use Rattle.sd_model_record.specs.Desk.{with_round};
 ghost use Rattle.sd_model_record.specs.Graphite.{graphite_text};
 ghost use Rattle.sd_model_record.specs.Record.{record_of};
-ghost use Rattle.sd_model_replay.specs.Backends.{AfterMark, FitsUse};
+ghost use Rattle.sd_model_outside.specs.Deliveries.{AfterMark, FitsUse};
 ghost use Rattle.sd_model_shard.specs.Shard.{after_swap, table_of};
 ghost use Rattle.sd_plan.specs.Plan.{plan_view};
 ghost use Rattle.sd_desk.specs.Marks.{mark_of, marks_of};

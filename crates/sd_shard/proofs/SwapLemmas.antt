@@ -8,12 +8,12 @@ use Rattle.sd_key.specs.declared.kind.Kind.{Kind}
 use Rattle.sd_model_shard.specs.Rows.{Kept, Rows, Entry}
 use Rattle.sd_model_shard.specs.Shard.{Policy, left_of, carried}
 use Rattle.sd_rows.specs.Rows.{row_at, Holds, AreApart, StandsNowhereElse}
-use Rattle.sd_rows.specs.RowMap.{id_of, has_id, copy_steps, rows_of}
+use Rattle.sd_rows.specs.RowMap.{id_of, has_id, rows_of}
 use Rattle.sd_rows.specs.declared.row.Row.{Row}
 use Rattle.sd_rows.proofs.IndexLemmas.{set_differs}
 use Rattle.sd_rows.proofs.MapLemmas.{has_holds, map-absent}
-use Rattle.sd_epoch.specs.Table.{Listing, row_view}
-use Rattle.sd_shard.specs.Swap.{row_left, staying, swap_steps}
+use Rattle.sd_epoch.specs.Table.{row_view}
+use Rattle.sd_shard.specs.Swap.{row_left, staying}
 use Rattle.sd_shard.proofs.CarryLemmas.{carried-empty, carried-stays, carried-goes}
 
 one_of : (o : Option Row) (kind kind' : Kind) (key key' : List ℕ) → Holds kind key o → Holds kind' key' o → (kind ≡ kind') × (key ≡ key')

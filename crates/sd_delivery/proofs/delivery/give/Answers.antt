@@ -1,7 +1,7 @@
 use Rattle.std.proofs.Common.{◌≡◌, ℕ, List, length, sym, subst, ap, inr, ◌∙◌, arith}
 use Rattle.std.proofs.Math.Seq.{take-length}
 use Rattle.sd_model_outside.specs.Outside.{Object, HasFailed, appended, begun, given, telling}
-use Rattle.sd_model_replay.specs.Backends.{HasMissed}
+use Rattle.sd_model_outside.specs.Deliveries.{HasMissed}
 use Rattle.sd_record.specs.Record.{record_view}
 use Rattle.sd_delivery.proofs.delivery.give.Goals as goal
 
@@ -13,7 +13,7 @@ missed_behind text old begun_now given_now new first then failed =
     record {
       used = record { faults = last.used.faults; opened_at = last.used.opened_at };
       rose = last.rose;
-      front = inr (length text, omega arith, last.told ∙ ap (appended (begun old.told)) (sym (take-length text)));
+      front = inr (length text, omega arith, ap (λ (o : Object). o.told) last.same ∙ ap (appended (begun old.told)) (sym (take-length text)));
     }
 
 pub returns-in-Err-clause-delivery : goal.returns-in-Err-clause-delivery

@@ -1,4 +1,4 @@
-use Rattle.std.proofs.Common.{List, Option, None, sym, subst, ◌∙◌}
+use Rattle.std.proofs.Common.{List, Option, sym, subst, ◌∙◌}
 use Rattle.sd_rows.specs.declared.row.Row.{Row}
 use Rattle.sd_epoch.specs.Entries.{AreRows}
 use Rattle.sd_epoch.proofs.TurnLemmas.{emptied_rows, taken_by}

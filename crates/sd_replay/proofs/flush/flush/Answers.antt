@@ -3,7 +3,7 @@ use Rattle.sd_model_settings.specs.Defaults.{Plan}
 use Rattle.sd_model_record.specs.Console.{console_text}
 use Rattle.sd_model_record.specs.Graphite.{graphite_text}
 use Rattle.sd_model_record.specs.Record.{Record, Tally, record_of}
-use Rattle.sd_model_replay.specs.Backends.{AfterMark}
+use Rattle.sd_model_outside.specs.Deliveries.{AfterMark}
 use Rattle.sd_model_shard.specs.Shard.{Table, table_of}
 use Rattle.sd_plan.specs.Plan.{plan_view}
 use Rattle.sd_desk.specs.Marks.{mark_of}

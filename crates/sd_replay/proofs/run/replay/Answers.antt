@@ -1,6 +1,7 @@
 use Rattle.std.proofs.Common.{◌≡◌, ◌≢◌, ◌<◌, ℕ, ◌^◌, List, [], ◌++◌, map, take, drop, length, length-take, length-append, sym, subst, ap, ◌∙◌, refl, arith}
 use Rattle.sd_model_outside.specs.Outside.{Object, Used, Rose, HasFailedBehind, given, put_back}
 use Rattle.sd_model_outside.specs.Wires.{AreSent}
+use Rattle.sd_model_outside.specs.Deliveries.{AfterMark, FitsUse}
 use Rattle.sd_model_outside.proofs.OutsideLemmas.{Reads-append, Reads-nil}
 use Rattle.sd_model_outside.proofs.WriteLemmas.{given-given}
 use Rattle.std.specs.Prelude.{sum_by}
@@ -12,7 +13,7 @@ use Rattle.sd_model_settings.specs.Defaults.{Plan, plan_of}
 use Rattle.sd_model_replay.specs.Settings.{Settings, goes_by}
 use Rattle.sd_model_record.specs.Graphite.{graphite_text}
 use Rattle.sd_model_record.specs.Record.{Record, record_of}
-use Rattle.sd_model_replay.specs.Backends.{Backend, Graphite, Console, AfterMark, FitsUse, is_used, text_of}
+use Rattle.sd_model_replay.specs.Backends.{Backend, Graphite, Console, is_used, text_of}
 use Rattle.sd_model_replay.specs.Backends.{mark_of as mark_at}
 use Rattle.sd_model_replay.specs.Repeater.{IsRepeated, failures}
 use Rattle.sd_model_replay.specs.Replay.{packet_tally}

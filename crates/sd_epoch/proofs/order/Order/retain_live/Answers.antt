@@ -1,4 +1,4 @@
-use Rattle.std.proofs.Common.{◌≡◌, ℕ, List, length, is_some, filter, sym, subst, ◌∙◌}
+use Rattle.std.proofs.Common.{length, is_some, sym, subst, ◌∙◌}
 use Rattle.sd_rows.specs.Rows.{row_at}
 use Rattle.sd_epoch.specs.Order.{AreWithin, AreDifferent}
 use Rattle.sd_epoch.proofs.OrderLemmas.{ranked_different, different_picked, within_picked}

@@ -11,7 +11,7 @@ returns-in_err-count-clause-left_stays g c =
     let xs = c.deref_mut.result.now in
     let inside : a.end ≤ length xs = omega (arith, c.deref_mut.ensures.len, a.full, c.requires) in
     let kept = ahead-kept a.room xs c.read.new.buf a.start a.end c.deref_mut.ensures.value c.deref_mut.ensures.len a.ordered inside c.read.auto.buf in
-    ap (put_back _) c.in_err-count.ensures.failed.told ∙ ap (λ (held : List ℕ). put_back held (g.R.Faulty.seen c.args.script.now).told) kept
+    ap (put_back _) (ap (λ (o : Object). o.told) c.in_err-count.ensures.failed.same) ∙ ap (λ (held : List ℕ). put_back held (g.R.Faulty.seen c.args.script.now).told) kept
 
 pub returns-in_err-count-clause-kept : goal.returns-in_err-count-clause-kept
 returns-in_err-count-clause-kept g c =

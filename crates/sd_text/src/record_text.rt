@@ -1,9 +1,8 @@
-use sd_plan::Names;
 use sd_outside::{Sink, WriteFault};
 use sd_record::Record;
 
 /// How a record is written, as one text.
-pub(crate) trait RecordText {
+pub trait RecordText {
     ghost use Rattle.std.specs.Prelude.{◌≡◌, ℕ, List, OnOk, OnErr};
     ghost use Rattle.sd_model_outside.specs.Outside.{HasFailedBehind, given};
     ghost use Rattle.sd_model_record.specs.Record.{Record as ModelRecord};
@@ -23,34 +22,4 @@ pub(crate) trait RecordText {
         ensures record { record_view rec.new ≡ record_view rec.old }
         ensures room { room_of rec.new ≡ room_of rec.old }
         ensures same_scratch { SameScratch rec.new rec.old };
-}
-
-/// Graphite's text, under these names.
-#[derive(Clone, Copy)]
-pub(crate) struct GraphiteText<'a> {
-    pub names: &'a Names,
-}
-
-impl<'a> RecordText for GraphiteText<'a> {
-    ghost use Rattle.sd_model_record.specs.Graphite.{graphite_text};
-
-    ghost text_of = { λ s. graphite_text s.names.now };
-
-    fn write<K: Sink>(&self, rec: &mut Record<'_>, sink: &mut K) -> Result<(), WriteFault> {
-        sd_graphite::write_record(rec, self.names, sink)
-    }
-}
-
-/// The console's text.
-#[derive(Clone, Copy)]
-pub(crate) struct ConsoleText;
-
-impl RecordText for ConsoleText {
-    ghost use Rattle.sd_model_record.specs.Console.{console_text};
-
-    ghost text_of = { λ _. console_text };
-
-    fn write<K: Sink>(&self, rec: &mut Record<'_>, sink: &mut K) -> Result<(), WriteFault> {
-        sd_console::write_record(rec, sink)
-    }
 }
