@@ -5,8 +5,8 @@ ghost use Rattle.sd_top.specs.Causes.{IsDrill};
 
 use crate::status::{Status, status_of};
 use sd_config::Settings;
-use sd_drill::{CountSink, Drill};
-use sd_outside::{Backs, MemWire, Sink, WriteFault};
+use sd_drill::Drill;
+use sd_outside::{Backs, CountSink, MemWire, Sink, WriteFault};
 use sd_replay::{ReplayEnd, ReplayRoom, replay, write_total};
 use std::alloc::Global;
 
