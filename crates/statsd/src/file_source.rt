@@ -1,4 +1,4 @@
-use sd_outside::{Address, Failed, Faulty, OpenRefusal, Opens, Source, fault};
+use sd_outside::{Address, Failed, Faulty, OpenRefusal, Opens, Source, fault, opening_fault};
 use std::fs::File;
 use std::io::{ErrorKind, Read};
 use std::str;
@@ -27,10 +27,10 @@ impl<'a> FileSource<'a> {
 impl<'a> Faulty for FileSource<'a> {
     ghost use Rattle.std.specs.Prelude.{min};
     ghost use Rattle.std.proofs.Common.{arith};
-    ghost use Rattle.sd_model_outside.specs.Outside.{Untold, last_count};
+    ghost use Rattle.sd_model_outside.specs.Outside.{Untold, last_count, object_of};
     ghost use Rattle.sd_outside.specs.Places.{last_place};
 
-    ghost seen = { λ s. record { told = Untold; faults = min s.faults last_count; opened_at = last_place s.opened_at } };
+    ghost seen = { λ s. object_of Untold (min s.faults last_count) (last_place s.opened_at) };
 
     ghost faults_fit = { λ s. omega arith };
 }
@@ -38,12 +38,10 @@ impl<'a> Faulty for FileSource<'a> {
 impl<'a> Opens for FileSource<'a> {
     fn open_at(&mut self, at: &Address) -> Result<(), OpenRefusal> {
         let Address::File(name) = at else {
-            fault(&mut self.faults);
-            return Err(OpenRefusal::Failed);
+            return Err(opening_fault(&mut self.faults));
         };
         let Ok(path) = str::from_utf8(name.as_slice()) else {
-            fault(&mut self.faults);
-            return Err(OpenRefusal::Failed);
+            return Err(opening_fault(&mut self.faults));
         };
         match File::open(self.rt, path) {
             Ok(file) => {
@@ -52,10 +50,7 @@ impl<'a> Opens for FileSource<'a> {
                 Ok(())
             }
             Err(e) if e.kind() == ErrorKind::OutOfMemory => Err(OpenRefusal::OutOfMemory),
-            Err(_) => {
-                fault(&mut self.faults);
-                Err(OpenRefusal::Failed)
-            }
+            Err(_) => Err(opening_fault(&mut self.faults)),
         }
     }
 }

@@ -2,7 +2,9 @@ ghost use Rattle.std.specs.Prelude.{◌≡◌, ◌↔◌, [], IsTrue};
 ghost use Rattle.sd_model_outside.specs.Outside.{File};
 ghost use Rattle.sd_outside.specs.Places.{place_of};
 
-use sd_outside::{Address, Backend, Failed, Faulty, OpenRefusal, Opens, Sink, fault};
+use sd_outside::{
+    Address, Backend, Failed, Faulty, OpenRefusal, Opens, Sink, fault, opening_fault,
+};
 use std::io::{self, Write};
 
 /// Whether an address is that of standard output, the file with the empty name.
@@ -36,10 +38,10 @@ impl<'a> StandardOut<'a> {
 impl<'a> Faulty for StandardOut<'a> {
     ghost use Rattle.std.specs.Prelude.{min};
     ghost use Rattle.std.proofs.Common.{arith};
-    ghost use Rattle.sd_model_outside.specs.Outside.{Untold, last_count};
+    ghost use Rattle.sd_model_outside.specs.Outside.{Untold, last_count, object_of};
     ghost use Rattle.sd_outside.specs.Places.{last_place};
 
-    ghost seen = { λ s. record { told = Untold; faults = min s.faults last_count; opened_at = last_place s.opened_at } };
+    ghost seen = { λ s. object_of Untold (min s.faults last_count) (last_place s.opened_at) };
 
     ghost faults_fit = { λ s. omega arith };
 }
@@ -48,8 +50,7 @@ impl<'a> Opens for StandardOut<'a> {
     /// Opens at the file with the empty name, and nowhere else.
     fn open_at(&mut self, at: &Address) -> Result<(), OpenRefusal> {
         if !is_standard(at) {
-            fault(&mut self.faults);
-            return Err(OpenRefusal::Failed);
+            return Err(opening_fault(&mut self.faults));
         }
         self.opened_at = Some(at.copied());
         Ok(())

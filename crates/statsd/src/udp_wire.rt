@@ -1,4 +1,4 @@
-use sd_outside::{Address, Failed, Faulty, OpenRefusal, Opens, Wire, fault};
+use sd_outside::{Address, Failed, Faulty, OpenRefusal, Opens, Wire, fault, opening_fault};
 use std::io::ErrorKind;
 use std::net::UdpSocket;
 use std::str;
@@ -30,10 +30,10 @@ impl<'a> UdpWire<'a> {
 impl<'a> Faulty for UdpWire<'a> {
     ghost use Rattle.std.specs.Prelude.{min};
     ghost use Rattle.std.proofs.Common.{arith};
-    ghost use Rattle.sd_model_outside.specs.Outside.{Untold, last_count};
+    ghost use Rattle.sd_model_outside.specs.Outside.{Untold, last_count, object_of};
     ghost use Rattle.sd_outside.specs.Places.{last_place};
 
-    ghost seen = { λ s. record { told = Untold; faults = min s.faults last_count; opened_at = last_place s.opened_at } };
+    ghost seen = { λ s. object_of Untold (min s.faults last_count) (last_place s.opened_at) };
 
     ghost faults_fit = { λ s. omega arith };
 }
@@ -42,12 +42,10 @@ impl<'a> Opens for UdpWire<'a> {
     /// Opens at a host and a port, to which the socket is connected. No datagram is sent by that.
     fn open_at(&mut self, at: &Address) -> Result<(), OpenRefusal> {
         let Address::Host { host, port } = at else {
-            fault(&mut self.faults);
-            return Err(OpenRefusal::Failed);
+            return Err(opening_fault(&mut self.faults));
         };
         let Ok(host) = str::from_utf8(host.as_slice()) else {
-            fault(&mut self.faults);
-            return Err(OpenRefusal::Failed);
+            return Err(opening_fault(&mut self.faults));
         };
         let connected = UdpSocket::bind(self.rt, ANY).and_then(|socket| socket
             .connect((host, *port))
@@ -59,10 +57,7 @@ impl<'a> Opens for UdpWire<'a> {
                 Ok(())
             }
             Err(e) if e.kind() == ErrorKind::OutOfMemory => Err(OpenRefusal::OutOfMemory),
-            Err(_) => {
-                fault(&mut self.faults);
-                Err(OpenRefusal::Failed)
-            }
+            Err(_) => Err(opening_fault(&mut self.faults)),
         }
     }
 }
