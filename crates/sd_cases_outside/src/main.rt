@@ -1,7 +1,10 @@
-//! Cases of the outside: reads a call and its arguments from each line, makes the call on a source, a sink, a backend or
-//! wires in memory or on the reader of a script, and prints the line with its answer.
+//! Cases of the outside: reads a call and its arguments from each line, makes the call on an object in memory, on several
+//! wires or on the reader of a script, and prints the line with its answer.
 #![tactic(auto)]
 
+mod arrivals;
+mod doors;
+mod probes;
 mod repeats;
 mod scripts;
 mod sinks;
@@ -20,8 +23,15 @@ fn call(alloc: Global, words: &[&str], out: &mut Answer) -> Result<(), Refusal> 
         ["backend", bytes, lists, steps @ ..] => {
             sinks::steps_on_backend(alloc, bytes, lists, steps, out)
         }
+        ["count", steps @ ..] => sinks::steps_on_count(alloc, steps, out),
         ["wire", bytes, packets, steps @ ..] => {
             wires::steps_on_wire(alloc, bytes, packets, steps, out)
+        }
+        ["datagrams", texts, steps @ ..] => arrivals::steps_on_datagrams(alloc, texts, steps, out),
+        ["beat", ticks, steps @ ..] => arrivals::steps_on_beat(alloc, ticks, steps, out),
+        ["door", sessions, steps @ ..] => doors::steps_on_door(alloc, sessions, steps, out),
+        ["probe", replies, asks, steps @ ..] => {
+            probes::steps_on_probe(alloc, replies, asks, steps, out)
         }
         ["repeat", count, bytes, packets, steps @ ..] => {
             repeats::steps_on_wires(alloc, &[count, bytes, packets], steps, out)
@@ -33,6 +43,14 @@ fn call(alloc: Global, words: &[&str], out: &mut Answer) -> Result<(), Refusal> 
         ["fault", count] => {
             out.text(" = ");
             sources::fault_after(count, out)
+        }
+        ["clock", moment] => {
+            out.text(" = ");
+            arrivals::twice_of_clock(moment, out)
+        }
+        ["gate", place] => {
+            out.text(" = ");
+            arrivals::pass_of_gate(place, out)
         }
         _ => Err(Refusal::UnknownCall),
     }

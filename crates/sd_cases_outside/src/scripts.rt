@@ -1,39 +1,11 @@
-ghost use Rattle.std.specs.Prelude.{◌<◌};
-
+use crate::sources::most_of;
 use sd_case::{Answer, Refusal, bytes_of, number};
-use sd_outside::{Address, Failed, Faulty, MemSource, OpenRefusal, Opens, Source};
+use sd_outside::{Failed, MemSource};
 use sd_script::{Flaw, Item, Reader};
 use std::alloc::Global;
 
 /// How many receivers the scripts of cases have.
 const RECEIVERS: u16 = 2;
-
-/// A source in memory that gives at most so many bytes a call.
-#[derive(Drop)]
-struct SlowSource {
-    source: MemSource,
-    most: usize,
-    ghost some: { 0 < most },
-}
-
-impl Faulty for SlowSource {
-    ghost seen = { λ s. ⟦<MemSource as Faulty>⟧.seen s.source };
-
-    ghost faults_fit = { λ s. ⟦<MemSource as Faulty>⟧.faults_fit s.source };
-}
-
-impl Opens for SlowSource {
-    fn open_at(&mut self, at: &Address) -> Result<(), OpenRefusal> {
-        self.source.open_at(at)
-    }
-}
-
-impl Source for SlowSource {
-    fn read(&mut self, buf: &mut [u8]) -> Result<usize, Failed> {
-        let count = self.most.min(buf.len());
-        self.source.read(&mut buf[..count])
-    }
-}
 
 /// What is wrong with a record, by its name.
 fn name_of(flaw: Flaw) -> &'static str {
@@ -66,7 +38,7 @@ fn show_next(item: Result<Item, Failed>, reader: &Reader, out: &mut Answer) {
 /// Carries out a step of a reader over a script.
 fn step(
     reader: &mut Reader,
-    source: &mut SlowSource,
+    source: &mut MemSource,
     step: &str,
     out: &mut Answer,
 ) -> Result<(), Refusal> {
@@ -79,25 +51,16 @@ fn step(
 }
 
 /// The source of a script: `by=MOST` or `by=all`, and `fail=CALL` or `fail=none`.
-fn source_of(alloc: Global, script: &str, most: &str, call: &str) -> Result<SlowSource, Refusal> {
+fn source_of(alloc: Global, script: &str, most: &str, call: &str) -> Result<MemSource, Refusal> {
     let mut source = MemSource::of(bytes_of(alloc, script)?);
     if call != "fail=none" {
         let call = call.strip_prefix("fail=").ok_or(Refusal::Malformed)?;
         source.fail_call.push(number(call)?)?;
     }
-    let most = most_of(most)?;
-    if most == 0 {
-        return Err(Refusal::Condition);
+    if most != "by=all" {
+        source.most = most_of(most.strip_prefix("by=").ok_or(Refusal::Malformed)?)?;
     }
-    Ok(SlowSource { source, most })
-}
-
-/// How many bytes a call gives at most.
-fn most_of(word: &str) -> Result<usize, Refusal> {
-    if word == "by=all" {
-        return Ok(usize::MAX);
-    }
-    number(word.strip_prefix("by=").ok_or(Refusal::Malformed)?)
+    Ok(source)
 }
 
 /// `reader SCRIPT by=MOST fail=CALL STEPS`: what each `next` of a reader answers, over a source that gives at most
@@ -115,6 +78,6 @@ pub(crate) fn steps_of_reader(
         step(&mut reader, &mut source, word, out)?;
     }
     out.text("left ");
-    out.bytes(source.source.remaining());
+    out.bytes(source.remaining());
     Ok(())
 }

@@ -1,6 +1,6 @@
-use crate::sources::{fail_on, open, show_address};
+use crate::sources::{fail_on, most_of, open, show_address};
 use sd_case::{Answer, Refusal, bytes_of, number};
-use sd_outside::{Backend, Failed, MemBackend, MemSink, Sink, write_all};
+use sd_outside::{Backend, CountSink, Failed, MemBackend, MemSink, Sink, write_all};
 use std::alloc::Global;
 
 /// Writes a text by one call, and appends how many bytes were taken.
@@ -47,6 +47,11 @@ fn step_on_sink(
 ) -> Result<(), Refusal> {
     match step.split_once('=') {
         Some(("fail_write", calls)) => fail_on(&mut sink.fail_call, calls, out),
+        Some(("most", most)) => {
+            sink.most = most_of(most)?;
+            out.text("set");
+            Ok(())
+        }
         Some(("write", text)) => write_once(alloc, sink, text, out),
         Some(("write_all", text)) => write_whole(alloc, sink, text, out),
         Some(_) => Err(Refusal::Malformed),
@@ -91,6 +96,11 @@ fn step_on_backend(
         Some(("fail_begin", calls)) => fail_on(&mut backend.fail_begin, calls, out),
         Some(("fail_write", calls)) => fail_on(&mut backend.fail_call, calls, out),
         Some(("fail_finish", calls)) => fail_on(&mut backend.fail_finish, calls, out),
+        Some(("most", most)) => {
+            backend.most = most_of(most)?;
+            out.text("set");
+            Ok(())
+        }
         Some(("open", at)) => open(alloc, backend, at, out),
         Some(("write", text)) => write_once(alloc, backend, text, out),
         Some(("write_all", text)) => write_whole(alloc, backend, text, out),
@@ -137,6 +147,39 @@ pub(crate) fn steps_on_backend(
     for word in steps {
         out.step(word);
         step_on_backend(alloc, &mut backend, word, out)?;
+    }
+    Ok(())
+}
+
+/// Carries out a step on a sink that counts.
+fn step_on_count(
+    alloc: Global,
+    sink: &mut CountSink,
+    step: &str,
+    out: &mut Answer,
+) -> Result<(), Refusal> {
+    match (step, step.split_once('=')) {
+        (_, Some(("open", at))) => open(alloc, sink, at, out)?,
+        (_, Some(("write", text))) => write_once(alloc, sink, text, out)?,
+        (_, Some(("write_all", text))) => write_whole(alloc, sink, text, out)?,
+        ("begin", None) => show_answer(sink.begin(), out),
+        ("finish", None) => show_answer(sink.finish(), out),
+        ("count", None) => out.count("", sink.count()),
+        _ => return Err(Refusal::Malformed),
+    }
+    Ok(())
+}
+
+/// `count STEPS`: what each step on a sink that counts its bytes answers.
+pub(crate) fn steps_on_count(
+    alloc: Global,
+    steps: &[&str],
+    out: &mut Answer,
+) -> Result<(), Refusal> {
+    let mut sink = CountSink::new();
+    for word in steps {
+        out.step(word);
+        step_on_count(alloc, &mut sink, word, out)?;
     }
     Ok(())
 }

@@ -1,3 +1,5 @@
+ghost use Rattle.std.specs.Prelude.{◌<◌, IfOk};
+
 use sd_case::{Answer, Refusal, bytes_of, number};
 use sd_outside::{Address, Failed, MemSource, Name, OpenRefusal, Opens, Source, fault};
 use std::alloc::Global;
@@ -68,6 +70,17 @@ pub(crate) fn fail_on(
     Ok(())
 }
 
+/// How many bytes a call takes at most, which isn't 0.
+pub(crate) fn most_of(word: &str) -> Result<usize, Refusal>
+    ensures { IfOk result (λ most. 0 < most) }
+{
+    let most = number::<usize>(word)?;
+    if most == 0 {
+        return Err(Refusal::Condition);
+    }
+    Ok(most)
+}
+
 /// Reads into a buffer of points, and appends how many bytes came, the buffer, and what is left.
 fn read(alloc: Global, source: &mut MemSource, len: &str, out: &mut Answer) -> Result<(), Refusal> {
     let len = number::<usize>(len)?;
@@ -97,6 +110,11 @@ fn step(
         Some(("fail_open", calls)) => fail_on(&mut source.fail_open, calls, out),
         Some(("fail_read", calls)) => fail_on(&mut source.fail_call, calls, out),
         Some(("open", at)) => open(alloc, source, at, out),
+        Some(("most", most)) => {
+            source.most = most_of(most)?;
+            out.text("set");
+            Ok(())
+        }
         Some(("read", len)) => read(alloc, source, len, out),
         Some(_) => Err(Refusal::Malformed),
         None => show_state(source, step, out),
