@@ -10,7 +10,7 @@ use Rattle.sd_pool.specs.Noted.{acts, IsLegal}
 use Rattle.sd_pool.specs.Behind.{setup_of}
 use Rattle.sd_pool.specs.Asks.{entry_of, event_of, reply_of}
 use Rattle.sd_pool.specs.TurnSeats.{AreSeatsOf}
-use Rattle.sd_pool.specs.Pool.{OwnTurn, OwnSeat, turns_in, no_setup, setup_at, limits_of, policy_of, receivers_of, shards_of, IsSeatOf, Acts, act_by}
+use Rattle.sd_pool.specs.Pool.{OwnTurn, OwnSeat, turns_in, no_setup, setup_at, limits_of, policy_of, receivers_of, shards_of, Sits, Acts, act_by}
 use Rattle.sd_pool.specs.declared.asks.ShardAsk.{ShardAsk}
 use Rattle.sd_pool.specs.declared.asks.ShardReply.{ShardReply}
 use Rattle.sd_pool.specs.declared.pool.Pool.{Pool}
@@ -20,7 +20,7 @@ use Rattle.sd_pool.proofs.StandsLemmas.{acts-push}
 use Rattle.sd_pool.proofs.WhoLemmas.{acts_own, GoesOn-acts, own_acts}
 use Rattle.sd_pool.proofs.SeatLemmas.{at_map, at_set, off_set, seats_long, seat_at, seats_set}
 
-module _ (pool : Pool) (seat : Seat) (is : IsSeatOf pool seat) (i : ℕ) (below : i < shards_of pool) (t : ShardTurn) (t_is : t ≡ get_or pool.turns.items i t) where
+module _ (pool : Pool) (seat : Seat) (is : Sits pool seat.who.0 seat.seats.items) (i : ℕ) (below : i < shards_of pool) (t : ShardTurn) (t_is : t ≡ get_or pool.turns.items i t) where
   pub below_turns : i < length (turns_in pool.turns.items)
   below_turns = omega (arith, length-map pool.turns.items (λ (u : ShardTurn). u.turn), pool.counted, below)
 
@@ -42,17 +42,18 @@ module _ (pool : Pool) (seat : Seat) (is : IsSeatOf pool seat) (i : ℕ) (below 
         (subst (λ (v : OwnSeat). IsTurnSeatOf (get_or (turns_in pool.turns.items) i t.turn) v × (number_of v ≡ is.number)) (sym s_is)
         (seat_at (turns_in pool.turns.items) seat.seats.items is.number is.seats i t.turn s below_turns))
 
-    module _ (new : Seat) (s' : OwnSeat) (who : new.who ≡ seat.who) (items : new.seats.items ≡ set seat.seats.items i s') (left : IsTurnSeatOf t.turn s') (named : number_of s' ≡ number_of s) where
-      pub seat_left : IsSeatOf pool new
-      seat_left = record {
-        pool_is = is.pool_is;
-        number = is.number;
-        below = is.below;
-        who = ap (λ w. w.0) who ∙ is.who;
-        seats = subst (λ (ss : List OwnSeat). AreSeatsOf (turns_in pool.turns.items) ss is.number) (sym items)
-            (seats_set (turns_in pool.turns.items) seat.seats.items is.number is.seats i t.turn s' below_turns (subst (λ (u : OwnTurn). IsTurnSeatOf u s') (sym turn_is) left) (named ∙ mine.1));
-      }
+    -- another seat in its place
+    pub seat_left : (caller : ℕ) (all : List OwnSeat) (s' : OwnSeat) → caller ≡ seat.who.0 → all ≡ set seat.seats.items i s' → IsTurnSeatOf t.turn s' → number_of s' ≡ number_of s → Sits pool caller all
+    seat_left caller all s' same items left named = record {
+      pool_is = is.pool_is;
+      number = is.number;
+      below = is.below;
+      who = same ∙ is.who;
+      seats = subst (λ (ss : List OwnSeat). AreSeatsOf (turns_in pool.turns.items) ss is.number) (sym items)
+          (seats_set (turns_in pool.turns.items) seat.seats.items is.number is.seats i t.turn s' below_turns (subst (λ (u : OwnTurn). IsTurnSeatOf u s') (sym turn_is) left) (named ∙ mine.1));
+    }
 
+    module _ (new : Seat) (s' : OwnSeat) (who : new.who ≡ seat.who) (items : new.seats.items ≡ set seat.seats.items i s') where
       module _ (asked : ShardAsk) (replied : ShardReply)
           (went : GoesOn (seen s) (seen s') (entry_of (setup_of (opened_with t.turn)) (number_of s) asked replied))
           (legal : IsLegal (setup_of (opened_with t.turn)) (seen s'))

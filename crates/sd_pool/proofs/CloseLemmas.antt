@@ -100,12 +100,12 @@ module _ (pool : Pool) (k : ℕ) (below : k < shards_of pool) (t : OwnTurn) wher
       let at = drop_at k o.seats.items n.seats.items s s (sym shed.1 ∙ moved.1) in
       let turns = turns_in pool.turns.items in
       let inside : k < length turns = omega (arith, length-map pool.turns.items (λ (u : ShardTurn). u.turn), pool.counted, below) in
-      let number : number_of s ≡ is.number = ap (λ (u : OwnSeat). number_of u) (sym at.1) ∙ (seat_at turns o.seats.items is.number is.seats k t s inside).1 in
+      let number : number_of s ≡ is.sits.number = ap (λ (u : OwnSeat). number_of u) (sym at.1) ∙ (seat_at turns o.seats.items is.sits.number is.sits.seats k t s inside).1 in
       record {
         seen = at_map (λ (u : OwnSeat). acts (seen u)) o.seats.items k s [] at.0 ∙ ap (λ (u : OwnSeat). acts (seen u)) at.1;
         own = at_map (λ (u : OwnSeat). acts (own u)) o.seats.items k s [] at.0 ∙ ap (λ (u : OwnSeat). acts (own u)) at.1;
-        who = is.who ∙ ap (who_of (receivers_of pool)) (sym number);
-        below = omega (arith, number, is.below);
+        who = is.sits.who ∙ ap (who_of (receivers_of pool)) (sym number);
+        below = omega (arith, number, is.sits.below);
       }
 
   pub all_tell : (os ms ns : List Seat) (ss : List OwnSeat) → AllByRecursion (IsSeatOf pool) os → Pairs (Shed k) os ms → Along Moved ms ns ss → Pairs (Tells k (receivers_of pool)) os ss
@@ -210,7 +210,7 @@ all_counts r (t ∷ turns) known same = (known.0 ∙ ap (λ n. n + 2) same.0, al
 
 seats_are : (pool : Pool) (os : List Seat) → AllByRecursion (IsSeatOf pool) os → AllByRecursion (λ s. (number : ℕ) × AreSeatsOf (turns_in pool.turns.items) s.seats.items number) os
 seats_are pool [] are = tt
-seats_are pool (o ∷ os) are = ((are.0.number, are.0.seats), seats_are pool os are.1)
+seats_are pool (o ∷ os) are = ((are.0.sits.number, are.0.sits.seats), seats_are pool os are.1)
 
 pub ready_first : (pool : Pool) (room : Room) (os : List Seat) (o : Seat) → IsRoomOf pool room → IsSeatOf pool o → AllByRecursion (IsSeatOf pool) os → length os ≡ receivers_of pool + 2 → AreReady pool.turns.items room.lists.items os
 ready_first pool room os o there is are long =
@@ -221,8 +221,8 @@ ready_first pool room os o there is are long =
       rooms = subst (λ n. AllByRecursion (HasRoom n) room.lists.items) (sym long) there.rooms;
       same = there.count ∙ sym pool.counted;
       counts = subst (λ n. AllByRecursion (λ t. seats_of t.turn ≡ n) turns) (sym long)
-          (all_counts r turns (seats_known turns o.seats.items is.number is.seats)
-          (same_receivers r turns (λ i below. ap (λ (f : Setup). f.receivers) (is.pool_is.setups i (omega (arith, pool.counted, below))))));
+          (all_counts r turns (seats_known turns o.seats.items is.sits.number is.sits.seats)
+          (same_receivers r turns (λ i below. ap (λ (f : Setup). f.receivers) (is.sits.pool_is.setups i (omega (arith, pool.counted, below))))));
     }
 
 -- the turn of shard k, where those before it are gone

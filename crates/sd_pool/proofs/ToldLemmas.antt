@@ -1,5 +1,5 @@
 -- What a deletion and a dump append, and what they reply.
-use Rattle.std.proofs.Common.{◌≡◌, ℕ, ◌+◌, ◌≤◌, Bool, true, false, ◌&&◌, List, length, refl, sym, ap, subst, ◌∙◌}
+use Rattle.std.proofs.Common.{[], ◌∷◌, get_or, arith, ◌≡◌, ℕ, ◌+◌, ◌≤◌, Bool, true, false, ◌&&◌, List, length, refl, sym, ap, subst, ◌∙◌}
 use Rattle.std.proofs.Math.Seq.{drop-append_seam}
 use Rattle.std.proofs.lemmas.Bool.{eqb-true}
 use Rattle.sd_model_text.specs.Names.{Kind, rank, matches}
@@ -14,7 +14,7 @@ use Rattle.sd_shard.specs.Keys.{KeyList}
 use Rattle.sd_shard.specs.Dump.{DumpList}
 use Rattle.sd_shard.specs.Shard.{state_of, Appends, IsDeletion}
 use Rattle.sd_pool.specs.Behind.{Behind, setup_of}
-use Rattle.sd_pool.specs.Asks.{beyond, gone_of, shown_of, KeysGoOn, RowsGoOn}
+use Rattle.sd_pool.specs.Asks.{pattern_in, beyond, gone_of, shown_of, KeysGoOn, RowsGoOn}
 
 -- what was appended
 module _ {A : Type 0} where
@@ -63,3 +63,8 @@ module _ (b : Behind) (kind : Kind) where
       few = few;
       room = same;
     }
+
+-- the one pattern that goes along
+pub only_pattern : (patterns : List (List ℕ)) (pattern : List ℕ) → length patterns ≡ 1 → pattern ≡ get_or patterns 0 pattern → pattern ≡ pattern_in patterns
+only_pattern [] pattern one is = absurd (omega (arith, one))
+only_pattern (p ∷ patterns) pattern one is = is

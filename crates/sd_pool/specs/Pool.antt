@@ -80,13 +80,22 @@ pub record IsPool (pool : Pool) : Type 0 where
   pub few_receivers : receivers_of pool ≤ 17
   pub setups : (i : ℕ) → i < shards_of pool → setup_at pool i ≡ record { limits = limits_of pool; policy = policy_of pool; shard = i; shards = shards_of pool; receivers = receivers_of pool }
 
--- The seat is one of this pool's.
-pub record IsSeatOf (pool : Pool) (seat : Seat) : Type 0 where
+-- a caller by one of the pool's numbers has a seat of each of its turns
+pub record Sits (pool : Pool) (caller : ℕ) (all : List OwnSeat) : Type 0 where
   pub pool_is : IsPool pool
   pub number : ℕ
   pub below : number < receivers_of pool + 2
-  pub who : seat.who.0 ≡ who_of (receivers_of pool) number
-  pub seats : AreSeatsOf (turns_in pool.turns.items) seat.seats.items number
+  pub who : caller ≡ who_of (receivers_of pool) number
+  pub seats : AreSeatsOf (turns_in pool.turns.items) all number
+
+-- there is room for a pattern, and none there
+abbrev pub HasPatternRoom : Vec (List ℕ) Global → Type 0
+HasPatternRoom patterns = (patterns.items ≡ []) × (1 ≤ vec_capacity patterns)
+
+-- The seat is one of this pool's.
+pub record IsSeatOf (pool : Pool) (seat : Seat) : Type 0 where
+  pub sits : Sits pool seat.who.0 seat.seats.items
+  pub room : HasPatternRoom seat.patterns
 
 -- the caller
 abbrev pub who_is : Seat → ℕ

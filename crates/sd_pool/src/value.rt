@@ -185,11 +185,15 @@ impl Stepped for ShardValue {
             ShardAsk::Sample(s) => ShardReply::Placed(self.sample(who, &s)),
             ShardAsk::Delete {
                 kind,
-                pattern,
+                patterns,
                 mut out,
             } => {
-                let gone = self.delete(who, kind, &pattern, &mut out);
-                ShardReply::Deleted { gone, out }
+                let gone = self.delete(who, kind, &patterns[0], &mut out);
+                ShardReply::Deleted {
+                    gone,
+                    patterns,
+                    out,
+                }
             }
             ShardAsk::Dump { kind, mut out } => {
                 self.dump(who, kind, &mut out);

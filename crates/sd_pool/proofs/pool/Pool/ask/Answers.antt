@@ -24,7 +24,7 @@ returns-clause-seat g c =
     let t_is = c.index-own.ensures ∙ ap (λ n. get_or c.args.self.now.turns.items n t) c.from.ensures in
     let s_is = c.index_mut-mine.ensures.value ∙ ap (λ n. get_or c.args.seat.now.seats.items n s) c.from-2.ensures in
     let items = ap (λ n. set c.args.seat.now.seats.items n c.with_turn.new.seat) c.from-2.ensures in
-    seat_left c.args.self.now c.args.seat.now c.requires.seat c.args.i c.requires.shard t t_is s s_is _ c.with_turn.new.seat refl items c.with_turn.ensures.seat.0 c.with_turn.ensures.seat.1
+    seat_left c.args.self.now c.args.seat.now c.requires.seat c.args.i c.requires.shard t t_is s s_is _ _ c.with_turn.new.seat refl items c.with_turn.ensures.seat.0 c.with_turn.ensures.seat.1
 
 pub returns-clause-act : goal.returns-clause-act
 returns-clause-act g c =
@@ -33,7 +33,7 @@ returns-clause-act g c =
     let t_is = c.index-own.ensures ∙ ap (λ n. get_or c.args.self.now.turns.items n t) c.from.ensures in
     let s_is = c.index_mut-mine.ensures.value ∙ ap (λ n. get_or c.args.seat.now.seats.items n s) c.from-2.ensures in
     let items = ap (λ n. set c.args.seat.now.seats.items n c.with_turn.new.seat) c.from-2.ensures in
-    acts_left c.args.self.now c.args.seat.now c.requires.seat c.args.i c.requires.shard t t_is s s_is _ c.with_turn.new.seat refl items c.with_turn.ensures.seat.0 c.with_turn.ensures.seat.1
+    acts_left c.args.self.now c.args.seat.now c.requires.seat c.args.i c.requires.shard t t_is s s_is _ c.with_turn.new.seat refl items
     c.args.ask c.with_turn.result c.with_turn.ensures.seen c.with_turn.ensures.legal c.with_turn.ensures.own c.with_turn.ensures.all
 
 pub returns-clause-replies : goal.returns-clause-replies

@@ -22,7 +22,7 @@ pub push-requires : goal.push-requires
 push-requires c =
     let seats = c.args.seats in
     let one = (AllByRecursion-back (IsSeatOf c.args.self) seats.receivers.items (seats.flusher ∷ seats.admin ∷ []) c.requires.seats).0 in
-    (omega arith, omega (arith, c.loop.invariant.count, c.loop-test.true, one.pool_is.few))
+    (omega arith, omega (arith, c.loop.invariant.count, c.loop-test.true, one.sits.pool_is.few))
 
 pub loop-preserved : goal.loop-preserved
 loop-preserved c =
@@ -37,7 +37,7 @@ loop-preserved c =
     let t = d.0 in
     let there = sym inv.turns ∙ d.2 in
     let long : length (seats_in c.loop.seats) ≡ length all = shed_long k all (seats_in c.loop.seats) inv.shed in
-    let history = tells_history pool one.pool_is k below t.turn (setup_there pool k c.close_first.new.turns.items t there) all d.1 c.close_first.result
+    let history = tells_history pool one.sits.pool_is k below t.turn (setup_there pool k c.close_first.new.turns.items t there) all d.1 c.close_first.result
     (all_tell pool k below t.turn all (seats_in c.loop.seats) (seats_in c.close_first.new.seats) d.1 c.requires.seats inv.shed d.3) d.4
     ((subst (λ ts. AllByRecursion (λ u. seats_of u.turn ≡ length (seats_in c.loop.seats)) ts) d.2 inv.ready.counts).0 ∙ long ∙ c.requires.all) in
     record {

@@ -1,4 +1,7 @@
-use Rattle.std.proofs.Common.{◌≡◌, [], ◌∷◌, ◌++◌, refl, sym, ap, subst, ◌∙◌}
+use Rattle.sd_model_shard.specs.Shard.{Delete}
+use Rattle.sd_key.specs.Kind.{kind_of}
+use Rattle.sd_pool.proofs.ToldLemmas.{only_pattern}
+use Rattle.std.proofs.Common.{ℕ, List, ◌≡◌, [], ◌∷◌, ◌++◌, refl, sym, ap, subst, ◌∙◌}
 use Rattle.sd_pool.specs.Setup.{who_of}
 use Rattle.sd_pool.specs.Behind.{Behind, setup_of, Stands, Steps}
 use Rattle.sd_pool.specs.Asks.{Allows, entry_of}
@@ -21,11 +24,14 @@ pub returns-in-Delete-clause-stands : goal.returns-in-Delete-clause-stands
 returns-in-Delete-clause-stands c = λ log stands.
     let old = c.args.self.now in
     let new = c.delete-gone.new.self in
-    let replied = reply.Deleted c.delete-gone.result c.delete-gone.new.out in
-    let n = entry_of (setup_of old) c.args.number (ask.Delete c.in-Delete.kind c.in-Delete.pattern c.in-Delete.out) replied in
+    let patterns = c.in-Delete.patterns in
+    let replied = reply.Deleted c.delete-gone.result patterns c.delete-gone.new.out in
+    let n = entry_of (setup_of old) c.args.number (ask.Delete c.in-Delete.kind patterns c.in-Delete.out) replied in
     let mine : c.caller-who.result.0 ≡ who_of old.receivers c.args.number = c.caller-who.ensures ∙ ap (λ (b : Behind). who_of b.receivers c.args.number) c.self.view_is in
+    let only = only_pattern patterns.items c.index.result.now (subst (Allows (setup_of old)) c.in-Delete.is c.requires.allowed).1 c.index.ensures in
+    let step = subst (λ (p : List ℕ). Steps old new c.caller-who.result.0 (Delete (kind_of c.in-Delete.kind) p) n.act.reply) only c.delete-gone.ensures.step in
     subst (λ (a : ShardAsk). Stands new (log ++ entry_of (setup_of old) c.args.number a replied ∷ [])) (sym c.in-Delete.is)
-    (Stands-push old new log n stands (subst (λ who. Steps old new who n.act.event n.act.reply) mine c.delete-gone.ensures.step) tt c.requires.seat refl)
+    (Stands-push old new log n stands (subst (λ who. Steps old new who n.act.event n.act.reply) mine step) tt c.requires.seat refl)
 
 pub returns-in-Dump-clause-stands : goal.returns-in-Dump-clause-stands
 returns-in-Dump-clause-stands c = λ log stands.
