@@ -1,0 +1,70 @@
+-- What a deletion and a dump append, and what they reply.
+use Rattle.std.proofs.Common.{[], ◌∷◌, get_or, arith, ◌≡◌, ℕ, ◌+◌, ◌≤◌, Bool, true, false, ◌&&◌, List, length, refl, sym, ap, subst, ◌∙◌}
+use Rattle.std.proofs.Math.Seq.{drop-append_seam}
+use Rattle.std.proofs.lemmas.Bool.{eqb-true}
+use Rattle.sd_model_text.specs.Names.{Kind, rank, matches}
+use Rattle.sd_model_shard.specs.Rows.{RowId, Kept}
+use Rattle.sd_model_shard.specs.Commands.{DumpRow, dump_row, dump_of, is_hit, is_of_kind, in_key_order, keys_of, rows_taken_out}
+use Rattle.sd_model_shard.specs.Shard as model
+use Rattle.sd_model_shard.specs.Shard.{deletion_of}
+use Rattle.sd_model_shard.proofs.ToldLemmas.{told_in_any_order}
+use Rattle.sd_epoch.specs.Table.{live_of}
+use Rattle.sd_shard.specs.declared.shard.Deleted.{Deleted}
+use Rattle.sd_shard.specs.Keys.{KeyList}
+use Rattle.sd_shard.specs.Dump.{DumpList}
+use Rattle.sd_shard.specs.Shard.{state_of, Appends, IsDeletion}
+use Rattle.sd_pool.specs.Behind.{Behind, setup_of}
+use Rattle.sd_pool.specs.Asks.{pattern_in, beyond, gone_of, shown_of, KeysGoOn, RowsGoOn}
+
+-- what was appended
+module _ {A : Type 0} where
+  beyond-appended : (told old new : List A) (a : Appends told old new) → beyond old new ≡ a.0
+  beyond-appended told old new a = ap (beyond old) a.1 ∙ drop-append_seam old a.0
+
+hit_of_rank : (kind : Kind) (pattern : List ℕ) (id : RowId) → is_hit kind pattern id ≡ true → rank id.kind ≡ rank kind
+hit_of_rank kind pattern id hit = eqb-true (rank id.kind) (rank kind) (first (is_of_kind kind id) (matches pattern id.key) hit) where
+  first : (a b : Bool) → (a && b) ≡ true → a ≡ true
+  first true b h = refl
+  first false b h = absurd (cc)
+
+module _ (b : Behind) (kind : Kind) where
+  module _ (pattern : List ℕ) (old new : KeyList) (gone : Deleted) (is : IsDeletion (deletion_of kind pattern (state_of b.shard)) old.keys new.keys gone) where
+    abbrev keys : List (List ℕ)
+    keys = keys_of (rows_taken_out kind pattern (live_of b.shard.table))
+
+    told_keys : in_key_order (λ key. key) (beyond old.keys new.keys) ≡ keys
+    told_keys =
+        ap (in_key_order (λ (key : List ℕ). key)) (beyond-appended keys old.keys new.keys is.0)
+        ∙ told_in_any_order (λ (key : List ℕ). key) (λ (row : RowId × Kept). row.0.key) (λ e. refl) (rank kind) (live_of b.shard.table) (is_hit kind pattern) (hit_of_rank kind pattern) is.0.0 is.0.2
+
+    pub gone_told : gone_of old.keys new.keys gone ≡ deletion_of kind pattern (state_of b.shard)
+    gone_told = λ i. model.Deleted (told_keys i) (is.1 i) (is.2 i)
+
+    pub keys_go_on : length new.keys ≤ length old.keys + b.shard.table.limits.rows → new.room ≡ old.room → KeysGoOn (setup_of b) old new gone
+    keys_go_on few same = record {
+      told = (subst (λ ks. Appends ks old.keys new.keys) (sym told_keys) is.0, refl, refl);
+      few = few;
+      room = same;
+    }
+
+  module _ (old new : DumpList) (is : Appends (dump_of kind (live_of b.shard.table) b.shard.table.held) old.rows new.rows) where
+    told_rows : in_key_order (λ row. row.key) (beyond old.rows new.rows) ≡ dump_of kind (live_of b.shard.table) b.shard.table.held
+    told_rows =
+        let t = b.shard.table in
+        ap (in_key_order (λ (row : DumpRow). row.key)) (beyond-appended (dump_of kind (live_of t) t.held) old.rows new.rows is)
+        ∙ told_in_any_order (λ (row : DumpRow). row.key) (dump_row t.held) (λ e. refl) (rank kind) (live_of t) (is_of_kind kind) (λ id hit. eqb-true (rank id.kind) (rank kind) hit) is.0 is.2
+
+    pub shown_told : shown_of old.rows new.rows ≡ model.Dumped (dump_of kind (live_of b.shard.table) b.shard.table.held)
+    shown_told = ap model.Dumped told_rows
+
+    pub rows_go_on : length new.rows ≤ length old.rows + b.shard.table.limits.rows → new.room ≡ old.room → RowsGoOn (setup_of b) old new
+    rows_go_on few same = record {
+      told = subst (λ rows. Appends rows old.rows new.rows) (sym told_rows) is;
+      few = few;
+      room = same;
+    }
+
+-- the one pattern that goes along
+pub only_pattern : (patterns : List (List ℕ)) (pattern : List ℕ) → length patterns ≡ 1 → pattern ≡ get_or patterns 0 pattern → pattern ≡ pattern_in patterns
+only_pattern [] pattern one is = absurd (omega (arith, one))
+only_pattern (p ∷ patterns) pattern one is = is

@@ -1,0 +1,24 @@
+use Rattle.std.proofs.Common.{refl, subst}
+use Rattle.sd_model_shard.specs.Shard.{Dump}
+use Rattle.sd_key.specs.Kind.{kind_of}
+use Rattle.sd_pool.specs.Behind.{Behind, setup_of, Steps}
+use Rattle.sd_pool.specs.BehindInside.{behind_in}
+use Rattle.sd_pool.specs.Asks.{shown_of, RowsGoOn}
+use Rattle.sd_pool.proofs.ToldLemmas.{shown_told, rows_go_on}
+use Rattle.sd_pool.proofs.value.ShardValue.dump.Goals as goal
+
+pub returns-clause-step : goal.returns-clause-step
+returns-clause-step c =
+    let v = c.self.inside in
+    subst (λ (b : Behind). Steps b b c.args.who.0 (Dump (kind_of c.args.kind)) (shown_of c.args.out.now.rows c.dump.new.out.rows)) c.self.view_is
+    (record {
+      setup = refl;
+      state = c.dump.ensures.state c.args.who.0;
+      reply = shown_told (behind_in v) (kind_of c.args.kind) c.args.out.now c.dump.new.out (c.dump.ensures.answer 0);
+    })
+
+pub returns-clause-out : goal.returns-clause-out
+returns-clause-out c =
+    let v = c.self.inside in
+    subst (λ (b : Behind). RowsGoOn (setup_of b) c.args.out.now c.dump.new.out) c.self.view_is
+    (rows_go_on (behind_in v) (kind_of c.args.kind) c.args.out.now c.dump.new.out (c.dump.ensures.answer 0) c.dump.ensures.few c.dump.ensures.room)

@@ -1,0 +1,105 @@
+-- What asks and replies of a shard are, as the definitions have them.
+use Rattle.std.specs.Prelude.{◌≡◌, ⊤, ℕ, ◌+◌, ◌≤◌, List, [], length, get_or, drop}
+use Rattle.sd_model_text.specs.Names.{shard}
+use Rattle.sd_model_shard.specs.Commands.{DumpRow, in_key_order}
+use Rattle.sd_model_shard.specs.Shard as model
+use Rattle.sd_model_shard.specs.Shard.{Limits, Event, Submit, Reply, Answered}
+use Rattle.sd_key.specs.Kind.{kind_of}
+use Rattle.sd_epoch.specs.Table.{Listing, live_of, table_of}
+use Rattle.sd_shard.specs.declared.shard.Deleted.{Deleted}
+use Rattle.sd_shard.specs.Shard.{placed_of, IsDeletion, IsDump}
+use Rattle.sd_shard.specs.Keys.{KeyList}
+use Rattle.sd_shard.specs.Dump.{DumpList}
+use Rattle.sd_pool.specs.Setup.{Setup, OnlyOf, who_of}
+use Rattle.sd_pool.specs.Noted.{Noted}
+use Rattle.sd_pool.specs.declared.asks.ShardAsk.{ShardAsk}
+use Rattle.sd_pool.specs.declared.asks.ShardAsk.TheVariants as ask
+use Rattle.sd_pool.specs.declared.asks.ShardReply.{ShardReply}
+use Rattle.sd_pool.specs.declared.asks.ShardReply.TheVariants as reply
+
+-- what a list has beyond another
+abbrev pub beyond : {A : Type 0} → List A → List A → List A
+beyond old new = drop (length old) new
+
+-- a deletion's reply: the keys that were appended, in their order, and what it answers
+abbrev pub gone_of : List (List ℕ) → List (List ℕ) → Deleted → Reply
+gone_of old new gone = model.Deleted (in_key_order (λ key. key) (beyond old new)) gone.rows gone.samples
+
+-- a dump's reply: the rows that were appended, in the order of their keys
+abbrev pub shown_of : List DumpRow → List DumpRow → Reply
+shown_of old new = model.Dumped (in_key_order (λ row. row.key) (beyond old new))
+
+-- a table of these limits, within them
+pub record IsWithin (most : Limits) (table : Listing) : Type 0 where
+  pub limits : table.limits ≡ most
+  pub rows : length table.listed ≤ most.rows
+  pub entries : length table.held ≤ most.entries
+
+-- a table of these limits, without entries
+pub record IsSpare (most : Limits) (table : Listing) : Type 0 where
+  pub limits : table.limits ≡ most
+  pub no_entries : table.held ≡ []
+
+-- a list of keys goes on as a deletion's reply tells, within its room
+pub record KeysGoOn (setup : Setup) (old new : KeyList) (gone : Deleted) : Type 0 where
+  pub told : IsDeletion (gone_of old.keys new.keys gone) old.keys new.keys gone
+  pub few : length new.keys ≤ length old.keys + setup.limits.rows
+  pub room : new.room ≡ old.room
+
+-- a list of rows goes on as a dump's reply tells, within its room
+pub record RowsGoOn (setup : Setup) (old new : DumpList) : Type 0 where
+  pub told : IsDump (shown_of old.rows new.rows) old.rows new.rows
+  pub few : length new.rows ≤ length old.rows + setup.limits.rows
+  pub room : new.room ≡ old.room
+
+-- a table that was swapped out
+pub record IsOwnTable (setup : Setup) (table : Listing) : Type 0 where
+  pub within : IsWithin setup.limits table
+  pub own : OnlyOf setup.shard setup.shards (live_of table)
+
+-- which asks are allowed
+abbrev pub Allows : Setup → ShardAsk → Type 0
+Allows setup (ask.Sample s) = shard s.key setup.shards ≡ setup.shard
+Allows setup (ask.Delete kind patterns out) = (length out.keys + setup.limits.rows ≤ out.room) × (length patterns.items ≡ 1)
+Allows setup (ask.Dump kind out) = length out.rows + setup.limits.rows ≤ out.room
+Allows setup (ask.Swap spare) = IsSpare setup.limits spare
+
+-- the one pattern in the room that goes along
+abbrev pub pattern_in : List (List ℕ) → List ℕ
+pattern_in patterns = get_or patterns 0 []
+
+-- the event that is asked for
+abbrev pub event_of : ShardAsk → Event
+event_of (ask.Sample s) = Submit s
+event_of (ask.Delete kind patterns out) = model.Delete (kind_of kind) (pattern_in patterns.items)
+event_of (ask.Dump kind out) = model.Dump (kind_of kind)
+event_of (ask.Swap spare) = model.Swap
+
+-- the keys that go along
+abbrev pub keys_along : ShardAsk → List (List ℕ)
+keys_along (ask.Delete kind patterns out) = out.keys
+keys_along ask = []
+
+-- the rows that go along
+abbrev pub rows_along : ShardAsk → List DumpRow
+rows_along (ask.Dump kind out) = out.rows
+rows_along ask = []
+
+-- the reply, where lists went along
+abbrev pub reply_of : ShardAsk → ShardReply → Reply
+reply_of asked (reply.Placed placed) = Answered (placed_of placed)
+reply_of asked (reply.Deleted gone patterns out) = gone_of (keys_along asked) out.keys gone
+reply_of asked (reply.Dumped out) = shown_of (rows_along asked) out.rows
+reply_of asked (reply.Swapped table) = model.Swapped (table_of table)
+
+-- a reply is the one of its ask's kind, and brings back what went along
+abbrev pub Replies : Setup → ShardAsk → ShardReply → Type 0
+Replies setup (ask.Sample s) (reply.Placed placed) = ⊤
+Replies setup (ask.Delete kind patterns old) (reply.Deleted gone back new) = KeysGoOn setup old new gone × (back ≡ patterns)
+Replies setup (ask.Dump kind old) (reply.Dumped new) = RowsGoOn setup old new
+Replies setup (ask.Swap spare) (reply.Swapped table) = IsOwnTable setup table
+Replies setup asked replied = ⊥
+
+-- the entry of a seat's number, an ask and a reply
+abbrev pub entry_of : Setup → ℕ → ShardAsk → ShardReply → Noted
+entry_of setup number asked replied = record { number = number; act = record { who = who_of setup.receivers number; event = event_of asked; reply = reply_of asked replied } }

@@ -1,0 +1,209 @@
+//! The value behind a turn: a shard that has rows of its own keys alone.
+ghost use Rattle.std.specs.Prelude.{◌≡◌, ◌+◌, ◌<◌, ◌≤◌, [], length, refl, IfOk};
+ghost use Rattle.sd_model_text.specs.Names.{shard};
+ghost use Rattle.sd_model_shard.specs.Shard.{Answered, Swapped, Submit, Swap, Delete, Dump as DumpOf, after_swap, table_of as handed_out};
+ghost use Rattle.sd_key.specs.Kind.{kind_of};
+ghost use Rattle.sd_epoch.specs.Limits.{limits_of, AreLimits};
+ghost use Rattle.sd_epoch.specs.Table.{table_of};
+ghost use Rattle.sd_shard.specs.Policy.{policy_of};
+ghost use Rattle.sd_shard.specs.Shard.{placed_of, state_of};
+ghost use Rattle.sd_pool.specs.Setup.{who_of};
+ghost use Rattle.sd_pool.specs.Behind.{setup_of, Stands, Steps as IsStep};
+ghost use Rattle.sd_pool.specs.Asks.{IsSpare, IsWithin};
+
+use crate::asks::{ShardAsk, ShardReply};
+use crate::noted::Noted;
+use crate::setup::Setup;
+use sd_epoch::{Limits, Table, Who};
+use sd_key::{Kind, Pattern};
+use sd_line::Sample;
+use sd_rows::Steps;
+use sd_shard::{Deleted, Dump, Keys, Placed, Policy, Shard, ShardBook};
+use sd_turn::Stepped;
+use std::alloc::{AllocError, Global};
+use std::marker::{Brand, Model};
+use std::sync::ledger::{Blank, Ledger};
+
+/// The caller that is the flusher.
+const FLUSHER: u16 = 100;
+
+/// The caller that is the admin.
+const ADMIN: u16 = 101;
+
+/// The caller that a seat's number stands for: a receiver by its number, then the flusher, then the admin.
+pub(crate) fn caller(receivers: u16, number: u16) -> Who
+    ensures { result.0 ≡ who_of receivers number }
+{
+    if number < receivers {
+        Who(number)
+    } else if number == receivers {
+        Who(FLUSHER)
+    } else {
+        Who(ADMIN)
+    }
+}
+
+// Swaps a shard, with steps that are counted in a ledger of their own.
+fn swap_counted<L: Ledger>(shard: &mut Shard, spare: Table, blank: Blank) -> Table
+    requires spare { IsSpare shard.old.table.limits spare }
+    requires name { blank.name ≡ L.name }
+    requires parts { blank.parts ≡ L.parts }
+    requires some { 0 < blank.parts }
+    ensures table { table_of result ≡ handed_out (state_of shard.old) }
+    ensures within { IsWithin shard.old.table.limits result }
+    ensures state { state_of shard.new ≡ after_swap shard.old.policy (state_of shard.old) }
+    ensures limits { shard.new.table.limits ≡ shard.old.table.limits }
+    ensures policy { shard.new.policy ≡ shard.old.policy }
+{
+    let mut steps: Steps<L> = Steps::new(blank);
+    shard.swap(spare, &mut steps)
+}
+
+/// A shard with rows of its own keys alone, its number among the shards, and how many receivers there are.
+#[derive(Drop)]
+pub struct ShardValue {
+    shard: Shard,
+    number: u16,
+    shards: u16,
+    receivers: u16,
+}
+
+impl Model for ShardValue {
+    ghost use Rattle.sd_pool.specs.Behind.{Behind};
+
+    ghost Value = { Behind };
+
+    ghost use Rattle.sd_pool.specs.BehindInside.{behind_in, HasOwnRows};
+
+    ghost view = { behind_in };
+
+    ghost invariant = { HasOwnRows };
+}
+
+impl ShardValue {
+    ghost use Rattle.sd_pool.specs.Books.{IsBookOf};
+    ghost use Rattle.sd_pool.specs.Asks.{gone_of, shown_of, IsOwnTable, KeysGoOn, RowsGoOn};
+
+    /// An empty shard of this number.
+    pub(crate) fn open(
+        alloc: Global,
+        limits: Limits,
+        policy: Policy,
+        number: u16,
+        shards: u16,
+        receivers: u16,
+    ) -> Result<ShardValue, AllocError>
+        requires { AreLimits (limits_of limits) }
+        ensures setup { IfOk result (λ v. setup_of v ≡ record { limits = limits_of limits; policy = policy_of policy; shard = number; shards = shards; receivers = receivers }) }
+        ensures empty { IfOk result (λ v. Stands v []) }
+    {
+        Ok(ShardValue {
+            shard: Shard::open(alloc, limits, policy)?,
+            number,
+            shards,
+            receivers,
+        })
+    }
+
+    /// The numbers as they stand.
+    pub(crate) fn book(&self) -> ShardBook
+        ensures { IsBookOf result (state_of self.now.shard) }
+    {
+        self.shard.book()
+    }
+
+    fn sample(&mut self, who: Who, s: &Sample) -> Placed
+        requires own { shard s.now.key self.old.shards ≡ self.old.number }
+        ensures step { IsStep self.old self.new who.0 (Submit s.now) (Answered (placed_of result)) }
+    {
+        self.shard.sample(who, s)
+    }
+
+    fn delete(&mut self, who: Who, kind: Kind, pattern: &Pattern, out: &mut Keys) -> Deleted
+        requires room { length out.old.keys + self.old.shard.table.limits.rows ≤ out.old.room }
+        ensures step { IsStep self.old self.new who.0 (Delete (kind_of kind) pattern.now) (gone_of out.old.keys out.new.keys result) }
+        ensures out { KeysGoOn (setup_of self.old) out.old out.new result }
+    {
+        // It has no more rows than its limits say, for which there is room.
+        let _ = (who, self.shard.rows());
+        self.shard.delete(kind, pattern, out)
+    }
+
+    fn dump(&mut self, who: Who, kind: Kind, out: &mut Dump)
+        requires room { length out.old.rows + self.old.shard.table.limits.rows ≤ out.old.room }
+        ensures step { IsStep self.old self.new who.0 (DumpOf (kind_of kind)) (shown_of out.old.rows out.new.rows) }
+        ensures out { RowsGoOn (setup_of self.old) out.old out.new }
+    {
+        // It has no more rows than its limits say, for which there is room.
+        let _ = (who, self.shard.rows());
+        self.shard.dump(kind, out);
+    }
+
+    fn swap(&mut self, who: Who, spare: Table) -> Table
+        requires spare { IsSpare self.old.shard.table.limits spare }
+        ensures step { IsStep self.old self.new who.0 Swap (Swapped (table_of result)) }
+        ensures table { IsOwnTable (setup_of self.old) result }
+    {
+        let _ = who;
+        swap_counted::<Brand>(&mut self.shard, spare, Blank::new(1))
+    }
+}
+
+impl Stepped for ShardValue {
+    type Ask = ShardAsk;
+
+    type Reply = ShardReply;
+
+    type Noted = Noted;
+
+    type Fixed = Setup;
+
+    ghost use Rattle.std.specs.Prelude.{◌+◌, refl};
+    ghost use Rattle.sd_pool.specs.Noted.{IsLegal};
+    ghost use Rattle.sd_pool.specs.Behind.{setup_of, Stands};
+    ghost use Rattle.sd_pool.specs.Asks.{Allows, Replies, entry_of};
+
+    ghost fixed = { setup_of };
+
+    ghost seats = { λ setup. setup.receivers + 2 };
+
+    ghost allows = { Allows };
+
+    ghost legal = { IsLegal };
+
+    ghost stands = { Stands };
+
+    ghost entry = { entry_of };
+
+    ghost who = { λ n. n.number };
+
+    ghost replies = { Replies };
+
+    fn apply(&mut self, number: u16, ask: ShardAsk) -> ShardReply {
+        let who = caller(self.receivers, number);
+        match ask {
+            ShardAsk::Sample(s) => ShardReply::Placed(self.sample(who, &s)),
+            ShardAsk::Delete {
+                kind,
+                patterns,
+                mut out,
+            } => {
+                let gone = self.delete(who, kind, &patterns[0], &mut out);
+                ShardReply::Deleted {
+                    gone,
+                    patterns,
+                    out,
+                }
+            }
+            ShardAsk::Dump { kind, mut out } => {
+                self.dump(who, kind, &mut out);
+                ShardReply::Dumped(out)
+            }
+            ShardAsk::Swap(spare) => ShardReply::Swapped(self.swap(who, spare)),
+        }
+    }
+
+    ghost stands_legal = { λ v log stands. stands.legal };
+
+    ghost entry_names = { λ setup number ask reply. refl };
+}
