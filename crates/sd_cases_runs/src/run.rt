@@ -99,12 +99,7 @@ fn show_alike(first: &String, second: &String, out: &mut Answer) {
 }
 
 /// What comes of the run whose reads and writes take at most so many bytes. The number of Graphite's bytes is appended.
-fn report_by(
-    alloc: Global,
-    case: &Case,
-    most: usize,
-    out: &mut Answer,
-) -> Result<String, Refusal>
+fn report_by(alloc: Global, case: &Case, most: usize, out: &mut Answer) -> Result<String, Refusal>
     requires { 0 < most }
 {
     let mut world = case.world(alloc)?;

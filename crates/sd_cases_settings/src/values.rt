@@ -1,8 +1,8 @@
 use sd_case::{Answer, Refusal};
 use sd_config::Settings;
-use sd_plan::{Classes, Names, Node, Target};
 use sd_decimal::{Limit, Micro};
 use sd_outside::Name;
+use sd_plan::{Classes, Names, Node, Target};
 
 /// The read calls in the order of the settings.
 pub(crate) const CALLS: [&str; 32] = [

@@ -3,11 +3,11 @@ ghost use Rattle.sd_record.specs.Record.{room_of, SameScratch};
 
 use sd_case::{Answer, Refusal, number};
 use sd_config::Settings;
-use sd_plan::Names;
 use sd_decimal::Limit;
 use sd_desk::Tally;
 use sd_epoch::Table;
 use sd_outside::{MemSink, Sink, WriteFault};
+use sd_plan::Names;
 use sd_record::{Record, RecordScratch, Row, TimerRow};
 use std::slice;
 

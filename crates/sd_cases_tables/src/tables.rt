@@ -7,11 +7,11 @@ use crate::samples::sample_of;
 use crate::shards::{limits_from, show_name, show_sorted, show_table};
 use sd_case::{Answer, Refusal, bytes_of, key_of, kind_of, number};
 use sd_config::{NamesOf, Settings};
-use sd_plan::Names;
 use sd_decimal::Micro;
 use sd_epoch::{Limits, Scratch, Table, Who};
 use sd_key::Kind;
 use sd_outside::MemSink;
+use sd_plan::Names;
 use sd_record::RecordScratch;
 use std::alloc::Global;
 

@@ -10,8 +10,8 @@ ghost use Rattle.sd_plan.specs.Plan.{plan_view};
 
 use crate::fault::{ConfigFault, shown};
 use crate::groups::{
-    Addresses, Deletions, EntryLists, Server, Sizes, addresses_in, deletions_in,
-    entry_lists_in, namespace_in, server_in, sizes_in,
+    Addresses, Deletions, EntryLists, Server, Sizes, addresses_in, deletions_in, entry_lists_in,
+    namespace_in, server_in, sizes_in,
 };
 use crate::known_names::unknown;
 use crate::section::Section;

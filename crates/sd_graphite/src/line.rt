@@ -5,8 +5,8 @@ ghost use Rattle.sd_model_record.specs.Graphite.{dotted, suffix, front, line as 
 ghost use Rattle.sd_graphite.specs.Texts.{path_text};
 
 use crate::path::Path;
-use sd_plan::Names;
 use sd_decimal::{Line, Sum};
+use sd_plan::Names;
 use sd_text::{push_number, push_text, push_whole};
 
 /// Appends a part of a path and the point behind it, or nothing where it is empty.

@@ -5,8 +5,8 @@ ghost use Rattle.sd_record.specs.Record.{record_view, room_of, SameScratch};
 
 use crate::row::GraphiteRows;
 use crate::tail::write_tail;
-use sd_plan::Names;
 use sd_outside::{Sink, WriteFault};
+use sd_plan::Names;
 use sd_record::Record;
 use sd_text::write_rows;
 

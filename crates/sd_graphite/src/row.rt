@@ -6,9 +6,9 @@ ghost use Rattle.sd_graphite.specs.Texts.{rate_line, count_line, gauge_line, set
 use crate::line::put_path;
 use crate::path::Path;
 use arrayvec::ArrayVec;
-use sd_plan::Names;
 use sd_decimal::{Line, Micro, Sum};
 use sd_key::Key;
+use sd_plan::Names;
 use sd_record::{Figure, Row, whole_number};
 use sd_text::RowText;
 

@@ -10,10 +10,10 @@ ghost use Rattle.sd_graphite.specs.Texts.{own_text, rows_line, tail_text};
 use crate::line::put_path;
 use crate::path::Path;
 use crate::row::GraphiteRows;
-use sd_plan::Names;
 use sd_decimal::{Line, per_second};
 use sd_key::Key;
 use sd_outside::{Sink, WriteFault};
+use sd_plan::Names;
 use sd_record::{Record, Row, whole_number};
 use sd_text::{push_text, write_line, write_row};
 

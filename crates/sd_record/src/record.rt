@@ -9,9 +9,9 @@ ghost use Rattle.sd_desk.specs.Tally.{tally_of};
 
 use crate::row::Row;
 use crate::scratch::RecordScratch;
-use sd_plan::Reckoning;
 use sd_desk::Tally;
 use sd_epoch::Table;
+use sd_plan::Reckoning;
 
 /// The record of a flush: the rows of tables by kind and key, the tally, the Unix second, and the interval that the
 /// rates are over. Contracts see it through `record_view`.

@@ -12,8 +12,8 @@ ghost use Rattle.sd_record.specs.Rows.{all_rows, with_id};
 use crate::placed::{PlacedRow, place_all};
 use crate::row::Row;
 use crate::values::put_row;
-use sd_plan::Reckoning;
 use sd_epoch::{Limits, Scratch, Table};
+use sd_plan::Reckoning;
 use std::alloc::{AllocError, Global};
 use std::marker::Model;
 

@@ -8,9 +8,9 @@ ghost use Rattle.sd_record.specs.Row.{timer_view};
 use crate::bins::bins_of;
 use crate::parts::parts_of;
 use crate::row::{Bins, Parts, TimerRow};
-use sd_plan::{Classes, Reckoning};
 use sd_decimal::{Limit, Micro, Sum, per_second};
 use sd_key::{Key, has_part};
+use sd_plan::{Classes, Reckoning};
 use sd_stats::TimerStats;
 
 /// A timer of this key, weight and values. The slice is sorted.

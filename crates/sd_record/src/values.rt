@@ -8,10 +8,10 @@ ghost use Rattle.sd_record.specs.Row.{row_view};
 
 use crate::row::Row;
 use crate::timers::timer_of;
-use sd_plan::Reckoning;
 use sd_decimal::per_second;
 use sd_epoch::{Scratch, Table};
 use sd_key::{Key, Kind};
+use sd_plan::Reckoning;
 use sd_stats::distinct;
 
 /// Puts the row of a record for the i-th row of a table into `row`, in place of what it has. The room is for the values

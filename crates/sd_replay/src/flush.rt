@@ -10,10 +10,10 @@ ghost use Rattle.sd_desk.specs.Marks.{mark_of, marks_of};
 ghost use Rattle.sd_shards.specs.Shards.{AreAlike, numbers, state_at};
 ghost use Rattle.sd_replay.specs.Room.{HasRoom};
 
-use sd_plan::{Names, Reckoning};
 use sd_delivery::deliver;
 use sd_desk::{Desk, RoundMarks};
 use sd_outside::{Backend, Backs};
+use sd_plan::{Names, Reckoning};
 use sd_record::{Record, RecordScratch};
 use sd_shards::Shards;
 

@@ -7,9 +7,9 @@ ghost use Rattle.sd_epoch.specs.Limits.{limits_of as limits_view, AreLimits};
 ghost use Rattle.sd_shard.specs.Policy.{policy_of as policy_view};
 
 use sd_config::Settings;
-use sd_plan::Target;
 use sd_epoch::Limits;
 use sd_outside::Name;
+use sd_plan::Target;
 use sd_shard::Policy;
 
 /// How long a gauge that goes when idle stays, in swaps: it goes at the first.

@@ -4,9 +4,9 @@ ghost use Rattle.sd_model_ring.specs.Ring.{node_text, number_of_key, is_up};
 ghost use Rattle.sd_plan.specs.Entries.{node_view};
 
 use md5::{Digest, Md5};
-use sd_plan::Node;
 use sd_decimal::{Line, write_whole};
 use sd_key::Key;
+use sd_plan::Node;
 use std::marker::Model;
 
 /// A point of the ring: a number, and the place of its node among the nodes. Points compare by their numbers, and

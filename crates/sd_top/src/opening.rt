@@ -11,8 +11,8 @@ ghost use Rattle.sd_top.specs.World.{world_of};
 use crate::call::World;
 use crate::status::{Part, Status};
 use sd_config::Settings;
-use sd_plan::Target;
 use sd_outside::{Address, Backend, Name, OpenRefusal, Opens, Sink, Source, Wire};
+use sd_plan::Target;
 use sd_replay::targets_of;
 
 /// Opens an object.
