@@ -17,6 +17,7 @@ fn run_case(alloc: Global, words: &[&str], out: &mut Answer) -> Result<(), Refus
         ["run", parts @ ..] => run::whole(alloc, parts, out),
         ["cut", record, parts @ ..] => run::each_truncation(alloc, record, parts, out),
         ["both", first, second, parts @ ..] => run::by_both(alloc, first, second, parts, out),
+        ["slow", most, parts @ ..] => run::by_slow(alloc, most, parts, out),
         ["status", fields @ ..] => status::texts_of(alloc, fields, out),
         _ => Err(Refusal::UnknownCall),
     }

@@ -1,6 +1,8 @@
+ghost use Rattle.std.specs.Prelude.{◌<◌};
+
 use crate::case::Case;
 use crate::report::report;
-use sd_case::{Answer, Refusal, bytes_of};
+use sd_case::{Answer, Refusal, bytes_of, number};
 use sd_outside::MemBackend;
 use sd_top::statsd;
 use std::alloc::Global;
@@ -59,26 +61,53 @@ pub(crate) fn by_both(
     parts: &[&str],
     out: &mut Answer,
 ) -> Result<(), Refusal> {
-    let first = report_by(alloc, first, parts, out)?;
-    let second = report_by(alloc, second, parts, out)?;
+    let mut case = Case::of(alloc, parts)?;
+    case.settings = bytes_of(alloc, first)?;
+    let first = report_by(alloc, &case, usize::MAX, out)?;
+    case.settings = bytes_of(alloc, second)?;
+    let second = report_by(alloc, &case, usize::MAX, out)?;
+    show_alike(&first, &second, out);
+    Ok(())
+}
+
+/// `slow MOST WORDS : PARTS`: how many bytes Graphite is given in the run, and in the same run where no read and no write
+/// takes more than so many bytes, and whether all that comes of the two runs is the same.
+pub(crate) fn by_slow(
+    alloc: Global,
+    most: &str,
+    parts: &[&str],
+    out: &mut Answer,
+) -> Result<(), Refusal> {
+    let most = number::<usize>(most)?;
+    if most == 0 {
+        return Err(Refusal::Condition);
+    }
+    let case = Case::of(alloc, parts)?;
+    let whole = report_by(alloc, &case, usize::MAX, out)?;
+    let slow = report_by(alloc, &case, most, out)?;
+    show_alike(&whole, &slow, out);
+    Ok(())
+}
+
+/// Appends whether two texts are the same.
+fn show_alike(first: &String, second: &String, out: &mut Answer) {
     out.text(if first == second {
         "\n  the same"
     } else {
         "\n  not the same"
     });
-    Ok(())
 }
 
-/// What comes of the run with this settings file. The number of Graphite's bytes is appended.
-fn report_by(
-    alloc: Global,
-    settings: &str,
-    parts: &[&str],
-    out: &mut Answer,
-) -> Result<String, Refusal> {
-    let mut case = Case::of(alloc, parts)?;
-    case.settings = bytes_of(alloc, settings)?;
+/// What comes of the run whose reads and writes take at most so many bytes. The number of Graphite's bytes is appended.
+fn report_by(alloc: Global, case: &Case, most: usize, out: &mut Answer) -> Result<String, Refusal>
+    requires { 0 < most }
+{
     let mut world = case.world(alloc)?;
+    world.settings.most = most;
+    world.script.most = most;
+    world.output.most = most;
+    world.backs.graphite.most = most;
+    world.backs.console.most = most;
     let status = statsd(alloc, &case.words, &mut world);
     out.count("\n  graphite ", bytes_in(&world.backs.graphite));
     let mut text = Answer::new(alloc);
