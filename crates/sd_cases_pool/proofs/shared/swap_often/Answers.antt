@@ -1,0 +1,15 @@
+use Rattle.std.proofs.Common.{ap, ◌∙◌, arith}
+use Rattle.sd_model_shard.specs.Whereabouts.{told_by}
+use Rattle.sd_pool.specs.Pool.{own_at}
+use Rattle.sd_cases_pool.specs.Counts.{answered_in}
+use Rattle.sd_cases_pool.proofs.ToldLemmas.{told_by-push}
+use Rattle.sd_cases_pool.proofs.shared.swap_often.Goals as goal
+
+pub loop-preserved : goal.loop-preserved
+loop-preserved g c =
+    let grown = ap (told_by answered_in) c.swap-spare.ensures.act.own ∙ told_by-push answered_in (own_at c.loop.seat c.args.i) _ in
+    record {
+      seat = c.swap-spare.ensures.seat;
+      spare = record { limits = c.clear_entries.ensures.limits ∙ c.swap-spare.ensures.within.limits; no_entries = c.clear_entries.ensures.entries };
+      made = omega (arith, grown, c.loop.invariant.made);
+    }
