@@ -18,6 +18,19 @@ pub enum Next {
     Failed,
 }
 
+/// How the work of a receiver ended.
+#[derive(Clone, Copy, Debug, PartialEq, Eq)]
+pub enum Ended {
+    /// No datagram was left.
+    End,
+    /// The source failed, and its count of faults rose.
+    Failed,
+    /// So many flushes had come, which were enough.
+    Stopped { rounds: u64 },
+    /// The source took so many turns, which are the most.
+    Worn { turns: u64 },
+}
+
 /// An object that datagrams come from. It tells the datagrams that it has left, or nothing, and always its turns: how
 /// often it answered `Packet` or `Idle`, up to 2^64 - 1.
 pub trait Datagrams: Opens {

@@ -20,6 +20,17 @@ pub enum Entry<A, T> {
     Failed,
 }
 
+/// How the keeping of a door ended.
+#[derive(Clone, Copy, Debug, PartialEq, Eq)]
+pub enum DoorEnd {
+    /// No session was left.
+    End,
+    /// So many flushes had come, which were enough.
+    Stopped { rounds: u64 },
+    /// The door took so many turns, which are the most.
+    Worn { turns: u64 },
+}
+
 /// An object that sessions come from, one after another. It tells the sessions that it has left and those that were given
 /// back, or nothing, and always whether a session is out, and its turns: how often it answered `Session`, `Idle` or
 /// `Failed`, up to 2^64 - 1.
