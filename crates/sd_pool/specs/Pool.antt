@@ -26,10 +26,11 @@ use Rattle.sd_pool.specs.declared.seat.Seats.{Seats}
 use Rattle.std.specs.declared.alloc.Global.{Global}
 use Rattle.std.specs.declared.vec.Vec.{Vec}
 
--- a shard's turn, and a seat of it
+-- a shard's turn
 abbrev pub OwnTurn : Type 0
 OwnTurn = Turn Behind ShardAsk ShardReply Noted Setup
 
+-- a seat of it
 abbrev pub OwnSeat : Type 0
 OwnSeat = TurnSeat Behind ShardAsk ShardReply Noted Setup ghosts
 
@@ -46,20 +47,23 @@ abbrev pub no_setup : Setup
 no_setup =
     record { limits = record { rows = 0; entries = 0 }; policy = record { counters = false; timers = false; gauges = false; sets = false; max_ttl = 0 }; shard = 0; shards = 0; receivers = 0 }
 
--- what is fixed of shard i
+-- what is fixed of shard i, by the turns
 abbrev pub setup_in : List ShardTurn → ℕ → Setup
 setup_in turns i = get_or (map (λ t. setup_of (opened_with t.turn)) turns) i no_setup
 
+-- what is fixed of shard i
 abbrev pub setup_at : Pool → ℕ → Setup
 setup_at pool i = setup_in pool.turns.items i
 
--- the limits and the policy of each shard, and how many receivers there are
+-- the limits of each shard
 abbrev pub limits_of : Pool → Limits
 limits_of pool = (setup_at pool 0).limits
 
+-- the policy of each shard
 abbrev pub policy_of : Pool → Policy
 policy_of pool = (setup_at pool 0).policy
 
+-- how many receivers there are
 abbrev pub receivers_of : Pool → ℕ
 receivers_of pool = (setup_at pool 0).receivers
 
