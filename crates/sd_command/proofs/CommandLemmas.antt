@@ -24,8 +24,10 @@ use Rattle.sd_model_record.specs.Admin.{AdminFault, TooLong, words, command_name
 use Rattle.sd_model_record.specs.Replies.{Reply, Rows, Gone, Finish, reply_text}
 use Rattle.sd_model_replay.specs.Settings.{Settings}
 use Rattle.sd_model_replay.specs.Script.{Admin}
-use Rattle.sd_model_replay.specs.Replay.{Run, administrator, admin_events, acts_in}
-use Rattle.sd_model_replay.specs.Output.{keys_told, names_replied, replies_to_line, rows_told}
+use Rattle.sd_model_record.specs.Callers.{administrator}
+use Rattle.sd_model_record.specs.Replying.{admin_events, keys_told, names_replied, rows_told}
+use Rattle.sd_model_replay.specs.Replay.{Run, acts_in}
+use Rattle.sd_model_replay.specs.Output.{replies_to_line}
 use Rattle.sd_shards.specs.Shards.{Group, AreAlike, state_at}
 use Rattle.sd_command.specs.Commanded.{IsWritten, deleted, replied, gone, shown, commanded}
 

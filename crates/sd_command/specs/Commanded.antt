@@ -9,7 +9,7 @@ use Rattle.sd_model_record.specs.Admin.{Command, Delete, AdminFault}
 use Rattle.sd_model_record.specs.Desk.{Desk}
 use Rattle.sd_model_record.specs.Replies.{Reply, Rows, Gone}
 use Rattle.sd_model_replay.specs.Replay.{Run}
-use Rattle.sd_model_replay.specs.Output.{keys_told, rows_told}
+use Rattle.sd_model_record.specs.Replying.{keys_told, rows_told}
 
 -- a text was written whole, or the output failed once it was given a front of it
 abbrev pub IsWritten : {E : Type 0} → List ℕ → Result ⊤ E → Object → Object → Type 0

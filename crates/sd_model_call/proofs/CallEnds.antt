@@ -6,9 +6,9 @@ use Rattle.std.proofs.lemmas.Bool.{cond-true}
 use Rattle.sd_model_outside.specs.Outside.{Place, Told, Left, Object, Rose, IsAtEnd, File, left_in}
 use Rattle.sd_model_settings.specs.Settings as file
 use Rattle.sd_model_settings.specs.Settings.{SettingsFlaw, OutOfRange, settings}
-use Rattle.sd_model_replay.specs.Settings.{Settings, goes_by}
-use Rattle.sd_model_replay.specs.Backends.{Backend, Graphite, Console, is_used}
-use Rattle.sd_model_replay.specs.Repeater.{wire_at}
+use Rattle.sd_model_replay.specs.Settings.{Settings, goes_by, is_used}
+use Rattle.sd_model_record.specs.Backends.{Backend, Graphite, Console}
+use Rattle.sd_model_record.specs.Repeater.{wire_at}
 use Rattle.sd_model_replay.specs.Script.{Command, end_word}
 use Rattle.sd_model_replay.specs.Next.{ScriptFlaw}
 use Rattle.sd_model_replay.specs.Totals.{totals_after}

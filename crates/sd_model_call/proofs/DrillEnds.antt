@@ -5,8 +5,8 @@ use Rattle.std.specs.List.{AllByRecursion, range_with_len}
 use Rattle.std.proofs.lemmas.List.Sums.{sum_by-cons}
 use Rattle.sd_model_outside.specs.Outside.{Number, Object, Rose, HasFailedBehind, appended, begun, ended, given, last_count}
 use Rattle.sd_model_outside.specs.Deliveries.{Mark, NotUsed, Written, Fault, Delivery, AfterMark, AfterDeliveries}
-use Rattle.sd_model_replay.specs.Settings.{Settings}
-use Rattle.sd_model_replay.specs.Backends.{Backend, Graphite, Console, is_used}
+use Rattle.sd_model_replay.specs.Settings.{Settings, is_used}
+use Rattle.sd_model_record.specs.Backends.{Backend, Graphite, Console}
 use Rattle.sd_model_replay.specs.Script.{Command, Packet, Flush, Admin, end_word}
 use Rattle.sd_model_replay.specs.MadeScript.{made_commands, made_moment, made_packet, flush_behind}
 use Rattle.sd_model_replay.specs.Replay.{Played, Run, first_run, play, deliveries, moments}

@@ -5,8 +5,8 @@ use Rattle.std.proofs.lemmas.Bool.{cases_lt}
 use Rattle.sd_model_outside.specs.Outside.{Place, File, Object, Used, HasRead, opened}
 use Rattle.sd_model_settings.specs.Settings as file
 use Rattle.sd_model_replay.specs.Settings.{Settings, goes_by}
-use Rattle.sd_model_replay.specs.Backends.{Backend, Graphite, Console}
-use Rattle.sd_model_replay.specs.Repeater.{wire_at}
+use Rattle.sd_model_record.specs.Backends.{Backend, Graphite, Console}
+use Rattle.sd_model_record.specs.Repeater.{wire_at}
 use Rattle.sd_model_replay.specs.Replay.{deliveries, sendings}
 use Rattle.sd_model_replay.specs.Totals.{totals_after}
 use Rattle.sd_model_replay.specs.AccountingTheorem.{Seen, Course, AccountingTheorem, seen_at}

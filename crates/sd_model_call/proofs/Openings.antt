@@ -5,7 +5,7 @@ use Rattle.std.specs.List.{AllByRecursion}
 use Rattle.sd_model_outside.specs.Outside.{Object}
 use Rattle.sd_model_settings.specs.Entries.{Target}
 use Rattle.sd_model_replay.specs.Settings.{Settings}
-use Rattle.sd_model_replay.specs.Repeater.{wire_at}
+use Rattle.sd_model_record.specs.Repeater.{wire_at}
 use Rattle.sd_model_call.specs.Opening.{Opening, Part, OfSettings, OfScript, OfWire, OfGraphite, OfConsole, backend_openings, openings, opened_where, opened_wires, target_place, wire_openings}
 
 pub all_append : (P : Opening → Type 0) (before behind : List Opening) → AllByRecursion P before → AllByRecursion P behind → AllByRecursion P (before ++ behind)

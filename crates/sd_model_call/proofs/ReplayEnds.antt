@@ -6,12 +6,12 @@ use Rattle.std.proofs.lemmas.List.{length-map}
 use Rattle.std.proofs.lemmas.List.Sums.{sum_by-cons}
 use Rattle.sd_model_outside.specs.Outside.{Told, Untold, Left, Number, Bytes, Buffer, Rounds, Packets, Datagrams, Ticks, Sessions, Replies, Rose, put_back, given, last_count}
 use Rattle.sd_model_outside.specs.Deliveries.{Mark, fault_of, Delivery, AfterDeliveries, FitsUse, missed}
-use Rattle.sd_model_replay.specs.Settings.{Settings}
-use Rattle.sd_model_replay.specs.Backends.{Backend, Graphite, Console, is_used, mark_of}
+use Rattle.sd_model_replay.specs.Settings.{Settings, is_used}
+use Rattle.sd_model_record.specs.Backends.{Backend, Graphite, Console, mark_of}
 use Rattle.sd_model_replay.specs.Script.{Command, Packet, Flush, Admin, spelled, end_word, script_text, IsLegal, BeginsEnd, BeginsRecord}
 use Rattle.sd_model_replay.specs.Next.{ScriptFlaw, Next, Carried, Ending, Faulty, Begins}
 use Rattle.sd_model_settings.specs.Entries.{Target}
-use Rattle.sd_model_replay.specs.Repeater.{AfterSendings, missed_on, wire_at, Sending}
+use Rattle.sd_model_record.specs.Repeater.{AfterSendings, missed_on, wire_at, Sending}
 use Rattle.sd_model_replay.specs.Replay.{Outcome, Played, Run, IsOutcome, first_run, run_of, play, flushes, deliveries, sendings}
 use Rattle.sd_model_replay.specs.Output.{output_in, output_of}
 use Rattle.sd_model_replay.specs.Totals.{Totals, totals_after, totals_text}

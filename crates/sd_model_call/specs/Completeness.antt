@@ -3,11 +3,11 @@ use Rattle.std.specs.Prelude.{◌≡◌, ◌⊎◌, ℕ, ◌<◌, IsTrue, ⊤, L
 use Rattle.std.specs.List.{AllByRecursion}
 use Rattle.sd_model_outside.specs.Outside.{Left, Rose, given}
 use Rattle.sd_model_outside.specs.Deliveries.{AfterDeliveries}
-use Rattle.sd_model_replay.specs.Settings.{Settings}
-use Rattle.sd_model_replay.specs.Backends.{Backend, is_used}
+use Rattle.sd_model_replay.specs.Settings.{Settings, is_used}
+use Rattle.sd_model_record.specs.Backends.{Backend}
 use Rattle.sd_model_replay.specs.Script.{Command, Packet, Flush, Admin, end_word, script_text, IsLegal}
 use Rattle.sd_model_replay.specs.Next.{ScriptFlaw, Faulty, Begins}
-use Rattle.sd_model_replay.specs.Repeater.{AfterSendings, wire_at}
+use Rattle.sd_model_record.specs.Repeater.{AfterSendings, wire_at}
 use Rattle.sd_model_replay.specs.Replay.{deliveries, sendings}
 use Rattle.sd_model_replay.specs.Output.{output_of}
 use Rattle.sd_model_replay.specs.Totals.{totals_after, totals_text}

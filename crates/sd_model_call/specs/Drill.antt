@@ -3,7 +3,7 @@ use Rattle.std.specs.Prelude.{ℕ, min, List, [], ◌++◌, length, map, sum_by,
 use Rattle.sd_model_outside.specs.Outside.{Left, Number, Object, fresh, last_count}
 use Rattle.sd_model_settings.specs.Defaults.{default_settings}
 use Rattle.sd_model_replay.specs.Settings.{Settings, goes_by}
-use Rattle.sd_model_replay.specs.Backends.{Graphite}
+use Rattle.sd_model_record.specs.Backends.{Graphite}
 use Rattle.sd_model_replay.specs.MadeScript.{made_commands, made_script}
 use Rattle.sd_model_replay.specs.Replay.{Played, deliveries}
 use Rattle.sd_model_replay.specs.Totals.{total_line, totals_after, totals_text}

@@ -5,9 +5,9 @@ use Rattle.sd_model_outside.specs.Outside.{Place, File, Host, Object, HasFailed,
 use Rattle.sd_model_settings.specs.Settings as file
 use Rattle.sd_model_settings.specs.Settings.{SettingsFlaw, settings}
 use Rattle.sd_model_settings.specs.Entries.{Target}
-use Rattle.sd_model_replay.specs.Settings.{Settings}
-use Rattle.sd_model_replay.specs.Backends.{Backend, is_used}
-use Rattle.sd_model_replay.specs.Repeater.{wire_at}
+use Rattle.sd_model_replay.specs.Settings.{Settings, is_used}
+use Rattle.sd_model_record.specs.Backends.{Backend}
+use Rattle.sd_model_record.specs.Repeater.{wire_at}
 use Rattle.sd_model_replay.specs.AccountingTheorem.{Seen, seen_at}
 
 -- an object that is opened; a wire by its number

@@ -5,7 +5,7 @@ ghost use Rattle.sd_model_settings.specs.Settings.{settings};
 ghost use Rattle.sd_model_replay.specs.Settings.{Settings, goes_by};
 ghost use Rattle.sd_model_replay.specs.Script.{Command, script_text};
 ghost use Rattle.sd_model_replay.specs.Totals.{Totals};
-ghost use Rattle.sd_model_replay.specs.Repeater.{wire_at};
+ghost use Rattle.sd_model_record.specs.Repeater.{wire_at};
 ghost use Rattle.sd_model_replay.specs.AccountingTheorem.{Seen};
 ghost use Rattle.sd_model_replay.specs.Next.{ScriptFlaw};
 ghost use Rattle.sd_model_replay.specs.Ends.{Complete, End, Faulted, Replayed, WornOut, most_records};

@@ -1,3 +1,4 @@
 pub mod CommandLemmas
 pub mod WordLemmas
 pub mod CountLemmas
+pub mod OrderLemmas

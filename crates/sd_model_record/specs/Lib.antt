@@ -6,3 +6,7 @@ pub mod Console
 pub mod Admin
 pub mod Replies
 pub mod Counts
+pub mod Backends
+pub mod Repeater
+pub mod Callers
+pub mod Replying

@@ -13,7 +13,9 @@ use Rattle.sd_model_record.specs.Admin as admin
 use Rattle.sd_model_record.specs.Admin.{AdminFault}
 use Rattle.sd_model_replay.specs.Settings.{Settings}
 use Rattle.sd_model_replay.specs.Script.{Command, Packet, Flush, Admin}
-use Rattle.sd_model_replay.specs.Replay.{Outcome, Played, home_of, events_in, events_at, history_at, samples_in, samples_at, administrator, admin_events, Run, first_run, acts_in, play, run_of, Moment, moments, FlushMoment, flush_by, flushes}
+use Rattle.sd_model_record.specs.Callers.{administrator}
+use Rattle.sd_model_record.specs.Replying.{admin_events}
+use Rattle.sd_model_replay.specs.Replay.{Outcome, Played, home_of, events_in, events_at, history_at, samples_in, samples_at, Run, first_run, acts_in, play, run_of, Moment, moments, FlushMoment, flush_by, flushes}
 
 abbrev arrivals_asked : List Asked → List Arrival
 arrivals_asked asked = filter_map (λ q. arrival_in q.who q.event) asked

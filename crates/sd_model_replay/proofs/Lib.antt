@@ -5,7 +5,6 @@ pub mod LineLemmas
 pub mod MadeLemmas
 pub mod NextLemmas
 pub mod Numbers
-pub mod OrderLemmas
 pub mod ReadingLemmas
 pub mod ReplayLemmas
 pub mod SendingLemmas

@@ -8,7 +8,7 @@ use Rattle.std.proofs.lemmas.List.Elements.{filter_map-append}
 use Rattle.std.proofs.lemmas.List.Sums.{fold_push}
 use Rattle.sd_model_replay.specs.Settings.{Settings}
 use Rattle.sd_model_outside.specs.Deliveries.{Delivery}
-use Rattle.sd_model_replay.specs.Backends.{Backend, text_of, mark_of}
+use Rattle.sd_model_record.specs.Backends.{Backend, text_of, mark_of}
 use Rattle.sd_model_replay.specs.Script.{Command, spelled, script_text}
 use Rattle.sd_model_replay.specs.Replay.{Played, Run, first_run, play, run_of, Moment, moments, FlushMoment, flush_by, flushes, record_at, deliveries, sending_by, sendings}
 use Rattle.sd_model_replay.specs.Output.{output_in, output_of}
@@ -48,7 +48,7 @@ flushes-push settings played p =
 
 -- what a flush has for a backend
 abbrev pub delivery_of : Settings → Backend → FlushMoment → Delivery
-delivery_of settings back f = record { text = text_of settings back (record_at settings f); mark = mark_of back f.marks }
+delivery_of settings back f = record { text = text_of settings.names back (record_at settings f); mark = mark_of back f.marks }
 
 pub deliveries-push : (settings : Settings) (back : Backend) (played : List Played) (p : Played)
     → deliveries settings back (played ++ p ∷ []) ≡ deliveries settings back played ++ map (delivery_of settings back) (cons_option (flush_at (run_before settings played p) p) [])

@@ -5,7 +5,7 @@ use Rattle.std.specs.List.{cons_option}
 use Rattle.std.proofs.lemmas.List.Sums.{sum_by-cons}
 use Rattle.sd_model_outside.specs.Outside.{Object, Packets}
 use Rattle.sd_model_outside.specs.Wires.{HasSent, AreSent}
-use Rattle.sd_model_replay.specs.Repeater.{Sending, IsRepeated, AfterSendings, HasPackets, wire_at, missed_on, sent_on}
+use Rattle.sd_model_record.specs.Repeater.{Sending, IsRepeated, AfterSendings, HasPackets, wire_at, missed_on, sent_on}
 use Rattle.sd_model_outside.proofs.DeliveryLemmas.{Counts, same_counts, joined_counts}
 
 -- a send on one wire

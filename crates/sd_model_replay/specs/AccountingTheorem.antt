@@ -9,8 +9,8 @@ use Rattle.sd_model_shard.specs.History.{part_of, state_after}
 use Rattle.sd_model_shard.specs.Whereabouts.{Accounted, RowsAreCarried, arrivals, tables}
 use Rattle.sd_model_record.specs.Record.{Record, record_rows}
 use Rattle.sd_model_replay.specs.Settings.{Settings}
-use Rattle.sd_model_replay.specs.Backends.{Backend, Graphite, Console}
-use Rattle.sd_model_replay.specs.Repeater.{AfterSendings}
+use Rattle.sd_model_record.specs.Backends.{Backend, Graphite, Console}
+use Rattle.sd_model_record.specs.Repeater.{AfterSendings}
 use Rattle.sd_model_replay.specs.Script.{script_text, IsLegal}
 use Rattle.sd_model_replay.specs.Replay.{Played, IsOutcome, home_of, first_run, run_of, history_at, samples_at, records, deliveries, sendings}
 

@@ -1,6 +1,4 @@
 pub mod Settings
-pub mod Backends
-pub mod Repeater
 pub mod Heads
 pub mod Script
 pub mod Next

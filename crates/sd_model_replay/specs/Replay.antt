@@ -1,19 +1,21 @@
 -- What a replay does: what its records ask of each shard, the state after them, and what is made of it.
-use Rattle.std.specs.Prelude.{◌≡◌, ℕ, Bool, List, [], ◌∷◌, length, map, fold, flat_map, filter_map, sum_by, Option, Some, None, Result, Ok, true, false}
+use Rattle.std.specs.Prelude.{◌≡◌, ℕ, Bool, List, [], ◌∷◌, length, map, fold, flat_map, filter_map, sum_by, Option, Some, None, Result, Ok}
 use Rattle.std.specs.List.{range_with_len}
 use Rattle.sd_model_text.specs.Names.{shard}
 use Rattle.sd_model_text.specs.Lines.{Sample, samples_of, pieces, bad_of}
-use Rattle.sd_model_shard.specs.Shard.{State, empty_state, Event, Submit, Swap, Delete, Dump, Reply, table_of}
+use Rattle.sd_model_shard.specs.Shard.{State, empty_state, Submit, Swap, Reply, table_of}
 use Rattle.sd_model_shard.specs.History.{Asked, History, after_all, answered, part_of}
 use Rattle.sd_model_shard.specs.Whereabouts.{Arrival, dropped_in}
 use Rattle.sd_model_record.specs.Record.{Tally, Record, record_of}
 use Rattle.sd_model_record.specs.Admin as admin
-use Rattle.sd_model_record.specs.Admin.{AdminFault, HealthWord, Up, Down, Ask}
+use Rattle.sd_model_record.specs.Admin.{AdminFault}
 use Rattle.sd_model_outside.specs.Deliveries.{NotUsed, Delivery, FitsUse}
 use Rattle.sd_model_record.specs.Desk.{Desk, new_desk, with_tally, with_repeater_faults, with_round, with_health, Marks}
-use Rattle.sd_model_replay.specs.Settings.{Settings}
-use Rattle.sd_model_replay.specs.Backends.{Backend, text_of, mark_of, is_used}
-use Rattle.sd_model_replay.specs.Repeater.{Sending, failures}
+use Rattle.sd_model_record.specs.Backends.{Backend, text_of, mark_of}
+use Rattle.sd_model_record.specs.Repeater.{Sending, failures}
+use Rattle.sd_model_record.specs.Callers.{flusher, administrator}
+use Rattle.sd_model_record.specs.Replying.{admin_events, health_after}
+use Rattle.sd_model_replay.specs.Settings.{Settings, is_used}
 use Rattle.sd_model_replay.specs.Script.{Command, Packet, Flush, Admin}
 
 -- What the outside did to a record: how each backend took part, which is told of a flush; and of each send of a packet
@@ -38,24 +40,9 @@ pub record Played : Type 0 where
   pub command : Command
   pub outcome : Outcome
 
--- the number of the caller that flushes
-abbrev pub flusher : ℕ
-flusher = 100
-
--- the number of the caller of admin commands
-abbrev pub administrator : ℕ
-administrator = 101
-
 -- the shard of a sample
 abbrev pub home_of : Settings → Sample → ℕ
 home_of settings s = shard s.key settings.shards
-
--- what an admin line asks of each shard: a deletion for each name of its command, in their order, or a dump; and nothing
--- where its command is another one, or it has none
-abbrev pub admin_events : Result admin.Command AdminFault → List Event
-admin_events (Ok (admin.Delete kind names)) = map (Delete kind) names
-admin_events (Ok (admin.Show kind)) = Dump kind ∷ []
-admin_events answer = []
 
 -- what a record asks of shard i: it is given the samples whose keys belong there, is swapped, or takes the events of an
 -- admin line
@@ -119,12 +106,6 @@ replies_to settings run c = flat_map (λ i. map (λ a. a.reply) (acts_in setting
 abbrev pub packet_tally : List ℕ → ℕ → Tally
 packet_tally datagram dropped = record { packets = 1; lines = length (pieces datagram); bad = bad_of datagram; dropped = dropped }
 
--- the health after a word that sets it, or asks for it
-abbrev pub health_after : HealthWord → Bool → Bool
-health_after Up up = true
-health_after Down up = false
-health_after Ask up = up
-
 -- the desk after an admin line
 abbrev pub desk_after_line : Desk → Result admin.Command AdminFault → Desk
 desk_after_line desk (Ok (admin.Health word)) = with_health desk (health_after word desk.up)
@@ -187,7 +168,7 @@ records settings played = map (record_at settings) (flushes settings (first_run 
 -- what the flushes have for a backend: the text of each record, with its mark
 abbrev pub deliveries : Settings → Backend → List Played → List Delivery
 deliveries settings back played =
-    map (λ f. record { text = text_of settings back (record_at settings f); mark = mark_of back f.marks }) (flushes settings (first_run played) played)
+    map (λ f. record { text = text_of settings.names back (record_at settings f); mark = mark_of back f.marks }) (flushes settings (first_run played) played)
 
 -- the packet that a record repeats, if it is one
 abbrev pub sending_by : Command → Outcome → Option Sending

@@ -6,6 +6,7 @@ use Rattle.sd_model_settings.specs.Settings as file
 use Rattle.sd_model_settings.specs.Entries.{Target}
 use Rattle.sd_model_settings.specs.Defaults.{Plan, Names, plan_of, names_of}
 use Rattle.sd_model_shard.specs.Shard.{Limits, Policy}
+use Rattle.sd_model_record.specs.Backends.{Backend, Graphite, Console}
 
 -- How many shards run; how many rows and entries each may have, and what goes when idle; how records are made, and
 -- Graphite's names; how many receivers there are; which backends are used; where packets are repeated to; and the settings
@@ -60,3 +61,8 @@ goes_by s =
       targets = targets_of s;
       in_force = s;
     }
+
+-- whether the settings say that a backend is used
+abbrev pub is_used : Settings → Backend → Bool
+is_used settings Graphite = settings.uses_graphite
+is_used settings Console = settings.uses_console

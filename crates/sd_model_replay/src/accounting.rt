@@ -1,7 +1,7 @@
 ghost use Rattle.std.specs.Prelude.{◌≡◌, ℕ, List, map};
 ghost use Rattle.sd_model_outside.specs.Outside.{Object, Packets, RoseBy, Used};
 ghost use Rattle.sd_model_replay.specs.Settings.{Settings};
-ghost use Rattle.sd_model_replay.specs.Repeater.{AfterSendings, HasPackets, Sending, missed_on, sent_on, wire_at};
+ghost use Rattle.sd_model_record.specs.Repeater.{AfterSendings, HasPackets, Sending, missed_on, sent_on, wire_at};
 ghost use Rattle.sd_model_replay.specs.Replay.{Played, first_run, flushes, records};
 ghost use Rattle.sd_model_replay.specs.AccountingTheorem.{AreAccounted, AreDocumented};
 

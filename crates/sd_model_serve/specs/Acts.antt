@@ -1,13 +1,11 @@
 -- Who did what at shards, and what datagrams ask of them.
-use Rattle.std.specs.Prelude.{◌≡◌, ℕ, ◌<◌, ◌==◌, if◌then◌else◌, min, List, [], ◌∷◌, ◌++◌, length, map, flat_map, sum_by}
+use Rattle.std.specs.Prelude.{◌≡◌, ℕ, ◌<◌, ◌==◌, if◌then◌else◌, List, [], ◌∷◌, ◌++◌, map, flat_map, sum_by}
 use Rattle.std.specs.List.{range_with_len}
 use Rattle.sd_model_text.specs.Names.{shard}
-use Rattle.sd_model_text.specs.Lines.{Sample, samples_of, pieces, bad_of}
+use Rattle.sd_model_text.specs.Lines.{Sample, samples_of}
 use Rattle.sd_model_shard.specs.Shard.{Event, Submit, Reply}
 use Rattle.sd_model_shard.specs.History.{Act, History, part_of}
 use Rattle.sd_model_shard.specs.Whereabouts.{told_by}
-use Rattle.sd_model_record.specs.Record.{Tally}
-use Rattle.sd_model_record.specs.Desk.{last_counted}
 
 -- the acts of a caller, in order
 abbrev pub acts_by : ℕ → History → History
@@ -40,13 +38,3 @@ submits shards i read = asks shards i (flat_map samples_of read)
 -- the replies at so many shards, each weighed, added up
 abbrev pub told_in : (Reply → ℕ) → ℕ → (ℕ → History) → ℕ
 told_in weigh shards acts = sum_by (λ i. told_by weigh (acts i)) (range_with_len 0 shards)
-
--- what datagrams count for, of whose samples so many were dropped; each number stops at the last count
-abbrev pub tally_of_read : List (List ℕ) → ℕ → Tally
-tally_of_read read drops =
-    record {
-      packets = min (length read) last_counted;
-      lines = min (sum_by (λ d. length (pieces d)) read) last_counted;
-      bad = min (sum_by bad_of read) last_counted;
-      dropped = min drops last_counted;
-    }

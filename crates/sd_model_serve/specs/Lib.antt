@@ -1,1 +1,5 @@
 pub mod Acts
+pub mod Receiving
+pub mod Rounds
+pub mod Sessions
+pub mod Doors

@@ -26,10 +26,11 @@ use Rattle.sd_model_record.specs.Admin.{AdminFault}
 use Rattle.sd_model_record.specs.Record.{Row, row_value, table_rows}
 use Rattle.sd_model_replay.specs.Settings.{Settings}
 use Rattle.sd_model_replay.specs.Script.{Command, Packet, Flush, Admin}
-use Rattle.sd_model_replay.specs.Replay.{Outcome, Played, Run, first_run, events_in, admin_events, play, run_of, moments, FlushMoment, flushes}
-use Rattle.sd_model_replay.specs.Output.{answers_to, keys_in, rows_in}
+use Rattle.sd_model_record.specs.Replying.{admin_events, keys_in, rows_in}
+use Rattle.sd_model_replay.specs.Replay.{Outcome, Played, Run, first_run, events_in, play, run_of, moments, FlushMoment, flushes}
+use Rattle.sd_model_replay.specs.Output.{answers_to}
 use Rattle.sd_model_shard.proofs.ToldLemmas.{by_key}
-use Rattle.sd_model_replay.proofs.OrderLemmas.{StandOnce, StandOnce-shards, StandApart-shards, keys_once, rows_once, hit_of_kind}
+use Rattle.sd_model_record.proofs.OrderLemmas.{StandOnce, StandOnce-shards, StandApart-shards, keys_once, rows_once, hit_of_kind}
 use Rattle.sd_model_shards.specs.Shards.{AtHome, rows_before}
 use Rattle.sd_model_shards.proofs.ViewLemmas.{after_asked}
 use Rattle.sd_model_shards.proofs.EventsLemmas.{asks, submits, other_row}

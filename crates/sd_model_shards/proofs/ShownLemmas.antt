@@ -24,10 +24,11 @@ use Rattle.sd_model_record.specs.Replies.{Stats, Rows, Gone, Finish, Health, rep
 use Rattle.sd_model_replay.specs.Settings.{Settings}
 use Rattle.sd_model_replay.specs.Script.{Command, Packet, Flush, Admin}
 use Rattle.sd_model_outside.specs.Deliveries.{Delivery}
-use Rattle.sd_model_replay.specs.Backends.{Backend, Graphite, Console, text_of, mark_of}
-use Rattle.sd_model_replay.specs.Repeater.{failures}
-use Rattle.sd_model_replay.specs.Replay.{Outcome, Played, Run, first_run, events_in, events_at, acts_in, admin_events, replies_to, packet_tally, health_after, desk_after, desk_after_line, play, run_of, Moment, moments, FlushMoment, flush_by, flushes, record_at, records, deliveries}
-use Rattle.sd_model_replay.specs.Output.{answers_to, keys_in, rows_in, keys_told, rows_told, names_replied, replies_to_line, replies_in, output_in, output_of}
+use Rattle.sd_model_record.specs.Backends.{Backend, Graphite, Console, text_of, mark_of}
+use Rattle.sd_model_record.specs.Repeater.{failures}
+use Rattle.sd_model_record.specs.Replying.{admin_events, health_after, keys_in, rows_in, keys_told, rows_told, names_replied}
+use Rattle.sd_model_replay.specs.Replay.{Outcome, Played, Run, first_run, events_in, events_at, acts_in, replies_to, packet_tally, desk_after, desk_after_line, play, run_of, Moment, moments, FlushMoment, flush_by, flushes, record_at, records, deliveries}
+use Rattle.sd_model_replay.specs.Output.{answers_to, replies_to_line, replies_in, output_in, output_of}
 use Rattle.sd_model_shards.specs.Shards.{over, NoneDropped, ShowsNone, ShowsNoSettings}
 use Rattle.sd_model_shards.proofs.ViewLemmas.{View, nothing, view-empty}
 use Rattle.sd_model_shards.proofs.EventsLemmas.{asks, Reflects, Reflects-command, Reflects-delete, seen_after, seen_left, NoneIn, none_cut}
@@ -124,10 +125,6 @@ none_behind settings run p played none i below = (none_cut settings.limits setti
 abbrev pub flushes_with : Run → Command → Outcome → List Moment → List FlushMoment
 flushes_with run c outcome ms = filter_map (λ (m : Moment). flush_by m.before m.played.command m.played.outcome) (record { before = run; played = record { command = c; outcome = outcome } } ∷ ms)
 
-text_alike : (settings : Settings) (n m : ℕ) (told other : file.Settings) (back : Backend) (r : Record) → text_of (over n told settings) back r ≡ text_of (over m other settings) back r
-text_alike settings n m told other Graphite r = refl
-text_alike settings n m told other Console r = refl
-
 module _ (settings : Settings) (n m : ℕ) (told other : file.Settings) (some_n : 1 ≤ n) (some_m : 1 ≤ m) where
   abbrev S : Settings
   S = over n told settings
@@ -189,10 +186,9 @@ module _ (settings : Settings) (n m : ℕ) (told other : file.Settings) (some_n 
 
   pub deliveries_alike : (played : List Played) → NoneDropped S played → NoneDropped T played → (back : Backend) → deliveries S back played ≡ deliveries T back played
   deliveries_alike played none_n none_m back =
-      let deliver : Settings → Record × Marks → Delivery = λ s r. record { text = text_of s back r.0; mark = mark_of back r.1 } in
+      let deliver : Settings → Record × Marks → Delivery = λ s r. record { text = text_of s.names back r.0; mark = mark_of back r.1 } in
       sym (map-map (deliver S) (recorded S) (flushes S (first_run played) played))
       ∙ ap (map (deliver S)) (flushes_alike (first_run played) (first_run played) (λ id. nothing) played (alike_first n m played) none_n none_m)
-      ∙ ap (λ (f : Record × Marks → Delivery). map f (map (recorded T) (flushes T (first_run played) played))) (λ k r. record { text = text_alike settings n m told other back r.0 k; mark = mark_of back r.1 })
       ∙ map-map (deliver T) (recorded T) (flushes T (first_run played) played)
 
   -- the replies to a line, by its command

@@ -23,7 +23,7 @@ use Rattle.sd_model_shard.proofs.RowLemmas.{rows_exact, rows_total}
 use Rattle.sd_model_shard.proofs.DeletionLemmas.{same_row}
 use Rattle.sd_model_record.specs.Record.{Row, CounterRow, TimerRow, GaugeRow, SetRow, timer_figures, row_of_kind, row_value, table_rows}
 use Rattle.sd_model_shard.proofs.ToldLemmas.{by_key}
-use Rattle.sd_model_replay.proofs.OrderLemmas.{by_key-flat_map, AreOfKind, retained_of_kind, hit_of_kind, tie_by_key}
+use Rattle.sd_model_record.proofs.OrderLemmas.{by_key-flat_map, AreOfKind, retained_of_kind, hit_of_kind, tie_by_key}
 use Rattle.sd_model_shards.proofs.ViewLemmas.{View, nothing, view, came_to, gauge_from}
 use Rattle.sd_model_shards.proofs.EventsLemmas.{Reflects}
 use Rattle.sd_model_shards.proofs.MergedLemmas.{merged_alike}

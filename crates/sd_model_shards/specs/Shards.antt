@@ -10,7 +10,7 @@ use Rattle.sd_model_shard.specs.Whereabouts.{causes}
 use Rattle.sd_model_record.specs.Admin as admin
 use Rattle.sd_model_replay.specs.Settings.{Settings}
 use Rattle.sd_model_replay.specs.Script.{Command, Packet, Flush, Admin}
-use Rattle.sd_model_replay.specs.Backends.{Backend}
+use Rattle.sd_model_record.specs.Backends.{Backend}
 use Rattle.sd_model_replay.specs.Replay.{Played, FlushMoment, history_at, records, deliveries}
 use Rattle.sd_model_replay.specs.Output.{output_of}
 use Rattle.sd_model_replay.specs.Totals.{totals_after}

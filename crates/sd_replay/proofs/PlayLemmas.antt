@@ -2,10 +2,9 @@
 use Rattle.std.proofs.Math.Nat.{mod-lt}
 use Rattle.std.proofs.lemmas.Bool.{cases_lt, eqb-true}
 use Rattle.std.specs.FinMap.{empty, get, get-empty, same_map}
-use Rattle.std.specs.List.{range_with_len}
+use Rattle.std.specs.List.{range_with_len, AllByRecursion}
 use Rattle.std.proofs.Common.{◌≡◌, ◌≢◌, inl, inr, ℕ, Bool, true, false, cond, ◌+◌, ◌<◌, ◌≤◌, ◌^◌, min, eqb, List, [], ◌∷◌, ◌++◌, length, map, refl, sym, ap, subst, ◌∙◌, append-nil, length-append, arith}
 use Rattle.std.specs.Prelude.{sum_by, Option, Some, None, option_and_then, Result, Ok, Err}
-use Rattle.std.specs.List.{AllByRecursion}
 use Rattle.std.proofs.lemmas.List.{map-append}
 use Rattle.sd_model_text.specs.Names.{Kind}
 use Rattle.sd_model_text.specs.Lines.{Sample, samples_of}
@@ -27,9 +26,9 @@ use Rattle.sd_command.specs.Commanded.{commanded, deleted, run_with}
 use Rattle.sd_command.proofs.CommandLemmas.{deleted-at, idle_delete, line_carried, state_past}
 use Rattle.sd_model_settings.specs.Settings as file
 use Rattle.sd_model_replay.specs.Settings as model
-use Rattle.sd_model_replay.specs.Settings.{goes_by}
-use Rattle.sd_model_replay.specs.Backends.{Backend, is_used, mark_of, text_of}
-use Rattle.sd_model_replay.specs.Repeater.{AfterSendings, IsRepeated, failures}
+use Rattle.sd_model_replay.specs.Settings.{goes_by, is_used}
+use Rattle.sd_model_record.specs.Backends.{Backend, mark_of, text_of}
+use Rattle.sd_model_record.specs.Repeater.{AfterSendings, IsRepeated, failures}
 use Rattle.sd_model_replay.specs.Script.{Command, Packet, Flush, Admin, end_word, spelled, script_text, IsLegal}
 use Rattle.sd_model_replay.specs.Next.{ScriptFlaw, Faulty, Begins, IsUndecided}
 use Rattle.sd_model_replay.specs.Replay.{Played, IsOutcome, no_marks, home_of, events_in, replies_to, packet_tally, moment_of, desk_after_line, Run, begun_at, first_run, record_at, play, run_of, FlushMoment, deliveries, sendings}
@@ -264,7 +263,7 @@ module _ (settings : file.Settings) (some : 0 < (goes_by settings).shards) (scri
   pub flush_more : (ts : ℕ) (marks : Marks) → Reads left (spelled (Flush ts)) left' → IsLegal (goes_by settings).receivers (Flush ts)
       → begun ≡ (before (record { command = Flush ts; outcome = record { marks = marks; failed = [] } })).desk
       → ((back : Backend) → FitsUse (is_used (goes_by settings) back) (mark_of back marks))
-      → ((back : Backend) → AfterMark (mark_of back marks) (text_of (goes_by settings) back (record_of (goes_by settings).plan (map (λ i. table_of (state_at group i)) (numbers group)) begun.tally ts)) (new back) (new' back))
+      → ((back : Backend) → AfterMark (mark_of back marks) (text_of (goes_by settings).names back (record_of (goes_by settings).plan (map (λ i. table_of (state_at group i)) (numbers group)) begun.tally ts)) (new back) (new' back))
       → ((i : ℕ) → i < length group.states → state_at group' i ≡ after_swap group.policy (state_at group i)) → desk' ≡ with_round begun marks
       → at' ≡ min (at + length (spelled (Flush ts))) last_count → has' ≡ has → More (record { command = Flush ts; outcome = record { marks = marks; failed = [] } })
   flush_more ts marks text legal same_desk uses after each d a kept =
@@ -274,8 +273,8 @@ module _ (settings : file.Settings) (some : 0 < (goes_by settings).shards) (scri
       let record_in : ℕ → (ℕ → State) → Desk → Record = λ n states e. record_of (goes_by settings).plan (map (λ i. table_of (states i)) (range_with_len 0 n)) e.tally ts in
       let same_record : record_in (length group.states) (state_at group) begun ≡ record_in (goes_by settings).shards run.shards run.desk =
       ap (λ n. record_in n (state_at group) begun) by.count ∙ ap (λ states. record_in (goes_by settings).shards states begun) (states_before p) ∙ ap (record_in (goes_by settings).shards run.shards) same_desk in
-      let delivered : (back : Backend) → AfterMark (mark_of back marks) (text_of (goes_by settings) back (record_at (goes_by settings) f)) (new back) (new' back) =
-      λ back. subst (λ r. AfterMark (mark_of back marks) (text_of (goes_by settings) back r) (new back) (new' back)) same_record (after back) in
+      let delivered : (back : Backend) → AfterMark (mark_of back marks) (text_of (goes_by settings).names back (record_at (goes_by settings) f)) (new back) (new' back) =
+      λ back. subst (λ r. AfterMark (mark_of back marks) (text_of (goes_by settings).names back r) (new back) (new' back)) same_record (after back) in
       one_more p text legal (refl, uses)
       (λ back. subst (λ ds. AfterDeliveries ds (old back) (new' back)) (sym (deliveries-push (goes_by settings) back so_far.played p))
       (AfterDeliveries-push (deliveries (goes_by settings) back so_far.played) (delivery_of (goes_by settings) back f) (old back) (new back) (new' back) (so_far.texts back) (delivered back)))

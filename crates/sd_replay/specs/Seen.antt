@@ -1,7 +1,7 @@
 -- What is seen of the objects of a replay.
 use Rattle.std.specs.Prelude.{List, map}
 use Rattle.sd_model_outside.specs.Outside.{Object}
-use Rattle.sd_model_replay.specs.Backends.{Backend, Graphite, Console}
+use Rattle.sd_model_record.specs.Backends.{Backend, Graphite, Console}
 use Rattle.sd_model_replay.specs.AccountingTheorem.{Seen}
 use Rattle.sd_outside.specs.declared.backend.Backs.{Backs}
 

@@ -1,7 +1,7 @@
-ghost use Rattle.std.specs.Prelude.{◌≡◌, ◌<◌, ◌≤◌, ⊤, length, map, IfOk, All};
+ghost use Rattle.std.specs.Prelude.{◌≡◌, ◌<◌, ◌≤◌, ⊤, length, map, IfOk, IfSome, IfNone, All};
 ghost use Rattle.sd_seats.specs.Lists.{span};
 ghost use Rattle.sd_model_record.specs.Desk.{new_desk, with_tally, taken, with_health, marked, with_admin_fault, with_repeater_faults, facts_of};
-ghost use Rattle.sd_model_record.specs.Counts.{Count, HasCounted, AreSeen, nothing, number_of, of_tally, of_taken, of_marks, of_sessions, of_sends};
+ghost use Rattle.sd_model_record.specs.Counts.{Count, RoundsMade, HasCounted, AreSeen, nothing, number_of, of_tally, of_taken, of_marks, of_sessions, of_sends};
 ghost use Rattle.sd_desk.specs.Facts.{facts_view};
 ghost use Rattle.sd_desk.specs.Marks.{marks_of};
 ghost use Rattle.sd_desk.specs.Tally.{tally_of};
@@ -143,6 +143,27 @@ impl SharedDesk {
             DeskReply::Facts(facts) => facts,
             _ => unreachable!(),
         }
+    }
+
+    /// The flushes that were counted, once there are as many as a caller waits for; 0 waits for none. They are those that the
+    /// seat has then seen.
+    pub fn rounds_reached<R: Wait>(
+        &self,
+        rt: &R,
+        enough: u64,
+        own: &mut DeskSeat,
+    ) -> Option<u64>
+        requires { IsSeatOf self.now own.old }
+        ensures seat { IsSeatOf self.now own.new × (number_of_seat own.new ≡ number_of_seat own.old) }
+        ensures reached { IfSome result (λ rounds. (0 < enough) × (enough ≤ rounds) × (rounds ≡ (part_of own.new).seen RoundsMade)) }
+        ensures short { IfNone result (0 < enough → (part_of own.new).seen RoundsMade < enough) }
+        ensures counted { HasCounted nothing (part_of own.old) (part_of own.new) }
+    {
+        if enough == 0 {
+            return None;
+        }
+        let rounds = self.facts(rt, own).rounds;
+        (rounds >= enough).then_some(rounds)
     }
 
     /// The desk, from all its seats. Each of its numbers is the sum of the seats' shares, and at least what each seat has

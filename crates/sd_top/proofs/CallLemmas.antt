@@ -6,7 +6,7 @@ use Rattle.sd_model_outside.proofs.OutsideLemmas.{Reads-nil}
 use Rattle.sd_model_settings.specs.Settings as file
 use Rattle.sd_model_settings.specs.Defaults.{default_settings}
 use Rattle.sd_model_replay.specs.Settings.{Settings, goes_by}
-use Rattle.sd_model_replay.specs.Repeater.{wire_at}
+use Rattle.sd_model_record.specs.Repeater.{wire_at}
 use Rattle.sd_model_replay.specs.AccountingTheorem.{Seen, Course, AccountingTheorem, seen_at}
 use Rattle.sd_model_replay.specs.Ends.{End, Complete, Faulted, ReadFailed, WriteFailed, WornOut, Replayed}
 use Rattle.sd_model_replay.proofs.AccountingLemmas.{are_accounted, are_documented}

@@ -5,9 +5,9 @@ use Rattle.std.proofs.lemmas.List.{take-append-le}
 use Rattle.std.proofs.Math.Seq.{take-length}
 use Rattle.sd_model_outside.specs.Outside.{Object, File, opened}
 use Rattle.sd_model_settings.specs.Entries.{Target}
-use Rattle.sd_model_replay.specs.Settings.{Settings}
-use Rattle.sd_model_replay.specs.Backends.{Backend, Graphite, Console, is_used}
-use Rattle.sd_model_replay.specs.Repeater.{wire_at}
+use Rattle.sd_model_replay.specs.Settings.{Settings, is_used}
+use Rattle.sd_model_record.specs.Backends.{Backend, Graphite, Console}
+use Rattle.sd_model_record.specs.Repeater.{wire_at}
 use Rattle.sd_model_replay.specs.AccountingTheorem.{seen_at}
 use Rattle.sd_model_call.specs.Opening.{World, Opening, Part, OfScript, OfWire, OfGraphite, OfConsole, IsOpened, IsUntouched, UnusedStay, backend_openings, opened_where, opened_wires, part_in, target_place, wire_openings}
 use Rattle.sd_model_call.specs.Call.{Answer}

@@ -5,7 +5,7 @@ use Rattle.sd_model_text.specs.Names.{Kind}
 use Rattle.sd_model_record.specs.Admin.{names_of}
 use Rattle.sd_model_record.specs.Replies.{Finish, Gone, reply_text}
 use Rattle.sd_model_shard.specs.Shard.{State, after_delete, deletion_of}
-use Rattle.sd_model_replay.specs.Output.{keys_told}
+use Rattle.sd_model_record.specs.Replying.{keys_told}
 use Rattle.sd_key.specs.Kind.{kind_of}
 use Rattle.sd_shards.specs.Shards.{Group, AreAlike, state_at}
 use Rattle.sd_admin.specs.Command.{command_view}

@@ -10,17 +10,15 @@ use Rattle.sd_model_record.specs.Console.{console_text}
 use Rattle.sd_model_record.specs.Desk.{Desk, Marks, new_desk, with_tally, with_repeater_faults}
 use Rattle.sd_model_record.specs.Admin as admin
 use Rattle.sd_model_settings.specs.Defaults.{Plan, plan_of}
-use Rattle.sd_model_replay.specs.Settings.{Settings, goes_by}
+use Rattle.sd_model_replay.specs.Settings.{Settings, goes_by, is_used}
 use Rattle.sd_model_record.specs.Graphite.{graphite_text}
 use Rattle.sd_model_record.specs.Record.{Record, record_of}
-use Rattle.sd_model_replay.specs.Backends.{Backend, Graphite, Console, is_used, text_of}
-use Rattle.sd_model_replay.specs.Backends.{mark_of as mark_at}
-use Rattle.sd_model_replay.specs.Repeater.{IsRepeated, failures}
-use Rattle.sd_model_replay.specs.Replay.{packet_tally}
+use Rattle.sd_model_record.specs.Backends.{Backend, Graphite, Console, text_of, mark_of as mark_at}
+use Rattle.sd_model_record.specs.Repeater.{IsRepeated, failures}
+use Rattle.sd_model_replay.specs.Replay.{packet_tally, Played, moment_of, desk_after_line, first_run, run_of}
 use Rattle.sd_model_replay.specs.Script.{Packet, Flush, Admin, IsLegal, end_word}
 use Rattle.sd_model_replay.specs.Next.{Faulty, Begins, IsUndecided}
 use Rattle.sd_model_replay.specs.Output.{output_in, output_of}
-use Rattle.sd_model_replay.specs.Replay.{Played, moment_of}
 use Rattle.sd_command.specs.Commanded.{commanded, run_with}
 use Rattle.sd_command.proofs.CommandLemmas.{failed_of, written_of}
 use Rattle.sd_model_replay.specs.AccountingTheorem.{Seen, seen_at}
@@ -43,7 +41,6 @@ use Rattle.sd_replay.specs.Totals.{totals_view}
 use Rattle.sd_outside.specs.declared.backend.Backs.{Backs}
 use Rattle.sd_script.specs.declared.reader.Item.{Item}
 use Rattle.sd_model_replay.proofs.ReplayLemmas.{run_before, output_of-push}
-use Rattle.sd_model_replay.specs.Replay.{desk_after_line, first_run, run_of}
 use Rattle.sd_shard.specs.Keys.{KeyList}
 use Rattle.sd_shard.specs.Dump.{DumpList}
 use Rattle.sd_replay.specs.Start.{start_in}
@@ -63,7 +60,7 @@ both_fit s marks graphite console Graphite = graphite
 both_fit s marks graphite console Console = console
 
 both_given : (s : Settings) (marks : Marks) (rec : Record) (old new : Backend → Object) → AfterMark marks.graphite (graphite_text s.names rec) (old Graphite) (new Graphite) → AfterMark marks.console (console_text rec) (old Console) (new Console)
-    → (back : Backend) → AfterMark (mark_at back marks) (text_of s back rec) (old back) (new back)
+    → (back : Backend) → AfterMark (mark_at back marks) (text_of s.names back rec) (old back) (new back)
 both_given s marks rec old new graphite console Graphite = graphite
 both_given s marks rec old new graphite console Console = console
 
@@ -301,7 +298,7 @@ loop-turn-preserved g c =
           let more = flush_more settings stands.some _ _ (left c.next.new.self has) _ _ (back_of g.B.Faulty.seen c.match-item.backs) _ _ (map g.L.Faulty.seen c.match-item.wires) group c.match-item.shards _ begun_desk c.match-item.desk _ c.next.new.self.at _ stands.progress stands.by alike
           ts marks read.stands.reads (subst (λ k. IsLegal k (Flush ts)) stands.receivers read.stands.begins.0)
           (before_record (goes_by settings) played _ c.loop-turn.turn c.in-Ok.item c.loop-turn.desk begun_desk stands.progress.turns (ap start_in w.in-Flush.is) b stands.progress.same_desk) uses
-          (subst (λ (f : Backend → Object). (back : Backend) → AfterMark (mark_at back marks) (text_of (goes_by settings) back (rec (plan_of settings))) (back_of g.B.Faulty.seen old back) (f back)) (ap (back_of g.B.Faulty.seen) (sym w.backs-is)) after)
+          (subst (λ (f : Backend → Object). (back : Backend) → AfterMark (mark_at back marks) (text_of (goes_by settings).names back (rec (plan_of settings))) (back_of g.B.Faulty.seen old back) (f back)) (ap (back_of g.B.Faulty.seen) (sym w.backs-is)) after)
           (λ i below. ap (λ (gr : Group). state_at gr i) w.shards-is ∙ w.flush.ensures.states i below)
           (w.desk-is ∙ w.flush.ensures.desk) read.at (ap (map g.L.Faulty.seen) w.wires-is) in (
             record {

@@ -3,7 +3,7 @@ use Rattle.sd_model_outside.specs.Outside.{Object, given}
 use Rattle.sd_model_settings.specs.Settings as file
 use Rattle.sd_model_record.specs.Desk.{Desk}
 use Rattle.sd_model_replay.specs.Settings.{goes_by}
-use Rattle.sd_model_replay.specs.Backends.{Backend}
+use Rattle.sd_model_record.specs.Backends.{Backend}
 use Rattle.sd_model_replay.specs.Output.{output_of}
 use Rattle.sd_shards.specs.Shards.{Group, state_at}
 use Rattle.sd_script.specs.Reading.{Reading, left}

@@ -1,0 +1,82 @@
+-- The rounds of a flusher: what each took out of the shards and the desk, and what it wrote.
+use Rattle.std.specs.Prelude.{◌≡◌, ◌≢◌, ℕ, Bool, true, List, [], ◌∷◌, map, get_or, sum_by}
+use Rattle.std.specs.FinMap.{empty}
+use Rattle.std.specs.List.{AllByRecursion, range_with_len}
+use Rattle.sd_model_outside.specs.Outside.{Object, Rose}
+use Rattle.sd_model_outside.specs.Deliveries.{Written, Delivery, AfterMark, AfterDeliveries, FitsUse}
+use Rattle.sd_model_settings.specs.Defaults.{Plan, Names}
+use Rattle.sd_model_shard.specs.Shard.{Table, Swap, Swapped}
+use Rattle.sd_model_shard.specs.History.{Act, History}
+use Rattle.sd_model_record.specs.Record.{Tally, Record, record_of}
+use Rattle.sd_model_record.specs.Desk.{Marks}
+use Rattle.sd_model_record.specs.Counts.{Amounts, Part, HasCounted, plus, of_taken, of_marks}
+use Rattle.sd_model_record.specs.Backends.{Backend, mark_of, text_of}
+use Rattle.sd_model_record.specs.Callers.{flusher}
+use Rattle.sd_model_serve.specs.Acts.{Adds}
+
+-- A round: its Unix second, the tally that it took, the table that each shard handed out, by the shard's number, and how the
+-- backends took part.
+pub record Round : Type 0 where
+  pub ts : ℕ
+  pub tally : Tally
+  pub tables : ℕ → Table
+  pub marks : Marks
+
+-- How records are made and written: how many shards there are, by which plan, and under which names for Graphite.
+pub record Form : Type 0 where
+  pub shards : ℕ
+  pub plan : Plan
+  pub names : Names
+
+-- the record of a round: of the tables of all shards, and of its tally
+abbrev pub round_record : Form → Round → Record
+round_record form r = record_of form.plan (map r.tables (range_with_len 0 form.shards)) r.tally r.ts
+
+-- its text for a backend
+abbrev pub round_text : Form → Backend → Round → List ℕ
+round_text form back r = text_of form.names back (round_record form r)
+
+-- what rounds have for a backend: the text of each record, with its mark
+abbrev pub round_deliveries : Form → Backend → List Round → List Delivery
+round_deliveries form back rounds = map (λ r. record { text = round_text form back r; mark = mark_of back r.marks }) rounds
+
+-- the flusher's swap of a shard, which handed out this table
+abbrev pub swap_of : Table → Act
+swap_of table = record { who = flusher; event = Swap; reply = Swapped table }
+
+-- the swaps that rounds made of shard i
+abbrev pub swaps_at : List Round → ℕ → History
+swaps_at rounds i = map (λ r. swap_of (r.tables i)) rounds
+
+-- the table of shard i among tables in the order of the shards, and an empty one past their end
+abbrev pub table_at : List Table → ℕ → Table
+table_at tables i = get_or tables i (record { live = empty; held = [] })
+
+-- what a round adds to the desk's numbers: the tally that it took, and its marks
+abbrev pub of_round : Round → Amounts
+of_round r = plus (of_taken r.tally) (of_marks r.marks)
+
+-- what rounds add
+abbrev pub of_rounds : List Round → Amounts
+of_rounds rounds count = sum_by (λ r. of_round r count) rounds
+
+-- a backend's marks say whether it is used
+abbrev pub MarksFit : (Backend → Bool) → Round → Type 0
+MarksFit uses r = (back : Backend) → FitsUse (uses back) (mark_of back r.marks)
+
+-- A round was made: each shard was swapped once, the desk's tally was taken, each backend that is used was given the text of
+-- the record of both, and the desk was given the marks. A backend that is used and whose count of faults didn't rise was
+-- given the whole text.
+pub record MakesRound (form : Form) (uses : Backend → Bool) (round : Round) (own own_now : ℕ → History) (part part_now : Part) (back back_now : Backend → Object) : Type 0 where
+  pub swapped : Adds form.shards (swaps_at (round ∷ [])) own own_now
+  pub used : MarksFit uses round
+  pub delivered : (b : Backend) → AfterMark (mark_of b round.marks) (round_text form b round) (back b) (back_now b)
+  pub whole : (b : Backend) → uses b ≡ true → ¬ Rose (back b).faults (back_now b).faults → mark_of b round.marks ≡ Written
+  pub counted : HasCounted (of_round round) part part_now
+
+-- Rounds were made, one after another.
+pub record MakesRounds (form : Form) (uses : Backend → Bool) (rounds : List Round) (own own_now : ℕ → History) (part part_now : Part) (back back_now : Backend → Object) : Type 0 where
+  pub swapped : Adds form.shards (swaps_at rounds) own own_now
+  pub used : AllByRecursion (MarksFit uses) rounds
+  pub delivered : (b : Backend) → AfterDeliveries (round_deliveries form b rounds) (back b) (back_now b)
+  pub counted : HasCounted (of_rounds rounds) part part_now
