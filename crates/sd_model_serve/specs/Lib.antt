@@ -3,3 +3,4 @@ pub mod Receiving
 pub mod Rounds
 pub mod Sessions
 pub mod Doors
+pub mod Served

@@ -3,5 +3,7 @@
 #![tactic(auto)]
 
 mod acts;
+mod served;
 
 pub use acts::acts_add_up;
+pub use served::callers_tell_the_run;

@@ -1,0 +1,120 @@
+-- The histories that a run of the server leaves.
+use Rattle.std.proofs.Common.{◌≡◌, ◌≢◌, ℕ, ◌<◌, ◌≤◌, Bool, true, false, List, [], ◌∷◌, length, map, refl, sym, ap, subst, ◌∙◌, arith}
+use Rattle.std.specs.Prelude.{◌==◌, nat_lt, filter, get_or, Option, Some, None, if◌then◌else◌, Result, Ok, Err}
+use Rattle.std.specs.List.{cons_option}
+use Rattle.std.proofs.lemmas.Bool.{eqb-true, ltb-false, ltb-true}
+use Rattle.std.proofs.lemmas.Cmp.{nat_eq_equiv}
+use Rattle.sd_model_text.specs.Names.{Kind, shard}
+use Rattle.sd_model_text.specs.Lines.{Sample}
+use Rattle.sd_model_shard.specs.Shard.{Limits, Policy, State, Cause, Event, Submit, Swap, Delete, Dump, Table, step, admitted, refusal, empty_state}
+use Rattle.sd_model_shard.specs.History.{Act, History, LegalFrom, after, part_of}
+use Rattle.sd_model_shard.specs.Whereabouts.{tables, table_in}
+use Rattle.sd_model_record.specs.Admin as admin
+use Rattle.sd_model_record.specs.Admin.{AdminFault}
+use Rattle.sd_model_record.specs.Callers.{flusher, administrator}
+use Rattle.sd_model_record.specs.Replying.{admin_events}
+use Rattle.sd_model_serve.specs.Acts.{acts_by, events_by, events_of, asks}
+use Rattle.sd_model_serve.specs.Rounds.{Round, swaps_at}
+use Rattle.sd_model_serve.specs.Sessions.{Broadcast, acts_in, events_in}
+use Rattle.sd_model_serve.specs.Served.{Ran, JoinsAs, is_swap, AsksNoSwap}
+
+-- what isn't a swap hands out no table
+no_table_admitted : (state : State) (who : ℕ) (s : _) (answer : Option Cause) → table_in (admitted state who s answer).reply ≡ None
+no_table_admitted state who s None = refl
+no_table_admitted state who s (Some cause) = refl
+
+no_table : (limits : Limits) (policy : Policy) (state : State) (who : ℕ) (event : Event) → is_swap event ≡ false → table_in (step limits policy state who event).reply ≡ None
+no_table limits policy state who (Submit s) h = no_table_admitted state who s (refusal limits state s)
+no_table limits policy state who Swap h = absurd (cc)
+no_table limits policy state who (Delete kind pattern) h = refl
+no_table limits policy state who (Dump kind) h = refl
+
+same : (n : ℕ) → (n == n) ≡ true
+same n = nat_eq_equiv.refl n
+
+apart : (m n : ℕ) → (m == n) ≡ false → n ≢ m
+apart m n h is = let e : (m == m) ≡ false = subst (λ k. (m == k) ≡ false) is h in let t = same m in absurd (cc)
+
+-- where nothing of a list with this event before it is a swap, neither is the event, and nothing of the rest is
+first_isnt : (b : Bool) (event : Event) (rest : List Event) → (if b then event ∷ rest else rest) ≡ [] → b ≡ false
+first_isnt true event rest h = absurd (cc)
+first_isnt false event rest h = refl
+
+rest_none : (b : Bool) (event : Event) (rest : List Event) → (if b then event ∷ rest else rest) ≡ [] → rest ≡ []
+rest_none true event rest h = absurd (cc)
+rest_none false event rest h = h
+
+none_behind : (b : Bool) (a : Act) (acts : History) → AsksNoSwap (events_of (if b then a ∷ acts else acts)) → AsksNoSwap (events_of acts)
+none_behind true a acts h = rest_none (is_swap a.event) a.event (filter is_swap (events_of acts)) h
+none_behind false a acts h = h
+
+-- where the others ask for no swap, the flusher's tables are all tables
+tables_by_flusher : (limits : Limits) (policy : Policy) (state : State) (acts : History) → LegalFrom limits policy state acts → ((who : ℕ) → who ≢ flusher → AsksNoSwap (events_by who acts)) → tables acts ≡ tables (acts_by flusher acts)
+tables_by_flusher limits policy state [] legal none = refl
+tables_by_flusher limits policy state (a ∷ acts) legal none =
+    by_test (flusher == a.who) refl (tables_by_flusher limits policy (after limits policy state a) acts legal.1 (λ who other. none_behind (who == a.who) a (acts_by who acts) (none who other))) where
+    by_test : (b : Bool) → (flusher == a.who) ≡ b → tables acts ≡ tables (acts_by flusher acts) → cons_option (table_in a.reply) (tables acts) ≡ tables (if b then a ∷ acts_by flusher acts else acts_by flusher acts)
+    by_test true is rest = ap (cons_option (table_in a.reply)) rest
+    by_test false is rest =
+        let here = subst (λ b. AsksNoSwap (events_of (if b then a ∷ acts_by a.who acts else acts_by a.who acts))) (same a.who) (none a.who (apart flusher a.who is)) in
+        let isnt = first_isnt (is_swap a.event) a.event (filter is_swap (events_by a.who acts)) here in
+        let nothing : table_in a.reply ≡ None = ap table_in legal.0 ∙ no_table limits policy state a.who a.event isnt in
+        ap (λ (t : Option Table). cons_option t (tables acts)) nothing ∙ rest
+
+submits_no_swap : (xs : List Sample) → AsksNoSwap (map Submit xs)
+submits_no_swap [] = refl
+submits_no_swap (x ∷ xs) = submits_no_swap xs
+
+tables_of_swaps : (rounds : List Round) (i : ℕ) → tables (swaps_at rounds i) ≡ map (λ (r : Round). r.tables i) rounds
+tables_of_swaps [] i = refl
+tables_of_swaps (r ∷ rounds) i = ap (λ (ts : List Table). r.tables i ∷ ts) (tables_of_swaps rounds i)
+
+equal : (m n : ℕ) → (m == n) ≡ true → m ≡ n
+equal m n h = eqb-true m n h
+
+events_of_acts : (asked : List Broadcast) (i : ℕ) → events_of (acts_in asked i) ≡ events_in asked
+events_of_acts [] i = refl
+events_of_acts (b ∷ asked) i = ap (λ (es : List Event). b.event ∷ es) (events_of_acts asked i)
+
+module _ (limits : Limits) (policy : Policy) (shards i : ℕ) (brought : List (List Sample)) (rounds : List Round) (asked : List Broadcast) (receivers : List History) (acts : History)
+    (count : length receivers ≡ length brought) (submitted : (r : ℕ) → r < length receivers → events_of (get_or receivers r []) ≡ asks shards i (get_or brought r []))
+    (quiet : AsksNoSwap (events_in asked)) (joins : JoinsAs limits policy receivers (swaps_at rounds i) (acts_in asked i) acts) where
+  -- nobody but the flusher asks for a swap
+  no_swap_by : (who : ℕ) → who ≢ flusher → AsksNoSwap (events_by who acts)
+  no_swap_by who other = by_number (nat_lt who (length receivers)) refl where
+    by_admin : (b : Bool) → (who == administrator) ≡ b → length receivers ≤ who → AsksNoSwap (events_by who acts)
+    by_admin true is above =
+        let e : events_by who acts ≡ events_in asked = ap (λ w. events_by w acts) (equal who administrator is) ∙ ap events_of joins.commanded ∙ events_of_acts asked i in
+        subst AsksNoSwap (sym e) quiet
+    by_admin false is above =
+        let e : events_by who acts ≡ [] = ap events_of (joins.others who above other (λ h. apart who administrator is (sym h))) in
+        subst AsksNoSwap (sym e) refl
+    by_number : (b : Bool) → nat_lt who (length receivers) ≡ b → AsksNoSwap (events_by who acts)
+    by_number true is =
+        let e : events_by who acts ≡ asks shards i (get_or brought who []) = ap events_of (joins.submitted who (ltb-true who (length receivers) is)) ∙ submitted who (ltb-true who (length receivers) is) in
+        subst AsksNoSwap (sym e) (submits_no_swap (part_of (λ (s : Sample). shard s.key shards) i (get_or brought who [])))
+    by_number false is = by_admin (who == administrator) refl (ltb-false who (length receivers) is)
+
+  pub ran_by_callers : Ran limits policy shards brought rounds asked i acts
+  ran_by_callers = record {
+    legal = joins.legal;
+    submitted = λ r below. ap events_of (joins.submitted r (omega arith)) ∙ submitted r (omega arith);
+    swapped = joins.swapped;
+    commanded = joins.commanded;
+    others = λ who above. joins.others who (omega arith);
+    handed_out = tables_by_flusher limits policy empty_state acts joins.legal no_swap_by ∙ ap tables joins.swapped ∙ tables_of_swaps rounds i;
+  }
+
+names_no_swap : (kind : Kind) (names : List (List ℕ)) → AsksNoSwap (map (Delete kind) names)
+names_no_swap kind [] = refl
+names_no_swap kind (name ∷ names) = names_no_swap kind names
+
+-- an admin line asks for no swap
+pub line_no_swap : (answer : Result admin.Command AdminFault) → AsksNoSwap (admin_events answer)
+line_no_swap (Ok admin.Stats) = refl
+line_no_swap (Ok admin.Config) = refl
+line_no_swap (Ok admin.Quit) = refl
+line_no_swap (Ok (admin.Show kind)) = refl
+line_no_swap (Ok (admin.Delete kind names)) = names_no_swap kind names
+line_no_swap (Ok (admin.Health word)) = refl
+line_no_swap (Err fault) = refl
