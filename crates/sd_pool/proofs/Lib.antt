@@ -1,10 +1,11 @@
+pub mod AlongLemmas
+mod CallLemmas
+mod CloseLemmas
+pub mod DealLemmas
+pub mod JoinLemmas
 mod OwnLemmas
+mod SeatLemmas
+mod ShareLemmas
 mod StandsLemmas
 mod ToldLemmas
 mod WhoLemmas
-mod SeatLemmas
-mod CallLemmas
-pub mod AlongLemmas
-mod ShareLemmas
-mod CloseLemmas
-pub mod DealLemmas

@@ -18,5 +18,5 @@ pub use noted::Noted;
 pub use pool::Pool;
 pub use seat::{Room, Seat, Seats};
 pub use setup::Setup;
-pub use shares::{books_are_sums, shares_grow};
+pub use shares::{books_are_sums, histories_join, shares_grow};
 pub use value::ShardValue;
