@@ -3,13 +3,14 @@ use Rattle.std.specs.Prelude.{◌≡◌, ⊤, ℕ, ◌+◌, ◌≤◌, List, [],
 use Rattle.sd_model_text.specs.Names.{shard}
 use Rattle.sd_model_shard.specs.Commands.{DumpRow, in_key_order}
 use Rattle.sd_model_shard.specs.Shard as model
-use Rattle.sd_model_shard.specs.Shard.{Limits, Event, Submit, Reply, Answered}
+use Rattle.sd_model_shard.specs.Shard.{Event, Submit, Reply, Answered}
 use Rattle.sd_key.specs.Kind.{kind_of}
 use Rattle.sd_epoch.specs.Table.{Listing, live_of, table_of}
 use Rattle.sd_shard.specs.declared.shard.Deleted.{Deleted}
 use Rattle.sd_shard.specs.Shard.{placed_of, IsDeletion, IsDump}
 use Rattle.sd_shard.specs.Keys.{KeyList}
 use Rattle.sd_shard.specs.Dump.{DumpList}
+use Rattle.sd_spares.specs.Tables.{IsSpare, IsWithin}
 use Rattle.sd_pool.specs.Setup.{Setup, OnlyOf, who_of}
 use Rattle.sd_pool.specs.Noted.{Noted}
 use Rattle.sd_pool.specs.declared.asks.ShardAsk.{ShardAsk}
@@ -28,17 +29,6 @@ gone_of old new gone = model.Deleted (in_key_order (λ key. key) (beyond old new
 -- a dump's reply: the rows that were appended, in the order of their keys
 abbrev pub shown_of : List DumpRow → List DumpRow → Reply
 shown_of old new = model.Dumped (in_key_order (λ row. row.key) (beyond old new))
-
--- a table of these limits, within them
-pub record IsWithin (most : Limits) (table : Listing) : Type 0 where
-  pub limits : table.limits ≡ most
-  pub rows : length table.listed ≤ most.rows
-  pub entries : length table.held ≤ most.entries
-
--- a table of these limits, without entries
-pub record IsSpare (most : Limits) (table : Listing) : Type 0 where
-  pub limits : table.limits ≡ most
-  pub no_entries : table.held ≡ []
 
 -- a list of keys goes on as a deletion's reply tells, within its room
 pub record KeysGoOn (setup : Setup) (old new : KeyList) (gone : Deleted) : Type 0 where

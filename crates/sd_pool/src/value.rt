@@ -1,7 +1,7 @@
 //! The value behind a turn: a shard that has rows of its own keys alone.
 ghost use Rattle.std.specs.Prelude.{◌≡◌, ◌+◌, ◌<◌, ◌≤◌, [], length, refl, IfOk};
 ghost use Rattle.sd_model_text.specs.Names.{shard};
-ghost use Rattle.sd_model_shard.specs.Shard.{Answered, Swapped, Submit, Swap, Delete, Dump as DumpOf, after_swap, table_of as handed_out};
+ghost use Rattle.sd_model_shard.specs.Shard.{Answered, Swapped, Submit, Swap, Delete, Dump as DumpOf};
 ghost use Rattle.sd_key.specs.Kind.{kind_of};
 ghost use Rattle.sd_epoch.specs.Limits.{limits_of, AreLimits};
 ghost use Rattle.sd_epoch.specs.Table.{table_of};
@@ -9,7 +9,7 @@ ghost use Rattle.sd_shard.specs.Policy.{policy_of};
 ghost use Rattle.sd_shard.specs.Shard.{placed_of, state_of};
 ghost use Rattle.sd_pool.specs.Setup.{who_of};
 ghost use Rattle.sd_pool.specs.Behind.{setup_of, Stands, Steps as IsStep};
-ghost use Rattle.sd_pool.specs.Asks.{IsSpare, IsWithin};
+ghost use Rattle.sd_spares.specs.Tables.{IsSpare};
 
 use crate::asks::{ShardAsk, ShardReply};
 use crate::noted::Noted;
@@ -17,12 +17,11 @@ use crate::setup::Setup;
 use sd_epoch::{Limits, Table, Who};
 use sd_key::{Kind, Pattern};
 use sd_line::Sample;
-use sd_rows::Steps;
 use sd_shard::{Deleted, Dump, Keys, Placed, Policy, Shard, ShardBook};
+use sd_spares::swap_shard;
 use sd_turn::Stepped;
 use std::alloc::{AllocError, Global};
-use std::marker::{Brand, Model};
-use std::sync::ledger::{Blank, Ledger};
+use std::marker::Model;
 
 /// The caller that is the flusher.
 const FLUSHER: u16 = 100;
@@ -41,22 +40,6 @@ pub(crate) fn caller(receivers: u16, number: u16) -> Who
     } else {
         Who(ADMIN)
     }
-}
-
-// Swaps a shard, with steps that are counted in a ledger of their own.
-fn swap_counted<L: Ledger>(shard: &mut Shard, spare: Table, blank: Blank) -> Table
-    requires spare { IsSpare shard.old.table.limits spare }
-    requires name { blank.name ≡ L.name }
-    requires parts { blank.parts ≡ L.parts }
-    requires some { 0 < blank.parts }
-    ensures table { table_of result ≡ handed_out (state_of shard.old) }
-    ensures within { IsWithin shard.old.table.limits result }
-    ensures state { state_of shard.new ≡ after_swap shard.old.policy (state_of shard.old) }
-    ensures limits { shard.new.table.limits ≡ shard.old.table.limits }
-    ensures policy { shard.new.policy ≡ shard.old.policy }
-{
-    let mut steps: Steps<L> = Steps::new(blank);
-    shard.swap(spare, &mut steps)
 }
 
 /// A shard with rows of its own keys alone, its number among the shards, and how many receivers there are.
@@ -145,7 +128,7 @@ impl ShardValue {
         ensures table { IsOwnTable (setup_of self.old) result }
     {
         let _ = who;
-        swap_counted::<Brand>(&mut self.shard, spare, Blank::new(1))
+        swap_shard(&mut self.shard, spare)
     }
 }
 

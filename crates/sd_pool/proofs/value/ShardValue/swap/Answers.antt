@@ -13,26 +13,26 @@ use Rattle.sd_pool.proofs.value.ShardValue.swap.Goals as goal
 pub invariant_of-self : goal.invariant_of-self
 invariant_of-self c =
     let v = c.self.inside in
-    subst (λ (state : State). OnlyOf v.number v.shards state.live) (sym c.swap_counted.ensures.state)
+    subst (λ (state : State). OnlyOf v.number v.shards state.live) (sym c.swap_shard.ensures.state)
     (OnlyOf-step (setup_of (behind_in v)) (state_of v.shard) c.args.who.0 Swap tt c.self.invariant)
 
 pub returns-clause-step : goal.returns-clause-step
 returns-clause-step c =
     let v = c.self.inside in
-    let new : Behind = record { shard = c.swap_counted.new.shard; number = v.number; shards = v.shards; receivers = v.receivers } in
-    subst (λ (b : Behind). Steps b new c.args.who.0 Swap (Swapped (table_of c.swap_counted.result))) c.self.view_is
+    let new : Behind = record { shard = c.swap_shard.new.shard; number = v.number; shards = v.shards; receivers = v.receivers } in
+    subst (λ (b : Behind). Steps b new c.args.who.0 Swap (Swapped (table_of c.swap_shard.result))) c.self.view_is
     (record {
-      setup = λ i. record { limits = c.swap_counted.ensures.limits i; policy = c.swap_counted.ensures.policy i; shard = v.number; shards = v.shards; receivers = v.receivers };
-      state = c.swap_counted.ensures.state;
-      reply = ap Swapped c.swap_counted.ensures.table;
+      setup = λ i. record { limits = c.swap_shard.ensures.limits i; policy = c.swap_shard.ensures.policy i; shard = v.number; shards = v.shards; receivers = v.receivers };
+      state = c.swap_shard.ensures.state;
+      reply = ap Swapped c.swap_shard.ensures.table;
     })
 
 pub returns-clause-table : goal.returns-clause-table
 returns-clause-table c =
     let v = c.self.inside in
-    let t = c.swap_counted.result in
+    let t = c.swap_shard.result in
     subst (λ (b : Behind). IsOwnTable (setup_of b) t) c.self.view_is
     (record {
-      within = c.swap_counted.ensures.within;
-      own = subst (λ (table : model.Table). OnlyOf v.number v.shards table.live) (sym c.swap_counted.ensures.table) c.self.invariant;
+      within = c.swap_shard.ensures.within;
+      own = subst (λ (table : model.Table). OnlyOf v.number v.shards table.live) (sym c.swap_shard.ensures.table) c.self.invariant;
     })
