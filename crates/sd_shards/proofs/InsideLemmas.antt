@@ -1,14 +1,13 @@
 -- What stays of shards at each call.
 use Rattle.std.proofs.Common.{◌≡◌, ℕ, ◌<◌, ◌≤◌, List, length, vec_len, sym, subst, ◌∙◌, arith}
-use Rattle.std.specs.Prelude.{All}
 use Rattle.std.specs.Vec.{with_items}
 use Rattle.std.proofs.lemmas.List.{length-map, with_items_is}
-use Rattle.sd_model_shard.specs.Shard.{State, Limits}
+use Rattle.sd_model_shard.specs.Shard.{State}
 use Rattle.sd_model_shards.specs.Shards.{AtHome}
 use Rattle.sd_shard.specs.Shard.{Standing, state_of}
 use Rattle.sd_shards.specs.Inside.{AreShards, group_of}
 use Rattle.sd_shards.specs.Shards.{AreAlike, Group}
-use Rattle.sd_shards.specs.Standings.{state_in, limits_in, policy_in, GoBy, GoTogether, IsSpareFor, IsWithin}
+use Rattle.sd_shards.specs.Standings.{state_in, limits_in, policy_in, GoBy, GoTogether}
 use Rattle.sd_shards.specs.declared.shards.Shards.TheInside.{Inside}
 use Rattle.sd_shards.proofs.HomeLemmas.{AtHome-states}
 use Rattle.sd_shards.proofs.StandingLemmas.{GoBy-first, GoTogether-by}
@@ -58,10 +57,8 @@ AreShards-kept s t are kept len = record {
   few = omega (arith, are.few);
   bounds = kept.bounds;
   home = kept.home;
-  spares = subst (λ (l : Limits). All (IsSpareFor l) s.spares.items) (sym kept.limits) are.spares;
-  swapped = subst (λ (l : Limits). All (IsWithin l) s.swapped.items) (sym kept.limits) are.swapped;
+  limits = are.limits ∙ sym kept.limits;
   disjoint = are.disjoint;
   tables = omega (arith, are.tables);
-  spare_room = omega (arith, are.spare_room);
-  swapped_room = omega (arith, are.swapped_room);
+  room = omega (arith, are.room);
 }

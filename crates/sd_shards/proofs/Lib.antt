@@ -4,5 +4,4 @@ mod HomeLemmas
 mod InsideLemmas
 mod RoomLemmas
 mod StandingLemmas
-mod TableLemmas
 mod ToldLemmas

@@ -1,15 +1,9 @@
 -- How many rows there are at most.
 use Rattle.std.proofs.Common.{◌≡◌, ℕ, ◌+◌, ◌*◌, ◌≤◌, Bool, true, false, cond, List, [], ◌∷◌, length, filter, sym, ap, ◌∙◌, arith}
-use Rattle.std.specs.Prelude.{All, sum_by}
 use Rattle.std.specs.FinMap.{entries, from_entries, retain_keys, contains_key, insert, len, len-entries, len-empty, len-insert}
-use Rattle.std.proofs.lemmas.List.Sums.{sum_by-cons}
-use Rattle.std.proofs.lemmas.List.Elements.{All-head, All-tail}
 use Rattle.sd_model_shard.specs.Rows.{RowId, row_cmp, Kept, Rows}
-use Rattle.sd_model_shard.specs.Shard.{Limits}
 use Rattle.sd_model_shard.proofs.RowLemmas.{rows_total}
 use Rattle.sd_model_shard.proofs.ListedLemmas.{retained}
-use Rattle.sd_epoch.specs.Table.{Listing}
-use Rattle.sd_shards.specs.Standings.{IsWithin}
 
 len-from_entries : (es : List (RowId × Kept)) → len (from_entries {R = row_cmp} es) ≤ length es
 len-from_entries [] = let none = len-empty row_cmp Kept in omega arith
@@ -33,11 +27,3 @@ retained_few p es =
     let passed = filter (λ (e : RowId × Kept). p e.0) es in
     let same : length (entries (retain_keys (from_entries {R = row_cmp} es) p)) ≡ len (from_entries {R = row_cmp} passed) = ap (λ (rows : Rows). length (entries rows)) (retained p es) ∙ sym (len-entries (from_entries {R = row_cmp} passed)) in
     omega (arith, same, len-from_entries passed, length-filter_few (λ (e : RowId × Kept). p e.0) es)
-
--- the rows of tables within their limits
-pub rows_within : (most : Limits) (tables : List Listing) → All (IsWithin most) tables → sum_by (λ t. length t.listed) tables ≤ most.rows * length tables
-rows_within most [] all = omega arith
-rows_within most (t ∷ tables) all =
-    let first = All-head (IsWithin most) t tables all in
-    let rest = rows_within most tables (All-tail (IsWithin most) t tables all) in
-    omega (arith, first.rows, rest, sum_by-cons (λ (t : Listing). length t.listed) t tables)

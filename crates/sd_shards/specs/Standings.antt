@@ -1,10 +1,9 @@
--- Shards of the code one beside another, and tables that they are swapped for.
+-- Shards of the code one beside another.
 use Rattle.std.specs.Prelude.{◌≡◌, ◌≢◌, ◌≤◌, ℕ, List, [], ◌∷◌, false, length, map, get_or, All}
 use Rattle.sd_model_text.specs.Names.{shard}
 use Rattle.sd_model_text.specs.Lines.{Sample}
 use Rattle.sd_model_shard.specs.Shard.{Limits, Policy, State, Stepped, Submit, empty_state, step}
 use Rattle.sd_model_shard.specs.Whereabouts.{dropped_in}
-use Rattle.sd_epoch.specs.Table.{Listing}
 use Rattle.sd_shard.specs.Shard.{Standing, state_of}
 
 -- the state of shard i
@@ -28,17 +27,6 @@ GoBy limits policy shards = All (λ s. (s.table.limits ≡ limits) × (s.policy 
 -- each has those of the first
 abbrev pub GoTogether : List Standing → Type 0
 GoTogether shards = GoBy (limits_in shards) (policy_in shards) shards
-
--- a table of these limits, without entries
-pub record IsSpareFor (most : Limits) (spare : Listing) : Type 0 where
-  pub limits : spare.limits ≡ most
-  pub no_entries : spare.held ≡ []
-
--- a table of these limits, and within them
-pub record IsWithin (most : Limits) (table : Listing) : Type 0 where
-  pub limits : table.limits ≡ most
-  pub rows : length table.listed ≤ most.rows
-  pub entries : length table.held ≤ most.entries
 
 -- what the shard of a sample's key does with it
 abbrev pub filing : ℕ → Sample → List Standing → Stepped

@@ -1,11 +1,11 @@
-ghost use Rattle.std.specs.Prelude.{◌≡◌, ◌≤◌, map, replicate, vec_len, vec_capacity, All, IfOk};
+ghost use Rattle.std.specs.Prelude.{◌≡◌, map, replicate, vec_len, IfOk};
 ghost use Rattle.sd_model_shard.specs.Shard.{empty_state};
 ghost use Rattle.sd_epoch.specs.Limits.{limits_of, AreLimits};
 ghost use Rattle.sd_shard.specs.Policy.{policy_of};
 ghost use Rattle.sd_shard.specs.Shard.{state_of};
-ghost use Rattle.sd_shards.specs.Standings.{GoBy, IsSpareFor};
+ghost use Rattle.sd_shards.specs.Standings.{GoBy};
 
-use sd_epoch::{Limits, Table};
+use sd_epoch::Limits;
 use sd_shard::{Policy, Shard};
 use std::alloc::{AllocError, Global};
 
@@ -26,18 +26,4 @@ pub(crate) fn open_shards(
         shards.push_reserved(Shard::open(alloc, limits, policy)?);
     }
     Ok(shards)
-}
-
-/// So many empty tables.
-pub(crate) fn open_spares(alloc: Global, n: u16, limits: Limits) -> Result<Vec<Table>, AllocError>
-    requires { AreLimits (limits_of limits) }
-    ensures len { IfOk result (λ spares. vec_len spares ≡ n) }
-    ensures room { IfOk result (λ spares. n ≤ vec_capacity spares) }
-    ensures empty { IfOk result (λ spares. All (IsSpareFor (limits_of limits)) spares.items) }
-{
-    let mut spares = Vec::with_capacity(alloc, usize::from(n))?;
-    for _i in 0..n {
-        spares.push_reserved(Table::open(alloc, limits)?);
-    }
-    Ok(spares)
 }

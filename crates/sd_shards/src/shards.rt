@@ -18,12 +18,13 @@ ghost use Rattle.sd_shards.specs.Shards.{AreAlike, numbers, state_at};
 
 use crate::book::{ShardsBook, book_of};
 use crate::commands::{delete_all, dump_all};
-use crate::open::{open_shards, open_spares};
+use crate::open::open_shards;
 use crate::packet::{Filed, file_packet};
-use crate::swap::{reclaim, swap_all};
+use crate::swap::swap_all;
 use sd_epoch::{Limits, Table, Who};
 use sd_key::{Kind, Pattern};
 use sd_shard::{Dump, Keys, Policy, Shard};
+use sd_spares::Spares;
 use std::alloc::{AllocError, Global};
 use std::marker::Model;
 
@@ -31,8 +32,7 @@ use std::marker::Model;
 #[derive(Debug, Drop)]
 pub struct Shards {
     shards: Vec<Shard>,
-    spares: Vec<Table>,
-    swapped: Vec<Table>,
+    spares: Spares,
 }
 
 impl Model for Shards {
@@ -66,13 +66,8 @@ impl Shards {
         ensures swapped { IfOk result (λ s. s.swapped ≡ []) }
     {
         let shards = open_shards(alloc, n, limits, policy)?;
-        let spares = open_spares(alloc, n, limits)?;
-        let swapped = Vec::with_capacity(alloc, usize::from(n))?;
-        Ok(Shards {
-            shards,
-            spares,
-            swapped,
-        })
+        let spares = Spares::open(alloc, n, limits)?;
+        Ok(Shards { shards, spares })
     }
 
     /// How many there are.
@@ -105,8 +100,8 @@ impl Shards {
         ensures swapped { self.new.swapped ≡ map (λ i. table_of (state_at self.old i)) (numbers self.old) }
         ensures alike { AreAlike self.old self.new }
     {
-        reclaim(&mut self.swapped, &mut self.spares);
-        swap_all(&mut self.shards, &mut self.spares, &mut self.swapped);
+        self.spares.reclaim();
+        swap_all(&mut self.shards, &mut self.spares);
     }
 
     /// The tables that the last swap took out, in the order of the shards. No row stands in two of them.
@@ -116,7 +111,7 @@ impl Shards {
         ensures entries { All (λ t. length t.held ≤ self.now.limits.entries) result.now }
         ensures disjoint { AreDisjoint result.now }
     {
-        self.swapped.as_slice()
+        self.spares.swapped()
     }
 
     /// Takes the rows of a kind that a pattern matches out of each shard, with all their entries, and leaves their keys, in

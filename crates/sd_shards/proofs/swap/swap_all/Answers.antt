@@ -1,12 +1,10 @@
 use Rattle.std.proofs.Common.{◌≡◌, ◌<◌, List, [], ◌∷◌, ◌++◌, length, get_or, map, take, sym, ap, subst, ◌∙◌, append_assoc, arith}
-use Rattle.std.specs.Prelude.{All}
 use Rattle.std.proofs.lemmas.List.{map_more}
-use Rattle.std.proofs.lemmas.List.Elements.{All-take}
 use Rattle.sd_model_shard.specs.Shard as model
-use Rattle.sd_model_shard.specs.Shard.{Limits, Policy, after_swap, table_of}
+use Rattle.sd_model_shard.specs.Shard.{Policy, after_swap, table_of}
 use Rattle.sd_epoch.specs.Table.{table_of as table_seen}
 use Rattle.sd_shard.specs.Shard.{Standing, state_of}
-use Rattle.sd_shards.specs.Standings.{limits_in, policy_in, IsSpareFor, IsWithin}
+use Rattle.sd_shards.specs.Standings.{limits_in, policy_in}
 use Rattle.sd_shards.proofs.StandingLemmas.{as_it_was, bounds_at, bounds_more, rest_more, states_more}
 use Rattle.sd_shards.proofs.swap.swap_all.Goals as goal
 
@@ -21,20 +19,23 @@ loop-shard-preserved c =
     let same : length now ≡ length first = omega arith in
     let below : i < length first = omega arith in
     let mine = bounds_at (limits_in first) (policy_in first) now i d (omega arith) inv.bounds in
-    let limits : (get_or now i d).table.limits ≡ limits_in first = mine.0 in
     record {
       bounds = bounds_more first now i d below same inv.rest new (limits_in first) (policy_in first) inv.bounds c.swap_one.ensures.limits c.swap_one.ensures.policy;
       swapped_so_far = states_more first now i d below same inv.rest new (after_swap (policy_in first)) inv.swapped_so_far
           (c.swap_one.ensures.state ∙ ap (λ (p : Policy). after_swap p (state_of (get_or now i d))) mine.1);
       rest = rest_more first now i d below same inv.rest new;
-      spares = subst (All (IsSpareFor (limits_in first))) (sym c.swap_one.ensures.spares) (All-take (IsSpareFor (limits_in first)) _ c.loop-shard.spares.items inv.spares);
       left = omega arith;
-      spare_room = c.swap_one.ensures.spare_room ∙ inv.spare_room;
       tables = c.swap_one.ensures.tables ∙ ap (λ (ts : List model.Table). ts ++ table_of (state_of (get_or now i d)) ∷ []) inv.tables
-          ∙ append_assoc (map table_seen c.args.swapped.now.items) (map (λ (s : Standing). table_of (state_of s)) (take i first)) (table_of (state_of (get_or now i d)) ∷ [])
-          ∙ ap (λ (s : Standing). map table_seen c.args.swapped.now.items ++ (map (λ (x : Standing). table_of (state_of x)) (take i first) ++ table_of (state_of s) ∷ [])) (as_it_was first now i d below same inv.rest)
-          ∙ ap (λ (ts : List model.Table). map table_seen c.args.swapped.now.items ++ ts) (sym (map_more (λ (s : Standing). table_of (state_of s)) first i d below));
-      within = subst (λ (l : Limits). All (IsWithin l) c.swap_one.new.swapped.items) limits (c.swap_one.ensures.within (subst (λ (l : Limits). All (IsWithin l) c.loop-shard.swapped.items) (sym limits) inv.within));
+          ∙ append_assoc (map table_seen c.args.spares.now.swapped) (map (λ (s : Standing). table_of (state_of s)) (take i first)) (table_of (state_of (get_or now i d)) ∷ [])
+          ∙ ap (λ (s : Standing). map table_seen c.args.spares.now.swapped ++ (map (λ (x : Standing). table_of (state_of x)) (take i first) ++ table_of (state_of s) ∷ [])) (as_it_was first now i d below same inv.rest)
+          ∙ ap (λ (ts : List model.Table). map table_seen c.args.spares.now.swapped ++ ts) (sym (map_more (λ (s : Standing). table_of (state_of s)) first i d below));
       len = omega arith;
       room = c.swap_one.ensures.room ∙ inv.room;
+      limits = c.swap_one.ensures.spare_limits ∙ inv.limits;
     }
+
+pub swap_one-requires-clause-fits : goal.swap_one-requires-clause-fits
+swap_one-requires-clause-fits c =
+    let first = c.args.shards.now in
+    let inv = c.loop-shard.invariant in
+    inv.limits ∙ c.requires.fits ∙ sym (bounds_at (limits_in first) (policy_in first) c.loop-shard.shard-items c.loop-shard.shard-index c.shard-item.result (omega arith) inv.bounds).0

@@ -1,14 +1,13 @@
-use Rattle.std.proofs.Common.{◌≡◌, length, get_or, sym, ap, subst, ◌∙◌, arith}
-use Rattle.std.specs.Prelude.{All}
+use Rattle.std.proofs.Common.{◌≡◌, List, length, get_or, sym, ap, subst, ◌∙◌, arith}
 use Rattle.std.specs.FinMap.{get-empty}
 use Rattle.std.proofs.lemmas.List.{get_or-replicate}
-use Rattle.std.proofs.lemmas.List.Elements.{All-nil}
 use Rattle.sd_model_shard.specs.Rows.{row_cmp}
-use Rattle.sd_model_shard.specs.Shard.{Limits, empty_state}
+use Rattle.sd_model_shard.specs.Shard.{empty_state}
+use Rattle.sd_epoch.specs.Table.{Listing}
 use Rattle.sd_epoch.specs.Limits.{limits_of}
 use Rattle.sd_record.specs.Rows.{AreDisjoint}
 use Rattle.sd_shard.specs.Policy.{policy_of}
-use Rattle.sd_shards.specs.Standings.{limits_in, IsSpareFor, IsWithin}
+use Rattle.sd_shards.specs.Standings.{limits_in}
 use Rattle.sd_shards.proofs.HomeLemmas.{AtHome-states}
 use Rattle.sd_shards.proofs.StandingLemmas.{GoBy-first, GoTogether-by}
 use Rattle.sd_shards.proofs.shards.Shards.open.Goals as goal
@@ -18,7 +17,6 @@ invariant_of-result c =
     let shards = c.in_ok-shards.shards.items in
     let len : length shards ≡ c.args.n = omega (arith, c.in_ok-shards.ensures.len) in
     let first = GoBy-first (limits_of c.args.limits) (policy_of c.args.policy) shards (omega arith) c.in_ok-shards.ensures.bounds in
-    let none = sym c.in_ok-swapped.ensures.items in
     record {
       some = omega (arith, c.in_ok-shards.ensures.len);
       few = omega (arith, c.in_ok-shards.ensures.len);
@@ -26,10 +24,8 @@ invariant_of-result c =
       home = AtHome-states c.args.n (λ i. empty_state) shards len
           (λ i below. ap (λ states. get_or states i empty_state) c.in_ok-shards.ensures.states ∙ get_or-replicate c.args.n i empty_state empty_state below)
           (λ i id away. get-empty row_cmp id);
-      spares = subst (λ (l : Limits). All (IsSpareFor l) c.in_ok-spares.spares.items) (sym first.0) c.in_ok-spares.ensures.empty;
-      swapped = subst (All (IsWithin (limits_in shards))) none (All-nil (IsWithin (limits_in shards)));
-      disjoint = subst AreDisjoint none tt;
-      tables = omega (arith, c.in_ok-shards.ensures.len, c.in_ok-spares.ensures.len, c.in_ok-swapped.ensures.len);
-      spare_room = omega (arith, c.in_ok-shards.ensures.len, c.in_ok-spares.ensures.room);
-      swapped_room = omega (arith, c.in_ok-shards.ensures.len, c.in_ok-swapped.ensures.exact, c.from.ensures);
+      limits = c.in_ok-spares.ensures.limits ∙ sym first.0;
+      disjoint = subst AreDisjoint (sym c.in_ok-spares.ensures.swapped) tt;
+      tables = omega (arith, c.in_ok-shards.ensures.len, c.in_ok-spares.ensures.waiting, ap (λ (ts : List Listing). length ts) c.in_ok-spares.ensures.swapped);
+      room = omega (arith, c.in_ok-shards.ensures.len, c.in_ok-spares.ensures.room);
     }
