@@ -1,0 +1,3 @@
+pub mod SumLemmas
+pub mod ToldLemmas
+pub mod FilingLemmas
