@@ -20,7 +20,7 @@ pub record AreKept (old new : List Standing) : Type 0 where
   pub bounds : GoTogether new
   pub home : AtHome (length new) (state_in new)
 
-AreKept-by : (old new : List Standing) (states : ℕ → State) → 1 ≤ length old → length new ≡ length old → GoBy (limits_in old) (policy_in old) new
+pub AreKept-by : (old new : List Standing) (states : ℕ → State) → 1 ≤ length old → length new ≡ length old → GoBy (limits_in old) (policy_in old) new
     → ((i : ℕ) → i < length old → state_in new i ≡ states i) → AtHome (length old) states → AreKept old new
 AreKept-by old new states some count all same home =
     let first = GoBy-first (limits_in old) (policy_in old) new (omega arith) all in

@@ -1,5 +1,5 @@
 mod EachLemmas
-mod FiledLemmas
+mod PlayedLemmas
 mod HomeLemmas
 mod InsideLemmas
 mod RoomLemmas

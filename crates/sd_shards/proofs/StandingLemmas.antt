@@ -4,12 +4,9 @@ use Rattle.std.specs.Prelude.{flat_map}
 use Rattle.std.proofs.lemmas.Grind.{flat_map-append}
 use Rattle.std.proofs.lemmas.List.{length-map, map-set, get_or-set_same, get_or-set_other, get_or-map, take_more, drop_more, drop-set-lt}
 use Rattle.std.proofs.lemmas.List.Elements.{All-head, All-get_or, All-set}
-use Rattle.sd_model_text.specs.Names.{shard}
-use Rattle.sd_model_text.specs.Lines.{Sample}
-use Rattle.sd_model_shard.specs.Shard.{State, Stepped, Limits, Policy, Placed, Answered, Submit, empty_state, step}
-use Rattle.sd_model_shard.specs.Whereabouts.{dropped_in}
+use Rattle.sd_model_shard.specs.Shard.{State, Limits, Policy, empty_state}
 use Rattle.sd_shard.specs.Shard.{Standing, state_of}
-use Rattle.sd_shards.specs.Standings.{state_in, limits_in, policy_in, GoBy, GoTogether, IsFiled, filing}
+use Rattle.sd_shards.specs.Standings.{state_in, limits_in, policy_in, GoBy, GoTogether}
 
 -- the first of them does
 pub GoBy-first : (limits : Limits) (policy : Policy) (shards : List Standing) → 1 ≤ length shards → GoBy limits policy shards → (limits_in shards ≡ limits) × (policy_in shards ≡ policy)
@@ -40,39 +37,6 @@ module _ (shards : List Standing) (i : ℕ) (s : Standing) where
 -- the state of the one that stands there
 pub state_in-at : (shards : List Standing) (i : ℕ) (d : Standing) → i < length shards → state_in shards i ≡ state_of (get_or shards i d)
 state_in-at shards i d below = get_or-map state_of shards i d empty_state below
-
--- a sample that the shard of its key took or dropped
-pub filed_one : (who : ℕ) (s : Sample) (shards : List Standing) (i : ℕ) (d after : Standing) (placed : Placed) (dropped : ℕ) → i ≡ shard s.key (length shards) → i < length shards → GoTogether shards
-    → state_of after ≡ (step (get_or shards i d).table.limits (get_or shards i d).policy (state_of (get_or shards i d)) who (Submit s)).state
-    → Answered placed ≡ (step (get_or shards i d).table.limits (get_or shards i d).policy (state_of (get_or shards i d)) who (Submit s)).reply
-    → after.table.limits ≡ (get_or shards i d).table.limits → after.policy ≡ (get_or shards i d).policy → dropped ≡ dropped_in (Answered placed)
-    → IsFiled who s shards (set shards i after) dropped
-filed_one who s shards i d after placed dropped at below together state answer limits policy drops =
-    let before : Standing = get_or shards i d in
-    let goes : State → Limits → Policy → Stepped = λ st l p. step l p st who (Submit s) in
-    let mine : (before.table.limits ≡ limits_in shards) × (before.policy ≡ policy_in shards) =
-    All-get_or (λ (x : Standing). (x.table.limits ≡ limits_in shards) × (x.policy ≡ policy_in shards)) shards i d below together in
-    let same : goes (state_of before) before.table.limits before.policy ≡ filing who s shards =
-    ap (λ l. goes (state_of before) l before.policy) mine.0 ∙ ap (goes (state_of before) (limits_in shards)) mine.1
-    ∙ ap (λ st. goes st (limits_in shards) (policy_in shards)) (sym (state_in-at shards i d below)) ∙ ap (λ k. goes (state_in shards k) (limits_in shards) (policy_in shards)) at in
-    record {
-      bounds = All-set (λ (x : Standing). (x.table.limits ≡ limits_in shards) × (x.policy ≡ policy_in shards)) shards i after (limits ∙ mine.0, policy ∙ mine.1) together;
-      here = ap (state_in (set shards i after)) (sym at) ∙ state_in-here shards i after below ∙ state ∙ ap (λ (t : Stepped). t.state) same;
-      others = λ j other. state_in-other shards i after j (λ is. other (is ∙ at));
-      drops = drops ∙ ap dropped_in answer ∙ ap (λ (t : Stepped). dropped_in t.reply) same;
-    }
-
--- what was filed, by the limits, the policy and the number of the shards
-pub filed_by : (limits : Limits) (policy : Policy) (n who : ℕ) (s : Sample) (old new : List Standing) (dropped : ℕ) → limits_in old ≡ limits → policy_in old ≡ policy → length old ≡ n → IsFiled who s old new dropped
-    → (state_in new (shard s.key n) ≡ (step limits policy (state_in old (shard s.key n)) who (Submit s)).state)
-    × ((i : ℕ) → i ≢ shard s.key n → state_in new i ≡ state_in old i)
-    × (dropped ≡ dropped_in (step limits policy (state_in old (shard s.key n)) who (Submit s)).reply)
-filed_by limits policy n who s old new dropped has_limits has_policy count f =
-    let P : Limits → Policy → ℕ → Type 0 = λ l p m.
-    (state_in new (shard s.key m) ≡ (step l p (state_in old (shard s.key m)) who (Submit s)).state)
-    × ((i : ℕ) → i ≢ shard s.key m → state_in new i ≡ state_in old i)
-    × (dropped ≡ dropped_in (step l p (state_in old (shard s.key m)) who (Submit s)).reply) in
-    subst (λ l. P l policy n) has_limits (subst (λ p. P (limits_in old) p n) has_policy (subst (P (limits_in old) (policy_in old)) count (f.here, f.others, f.drops)))
 
 -- A loop over shards is at one of them, and those behind are as they were.
 module _ (first now : List Standing) (i : ℕ) (d : Standing) (below : i < length first) (same : length now ≡ length first) (rest : drop i now ≡ drop i first) where

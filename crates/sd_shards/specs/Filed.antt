@@ -1,11 +1,10 @@
 -- A datagram over shards: each is given the good samples whose keys belong there.
-use Rattle.std.specs.Prelude.{ℕ, List, length, map, flat_map, sum_by}
+use Rattle.std.specs.Prelude.{ℕ, List, length, map, flat_map}
 use Rattle.std.specs.List.{range_with_len}
 use Rattle.sd_model_text.specs.Names.{shard}
 use Rattle.sd_model_text.specs.Lines.{Sample, samples_of}
 use Rattle.sd_model_shard.specs.Shard.{State, Limits, Policy, Reply, Submit}
 use Rattle.sd_model_shard.specs.History.{Asked, History, after_all, answered, part_of}
-use Rattle.sd_model_shard.specs.Whereabouts.{dropped_in}
 use Rattle.sd_shards.specs.Shards.{Group, state_at}
 
 -- what samples of a caller ask of shard i of so many
@@ -24,10 +23,6 @@ filed_of limits policy who samples shards states i = after_all limits policy (st
 abbrev pub replies_of : Limits → Policy → ℕ → List Sample → ℕ → (ℕ → State) → List Reply
 replies_of limits policy who samples shards states =
     flat_map (λ i. map (λ a. a.reply) (acts_of limits policy who samples shards states i)) (range_with_len 0 shards)
-
--- how many samples are dropped
-abbrev pub drops_of : Limits → Policy → ℕ → List Sample → ℕ → (ℕ → State) → ℕ
-drops_of limits policy who samples shards states = sum_by dropped_in (replies_of limits policy who samples shards states)
 
 -- the state of shard i after a datagram of a caller
 abbrev pub filed_at : Group → ℕ → List ℕ → ℕ → State

@@ -2,5 +2,6 @@ pub mod Book
 pub mod Filed
 pub mod GroupCode
 pub mod Inside
+pub mod Played
 pub mod Shards
 pub mod Standings

@@ -1,9 +1,6 @@
 -- Shards of the code one beside another.
-use Rattle.std.specs.Prelude.{◌≡◌, ◌≢◌, ◌≤◌, ℕ, List, [], ◌∷◌, false, length, map, get_or, All}
-use Rattle.sd_model_text.specs.Names.{shard}
-use Rattle.sd_model_text.specs.Lines.{Sample}
-use Rattle.sd_model_shard.specs.Shard.{Limits, Policy, State, Stepped, Submit, empty_state, step}
-use Rattle.sd_model_shard.specs.Whereabouts.{dropped_in}
+use Rattle.std.specs.Prelude.{◌≡◌, ℕ, List, [], ◌∷◌, false, map, get_or, All}
+use Rattle.sd_model_shard.specs.Shard.{Limits, Policy, State, empty_state}
 use Rattle.sd_shard.specs.Shard.{Standing, state_of}
 
 -- the state of shard i
@@ -27,14 +24,3 @@ GoBy limits policy shards = All (λ s. (s.table.limits ≡ limits) × (s.policy 
 -- each has those of the first
 abbrev pub GoTogether : List Standing → Type 0
 GoTogether shards = GoBy (limits_in shards) (policy_in shards) shards
-
--- what the shard of a sample's key does with it
-abbrev pub filing : ℕ → Sample → List Standing → Stepped
-filing who s shards = step (limits_in shards) (policy_in shards) (state_in shards (shard s.key (length shards))) who (Submit s)
-
--- The shard of a sample's key took its step, and the others are as they were.
-pub record IsFiled (who : ℕ) (s : Sample) (old new : List Standing) (dropped : ℕ) : Type 0 where
-  pub bounds : GoBy (limits_in old) (policy_in old) new
-  pub here : state_in new (shard s.key (length old)) ≡ (filing who s old).state
-  pub others : (i : ℕ) → i ≢ shard s.key (length old) → state_in new i ≡ state_in old i
-  pub drops : dropped ≡ dropped_in (filing who s old).reply

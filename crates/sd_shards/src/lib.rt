@@ -3,11 +3,11 @@
 
 mod book;
 mod commands;
+mod in_hand;
 mod open;
-mod packet;
 mod shards;
 mod swap;
 
 pub use book::ShardsBook;
-pub use packet::Filed;
+pub use sd_filing::Filed;
 pub use shards::Shards;

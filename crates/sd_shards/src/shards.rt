@@ -18,10 +18,11 @@ ghost use Rattle.sd_shards.specs.Shards.{AreAlike, numbers, state_at};
 
 use crate::book::{ShardsBook, book_of};
 use crate::commands::{delete_all, dump_all};
+use crate::in_hand::InHand;
 use crate::open::open_shards;
-use crate::packet::{Filed, file_packet};
 use crate::swap::swap_all;
 use sd_epoch::{Limits, Table, Who};
+use sd_filing::{Filed, file_datagram};
 use sd_key::{Kind, Pattern};
 use sd_shard::{Dump, Keys, Policy, Shard};
 use sd_spares::Spares;
@@ -91,7 +92,7 @@ impl Shards {
         ensures alike { AreAlike self.old self.new }
         ensures swapped { self.new.swapped ≡ self.old.swapped }
     {
-        file_packet(&mut self.shards, who, datagram)
+        file_datagram(&InHand { who }, &mut self.shards, datagram)
     }
 
     /// Swaps each shard, in order, and keeps the tables that they give up to the next swap.

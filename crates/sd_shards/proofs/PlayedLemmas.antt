@@ -1,0 +1,104 @@
+-- What a caller's acts leave of shards in hand.
+use Rattle.std.proofs.Common.{◌≡◌, ◌≢◌, ℕ, zero, suc, ◌+◌, ◌<◌, ◌≤◌, ◌⊎◌, inl, inr, cond, eqb, List, [], ◌∷◌, length, map, get_or, set, refl, sym, ap, subst, ◌∙◌, arith}
+use Rattle.std.specs.Prelude.{All, flat_map, sum_by}
+use Rattle.std.specs.List.{range_with_len}
+use Rattle.std.proofs.lemmas.Bool.{cases_eq, eq-eqb, ne_eqb}
+use Rattle.std.proofs.lemmas.List.{length-set}
+use Rattle.std.proofs.lemmas.List.Elements.{All-head, All-tail, All-get_or, All-set}
+use Rattle.std.proofs.lemmas.List.Sums.{sum_by-cons}
+use Rattle.sd_model_text.specs.Names.{shard}
+use Rattle.sd_model_text.specs.Lines.{Sample}
+use Rattle.sd_model_shard.specs.Shard.{State, Stepped, Limits, Policy, Event, Submit, Reply, step}
+use Rattle.sd_model_shard.specs.History.{Act, Asked, History, LegalFrom, after_all, answered, part_of}
+use Rattle.sd_model_shard.specs.Whereabouts.{dropped_in, told_by}
+use Rattle.sd_model_shard.proofs.HistoryLemmas.{asked_in, legal_is_answered}
+use Rattle.sd_model_shard.proofs.OrderLemmas.{sum_by-flat_map, sum_by-map}
+use Rattle.sd_model_serve.specs.Acts.{asks, events_of, one_at, told_in}
+use Rattle.sd_shard.specs.Shard.{Standing, state_of}
+use Rattle.sd_shards.specs.Filed.{acts_of, asked_of, filed_of, replies_of}
+use Rattle.sd_shards.specs.Played.{AreReady, HavePlayed}
+use Rattle.sd_shards.specs.Standings.{state_in, limits_in, policy_in, GoBy, GoTogether}
+use Rattle.sd_shards.proofs.StandingLemmas.{GoBy-first, GoTogether-by, state_in-at, state_in-here, state_in-other}
+
+-- the shard of a sample's key took its step
+pub played_one : (who : ℕ) (s : Sample) (shards : List Standing) (i : ℕ) (before after : Standing) (reply : Reply) → before ≡ get_or shards i before → i ≡ shard s.key (length shards) → i < length shards → GoTogether shards
+    → state_of after ≡ (step before.table.limits before.policy (state_of before) who (Submit s)).state
+    → reply ≡ (step before.table.limits before.policy (state_of before) who (Submit s)).reply
+    → after.table.limits ≡ before.table.limits → after.policy ≡ before.policy
+    → HavePlayed shards (set shards i after) (one_at (shard s.key (length shards)) (record { who = who; event = Submit s; reply = reply }))
+played_one who s shards i before after reply there at below together state answer limits policy =
+    let home = shard s.key (length shards) in
+    let a : Act = record { who = who; event = Submit s; reply = reply } in
+    let goes : State → Limits → Policy → Stepped = λ st l p. step l p st who (Submit s) in
+    let Alike : Standing → Type 0 = λ x. (x.table.limits ≡ limits_in shards) × (x.policy ≡ policy_in shards) in
+    let mine : Alike before = subst Alike (sym there) (All-get_or Alike shards i before below together) in
+    let same : goes (state_of before) before.table.limits before.policy ≡ goes (state_in shards i) (limits_in shards) (policy_in shards) =
+    ap (λ l. goes (state_of before) l before.policy) mine.0 ∙ ap (goes (state_of before) (limits_in shards)) mine.1
+    ∙ ap (λ st. goes st (limits_in shards) (policy_in shards)) (ap state_of there ∙ sym (state_in-at shards i before below)) in
+    let bounds : GoBy (limits_in shards) (policy_in shards) (set shards i after) = All-set Alike shards i after (limits ∙ mine.0, policy ∙ mine.1) together in
+    let first = GoBy-first (limits_in shards) (policy_in shards) (set shards i after) (omega (arith, length-set shards i after)) bounds in
+    let here : one_at home a i ≡ a ∷ [] = ap (λ b. cond b (a ∷ []) []) (eq-eqb i home at) in
+    let elsewhere : (j : ℕ) → j ≢ i → one_at home a j ≡ [] = λ j other. ap (λ b. cond b (a ∷ []) []) (ne_eqb j home (λ is. other (is ∙ sym at))) in
+    let Legal : ℕ → History → Type 0 = λ j acts. LegalFrom (limits_in shards) (policy_in shards) (state_in shards j) acts in
+    let Left : ℕ → History → Type 0 = λ j acts. state_in (set shards i after) j ≡ after_all (limits_in shards) (policy_in shards) (state_in shards j) acts in
+    let left_here : Left i (a ∷ []) = state_in-here shards i after below ∙ state ∙ ap (λ (t : Stepped). t.state) same in
+    let legal_here : Legal i (a ∷ []) = (answer ∙ ap (λ (t : Stepped). t.reply) same, tt) in
+    let at_place : (P : ℕ → History → Type 0) → P i (a ∷ []) → ((j : ℕ) → j ≢ i → P j []) → (j : ℕ) → (j ≡ i) ⊎ (j ≡ i → ⊥) → P j (one_at home a j) =
+    λ P one others j. by_place P a home one others j here elsewhere in
+    record {
+      count = length-set shards i after;
+      limits = first.0;
+      policy = first.1;
+      bounds = bounds;
+      legal = λ j below_j. at_place Legal legal_here (λ k other. tt) j (cases_eq j i);
+      states = λ j below_j. at_place Left left_here (λ k other. state_in-other shards i after k other) j (cases_eq j i);
+    }
+  where
+    by_place : (P : ℕ → History → Type 0) (a : Act) (home : ℕ) → P i (a ∷ []) → ((j : ℕ) → j ≢ i → P j []) → (j : ℕ) → one_at home a i ≡ a ∷ []
+        → ((k : ℕ) → k ≢ i → one_at home a k ≡ []) → (j ≡ i) ⊎ (j ≡ i → ⊥) → P j (one_at home a j)
+    by_place P a home one others j here elsewhere (inl is) = subst (λ k. P k (one_at home a k)) (sym is) (subst (P i) (sym here) one)
+    by_place P a home one others j here elsewhere (inr other) = subst (P j) (sym (elsewhere j other)) (others j other)
+
+-- they can go on with it
+pub still_ready : (old new : List Standing) (acts : ℕ → History) → AreReady old → HavePlayed old new acts → AreReady new
+still_ready old new acts ready played = record {
+  some = omega (arith, ready.some, played.count);
+  few = omega (arith, ready.few, played.count);
+  bounds = GoTogether-by (limits_in old) (policy_in old) new (omega (arith, ready.some, played.count)) played.bounds;
+}
+
+-- what acts of a caller ask, by the samples whose submission they ask for
+asked_by_samples : (who : ℕ) (acts : History) (own : List Sample) → events_of acts ≡ map Submit own → All (λ a. a.who ≡ who) acts → asked_in acts ≡ map (λ s. record { who = who; event = Submit s }) own
+asked_by_samples who [] [] is all = refl
+asked_by_samples who [] (s ∷ own) is all = absurd (cc)
+asked_by_samples who (a ∷ acts) [] is all = absurd (cc)
+asked_by_samples who (a ∷ acts) (s ∷ own) is all =
+    let event : a.event ≡ Submit s = cc in
+    let rest : events_of acts ≡ map Submit own = cc in
+    let mine = All-head (λ (b : Act). b.who ≡ who) a acts all in
+    let behind = asked_by_samples who acts own rest (All-tail (λ (b : Act). b.who ≡ who) a acts all) in
+    λ k. record { who = mine k; event = event k } ∷ behind k
+
+-- sums over numbers in order that agree below the end
+sums_agree : (f g : ℕ → ℕ) (start count most : ℕ) → start + count ≤ most → ((i : ℕ) → i < most → f i ≡ g i) → sum_by f (range_with_len start count) ≡ sum_by g (range_with_len start count)
+sums_agree f g start zero most within same = refl
+sums_agree f g start (suc count) most within same =
+    omega (arith, sum_by-cons f start (range_with_len (start + 1) count), sum_by-cons g start (range_with_len (start + 1) count), same start (omega arith), sums_agree f g (start + 1) count most (omega arith) same)
+
+-- the samples of a caller, in shards that took them
+module _ (who : ℕ) (samples : List Sample) (old new : List Standing) (acts : ℕ → History) (played : HavePlayed old new acts)
+    (asked : (i : ℕ) → events_of (acts i) ≡ asks (length old) i samples) (whose : (i : ℕ) → All (λ a. a.who ≡ who) (acts i)) where
+  acts_are : (i : ℕ) → i < length old → acts i ≡ acts_of (limits_in old) (policy_in old) who samples (length old) (state_in old) i
+  acts_are i below =
+      sym (legal_is_answered (limits_in old) (policy_in old) (state_in old i) (acts i) (played.legal i below))
+      ∙ ap (answered (limits_in old) (policy_in old) (state_in old i)) (asked_by_samples who (acts i) (part_of (λ s. shard s.key (length old)) i samples) (asked i) (whose i))
+
+  pub filed_are : (i : ℕ) → i < length old → state_in new i ≡ filed_of (limits_in old) (policy_in old) who samples (length old) (state_in old) i
+  filed_are i below = played.states i below ∙ ap (after_all (limits_in old) (policy_in old) (state_in old i)) (acts_are i below)
+
+  pub drops_are : told_in dropped_in (length old) acts ≡ sum_by dropped_in (replies_of (limits_in old) (policy_in old) who samples (length old) (state_in old))
+  drops_are =
+      let mine : ℕ → History = acts_of (limits_in old) (policy_in old) who samples (length old) (state_in old) in
+      sums_agree (λ i. told_by dropped_in (acts i)) (λ i. sum_by dropped_in (map (λ (a : Act). a.reply) (mine i))) 0 (length old) (length old) (omega arith)
+      (λ i below. ap (told_by dropped_in) (acts_are i below) ∙ sym (sum_by-map dropped_in (λ (a : Act). a.reply) (mine i)))
+      ∙ sym (sum_by-flat_map dropped_in (λ i. map (λ (a : Act). a.reply) (mine i)) (range_with_len 0 (length old)))

@@ -1,0 +1,36 @@
+//! Shards that one caller has in hand.
+use sd_epoch::Who;
+use sd_filing::Submit;
+use sd_key::shard_of;
+use sd_line::Sample;
+use sd_shard::{Placed, Shard};
+
+/// A caller who has shards in hand.
+#[derive(Clone, Copy, Debug)]
+pub(crate) struct InHand {
+    pub who: Who,
+}
+
+impl Submit<Vec<Shard>> for InHand {
+    ghost use Rattle.std.specs.Prelude.{length};
+    ghost use Rattle.sd_shards.specs.Played.{AreReady, HavePlayed, none_played, played_next};
+
+    ghost shards = { λ caller shards. length shards.items };
+
+    ghost caller = { λ caller shards. caller.who.0 };
+
+    ghost is_ready = { λ caller shards. AreReady shards.items };
+
+    ghost adds = { λ caller old new acts. HavePlayed old.items new.items acts };
+
+    fn submit(&self, seat: &mut Vec<Shard>, s: &Sample) -> Placed {
+        let home = shard_of(&s.key, seat.len() as u16);
+        seat[usize::from(home)].sample(self.who, s)
+    }
+
+    ghost some_shards = { λ caller shards ready. ready.some };
+
+    ghost adds_none = { λ caller shards ready. none_played shards.items ready };
+
+    ghost adds_next = { λ caller one two three xs ys first second. played_next one.items two.items three.items xs ys first second };
+}
