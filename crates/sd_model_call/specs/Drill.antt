@@ -1,5 +1,5 @@
 -- A drill: the made script, carried out by the settings of an empty file, with a count of bytes in Graphite's place.
-use Rattle.std.specs.Prelude.{ℕ, min, List, [], ◌++◌, length, map, sum_by, codes, None}
+use Rattle.std.specs.Prelude.{ℕ, min, List, [], ◌++◌, length, map, sum_by, codes}
 use Rattle.sd_model_outside.specs.Outside.{Left, Number, Object, fresh, last_count}
 use Rattle.sd_model_settings.specs.Defaults.{default_settings}
 use Rattle.sd_model_replay.specs.Settings.{Settings, goes_by}

@@ -1,5 +1,5 @@
 -- The desk: what the server counts of itself.
-use Rattle.std.specs.Prelude.{◌≡◌, ℕ, ◌+◌, ◌^◌, ◌<◌, ◌≤◌, min, Bool, true, false}
+use Rattle.std.specs.Prelude.{◌≡◌, ℕ, ◌+◌, ◌^◌, ◌<◌, ◌≤◌, min, Bool, true}
 use Rattle.sd_model_outside.specs.Deliveries.{Mark, fault_of}
 use Rattle.sd_model_record.specs.Record.{Tally}
 

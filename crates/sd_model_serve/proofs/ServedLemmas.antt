@@ -53,13 +53,13 @@ tables_by_flusher : (limits : Limits) (policy : Policy) (state : State) (acts : 
 tables_by_flusher limits policy state [] legal none = refl
 tables_by_flusher limits policy state (a ∷ acts) legal none =
     by_test (flusher == a.who) refl (tables_by_flusher limits policy (after limits policy state a) acts legal.1 (λ who other. none_behind (who == a.who) a (acts_by who acts) (none who other))) where
-    by_test : (b : Bool) → (flusher == a.who) ≡ b → tables acts ≡ tables (acts_by flusher acts) → cons_option (table_in a.reply) (tables acts) ≡ tables (if b then a ∷ acts_by flusher acts else acts_by flusher acts)
-    by_test true is rest = ap (cons_option (table_in a.reply)) rest
-    by_test false is rest =
-        let here = subst (λ b. AsksNoSwap (events_of (if b then a ∷ acts_by a.who acts else acts_by a.who acts))) (same a.who) (none a.who (apart flusher a.who is)) in
-        let isnt = first_isnt (is_swap a.event) a.event (filter is_swap (events_by a.who acts)) here in
-        let nothing : table_in a.reply ≡ None = ap table_in legal.0 ∙ no_table limits policy state a.who a.event isnt in
-        ap (λ (t : Option Table). cons_option t (tables acts)) nothing ∙ rest
+      by_test : (b : Bool) → (flusher == a.who) ≡ b → tables acts ≡ tables (acts_by flusher acts) → cons_option (table_in a.reply) (tables acts) ≡ tables (if b then a ∷ acts_by flusher acts else acts_by flusher acts)
+      by_test true is rest = ap (cons_option (table_in a.reply)) rest
+      by_test false is rest =
+          let here = subst (λ b. AsksNoSwap (events_of (if b then a ∷ acts_by a.who acts else acts_by a.who acts))) (same a.who) (none a.who (apart flusher a.who is)) in
+          let isnt = first_isnt (is_swap a.event) a.event (filter is_swap (events_by a.who acts)) here in
+          let nothing : table_in a.reply ≡ None = ap table_in legal.0 ∙ no_table limits policy state a.who a.event isnt in
+          ap (λ (t : Option Table). cons_option t (tables acts)) nothing ∙ rest
 
 submits_no_swap : (xs : List Sample) → AsksNoSwap (map Submit xs)
 submits_no_swap [] = refl
@@ -89,6 +89,7 @@ module _ (limits : Limits) (policy : Policy) (shards i : ℕ) (brought : List (L
     by_admin false is above =
         let e : events_by who acts ≡ [] = ap events_of (joins.others who above other (λ h. apart who administrator is (sym h))) in
         subst AsksNoSwap (sym e) refl
+
     by_number : (b : Bool) → nat_lt who (length receivers) ≡ b → AsksNoSwap (events_by who acts)
     by_number true is =
         let e : events_by who acts ≡ asks shards i (get_or brought who []) = ap events_of (joins.submitted who (ltb-true who (length receivers) is)) ∙ submitted who (ltb-true who (length receivers) is) in

@@ -1,5 +1,5 @@
 -- The rounds of a flusher: what each took out of the shards and the desk, and what it wrote.
-use Rattle.std.specs.Prelude.{◌≡◌, ◌≢◌, ℕ, Bool, true, List, [], ◌∷◌, map, get_or, sum_by}
+use Rattle.std.specs.Prelude.{◌≡◌, ℕ, Bool, true, List, [], ◌∷◌, map, get_or, sum_by}
 use Rattle.std.specs.FinMap.{empty}
 use Rattle.std.specs.List.{AllByRecursion, range_with_len}
 use Rattle.sd_model_outside.specs.Outside.{Object, Rose}

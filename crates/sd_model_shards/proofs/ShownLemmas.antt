@@ -24,7 +24,7 @@ use Rattle.sd_model_record.specs.Replies.{Stats, Rows, Gone, Finish, Health, rep
 use Rattle.sd_model_replay.specs.Settings.{Settings}
 use Rattle.sd_model_replay.specs.Script.{Command, Packet, Flush, Admin}
 use Rattle.sd_model_outside.specs.Deliveries.{Delivery}
-use Rattle.sd_model_record.specs.Backends.{Backend, Graphite, Console, text_of, mark_of}
+use Rattle.sd_model_record.specs.Backends.{Backend, text_of, mark_of}
 use Rattle.sd_model_record.specs.Repeater.{failures}
 use Rattle.sd_model_record.specs.Replying.{admin_events, health_after, keys_in, rows_in, keys_told, rows_told, names_replied}
 use Rattle.sd_model_replay.specs.Replay.{Outcome, Played, Run, first_run, events_in, events_at, acts_in, replies_to, packet_tally, desk_after, desk_after_line, play, run_of, Moment, moments, FlushMoment, flush_by, flushes, record_at, records, deliveries}

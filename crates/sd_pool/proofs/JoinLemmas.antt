@@ -1,14 +1,13 @@
 -- The one history of a shard, as the callers' own acts join.
-use Rattle.std.proofs.Common.{◌≡◌, ◌≢◌, ℕ, zero, suc, ◌+◌, ◌<◌, ◌≤◌, Bool, true, false, cond, eqb, List, [], ◌∷◌, ◌++◌, length, map, get_or, drop, Any, refl, sym, ap, subst, ◌∙◌, arith, zero-add}
+use Rattle.std.proofs.Common.{◌≡◌, ◌≢◌, ℕ, zero, suc, ◌+◌, ◌<◌, ◌≤◌, cond, List, [], ◌∷◌, ◌++◌, length, map, get_or, drop, Any, refl, sym, ap, subst, ◌∙◌, arith, zero-add}
 use Rattle.std.specs.List.{AllByRecursion}
 use Rattle.std.proofs.lemmas.Bool.{ne_eqb}
 use Rattle.std.proofs.lemmas.List.{length-map}
 use Rattle.sd_seats.specs.Lists.{span}
-use Rattle.sd_model_shard.specs.History.{Act, History, state_after}
+use Rattle.sd_model_shard.specs.History.{History}
 use Rattle.sd_model_record.specs.Callers.{flusher, administrator}
 use Rattle.sd_model_serve.specs.Acts.{acts_by}
 use Rattle.sd_model_serve.specs.Served.{JoinsAs}
-use Rattle.sd_pool.specs.Books.{IsBookOf}
 use Rattle.sd_pool.specs.Pool.{ShardHistory, limits_of, own_at, policy_of, who_is}
 use Rattle.sd_pool.specs.declared.pool.Pool.{Pool}
 use Rattle.sd_pool.specs.declared.seat.Seat.{Seat}

@@ -1,6 +1,6 @@
 -- What a caller's acts leave of shards in hand.
-use Rattle.std.proofs.Common.{◌≡◌, ◌≢◌, ℕ, zero, suc, ◌+◌, ◌<◌, ◌≤◌, ◌⊎◌, inl, inr, cond, eqb, List, [], ◌∷◌, length, map, get_or, set, refl, sym, ap, subst, ◌∙◌, arith}
-use Rattle.std.specs.Prelude.{All, flat_map, sum_by}
+use Rattle.std.proofs.Common.{◌≡◌, ◌≢◌, ℕ, zero, suc, ◌+◌, ◌<◌, ◌≤◌, ◌⊎◌, inl, inr, cond, List, [], ◌∷◌, length, map, get_or, set, refl, sym, ap, subst, ◌∙◌, arith}
+use Rattle.std.specs.Prelude.{All, sum_by}
 use Rattle.std.specs.List.{range_with_len}
 use Rattle.std.proofs.lemmas.Bool.{cases_eq, eq-eqb, ne_eqb}
 use Rattle.std.proofs.lemmas.List.{length-set}
@@ -8,14 +8,14 @@ use Rattle.std.proofs.lemmas.List.Elements.{All-head, All-tail, All-get_or, All-
 use Rattle.std.proofs.lemmas.List.Sums.{sum_by-cons}
 use Rattle.sd_model_text.specs.Names.{shard}
 use Rattle.sd_model_text.specs.Lines.{Sample}
-use Rattle.sd_model_shard.specs.Shard.{State, Stepped, Limits, Policy, Event, Submit, Reply, step}
-use Rattle.sd_model_shard.specs.History.{Act, Asked, History, LegalFrom, after_all, answered, part_of}
+use Rattle.sd_model_shard.specs.Shard.{State, Stepped, Limits, Policy, Submit, Reply, step}
+use Rattle.sd_model_shard.specs.History.{Act, History, LegalFrom, after_all, answered, part_of}
 use Rattle.sd_model_shard.specs.Whereabouts.{dropped_in, told_by}
 use Rattle.sd_model_shard.proofs.HistoryLemmas.{asked_in, legal_is_answered}
 use Rattle.sd_model_shard.proofs.OrderLemmas.{sum_by-flat_map, sum_by-map}
 use Rattle.sd_model_serve.specs.Acts.{asks, events_of, one_at, told_in}
 use Rattle.sd_shard.specs.Shard.{Standing, state_of}
-use Rattle.sd_shards.specs.Filed.{acts_of, asked_of, filed_of, replies_of}
+use Rattle.sd_shards.specs.Filed.{acts_of, filed_of, replies_of}
 use Rattle.sd_shards.specs.Played.{AreReady, HavePlayed}
 use Rattle.sd_shards.specs.Standings.{state_in, limits_in, policy_in, GoBy, GoTogether}
 use Rattle.sd_shards.proofs.StandingLemmas.{GoBy-first, GoTogether-by, state_in-at, state_in-here, state_in-other}

@@ -1,5 +1,5 @@
 -- How many rows there are at most.
-use Rattle.std.proofs.Common.{◌≡◌, ℕ, ◌+◌, ◌*◌, ◌≤◌, Bool, true, false, cond, List, [], ◌∷◌, length, filter, sym, ap, ◌∙◌, arith}
+use Rattle.std.proofs.Common.{◌≡◌, ℕ, ◌+◌, ◌≤◌, Bool, true, false, cond, List, [], ◌∷◌, length, filter, sym, ap, ◌∙◌, arith}
 use Rattle.std.specs.FinMap.{entries, from_entries, retain_keys, contains_key, insert, len, len-entries, len-empty, len-insert}
 use Rattle.sd_model_shard.specs.Rows.{RowId, row_cmp, Kept, Rows}
 use Rattle.sd_model_shard.proofs.RowLemmas.{rows_total}

@@ -147,12 +147,7 @@ impl SharedDesk {
 
     /// The flushes that were counted, once there are as many as a caller waits for; 0 waits for none. They are those that the
     /// seat has then seen.
-    pub fn rounds_reached<R: Wait>(
-        &self,
-        rt: &R,
-        enough: u64,
-        own: &mut DeskSeat,
-    ) -> Option<u64>
+    pub fn rounds_reached<R: Wait>(&self, rt: &R, enough: u64, own: &mut DeskSeat) -> Option<u64>
         requires { IsSeatOf self.now own.old }
         ensures seat { IsSeatOf self.now own.new × (number_of_seat own.new ≡ number_of_seat own.old) }
         ensures reached { IfSome result (λ rounds. (0 < enough) × (enough ≤ rounds) × (rounds ≡ (part_of own.new).seen RoundsMade)) }

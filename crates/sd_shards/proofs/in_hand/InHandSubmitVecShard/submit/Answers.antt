@@ -1,10 +1,8 @@
 use Rattle.std.proofs.Common.{◌≡◌, length, vec_len, ap, ◌∙◌, arith}
 use Rattle.sd_model_text.specs.Names.{shard}
 use Rattle.sd_model_text.specs.Lines.{Sample}
-use Rattle.sd_model_shard.specs.Shard.{Answered, Submit}
-use Rattle.sd_model_serve.specs.Acts.{one_at}
+use Rattle.sd_model_shard.specs.Shard.{Answered}
 use Rattle.sd_shard.specs.Shard.{placed_of}
-use Rattle.sd_shards.specs.Played.{HavePlayed}
 use Rattle.sd_shards.proofs.PlayedLemmas.{played_one, still_ready}
 use Rattle.sd_shards.proofs.in_hand.InHandSubmitVecShard.submit.Goals as goal
 

@@ -1,4 +1,4 @@
-use Rattle.std.proofs.Common.{◌≡◌, ℕ, ◌<◌, length, refl, sym, ap, subst, ◌∙◌, arith}
+use Rattle.std.proofs.Common.{◌≡◌, ℕ, ◌<◌, length, sym, ap, subst, ◌∙◌, arith}
 use Rattle.std.specs.Prelude.{sum_by}
 use Rattle.std.proofs.lemmas.List.{length-map}
 use Rattle.sd_model_text.specs.Lines.{samples_of}
@@ -6,7 +6,6 @@ use Rattle.sd_model_shard.specs.Whereabouts.{dropped_in}
 use Rattle.sd_model_shards.proofs.HomeLemmas.{AtHome-samples}
 use Rattle.sd_shard.specs.Shard.{state_of}
 use Rattle.sd_shards.specs.Filed.{filed_at, filed_of, replies_at, replies_of}
-use Rattle.sd_shards.specs.Inside.{group_of}
 use Rattle.sd_shards.specs.Shards.{Group}
 use Rattle.sd_shards.specs.Standings.{state_in, limits_in, policy_in}
 use Rattle.sd_shards.proofs.InsideLemmas.{AreAlike-kept, AreKept, AreKept-by, AreShards-kept}

@@ -7,7 +7,6 @@ use Rattle.sd_epoch.specs.Table.{Listing}
 use Rattle.sd_epoch.specs.Limits.{limits_of}
 use Rattle.sd_record.specs.Rows.{AreDisjoint}
 use Rattle.sd_shard.specs.Policy.{policy_of}
-use Rattle.sd_shards.specs.Standings.{limits_in}
 use Rattle.sd_shards.proofs.HomeLemmas.{AtHome-states}
 use Rattle.sd_shards.proofs.StandingLemmas.{GoBy-first, GoTogether-by}
 use Rattle.sd_shards.proofs.shards.Shards.open.Goals as goal
