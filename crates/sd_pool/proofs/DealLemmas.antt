@@ -15,7 +15,7 @@ use Rattle.sd_pool.specs.Noted.{acts}
 use Rattle.sd_pool.specs.Behind.{setup_of}
 use Rattle.sd_pool.specs.TurnSeats.{AreSeatsOf}
 use Rattle.sd_pool.specs.Along.{Along}
-use Rattle.sd_pool.specs.Pool.{OwnTurn, OwnSeat, turns_in, no_setup, setup_in, setup_at, receivers_of, HasRoom, HasPatternRoom, IsPool, IsRoomOf, IsSeatOf, IsNewSeatOf, who_is}
+use Rattle.sd_pool.specs.Pool.{OwnTurn, OwnSeat, turns_in, no_setup, setup_in, setup_at, receivers_of, HasRoom, HasRoomForOne, IsPool, IsRoomOf, IsSeatOf, IsNewSeatOf, who_is}
 use Rattle.sd_pool.specs.Dealing.{the_setup, IsNew, Given, IsDealt, AreDealt, AreSetUp}
 use Rattle.sd_pool.specs.declared.pool.Pool.{Pool}
 use Rattle.sd_pool.specs.declared.pool.ShardTurn.{ShardTurn}
@@ -42,7 +42,8 @@ dealt_more turns t r n o m s is given named new = record {
   seats = subst (λ (ts : List OwnTurn). AreSeatsOf ts m.seats.items n) (sym (map_push (λ (u : ShardTurn). u.turn) turns t))
       (subst (λ (ss : List OwnSeat). AreSeatsOf (turns_in turns ++ t.turn ∷ []) ss n) (sym given.1) (AreSeatsOf-push (turns_in turns) o.seats.items n t.turn s is.seats new.0 named));
   new = subst (AllByRecursion IsNew) (sym given.1) (All-push IsNew o.seats.items s is.new (new.1, new.2));
-  room = subst HasPatternRoom (sym given.2) is.room;
+  samples = subst HasRoomForOne (sym given.2) is.samples;
+  patterns = subst HasRoomForOne (sym given.3) is.patterns;
 }
 
 pub deal_more : (turns : List ShardTurn) (t : ShardTurn) (r n k : ℕ) (os ns : List Seat) (ss : List OwnSeat) → AreDealt turns r n os → Along Given os ns ss → map (λ (s : OwnSeat). number_of s) ss ≡ span n k
@@ -155,7 +156,8 @@ module _ (pool : Pool) (limits : Limits) (policy : Policy) (r : ℕ) (some : 1 �
         who = is.who ∙ ap (λ m. who_of m n) (sym receivers_are);
         seats = is.seats;
       };
-      room = is.room;
+      samples = is.samples;
+      patterns = is.patterns;
     };
     seen = none_seen s.seats.items is.new;
     own = none_made s.seats.items is.new;

@@ -64,7 +64,7 @@ module _ (b : Behind) (kind : Kind) where
       room = same;
     }
 
--- the one pattern that goes along
-pub only_pattern : (patterns : List (List ℕ)) (pattern : List ℕ) → length patterns ≡ 1 → pattern ≡ get_or patterns 0 pattern → pattern ≡ pattern_in patterns
-only_pattern [] pattern one is = absurd (omega (arith, one))
-only_pattern (p ∷ patterns) pattern one is = is
+-- the one that goes along
+pub only_one : {X : Type 0} (list : List X) (x d : X) → length list ≡ 1 → x ≡ get_or list 0 x → x ≡ get_or list 0 d
+only_one [] x d one is = absurd (omega (arith, one))
+only_one (y ∷ list) x d one is = is

@@ -1,6 +1,7 @@
 -- What asks and replies of a shard are, as the definitions have them.
-use Rattle.std.specs.Prelude.{◌≡◌, ⊤, ℕ, ◌+◌, ◌≤◌, List, [], length, get_or, drop}
-use Rattle.sd_model_text.specs.Names.{shard}
+use Rattle.std.specs.Prelude.{◌≡◌, ℕ, pos, false, ◌+◌, ◌≤◌, List, [], length, get_or, drop}
+use Rattle.sd_model_text.specs.Names.{Counter, shard}
+use Rattle.sd_model_text.specs.Lines.{Sample}
 use Rattle.sd_model_shard.specs.Commands.{DumpRow, in_key_order}
 use Rattle.sd_model_shard.specs.Shard as model
 use Rattle.sd_model_shard.specs.Shard.{Event, Submit, Reply, Answered}
@@ -47,9 +48,17 @@ pub record IsOwnTable (setup : Setup) (table : Listing) : Type 0 where
   pub within : IsWithin setup.limits table
   pub own : OnlyOf setup.shard setup.shards (live_of table)
 
+-- no sample
+abbrev pub no_sample : Sample
+no_sample = record { kind = Counter; key = []; value = pos 0; rate = 0; is_signed = false; member = [] }
+
+-- the one sample in the room that goes along
+abbrev pub sample_in : List Sample → Sample
+sample_in samples = get_or samples 0 no_sample
+
 -- which asks are allowed
 abbrev pub Allows : Setup → ShardAsk → Type 0
-Allows setup (ask.Sample s) = shard s.key setup.shards ≡ setup.shard
+Allows setup (ask.Sample samples) = (shard (sample_in samples.items).key setup.shards ≡ setup.shard) × (length samples.items ≡ 1)
 Allows setup (ask.Delete kind patterns out) = (length out.keys + setup.limits.rows ≤ out.room) × (length patterns.items ≡ 1)
 Allows setup (ask.Dump kind out) = length out.rows + setup.limits.rows ≤ out.room
 Allows setup (ask.Swap spare) = IsSpare setup.limits spare
@@ -60,7 +69,7 @@ pattern_in patterns = get_or patterns 0 []
 
 -- the event that is asked for
 abbrev pub event_of : ShardAsk → Event
-event_of (ask.Sample s) = Submit s
+event_of (ask.Sample samples) = Submit (sample_in samples.items)
 event_of (ask.Delete kind patterns out) = model.Delete (kind_of kind) (pattern_in patterns.items)
 event_of (ask.Dump kind out) = model.Dump (kind_of kind)
 event_of (ask.Swap spare) = model.Swap
@@ -77,14 +86,14 @@ rows_along ask = []
 
 -- the reply, where lists went along
 abbrev pub reply_of : ShardAsk → ShardReply → Reply
-reply_of asked (reply.Placed placed) = Answered (placed_of placed)
+reply_of asked (reply.Placed placed samples) = Answered (placed_of placed)
 reply_of asked (reply.Deleted gone patterns out) = gone_of (keys_along asked) out.keys gone
 reply_of asked (reply.Dumped out) = shown_of (rows_along asked) out.rows
 reply_of asked (reply.Swapped table) = model.Swapped (table_of table)
 
 -- a reply is the one of its ask's kind, and brings back what went along
 abbrev pub Replies : Setup → ShardAsk → ShardReply → Type 0
-Replies setup (ask.Sample s) (reply.Placed placed) = ⊤
+Replies setup (ask.Sample samples) (reply.Placed placed back) = back ≡ samples
 Replies setup (ask.Delete kind patterns old) (reply.Deleted gone back new) = KeysGoOn setup old new gone × (back ≡ patterns)
 Replies setup (ask.Dump kind old) (reply.Dumped new) = RowsGoOn setup old new
 Replies setup (ask.Swap spare) (reply.Swapped table) = IsOwnTable setup table

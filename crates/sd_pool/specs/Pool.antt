@@ -92,14 +92,15 @@ pub record Sits (pool : Pool) (caller : ℕ) (all : List OwnSeat) : Type 0 where
   pub who : caller ≡ who_of (receivers_of pool) number
   pub seats : AreSeatsOf (turns_in pool.turns.items) all number
 
--- there is room for a pattern, and none there
-abbrev pub HasPatternRoom : Vec (List ℕ) Global → Type 0
-HasPatternRoom patterns = (patterns.items ≡ []) × (1 ≤ vec_capacity patterns)
+-- there is room for one, and none there
+abbrev pub HasRoomForOne : {X : Type 0} → Vec X Global → Type 0
+HasRoomForOne list = (list.items ≡ []) × (1 ≤ vec_capacity list)
 
 -- The seat is one of this pool's.
 pub record IsSeatOf (pool : Pool) (seat : Seat) : Type 0 where
   pub sits : Sits pool seat.who.0 seat.seats.items
-  pub room : HasPatternRoom seat.patterns
+  pub samples : HasRoomForOne seat.samples
+  pub patterns : HasRoomForOne seat.patterns
 
 -- the caller
 abbrev pub who_is : Seat → ℕ

@@ -26,10 +26,12 @@ fn open_callers(alloc: Global, receivers: u16) -> Result<Vec<Seat>, AllocError>
 {
     let mut all = Vec::new(alloc);
     for number in 0..receivers + 2 {
+        let samples = Vec::with_capacity(alloc, 1)?;
         let patterns = Vec::with_capacity(alloc, 1)?;
         all.push(Seat {
             who: caller(receivers, number),
             seats: Vec::new(alloc),
+            samples,
             patterns,
         })?;
     }

@@ -165,7 +165,10 @@ impl Stepped for ShardValue {
     fn apply(&mut self, number: u16, ask: ShardAsk) -> ShardReply {
         let who = caller(self.receivers, number);
         match ask {
-            ShardAsk::Sample(s) => ShardReply::Placed(self.sample(who, &s)),
+            ShardAsk::Sample { samples } => {
+                let placed = self.sample(who, &samples[0]);
+                ShardReply::Placed { placed, samples }
+            }
             ShardAsk::Delete {
                 kind,
                 patterns,

@@ -1,10 +1,11 @@
-use Rattle.sd_model_shard.specs.Shard.{Delete}
+use Rattle.sd_model_text.specs.Lines.{Sample}
+use Rattle.sd_model_shard.specs.Shard.{Delete, Submit}
 use Rattle.sd_key.specs.Kind.{kind_of}
-use Rattle.sd_pool.proofs.ToldLemmas.{only_pattern}
+use Rattle.sd_pool.proofs.ToldLemmas.{only_one}
 use Rattle.std.proofs.Common.{ℕ, List, ◌≡◌, [], ◌∷◌, ◌++◌, refl, sym, ap, subst, ◌∙◌}
 use Rattle.sd_pool.specs.Setup.{who_of}
 use Rattle.sd_pool.specs.Behind.{Behind, setup_of, Stands, Steps}
-use Rattle.sd_pool.specs.Asks.{Allows, entry_of}
+use Rattle.sd_pool.specs.Asks.{Allows, entry_of, no_sample}
 use Rattle.sd_pool.specs.declared.asks.ShardAsk.{ShardAsk}
 use Rattle.sd_pool.specs.declared.asks.ShardAsk.TheVariants as ask
 use Rattle.sd_pool.specs.declared.asks.ShardReply.TheVariants as reply
@@ -14,11 +15,15 @@ use Rattle.sd_pool.proofs.value.ShardValueStepped.apply.Goals as goal
 pub returns-in-Sample-clause-stands : goal.returns-in-Sample-clause-stands
 returns-in-Sample-clause-stands c = λ log stands.
     let old = c.args.self.now in
-    let asked = ask.Sample c.in-Sample.s in
-    let n = entry_of (setup_of old) c.args.number asked (reply.Placed c.sample.result) in
+    let samples = c.in-Sample.samples in
+    let replied = reply.Placed c.sample-placed.result samples in
+    let n = entry_of (setup_of old) c.args.number (ask.Sample samples) replied in
+    let allowed = subst (Allows (setup_of old)) c.in-Sample.is c.requires.allowed in
+    let only = only_one samples.items c.index.result.now no_sample allowed.1 c.index.ensures in
     let mine : c.caller-who.result.0 ≡ who_of old.receivers c.args.number = c.caller-who.ensures ∙ ap (λ (b : Behind). who_of b.receivers c.args.number) c.self.view_is in
-    subst (λ (a : ShardAsk). Stands c.sample.new.self (log ++ entry_of (setup_of old) c.args.number a (reply.Placed c.sample.result) ∷ [])) (sym c.in-Sample.is)
-    (Stands-push old c.sample.new.self log n stands (subst (λ who. Steps old c.sample.new.self who n.act.event n.act.reply) mine c.sample.ensures.step) (subst (Allows (setup_of old)) c.in-Sample.is c.requires.allowed) c.requires.seat refl)
+    let step = subst (λ (s : Sample). Steps old c.sample-placed.new.self c.caller-who.result.0 (Submit s) n.act.reply) only c.sample-placed.ensures.step in
+    subst (λ (a : ShardAsk). Stands c.sample-placed.new.self (log ++ entry_of (setup_of old) c.args.number a replied ∷ [])) (sym c.in-Sample.is)
+    (Stands-push old c.sample-placed.new.self log n stands (subst (λ who. Steps old c.sample-placed.new.self who n.act.event n.act.reply) mine step) allowed.0 c.requires.seat refl)
 
 pub returns-in-Delete-clause-stands : goal.returns-in-Delete-clause-stands
 returns-in-Delete-clause-stands c = λ log stands.
@@ -28,7 +33,7 @@ returns-in-Delete-clause-stands c = λ log stands.
     let replied = reply.Deleted c.delete-gone.result patterns c.delete-gone.new.out in
     let n = entry_of (setup_of old) c.args.number (ask.Delete c.in-Delete.kind patterns c.in-Delete.out) replied in
     let mine : c.caller-who.result.0 ≡ who_of old.receivers c.args.number = c.caller-who.ensures ∙ ap (λ (b : Behind). who_of b.receivers c.args.number) c.self.view_is in
-    let only = only_pattern patterns.items c.index.result.now (subst (Allows (setup_of old)) c.in-Delete.is c.requires.allowed).1 c.index.ensures in
+    let only = only_one patterns.items c.index-in-Delete.result.now [] (subst (Allows (setup_of old)) c.in-Delete.is c.requires.allowed).1 c.index-in-Delete.ensures in
     let step = subst (λ (p : List ℕ). Steps old new c.caller-who.result.0 (Delete (kind_of c.in-Delete.kind) p) n.act.reply) only c.delete-gone.ensures.step in
     subst (λ (a : ShardAsk). Stands new (log ++ entry_of (setup_of old) c.args.number a replied ∷ [])) (sym c.in-Delete.is)
     (Stands-push old new log n stands (subst (λ who. Steps old new who n.act.event n.act.reply) mine step) tt c.requires.seat refl)
