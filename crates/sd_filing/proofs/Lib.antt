@@ -1,3 +1,4 @@
+pub mod AddsLemmas
 pub mod SumLemmas
 pub mod ToldLemmas
 pub mod FilingLemmas

@@ -1,10 +1,10 @@
 -- Acts at shards: what they ask for, and what their replies add up to.
-use Rattle.std.proofs.Common.{◌≡◌, ◌≢◌, ℕ, ◌+◌, ◌<◌, Bool, true, false, cond, eqb, List, [], ◌∷◌, ◌++◌, length, map, refl, ap, arith, length-append}
+use Rattle.std.proofs.Common.{◌∙◌, ◌≡◌, ◌≢◌, ℕ, ◌+◌, ◌<◌, Bool, true, false, cond, eqb, List, [], ◌∷◌, ◌++◌, length, map, refl, ap, arith, length-append}
 use Rattle.std.specs.Prelude.{All}
 use Rattle.std.specs.List.{range_with_len}
 use Rattle.std.proofs.lemmas.Bool.{eqb-true, eq-eqb}
 use Rattle.std.proofs.lemmas.List.{map-append}
-use Rattle.std.proofs.lemmas.List.Elements.{All-nil, All-cons}
+use Rattle.std.proofs.lemmas.List.Elements.{filter-append, All-nil, All-cons}
 use Rattle.std.proofs.lemmas.List.Sums.{sum_by-cons, sum_by-append}
 use Rattle.sd_model_text.specs.Names.{shard}
 use Rattle.sd_model_text.specs.Lines.{Sample}
@@ -16,6 +16,12 @@ use Rattle.sd_filing.proofs.SumLemmas.{sum_with_one, sum_by-plus, sum_by-none}
 
 pub events_of-append : (xs ys : History) → events_of (xs ++ ys) ≡ events_of xs ++ events_of ys
 events_of-append xs ys = map-append (λ (a : Act). a.event) xs ys
+
+-- what lists of samples ask one after the other
+pub asks-append : (shards i : ℕ) (xs ys : List Sample) → asks shards i (xs ++ ys) ≡ asks shards i xs ++ asks shards i ys
+asks-append shards i xs ys =
+    ap (map Submit) (filter-append (λ (s : Sample). eqb i (shard s.key shards)) xs ys)
+    ∙ map-append Submit (part_of (λ s. shard s.key shards) i xs) (part_of (λ s. shard s.key shards) i ys)
 
 -- a sample that was submitted, and those behind it
 pub asks-cons : (shards i who : ℕ) (s : Sample) (reply : Reply) (rest : List Sample)

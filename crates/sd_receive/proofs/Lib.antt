@@ -1,0 +1,3 @@
+pub mod FiledLemmas
+pub mod CountedLemmas
+pub mod ReadLemmas

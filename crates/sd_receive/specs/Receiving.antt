@@ -1,0 +1,45 @@
+-- What a receiver did, and how it ended.
+use Rattle.std.specs.Prelude.{◌≡◌, ℕ, ◌+◌, ◌<◌, ◌≤◌, ◌^◌, min, Bool, List, [], ◌∷◌}
+use Rattle.sd_model_outside.specs.Outside.{Object, Rose, last_count}
+use Rattle.sd_model_outside.specs.Turns.{IsSpent}
+use Rattle.sd_model_shard.specs.History.{History}
+use Rattle.sd_model_record.specs.Counts.{Part, RoundsMade, HasCounted, plus, of_tally, of_sends}
+use Rattle.sd_model_record.specs.Record.{Tally}
+use Rattle.sd_model_record.specs.Repeater.{IsRepeated, failures}
+use Rattle.sd_model_serve.specs.Receiving.{FilesDatagrams, HasReceived}
+use Rattle.sd_desk.specs.Tally.{tally_of}
+use Rattle.sd_outside.specs.declared.datagrams.Ended.{Ended}
+use Rattle.sd_outside.specs.declared.datagrams.Ended.TheVariants.{End, Failed, Stopped, Worn}
+use Rattle.sd_receive.specs.declared.received.Received.{Received}
+
+-- A datagram was sent on the wires, its good samples were submitted, and what it counts for was added at the desk, with the
+-- sends that failed.
+pub record TakesDatagram (shards : ℕ) (datagram : List ℕ) (wires wires_now : List Object) (own own_now : ℕ → History) (part part_now : Part) (tally : Tally) (taken : ℕ) : Type 0 where
+  pub failed : List Bool
+  pub filed : FilesDatagrams shards (datagram ∷ []) own own_now tally taken
+  pub sends : IsRepeated datagram failed wires wires_now
+  pub counted : HasCounted (plus (of_tally tally) (of_sends (failures failed))) part part_now
+
+-- the most turns of a source
+abbrev pub most_turns : ℕ
+most_turns = 2 ^ 62
+
+-- Why a receiver ended, after so many turns of its source: the source has nothing left; it failed; so many flushes were
+-- counted as were asked for, as the receiver has then seen; the turns are the most.
+abbrev pub EndsSo : ℕ → Ended → Object → Object → Part → ℕ → Type 0
+EndsSo run_flushes End source source_now part_now turned =
+    IsSpent source_now.told × (source_now.faults ≡ source.faults) × (turned < most_turns)
+EndsSo run_flushes Failed source source_now part_now turned = Rose source.faults source_now.faults × (turned < most_turns)
+EndsSo run_flushes (Stopped rounds) source source_now part_now turned =
+    (0 < run_flushes) × (run_flushes ≤ rounds) × (rounds ≡ part_now.seen RoundsMade) × (source_now.faults ≡ source.faults)
+    × (turned < most_turns)
+EndsSo run_flushes (Worn turns) source source_now part_now turned =
+    (turns ≡ most_turns) × (turned ≡ most_turns) × (source_now.faults ≡ source.faults)
+
+-- What a receiver did, and how it ended. Its source took so many turns, and is where it was.
+pub record Receives (shards run_flushes : ℕ) (source source_now : Object) (wires wires_now : List Object) (own own_now : ℕ → History) (part part_now : Part) (got : Received) : Type 0 where
+  pub received : HasReceived shards source source_now wires wires_now own own_now part part_now (tally_of got.tally) got.taken
+  pub turned : ℕ
+  pub turns : source_now.turns ≡ min (source.turns + turned) last_count
+  pub place : source_now.opened_at ≡ source.opened_at
+  pub ends : EndsSo run_flushes got.ended source source_now part_now turned

@@ -1,0 +1,71 @@
+use crate::received::Received;
+use crate::receiving::receive;
+use crate::shared::Shared;
+use sd_outside::{Clock, Datagrams, Gate, Wire};
+use sd_pool::{Pool, Seat};
+use sd_shared_desk::{DeskSeat, SharedDesk};
+use sd_workers::Worker;
+use std::sync::Wait;
+
+/// The work of one receiver in one value, and what it did, once it was run.
+#[derive(Drop)]
+pub struct Post<D, L> {
+    pub packets: D,
+    pub wires: Vec<L>,
+    pub seat: Seat,
+    pub own: DeskSeat,
+    pub buf: Vec<u8>,
+    pub got: Option<Received>,
+}
+
+impl<D: Datagrams, L: Wire> Post<D, L> {
+    ghost use Rattle.sd_receive.specs.Posts.{IsReady, HasRun};
+
+    /// Receives with the parts of the post, and keeps what that did. It takes no memory.
+    pub fn run<G: Gate, C: Clock, R: Wait>(
+        &mut self,
+        rt: &R,
+        pool: &Pool,
+        desk: &SharedDesk,
+        gate: &G,
+        clock: &C,
+        run_flushes: u64,
+    )
+        requires { IsReady pool.now desk.now self.old }
+        ensures { HasRun D.seen L.seen pool.now desk.now run_flushes self.old self.new }
+    {
+        let got = receive(
+            rt,
+            pool,
+            desk,
+            &mut self.own,
+            &mut self.seat,
+            &mut self.packets,
+            self.wires.as_mut_slice(),
+            gate,
+            clock,
+            &mut self.buf,
+            run_flushes,
+        );
+        self.got = Some(got);
+    }
+}
+
+impl<'a, D: Datagrams, L: Wire, G: Gate, C: Clock> Worker<Shared<'a, G, C>> for Post<D, L> {
+    ghost use Rattle.sd_receive.specs.Posts.{IsReady, HasRun};
+
+    ghost can_run = { λ shared post. IsReady shared.pool.now shared.desk.now post };
+
+    ghost has_run = { λ shared old new. HasRun D.seen L.seen shared.pool.now shared.desk.now shared.run_flushes old new };
+
+    fn run<R: Wait>(&mut self, rt: &R, shared: &Shared<'a, G, C>) {
+        self.run(
+            rt,
+            shared.pool,
+            shared.desk,
+            shared.gate,
+            shared.clock,
+            shared.run_flushes,
+        );
+    }
+}

@@ -1,0 +1,40 @@
+use sd_filing::Submit;
+use sd_line::Sample;
+use sd_outside::Gate;
+use sd_pool::{Pool, Seat};
+use sd_shard::Placed;
+use std::sync::Wait;
+
+/// A pool that a receiver submits to. After each sample that was answered, it passes place 1 of the gate.
+#[derive(Drop)]
+pub(crate) struct Submitting<'a, G, R> {
+    pub rt: &'a R,
+    pub pool: &'a Pool,
+    pub gate: &'a G,
+}
+
+impl<'a, G: Gate, R: Wait> Submit<Seat> for Submitting<'a, G, R> {
+    ghost use Rattle.sd_model_serve.specs.Acts.{Adds};
+    ghost use Rattle.sd_filing.proofs.AddsLemmas.{Adds-none, Adds-next};
+    ghost use Rattle.sd_pool.specs.Pool.{IsSeatOf, own_at, shards_of, who_is};
+
+    ghost shards = { λ group seat. shards_of group.pool.now };
+
+    ghost caller = { λ group seat. who_is seat };
+
+    ghost is_ready = { λ group seat. IsSeatOf group.pool.now seat };
+
+    ghost adds = { λ group old new acts. Adds (shards_of group.pool.now) acts (own_at old) (own_at new) };
+
+    fn submit(&self, seat: &mut Seat, s: &Sample) -> Placed {
+        let placed = self.pool.submit(self.rt, seat, s);
+        self.gate.pass(1);
+        placed
+    }
+
+    ghost some_shards = { λ group seat ready. ready.sits.pool_is.some };
+
+    ghost adds_none = { λ group seat ready. Adds-none (shards_of group.pool.now) (own_at seat) };
+
+    ghost adds_next = { λ group one two three xs ys first second. Adds-next (shards_of group.pool.now) xs ys (own_at one) (own_at two) (own_at three) first second };
+}
