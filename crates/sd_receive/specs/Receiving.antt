@@ -1,5 +1,5 @@
 -- What a receiver did, and how it ended.
-use Rattle.std.specs.Prelude.{◌≡◌, ℕ, ◌+◌, ◌<◌, ◌≤◌, ◌^◌, min, Bool, List, [], ◌∷◌}
+use Rattle.std.specs.Prelude.{◌≡◌, ℕ, ◌+◌, ◌<◌, ◌≤◌, ◌^◌, min, Bool, List, [], ◌∷◌, length, All}
 use Rattle.sd_model_outside.specs.Outside.{Object, Rose, last_count}
 use Rattle.sd_model_outside.specs.Turns.{IsSpent}
 use Rattle.sd_model_shard.specs.History.{History}
@@ -12,13 +12,19 @@ use Rattle.sd_outside.specs.declared.datagrams.Ended.{Ended}
 use Rattle.sd_outside.specs.declared.datagrams.Ended.TheVariants.{End, Failed, Stopped, Worn}
 use Rattle.sd_receive.specs.declared.received.Received.{Received}
 
--- A datagram was sent on the wires, its good samples were submitted, and what it counts for was added at the desk, with the
+-- A datagram was sent on every wire, its good samples were submitted, and what it counts for was added at the desk, with the
 -- sends that failed.
 pub record TakesDatagram (shards : ℕ) (datagram : List ℕ) (wires wires_now : List Object) (own own_now : ℕ → History) (part part_now : Part) (tally : Tally) (taken : ℕ) : Type 0 where
   pub failed : List Bool
   pub filed : FilesDatagrams shards (datagram ∷ []) own own_now tally taken
+  pub every_wire : length failed ≡ length wires
   pub sends : IsRepeated datagram failed wires wires_now
   pub counted : HasCounted (plus (of_tally tally) (of_sends (failures failed))) part part_now
+
+-- The datagrams that a source has given since were taken so, one after another.
+pub record TakesDatagrams (shards : ℕ) (source source_now : Object) (wires wires_now : List Object) (own own_now : ℕ → History) (part part_now : Part) (tally : Tally) (taken : ℕ) : Type 0 where
+  pub received : HasReceived shards source source_now wires wires_now own own_now part part_now tally taken
+  pub every_wire : All (λ s. length s.failed ≡ length wires) received.sendings
 
 -- the most turns of a source
 abbrev pub most_turns : ℕ
@@ -36,9 +42,9 @@ EndsSo run_flushes (Stopped rounds) source source_now part_now turned =
 EndsSo run_flushes (Worn turns) source source_now part_now turned =
     (turns ≡ most_turns) × (turned ≡ most_turns) × (source_now.faults ≡ source.faults)
 
--- What a receiver did, and how it ended. Its source took so many turns, and is where it was.
+-- What a receiver did, and how it ended. Its source took so many turns, counted up to the last count, and is where it was.
 pub record Receives (shards run_flushes : ℕ) (source source_now : Object) (wires wires_now : List Object) (own own_now : ℕ → History) (part part_now : Part) (got : Received) : Type 0 where
-  pub received : HasReceived shards source source_now wires wires_now own own_now part part_now (tally_of got.tally) got.taken
+  pub takes : TakesDatagrams shards source source_now wires wires_now own own_now part part_now (tally_of got.tally) got.taken
   pub turned : ℕ
   pub turns : source_now.turns ≡ min (source.turns + turned) last_count
   pub place : source_now.opened_at ≡ source.opened_at

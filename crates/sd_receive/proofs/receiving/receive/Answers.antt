@@ -1,6 +1,7 @@
-use Rattle.std.proofs.Common.{◌∙◌, refl, arith, rules}
+use Rattle.std.proofs.Common.{sym, ◌∙◌, refl, arith, rules}
+use Rattle.std.proofs.lemmas.List.{length-map}
 use Rattle.sd_model_record.proofs.CountLemmas.{counted_none}
-use Rattle.sd_receive.proofs.ReadLemmas.{read_none, read_next, EndsSo-after}
+use Rattle.sd_receive.proofs.ReadLemmas.{takes_none, takes_next, EndsSo-after}
 use Rattle.sd_receive.proofs.receiving.receive.Goals as goal
 
 pub loop-turn-init : goal.loop-turn-init
@@ -11,7 +12,7 @@ loop-turn-init g c = record {
   who = refl;
   wires = refl;
   room = refl;
-  received = rw c.none-tally.ensures (read_none _ _ _ _ _ _ refl (counted_none _));
+  takes = rw c.none-tally.ensures (takes_none _ _ _ _ _ _ refl (counted_none _));
   turns = omega (arith, g.met.D.Datagrams.turns_fit c.args.packets.now);
   place = refl;
   faults = refl;
@@ -20,28 +21,32 @@ loop-turn-init g c = record {
 pub returns-in-Some-clause-receives : goal.returns-in-Some-clause-receives
 returns-in-Some-clause-receives g c =
     let loop = c.loop-turn.invariant in
-    let ends = rw c.in-Some.is at c.take_turn-turn.ensures.ends in
+    let turn = c.take_turn-turn.ensures in
+    let ends = rw c.in-Some.is at turn.ends in
+    let wires = length-map _ _ ∙ loop.wires ∙ sym (length-map _ _) in
     record {
-      received = rw (c.and-tally.ensures, c.counted-taken.ensures) (read_next _ _ _ _ _ _ _ _ _ _ _ _ _ _ _ _ loop.received c.take_turn-turn.ensures.read);
+      takes = rw (c.and-tally.ensures, c.counted-taken.ensures) (takes_next _ _ _ _ _ _ _ _ _ _ _ _ _ _ _ _ wires loop.takes turn.takes);
       turned = c.loop-turn._turn;
       turns = ends.1 ∙ loop.turns;
-      place = c.take_turn-turn.ensures.place ∙ loop.place;
+      place = turn.place ∙ loop.place;
       ends = EndsSo-after _ _ _ _ _ _ _ ends.0 loop.faults (search rules);
     }
 
 pub loop-turn-preserved : goal.loop-turn-preserved
 loop-turn-preserved g c =
     let loop = c.loop-turn.invariant in
-    let on = rw c.in_default.is at c.take_turn-turn.ensures.goes_on in
+    let turn = c.take_turn-turn.ensures in
+    let on = rw c.in_default.is at turn.goes_on in
+    let wires = length-map _ _ ∙ loop.wires ∙ sym (length-map _ _) in
     record {
-      own = c.take_turn-turn.ensures.own.0;
-      number = c.take_turn-turn.ensures.own.1 ∙ loop.number;
-      seat = c.take_turn-turn.ensures.seat.0;
-      who = c.take_turn-turn.ensures.seat.1 ∙ loop.who;
-      wires = c.take_turn-turn.ensures.wires ∙ loop.wires;
-      room = c.take_turn-turn.ensures.room ∙ loop.room;
-      received = rw (c.and-tally.ensures, c.counted-taken.ensures) (read_next _ _ _ _ _ _ _ _ _ _ _ _ _ _ _ _ loop.received c.take_turn-turn.ensures.read);
+      own = turn.own.0;
+      number = turn.own.1 ∙ loop.number;
+      seat = turn.seat.0;
+      who = turn.seat.1 ∙ loop.who;
+      wires = turn.wires ∙ loop.wires;
+      room = turn.room ∙ loop.room;
+      takes = rw (c.and-tally.ensures, c.counted-taken.ensures) (takes_next _ _ _ _ _ _ _ _ _ _ _ _ _ _ _ _ wires loop.takes turn.takes);
       turns = omega (arith, on.0, loop.turns);
-      place = c.take_turn-turn.ensures.place ∙ loop.place;
+      place = turn.place ∙ loop.place;
       faults = on.1 ∙ loop.faults;
     }
