@@ -1,0 +1,157 @@
+-- The visits of a door's sessions, one after another.
+use Rattle.std.proofs.Common.{◌≡◌, ℕ, zero, suc, ◌+◌, ◌<◌, ◌≤◌, ◌^◌, Bool, true, false, cond, List, [], ◌∷◌, ◌++◌, map, refl, sym, ap, subst, ◌∙◌, arith}
+use Rattle.std.specs.Prelude.{sum_by}
+use Rattle.std.specs.List.{AllByRecursion}
+use Rattle.std.proofs.lemmas.List.{map-append}
+use Rattle.std.proofs.lemmas.List.Sums.{sum_by-append, sum_by-cons}
+use Rattle.sd_model_outside.specs.Outside.{Object, Session, Told, HasFailed, Rose, RoseBy, raised}
+use Rattle.sd_model_outside.specs.Turns.{GivesSession, HasLeft, session_of, turned}
+use Rattle.sd_model_record.specs.Counts.{Part, HasCounted, nothing, of_sessions}
+use Rattle.sd_model_serve.specs.Doors.{Visit, IsFresh, IsFaultOf, KeepsDoor, faults_among}
+use Rattle.sd_door.specs.Keeping.{HasKept, Visited}
+use Rattle.sd_door.proofs.DoorLemmas.{Serves, Serves-none, Serves-next, Serves-one, none_counted, counted_more}
+
+all-append : {X : Type 0} (P : X → Type 0) (xs ys : List X) → AllByRecursion P xs → AllByRecursion P ys → AllByRecursion P (xs ++ ys)
+all-append P [] ys a b = b
+all-append P (x ∷ xs) ys a b = (a.0, all-append P xs ys a.1 b)
+
+-- 1 for a visit that is a fault
+abbrev fault_in : Visit → ℕ
+fault_in v = cond v.is_fault 1 0
+
+one_fault : (v : Visit) → faults_among (v ∷ []) ≡ fault_in v
+one_fault v = sum_by-cons fault_in v [] ∙ omega arith
+
+-- a fault of one of two ends
+either_rose : (a b before now : ℕ) → (0 < a → Rose before now) → (0 < b → Rose before now) → 0 < a + b → Rose before now
+either_rose zero b before now first second some = second (omega (arith, some))
+either_rose (suc a) b before now first second some = first (omega arith)
+
+module _ {V : Type 0} (leads : V → V → Visit → Type 0) where
+  Visited-append : (xs ys : List Visit) (old mid new : V) → Visited leads xs old mid → Visited leads ys mid new → Visited leads (xs ++ ys) old new
+  Visited-append [] ys old mid new first second = subst (λ m. Visited leads ys m new) first second
+  Visited-append (x ∷ xs) ys old mid new first second = (first.0, first.1, Visited-append xs ys first.0 mid new first.2 second)
+
+  -- no session was visited
+  pub HasKept-none : (old : V) (door door_now : Object) (part part_now : Part) → door.is_out ≡ false → door_now.told ≡ door.told → door_now.opened_at ≡ door.opened_at → door_now.is_out ≡ door.is_out → door_now.faults ≡ door.faults → HasCounted nothing part part_now
+      → HasKept leads old old door door_now part part_now
+  HasKept-none old door door_now part part_now none told place out same counted = record {
+    visits = [];
+    failures = 0;
+    keeps = record {
+      fresh = tt;
+      causes = tt;
+      served = subst (λ (t : Told). Serves [] [] door.told t) (sym told) (Serves-none door.told);
+      place = place;
+      none_out = out ∙ none;
+      rises = omega (arith, same);
+      faults = omega (arith, same);
+      counted = none_counted part part_now counted;
+    };
+    visited = refl;
+  }
+
+  -- the door failed, and that was counted
+  pub HasKept-failed : (old : V) (door door_now : Object) (part part_now : Part) → door.is_out ≡ false → HasFailed (turned door) door_now → HasCounted (of_sessions 1) part part_now → HasKept leads old old door door_now part part_now
+  HasKept-failed old door door_now part part_now none failed counted = record {
+    visits = [];
+    failures = 1;
+    keeps = record {
+      fresh = tt;
+      causes = tt;
+      served = subst (λ (t : Told). Serves [] [] door.told t) (sym (ap (λ (o : Object). o.told) failed.same)) (Serves-none door.told);
+      place = ap (λ (o : Object). o.opened_at) failed.same;
+      none_out = ap (λ (o : Object). o.is_out) failed.same ∙ none;
+      rises = failed.used.faults;
+      faults = failed.rose;
+      counted = counted;
+    };
+    visited = refl;
+  }
+
+  -- a session was visited, and given back
+  pub HasKept-one : (v : Visit) (old new : V) (door door_mid door_now : Object) (part part_now : Part) → GivesSession v.asking v.told door door_mid → HasLeft v.asking_now v.told_now door_mid door_now → leads old new v → IsFaultOf v
+      → HasCounted (of_sessions (fault_in v)) part part_now → HasKept leads old new door door_now part part_now
+  HasKept-one v old new door door_mid door_now part part_now gives left led cause counted = record {
+    visits = v ∷ [];
+    failures = 0;
+    keeps = record {
+      fresh = ((gives.asking_fresh, gives.answered_fresh), tt);
+      causes = (cause, tt);
+      served = Serves-one (session_of v.asking v.told) (session_of v.asking_now v.told_now) door.told door_mid.told door_now.told (ap (λ (o : Object). o.told) gives.given) (ap (λ (o : Object). o.told) left.given_back);
+      place = ap (λ (o : Object). o.opened_at) left.given_back ∙ sym (ap (λ (o : Object). o.opened_at) gives.given);
+      none_out = ap (λ (o : Object). o.is_out) left.given_back;
+      rises = omega (arith, same, left.rises);
+      faults = by_fault v.is_fault cause (one_fault v);
+      counted = subst (λ n. HasCounted (of_sessions n) part part_now) (let one = one_fault v in let none : fault_in v ≡ 0 + faults_among (v ∷ []) = omega (arith, one) in none) counted;
+    };
+    visited = (new, led, refl);
+  } where
+    same : door.faults ≡ door_mid.faults
+    same = ap (λ (o : Object). o.faults) gives.given
+
+    by_fault : (b : Bool) → (b ≡ true → 0 < v.asking_now.faults + v.told_now.faults) → faults_among (v ∷ []) ≡ cond b 1 0 → RoseBy (0 + faults_among (v ∷ [])) door.faults door_now.faults
+    by_fault true why one = let rose = either_rose _ _ door_mid.faults door_now.faults left.asking_failed left.answered_failed (why refl) in omega (arith, one, rose, same)
+    by_fault false why one = let up = left.rises in omega (arith, one, up, same)
+
+  pub HasKept-next : (old mid new : V) (door door_mid door_now : Object) (part part_mid part_now : Part) → HasKept leads old mid door door_mid part part_mid → HasKept leads mid new door_mid door_now part_mid part_now → HasKept leads old new door door_now part part_now
+  HasKept-next old mid new door door_mid door_now part part_mid part_now a b = record {
+    visits = xs ++ ys;
+    failures = a.failures + b.failures;
+    keeps = record {
+      fresh = all-append IsFresh xs ys a.keeps.fresh b.keeps.fresh;
+      causes = all-append IsFaultOf xs ys a.keeps.causes b.keeps.causes;
+      served =
+          subst (λ (ss : List Session). Serves ss (map back (xs ++ ys)) door.told door_now.told) (sym (map-append taken xs ys))
+          (subst (λ (bs : List Session). Serves (map taken xs ++ map taken ys) bs door.told door_now.told) (sym (map-append back xs ys))
+          (Serves-next (map taken xs) (map back xs) (map taken ys) (map back ys) door.told door_mid.told door_now.told a.keeps.served b.keeps.served));
+      place = b.keeps.place ∙ a.keeps.place;
+      none_out = b.keeps.none_out;
+      rises = omega (arith, a.keeps.rises, b.keeps.rises);
+      faults = let first = a.keeps.faults in let second = b.keeps.faults in omega (arith, count, first, second);
+      counted = subst (λ n. HasCounted (of_sessions n) part part_now) (sym count) (counted_more _ _ part part_mid part_now a.keeps.counted b.keeps.counted);
+    };
+    visited = Visited-append xs ys old mid new a.visited b.visited;
+  } where
+    xs : List Visit
+    xs = a.visits
+
+    ys : List Visit
+    ys = b.visits
+
+    taken : Visit → Session
+    taken v = session_of v.asking v.told
+
+    back : Visit → Session
+    back v = session_of v.asking_now v.told_now
+
+    count : (a.failures + b.failures) + faults_among (xs ++ ys) ≡ (a.failures + faults_among xs) + (b.failures + faults_among ys)
+    count = let e = sum_by-append fault_in xs ys in omega (arith, e)
+
+  -- the desk was looked at before
+  pub HasKept-from : (old new : V) (door door_now : Object) {part_was : Part} (part part_now : Part) → HasCounted nothing part_was part → HasKept leads old new door door_now part part_now → HasKept leads old new door door_now part_was part_now
+  HasKept-from old new door door_now {part_was} part part_now first h = record {
+    visits = h.visits;
+    failures = h.failures;
+    keeps = record {
+      fresh = h.keeps.fresh;
+      causes = h.keeps.causes;
+      served = h.keeps.served;
+      place = h.keeps.place;
+      none_out = h.keeps.none_out;
+      rises = h.keeps.rises;
+      faults = h.keeps.faults;
+      counted = subst (λ n. HasCounted (of_sessions n) part_was part_now) (let n = h.failures + faults_among h.visits in let none : 0 + n ≡ n = omega arith in none) (counted_more 0 (h.failures + faults_among h.visits) part_was part part_now (none_counted part_was part first) h.keeps.counted);
+    };
+    visited = h.visited;
+  }
+
+-- what was counted in a visit and behind it
+pub after_visit : (n : ℕ) (old mid new : Part) → HasCounted nothing old mid → HasCounted (of_sessions n) mid new → HasCounted (of_sessions n) old new
+after_visit n old mid new first second =
+    let none : 0 + n ≡ n = omega arith in
+    subst (λ m. HasCounted (of_sessions m) old new) none (counted_more 0 n old mid new (none_counted old mid first) second)
+
+-- a turn of a door that had taken few
+pub one_turn : (old new first n : ℕ) → new ≡ raised old → old ≡ first + n → first < 2 ^ 62 → n < 2 ^ 62 → new ≡ first + (n + 1)
+one_turn old new first n is so_far few less = omega (arith, is, so_far, few, less)

@@ -1,0 +1,2 @@
+mod DoorLemmas
+mod KeepLemmas

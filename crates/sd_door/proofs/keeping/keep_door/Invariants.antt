@@ -1,0 +1,12 @@
+use Rattle.std.proofs.Common.{◌≡◌, ◌+◌, false}
+use Rattle.sd_shared_desk.specs.Shared.{IsSeatOf, number_of_seat, part_of}
+use Rattle.sd_door.specs.Keeping.{HasKept}
+use Rattle.sd_door.proofs.keeping.keep_door.Given as goal
+
+abbrev pub invariant-loop-turn : goal.invariant-loop-turn
+invariant-loop-turn g l = record {
+  own : IsSeatOf l.desk l.own × (number_of_seat l.own ≡ number_of_seat l.initial.own);
+  ready : g.V.Visitor.can_visit l.visitor;
+  kept : HasKept g.V.Visitor.has_visited l.initial.visitor l.visitor (g.E.Faulty.seen l.initial.door) (g.E.Faulty.seen l.door) (part_of l.initial.own) (part_of l.own);
+  turns : (g.E.Faulty.seen l.door).turns ≡ (g.E.Faulty.seen l.initial.door).turns + l._turn;
+}

@@ -1,0 +1,48 @@
+-- The keeping of a door: the visits of its sessions, and how it ends.
+use Rattle.std.specs.Prelude.{◌≡◌, ℕ, ◌+◌, ◌<◌, ◌≤◌, ◌^◌, Bool, true, false, List, [], ◌∷◌}
+use Rattle.sd_model_outside.specs.Outside.{Object, raised}
+use Rattle.sd_model_outside.specs.Turns.{IsSpent}
+use Rattle.sd_model_record.specs.Counts.{Part, RoundsMade}
+use Rattle.sd_model_serve.specs.Doors.{Visit, KeepsDoor}
+use Rattle.sd_outside.specs.declared.door.DoorEnd.{DoorEnd}
+use Rattle.sd_outside.specs.declared.door.DoorEnd.TheVariants.{End, Stopped, Worn}
+
+-- a visit of which this is seen
+abbrev pub visit_of : (asking asking_now told told_now : Object) → Bool → Visit
+visit_of asking asking_now told told_now is_fault =
+    record { asking = asking; asking_now = asking_now; told = told; told_now = told_now; is_fault = is_fault }
+
+-- Visits were made one after another, each of which leads from what a visitor was to what it is.
+abbrev pub Visited : {V : Type 0} → (V → V → Visit → Type 0) → List Visit → V → V → Type 0
+Visited leads [] old new = new ≡ old
+Visited {V} leads (v ∷ visits) old new = (mid : V) × leads old mid v × Visited leads visits mid new
+
+-- Sessions of a door were visited one after another, and given back.
+pub record HasKept {V : Type 0} (leads : V → V → Visit → Type 0) (old new : V) (door door_now : Object) (part part_now : Part) : Type 0 where
+  pub visits : List Visit
+  pub failures : ℕ
+  pub keeps : KeepsDoor visits failures door door_now part part_now
+  pub visited : Visited leads visits old new
+
+-- how many turns of a door are the most
+abbrev pub most_turns : ℕ
+most_turns = 2 ^ 62
+
+-- By what ended it, after so many turns of the door: the door has nothing left; the flushes that the desk's seat has seen are as
+-- many as were enough, which isn't 0; the door took the most turns, which comes just then.
+abbrev pub EndsAfter : ℕ → DoorEnd → Object → Part → ℕ → Type 0
+EndsAfter enough End door_now part_now turns = IsSpent door_now.told × (turns < most_turns)
+EndsAfter enough (Stopped rounds) door_now part_now turns =
+    (0 < enough) × (enough ≤ rounds) × (rounds ≡ part_now.seen RoundsMade) × (turns < most_turns)
+EndsAfter enough (Worn most) door_now part_now turns = (most ≡ most_turns) × (turns ≡ most_turns)
+
+-- the keeping of a door ended so
+pub record EndsKeeping (enough : ℕ) (ended : DoorEnd) (door door_now : Object) (part_now : Part) : Type 0 where
+  pub turns : ℕ
+  pub turned : door_now.turns ≡ door.turns + turns
+  pub ends : EndsAfter enough ended door_now part_now turns
+
+-- by whether a door goes on: it took a turn; if not, it has nothing left
+abbrev pub Turns : Bool → Object → Object → Type 0
+Turns true door door_now = door_now.turns ≡ raised door.turns
+Turns false door door_now = (door_now.turns ≡ door.turns) × IsSpent door_now.told

@@ -1,0 +1,3 @@
+pub mod HomeLemmas
+pub mod RoundLemmas
+pub mod SwapLemmas

@@ -1,0 +1,111 @@
+-- Rounds, one after another.
+use Rattle.std.proofs.Common.{◌≡◌, ℕ, ◌+◌, ◌<◌, ◌^◌, Bool, List, [], ◌∷◌, ◌++◌, length, map, Option, refl, sym, ap, subst, ◌∙◌, append-nil, append_assoc, arith}
+use Rattle.std.proofs.lemmas.List.{map-append, length_push}
+use Rattle.std.proofs.lemmas.List.Sums.{sum_by-append, sum_by-cons}
+use Rattle.sd_model_outside.specs.Outside.{Object, Told, Ticks, raised}
+use Rattle.sd_model_outside.specs.Turns.{GivesTick, turned, with_ticks}
+use Rattle.sd_model_outside.specs.Deliveries.{Delivery, AfterDeliveries}
+use Rattle.sd_model_outside.proofs.DeliveryLemmas.{AfterDeliveries-push}
+use Rattle.sd_model_outside.proofs.TurnLemmas.{with_ticks-append}
+use Rattle.sd_model_shard.specs.History.{History}
+use Rattle.sd_model_record.specs.Desk.{Marks}
+use Rattle.sd_model_record.specs.Counts.{Count, Amounts, Part, HasCounted, nothing, plus}
+use Rattle.sd_model_record.specs.Backends.{Backend, Graphite, Console, mark_of}
+use Rattle.sd_model_record.proofs.CountLemmas.{counted_none, counted_next}
+use Rattle.sd_model_serve.specs.Rounds.{Round, Form, MakesRound, MakesRounds, MarksFit, round_deliveries, round_text, swap_of, swaps_at, of_round, of_rounds}
+use Rattle.sd_rows.specs.declared.row.Row.{Row}
+use Rattle.sd_pool.proofs.AlongLemmas.{AllByRecursion-append}
+use Rattle.sd_flush.specs.Flushing.{MakesRoundAt, uses_by}
+
+-- what holds at each backend
+pub at_both : (P : Backend → Type 0) → P Graphite → P Console → (b : Backend) → P b
+at_both P graphite console Graphite = graphite
+at_both P graphite console Console = console
+
+-- the same amounts, where they are counted
+counted_as : (a b : Amounts) (old new : Part) → ((c : Count) → a c ≡ b c) → HasCounted a old new → HasCounted b old new
+counted_as a b old new same h = record {
+  rises = h.rises;
+  grows = λ c few. omega (arith, h.grows c few, same c);
+  adds = λ c few. h.adds c few ∙ ap (λ n. old.share c + n) (same c);
+}
+
+-- the same round, by other words for the two flags
+pub round_by : (form : Form) (graphite console graphite_is console_is : Bool) (ts : ℕ) (marks : Marks) (own own_now : ℕ → History) (part part_now : Part) (back back_now : Backend → Object) (waiting : List (List (Option Row)))
+    → graphite ≡ graphite_is → console ≡ console_is → MakesRoundAt form (uses_by graphite console) ts marks own own_now part part_now back back_now waiting
+    → MakesRoundAt form (uses_by graphite_is console_is) ts marks own own_now part part_now back back_now waiting
+round_by form graphite console graphite_is console_is ts marks own own_now part part_now back back_now waiting g c h =
+    subst (λ (x : Bool). MakesRoundAt form (uses_by x console_is) ts marks own own_now part part_now back back_now waiting) g
+    (subst (λ (x : Bool). MakesRoundAt form (uses_by graphite x) ts marks own own_now part part_now back back_now waiting) c h)
+
+-- no ticks before those that are left
+ticks_none : (told : Told) → told ≡ with_ticks [] told
+ticks_none (Ticks left) = refl
+ticks_none told = refl
+
+-- Rounds were made at the ticks that were read, as many.
+pub record SoFar (form : Form) (used : Backend → Bool) (own own_now : ℕ → History) (part part_now : Part) (back back_now : Backend → Object) (beat beat_now : Object) (made : ℕ) : Type 0 where
+  pub rounds : List Round
+  pub are_made : MakesRounds form used rounds own own_now part part_now back back_now
+  pub count : length rounds ≡ made
+  pub given : beat.told ≡ with_ticks (map (λ r. r.ts) rounds) beat_now.told
+  pub same : beat_now ≡ record beat { told = beat_now.told; turns = beat.turns + made }
+
+module _ (form : Form) (used : Backend → Bool) where
+  pub no_rounds : (own : ℕ → History) (part : Part) (back : Backend → Object) (beat : Object) → SoFar form used own own part part back back beat beat 0
+  no_rounds own part back beat = record {
+    rounds = [];
+    are_made = record {
+      swapped = λ i below. sym (append-nil (own i));
+      used = tt;
+      delivered = λ b. refl;
+      counted = counted_as nothing (of_rounds []) part part (λ c. refl) (counted_none part);
+    };
+    count = refl;
+    given = ticks_none beat.told;
+    same = ap (λ (n : ℕ). record beat { turns = n }) (let none : beat.turns ≡ beat.turns + 0 = omega arith in none);
+  }
+
+  module _ (own mid own_now : ℕ → History) (part part_mid part_now : Part) (back back_mid back_now : Backend → Object) where
+    -- a round behind rounds
+    rounds_next : (rounds : List Round) (r : Round) → MakesRounds form used rounds own mid part part_mid back back_mid → MakesRound form used r mid own_now part_mid part_now back_mid back_now
+        → MakesRounds form used (rounds ++ r ∷ []) own own_now part part_now back back_now
+    rounds_next rounds r first second = record {
+      swapped = λ i below.
+          second.swapped i below ∙ ap (λ (acts : History). acts ++ swaps_at (r ∷ []) i) (first.swapped i below)
+          ∙ append_assoc (own i) (swaps_at rounds i) (swaps_at (r ∷ []) i)
+          ∙ ap (λ (acts : History). own i ++ acts) (sym (map-append (λ (q : Round). swap_of (q.tables i)) rounds (r ∷ [])));
+      used = AllByRecursion-append (MarksFit used) rounds (r ∷ []) first.used (second.used, tt);
+      delivered = λ b.
+          let delivery : Round → Delivery = λ q. record { text = round_text form b q; mark = mark_of b q.marks } in
+          subst (λ (ds : List Delivery). AfterDeliveries ds (back b) (back_now b)) (sym (map-append delivery rounds (r ∷ [])))
+          (AfterDeliveries-push (round_deliveries form b rounds) (delivery r) (back b) (back_mid b) (back_now b) (first.delivered b) (second.delivered b));
+      counted = counted_as (plus (of_rounds rounds) (of_round r)) (of_rounds (rounds ++ r ∷ [])) part part_now
+          (λ c. sym (sum_by-append (λ (q : Round). of_round q c) rounds (r ∷ []) ∙ ap (λ n. of_rounds rounds c + n) (sum_by-cons (λ (q : Round). of_round q c) r [] ∙ omega arith)))
+          (counted_next (of_rounds rounds) (of_round r) part part_mid part_now first.counted second.counted);
+    }
+
+    -- a tick, and its round
+    pub SoFar-next : (beat beat_mid beat_now : Object) (made ts : ℕ) (marks : Marks) (waiting : List (List (Option Row))) → beat.turns + made < 2 ^ 63
+        → SoFar form used own mid part part_mid back back_mid beat beat_mid made → GivesTick ts beat_mid beat_now
+        → MakesRoundAt form used ts marks mid own_now part_mid part_now back_mid back_now waiting
+        → SoFar form used own own_now part part_now back back_now beat beat_now (made + 1)
+    SoFar-next beat beat_mid beat_now made ts marks waiting few first tick second = record {
+      rounds = first.rounds ++ second.round ∷ [];
+      are_made = rounds_next first.rounds second.round first.are_made second.made;
+      count = length_push first.rounds second.round ∙ ap (λ n. n + 1) first.count;
+      given = first.given ∙ ap (with_ticks (map (λ (r : Round). r.ts) first.rounds)) told
+          ∙ with_ticks-append beat_now.told (map (λ (r : Round). r.ts) first.rounds) (ts ∷ [])
+          ∙ ap (λ (ticks : List ℕ). with_ticks ticks beat_now.told) (sym times);
+      same = sym (ap (λ (o : Object). record o { told = beat_now.told }) tick)
+          ∙ ap (λ (o : Object). record (turned o) { told = beat_now.told }) first.same
+          ∙ ap (λ (n : ℕ). record beat { told = beat_now.told; turns = n }) once;
+    } where
+      once : raised (beat.turns + made) ≡ beat.turns + (made + 1)
+      once = omega (arith, few)
+
+      told : beat_mid.told ≡ with_ticks (ts ∷ []) beat_now.told
+      told = ap (λ (o : Object). o.told) tick
+
+      times : map (λ (r : Round). r.ts) (first.rounds ++ second.round ∷ []) ≡ map (λ (r : Round). r.ts) first.rounds ++ ts ∷ []
+      times = map-append (λ (r : Round). r.ts) first.rounds (second.round ∷ []) ∙ ap (λ (t : ℕ). map (λ (r : Round). r.ts) first.rounds ++ t ∷ []) second.second

@@ -1,0 +1,67 @@
+-- What a round and a flusher leave.
+use Rattle.std.specs.Prelude.{◌≡◌, ℕ, ◌+◌, ◌<◌, ◌^◌, Bool, List, length, map, Option}
+use Rattle.std.specs.List.{range_with_len}
+use Rattle.sd_model_outside.specs.Outside.{Object, Rose}
+use Rattle.sd_model_outside.specs.Turns.{IsSpent, with_ticks}
+use Rattle.sd_model_settings.specs.Defaults.{Names}
+use Rattle.sd_model_shard.specs.History.{History}
+use Rattle.sd_model_record.specs.Desk.{Marks}
+use Rattle.sd_model_record.specs.Counts.{Part}
+use Rattle.sd_model_record.specs.Backends.{Backend, Graphite, Console}
+use Rattle.sd_model_serve.specs.Rounds.{Round, Form, MakesRound, MakesRounds}
+use Rattle.sd_outside.specs.declared.backend.Backs.{Backs}
+use Rattle.sd_outside.specs.declared.datagrams.Ended.{Ended}
+use Rattle.sd_outside.specs.declared.datagrams.Ended.TheVariants.{End, Failed, Stopped, Worn}
+use Rattle.sd_plan.specs.Plan.{plan_view}
+use Rattle.sd_plan.specs.declared.reckoning.Reckoning.{Reckoning}
+use Rattle.sd_rows.specs.declared.row.Row.{Row}
+use Rattle.sd_epoch.specs.Table.{Listing, table_of}
+use Rattle.sd_pool.specs.Pool.{shards_of}
+use Rattle.sd_pool.specs.declared.pool.Pool.{Pool}
+
+-- how the records of a pool's shards are made and written
+abbrev pub form_of : Pool → Reckoning → Names → Form
+form_of pool plan names = record { shards = shards_of pool; plan = plan_view plan; names = names }
+
+-- whether a backend is used, by the two flags
+abbrev pub uses_by : Bool → Bool → Backend → Bool
+uses_by graphite console Graphite = graphite
+uses_by graphite console Console = console
+
+module _ {B : Type 0} where
+  -- whether a backend is used
+  abbrev pub uses : Backs B → Backend → Bool
+  uses backs = uses_by backs.graphite_used backs.console_used
+
+  -- what is seen of a backend
+  abbrev pub back_of : (B → Object) → Backs B → Backend → Object
+  back_of seen backs Graphite = seen backs.graphite
+  back_of seen backs Console = seen backs.console
+
+-- A round was made at this second, with these marks, and the tables that the shards handed out are the next spares, in the order
+-- of the shards, with their rows in their places.
+pub record MakesRoundAt (form : Form) (uses_it : Backend → Bool) (ts : ℕ) (marks : Marks) (own own_now : ℕ → History) (part part_now : Part) (back back_now : Backend → Object) (waiting : List (List (Option Row))) : Type 0 where
+  pub round : Round
+  pub second : round.ts ≡ ts
+  pub marks_are : round.marks ≡ marks
+  pub made : MakesRound form uses_it round own own_now part part_now back back_now
+  pub tables : List Listing
+  pub handed_out : map table_of tables ≡ map round.tables (range_with_len 0 form.shards)
+  pub turned : waiting ≡ map (λ table. table.places) tables
+
+-- The flusher ended so, after so many rounds: the beat had nothing left; it failed; as many rounds were made as were asked for,
+-- where some were asked for; as many were made as there may be.
+abbrev pub EndsSo : ℕ → Ended → Object → Object → ℕ → Type 0
+EndsSo run_flushes End old new made = IsSpent new.told × (new.faults ≡ old.faults)
+EndsSo run_flushes Failed old new made = Rose old.faults new.faults
+EndsSo run_flushes (Stopped rounds) old new made = (0 < run_flushes) × (rounds ≡ run_flushes) × (made ≡ rounds) × (new.faults ≡ old.faults)
+EndsSo run_flushes (Worn turns) old new made = (turns ≡ 2 ^ 62) × (made ≡ turns) × (new.faults ≡ old.faults)
+
+-- The flusher made a round at each tick that the beat gave, which is otherwise as it was, and ended so.
+pub record Flushes (form : Form) (uses_it : Backend → Bool) (run_flushes : ℕ) (own own_now : ℕ → History) (part part_now : Part) (back back_now : Backend → Object) (beat beat_now : Object) (ended : Ended) : Type 0 where
+  pub rounds : List Round
+  pub made : MakesRounds form uses_it rounds own own_now part part_now back back_now
+  pub given : beat.told ≡ with_ticks (map (λ r. r.ts) rounds) beat_now.told
+  pub turns : beat_now.turns ≡ beat.turns + length rounds
+  pub same : beat_now ≡ record beat { told = beat_now.told; faults = beat_now.faults; turns = beat_now.turns }
+  pub ends : EndsSo run_flushes ended beat beat_now (length rounds)

@@ -1,0 +1,3 @@
+pub mod Flushing
+pub mod Swapping
+pub mod Tables

@@ -1,0 +1,23 @@
+-- The tables of a flusher, as contracts read them.
+use Rattle.std.specs.Prelude.{◌≡◌, ℕ, List, [], length, Option}
+use Rattle.sd_model_shard.specs.Shard.{Limits}
+use Rattle.sd_rows.specs.declared.row.Row.{Row}
+use Rattle.sd_record.specs.Room.{room_for}
+use Rattle.sd_spares.specs.Spares.{Stock}
+use Rattle.sd_flush.specs.declared.tables.Tables.{Tables}
+
+-- the spare tables
+abbrev pub spares_of : Tables → Stock
+spares_of tables = tables.spares
+
+-- the places of the spare tables, of which the first is the next
+abbrev pub waiting_in : Tables → List (List (Option Row))
+waiting_in tables = (spares_of tables).waiting
+
+-- a spare table for each of so many shards with these limits, and room for the record of all of them
+pub record AreTablesFor (limits : Limits) (shards : ℕ) (tables : Tables) : Type 0 where
+  pub limits_are : (spares_of tables).limits ≡ limits
+  pub room : (spares_of tables).room ≡ shards
+  pub all : length (waiting_in tables) ≡ shards
+  pub none_out : (spares_of tables).swapped ≡ []
+  pub record_room : tables.scratch.room ≡ room_for limits shards

@@ -1,0 +1,6 @@
+mod FoundLemmas
+mod TogetherLemmas
+mod CarryLemmas
+mod SwapLemmas
+mod SessionLemmas
+mod VisitLemmas

@@ -1,0 +1,61 @@
+-- The visits of admin sessions, one after another.
+use Rattle.std.proofs.Common.{◌≡◌, ℕ, List, [], ◌∷◌, ap, subst, sym, ◌∙◌}
+use Rattle.sd_model_settings.specs.Settings as file
+use Rattle.sd_model_shard.specs.History.{History}
+use Rattle.sd_model_serve.specs.Doors.{Visit}
+use Rattle.sd_model_serve.specs.Sessions.{Broadcast, Broadcasts, Dialogue, asked_in, lines_in}
+use Rattle.sd_pool.specs.Pool.{own_at, shards_of}
+use Rattle.sd_pool.specs.declared.pool.Pool.{Pool}
+use Rattle.sd_door.specs.Keeping.{Visited}
+use Rattle.sd_session.specs.Keeping.{AreVisitsOf, asked_by}
+use Rattle.sd_session.specs.Visiting.{HasVisited, WorksOn}
+use Rattle.sd_session.specs.declared.visiting.AdminVisitor.{AdminVisitor}
+use Rattle.sd_session.proofs.CarryLemmas.{Broadcasts-none, Broadcasts-next}
+
+module _ {C : Type 0} (may_say : C → ℕ → Type 0) where
+  -- all visits, and the sessions that they held
+  pub record HasVisitedAll (visits : List Visit) (old new : AdminVisitor C) : Type 0 where
+    pub works : WorksOn old new
+    pub dialogues : List Dialogue
+    pub went : AreVisitsOf (shards_of old.pool.now) old.settings.now (may_say old.clock.now) visits dialogues
+    pub asked : Broadcasts (shards_of old.pool.now) (asked_by dialogues) (own_at old.seat.now) (own_at new.seat.now)
+
+  on_the_same : (old mid new : AdminVisitor C) → WorksOn old mid → WorksOn mid new → WorksOn old new
+  on_the_same old mid new a b = record {
+    pool = b.pool ∙ a.pool;
+    settings = b.settings ∙ a.settings;
+    clock = b.clock ∙ a.clock;
+    seat = b.seat ∙ a.seat;
+    space = b.space ∙ a.space;
+  }
+
+  pub visited_all : (visits : List Visit) (old new : AdminVisitor C) → Visited (HasVisited may_say) visits old new → HasVisitedAll visits old new
+  visited_all [] old new same = record {
+    works = record {
+      pool = ap (λ (v : AdminVisitor C). v.pool.now) same;
+      settings = ap (λ (v : AdminVisitor C). v.settings.now) same;
+      clock = ap (λ (v : AdminVisitor C). v.clock.now) same;
+      seat = ap (λ (v : AdminVisitor C). v.seat.ghost_name) same;
+      space = ap (λ (v : AdminVisitor C). v.space.ghost_name) same;
+    };
+    dialogues = [];
+    went = tt;
+    asked = subst (λ (v : AdminVisitor C). Broadcasts (shards_of old.pool.now) [] (own_at old.seat.now) (own_at v.seat.now)) (sym same) (Broadcasts-none (shards_of old.pool.now) (own_at old.seat.now));
+  }
+  visited_all (v ∷ visits) old new h =
+      let mid = h.0 in
+      let first = h.1 in
+      let rest = visited_all visits mid new h.2 in
+      record {
+        works = on_the_same old mid new first.works rest.works;
+        dialogues = first.dialogue ∷ rest.dialogues;
+        went = (
+          first.went,
+          subst (λ (p : Pool). AreVisitsOf (shards_of p) old.settings.now (may_say old.clock.now) visits rest.dialogues) first.works.pool
+              (subst (λ (s : file.Settings). AreVisitsOf (shards_of mid.pool.now) s (may_say old.clock.now) visits rest.dialogues) first.works.settings
+              (subst (λ (k : C). AreVisitsOf (shards_of mid.pool.now) mid.settings.now (may_say k) visits rest.dialogues) first.works.clock rest.went)),
+        );
+        asked =
+            Broadcasts-next (shards_of old.pool.now) (asked_in (lines_in first.dialogue)) (asked_by rest.dialogues) (own_at old.seat.now) (own_at mid.seat.now) (own_at new.seat.now) first.asked
+            (subst (λ (p : Pool). Broadcasts (shards_of p) (asked_by rest.dialogues) (own_at mid.seat.now) (own_at new.seat.now)) first.works.pool rest.asked);
+      }

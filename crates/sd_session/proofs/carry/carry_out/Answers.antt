@@ -1,0 +1,51 @@
+use Rattle.std.proofs.Common.{[], ◌∷◌, sym, ap, ◌∙◌, arith, refl, Ok, Err}
+use Rattle.sd_model_record.specs.Admin.{words}
+use Rattle.sd_model_record.specs.Admin as model
+use Rattle.sd_model_record.specs.Replies as replies
+use Rattle.sd_key.specs.Kind.{kind_of}
+use Rattle.sd_desk.specs.Facts.{facts_view}
+use Rattle.sd_admin.specs.Command.{answer_view, fault_view, health_word_view}
+use Rattle.sd_pool.specs.Pool.{own_at, shards_of}
+use Rattle.sd_command.proofs.CommandLemmas.{few_names}
+use Rattle.sd_session.proofs.CarryLemmas.{Broadcasts-none, carries, given-nil, one_reply, shown}
+use Rattle.sd_session.proofs.carry.carry_out.Goals as goal
+
+pub delete-requires-clause-few : goal.delete-requires-clause-few
+delete-requires-clause-few g c = omega (arith, few_names c.args.line.now (kind_of c.in-Delete.kind) (words c.in-Delete.names.text.now) (sym c.read.ensures ∙ ap answer_view (c.in-Ok.is ∙ ap Ok c.in-Delete.is)))
+
+pub returns-in-Err-clause-carried : goal.returns-in-Err-clause-carried
+returns-in-Err-clause-carried g c =
+    carries _ _ _ _ _ _ _ _ _ _ (Err (fault_view c.in-Err.fault)) [] (sym c.read.ensures ∙ ap answer_view c.in-Err.is) (Broadcasts-none (shards_of c.args.pool.now) (own_at c.args.seat.now))
+    (one_reply (replies.Fault (fault_view c.in-Err.fault)) [] c.write_reply.result _ _ (omega arith) c.write_reply.ensures.ok c.write_reply.ensures.failed (g.met.O.Sink.number_fits c.args.output.now))
+
+pub returns-in-Stats-clause-carried : goal.returns-in-Stats-clause-carried
+returns-in-Stats-clause-carried g c =
+    carries _ _ _ _ _ _ _ _ _ _ (Ok model.Stats) [] (sym c.read.ensures ∙ ap answer_view (c.in-Ok.is ∙ ap Ok c.in-Stats.is)) (Broadcasts-none (shards_of c.args.pool.now) (own_at c.args.seat.now))
+    (one_reply (replies.Stats (facts_view c.args.facts.now) c.args.now) [] c.write_reply-in-Stats.result _ _ (omega arith) c.write_reply-in-Stats.ensures.ok c.write_reply-in-Stats.ensures.failed (g.met.O.Sink.number_fits c.args.output.now))
+
+pub returns-in-Config-clause-carried : goal.returns-in-Config-clause-carried
+returns-in-Config-clause-carried g c =
+    carries _ _ _ _ _ _ _ _ _ _ (Ok model.Config) [] (sym c.read.ensures ∙ ap answer_view (c.in-Ok.is ∙ ap Ok c.in-Config.is)) (Broadcasts-none (shards_of c.args.pool.now) (own_at c.args.seat.now))
+    (one_reply (replies.Config c.args.settings.now) [] c.write_reply-in-Config.result _ _ (omega arith) c.write_reply-in-Config.ensures.ok c.write_reply-in-Config.ensures.failed (g.met.O.Sink.number_fits c.args.output.now))
+
+pub returns-in-Quit-clause-carried : goal.returns-in-Quit-clause-carried
+returns-in-Quit-clause-carried g c =
+    carries _ _ _ _ _ _ _ _ _ _ (Ok model.Quit) [] (sym c.read.ensures ∙ ap answer_view (c.in-Ok.is ∙ ap Ok c.in-Quit.is)) (Broadcasts-none (shards_of c.args.pool.now) (own_at c.args.seat.now))
+    (record { all = refl; written = given-nil _ (g.met.O.Sink.number_fits c.args.output.now) })
+
+pub returns-in-Show-clause-carried : goal.returns-in-Show-clause-carried
+returns-in-Show-clause-carried g c =
+    let d = c.dump_all.ensures.dumps in
+    carries _ _ _ _ _ _ _ _ _ _ (Ok (model.Show (kind_of c.in-Show.kind))) (d.broadcast ∷ []) (sym c.read.ensures ∙ ap answer_view (c.in-Ok.is ∙ ap Ok c.in-Show.is)) d.asked
+    (shown _ (kind_of c.in-Show.kind) d.broadcast c.dump_all.new.dump.rows c.write_reply-in-Show.result _ _ d.event d.told c.write_reply-in-Show.ensures.ok c.write_reply-in-Show.ensures.failed (g.met.O.Sink.number_fits c.args.output.now))
+
+pub returns-in-Health-clause-carried : goal.returns-in-Health-clause-carried
+returns-in-Health-clause-carried g c =
+    let word = health_word_view c.in-Health.word in
+    carries _ _ _ _ _ _ _ _ _ _ (Ok (model.Health word)) [] (sym c.read.ensures ∙ ap answer_view (c.in-Ok.is ∙ ap Ok c.in-Health.is)) (Broadcasts-none (shards_of c.args.pool.now) (own_at c.args.seat.now))
+    (rw (← c.health_after-up.ensures) (one_reply (replies.Health c.health_after-up.result) [] c.write_reply-in-Health.result _ _ (omega arith) c.write_reply-in-Health.ensures.ok c.write_reply-in-Health.ensures.failed (g.met.O.Sink.number_fits c.args.output.now)))
+
+pub returns-in-Delete-clause-carried : goal.returns-in-Delete-clause-carried
+returns-in-Delete-clause-carried g c =
+    let d = c.delete.ensures.deletes in
+    carries _ _ _ _ _ _ _ _ _ _ (Ok (model.Delete (kind_of c.in-Delete.kind) (words c.in-Delete.names.text.now))) d.broadcasts (sym c.read.ensures ∙ ap answer_view (c.in-Ok.is ∙ ap Ok c.in-Delete.is)) d.asked d.replied

@@ -1,0 +1,22 @@
+use Rattle.sd_session.proofs.SwapLemmas.{visits-none}
+use Rattle.sd_session.proofs.VisitLemmas.{visited_all}
+use Rattle.sd_session.proofs.keeping.visit_all.Goals as goal
+
+pub returns-clause-works : goal.returns-clause-works
+returns-clause-works g c =
+    let k = c.keep_door.ensures.kept in
+    (visited_all g.C.Clock.may_say k.visits c.args.visitor.now c.keep_door.new.visitor k.visited).works
+
+pub returns-clause-serves : goal.returns-clause-serves
+returns-clause-serves g c =
+    let k = c.keep_door.ensures.kept in
+    let all = visited_all g.C.Clock.may_say k.visits c.args.visitor.now c.keep_door.new.visitor k.visited in
+    record {
+      visits = k.visits;
+      failures = k.failures;
+      dialogues = all.dialogues;
+      keeps = k.keeps;
+      went = all.went;
+      asked = all.asked;
+      no_swap = visits-none _ _ _ k.visits all.dialogues all.went;
+    }

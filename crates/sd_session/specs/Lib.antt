@@ -1,0 +1,7 @@
+pub mod Asking
+pub mod Lines
+pub mod Space
+pub mod Reading
+pub mod Sessions
+pub mod Visiting
+pub mod Keeping

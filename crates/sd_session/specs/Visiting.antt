@@ -1,0 +1,31 @@
+-- The visitor of admin sessions: what it needs, and what a visit leaves.
+use Rattle.std.specs.Prelude.{◌≡◌, ℕ}
+use Rattle.sd_model_record.specs.Callers.{administrator}
+use Rattle.sd_model_serve.specs.Doors.{Visit}
+use Rattle.sd_model_serve.specs.Sessions.{Dialogue, Broadcasts, asked_in, lines_in}
+use Rattle.sd_pool.specs.Pool.{IsSeatOf, limits_of, own_at, shards_of, who_is}
+use Rattle.sd_session.specs.Keeping.{IsVisitOf}
+use Rattle.sd_session.specs.Space.{IsSpaceFor}
+use Rattle.sd_session.specs.declared.visiting.AdminVisitor.{AdminVisitor}
+
+module _ {C : Type 0} where
+  -- it has the administrator's seat of its pool, and room for the replies
+  pub record CanVisit (visitor : AdminVisitor C) : Type 0 where
+    pub seat : IsSeatOf visitor.pool.now visitor.seat.now
+    pub who : who_is visitor.seat.now ≡ administrator
+    pub space : IsSpaceFor (limits_of visitor.pool.now) (shards_of visitor.pool.now) visitor.space.now
+
+  -- it works with the same as before
+  pub record WorksOn (old new : AdminVisitor C) : Type 0 where
+    pub pool : new.pool.now ≡ old.pool.now
+    pub settings : new.settings.now ≡ old.settings.now
+    pub clock : new.clock.now ≡ old.clock.now
+    pub seat : new.seat.ghost_name ≡ old.seat.ghost_name
+    pub space : new.space.ghost_name ≡ old.space.ghost_name
+
+  -- a session was visited, and went so
+  pub record HasVisited (may_say : C → ℕ → Type 0) (old new : AdminVisitor C) (v : Visit) : Type 0 where
+    pub works : WorksOn old new
+    pub dialogue : Dialogue
+    pub went : IsVisitOf (shards_of old.pool.now) old.settings.now (may_say old.clock.now) v dialogue
+    pub asked : Broadcasts (shards_of old.pool.now) (asked_in (lines_in dialogue)) (own_at old.seat.now) (own_at new.seat.now)

@@ -1,0 +1,109 @@
+ghost use Rattle.std.specs.Prelude.{◌≡◌, ◌*◌, ◌<◌, ◌≤◌, ◌^◌, length};
+ghost use Rattle.sd_model_record.specs.Admin.{names_of};
+ghost use Rattle.sd_model_record.specs.Callers.{administrator};
+ghost use Rattle.sd_model_record.specs.Replying.{health_after as health_left};
+ghost use Rattle.sd_key.specs.Kind.{kind_of};
+ghost use Rattle.sd_desk.specs.Facts.{facts_view};
+ghost use Rattle.sd_admin.specs.Command.{command_view, health_word_view};
+ghost use Rattle.sd_pool.specs.Pool.{IsSeatOf, limits_of, own_at, shards_of, who_is};
+ghost use Rattle.sd_session.specs.Asking.{CarriesOut, DeletesNames};
+
+use crate::together::{delete_all, dump_all};
+use sd_admin::{Command, HealthWord, Reply, write_reply};
+use sd_config::Settings;
+use sd_desk::DeskFacts;
+use sd_key::Kind;
+use sd_outside::{Sink, WriteFault};
+use sd_pool::{Pool, Seat};
+use sd_shard::{Dump, Keys};
+use std::sync::Wait;
+
+/// Deletes the rows of a kind that the names of a command match, name by name, and replies with the keys, up to the name whose
+/// reply is cut.
+fn delete<O: Sink, R: Wait>(
+    rt: &R,
+    pool: &Pool,
+    seat: &mut Seat,
+    kind: Kind,
+    names: &Command<'_>,
+    keys: &mut Keys,
+    output: &mut O,
+) -> Result<(), WriteFault>
+    requires seat { IsSeatOf pool.now seat.old × (who_is seat.old ≡ administrator) }
+    requires few { length (names_of (command_view names.now)) < 2 ^ 64 }
+    requires room { shards_of pool.now * (limits_of pool.now).rows ≤ keys.old.room }
+    ensures seat { IsSeatOf pool.now seat.new × (who_is seat.new ≡ administrator) }
+    ensures room { keys.new.room ≡ keys.old.room }
+    ensures deletes { DeletesNames (shards_of pool.now) (kind_of kind) (names_of (command_view names.now)) result (own_at seat.old) (own_at seat.new) (O.seen output.old) (O.seen output.new) }
+{
+    let mut i = 0;
+    while let Some(name) = names.name(i) {
+        delete_all(rt, pool, seat, kind, &name, keys);
+        let reply = Reply::Gone {
+            pattern: &name,
+            keys,
+        };
+        write_reply(&reply, output)?;
+        i += 1;
+    }
+    write_reply(&Reply::Finish, output)
+}
+
+/// How the health is after a word, where it was so before.
+fn health_after(word: HealthWord, up: bool) -> bool
+    ensures { result ≡ health_left (health_word_view word) up }
+{
+    match word {
+        HealthWord::Up => true,
+        HealthWord::Down => false,
+        HealthWord::Ask => up,
+    }
+}
+
+/// Carries out by all shards what a line asks for that came now, and replies, with what the desk told of itself before it.
+///
+/// # Errors
+///
+/// `WriteFault` where the output failed. Then a front of the reply was written, and the names of a deletion behind the one whose
+/// reply was cut aren't carried out.
+pub(crate) fn carry_out<O: Sink, R: Wait>(
+    rt: &R,
+    pool: &Pool,
+    seat: &mut Seat,
+    keys: &mut Keys,
+    dump: &mut Dump,
+    settings: &Settings,
+    facts: &DeskFacts,
+    now: u64,
+    line: &[u8],
+    output: &mut O,
+) -> Result<(), WriteFault>
+    requires seat { IsSeatOf pool.now seat.old × (who_is seat.old ≡ administrator) }
+    requires keys { shards_of pool.now * (limits_of pool.now).rows ≤ keys.old.room }
+    requires dump { shards_of pool.now * (limits_of pool.now).rows ≤ dump.old.room }
+    ensures seat { IsSeatOf pool.now seat.new × (who_is seat.new ≡ administrator) }
+    ensures keys { keys.new.room ≡ keys.old.room }
+    ensures dump { dump.new.room ≡ dump.old.room }
+    ensures carried { CarriesOut (shards_of pool.now) settings.now (facts_view facts.now) now line.now result (own_at seat.old) (own_at seat.new) (O.seen output.old) (O.seen output.new) }
+{
+    let command = match Command::read(line) {
+        Ok(command) => command,
+        Err(fault) => return write_reply(&Reply::Fault { fault }, output),
+    };
+    match command {
+        Command::Stats => write_reply(&Reply::Stats { facts, now }, output),
+        Command::Config => write_reply(&Reply::Config { settings }, output),
+        Command::Quit => Ok(()),
+        Command::Show(kind) => {
+            dump_all(rt, pool, seat, kind, dump);
+            write_reply(&Reply::Rows { kind, dump }, output)
+        }
+        Command::Delete { kind, names: _ } => {
+            delete(rt, pool, seat, kind, &command, keys, output)
+        }
+        Command::Health(word) => {
+            let up = health_after(word, facts.up);
+            write_reply(&Reply::Health { up }, output)
+        }
+    }
+}

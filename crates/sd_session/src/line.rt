@@ -1,0 +1,87 @@
+ghost use Rattle.std.specs.Prelude.{◌≡◌, ◌*◌, ◌≤◌};
+ghost use Rattle.sd_model_record.specs.Admin.{command};
+ghost use Rattle.sd_model_record.specs.Callers.{administrator};
+ghost use Rattle.sd_model_record.specs.Counts.{HasCounted, nothing};
+ghost use Rattle.sd_model_serve.specs.Sessions.{is_quit};
+ghost use Rattle.sd_pool.specs.Pool.{IsSeatOf, limits_of, own_at, shards_of, who_is};
+ghost use Rattle.sd_shared_desk.specs.Shared.{IsSeatOf as IsDeskSeatOf, number_of_seat, part_of};
+ghost use Rattle.sd_session.specs.Lines.{TellsLine};
+
+use crate::carry::carry_out;
+use sd_admin::{Command, HealthWord};
+use sd_config::Settings;
+use sd_outside::{Clock, Sink};
+use sd_pool::{Pool, Seat};
+use sd_shard::{Dump, Keys};
+use sd_shared_desk::{DeskSeat, SharedDesk};
+use std::sync::Wait;
+
+/// What a line came to.
+#[derive(Clone, Copy, Debug, PartialEq, Eq)]
+pub(crate) enum Told {
+    /// It was carried out, and replied to whole.
+    Whole,
+    /// It asks for the end of the session.
+    Quit,
+    /// Its reply was cut, since the output failed.
+    Cut,
+}
+
+/// Whether a line asks for the end of the session.
+fn asks_for_end(line: &[u8]) -> bool
+    ensures { result ≡ is_quit (command line.now) }
+{
+    matches!(Command::read(line), Ok(Command::Quit))
+}
+
+/// Sets the health, where a line says so.
+fn set_health<R: Wait>(rt: &R, desk: &SharedDesk, own: &mut DeskSeat, line: &[u8])
+    requires { IsDeskSeatOf desk.now own.old }
+    ensures own { IsDeskSeatOf desk.now own.new × (number_of_seat own.new ≡ number_of_seat own.old) }
+    ensures counted { HasCounted nothing (part_of own.old) (part_of own.new) }
+{
+    match Command::read(line) {
+        Ok(Command::Health(HealthWord::Up)) => desk.set_health(rt, true, own),
+        Ok(Command::Health(HealthWord::Down)) => desk.set_health(rt, false, own),
+        _ => {}
+    }
+}
+
+/// Carries out a line of a session, and replies.
+pub(crate) fn tell_line<O: Sink, C: Clock, R: Wait>(
+    rt: &R,
+    pool: &Pool,
+    desk: &SharedDesk,
+    own: &mut DeskSeat,
+    seat: &mut Seat,
+    settings: &Settings,
+    keys: &mut Keys,
+    dump: &mut Dump,
+    clock: &C,
+    line: &[u8],
+    sink: &mut O,
+) -> Told
+    requires seat { IsSeatOf pool.now seat.old × (who_is seat.old ≡ administrator) }
+    requires own { IsDeskSeatOf desk.now own.old }
+    requires keys { shards_of pool.now * (limits_of pool.now).rows ≤ keys.old.room }
+    requires dump { shards_of pool.now * (limits_of pool.now).rows ≤ dump.old.room }
+    ensures seat { IsSeatOf pool.now seat.new × (who_is seat.new ≡ administrator) }
+    ensures own { IsDeskSeatOf desk.now own.new × (number_of_seat own.new ≡ number_of_seat own.old) }
+    ensures keys { keys.new.room ≡ keys.old.room }
+    ensures dump { dump.new.room ≡ dump.old.room }
+    ensures counted { HasCounted nothing (part_of own.old) (part_of own.new) }
+    ensures tells { TellsLine (shards_of pool.now) settings.now (C.may_say clock.now) line.now result (own_at seat.old) (own_at seat.new) (O.seen sink.old) (O.seen sink.new) }
+{
+    if asks_for_end(line) {
+        return Told::Quit;
+    }
+    let facts = desk.facts(rt, own);
+    set_health(rt, desk, own, line);
+    let now = clock.now();
+    match carry_out(
+        rt, pool, seat, keys, dump, settings, &facts, now, line, sink,
+    ) {
+        Ok(()) => Told::Whole,
+        Err(_) => Told::Cut,
+    }
+}

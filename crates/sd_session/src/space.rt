@@ -1,0 +1,39 @@
+ghost use Rattle.std.specs.Prelude.{◌≤◌, IfOk};
+ghost use Rattle.sd_epoch.specs.Limits.{limits_of, AreLimits};
+
+use sd_epoch::Limits;
+use sd_shard::{Dump, Keys};
+use std::alloc::{AllocError, Global};
+
+// The most bytes of a line, with the newline that ends it.
+const LINE_ROOM: usize = 1024;
+
+/// The room that admin sessions work in: for what all shards tell, and for a line.
+#[derive(Drop)]
+pub struct AdminSpace {
+    pub(crate) keys: Keys,
+    pub(crate) dump: Dump,
+    pub(crate) line: Vec<u8>,
+}
+
+impl AdminSpace {
+    ghost use Rattle.sd_session.specs.Space.{IsSpaceFor};
+
+    /// Takes the room for sessions over so many shards of these limits.
+    ///
+    /// # Errors
+    ///
+    /// Where no memory is left for it.
+    pub fn open(alloc: Global, limits: Limits, shards: u16) -> Result<AdminSpace, AllocError>
+        requires limits { AreLimits (limits_of limits) }
+        requires shards { shards ≤ 16 }
+        ensures { IfOk result (IsSpaceFor (limits_of limits) shards) }
+    {
+        let rows = u32::from(shards) * limits.rows;
+        Ok(AdminSpace {
+            keys: Keys::open(alloc, rows)?,
+            dump: Dump::open(alloc, rows)?,
+            line: vec![in alloc; 0; LINE_ROOM]?,
+        })
+    }
+}

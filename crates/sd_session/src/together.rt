@@ -1,0 +1,53 @@
+//! All shards together, as the administrator asks each of them for the same.
+ghost use Rattle.std.specs.Prelude.{◌≡◌, ◌*◌, ◌≤◌};
+ghost use Rattle.std.specs.Cmp.Lexicographic.{slice_cmp};
+ghost use Rattle.std.specs.List.Sorted.{IsSorted, IsSortedByKey};
+ghost use Rattle.std.specs.Ordering.{nat_cmp};
+ghost use Rattle.sd_model_record.specs.Callers.{administrator};
+ghost use Rattle.sd_key.specs.Kind.{kind_of};
+ghost use Rattle.sd_pool.specs.Pool.{IsSeatOf, limits_of, own_at, shards_of, who_is};
+ghost use Rattle.sd_session.specs.Asking.{Deletes, Dumps};
+
+use sd_key::{Kind, Pattern};
+use sd_pool::{Pool, Seat};
+use sd_shard::{Dump, Keys};
+use std::sync::Wait;
+
+/// Deletes in each shard, in order, and leaves the keys that went, in the order of their bytes.
+pub(crate) fn delete_all<R: Wait>(
+    rt: &R,
+    pool: &Pool,
+    seat: &mut Seat,
+    kind: Kind,
+    name: &Pattern,
+    keys: &mut Keys,
+)
+    requires seat { IsSeatOf pool.now seat.old × (who_is seat.old ≡ administrator) }
+    requires room { shards_of pool.now * (limits_of pool.now).rows ≤ keys.old.room }
+    ensures seat { IsSeatOf pool.now seat.new × (who_is seat.new ≡ administrator) }
+    ensures deletes { Deletes (shards_of pool.now) (kind_of kind) name.now (own_at seat.old) (own_at seat.new) keys.new.keys }
+    ensures sorted { IsSorted (slice_cmp nat_cmp) keys.new.keys }
+    ensures room { keys.new.room ≡ keys.old.room }
+{
+    keys.clear();
+    for i in 0..pool.shards() {
+        pool.delete(rt, i, seat, kind, name, keys);
+    }
+    keys.sort();
+}
+
+/// Leaves what each shard tells of the rows of a kind, in the order of the bytes of their keys.
+pub(crate) fn dump_all<R: Wait>(rt: &R, pool: &Pool, seat: &mut Seat, kind: Kind, dump: &mut Dump)
+    requires seat { IsSeatOf pool.now seat.old × (who_is seat.old ≡ administrator) }
+    requires room { shards_of pool.now * (limits_of pool.now).rows ≤ dump.old.room }
+    ensures seat { IsSeatOf pool.now seat.new × (who_is seat.new ≡ administrator) }
+    ensures dumps { Dumps (shards_of pool.now) (kind_of kind) (own_at seat.old) (own_at seat.new) dump.new.rows }
+    ensures sorted { IsSortedByKey (λ row. row.key) (slice_cmp nat_cmp) dump.new.rows }
+    ensures room { dump.new.room ≡ dump.old.room }
+{
+    dump.clear();
+    for i in 0..pool.shards() {
+        pool.dump(rt, i, seat, kind, dump);
+    }
+    dump.sort();
+}

@@ -1,0 +1,64 @@
+ghost use Rattle.std.specs.Prelude.{◌≡◌};
+ghost use Rattle.sd_model_serve.specs.Sessions.{ReadFault, WriteFault};
+ghost use Rattle.sd_session.specs.Keeping.{ends_by_fault};
+ghost use Rattle.sd_session.specs.Sessions.{end_of};
+
+use crate::sessions::{SessionEnd, session};
+use crate::space::AdminSpace;
+use sd_config::Settings;
+use sd_door::Visitor;
+use sd_outside::{Clock, Sink, Source};
+use sd_pool::{Pool, Seat};
+use sd_shared_desk::{DeskSeat, SharedDesk};
+use std::sync::Wait;
+
+/// Holds the admin sessions of a door.
+#[derive(Drop)]
+pub(crate) struct AdminVisitor<'p, 's, 'f, 'r, 'c, C> {
+    pub pool: &'p Pool,
+    pub seat: &'s mut Seat,
+    pub settings: &'f Settings,
+    pub space: &'r mut AdminSpace,
+    pub clock: &'c C,
+}
+
+/// Whether a session ended since one of its ends failed.
+fn is_fault(ended: SessionEnd) -> bool
+    ensures { result ≡ ends_by_fault (end_of ended) }
+{
+    match ended {
+        SessionEnd::ReadFault | SessionEnd::WriteFault => true,
+        SessionEnd::Quit | SessionEnd::End | SessionEnd::LineTooLong => false,
+    }
+}
+
+impl<C: Clock> Visitor for AdminVisitor<'_, '_, '_, '_, '_, C> {
+    ghost use Rattle.sd_session.specs.Visiting.{CanVisit, HasVisited};
+
+    ghost can_visit = { CanVisit };
+
+    ghost has_visited = { HasVisited C.may_say };
+
+    fn visit<A: Source, T: Sink, R: Wait>(
+        &mut self,
+        rt: &R,
+        desk: &SharedDesk,
+        own: &mut DeskSeat,
+        asking: &mut A,
+        telling: &mut T,
+    ) -> bool {
+        let ended = session(
+            rt,
+            self.pool,
+            desk,
+            own,
+            self.seat,
+            self.settings,
+            self.space,
+            asking,
+            telling,
+            self.clock,
+        );
+        is_fault(ended)
+    }
+}
