@@ -1,6 +1,6 @@
 -- The histories that a run of the server leaves.
 use Rattle.std.proofs.Common.{◌≡◌, ◌≢◌, ℕ, ◌<◌, ◌≤◌, Bool, true, false, List, [], ◌∷◌, length, map, refl, sym, ap, subst, ◌∙◌, arith}
-use Rattle.std.specs.Prelude.{◌==◌, nat_lt, filter, get_or, Option, Some, None, if◌then◌else◌, Result, Ok, Err}
+use Rattle.std.specs.Prelude.{◌==◌, nat_lt, get_or, Option, Some, None, if◌then◌else◌, Result, Ok, Err}
 use Rattle.std.specs.List.{cons_option}
 use Rattle.std.proofs.lemmas.Bool.{eqb-true, ltb-false, ltb-true}
 use Rattle.std.proofs.lemmas.Cmp.{nat_eq_equiv}
@@ -16,18 +16,18 @@ use Rattle.sd_model_record.specs.Replying.{admin_events}
 use Rattle.sd_model_serve.specs.Acts.{acts_by, events_by, events_of, asks}
 use Rattle.sd_model_serve.specs.Rounds.{Round, swaps_at}
 use Rattle.sd_model_serve.specs.Sessions.{Broadcast, acts_in, events_in}
-use Rattle.sd_model_serve.specs.Served.{Ran, JoinsAs, is_swap, AsksNoSwap}
+use Rattle.sd_model_serve.specs.Served.{Ran, JoinsAs, AsksNoSwap}
 
 -- what isn't a swap hands out no table
 no_table_admitted : (state : State) (who : ℕ) (s : _) (answer : Option Cause) → table_in (admitted state who s answer).reply ≡ None
 no_table_admitted state who s None = refl
 no_table_admitted state who s (Some cause) = refl
 
-no_table : (limits : Limits) (policy : Policy) (state : State) (who : ℕ) (event : Event) → is_swap event ≡ false → table_in (step limits policy state who event).reply ≡ None
-no_table limits policy state who (Submit s) h = no_table_admitted state who s (refusal limits state s)
-no_table limits policy state who Swap h = absurd (cc)
-no_table limits policy state who (Delete kind pattern) h = refl
-no_table limits policy state who (Dump kind) h = refl
+no_table : (limits : Limits) (policy : Policy) (state : State) (who : ℕ) (event : Event) → event ≢ Swap → table_in (step limits policy state who event).reply ≡ None
+no_table limits policy state who (Submit s) isnt = no_table_admitted state who s (refusal limits state s)
+no_table limits policy state who Swap isnt = absurd (isnt refl)
+no_table limits policy state who (Delete kind pattern) isnt = refl
+no_table limits policy state who (Dump kind) isnt = refl
 
 same : (n : ℕ) → (n == n) ≡ true
 same n = nat_eq_equiv.refl n
@@ -35,18 +35,14 @@ same n = nat_eq_equiv.refl n
 apart : (m n : ℕ) → (m == n) ≡ false → n ≢ m
 apart m n h is = let e : (m == m) ≡ false = subst (λ k. (m == k) ≡ false) is h in let t = same m in absurd (cc)
 
--- where nothing of a list with this event before it is a swap, neither is the event, and nothing of the rest is
-first_isnt : (b : Bool) (event : Event) (rest : List Event) → (if b then event ∷ rest else rest) ≡ [] → b ≡ false
-first_isnt true event rest h = absurd (cc)
-first_isnt false event rest h = refl
-
-rest_none : (b : Bool) (event : Event) (rest : List Event) → (if b then event ∷ rest else rest) ≡ [] → rest ≡ []
-rest_none true event rest h = absurd (cc)
-rest_none false event rest h = h
-
+-- behind an act, and at it
 none_behind : (b : Bool) (a : Act) (acts : History) → AsksNoSwap (events_of (if b then a ∷ acts else acts)) → AsksNoSwap (events_of acts)
-none_behind true a acts h = rest_none (is_swap a.event) a.event (filter is_swap (events_of acts)) h
-none_behind false a acts h = h
+none_behind true a acts none = none.1
+none_behind false a acts none = none
+
+first_isnt : (b : Bool) (a : Act) (acts : History) → b ≡ true → AsksNoSwap (events_of (if b then a ∷ acts else acts)) → a.event ≢ Swap
+first_isnt true a acts is none = none.0
+first_isnt false a acts is none = absurd (cc)
 
 -- where the others ask for no swap, the flusher's tables are all tables
 tables_by_flusher : (limits : Limits) (policy : Policy) (state : State) (acts : History) → LegalFrom limits policy state acts → ((who : ℕ) → who ≢ flusher → AsksNoSwap (events_by who acts)) → tables acts ≡ tables (acts_by flusher acts)
@@ -56,14 +52,13 @@ tables_by_flusher limits policy state (a ∷ acts) legal none =
       by_test : (b : Bool) → (flusher == a.who) ≡ b → tables acts ≡ tables (acts_by flusher acts) → cons_option (table_in a.reply) (tables acts) ≡ tables (if b then a ∷ acts_by flusher acts else acts_by flusher acts)
       by_test true is rest = ap (cons_option (table_in a.reply)) rest
       by_test false is rest =
-          let here = subst (λ b. AsksNoSwap (events_of (if b then a ∷ acts_by a.who acts else acts_by a.who acts))) (same a.who) (none a.who (apart flusher a.who is)) in
-          let isnt = first_isnt (is_swap a.event) a.event (filter is_swap (events_by a.who acts)) here in
+          let isnt = first_isnt (a.who == a.who) a (acts_by a.who acts) (same a.who) (none a.who (apart flusher a.who is)) in
           let nothing : table_in a.reply ≡ None = ap table_in legal.0 ∙ no_table limits policy state a.who a.event isnt in
           ap (λ (t : Option Table). cons_option t (tables acts)) nothing ∙ rest
 
 submits_no_swap : (xs : List Sample) → AsksNoSwap (map Submit xs)
-submits_no_swap [] = refl
-submits_no_swap (x ∷ xs) = submits_no_swap xs
+submits_no_swap [] = tt
+submits_no_swap (x ∷ xs) = (λ is. absurd (cc), submits_no_swap xs)
 
 tables_of_swaps : (rounds : List Round) (i : ℕ) → tables (swaps_at rounds i) ≡ map (λ (r : Round). r.tables i) rounds
 tables_of_swaps [] i = refl
@@ -88,7 +83,7 @@ module _ (limits : Limits) (policy : Policy) (shards i : ℕ) (brought : List (L
         subst AsksNoSwap (sym e) quiet
     by_admin false is above =
         let e : events_by who acts ≡ [] = ap events_of (joins.others who above other (λ h. apart who administrator is (sym h))) in
-        subst AsksNoSwap (sym e) refl
+        subst AsksNoSwap (sym e) tt
 
     by_number : (b : Bool) → nat_lt who (length receivers) ≡ b → AsksNoSwap (events_by who acts)
     by_number true is =
@@ -107,15 +102,15 @@ module _ (limits : Limits) (policy : Policy) (shards i : ℕ) (brought : List (L
   }
 
 names_no_swap : (kind : Kind) (names : List (List ℕ)) → AsksNoSwap (map (Delete kind) names)
-names_no_swap kind [] = refl
-names_no_swap kind (name ∷ names) = names_no_swap kind names
+names_no_swap kind [] = tt
+names_no_swap kind (name ∷ names) = (λ is. absurd (cc), names_no_swap kind names)
 
 -- an admin line asks for no swap
 pub line_no_swap : (answer : Result admin.Command AdminFault) → AsksNoSwap (admin_events answer)
-line_no_swap (Ok admin.Stats) = refl
-line_no_swap (Ok admin.Config) = refl
-line_no_swap (Ok admin.Quit) = refl
-line_no_swap (Ok (admin.Show kind)) = refl
+line_no_swap (Ok admin.Stats) = tt
+line_no_swap (Ok admin.Config) = tt
+line_no_swap (Ok admin.Quit) = tt
+line_no_swap (Ok (admin.Show kind)) = (λ is. absurd (cc), tt)
 line_no_swap (Ok (admin.Delete kind names)) = names_no_swap kind names
-line_no_swap (Ok (admin.Health word)) = refl
-line_no_swap (Err fault) = refl
+line_no_swap (Ok (admin.Health word)) = tt
+line_no_swap (Err fault) = tt

@@ -1,7 +1,8 @@
 -- The history of each shard that a run of the server leaves, from the side of its callers.
-use Rattle.std.specs.Prelude.{◌≡◌, ◌≢◌, ℕ, ◌<◌, ◌≤◌, Bool, true, false, List, [], length, map, filter, get_or}
+use Rattle.std.specs.Prelude.{◌≡◌, ◌≢◌, ℕ, ◌<◌, ◌≤◌, List, [], length, map, get_or}
+use Rattle.std.specs.List.{AllByRecursion}
 use Rattle.sd_model_text.specs.Lines.{Sample}
-use Rattle.sd_model_shard.specs.Shard.{Limits, Policy, Event, Submit, Swap, Delete, Dump}
+use Rattle.sd_model_shard.specs.Shard.{Limits, Policy, Event, Swap}
 use Rattle.sd_model_shard.specs.History.{History, Legal}
 use Rattle.sd_model_shard.specs.Whereabouts.{tables}
 use Rattle.sd_model_record.specs.Callers.{flusher, administrator}
@@ -30,13 +31,6 @@ pub record Ran (limits : Limits) (policy : Policy) (shards : ℕ) (brought : Lis
   pub others : (who : ℕ) → length brought ≤ who → who ≢ flusher → who ≢ administrator → acts_by who acts ≡ []
   pub handed_out : tables acts ≡ map (λ round. round.tables i) rounds
 
--- whether an event is a swap
-abbrev pub is_swap : Event → Bool
-is_swap Swap = true
-is_swap (Submit s) = false
-is_swap (Delete kind pattern) = false
-is_swap (Dump kind) = false
-
--- no swap is asked for
+-- none of the events is a swap
 abbrev pub AsksNoSwap : List Event → Type 0
-AsksNoSwap events = filter is_swap events ≡ []
+AsksNoSwap events = AllByRecursion (λ event. event ≢ Swap) events

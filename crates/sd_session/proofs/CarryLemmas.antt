@@ -1,5 +1,5 @@
 -- The names of a deletion, one after another, over all shards, and a whole line.
-use Rattle.std.proofs.Common.{◌≡◌, ℕ, suc, ◌+◌, ◌<◌, ◌≤◌, take, drop, length, List, [], ◌∷◌, ◌++◌, map, get_or, refl, ap, subst, ◌∙◌, arith, append-nil, append_assoc, sym}
+use Rattle.std.proofs.Common.{◌≡◌, ℕ, suc, ◌+◌, ◌≤◌, take, drop, length, List, [], ◌∷◌, ◌++◌, map, get_or, refl, ap, subst, ◌∙◌, arith, append-nil, append_assoc, sym}
 use Rattle.std.specs.Prelude.{slice_get, Some, None, Result, Ok, Err, OnOk, OnErr, ⊤}
 use Rattle.std.proofs.Math.Seq.{split_at}
 use Rattle.std.proofs.lemmas.List.{take_at, take-map, length-map, length-take-le, map-append}
@@ -17,7 +17,7 @@ use Rattle.sd_model_record.specs.Admin.{AdminFault, Command, command}
 use Rattle.sd_model_record.specs.Desk.{Facts}
 use Rattle.sd_model_record.specs.Replies.{Reply, Rows, Gone, Finish, reply_text}
 use Rattle.sd_model_record.specs.Replying.{admin_events, keys_told, names_replied, replies_by, replies_text, rows_told}
-use Rattle.sd_model_serve.specs.Sessions.{Broadcast, Broadcasts, AreReplied, IsWhole, IsCut, acts_in, all_replies, events_in, replies_at}
+use Rattle.sd_model_serve.specs.Sessions.{Broadcast, Broadcasts, AreReplied, IsCut, acts_in, all_replies, events_in, replies_at}
 use Rattle.sd_command.proofs.CommandLemmas.{none_found, take-more, text-more}
 use Rattle.sd_session.specs.Asking.{CarriesOut, DeletesNames}
 

@@ -1,12 +1,11 @@
 -- The state in which an act of a pool found its shard, which has rows of the shard's own keys alone.
-use Rattle.std.proofs.Common.{◌≡◌, ℕ, ◌<◌, Bool, true, false, cond, eqb, List, [], ◌∷◌, ◌++◌, sym, ap, subst, ◌∙◌, refl}
+use Rattle.std.proofs.Common.{◌≡◌, ℕ, ◌<◌, Bool, true, false, cond, eqb, [], ◌∷◌, ◌++◌, sym, ap, subst, ◌∙◌, refl}
 use Rattle.std.specs.Prelude.{None}
 use Rattle.std.specs.FinMap.{get, get-empty}
 use Rattle.std.specs.List.{AllByRecursion}
 use Rattle.std.proofs.lemmas.Bool.{eqb-true, eq-eqb}
 use Rattle.sd_model_text.specs.Names.{shard}
-use Rattle.sd_model_text.specs.Lines.{Sample}
-use Rattle.sd_model_shard.specs.Rows.{RowId, row_cmp}
+use Rattle.sd_model_shard.specs.Rows.{row_cmp}
 use Rattle.sd_model_shard.specs.Shard.{State, Limits, Policy, Event, Submit, Swap, Delete, Dump, empty_state, step}
 use Rattle.sd_model_shard.specs.History.{Act, History, Legal, after, after_all, state_after}
 use Rattle.sd_model_shard.proofs.HistoryLemmas.{LegalFrom-last}

@@ -1,7 +1,6 @@
 -- Sessions, turn by turn.
-use Rattle.std.proofs.Common.{◌≡◌, ℕ, ◌+◌, ◌<◌, length, List, [], ◌∷◌, ◌++◌, refl, ap, subst, ◌∙◌, append-nil, append_assoc, sym}
-use Rattle.std.specs.Prelude.{flat_map, true, Option, Some, None, IfNone, IfSome}
-use Rattle.std.specs.List.{AllByRecursion}
+use Rattle.std.proofs.Common.{◌≡◌, ℕ, ◌<◌, length, List, [], ◌∷◌, ◌++◌, refl, ap, subst, ◌∙◌, append-nil, append_assoc, sym}
+use Rattle.std.specs.Prelude.{true, Option, Some, None, IfNone, IfSome}
 use Rattle.std.proofs.lemmas.Grind.{flat_map-append}
 use Rattle.sd_model_outside.specs.Outside.{Object, Told, HasRead, FitsLastCount, given, put_back, telling}
 use Rattle.sd_model_outside.proofs.OutsideLemmas.{Reads-nil}

@@ -1,9 +1,8 @@
 -- The visits of admin sessions, one after another.
-use Rattle.std.proofs.Common.{◌≡◌, ℕ, List, [], ◌∷◌, ap, subst, sym, ◌∙◌}
+use Rattle.std.proofs.Common.{ℕ, List, [], ◌∷◌, ap, subst, sym, ◌∙◌}
 use Rattle.sd_model_settings.specs.Settings as file
-use Rattle.sd_model_shard.specs.History.{History}
 use Rattle.sd_model_serve.specs.Doors.{Visit}
-use Rattle.sd_model_serve.specs.Sessions.{Broadcast, Broadcasts, Dialogue, asked_in, lines_in}
+use Rattle.sd_model_serve.specs.Sessions.{Broadcasts, Dialogue, asked_in, lines_in}
 use Rattle.sd_pool.specs.Pool.{own_at, shards_of}
 use Rattle.sd_pool.specs.declared.pool.Pool.{Pool}
 use Rattle.sd_door.specs.Keeping.{Visited}

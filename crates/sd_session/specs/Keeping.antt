@@ -5,8 +5,8 @@ use Rattle.sd_model_settings.specs.Settings as file
 use Rattle.sd_model_shard.specs.History.{History}
 use Rattle.sd_model_record.specs.Counts.{Part}
 use Rattle.sd_model_serve.specs.Doors.{Visit, KeepsDoor}
-use Rattle.sd_model_serve.specs.Sessions.{Broadcast, Broadcasts, Dialogue, HasTalked, SessionEnd, Quit, AtEnd, ReadFault, WriteFault, LineTooLong, asked_in, lines_in}
-use Rattle.sd_session.specs.Sessions.{AsksNoSwap}
+use Rattle.sd_model_serve.specs.Sessions.{Broadcast, Broadcasts, Dialogue, HasTalked, SessionEnd, Quit, AtEnd, ReadFault, WriteFault, LineTooLong, asked_in, events_in, lines_in}
+use Rattle.sd_model_serve.specs.Served.{AsksNoSwap}
 
 -- whether a session ended since one of its ends failed
 abbrev pub ends_by_fault : SessionEnd → Bool
@@ -41,4 +41,4 @@ pub record ServesSessions (shards : ℕ) (settings : file.Settings) (says : ℕ 
   pub keeps : KeepsDoor visits failures door door_now part part_now
   pub went : AreVisitsOf shards settings says visits dialogues
   pub asked : Broadcasts shards (asked_by dialogues) own own_now
-  pub no_swap : AsksNoSwap (asked_by dialogues)
+  pub no_swap : AsksNoSwap (events_in (asked_by dialogues))

@@ -1,12 +1,11 @@
 -- Sessions, as contracts tell them.
-use Rattle.std.specs.Prelude.{◌≡◌, ◌≢◌, ℕ, List}
-use Rattle.std.specs.List.{AllByRecursion}
+use Rattle.std.specs.Prelude.{◌≡◌, ℕ}
 use Rattle.sd_model_outside.specs.Outside.{Object}
 use Rattle.sd_model_settings.specs.Settings as file
 use Rattle.sd_model_shard.specs.History.{History}
-use Rattle.sd_model_shard.specs.Shard.{Swap}
 use Rattle.sd_model_serve.specs.Sessions as model
-use Rattle.sd_model_serve.specs.Sessions.{Broadcast, Broadcasts, Dialogue, HasTalked, asked_in, events_in, lines_in}
+use Rattle.sd_model_serve.specs.Sessions.{Broadcasts, Dialogue, HasTalked, asked_in, events_in, lines_in}
+use Rattle.sd_model_serve.specs.Served.{AsksNoSwap}
 use Rattle.sd_session.specs.declared.sessions.SessionEnd.{SessionEnd}
 use Rattle.sd_session.specs.declared.sessions.SessionEnd.TheVariants.{Quit, End, ReadFault, WriteFault, LineTooLong}
 
@@ -18,14 +17,10 @@ end_of ReadFault = model.ReadFault
 end_of WriteFault = model.WriteFault
 end_of LineTooLong = model.LineTooLong
 
--- none of what was asked of all shards is a swap
-abbrev pub AsksNoSwap : List Broadcast → Type 0
-AsksNoSwap asked = AllByRecursion (λ event. event ≢ Swap) (events_in asked)
-
 -- A session was held over so many shards: what its lines ask for was asked of each shard, in order, and nothing else.
 pub record HoldsSession (shards : ℕ) (settings : file.Settings) (says : ℕ → Type 0) (ended : SessionEnd) (own own_now : ℕ → History) (source source_now sink sink_now : Object) : Type 0 where
   pub dialogue : Dialogue
   pub ended_is : dialogue.ended ≡ end_of ended
   pub talked : HasTalked shards settings says dialogue source source_now sink sink_now
   pub asked : Broadcasts shards (asked_in (lines_in dialogue)) own own_now
-  pub no_swap : AsksNoSwap (asked_in (lines_in dialogue))
+  pub no_swap : AsksNoSwap (events_in (asked_in (lines_in dialogue)))
