@@ -141,7 +141,7 @@ module _ {shards : ℕ} where
 
 -- how a turn ended, after the turns before it
 pub EndsSo-after : (run_flushes : ℕ) (ended : Ended) (first old new : Object) (part : Part) (turned : ℕ) → EndsSo run_flushes ended old new part 0 → old.faults ≡ first.faults → turned < most_turns → EndsSo run_flushes ended first new part turned
-EndsSo-after run_flushes End first old new part turned ends same few = (ends.0, ends.1 ∙ same, few)
-EndsSo-after run_flushes Failed first old new part turned ends same few = (subst (λ n. Rose n new.faults) same ends.0, few)
+EndsSo-after run_flushes End first old new part turned ends same few = (ends.0, ends.1 ∙ same, ends.2, few)
+EndsSo-after run_flushes Failed first old new part turned ends same few = (subst (λ n. Rose n new.faults) same ends.0, ends.1, few)
 EndsSo-after run_flushes (Stopped rounds) first old new part turned ends same few = (ends.0, ends.1, ends.2, ends.3 ∙ same, few)
 EndsSo-after run_flushes (Worn turns) first old new part turned ends same few = absurd (omega (arith, ends.1))

@@ -30,12 +30,17 @@ pub record TakesDatagrams (shards : ℕ) (source source_now : Object) (wires wir
 abbrev pub most_turns : ℕ
 most_turns = 2 ^ 62
 
--- Why a receiver ended, after so many turns of its source: the source has nothing left; it failed; so many flushes were
--- counted as were asked for, as the receiver has then seen; the turns are the most.
+-- a receiver hasn't seen as many flushes as were asked for, where any were
+abbrev pub IsShort : ℕ → Part → Type 0
+IsShort run_flushes part = 0 < run_flushes → part.seen RoundsMade < run_flushes
+
+-- Why a receiver ended, after so many turns of its source: the source has nothing left, or it failed, before the receiver had
+-- seen as many flushes as were asked for; it has seen so many flushes, which are enough; the turns are the most.
 abbrev pub EndsSo : ℕ → Ended → Object → Object → Part → ℕ → Type 0
 EndsSo run_flushes End source source_now part_now turned =
-    IsSpent source_now.told × (source_now.faults ≡ source.faults) × (turned < most_turns)
-EndsSo run_flushes Failed source source_now part_now turned = Rose source.faults source_now.faults × (turned < most_turns)
+    IsSpent source_now.told × (source_now.faults ≡ source.faults) × IsShort run_flushes part_now × (turned < most_turns)
+EndsSo run_flushes Failed source source_now part_now turned =
+    Rose source.faults source_now.faults × IsShort run_flushes part_now × (turned < most_turns)
 EndsSo run_flushes (Stopped rounds) source source_now part_now turned =
     (0 < run_flushes) × (run_flushes ≤ rounds) × (rounds ≡ part_now.seen RoundsMade) × (source_now.faults ≡ source.faults)
     × (turned < most_turns)
