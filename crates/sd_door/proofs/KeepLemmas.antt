@@ -1,13 +1,12 @@
 -- The visits of a door's sessions, one after another.
-use Rattle.std.proofs.Common.{◌≡◌, ℕ, zero, suc, ◌+◌, ◌<◌, ◌≤◌, ◌^◌, Bool, true, false, cond, List, [], ◌∷◌, ◌++◌, map, refl, sym, ap, subst, ◌∙◌, arith}
-use Rattle.std.specs.Prelude.{sum_by}
+use Rattle.std.proofs.Common.{◌≡◌, ℕ, zero, suc, ◌+◌, ◌<◌, ◌^◌, Bool, true, false, cond, List, [], ◌∷◌, ◌++◌, map, refl, sym, ap, subst, ◌∙◌, arith}
 use Rattle.std.specs.List.{AllByRecursion}
 use Rattle.std.proofs.lemmas.List.{map-append}
 use Rattle.std.proofs.lemmas.List.Sums.{sum_by-append, sum_by-cons}
 use Rattle.sd_model_outside.specs.Outside.{Object, Session, Told, HasFailed, Rose, RoseBy, raised}
 use Rattle.sd_model_outside.specs.Turns.{GivesSession, HasLeft, session_of, turned}
 use Rattle.sd_model_record.specs.Counts.{Part, HasCounted, nothing, of_sessions}
-use Rattle.sd_model_serve.specs.Doors.{Visit, IsFresh, IsFaultOf, KeepsDoor, faults_among}
+use Rattle.sd_model_serve.specs.Doors.{Visit, IsFresh, IsFaultOf, faults_among}
 use Rattle.sd_door.specs.Keeping.{HasKept, Visited}
 use Rattle.sd_door.proofs.DoorLemmas.{Serves, Serves-none, Serves-next, Serves-one, none_counted, counted_more}
 

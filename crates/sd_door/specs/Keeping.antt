@@ -28,10 +28,12 @@ pub record HasKept {V : Type 0} (leads : V → V → Visit → Type 0) (old new 
 abbrev pub most_turns : ℕ
 most_turns = 2 ^ 62
 
--- By what ended it, after so many turns of the door: the door has nothing left; the flushes that the desk's seat has seen are as
--- many as were enough, which isn't 0; the door took the most turns, which comes just then.
+-- By what ended it, after so many turns of the door: the door has nothing left, and the flushes that the desk's seat has seen
+-- weren't enough, where enough isn't 0; they are as many as were enough, which isn't 0; the door took the most turns, which
+-- comes just then.
 abbrev pub EndsAfter : ℕ → DoorEnd → Object → Part → ℕ → Type 0
-EndsAfter enough End door_now part_now turns = IsSpent door_now.told × (turns < most_turns)
+EndsAfter enough End door_now part_now turns =
+    IsSpent door_now.told × (0 < enough → part_now.seen RoundsMade < enough) × (turns < most_turns)
 EndsAfter enough (Stopped rounds) door_now part_now turns =
     (0 < enough) × (enough ≤ rounds) × (rounds ≡ part_now.seen RoundsMade) × (turns < most_turns)
 EndsAfter enough (Worn most) door_now part_now turns = (most ≡ most_turns) × (turns ≡ most_turns)

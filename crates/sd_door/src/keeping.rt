@@ -29,6 +29,7 @@ fn serve_next<V: Visitor, E: Door, R: Wait>(
     ensures ready { V.can_visit visitor.new }
     ensures kept { HasKept V.has_visited visitor.old visitor.new (E.seen door.old) (E.seen door.new) (part_of own.old) (part_of own.new) }
     ensures turns { Turns result (E.seen door.old) (E.seen door.new) }
+    ensures unasked { result ≡ false → own.new ≡ own.old }
 {
     match door.next_session() {
         Entry::Session(mut asking, mut telling) => {

@@ -1,4 +1,4 @@
-use Rattle.std.proofs.Common.{◌≡◌, ◌+◌, false}
+use Rattle.std.proofs.Common.{◌≡◌, ◌+◌}
 use Rattle.sd_shared_desk.specs.Shared.{IsSeatOf, number_of_seat, part_of}
 use Rattle.sd_door.specs.Keeping.{HasKept}
 use Rattle.sd_door.proofs.keeping.keep_door.Given as goal

@@ -1,6 +1,5 @@
-use Rattle.std.proofs.Common.{◌≡◌, refl, ap, sym, ◌∙◌, true, false, cond, subst}
+use Rattle.std.proofs.Common.{ap, cond}
 use Rattle.sd_model_outside.specs.Outside.{Object}
-use Rattle.sd_model_record.specs.Counts.{HasCounted, of_sessions}
 use Rattle.sd_model_record.proofs.CountLemmas.{counted_none}
 use Rattle.sd_door.proofs.DoorLemmas.{none_counted}
 use Rattle.sd_door.proofs.KeepLemmas.{HasKept-none, HasKept-failed, HasKept-one, after_visit}

@@ -1,0 +1,33 @@
+//! Cases of admin sessions: reads from each line what a session or the sessions of a door ask, over what, and prints how they
+//! ended and what was replied.
+#![tactic(auto)]
+
+mod cuts;
+mod held;
+mod pausing;
+mod plan;
+mod server;
+
+use sd_case::{Answer, Refusal, answer_cases};
+use std::alloc::Global;
+use std::io;
+use std::sync::Wait;
+
+/// Makes the call of a case.
+fn call<R: Wait>(rt: &R, alloc: Global, words: &[&str], out: &mut Answer) -> Result<(), Refusal> {
+    match words {
+        ["session", asked, steps @ ..] => held::hold_one(rt, alloc, asked, steps, out),
+        ["door", sessions, steps @ ..] => held::keep(rt, alloc, sessions, steps, out),
+        ["cuts", asked, steps @ ..] => cuts::cut_everywhere(rt, alloc, asked, steps, out),
+        _ => Err(Refusal::UnknownCall),
+    }
+}
+
+fn main(rt: HostRuntime) -> io::Result<()> {
+    let host = &rt;
+    answer_cases(
+        host,
+        rt.alloc(),
+        |alloc: Global, words: &[&str], out: &mut Answer| call(host, alloc, words, out),
+    )
+}

@@ -1,0 +1,150 @@
+ghost use Rattle.std.specs.Prelude.{◌≡◌, ◌<◌, ◌≤◌, IfOk};
+ghost use Rattle.sd_outside.specs.MemSink.{seen_of as sink_seen};
+ghost use Rattle.sd_outside.specs.MemSource.{seen_of as source_seen};
+
+use sd_case::{Refusal, bytes_of, number};
+use sd_config::Settings;
+use sd_line::{Lines, Sample};
+use sd_outside::{MemSink, MemSource};
+use std::alloc::Global;
+
+// How many shards there may be.
+const MOST_SHARDS: u16 = 16;
+
+/// What a case goes by: the server's settings, shards and samples, its desk and its clock, and the ends of its sessions.
+#[derive(Drop)]
+pub(crate) struct Plan {
+    pub settings: Settings,
+    pub shards: u16,
+    pub samples: Vec<Sample>,
+    pub start: u64,
+    pub last: u64,
+    pub bad: u32,
+    pub rounds: u32,
+    pub moment: u64,
+    /// How many flushes are enough for a door.
+    pub flushes: u64,
+    /// The calls of a door that fail.
+    pub fail_next: Vec<u64>,
+    /// The calls of a door for which it has no session for now.
+    pub idle: Vec<u64>,
+    /// How many bytes a read gives at most.
+    pub most: usize,
+    /// The reads of a session that fail.
+    pub fail_read: Vec<u64>,
+    /// The writes that fail.
+    pub fail_write: Vec<u64>,
+    /// For how many bytes of replies there is room.
+    pub room: usize,
+    ghost some_shards: { 0 < shards },
+    ghost few_shards: { shards ≤ 16 },
+    ghost some_at_most: { 0 < most },
+}
+
+impl Plan {
+    /// One shard and no samples, with the default settings, at Unix second 0.
+    fn new(alloc: Global) -> Result<Plan, Refusal> {
+        Ok(Plan {
+            settings: Settings::read(alloc, b"").map_err(|_| Refusal::Condition)?,
+            shards: 1,
+            samples: Vec::new(alloc),
+            start: 0,
+            last: 0,
+            bad: 0,
+            rounds: 0,
+            moment: 0,
+            flushes: 0,
+            fail_next: Vec::new(alloc),
+            idle: Vec::new(alloc),
+            most: usize::MAX,
+            fail_read: Vec::new(alloc),
+            fail_write: Vec::new(alloc),
+            room: 4096,
+        })
+    }
+
+    /// The plan that steps write.
+    pub fn of(alloc: Global, steps: &[&str]) -> Result<Plan, Refusal> {
+        let mut plan = Plan::new(alloc)?;
+        for step in steps {
+            match step.split_once('=') {
+                Some((name, value)) => plan.set(alloc, name, value)?,
+                None => plan.add_sample(step)?,
+            }
+        }
+        Ok(plan)
+    }
+
+    /// Sets what a step names.
+    fn set(&mut self, alloc: Global, name: &str, value: &str) -> Result<(), Refusal> {
+        match name {
+            "settings" => {
+                let file = bytes_of(alloc, value)?;
+                self.settings = Settings::read(alloc, &file).map_err(|_| Refusal::Condition)?;
+            }
+            "shards" => self.set_shards(number(value)?)?,
+            "start" => self.start = number(value)?,
+            "last" => self.last = number(value)?,
+            "bad" => self.bad = number(value)?,
+            "rounds" => self.rounds = number(value)?,
+            "now" => self.moment = number(value)?,
+            "flushes" => self.flushes = number(value)?,
+            "fail_next" => self.fail_next.push(number(value)?)?,
+            "idle" => self.idle.push(number(value)?)?,
+            "most" => self.set_most(number(value)?)?,
+            "fail_read" => self.fail_read.push(number(value)?)?,
+            "fail_write" => self.fail_write.push(number(value)?)?,
+            "room" => self.room = number::<u32>(value)? as usize,
+            _ => return Err(Refusal::Malformed),
+        }
+        Ok(())
+    }
+
+    /// Sets how many shards there are.
+    fn set_shards(&mut self, shards: u16) -> Result<(), Refusal> {
+        if shards == 0 || shards > MOST_SHARDS {
+            return Err(Refusal::Condition);
+        }
+        self.shards = shards;
+        Ok(())
+    }
+
+    /// Sets how many bytes a read gives at most.
+    fn set_most(&mut self, most: u32) -> Result<(), Refusal> {
+        if most == 0 {
+            return Err(Refusal::Condition);
+        }
+        self.most = most as usize;
+        Ok(())
+    }
+
+    /// Adds the sample that a word writes, in the form of StatsD.
+    fn add_sample(&mut self, piece: &str) -> Result<(), Refusal> {
+        match Lines::new(piece.as_bytes()).next() {
+            Some(Ok(sample)) => {
+                self.samples.push(sample)?;
+                Ok(())
+            }
+            _ => Err(Refusal::Malformed),
+        }
+    }
+
+    /// The end of a session that asks these bytes.
+    pub fn source(&self, alloc: Global, asked: &str) -> Result<MemSource, Refusal>
+        ensures { IfOk result (λ source. (source_seen source).faults ≡ 0) }
+    {
+        let mut source = MemSource::of(bytes_of(alloc, asked)?);
+        source.most = self.most;
+        source.fail_call.extend_from_slice(&self.fail_read)?;
+        Ok(source)
+    }
+
+    /// The end of a session that is told the replies, with so much room.
+    pub fn sink(&self, alloc: Global, room: usize) -> Result<MemSink, Refusal>
+        ensures { IfOk result (λ sink. (sink_seen sink).faults ≡ 0) }
+    {
+        let mut sink = MemSink::open(alloc, room)?;
+        sink.fail_call.extend_from_slice(&self.fail_write)?;
+        Ok(sink)
+    }
+}
