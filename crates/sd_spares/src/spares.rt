@@ -45,6 +45,16 @@ fn open_tables(alloc: Global, n: u16, limits: Limits) -> Result<Vec<Table>, Allo
     Ok(spares)
 }
 
+// The table without its entries. Its rows stay where they are.
+fn into_spare(mut table: Table) -> Table
+    ensures limits { result.limits ≡ table.limits }
+    ensures no_entries { result.held ≡ [] }
+    ensures places { result.places ≡ table.places }
+{
+    table.clear_entries();
+    table
+}
+
 // Takes the entries out of the tables that were swapped out, and makes them spares with their rows in place. The last spare is
 // then the one that was swapped out first.
 fn move_back(swapped: &mut Vec<Table>, spares: &mut Vec<Table>)
@@ -59,9 +69,8 @@ fn move_back(swapped: &mut Vec<Table>, spares: &mut Vec<Table>)
     ensures room { vec_capacity spares.new ≡ vec_capacity spares.old }
     ensures swapped_room { vec_capacity swapped.new ≡ vec_capacity swapped.old }
 {
-    while let Some(mut table) = swapped.pop() {
-        table.clear_entries();
-        spares.push_reserved(table);
+    while let Some(table) = swapped.pop() {
+        spares.push_reserved(into_spare(table));
     }
 }
 

@@ -21,12 +21,12 @@ loop-table-preserved c =
       spares = λ limits given swapped.
           let within = (All-pop (IsWithin limits) c.loop-table.swapped.items rest (Some table) popped (inv.swapped limits swapped)).1 in
           subst (All (IsSpare limits)) (sym c.push_reserved.ensures.items)
-          (All-push (IsSpare limits) spares c.clear_entries.new.self (inv.spares limits given swapped)
-          (record { limits = c.clear_entries.ensures.limits ∙ within.limits; no_entries = c.clear_entries.ensures.entries }));
+          (All-push (IsSpare limits) spares c.into_spare.result (inv.spares limits given swapped)
+          (record { limits = c.into_spare.ensures.limits ∙ within.limits; no_entries = c.into_spare.ensures.no_entries }));
       swapped = λ limits swapped. (All-pop (IsWithin limits) c.loop-table.swapped.items rest (Some table) popped (inv.swapped limits swapped)).0;
       turned = ap (λ (ts : List Listing). map places ts ++ reverse (map places rest)) c.push_reserved.ensures.items
-          ∙ ap (λ (ps : List (List (Option Row))). ps ++ reverse (map places rest)) (map-append places spares (c.clear_entries.new.self ∷ []))
-          ∙ ap (λ (p : List (Option Row)). (map places spares ++ p ∷ []) ++ reverse (map places rest)) c.clear_entries.ensures.places
+          ∙ ap (λ (ps : List (List (Option Row))). ps ++ reverse (map places rest)) (map-append places spares (c.into_spare.result ∷ []))
+          ∙ ap (λ (p : List (Option Row)). (map places spares ++ p ∷ []) ++ reverse (map places rest)) c.into_spare.ensures.places
           ∙ append_assoc (map places spares) (table.places ∷ []) (reverse (map places rest))
           ∙ ap (λ (ps : List (List (Option Row))). map places spares ++ ps)
           (sym (ap (λ (ts : List Listing). reverse (map places ts)) popped ∙ ap reverse (map-append places rest (table ∷ [])) ∙ reverse-append (map places rest) (table.places ∷ [])))
