@@ -38,13 +38,15 @@ module _ {V : Type 0} (leads : V → V → Visit → Type 0) where
     visits = [];
     failures = 0;
     keeps = record {
-      fresh = tt;
-      causes = tt;
-      served = subst (λ (t : Told). Serves [] [] door.told t) (sym told) (Serves-none door.told);
-      place = place;
-      none_out = out ∙ none;
-      rises = omega (arith, same);
-      faults = omega (arith, same);
+      served = record {
+        fresh = tt;
+        causes = tt;
+        sessions = subst (λ (t : Told). Serves [] [] door.told t) (sym told) (Serves-none door.told);
+        place = place;
+        none_out = out ∙ none;
+        rises = omega (arith, same);
+        faults = omega (arith, same);
+      };
       counted = none_counted part part_now counted;
     };
     visited = refl;
@@ -56,13 +58,15 @@ module _ {V : Type 0} (leads : V → V → Visit → Type 0) where
     visits = [];
     failures = 1;
     keeps = record {
-      fresh = tt;
-      causes = tt;
-      served = subst (λ (t : Told). Serves [] [] door.told t) (sym (ap (λ (o : Object). o.told) failed.same)) (Serves-none door.told);
-      place = ap (λ (o : Object). o.opened_at) failed.same;
-      none_out = ap (λ (o : Object). o.is_out) failed.same ∙ none;
-      rises = failed.used.faults;
-      faults = failed.rose;
+      served = record {
+        fresh = tt;
+        causes = tt;
+        sessions = subst (λ (t : Told). Serves [] [] door.told t) (sym (ap (λ (o : Object). o.told) failed.same)) (Serves-none door.told);
+        place = ap (λ (o : Object). o.opened_at) failed.same;
+        none_out = ap (λ (o : Object). o.is_out) failed.same ∙ none;
+        rises = failed.used.faults;
+        faults = failed.rose;
+      };
       counted = counted;
     };
     visited = refl;
@@ -75,13 +79,15 @@ module _ {V : Type 0} (leads : V → V → Visit → Type 0) where
     visits = v ∷ [];
     failures = 0;
     keeps = record {
-      fresh = ((gives.asking_fresh, gives.answered_fresh), tt);
-      causes = (cause, tt);
-      served = Serves-one (session_of v.asking v.told) (session_of v.asking_now v.told_now) door.told door_mid.told door_now.told (ap (λ (o : Object). o.told) gives.given) (ap (λ (o : Object). o.told) left.given_back);
-      place = ap (λ (o : Object). o.opened_at) left.given_back ∙ sym (ap (λ (o : Object). o.opened_at) gives.given);
-      none_out = ap (λ (o : Object). o.is_out) left.given_back;
-      rises = omega (arith, same, left.rises);
-      faults = by_fault v.is_fault cause (one_fault v);
+      served = record {
+        fresh = ((gives.asking_fresh, gives.answered_fresh), tt);
+        causes = (cause, tt);
+        sessions = Serves-one (session_of v.asking v.told) (session_of v.asking_now v.told_now) door.told door_mid.told door_now.told (ap (λ (o : Object). o.told) gives.given) (ap (λ (o : Object). o.told) left.given_back);
+        place = ap (λ (o : Object). o.opened_at) left.given_back ∙ sym (ap (λ (o : Object). o.opened_at) gives.given);
+        none_out = ap (λ (o : Object). o.is_out) left.given_back;
+        rises = omega (arith, same, left.rises);
+        faults = by_fault v.is_fault cause (one_fault v);
+      };
       counted = subst (λ n. HasCounted (of_sessions n) part part_now) (let one = one_fault v in let none : fault_in v ≡ 0 + faults_among (v ∷ []) = omega (arith, one) in none) counted;
     };
     visited = (new, led, refl);
@@ -98,16 +104,18 @@ module _ {V : Type 0} (leads : V → V → Visit → Type 0) where
     visits = xs ++ ys;
     failures = a.failures + b.failures;
     keeps = record {
-      fresh = all-append IsFresh xs ys a.keeps.fresh b.keeps.fresh;
-      causes = all-append IsFaultOf xs ys a.keeps.causes b.keeps.causes;
-      served =
-          subst (λ (ss : List Session). Serves ss (map back (xs ++ ys)) door.told door_now.told) (sym (map-append taken xs ys))
-          (subst (λ (bs : List Session). Serves (map taken xs ++ map taken ys) bs door.told door_now.told) (sym (map-append back xs ys))
-          (Serves-next (map taken xs) (map back xs) (map taken ys) (map back ys) door.told door_mid.told door_now.told a.keeps.served b.keeps.served));
-      place = b.keeps.place ∙ a.keeps.place;
-      none_out = b.keeps.none_out;
-      rises = omega (arith, a.keeps.rises, b.keeps.rises);
-      faults = let first = a.keeps.faults in let second = b.keeps.faults in omega (arith, count, first, second);
+      served = record {
+        fresh = all-append IsFresh xs ys a.keeps.served.fresh b.keeps.served.fresh;
+        causes = all-append IsFaultOf xs ys a.keeps.served.causes b.keeps.served.causes;
+        sessions =
+            subst (λ (ss : List Session). Serves ss (map back (xs ++ ys)) door.told door_now.told) (sym (map-append taken xs ys))
+            (subst (λ (bs : List Session). Serves (map taken xs ++ map taken ys) bs door.told door_now.told) (sym (map-append back xs ys))
+            (Serves-next (map taken xs) (map back xs) (map taken ys) (map back ys) door.told door_mid.told door_now.told a.keeps.served.sessions b.keeps.served.sessions));
+        place = b.keeps.served.place ∙ a.keeps.served.place;
+        none_out = b.keeps.served.none_out;
+        rises = omega (arith, a.keeps.served.rises, b.keeps.served.rises);
+        faults = let first = a.keeps.served.faults in let second = b.keeps.served.faults in omega (arith, count, first, second);
+      };
       counted = subst (λ n. HasCounted (of_sessions n) part part_now) (sym count) (counted_more _ _ part part_mid part_now a.keeps.counted b.keeps.counted);
     };
     visited = Visited-append xs ys old mid new a.visited b.visited;
@@ -133,13 +141,7 @@ module _ {V : Type 0} (leads : V → V → Visit → Type 0) where
     visits = h.visits;
     failures = h.failures;
     keeps = record {
-      fresh = h.keeps.fresh;
-      causes = h.keeps.causes;
       served = h.keeps.served;
-      place = h.keeps.place;
-      none_out = h.keeps.none_out;
-      rises = h.keeps.rises;
-      faults = h.keeps.faults;
       counted = subst (λ n. HasCounted (of_sessions n) part_was part_now) (let n = h.failures + faults_among h.visits in let none : 0 + n ≡ n = omega arith in none) (counted_more 0 (h.failures + faults_among h.visits) part_was part part_now (none_counted part_was part first) h.keeps.counted);
     };
     visited = h.visited;

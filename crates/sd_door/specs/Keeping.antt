@@ -1,9 +1,10 @@
 -- The keeping of a door: the visits of its sessions, and how it ends.
-use Rattle.std.specs.Prelude.{◌≡◌, ℕ, ◌+◌, ◌<◌, ◌≤◌, ◌^◌, Bool, true, false, List, [], ◌∷◌}
+use Rattle.std.specs.Prelude.{◌≡◌, ℕ, ◌+◌, Bool, true, false, List, [], ◌∷◌}
 use Rattle.sd_model_outside.specs.Outside.{Object, raised}
 use Rattle.sd_model_outside.specs.Turns.{IsSpent}
 use Rattle.sd_model_record.specs.Counts.{Part, RoundsMade}
 use Rattle.sd_model_serve.specs.Doors.{Visit, KeepsDoor}
+use Rattle.sd_model_serve.specs.Ends.{EndsKeeper, Spent, Enough, WornOut}
 use Rattle.sd_outside.specs.declared.door.DoorEnd.{DoorEnd}
 use Rattle.sd_outside.specs.declared.door.DoorEnd.TheVariants.{End, Stopped, Worn}
 
@@ -24,19 +25,11 @@ pub record HasKept {V : Type 0} (leads : V → V → Visit → Type 0) (old new 
   pub keeps : KeepsDoor visits failures door door_now part part_now
   pub visited : Visited leads visits old new
 
--- how many turns of a door are the most
-abbrev pub most_turns : ℕ
-most_turns = 2 ^ 62
-
--- By what ended it, after so many turns of the door: the door has nothing left, and the flushes that the desk's seat has seen
--- weren't enough, where enough isn't 0; they are as many as were enough, which isn't 0; the door took the most turns, which
--- comes just then.
+-- why the keeping of a door ended, after so many turns of it
 abbrev pub EndsAfter : ℕ → DoorEnd → Object → Part → ℕ → Type 0
-EndsAfter enough End door_now part_now turns =
-    IsSpent door_now.told × (0 < enough → part_now.seen RoundsMade < enough) × (turns < most_turns)
-EndsAfter enough (Stopped rounds) door_now part_now turns =
-    (0 < enough) × (enough ≤ rounds) × (rounds ≡ part_now.seen RoundsMade) × (turns < most_turns)
-EndsAfter enough (Worn most) door_now part_now turns = (most ≡ most_turns) × (turns ≡ most_turns)
+EndsAfter enough End door_now part_now turned = EndsKeeper enough Spent door_now (part_now.seen RoundsMade) turned
+EndsAfter enough (Stopped rounds) door_now part_now turned = EndsKeeper enough (Enough rounds) door_now (part_now.seen RoundsMade) turned
+EndsAfter enough (Worn turns) door_now part_now turned = EndsKeeper enough (WornOut turns) door_now (part_now.seen RoundsMade) turned
 
 -- the keeping of a door ended so
 pub record EndsKeeping (enough : ℕ) (ended : DoorEnd) (door door_now : Object) (part_now : Part) : Type 0 where

@@ -68,7 +68,7 @@ module _ (form : Form) (used : Backend → Bool) where
 
   module _ (own mid own_now : ℕ → History) (part part_mid part_now : Part) (back back_mid back_now : Backend → Object) where
     -- a round behind rounds
-    rounds_next : (rounds : List Round) (r : Round) → MakesRounds form used rounds own mid part part_mid back back_mid → MakesRound form used r mid own_now part_mid part_now back_mid back_now
+    pub rounds_next : (rounds : List Round) (r : Round) → MakesRounds form used rounds own mid part part_mid back back_mid → MakesRound form used r mid own_now part_mid part_now back_mid back_now
         → MakesRounds form used (rounds ++ r ∷ []) own own_now part part_now back back_now
     rounds_next rounds r first second = record {
       swapped = λ i below.

@@ -1,13 +1,15 @@
 -- What a round and a flusher leave.
-use Rattle.std.specs.Prelude.{◌≡◌, ℕ, ◌+◌, ◌<◌, ◌^◌, Bool, List, length, map, Option}
+use Rattle.std.specs.Prelude.{◌≡◌, ℕ, ◌+◌, Bool, List, length, map, Option}
 use Rattle.std.specs.List.{range_with_len}
-use Rattle.sd_model_outside.specs.Outside.{Object, Rose}
-use Rattle.sd_model_outside.specs.Turns.{IsSpent, with_ticks}
+use Rattle.sd_model_outside.specs.Outside.{Object}
+use Rattle.sd_model_outside.specs.Turns.{with_ticks}
 use Rattle.sd_model_settings.specs.Defaults.{Names}
 use Rattle.sd_model_shard.specs.History.{History}
 use Rattle.sd_model_record.specs.Desk.{Marks}
 use Rattle.sd_model_record.specs.Counts.{Part}
 use Rattle.sd_model_record.specs.Backends.{Backend, Graphite, Console}
+use Rattle.sd_model_serve.specs.Ends as model
+use Rattle.sd_model_serve.specs.Ends.{EndsFlusher, Spent, Enough, WornOut}
 use Rattle.sd_model_serve.specs.Rounds.{Round, Form, MakesRound, MakesRounds}
 use Rattle.sd_outside.specs.declared.backend.Backs.{Backs}
 use Rattle.sd_outside.specs.declared.datagrams.Ended.{Ended}
@@ -49,13 +51,12 @@ pub record MakesRoundAt (form : Form) (uses_it : Backend → Bool) (ts : ℕ) (m
   pub handed_out : map table_of tables ≡ map round.tables (range_with_len 0 form.shards)
   pub turned : waiting ≡ map (λ table. table.places) tables
 
--- The flusher ended so, after so many rounds: the beat had nothing left; it failed; as many rounds were made as were asked for,
--- where some were asked for; as many were made as there may be.
+-- why the flusher ended, after so many rounds
 abbrev pub EndsSo : ℕ → Ended → Object → Object → ℕ → Type 0
-EndsSo run_flushes End old new made = IsSpent new.told × (new.faults ≡ old.faults)
-EndsSo run_flushes Failed old new made = Rose old.faults new.faults
-EndsSo run_flushes (Stopped rounds) old new made = (0 < run_flushes) × (rounds ≡ run_flushes) × (made ≡ rounds) × (new.faults ≡ old.faults)
-EndsSo run_flushes (Worn turns) old new made = (turns ≡ 2 ^ 62) × (made ≡ turns) × (new.faults ≡ old.faults)
+EndsSo run_flushes End old new made = EndsFlusher run_flushes Spent old new made
+EndsSo run_flushes Failed old new made = EndsFlusher run_flushes model.Failed old new made
+EndsSo run_flushes (Stopped rounds) old new made = EndsFlusher run_flushes (Enough rounds) old new made
+EndsSo run_flushes (Worn turns) old new made = EndsFlusher run_flushes (WornOut turns) old new made
 
 -- The flusher made a round at each tick that the beat gave, which is otherwise as it was, and ended so.
 pub record Flushes (form : Form) (uses_it : Backend → Bool) (run_flushes : ℕ) (own own_now : ℕ → History) (part part_now : Part) (back back_now : Backend → Object) (beat beat_now : Object) (ended : Ended) : Type 0 where

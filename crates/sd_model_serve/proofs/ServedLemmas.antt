@@ -1,7 +1,7 @@
 -- The histories that a run of the server leaves.
 use Rattle.std.proofs.Common.{◌≡◌, ◌≢◌, ℕ, ◌<◌, ◌≤◌, Bool, true, false, List, [], ◌∷◌, length, map, refl, sym, ap, subst, ◌∙◌, arith}
 use Rattle.std.specs.Prelude.{◌==◌, nat_lt, get_or, Option, Some, None, if◌then◌else◌, Result, Ok, Err}
-use Rattle.std.specs.List.{cons_option}
+use Rattle.std.specs.List.{AllByRecursion, cons_option}
 use Rattle.std.proofs.lemmas.Bool.{eqb-true, ltb-false, ltb-true}
 use Rattle.std.proofs.lemmas.Cmp.{nat_eq_equiv}
 use Rattle.sd_model_text.specs.Names.{Kind, shard}
@@ -16,7 +16,21 @@ use Rattle.sd_model_record.specs.Replying.{admin_events}
 use Rattle.sd_model_serve.specs.Acts.{acts_by, events_by, events_of, asks}
 use Rattle.sd_model_serve.specs.Rounds.{Round, swaps_at}
 use Rattle.sd_model_serve.specs.Sessions.{Broadcast, acts_in, events_in}
-use Rattle.sd_model_serve.specs.Served.{Ran, JoinsAs, AsksNoSwap}
+use Rattle.sd_model_serve.specs.Served.{Ran, JoinsAs, AreCommands, IsCommand}
+
+-- none of the events is a swap
+abbrev AsksNoSwap : List Event → Type 0
+AsksNoSwap events = AllByRecursion (λ event. event ≢ Swap) events
+
+no_swap : (event : Event) → IsCommand event → event ≢ Swap
+no_swap (Submit s) h is = absurd h
+no_swap Swap h is = absurd h
+no_swap (Delete kind pattern) h is = absurd (cc)
+no_swap (Dump kind) h is = absurd (cc)
+
+no_swaps : (events : List Event) → AreCommands events → AsksNoSwap events
+no_swaps [] all = tt
+no_swaps (e ∷ events) all = (no_swap e all.0, no_swaps events all.1)
 
 -- what isn't a swap hands out no table
 no_table_admitted : (state : State) (who : ℕ) (s : _) (answer : Option Cause) → table_in (admitted state who s answer).reply ≡ None
@@ -67,20 +81,20 @@ tables_of_swaps (r ∷ rounds) i = ap (λ (ts : List Table). r.tables i ∷ ts) 
 equal : (m n : ℕ) → (m == n) ≡ true → m ≡ n
 equal m n h = eqb-true m n h
 
-events_of_acts : (asked : List Broadcast) (i : ℕ) → events_of (acts_in asked i) ≡ events_in asked
+pub events_of_acts : (asked : List Broadcast) (i : ℕ) → events_of (acts_in asked i) ≡ events_in asked
 events_of_acts [] i = refl
 events_of_acts (b ∷ asked) i = ap (λ (es : List Event). b.event ∷ es) (events_of_acts asked i)
 
 module _ (limits : Limits) (policy : Policy) (shards i : ℕ) (brought : List (List Sample)) (rounds : List Round) (asked : List Broadcast) (receivers : List History) (acts : History)
     (count : length receivers ≡ length brought) (submitted : (r : ℕ) → r < length receivers → events_of (get_or receivers r []) ≡ asks shards i (get_or brought r []))
-    (quiet : AsksNoSwap (events_in asked)) (joins : JoinsAs limits policy receivers (swaps_at rounds i) (acts_in asked i) acts) where
+    (quiet : AreCommands (events_in asked)) (joins : JoinsAs limits policy receivers (swaps_at rounds i) (acts_in asked i) acts) where
   -- nobody but the flusher asks for a swap
   no_swap_by : (who : ℕ) → who ≢ flusher → AsksNoSwap (events_by who acts)
   no_swap_by who other = by_number (nat_lt who (length receivers)) refl where
     by_admin : (b : Bool) → (who == administrator) ≡ b → length receivers ≤ who → AsksNoSwap (events_by who acts)
     by_admin true is above =
         let e : events_by who acts ≡ events_in asked = ap (λ w. events_by w acts) (equal who administrator is) ∙ ap events_of joins.commanded ∙ events_of_acts asked i in
-        subst AsksNoSwap (sym e) quiet
+        subst AsksNoSwap (sym e) (no_swaps (events_in asked) quiet)
     by_admin false is above =
         let e : events_by who acts ≡ [] = ap events_of (joins.others who above other (λ h. apart who administrator is (sym h))) in
         subst AsksNoSwap (sym e) tt
@@ -101,16 +115,16 @@ module _ (limits : Limits) (policy : Policy) (shards i : ℕ) (brought : List (L
     handed_out = tables_by_flusher limits policy empty_state acts joins.legal no_swap_by ∙ ap tables joins.swapped ∙ tables_of_swaps rounds i;
   }
 
-names_no_swap : (kind : Kind) (names : List (List ℕ)) → AsksNoSwap (map (Delete kind) names)
-names_no_swap kind [] = tt
-names_no_swap kind (name ∷ names) = (λ is. absurd (cc), names_no_swap kind names)
+names_commands : (kind : Kind) (names : List (List ℕ)) → AreCommands (map (Delete kind) names)
+names_commands kind [] = tt
+names_commands kind (name ∷ names) = (tt, names_commands kind names)
 
--- an admin line asks for no swap
-pub line_no_swap : (answer : Result admin.Command AdminFault) → AsksNoSwap (admin_events answer)
-line_no_swap (Ok admin.Stats) = tt
-line_no_swap (Ok admin.Config) = tt
-line_no_swap (Ok admin.Quit) = tt
-line_no_swap (Ok (admin.Show kind)) = (λ is. absurd (cc), tt)
-line_no_swap (Ok (admin.Delete kind names)) = names_no_swap kind names
-line_no_swap (Ok (admin.Health word)) = tt
-line_no_swap (Err fault) = tt
+-- an admin line asks for deletions or dumps alone
+pub line_commands : (answer : Result admin.Command AdminFault) → AreCommands (admin_events answer)
+line_commands (Ok admin.Stats) = tt
+line_commands (Ok admin.Config) = tt
+line_commands (Ok admin.Quit) = tt
+line_commands (Ok (admin.Show kind)) = (tt, tt)
+line_commands (Ok (admin.Delete kind names)) = names_commands kind names
+line_commands (Ok (admin.Health word)) = tt
+line_commands (Err fault) = tt

@@ -27,15 +27,18 @@ abbrev pub faults_among : List Visit → ℕ
 faults_among visits = sum_by (λ v. if v.is_fault then 1 else 0) visits
 
 -- Sessions were taken of a door and given back, one after another, after so many failures of the door; each of these failures
--- and each visit that is a fault was counted at the desk, once, and raised the door's faults. The door is where it was, and no
--- session is out.
-pub record KeepsDoor (visits : List Visit) (failures : ℕ) (door door_now : Object) (part part_now : Part) : Type 0 where
+-- and each visit that is a fault raised the door's faults. The door is where it was, and no session is out.
+pub record ServesDoor (visits : List Visit) (failures : ℕ) (door door_now : Object) : Type 0 where
   pub fresh : AllByRecursion IsFresh visits
   pub causes : AllByRecursion IsFaultOf visits
-  pub served : with_back (map (λ v. session_of v.asking_now v.told_now) visits) door.told
+  pub sessions : with_back (map (λ v. session_of v.asking_now v.told_now) visits) door.told
       ≡ with_sessions (map (λ v. session_of v.asking v.told) visits) door_now.told
   pub place : door_now.opened_at ≡ door.opened_at
   pub none_out : door_now.is_out ≡ false
   pub rises : door.faults ≤ door_now.faults
   pub faults : RoseBy (failures + faults_among visits) door.faults door_now.faults
+
+-- The sessions of a door were so served, and each failure and each visit that is a fault was counted at the desk, once.
+pub record KeepsDoor (visits : List Visit) (failures : ℕ) (door door_now : Object) (part part_now : Part) : Type 0 where
+  pub served : ServesDoor visits failures door door_now
   pub counted : HasCounted (of_sessions (failures + faults_among visits)) part part_now

@@ -4,3 +4,5 @@ pub mod Rounds
 pub mod Sessions
 pub mod Doors
 pub mod Served
+pub mod Visits
+pub mod Ends

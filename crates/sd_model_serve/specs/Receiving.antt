@@ -1,5 +1,5 @@
 -- What callers file at shards, and what a receiver does with the datagrams that it reads.
-use Rattle.std.specs.Prelude.{◌≡◌, ℕ, ◌+◌, min, List, length, map, flat_map, sum_by}
+use Rattle.std.specs.Prelude.{◌≡◌, ℕ, ◌+◌, min, List, length, map, flat_map, sum_by, All}
 use Rattle.sd_model_text.specs.Lines.{Sample, samples_of, pieces, bad_of}
 use Rattle.sd_model_outside.specs.Outside.{Object}
 use Rattle.sd_model_outside.specs.Turns.{with_datagrams}
@@ -41,13 +41,18 @@ FilesDatagrams shards read old new tally taken =
 abbrev pub failed_sends : List Sending → ℕ
 failed_sends sendings = sum_by (λ s. failures s.failed) sendings
 
--- The datagrams that a source has given since were sent on the wires, as they came, their good samples were submitted, and
--- what they count for was added at the desk, with the sends that failed.
+-- The datagrams that a source has given since were sent on each of the wires, as they came.
+pub record PassesOn (read : List (List ℕ)) (sendings : List Sending) (source source_now : Object) (wires wires_now : List Object) : Type 0 where
+  pub given : source.told ≡ with_datagrams read source_now.told
+  pub repeated : map (λ s. s.packet) sendings ≡ read
+  pub every_wire : All (λ s. length s.failed ≡ length wires) sendings
+  pub sends : AfterSendings sendings wires wires_now
+
+-- The datagrams that a source has given since were so sent on, their good samples were submitted, and what they count for was
+-- added at the desk, with the sends that failed.
 pub record HasReceived (shards : ℕ) (source source_now : Object) (wires wires_now : List Object) (own own_now : ℕ → History) (part part_now : Part) (tally : Tally) (taken : ℕ) : Type 0 where
   pub read : List (List ℕ)
   pub sendings : List Sending
-  pub given : source.told ≡ with_datagrams read source_now.told
+  pub passed : PassesOn read sendings source source_now wires wires_now
   pub filed : FilesDatagrams shards read own own_now tally taken
-  pub repeated : map (λ s. s.packet) sendings ≡ read
-  pub sends : AfterSendings sendings wires wires_now
   pub counted : HasCounted (plus (of_tally tally) (of_sends (failed_sends sendings))) part part_now

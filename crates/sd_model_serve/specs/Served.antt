@@ -1,8 +1,8 @@
 -- The history of each shard that a run of the server leaves, from the side of its callers.
-use Rattle.std.specs.Prelude.{◌≡◌, ◌≢◌, ℕ, ◌<◌, ◌≤◌, List, [], length, map, get_or}
+use Rattle.std.specs.Prelude.{◌≡◌, ◌≢◌, ℕ, ◌<◌, ◌≤◌, List, [], length, map, get_or, ⊤}
 use Rattle.std.specs.List.{AllByRecursion}
 use Rattle.sd_model_text.specs.Lines.{Sample}
-use Rattle.sd_model_shard.specs.Shard.{Limits, Policy, Event, Swap}
+use Rattle.sd_model_shard.specs.Shard.{Limits, Policy, Event, Submit, Swap, Delete, Dump}
 use Rattle.sd_model_shard.specs.History.{History, Legal}
 use Rattle.sd_model_shard.specs.Whereabouts.{tables}
 use Rattle.sd_model_record.specs.Callers.{flusher, administrator}
@@ -31,6 +31,13 @@ pub record Ran (limits : Limits) (policy : Policy) (shards : ℕ) (brought : Lis
   pub others : (who : ℕ) → length brought ≤ who → who ≢ flusher → who ≢ administrator → acts_by who acts ≡ []
   pub handed_out : tables acts ≡ map (λ round. round.tables i) rounds
 
--- none of the events is a swap
-abbrev pub AsksNoSwap : List Event → Type 0
-AsksNoSwap events = AllByRecursion (λ event. event ≢ Swap) events
+-- an event is one that an admin line asks for: a deletion or a dump
+abbrev pub IsCommand : Event → Type 0
+IsCommand (Submit sample) = ⊥
+IsCommand Swap = ⊥
+IsCommand (Delete kind pattern) = ⊤
+IsCommand (Dump kind) = ⊤
+
+-- all of the events are
+abbrev pub AreCommands : List Event → Type 0
+AreCommands events = AllByRecursion IsCommand events

@@ -7,16 +7,16 @@ ghost use Rattle.sd_model_record.specs.Replying.{admin_events};
 ghost use Rattle.sd_model_serve.specs.Acts.{asks, events_of};
 ghost use Rattle.sd_model_serve.specs.Rounds.{Round, swaps_at};
 ghost use Rattle.sd_model_serve.specs.Sessions.{Broadcast, acts_in, events_in};
-ghost use Rattle.sd_model_serve.specs.Served.{AsksNoSwap, JoinsAs, Ran};
+ghost use Rattle.sd_model_serve.specs.Served.{AreCommands, JoinsAs, Ran};
 
 /// Where the callers' own acts ask for what they brought, the history that they join as is that of the run. It is enough that
-/// the administrator asks for no swap, as no admin line does.
+/// the administrator asks for deletions and dumps alone, as admin lines do.
 pub fn callers_tell_the_run()
     ensures joined { (limits : Limits) (policy : Policy) (shards i : ℕ) (brought : List (List Sample)) (rounds : List Round) (asked : List Broadcast) (receivers : List History) (acts : History)
         → length receivers ≡ length brought
         → ((r : ℕ) → r < length receivers → events_of (get_or receivers r []) ≡ asks shards i (get_or brought r []))
-        → AsksNoSwap (events_in asked)
+        → AreCommands (events_in asked)
         → JoinsAs limits policy receivers (swaps_at rounds i) (acts_in asked i) acts
         → Ran limits policy shards brought rounds asked i acts }
-    ensures lines { (answer : Result Command AdminFault) → AsksNoSwap (admin_events answer) }
+    ensures lines { (answer : Result Command AdminFault) → AreCommands (admin_events answer) }
 {}

@@ -13,10 +13,11 @@ use Rattle.sd_model_record.specs.Desk.{add_tally, no_tally, counted}
 use Rattle.sd_model_record.specs.Counts.{Part, HasCounted, plus, nothing, of_tally, of_sends}
 use Rattle.sd_model_record.specs.Repeater.{Sending, AfterSendings, IsRepeated, failures}
 use Rattle.sd_model_record.proofs.CountLemmas.{counted_next}
-use Rattle.sd_model_serve.specs.Receiving.{failed_sends}
+use Rattle.sd_model_serve.specs.Ends.{most_turns}
+use Rattle.sd_model_serve.specs.Receiving.{HasReceived, failed_sends}
 use Rattle.sd_outside.specs.declared.datagrams.Ended.{Ended}
 use Rattle.sd_outside.specs.declared.datagrams.Ended.TheVariants.{End, Failed, Stopped, Worn}
-use Rattle.sd_receive.specs.Receiving.{EndsSo, TakesDatagram, TakesDatagrams, most_turns}
+use Rattle.sd_receive.specs.Receiving.{EndsSo, TakesDatagram}
 use Rattle.sd_receive.proofs.FiledLemmas.{HasFiled-none, FilesDatagrams-next}
 use Rattle.sd_receive.proofs.CountedLemmas.{counted_as, merged, no_counts}
 
@@ -74,69 +75,67 @@ every_sent packet (f ∷ failed) (o ∷ old) (n ∷ new) h = ap suc (every_sent 
 module _ {shards : ℕ} where
   -- a turn that took nothing
   pub takes_none : (source source_now : Object) (wires : List Object) (own : ℕ → History) (part part_now : Part) → source_now.told ≡ source.told → HasCounted nothing part part_now
-      → TakesDatagrams shards source source_now wires wires own own part part_now no_tally 0
+      → HasReceived shards source source_now wires wires own own part part_now no_tally 0
   takes_none source source_now wires own part part_now same counts = record {
-    received = record {
-      read = [];
-      sendings = [];
+    read = [];
+    sendings = [];
+    passed = record {
       given = sym same ∙ given_none source_now.told;
-      filed = HasFiled-none own;
       repeated = refl;
+      every_wire = All-nil (λ (s : Sending). length s.failed ≡ length wires);
       sends = refl;
-      counted = counted_as nothing (plus (of_tally no_tally) (of_sends 0)) part part_now (λ c few. no_counts c) counts;
     };
-    every_wire = All-nil (λ (s : Sending). length s.failed ≡ length wires);
+    filed = HasFiled-none own;
+    counted = counted_as nothing (plus (of_tally no_tally) (of_sends 0)) part part_now (λ c few. no_counts c) counts;
   }
 
   -- a turn that took a datagram
   pub takes_one : (source source_now : Object) (datagram : List ℕ) (wires wires_now : List Object) (own own_now : ℕ → History) (part mid part_now : Part) (tally : Tally) (taken : ℕ)
       → source.told ≡ with_datagrams (datagram ∷ []) source_now.told → HasCounted nothing part mid → TakesDatagram shards datagram wires wires_now own own_now mid part_now tally taken
-      → TakesDatagrams shards source source_now wires wires_now own own_now part part_now tally taken
+      → HasReceived shards source source_now wires wires_now own own_now part part_now tally taken
   takes_one source source_now datagram wires wires_now own own_now part mid part_now tally taken given before takes =
       let sending : Sending = record { packet = datagram; failed = takes.failed } in
       let amounts = plus (of_tally tally) (of_sends (failures takes.failed)) in
       let one : failed_sends (sending ∷ []) ≡ failures takes.failed = sum_by-cons (λ (s : Sending). failures s.failed) sending [] ∙ omega arith in
       record {
-        received = record {
-          read = datagram ∷ [];
-          sendings = sending ∷ [];
+        read = datagram ∷ [];
+        sendings = sending ∷ [];
+        passed = record {
           given = given;
-          filed = takes.filed;
           repeated = refl;
+          every_wire = All-cons (λ (s : Sending). length s.failed ≡ length wires) sending [] takes.every_wire (All-nil (λ (s : Sending). length s.failed ≡ length wires));
           sends = (wires_now, takes.sends, refl);
-          counted =
-              subst (λ n. HasCounted (plus (of_tally tally) (of_sends n)) part part_now) (sym one)
-              (counted_as (plus nothing amounts) amounts part part_now (λ c few. omega arith) (counted_next nothing amounts part mid part_now before takes.counted));
         };
-        every_wire = All-cons (λ (s : Sending). length s.failed ≡ length wires) sending [] takes.every_wire (All-nil (λ (s : Sending). length s.failed ≡ length wires));
+        filed = takes.filed;
+        counted =
+            subst (λ n. HasCounted (plus (of_tally tally) (of_sends n)) part part_now) (sym one)
+            (counted_as (plus nothing amounts) amounts part part_now (λ c few. omega arith) (counted_next nothing amounts part mid part_now before takes.counted));
       }
 
   -- turns that took datagrams, one after another
   pub takes_next : (a b c : Object) (u v w : List Object) (f g h : ℕ → History) (p q r : Part) (s t : Tally) (m n : ℕ) → length v ≡ length u
-      → TakesDatagrams shards a b u v f g p q s m → TakesDatagrams shards b c v w g h q r t n → TakesDatagrams shards a c u w f h p r (add_tally s t) (counted m n)
-  takes_next a b c u v w f g h p q r s t m n same one two =
-      let first = one.received in
-      let second = two.received in
+      → HasReceived shards a b u v f g p q s m → HasReceived shards b c v w g h q r t n → HasReceived shards a c u w f h p r (add_tally s t) (counted m n)
+  takes_next a b c u v w f g h p q r s t m n same first second =
       let x = failed_sends first.sendings in
       let y = failed_sends second.sendings in
       let both : failed_sends (first.sendings ++ second.sendings) ≡ x + y = sum_by-append (λ (s : Sending). failures s.failed) first.sendings second.sendings in
       record {
-        received = record {
-          read = first.read ++ second.read;
-          sendings = first.sendings ++ second.sendings;
-          given = given_next first.read second.read a.told b.told c.told first.given second.given;
-          filed = FilesDatagrams-next first.read second.read f g h s t m n first.filed second.filed;
-          repeated = map-append (λ (s : Sending). s.packet) first.sendings second.sendings ∙ (λ i. first.repeated i ++ second.repeated i);
-          sends = AfterSendings-next first.sendings second.sendings u v w first.sends second.sends;
-          counted =
-              subst (λ k. HasCounted (plus (of_tally (add_tally s t)) (of_sends k)) p r) (sym both)
-              (counted_as (plus (plus (of_tally s) (of_sends x)) (plus (of_tally t) (of_sends y))) (plus (of_tally (add_tally s t)) (of_sends (x + y))) p r
-              (λ k few. merged s t x y (p.seen k) k few)
-              (counted_next (plus (of_tally s) (of_sends x)) (plus (of_tally t) (of_sends y)) p q r first.counted second.counted));
+        read = first.read ++ second.read;
+        sendings = first.sendings ++ second.sendings;
+        passed = record {
+          given = given_next first.read second.read a.told b.told c.told first.passed.given second.passed.given;
+          repeated = map-append (λ (s : Sending). s.packet) first.sendings second.sendings ∙ (λ i. first.passed.repeated i ++ second.passed.repeated i);
+          every_wire =
+              All-append (λ (s : Sending). length s.failed ≡ length u) first.sendings second.sendings first.passed.every_wire
+              (subst (λ k. All (λ (s : Sending). length s.failed ≡ k) second.sendings) same second.passed.every_wire);
+          sends = AfterSendings-next first.sendings second.sendings u v w first.passed.sends second.passed.sends;
         };
-        every_wire =
-            All-append (λ (s : Sending). length s.failed ≡ length u) first.sendings second.sendings one.every_wire
-            (subst (λ k. All (λ (s : Sending). length s.failed ≡ k) second.sendings) same two.every_wire);
+        filed = FilesDatagrams-next first.read second.read f g h s t m n first.filed second.filed;
+        counted =
+            subst (λ k. HasCounted (plus (of_tally (add_tally s t)) (of_sends k)) p r) (sym both)
+            (counted_as (plus (plus (of_tally s) (of_sends x)) (plus (of_tally t) (of_sends y))) (plus (of_tally (add_tally s t)) (of_sends (x + y))) p r
+            (λ k few. merged s t x y (p.seen k) k few)
+            (counted_next (plus (of_tally s) (of_sends x)) (plus (of_tally t) (of_sends y)) p q r first.counted second.counted));
       }
 
 -- how a turn ended, after the turns before it

@@ -1,11 +1,12 @@
 -- What a receiver did, and how it ended.
-use Rattle.std.specs.Prelude.{◌≡◌, ℕ, ◌+◌, ◌<◌, ◌≤◌, ◌^◌, min, Bool, List, [], ◌∷◌, length, All}
-use Rattle.sd_model_outside.specs.Outside.{Object, Rose, last_count}
-use Rattle.sd_model_outside.specs.Turns.{IsSpent}
+use Rattle.std.specs.Prelude.{◌≡◌, ℕ, ◌+◌, min, Bool, List, [], ◌∷◌, length}
+use Rattle.sd_model_outside.specs.Outside.{Object, last_count}
 use Rattle.sd_model_shard.specs.History.{History}
 use Rattle.sd_model_record.specs.Counts.{Part, RoundsMade, HasCounted, plus, of_tally, of_sends}
 use Rattle.sd_model_record.specs.Record.{Tally}
 use Rattle.sd_model_record.specs.Repeater.{IsRepeated, failures}
+use Rattle.sd_model_serve.specs.Ends as model
+use Rattle.sd_model_serve.specs.Ends.{EndsReceiver, Spent, Enough, WornOut}
 use Rattle.sd_model_serve.specs.Receiving.{FilesDatagrams, HasReceived}
 use Rattle.sd_desk.specs.Tally.{tally_of}
 use Rattle.sd_outside.specs.declared.datagrams.Ended.{Ended}
@@ -21,35 +22,16 @@ pub record TakesDatagram (shards : ℕ) (datagram : List ℕ) (wires wires_now :
   pub sends : IsRepeated datagram failed wires wires_now
   pub counted : HasCounted (plus (of_tally tally) (of_sends (failures failed))) part part_now
 
--- The datagrams that a source has given since were taken so, one after another.
-pub record TakesDatagrams (shards : ℕ) (source source_now : Object) (wires wires_now : List Object) (own own_now : ℕ → History) (part part_now : Part) (tally : Tally) (taken : ℕ) : Type 0 where
-  pub received : HasReceived shards source source_now wires wires_now own own_now part part_now tally taken
-  pub every_wire : All (λ s. length s.failed ≡ length wires) received.sendings
-
--- the most turns of a source
-abbrev pub most_turns : ℕ
-most_turns = 2 ^ 62
-
--- a receiver hasn't seen as many flushes as were asked for, where any were
-abbrev pub IsShort : ℕ → Part → Type 0
-IsShort run_flushes part = 0 < run_flushes → part.seen RoundsMade < run_flushes
-
--- Why a receiver ended, after so many turns of its source: the source has nothing left, or it failed, before the receiver had
--- seen as many flushes as were asked for; it has seen so many flushes, which are enough; the turns are the most.
+-- why a receiver ended, after so many turns of its source
 abbrev pub EndsSo : ℕ → Ended → Object → Object → Part → ℕ → Type 0
-EndsSo run_flushes End source source_now part_now turned =
-    IsSpent source_now.told × (source_now.faults ≡ source.faults) × IsShort run_flushes part_now × (turned < most_turns)
-EndsSo run_flushes Failed source source_now part_now turned =
-    Rose source.faults source_now.faults × IsShort run_flushes part_now × (turned < most_turns)
-EndsSo run_flushes (Stopped rounds) source source_now part_now turned =
-    (0 < run_flushes) × (run_flushes ≤ rounds) × (rounds ≡ part_now.seen RoundsMade) × (source_now.faults ≡ source.faults)
-    × (turned < most_turns)
-EndsSo run_flushes (Worn turns) source source_now part_now turned =
-    (turns ≡ most_turns) × (turned ≡ most_turns) × (source_now.faults ≡ source.faults)
+EndsSo run_flushes End source source_now part_now turned = EndsReceiver run_flushes Spent source source_now (part_now.seen RoundsMade) turned
+EndsSo run_flushes Failed source source_now part_now turned = EndsReceiver run_flushes model.Failed source source_now (part_now.seen RoundsMade) turned
+EndsSo run_flushes (Stopped rounds) source source_now part_now turned = EndsReceiver run_flushes (Enough rounds) source source_now (part_now.seen RoundsMade) turned
+EndsSo run_flushes (Worn turns) source source_now part_now turned = EndsReceiver run_flushes (WornOut turns) source source_now (part_now.seen RoundsMade) turned
 
 -- What a receiver did, and how it ended. Its source took so many turns, counted up to the last count, and is where it was.
 pub record Receives (shards run_flushes : ℕ) (source source_now : Object) (wires wires_now : List Object) (own own_now : ℕ → History) (part part_now : Part) (got : Received) : Type 0 where
-  pub takes : TakesDatagrams shards source source_now wires wires_now own own_now part part_now (tally_of got.tally) got.taken
+  pub takes : HasReceived shards source source_now wires wires_now own own_now part part_now (tally_of got.tally) got.taken
   pub turned : ℕ
   pub turns : source_now.turns ≡ min (source.turns + turned) last_count
   pub place : source_now.opened_at ≡ source.opened_at

@@ -6,7 +6,8 @@ ghost use Rattle.sd_model_record.specs.Desk.{no_tally};
 ghost use Rattle.sd_desk.specs.Tally.{tally_of};
 ghost use Rattle.sd_pool.specs.Pool.{IsSeatOf, own_at, shards_of, who_is};
 ghost use Rattle.sd_shared_desk.specs.Shared.{IsSeatOf as IsDeskSeatOf, number_of_seat, part_of};
-ghost use Rattle.sd_receive.specs.Receiving.{EndsSo, TakesDatagram, TakesDatagrams};
+ghost use Rattle.sd_model_serve.specs.Receiving.{HasReceived};
+ghost use Rattle.sd_receive.specs.Receiving.{EndsSo, TakesDatagram};
 
 use crate::shared::Shared;
 use crate::submitting::Submitting;
@@ -109,7 +110,7 @@ pub(crate) fn take_turn<D: Datagrams, L: Wire, G: Gate, C: Clock, R: Wait>(
     ensures seat { IsSeatOf shared.now.pool.now seat.new × (who_is seat.new ≡ who_is seat.old) }
     ensures wires { length wires.new ≡ length wires.old }
     ensures room { length buf.new ≡ length buf.old }
-    ensures takes { TakesDatagrams (shards_of shared.now.pool.now) (D.seen packets.old) (D.seen packets.new) (map L.seen wires.old) (map L.seen wires.new) (own_at seat.old) (own_at seat.new) (part_of own.old) (part_of own.new) (tally_of result.tally) result.taken }
+    ensures takes { HasReceived (shards_of shared.now.pool.now) (D.seen packets.old) (D.seen packets.new) (map L.seen wires.old) (map L.seen wires.new) (own_at seat.old) (own_at seat.new) (part_of own.old) (part_of own.new) (tally_of result.tally) result.taken }
     ensures place { (D.seen packets.new).opened_at ≡ (D.seen packets.old).opened_at }
     ensures goes_on { IfNone result.ended (((D.seen packets.new).turns ≡ raised (D.seen packets.old).turns) × ((D.seen packets.new).faults ≡ (D.seen packets.old).faults)) }
     ensures ends { IfSome result.ended (λ ended. EndsSo shared.now.run_flushes ended (D.seen packets.old) (D.seen packets.new) (part_of own.new) 0 × ((D.seen packets.new).turns ≡ (D.seen packets.old).turns)) }

@@ -1,6 +1,6 @@
 mod FoundLemmas
 mod TogetherLemmas
 mod CarryLemmas
-mod SwapLemmas
+mod CommandLemmas
 mod SessionLemmas
 mod VisitLemmas

@@ -20,7 +20,7 @@ use Rattle.sd_session.specs.declared.line.Told.TheVariants as told
 use Rattle.sd_session.specs.declared.sessions.SessionEnd.{SessionEnd}
 use Rattle.sd_session.specs.declared.sessions.SessionEnd.TheVariants as code
 use Rattle.sd_session.proofs.CarryLemmas.{Broadcasts-none, Broadcasts-next, given-nil}
-use Rattle.sd_session.proofs.SwapLemmas.{talked-none}
+use Rattle.sd_session.proofs.CommandLemmas.{talked_commands}
 
 HasRead-nil : (o : Object) → HasRead [] o o
 HasRead-nil o = ap (λ (t : Told). telling t o) (Reads-nil o.told)
@@ -108,7 +108,7 @@ module _ (shards : ℕ) (settings : file.Settings) (says : ℕ → Type 0) where
     ended_is = refl;
     talked = talked;
     asked = asked_next shards a.exchanges b.last own mid own_now a.asked b.asked;
-    no_swap = talked-none shards settings says dialogue source source_now sink sink_now talked;
+    commands = talked_commands shards settings says dialogue source source_now sink sink_now talked;
   } where
     dialogue : Dialogue
     dialogue = record { exchanges = a.exchanges; last = b.last; rest = b.behind; ended = end_of ended }

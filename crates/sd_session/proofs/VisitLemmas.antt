@@ -6,7 +6,7 @@ use Rattle.sd_model_serve.specs.Sessions.{Broadcasts, Dialogue, asked_in, lines_
 use Rattle.sd_pool.specs.Pool.{own_at, shards_of}
 use Rattle.sd_pool.specs.declared.pool.Pool.{Pool}
 use Rattle.sd_door.specs.Keeping.{Visited}
-use Rattle.sd_session.specs.Keeping.{AreVisitsOf, asked_by}
+use Rattle.sd_model_serve.specs.Visits.{AreVisitsOf, asked_by}
 use Rattle.sd_session.specs.Visiting.{HasVisited, WorksOn}
 use Rattle.sd_session.specs.declared.visiting.AdminVisitor.{AdminVisitor}
 use Rattle.sd_session.proofs.CarryLemmas.{Broadcasts-none, Broadcasts-next}

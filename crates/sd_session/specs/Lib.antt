@@ -4,4 +4,3 @@ pub mod Space
 pub mod Reading
 pub mod Sessions
 pub mod Visiting
-pub mod Keeping

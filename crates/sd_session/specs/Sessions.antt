@@ -5,7 +5,7 @@ use Rattle.sd_model_settings.specs.Settings as file
 use Rattle.sd_model_shard.specs.History.{History}
 use Rattle.sd_model_serve.specs.Sessions as model
 use Rattle.sd_model_serve.specs.Sessions.{Broadcasts, Dialogue, HasTalked, asked_in, events_in, lines_in}
-use Rattle.sd_model_serve.specs.Served.{AsksNoSwap}
+use Rattle.sd_model_serve.specs.Served.{AreCommands}
 use Rattle.sd_session.specs.declared.sessions.SessionEnd.{SessionEnd}
 use Rattle.sd_session.specs.declared.sessions.SessionEnd.TheVariants.{Quit, End, ReadFault, WriteFault, LineTooLong}
 
@@ -23,4 +23,4 @@ pub record HoldsSession (shards : ℕ) (settings : file.Settings) (says : ℕ �
   pub ended_is : dialogue.ended ≡ end_of ended
   pub talked : HasTalked shards settings says dialogue source source_now sink sink_now
   pub asked : Broadcasts shards (asked_in (lines_in dialogue)) own own_now
-  pub no_swap : AsksNoSwap (events_in (asked_in (lines_in dialogue)))
+  pub commands : AreCommands (events_in (asked_in (lines_in dialogue)))

@@ -1,4 +1,4 @@
-use Rattle.sd_session.proofs.SwapLemmas.{visits-none}
+use Rattle.sd_session.proofs.CommandLemmas.{visits_commands}
 use Rattle.sd_session.proofs.VisitLemmas.{visited_all}
 use Rattle.sd_session.proofs.keeping.visit_all.Goals as goal
 
@@ -18,5 +18,5 @@ returns-clause-serves g c =
       keeps = k.keeps;
       went = all.went;
       asked = all.asked;
-      no_swap = visits-none _ _ _ k.visits all.dialogues all.went;
+      commands = visits_commands _ _ _ k.visits all.dialogues all.went;
     }

@@ -1,4 +1,4 @@
--- The sessions of a door, as contracts tell them.
+-- The sessions of a door, one after another: what was read and replied in each, and what they asked of all shards.
 use Rattle.std.specs.Prelude.{◌≡◌, ℕ, Bool, true, false, List, [], ◌∷◌, flat_map, ⊤}
 use Rattle.sd_model_outside.specs.Outside.{Object}
 use Rattle.sd_model_settings.specs.Settings as file
@@ -6,7 +6,7 @@ use Rattle.sd_model_shard.specs.History.{History}
 use Rattle.sd_model_record.specs.Counts.{Part}
 use Rattle.sd_model_serve.specs.Doors.{Visit, KeepsDoor}
 use Rattle.sd_model_serve.specs.Sessions.{Broadcast, Broadcasts, Dialogue, HasTalked, SessionEnd, Quit, AtEnd, ReadFault, WriteFault, LineTooLong, asked_in, events_in, lines_in}
-use Rattle.sd_model_serve.specs.Served.{AsksNoSwap}
+use Rattle.sd_model_serve.specs.Served.{AreCommands}
 
 -- whether a session ended since one of its ends failed
 abbrev pub ends_by_fault : SessionEnd → Bool
@@ -33,7 +33,7 @@ abbrev pub asked_by : List Dialogue → List Broadcast
 asked_by dialogues = flat_map (λ d. asked_in (lines_in d)) dialogues
 
 -- The sessions of a door were served one after another over so many shards: what their lines ask for was asked of each shard,
--- in order, and nothing else.
+-- in order, and nothing else: deletions and dumps.
 pub record ServesSessions (shards : ℕ) (settings : file.Settings) (says : ℕ → Type 0) (own own_now : ℕ → History) (door door_now : Object) (part part_now : Part) : Type 0 where
   pub visits : List Visit
   pub failures : ℕ
@@ -41,4 +41,4 @@ pub record ServesSessions (shards : ℕ) (settings : file.Settings) (says : ℕ 
   pub keeps : KeepsDoor visits failures door door_now part part_now
   pub went : AreVisitsOf shards settings says visits dialogues
   pub asked : Broadcasts shards (asked_by dialogues) own own_now
-  pub no_swap : AsksNoSwap (events_in (asked_by dialogues))
+  pub commands : AreCommands (events_in (asked_by dialogues))

@@ -1,0 +1,182 @@
+-- What a run counts, as its receivers, its rounds and its sessions add up.
+use Rattle.std.proofs.Common.{◌≡◌, ℕ, zero, suc, ◌+◌, ◌<◌, Bool, true, false, List, [], ◌∷◌, ◌++◌, length, map, flat_map, refl, sym, ap, ◌∙◌, arith, length-append}
+use Rattle.std.specs.Prelude.{sum_by, ◌==◌, if◌then◌else◌}
+use Rattle.std.specs.List.{AllByRecursion, range_with_len}
+use Rattle.std.proofs.lemmas.List.Sums.{sum_by-cons, sum_by-append}
+use Rattle.sd_model_text.specs.Lines.{Sample, pieces, bad_of}
+use Rattle.sd_model_outside.specs.Deliveries.{Delivery, fault_of, missed}
+use Rattle.sd_model_shard.specs.Shard.{Limits, Policy, State, Cause, Event, Submit, Swap, Delete, Dump, step}
+use Rattle.sd_model_shard.specs.History.{Act, History, LegalFrom, after}
+use Rattle.sd_model_shard.specs.Whereabouts.{dropped_in, told_by}
+use Rattle.sd_model_shard.proofs.OrderLemmas.{sum_by-map}
+use Rattle.sd_model_record.specs.Backends.{Backend, Graphite, Console, mark_of}
+use Rattle.sd_model_record.specs.Counts.{Count, TotalPackets, TotalLines, TotalBad, TotalDropped, TakenPackets, TakenLines, TakenBad, TakenDropped, RoundsMade, GraphiteFaults, ConsoleFaults, RepeaterFaults, AdminFaults, Amounts, Part, HasCounted, plus, of_tally, of_sends, of_sessions}
+use Rattle.sd_model_record.specs.Desk.{last_counted}
+use Rattle.sd_model_serve.specs.Acts.{acts_by, events_by, events_of, told_in}
+use Rattle.sd_model_serve.specs.Doors.{faults_among}
+use Rattle.sd_model_serve.specs.Receiving.{failed_sends, tally_of}
+use Rattle.sd_model_serve.specs.Rounds.{Form, Round, of_round, of_rounds, round_deliveries, round_text, swaps_at}
+use Rattle.sd_model_serve.specs.Served.{AreCommands}
+use Rattle.sd_model_run.specs.Course.{Course, Reception, counts_of, read_in, rounds_in}
+
+-- two ways to count each element alike add up alike
+pub sum_by-alike : {X : Type 0} (f g : X → ℕ) (xs : List X) → ((x : X) → f x ≡ g x) → sum_by f xs ≡ sum_by g xs
+sum_by-alike f g [] same = refl
+sum_by-alike f g (x ∷ xs) same = let rest = sum_by-alike f g xs same in let one = same x in let a = sum_by-cons f x xs in let b = sum_by-cons g x xs in omega arith
+
+-- nothing of each is nothing of all
+pub sum_by-nothing : {X : Type 0} (f : X → ℕ) (xs : List X) → ((x : X) → f x ≡ 0) → sum_by f xs ≡ 0
+sum_by-nothing f [] none = refl
+sum_by-nothing f (x ∷ xs) none = let rest = sum_by-nothing f xs none in let one = none x in let a = sum_by-cons f x xs in omega arith
+
+-- one of each is as many as there are
+pub sum_by-ones : {X : Type 0} (f : X → ℕ) (xs : List X) → ((x : X) → f x ≡ 1) → sum_by f xs ≡ length xs
+sum_by-ones f [] one = refl
+sum_by-ones f (x ∷ xs) one = let rest = sum_by-ones f xs one in let first = one x in let a = sum_by-cons f x xs in omega arith
+
+-- sums side by side, added up either way
+pub sum_by-across : {X Y : Type 0} (f : X → Y → ℕ) (xs : List X) (ys : List Y) → sum_by (λ x. sum_by (f x) ys) xs ≡ sum_by (λ y. sum_by (λ x. f x y) xs) ys
+sum_by-across {X} {Y} f [] ys = sym (sum_by-nothing (λ y. sum_by (λ x. f x y) []) ys (λ y. refl))
+sum_by-across {X} {Y} f (x ∷ xs) ys =
+    sum_by-cons (λ z. sum_by (f z) ys) x xs ∙ ap (λ n. sum_by (f x) ys + n) (sum_by-across f xs ys)
+    ∙ both (f x) (λ y. sum_by (λ z. f z y) xs) ys
+    ∙ sum_by-alike (λ y. f x y + sum_by (λ z. f z y) xs) (λ y. sum_by (λ z. f z y) (x ∷ xs)) ys (λ y. sym (sum_by-cons (λ z. f z y) x xs)) where
+  both : (g h : Y → ℕ) (ys : List Y) → sum_by g ys + sum_by h ys ≡ sum_by (λ y. g y + h y) ys
+  both g h [] = refl
+  both g h (y ∷ ys) = let rest = both g h ys in let a = sum_by-cons g y ys in let b = sum_by-cons h y ys in let c = sum_by-cons (λ z. g z + h z) y ys in omega arith
+
+-- the same at each place of a range
+pub sum_by-range : (f g : ℕ → ℕ) (from n : ℕ) → ((i : ℕ) → i < from + n → f i ≡ g i) → sum_by f (range_with_len from n) ≡ sum_by g (range_with_len from n)
+sum_by-range f g from zero same = refl
+sum_by-range f g from (suc n) same =
+    let rest = sum_by-range f g (from + 1) n (λ i below. same i (omega (arith, below))) in
+    let one = same from (omega arith) in
+    let a = sum_by-cons f from (range_with_len (from + 1) n) in
+    let b = sum_by-cons g from (range_with_len (from + 1) n) in
+    omega arith
+
+-- deletions and dumps drop nothing, whatever acts stand between them
+drops_nothing : (limits : Limits) (policy : Policy) (state : State) (who : ℕ) (event : Event) → AreCommands (event ∷ []) → dropped_in (step limits policy state who event).reply ≡ 0
+drops_nothing limits policy state who (Submit s) h = absurd (h.0)
+drops_nothing limits policy state who Swap h = absurd (h.0)
+drops_nothing limits policy state who (Delete kind pattern) h = refl
+drops_nothing limits policy state who (Dump kind) h = refl
+
+pub no_drops : (limits : Limits) (policy : Policy) (state : State) (who : ℕ) (acts : History) → LegalFrom limits policy state acts → AreCommands (events_by who acts) → told_by dropped_in (acts_by who acts) ≡ 0
+no_drops limits policy state who [] legal commands = refl
+no_drops limits policy state who (a ∷ acts) legal commands = by_test (who == a.who) commands (no_drops limits policy (after limits policy state a) who acts legal.1) where
+  by_test : (b : Bool) → AreCommands (events_of (if b then a ∷ acts_by who acts else acts_by who acts)) → (AreCommands (events_by who acts) → told_by dropped_in (acts_by who acts) ≡ 0)
+      → told_by dropped_in (if b then a ∷ acts_by who acts else acts_by who acts) ≡ 0
+  by_test true all rest =
+      let first : dropped_in a.reply ≡ 0 = ap dropped_in legal.0 ∙ drops_nothing limits policy state a.who a.event (all.0, tt) in
+      let others = rest all.1 in
+      let sum = sum_by-cons (λ (b : Act). dropped_in b.reply) a (acts_by who acts) in
+      omega arith
+  by_test false all rest = rest all
+
+-- swaps drop nothing
+pub swaps_drop_nothing : (rounds : List Round) (i : ℕ) → told_by dropped_in (swaps_at rounds i) ≡ 0
+swaps_drop_nothing [] i = refl
+swaps_drop_nothing (r ∷ rounds) i = swaps_drop_nothing rounds i
+
+-- what receivers count together, with so many drops
+abbrev pub received_by : List Reception → ℕ → Amounts
+received_by receptions drops =
+    let read = flat_map (λ (r : Reception). r.read) receptions in
+    plus (of_tally (record { packets = length read; lines = sum_by (λ d. length (pieces d)) read; bad = sum_by bad_of read; dropped = drops }))
+    (of_sends (sum_by (λ (r : Reception). failed_sends r.sendings) receptions))
+
+-- What a run counts is what its receivers, its rounds and its sessions count.
+module _ (form : Form) (c : Course) (texts : (b : Backend) → c.deliveries b ≡ round_deliveries form b (rounds_in c)) where
+  abbrev faults : ℕ
+  faults = c.failures + faults_among c.visits
+
+  -- a backend missed the rounds that are marked so
+  faults_missed : (b : Backend) → missed (c.deliveries b) ≡ sum_by (λ (r : Round). fault_of (mark_of b r.marks)) (rounds_in c)
+  faults_missed b =
+      ap missed (texts b)
+      ∙ sum_by-map (λ (d : Delivery). fault_of d.mark) (λ (r : Round). record { text = round_text form b r; mark = mark_of b r.marks }) (rounds_in c)
+
+  no_rounds : (count : Count) → ((r : Round) → of_round r count ≡ 0) → of_rounds (rounds_in c) count ≡ 0
+  no_rounds count none = sum_by-nothing (λ (r : Round). of_round r count) (rounds_in c) none
+
+  in_rounds : (count : Count) (f : Round → ℕ) → ((r : Round) → of_round r count ≡ f r) → of_rounds (rounds_in c) count ≡ sum_by f (rounds_in c)
+  in_rounds count f same = sum_by-alike (λ (r : Round). of_round r count) f (rounds_in c) same
+
+  pub counts_add_up : (drops : ℕ) → drops ≡ told_in dropped_in form.shards c.histories → (count : Count)
+      → counts_of form.shards c count ≡ received_by c.receptions drops count + (of_rounds (rounds_in c) count + of_sessions faults count)
+  counts_add_up drops is TotalPackets = let none = no_rounds TotalPackets (λ r. refl) in omega (arith, none)
+  counts_add_up drops is TotalLines = let none = no_rounds TotalLines (λ r. refl) in omega (arith, none)
+  counts_add_up drops is TotalBad = let none = no_rounds TotalBad (λ r. refl) in omega (arith, none)
+  counts_add_up drops is TotalDropped = let none = no_rounds TotalDropped (λ r. refl) in omega (arith, none, is)
+  counts_add_up drops is TakenPackets = let all = in_rounds TakenPackets (λ r. r.tally.packets) (λ r. omega arith) in omega (arith, all)
+  counts_add_up drops is TakenLines = let all = in_rounds TakenLines (λ r. r.tally.lines) (λ r. omega arith) in omega (arith, all)
+  counts_add_up drops is TakenBad = let all = in_rounds TakenBad (λ r. r.tally.bad) (λ r. omega arith) in omega (arith, all)
+  counts_add_up drops is TakenDropped = let all = in_rounds TakenDropped (λ r. r.tally.dropped) (λ r. omega arith) in omega (arith, all)
+  counts_add_up drops is RoundsMade = let all = sum_by-ones (λ (r : Round). of_round r RoundsMade) (rounds_in c) (λ r. omega arith) in omega (arith, all)
+  counts_add_up drops is GraphiteFaults =
+      let all = in_rounds GraphiteFaults (λ r. fault_of (mark_of Graphite r.marks)) (λ r. omega arith) in let missed_it = faults_missed Graphite in omega (arith, all, missed_it)
+  counts_add_up drops is ConsoleFaults =
+      let all = in_rounds ConsoleFaults (λ r. fault_of (mark_of Console r.marks)) (λ r. omega arith) in let missed_it = faults_missed Console in omega (arith, all, missed_it)
+  counts_add_up drops is RepeaterFaults = let none = no_rounds RepeaterFaults (λ r. refl) in omega (arith, none)
+  counts_add_up drops is AdminFaults = let none = no_rounds AdminFaults (λ r. refl) in omega (arith, none)
+
+-- what one receiver counts, with so many drops
+abbrev pub one_by : Reception → ℕ → Amounts
+one_by r drops =
+    plus (of_tally (record { packets = length r.read; lines = sum_by (λ d. length (pieces d)) r.read; bad = sum_by bad_of r.read; dropped = drops }))
+    (of_sends (failed_sends r.sendings))
+
+-- no receiver counts nothing
+pub none_received : (count : Count) → received_by [] 0 count ≡ 0
+none_received TotalPackets = refl
+none_received TotalLines = refl
+none_received TotalBad = refl
+none_received TotalDropped = refl
+none_received TakenPackets = refl
+none_received TakenLines = refl
+none_received TakenBad = refl
+none_received TakenDropped = refl
+none_received RoundsMade = refl
+none_received GraphiteFaults = refl
+none_received ConsoleFaults = refl
+none_received RepeaterFaults = refl
+none_received AdminFaults = refl
+
+-- one receiver more
+pub received_next : (r : Reception) (receptions : List Reception) (drops others : ℕ) (count : Count)
+    → received_by (r ∷ receptions) (drops + others) count ≡ one_by r drops count + received_by receptions others count
+received_next r receptions drops others TotalPackets =
+    let all = length-append r.read (flat_map (λ (q : Reception). q.read) receptions) in omega (arith, all)
+received_next r receptions drops others TotalLines =
+    let all = sum_by-append (λ (d : List ℕ). length (pieces d)) r.read (flat_map (λ (q : Reception). q.read) receptions) in omega (arith, all)
+received_next r receptions drops others TotalBad =
+    let all = sum_by-append bad_of r.read (flat_map (λ (q : Reception). q.read) receptions) in omega (arith, all)
+received_next r receptions drops others TotalDropped = omega arith
+received_next r receptions drops others TakenPackets = refl
+received_next r receptions drops others TakenLines = refl
+received_next r receptions drops others TakenBad = refl
+received_next r receptions drops others TakenDropped = refl
+received_next r receptions drops others RoundsMade = refl
+received_next r receptions drops others GraphiteFaults = refl
+received_next r receptions drops others ConsoleFaults = refl
+received_next r receptions drops others RepeaterFaults =
+    let all = sum_by-cons (λ (q : Reception). failed_sends q.sendings) r receptions in omega (arith, all)
+received_next r receptions drops others AdminFaults = refl
+
+-- A tally that stops at the last count is exact where it was counted below it.
+pub exact_share : (packets lines bad drops n : ℕ) (old new : Part) → HasCounted (plus (of_tally (tally_of packets lines bad drops)) (of_sends n)) old new → ((count : Count) → old.share count ≡ 0) → (count : Count) → new.seen count < last_counted
+    → new.share count ≡ plus (of_tally (record { packets = packets; lines = lines; bad = bad; dropped = drops })) (of_sends n) count
+exact_share packets lines bad drops n old new h none TotalPackets few = omega (arith, h.grows TotalPackets few, h.adds TotalPackets few, none TotalPackets, few)
+exact_share packets lines bad drops n old new h none TotalLines few = omega (arith, h.grows TotalLines few, h.adds TotalLines few, none TotalLines, few)
+exact_share packets lines bad drops n old new h none TotalBad few = omega (arith, h.grows TotalBad few, h.adds TotalBad few, none TotalBad, few)
+exact_share packets lines bad drops n old new h none TotalDropped few = omega (arith, h.grows TotalDropped few, h.adds TotalDropped few, none TotalDropped, few)
+exact_share packets lines bad drops n old new h none TakenPackets few = omega (arith, h.adds TakenPackets few, none TakenPackets)
+exact_share packets lines bad drops n old new h none TakenLines few = omega (arith, h.adds TakenLines few, none TakenLines)
+exact_share packets lines bad drops n old new h none TakenBad few = omega (arith, h.adds TakenBad few, none TakenBad)
+exact_share packets lines bad drops n old new h none TakenDropped few = omega (arith, h.adds TakenDropped few, none TakenDropped)
+exact_share packets lines bad drops n old new h none RoundsMade few = omega (arith, h.adds RoundsMade few, none RoundsMade)
+exact_share packets lines bad drops n old new h none GraphiteFaults few = omega (arith, h.adds GraphiteFaults few, none GraphiteFaults)
+exact_share packets lines bad drops n old new h none ConsoleFaults few = omega (arith, h.adds ConsoleFaults few, none ConsoleFaults)
+exact_share packets lines bad drops n old new h none RepeaterFaults few = omega (arith, h.adds RepeaterFaults few, none RepeaterFaults)
+exact_share packets lines bad drops n old new h none AdminFaults few = omega (arith, h.adds AdminFaults few, none AdminFaults)

@@ -1,0 +1,98 @@
+-- A run of the server between two times, over the objects that its workers use.
+use Rattle.std.specs.Prelude.{◌≡◌, ℕ, ◌+◌, ◌<◌, ◌≤◌, min, Bool, List, [], ◌∷◌, length, map, take, drop}
+use Rattle.std.specs.FinMap.{empty}
+use Rattle.std.specs.List.{AllByRecursion, range_with_len}
+use Rattle.sd_model_outside.specs.Outside.{Object, last_count}
+use Rattle.sd_model_outside.specs.Deliveries.{AfterDeliveries}
+use Rattle.sd_model_outside.specs.Turns.{with_ticks}
+use Rattle.sd_model_shard.specs.Whereabouts.{Accounted, RowsAreCarried}
+use Rattle.sd_model_record.specs.Backends.{Backend}
+use Rattle.sd_model_record.specs.Counts.{Count, number_of}
+use Rattle.sd_model_record.specs.Desk.{IsBalanced, last_counted}
+use Rattle.sd_model_record.specs.Record.{record_rows}
+use Rattle.sd_model_serve.specs.Doors.{ServesDoor}
+use Rattle.sd_model_serve.specs.Ends.{LoopEnd, EndsReceiver, EndsFlusher, EndsKeeper}
+use Rattle.sd_model_serve.specs.Receiving.{PassesOn}
+use Rattle.sd_model_serve.specs.Rounds.{Form, MarksFit, Round, round_deliveries, round_record}
+use Rattle.sd_model_serve.specs.Served.{Ran}
+use Rattle.sd_model_serve.specs.Visits.{AreVisitsOf, asked_by}
+use Rattle.sd_model_run.specs.Course.{Course, Reception, Terms, brought_by, counts_of, rounds_in}
+
+-- What is seen of the objects that the workers use: the sources of datagrams, the wires, the beat, the backends and the door.
+pub record Objects : Type 0 where
+  pub sources : List Object
+  pub wires : List Object
+  pub beat : Object
+  pub backs : Backend → Object
+  pub door : Object
+
+-- What a receiver did is seen of its source and its wires. It ended so once its source had taken some turns, counted up to the
+-- last count, and it had seen some flushes, no more than were made; the source is where it was.
+pub record IsReception (asked made : ℕ) (r : Reception) (source source_now : Object) (wires wires_now : List Object) : Type 0 where
+  pub passed : PassesOn r.read r.sendings source source_now wires wires_now
+  pub place : source_now.opened_at ≡ source.opened_at
+  pub turned : ℕ
+  pub turns : source_now.turns ≡ min (source.turns + turned) last_count
+  pub seen : ℕ
+  pub known : seen ≤ made
+  pub ends : EndsReceiver asked r.ended source source_now seen turned
+
+-- The first receiver has the first source and the first so many wires, the next one the next, and so on; the sources and the
+-- wires behind theirs are as they were.
+abbrev pub AreReceptions : (asked made run : ℕ) → List Reception → (sources sources_now wires wires_now : List Object) → Type 0
+AreReceptions asked made run [] sources sources_now wires wires_now = (sources_now ≡ sources) × (wires_now ≡ wires)
+AreReceptions asked made run (r ∷ receptions) [] sources_now wires wires_now = ⊥
+AreReceptions asked made run (r ∷ receptions) (s ∷ sources) [] wires wires_now = ⊥
+AreReceptions asked made run (r ∷ receptions) (s ∷ sources) (n ∷ sources_now) wires wires_now =
+    IsReception asked made r s n (take run wires) (take run wires_now)
+    × AreReceptions asked made run receptions sources sources_now (drop run wires) (drop run wires_now)
+
+-- The flusher made these rounds at the ticks that the beat gave, which is otherwise as it was, and ended so.
+pub record IsFlushed (asked : ℕ) (ended : LoopEnd) (ticked : List Round) (beat beat_now : Object) : Type 0 where
+  pub given : beat.told ≡ with_ticks (map (λ r. r.ts) ticked) beat_now.told
+  pub turns : beat_now.turns ≡ beat.turns + length ticked
+  pub same : beat_now ≡ record beat { told = beat_now.told; faults = beat_now.faults; turns = beat_now.turns }
+  pub ends : EndsFlusher asked ended beat beat_now (length ticked)
+
+-- The keeper of a door ended so once the door had taken some turns, and it had seen some flushes, no more than were made.
+pub record IsKept (asked made : ℕ) (ended : LoopEnd) (door door_now : Object) : Type 0 where
+  pub turned : ℕ
+  pub turns : door_now.turns ≡ door.turns + turned
+  pub seen : ℕ
+  pub known : seen ≤ made
+  pub ends : EndsKeeper asked ended door_now seen turned
+
+-- A run by these terms went so, of which the clock may say these moments.
+pub record IsRun (terms : Terms) (says : ℕ → Type 0) (c : Course) (old new : Objects) : Type 0 where
+  -- each shard has one legal history, in which are, each in its order, just what each receiver brought of the datagrams that it
+  -- read, one swap for each round, which handed out its table, and what the lines of the sessions asked for
+  pub ran : (i : ℕ) → i < terms.form.shards
+      → Ran terms.limits terms.policy terms.form.shards (map brought_by c.receptions) (rounds_in c) (asked_by c.dialogues) i (c.histories i)
+  -- each receiver sent on just the datagrams that it read, in order
+  pub count : length c.receptions ≡ terms.receivers
+  pub received : AreReceptions terms.run_flushes c.desk.rounds terms.wires c.receptions old.sources new.sources old.wires new.wires
+  -- there was a round at each tick, and a last one at a moment of the clock
+  pub flushed : IsFlushed terms.run_flushes c.flusher_ended c.ticked old.beat new.beat
+  pub last : says c.last.ts
+  -- each round used just the backends that are used; what a backend was to be given are the texts of the rounds' records; and
+  -- of them it has just those that were written, in order, each whole, but where it failed
+  pub used : AllByRecursion (MarksFit terms.uses) (rounds_in c)
+  pub texts : (back : Backend) → c.deliveries back ≡ round_deliveries terms.form back (rounds_in c)
+  pub delivered : (back : Backend) → AfterDeliveries (c.deliveries back) (old.backs back) (new.backs back)
+  -- the sessions of the door were visited one after another, and each went as its lines ask
+  pub visited : ServesDoor c.visits c.failures old.door new.door
+  pub went : AreVisitsOf terms.form.shards terms.settings says c.visits c.dialogues
+  pub kept : IsKept terms.run_flushes c.desk.rounds c.keeper_ended old.door new.door
+  -- the desk began at a moment of the clock; a number of it that hasn't reached the last count is what the run counts; and what
+  -- was counted of datagrams is what rounds took of it and what the desk still has
+  pub started : says c.desk.start
+  pub counted : (count : Count) → number_of c.desk count < last_counted → number_of c.desk count ≡ counts_of terms.form.shards c count
+  pub balanced : IsBalanced c.desk
+
+-- The accounting theorem of a run: besides, each good sample of the datagrams that were read is in exactly one place, and each
+-- round's record has the documented statistics of its own journal over the rows carried in.
+pub record ServerTheorem (terms : Terms) (says : ℕ → Type 0) (c : Course) (old new : Objects) : Type 0 where
+  pub run : IsRun terms says c old new
+  pub places : (i : ℕ) → i < terms.form.shards → Accounted terms.limits terms.policy (c.histories i)
+  pub carried : (i : ℕ) → i < terms.form.shards → RowsAreCarried terms.policy empty (c.histories i)
+  pub statistics : AllByRecursion (λ r. (round_record terms.form r).rows ≡ record_rows terms.form.plan (map r.tables (range_with_len 0 terms.form.shards))) (rounds_in c)
