@@ -1,4 +1,3 @@
-pub mod AddsLemmas
 pub mod SumLemmas
 pub mod ToldLemmas
 pub mod FilingLemmas

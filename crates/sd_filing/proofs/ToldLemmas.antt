@@ -1,27 +1,21 @@
 -- Acts at shards: what they ask for, and what their replies add up to.
-use Rattle.std.proofs.Common.{◌∙◌, ◌≡◌, ◌≢◌, ℕ, ◌+◌, ◌<◌, Bool, true, false, cond, eqb, List, [], ◌∷◌, ◌++◌, length, map, refl, ap, arith, length-append}
-use Rattle.std.specs.Prelude.{All}
+use Rattle.std.proofs.Common.{◌∙◌, ◌≡◌, ℕ, ◌+◌, ◌<◌, Bool, true, false, cond, eqb, List, [], ◌∷◌, ◌++◌, length, map, refl, ap, arith, length-append}
+use Rattle.std.specs.Prelude.{All, sum_by}
 use Rattle.std.specs.List.{range_with_len}
-use Rattle.std.proofs.lemmas.Bool.{eqb-true, eq-eqb}
 use Rattle.std.proofs.lemmas.List.{map-append}
-use Rattle.std.proofs.lemmas.List.Elements.{filter-append, All-nil, All-cons}
+use Rattle.std.proofs.lemmas.List.Elements.{All-nil, All-cons}
 use Rattle.std.proofs.lemmas.List.Sums.{sum_by-cons, sum_by-append}
 use Rattle.sd_model_text.specs.Names.{shard}
 use Rattle.sd_model_text.specs.Lines.{Sample}
 use Rattle.sd_model_shard.specs.Shard.{Submit, Reply}
 use Rattle.sd_model_shard.specs.History.{Act, History, part_of}
 use Rattle.sd_model_shard.specs.Whereabouts.{taken_in, dropped_in, told_by}
+use Rattle.sd_model_shard.proofs.OrderLemmas.{weighed_once}
 use Rattle.sd_model_serve.specs.Acts.{asks, events_of, one_at, told_in}
-use Rattle.sd_filing.proofs.SumLemmas.{sum_with_one, sum_by-plus, sum_by-none}
+use Rattle.sd_filing.proofs.SumLemmas.{sum_by-plus, sum_by-none}
 
 pub events_of-append : (xs ys : History) → events_of (xs ++ ys) ≡ events_of xs ++ events_of ys
 events_of-append xs ys = map-append (λ (a : Act). a.event) xs ys
-
--- what lists of samples ask one after the other
-pub asks-append : (shards i : ℕ) (xs ys : List Sample) → asks shards i (xs ++ ys) ≡ asks shards i xs ++ asks shards i ys
-asks-append shards i xs ys =
-    ap (map Submit) (filter-append (λ (s : Sample). eqb i (shard s.key shards)) xs ys)
-    ∙ map-append Submit (part_of (λ s. shard s.key shards) i xs) (part_of (λ s. shard s.key shards) i ys)
 
 -- a sample that was submitted, and those behind it
 pub asks-cons : (shards i who : ℕ) (s : Sample) (reply : Reply) (rest : List Sample)
@@ -42,28 +36,18 @@ one_told weigh home a i = by_test (eqb i home) where
   by_test true = omega (arith, sum_by-cons (λ (b : Act). weigh b.reply) a [])
   by_test false = refl
 
--- the replies at all shards, with one act more
-pub told_in-one : (weigh : Reply → ℕ) (shards home : ℕ) (a : Act) (acts : ℕ → History) → home < shards
-    → told_in weigh shards (λ i. acts i ++ one_at home a i) ≡ told_in weigh shards acts + weigh a.reply
-told_in-one weigh shards home a acts below =
-    let all = sum_with_one (λ i. told_by weigh (acts i ++ one_at home a i)) (λ i. told_by weigh (acts i)) home (weigh a.reply) here others 0 shards (omega arith) (omega arith) in
-    omega (arith, all) where
-      here : told_by weigh (acts home ++ one_at home a home) ≡ weigh a.reply + told_by weigh (acts home)
-      here =
-          let at : cond (eqb home home) (weigh a.reply) 0 ≡ weigh a.reply = ap (λ b. cond b (weigh a.reply) 0) (eq-eqb home home refl) in
-          omega (arith, told_by-append weigh (acts home) (one_at home a home), one_told weigh home a home, at)
-
-      away_is : (i : ℕ) → i ≢ home → (b : Bool) → eqb i home ≡ b → cond (eqb i home) (weigh a.reply) 0 ≡ 0
-      away_is i away true is = absurd (away (eqb-true i home is))
-      away_is i away false is = ap (λ b. cond b (weigh a.reply) 0) is
-
-      others : (i : ℕ) → i ≢ home → told_by weigh (acts i ++ one_at home a i) ≡ told_by weigh (acts i)
-      others i away = omega (arith, told_by-append weigh (acts i) (one_at home a i), one_told weigh home a i, away_is i away (eqb i home) refl)
-
 -- the replies of two callers' acts, or of one's acts behind acts
 pub told_in-append : (weigh : Reply → ℕ) (shards : ℕ) (xs ys : ℕ → History) → told_in weigh shards (λ i. xs i ++ ys i) ≡ told_in weigh shards xs + told_in weigh shards ys
 told_in-append weigh shards xs ys =
     sum_by-plus (λ i. told_by weigh (xs i ++ ys i)) (λ i. told_by weigh (xs i)) (λ i. told_by weigh (ys i)) (λ i. told_by-append weigh (xs i) (ys i)) (range_with_len 0 shards)
+
+-- the replies at all shards, with one act more
+pub told_in-one : (weigh : Reply → ℕ) (shards home : ℕ) (a : Act) (acts : ℕ → History) → home < shards
+    → told_in weigh shards (λ i. acts i ++ one_at home a i) ≡ told_in weigh shards acts + weigh a.reply
+told_in-one weigh shards home a acts below =
+    let one : told_in weigh shards (one_at home a) ≡ weigh a.reply =
+    ap (λ (f : ℕ → ℕ). sum_by f (range_with_len 0 shards)) (λ i k. one_told weigh home a k i) ∙ weighed_once home (weigh a.reply) 0 shards (omega arith) (omega arith) in
+    omega (arith, told_in-append weigh shards acts (one_at home a), one)
 
 pub told_in-none : (weigh : Reply → ℕ) (shards : ℕ) → told_in weigh shards (λ i. []) ≡ 0
 told_in-none weigh shards = sum_by-none (range_with_len 0 shards)

@@ -1,5 +1,5 @@
 -- Rounds, one after another.
-use Rattle.std.proofs.Common.{◌≡◌, ℕ, ◌+◌, ◌<◌, ◌^◌, Bool, List, [], ◌∷◌, ◌++◌, length, map, Option, refl, sym, ap, subst, ◌∙◌, append-nil, append_assoc, arith}
+use Rattle.std.proofs.Common.{◌≡◌, ℕ, ◌+◌, ◌<◌, ◌^◌, Bool, List, [], ◌∷◌, ◌++◌, length, map, Option, refl, sym, ap, subst, ◌∙◌, arith}
 use Rattle.std.proofs.lemmas.List.{map-append, length_push}
 use Rattle.std.proofs.lemmas.List.Sums.{sum_by-append, sum_by-cons}
 use Rattle.sd_model_outside.specs.Outside.{Object, Told, Ticks, raised}
@@ -13,6 +13,7 @@ use Rattle.sd_model_record.specs.Counts.{Count, Amounts, Part, HasCounted, nothi
 use Rattle.sd_model_record.specs.Backends.{Backend, Graphite, Console, mark_of}
 use Rattle.sd_model_record.proofs.CountLemmas.{counted_none, counted_next}
 use Rattle.sd_model_serve.specs.Rounds.{Round, Form, MakesRound, MakesRounds, MarksFit, round_deliveries, round_text, swap_of, swaps_at, of_round, of_rounds}
+use Rattle.sd_model_serve.proofs.ActsLemmas.{Adds-none, Adds-next}
 use Rattle.sd_rows.specs.declared.row.Row.{Row}
 use Rattle.sd_pool.proofs.AlongLemmas.{AllByRecursion-append}
 use Rattle.sd_flush.specs.Flushing.{MakesRoundAt, uses_by}
@@ -56,7 +57,7 @@ module _ (form : Form) (used : Backend → Bool) where
   no_rounds own part back beat = record {
     rounds = [];
     are_made = record {
-      swapped = λ i below. sym (append-nil (own i));
+      swapped = Adds-none form.shards own;
       used = tt;
       delivered = λ b. refl;
       counted = counted_as nothing (of_rounds []) part part (λ c. refl) (counted_none part);
@@ -72,8 +73,7 @@ module _ (form : Form) (used : Backend → Bool) where
         → MakesRounds form used (rounds ++ r ∷ []) own own_now part part_now back back_now
     rounds_next rounds r first second = record {
       swapped = λ i below.
-          second.swapped i below ∙ ap (λ (acts : History). acts ++ swaps_at (r ∷ []) i) (first.swapped i below)
-          ∙ append_assoc (own i) (swaps_at rounds i) (swaps_at (r ∷ []) i)
+          Adds-next form.shards (swaps_at rounds) (swaps_at (r ∷ [])) own mid own_now first.swapped second.swapped i below
           ∙ ap (λ (acts : History). own i ++ acts) (sym (map-append (λ (q : Round). swap_of (q.tables i)) rounds (r ∷ [])));
       used = AllByRecursion-append (MarksFit used) rounds (r ∷ []) first.used (second.used, tt);
       delivered = λ b.

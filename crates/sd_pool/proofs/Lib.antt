@@ -3,7 +3,7 @@ mod CallLemmas
 mod CloseLemmas
 pub mod DealLemmas
 pub mod JoinLemmas
-mod OwnLemmas
+pub mod OwnLemmas
 mod SeatLemmas
 mod ShareLemmas
 mod StandsLemmas

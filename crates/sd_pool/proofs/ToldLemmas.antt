@@ -14,7 +14,7 @@ use Rattle.sd_shard.specs.Keys.{KeyList}
 use Rattle.sd_shard.specs.Dump.{DumpList}
 use Rattle.sd_shard.specs.Shard.{state_of, Appends, IsDeletion}
 use Rattle.sd_pool.specs.Behind.{Behind, setup_of}
-use Rattle.sd_pool.specs.Asks.{pattern_in, beyond, gone_of, shown_of, KeysGoOn, RowsGoOn}
+use Rattle.sd_pool.specs.Asks.{beyond, gone_of, shown_of, KeysGoOn, RowsGoOn}
 
 -- what was appended
 module _ {A : Type 0} where

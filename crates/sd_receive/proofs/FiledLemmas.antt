@@ -10,10 +10,10 @@ use Rattle.sd_model_record.specs.Record.{Tally}
 use Rattle.sd_model_record.specs.Desk.{last_counted, add_tally, no_tally, counted}
 use Rattle.sd_model_serve.specs.Acts.{Adds, asks, events_of, told_in}
 use Rattle.sd_model_serve.specs.Receiving.{HasFiled, FilesDatagrams, tally_of}
+use Rattle.sd_model_serve.proofs.ActsLemmas.{Adds-none, Adds-next, asks-append}
 use Rattle.sd_filing.specs.declared.filing.Filed.{Filed}
 use Rattle.sd_filing.specs.Filing.{FilesDatagram}
-use Rattle.sd_filing.proofs.AddsLemmas.{Adds-none, Adds-next}
-use Rattle.sd_filing.proofs.ToldLemmas.{ArePlaced-append, asks-append, events_of-append, told_in-append, told_in-none}
+use Rattle.sd_filing.proofs.ToldLemmas.{ArePlaced-append, events_of-append, told_in-append, told_in-none}
 
 module _ {shards : ℕ} where
   -- no sample was filed

@@ -18,16 +18,16 @@ use Rattle.sd_model_record.specs.Desk.{Facts}
 use Rattle.sd_model_record.specs.Replies.{Reply, Rows, Gone, Finish, reply_text}
 use Rattle.sd_model_record.specs.Replying.{admin_events, keys_told, names_replied, replies_by, replies_text, rows_told}
 use Rattle.sd_model_serve.specs.Sessions.{Broadcast, Broadcasts, AreReplied, IsCut, acts_in, all_replies, events_in, replies_at}
+use Rattle.sd_model_serve.proofs.ActsLemmas.{Adds-none, Adds-next}
 use Rattle.sd_command.proofs.CommandLemmas.{none_found, take-more, text-more}
 use Rattle.sd_session.specs.Asking.{CarriesOut, DeletesNames}
 
 pub Broadcasts-none : (shards : ℕ) (own : ℕ → History) → Broadcasts shards [] own own
-Broadcasts-none shards own i below = sym (append-nil (own i))
+Broadcasts-none shards own = Adds-none shards own
 
 pub Broadcasts-next : (shards : ℕ) (xs ys : List Broadcast) (own mid own_now : ℕ → History) → Broadcasts shards xs own mid → Broadcasts shards ys mid own_now → Broadcasts shards (xs ++ ys) own own_now
 Broadcasts-next shards xs ys own mid own_now first second i below =
-    second i below ∙ ap (λ (h : History). h ++ acts_in ys i) (first i below) ∙ append_assoc (own i) (acts_in xs i) (acts_in ys i)
-    ∙ ap (λ (h : History). own i ++ h) (sym (map-append _ xs ys))
+    Adds-next shards (acts_in xs) (acts_in ys) own mid own_now first second i below ∙ ap (λ (h : History). own i ++ h) (sym (map-append _ xs ys))
 
 pub given-nil : (o : Object) → FitsLastCount o.told → o ≡ given [] o
 given-nil o fits = ap (λ (t : Told). telling t o) (sym (appended-nil o.told fits))
