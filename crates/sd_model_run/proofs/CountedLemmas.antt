@@ -1,11 +1,11 @@
 -- What a run counts, as its receivers, its rounds and its sessions add up.
-use Rattle.std.proofs.Common.{◌≡◌, ℕ, zero, suc, ◌+◌, ◌<◌, Bool, true, false, List, [], ◌∷◌, ◌++◌, length, map, flat_map, refl, sym, ap, ◌∙◌, arith, length-append}
+use Rattle.std.proofs.Common.{◌≡◌, ℕ, zero, suc, ◌+◌, ◌<◌, Bool, true, false, List, [], ◌∷◌, length, flat_map, refl, sym, ap, ◌∙◌, arith, length-append}
 use Rattle.std.specs.Prelude.{sum_by, ◌==◌, if◌then◌else◌}
-use Rattle.std.specs.List.{AllByRecursion, range_with_len}
+use Rattle.std.specs.List.{range_with_len}
 use Rattle.std.proofs.lemmas.List.Sums.{sum_by-cons, sum_by-append}
-use Rattle.sd_model_text.specs.Lines.{Sample, pieces, bad_of}
+use Rattle.sd_model_text.specs.Lines.{pieces, bad_of}
 use Rattle.sd_model_outside.specs.Deliveries.{Delivery, fault_of, missed}
-use Rattle.sd_model_shard.specs.Shard.{Limits, Policy, State, Cause, Event, Submit, Swap, Delete, Dump, step}
+use Rattle.sd_model_shard.specs.Shard.{Limits, Policy, State, Event, Submit, Swap, Delete, Dump, step}
 use Rattle.sd_model_shard.specs.History.{Act, History, LegalFrom, after}
 use Rattle.sd_model_shard.specs.Whereabouts.{dropped_in, told_by}
 use Rattle.sd_model_shard.proofs.OrderLemmas.{sum_by-map}
@@ -17,7 +17,7 @@ use Rattle.sd_model_serve.specs.Doors.{faults_among}
 use Rattle.sd_model_serve.specs.Receiving.{failed_sends, tally_of}
 use Rattle.sd_model_serve.specs.Rounds.{Form, Round, of_round, of_rounds, round_deliveries, round_text, swaps_at}
 use Rattle.sd_model_serve.specs.Served.{AreCommands}
-use Rattle.sd_model_run.specs.Course.{Course, Reception, counts_of, read_in, rounds_in}
+use Rattle.sd_model_run.specs.Course.{Course, Reception, counts_of, rounds_in}
 
 -- two ways to count each element alike add up alike
 pub sum_by-alike : {X : Type 0} (f g : X → ℕ) (xs : List X) → ((x : X) → f x ≡ g x) → sum_by f xs ≡ sum_by g xs
@@ -41,9 +41,9 @@ sum_by-across {X} {Y} f (x ∷ xs) ys =
     sum_by-cons (λ z. sum_by (f z) ys) x xs ∙ ap (λ n. sum_by (f x) ys + n) (sum_by-across f xs ys)
     ∙ both (f x) (λ y. sum_by (λ z. f z y) xs) ys
     ∙ sum_by-alike (λ y. f x y + sum_by (λ z. f z y) xs) (λ y. sum_by (λ z. f z y) (x ∷ xs)) ys (λ y. sym (sum_by-cons (λ z. f z y) x xs)) where
-  both : (g h : Y → ℕ) (ys : List Y) → sum_by g ys + sum_by h ys ≡ sum_by (λ y. g y + h y) ys
-  both g h [] = refl
-  both g h (y ∷ ys) = let rest = both g h ys in let a = sum_by-cons g y ys in let b = sum_by-cons h y ys in let c = sum_by-cons (λ z. g z + h z) y ys in omega arith
+      both : (g h : Y → ℕ) (ys : List Y) → sum_by g ys + sum_by h ys ≡ sum_by (λ y. g y + h y) ys
+      both g h [] = refl
+      both g h (y ∷ ys) = let rest = both g h ys in let a = sum_by-cons g y ys in let b = sum_by-cons h y ys in let c = sum_by-cons (λ z. g z + h z) y ys in omega arith
 
 -- the same at each place of a range
 pub sum_by-range : (f g : ℕ → ℕ) (from n : ℕ) → ((i : ℕ) → i < from + n → f i ≡ g i) → sum_by f (range_with_len from n) ≡ sum_by g (range_with_len from n)

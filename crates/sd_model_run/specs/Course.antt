@@ -7,7 +7,7 @@ use Rattle.sd_model_shard.specs.Shard.{Limits, Policy}
 use Rattle.sd_model_shard.specs.History.{History}
 use Rattle.sd_model_shard.specs.Whereabouts.{dropped_in}
 use Rattle.sd_model_record.specs.Backends.{Backend, Graphite, Console}
-use Rattle.sd_model_record.specs.Counts.{Count, TotalPackets, TotalLines, TotalBad, TotalDropped, TakenPackets, TakenLines, TakenBad, TakenDropped, RoundsMade, GraphiteFaults, ConsoleFaults, RepeaterFaults, AdminFaults, Amounts}
+use Rattle.sd_model_record.specs.Counts.{TotalPackets, TotalLines, TotalBad, TotalDropped, TakenPackets, TakenLines, TakenBad, TakenDropped, RoundsMade, GraphiteFaults, ConsoleFaults, RepeaterFaults, AdminFaults, Amounts}
 use Rattle.sd_model_record.specs.Desk.{Desk}
 use Rattle.sd_model_record.specs.Repeater.{Sending}
 use Rattle.sd_model_serve.specs.Acts.{told_in}

@@ -1,5 +1,5 @@
 -- A run of the server between two times, over the objects that its workers use.
-use Rattle.std.specs.Prelude.{◌≡◌, ℕ, ◌+◌, ◌<◌, ◌≤◌, min, Bool, List, [], ◌∷◌, length, map, take, drop}
+use Rattle.std.specs.Prelude.{◌≡◌, ℕ, ◌+◌, ◌<◌, ◌≤◌, min, List, [], ◌∷◌, length, map, take, drop}
 use Rattle.std.specs.FinMap.{empty}
 use Rattle.std.specs.List.{AllByRecursion, range_with_len}
 use Rattle.sd_model_outside.specs.Outside.{Object, last_count}
@@ -13,7 +13,7 @@ use Rattle.sd_model_record.specs.Record.{record_rows}
 use Rattle.sd_model_serve.specs.Doors.{ServesDoor}
 use Rattle.sd_model_serve.specs.Ends.{LoopEnd, EndsReceiver, EndsFlusher, EndsKeeper}
 use Rattle.sd_model_serve.specs.Receiving.{PassesOn}
-use Rattle.sd_model_serve.specs.Rounds.{Form, MarksFit, Round, round_deliveries, round_record}
+use Rattle.sd_model_serve.specs.Rounds.{MarksFit, Round, round_deliveries, round_record}
 use Rattle.sd_model_serve.specs.Served.{Ran}
 use Rattle.sd_model_serve.specs.Visits.{AreVisitsOf, asked_by}
 use Rattle.sd_model_run.specs.Course.{Course, Reception, Terms, brought_by, counts_of, rounds_in}

@@ -1,0 +1,5 @@
+mod PartsLemmas
+mod PostLemmas
+mod RoomLemmas
+mod ServeLemmas
+mod ServedLemmas

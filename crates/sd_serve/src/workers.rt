@@ -6,7 +6,7 @@ ghost use Rattle.sd_receive.specs.Posts.{HasRun, IsReady};
 ghost use Rattle.sd_flush.specs.Flushing.{Flushes, back_of, form_of, uses};
 ghost use Rattle.sd_flush.specs.Tables.{AreTablesFor};
 ghost use Rattle.sd_door.specs.Keeping.{EndsKeeping};
-ghost use Rattle.sd_session.specs.Keeping.{ServesSessions};
+ghost use Rattle.sd_model_serve.specs.Visits.{ServesSessions};
 ghost use Rattle.sd_session.specs.Space.{IsSpaceFor};
 
 use crate::flushing::Flushing;

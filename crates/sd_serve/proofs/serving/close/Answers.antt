@@ -1,0 +1,34 @@
+use Rattle.std.proofs.Common.{◌≤◌, List, [], ◌∷◌, ◌++◌, All, map, sym, ap, subst, ◌∙◌, append-nil}
+use Rattle.std.specs.Prelude.{get_or}
+use Rattle.std.proofs.lemmas.List.Elements.{All-nil, All-cons, All-append}
+use Rattle.sd_model_record.specs.Counts.{Count, number_of}
+use Rattle.sd_pool.specs.Books.{no_book}
+use Rattle.sd_pool.specs.Pool.{ShardHistory}
+use Rattle.sd_pool.specs.declared.seat.Seat.{Seat}
+use Rattle.sd_shared_desk.specs.Shared.{IsConserved, IsSeatOf, OwnSeat, all_added, part_of}
+use Rattle.sd_serve.specs.Parts.{own_in, seat_in}
+use Rattle.sd_serve.proofs.serving.close.Goals as goal
+
+pub close-requires-2-clause-seats : goal.close-requires-2-clause-seats
+close-requires-2-clause-seats g c =
+    let all = c.give_back.ensures.owns
+    ∙ ap (λ (l : List OwnSeat). map own_in c.args.posts.items ++ l) (c.put_first-2.ensures.items ∙ ap (λ (l : List OwnSeat). c.args.own ∷ l) (c.put_first.ensures.items ∙ ap (λ (l : List OwnSeat). c.args.admin_own ∷ l) c.requires.none.1)) in
+    let Is = IsSeatOf c.args.desk in
+    subst (λ (l : List OwnSeat). All Is l) (sym all)
+    (All-append Is (map own_in c.args.posts.items) (c.args.own ∷ c.args.admin_own ∷ []) c.requires.owns
+    (All-cons Is c.args.own (c.args.admin_own ∷ []) c.requires.own (All-cons Is c.args.admin_own [] c.requires.admin_own (All-nil Is))))
+
+pub returns-clause-closed : goal.returns-clause-closed
+returns-clause-closed g c =
+    let owns = c.give_back.ensures.owns
+    ∙ ap (λ (l : List OwnSeat). map own_in c.args.posts.items ++ l) (c.put_first-2.ensures.items ∙ ap (λ (l : List OwnSeat). c.args.own ∷ l) (c.put_first.ensures.items ∙ ap (λ (l : List OwnSeat). c.args.admin_own ∷ l) c.requires.none.1)) in
+    let receivers = c.give_back.ensures.seats ∙ ap (λ (l : List Seat). map seat_in c.args.posts.items ++ l) c.requires.none.0 ∙ append-nil (map seat_in c.args.posts.items) in
+    let seats = ap (λ (l : List Seat). l ++ c.args.seats.flusher ∷ c.args.seats.admin ∷ []) receivers in
+    record {
+      shards = c.close.ensures.len;
+      histories = λ i below. subst (λ l. ShardHistory c.args.pool l i (get_or c.close.result.items i no_book)) seats (c.close.ensures.histories i below);
+      start = c.close-2.ensures.start;
+      sums = λ count. c.close-2.ensures.sums count ∙ ap (all_added count) owns;
+      seen = subst (λ (l : List OwnSeat). All (λ s. (count : Count) → (part_of s).seen count ≤ number_of c.close-2.result count) l) owns c.close-2.ensures.seen;
+      conserved = subst (λ l. IsConserved l c.close-2.result) owns c.close-2.ensures.conserved;
+    }

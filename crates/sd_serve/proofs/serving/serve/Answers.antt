@@ -1,0 +1,240 @@
+use Rattle.std.proofs.Common.{◌≡◌, ◌+◌, ◌++◌, ◌∷◌, [], List, All, length, map, flat_map, refl, sym, ap, subst, ◌∙◌, arith, append-nil, length-append}
+use Rattle.std.specs.List.{AllByRecursion}
+use Rattle.std.proofs.lemmas.List.{with_items_is, length-map}
+use Rattle.sd_seats.specs.Lists.{span}
+use Rattle.sd_desk.specs.Marks.{marks_of}
+use Rattle.sd_pool.specs.Pool.{IsNewSeatOf, IsSeatOf, own_at, who_is}
+use Rattle.sd_pool.specs.declared.seat.Seat.{Seat}
+use Rattle.sd_pool.proofs.AlongLemmas.{AllByRecursion-back, AllByRecursion-front, none_in}
+use Rattle.sd_shared_desk.specs.Shared.{IsNewSeatOf as IsNewDeskSeatOf, IsSeatOf as IsDeskSeatOf, OwnSeat as DeskSeat, number_of_seat, part_of}
+use Rattle.sd_flush.specs.Flushing.{MakesRoundAt, back_of, form_of, uses, uses_by}
+use Rattle.sd_flush.specs.Tables.{waiting_in}
+use Rattle.sd_receive.specs.Posts.{IsReady}
+use Rattle.sd_serve.specs.Closing.{IsClosed, WasRun, ended_in}
+use Rattle.sd_serve.specs.Parts.{IsFitted, own_in, seat_in, source_in, wires_in}
+use Rattle.sd_serve.specs.Room.{sizing_in}
+use Rattle.sd_serve.specs.Serving.{end_of}
+use Rattle.sd_serve.proofs.PostLemmas.{AreNew, all_ran, all_were_run, ran_callers, ran_owns, ran_seats, ran_wires, receptions_ended}
+use Rattle.sd_serve.proofs.RoomLemmas.{counted_by, left_behind, new_posts, ready_posts}
+use Rattle.sd_serve.proofs.ServeLemmas.{Told, by_recursion}
+use Rattle.sd_serve.proofs.ServedLemmas.{served_as}
+use Rattle.sd_serve.proofs.serving.serve.Goals as goal
+
+pub gather-requires-clause-seats : goal.gather-requires-clause-seats
+gather-requires-clause-seats g c =
+    let room = c.requires.room in
+    let all = counted_by who_is c.args.room.seats.receivers.items (sizing_in c.args.room).receivers room.callers in
+    omega (arith, all, room.places)
+
+pub gather-requires-clause-owns : goal.gather-requires-clause-owns
+gather-requires-clause-owns g c =
+    let room = c.requires.room in
+    let all = counted_by number_of_seat c.args.room.owns.items ((sizing_in c.args.room).receivers + 2) room.numbers in
+    omega (arith, all, room.places)
+
+pub take_first-own-requires : goal.take_first-own-requires
+take_first-own-requires g c =
+    let room = c.requires.room in
+    let xs = c.gather.new.posts.items in
+    let all = counted_by number_of_seat c.args.room.owns.items ((sizing_in c.args.room).receivers + 2) room.numbers in
+    let left = left_behind c.args.room.owns.items (map own_in xs) c.gather.new.owns.items (sizing_in c.args.room).receivers 2 c.gather.ensures.owns all (length-map xs own_in ∙ c.gather.ensures.len ∙ room.places) in
+    omega (arith, left)
+
+pub take_first-admin_own-requires : goal.take_first-admin_own-requires
+take_first-admin_own-requires g c =
+    let room = c.requires.room in
+    let xs = c.gather.new.posts.items in
+    let all = counted_by number_of_seat c.args.room.owns.items ((sizing_in c.args.room).receivers + 2) room.numbers in
+    let left = left_behind c.args.room.owns.items (map own_in xs) c.gather.new.owns.items (sizing_in c.args.room).receivers 2 c.gather.ensures.owns all (length-map xs own_in ∙ c.gather.ensures.len ∙ room.places) in
+    let next = ap length c.take_first-own.ensures.items in
+    omega (arith, left, next)
+
+pub run_server-ends-requires-clause-own : goal.run_server-ends-requires-clause-own
+run_server-ends-requires-clause-own g c κs within = (AllByRecursion-back (IsNewDeskSeatOf c.args.room.desk) (map own_in c.gather.new.posts.items) (c.take_first-own.result ∷ c.take_first-admin_own.result ∷ c.take_first-admin_own.new.items.items)
+    (subst (AllByRecursion (IsNewDeskSeatOf c.args.room.desk)) (c.gather.ensures.owns ∙ ap (λ (l : List DeskSeat). map own_in c.gather.new.posts.items ++ l) (c.take_first-own.ensures.items ∙ ap (λ (l : List DeskSeat). c.take_first-own.result ∷ l) c.take_first-admin_own.ensures.items))
+    (by_recursion (IsNewDeskSeatOf c.args.room.desk) c.args.room.owns.items c.requires.room.owns))).0.own
+
+pub run_server-ends-requires-clause-admin_own : goal.run_server-ends-requires-clause-admin_own
+run_server-ends-requires-clause-admin_own g c κs within = (AllByRecursion-back (IsNewDeskSeatOf c.args.room.desk) (map own_in c.gather.new.posts.items) (c.take_first-own.result ∷ c.take_first-admin_own.result ∷ c.take_first-admin_own.new.items.items)
+    (subst (AllByRecursion (IsNewDeskSeatOf c.args.room.desk)) (c.gather.ensures.owns ∙ ap (λ (l : List DeskSeat). map own_in c.gather.new.posts.items ++ l) (c.take_first-own.ensures.items ∙ ap (λ (l : List DeskSeat). c.take_first-own.result ∷ l) c.take_first-admin_own.ensures.items))
+    (by_recursion (IsNewDeskSeatOf c.args.room.desk) c.args.room.owns.items c.requires.room.owns))).1.0.own
+
+pub run_server-ends-requires-clause-seat : goal.run_server-ends-requires-clause-seat
+run_server-ends-requires-clause-seat g c κs within =
+    ((AllByRecursion-back (IsNewSeatOf c.args.room.pool) c.args.room.seats.receivers.items (c.args.room.seats.flusher ∷ c.args.room.seats.admin ∷ []) c.requires.room.seats).0.seat_is, c.requires.room.flushes)
+
+pub run_server-ends-requires-clause-admin_seat : goal.run_server-ends-requires-clause-admin_seat
+run_server-ends-requires-clause-admin_seat g c κs within =
+    ((AllByRecursion-back (IsNewSeatOf c.args.room.pool) c.args.room.seats.receivers.items (c.args.room.seats.flusher ∷ c.args.room.seats.admin ∷ []) c.requires.room.seats).1.0.seat_is, c.requires.room.commands)
+
+pub run_server-ends-requires-clause-posts : goal.run_server-ends-requires-clause-posts
+run_server-ends-requires-clause-posts g c κs within =
+    let room = c.args.room in
+    let xs = c.gather.new.posts.items in
+    let few = c.requires.room.sizes_are.few_wires in
+    let seats = AllByRecursion-front (IsNewSeatOf room.pool) room.seats.receivers.items (room.seats.flusher ∷ room.seats.admin ∷ []) c.requires.room.seats in
+    subst (All (IsReady room.pool room.desk)) (sym c.as_mut_slice.ensures.value)
+    (ready_posts room.pool room.desk c.from.result (omega (arith, few, c.from.ensures)) xs c.gather.new.seats.items c.gather.new.owns.items
+    (subst (AllByRecursion (IsNewSeatOf room.pool)) c.gather.ensures.seats seats)
+    (subst (AllByRecursion (IsNewDeskSeatOf room.desk)) c.gather.ensures.owns (by_recursion (IsNewDeskSeatOf room.desk) room.owns.items c.requires.room.owns))
+    (by_recursion (IsFitted c.from.result) xs c.gather.ensures.fitted))
+
+pub ends_in-received-requires-clause-run : goal.ends_in-received-requires-clause-run
+ends_in-received-requires-clause-run g c =
+    let ran = c.run_server-ends in
+    let slice = c.as_mut_slice in
+    let same = with_items_is c.gather.new.posts ran.new.posts (ran.ensures.len ∙ slice.ensures.len) in
+    let all = all_ran g.D.Faulty.seen g.L.Faulty.seen c.args.room.pool c.args.room.desk c.args.run_flushes slice.result.now ran.new.posts ran.ensures.len ran.ensures.each in
+    subst (All WasRun) (sym (c.deref.ensures.value ∙ same)) (all_were_run g.D.Faulty.seen g.L.Faulty.seen c.args.room.pool c.args.room.desk c.args.run_flushes slice.result.now ran.new.posts all)
+
+pub close-books-requires-clause-packets : goal.close-books-requires-clause-packets
+close-books-requires-clause-packets g c =
+    let ran = c.run_server-ends in
+    let slice = c.as_mut_slice in
+    let xs = c.gather.new.posts.items in
+    let count = ap length (with_items_is c.gather.new.posts ran.new.posts (ran.ensures.len ∙ slice.ensures.len)) ∙ ran.ensures.len ∙ ap length slice.ensures.value in
+    let both = ap length c.gather.ensures.packets ∙ length-append (map source_in xs) c.gather.new.packets.items in
+    let sources = length-map xs source_in in
+    omega (arith, count, both, sources, c.gather.ensures.packets_room, c.args.packets.now.ok.0, c.args.packets.now.ok.1)
+
+pub close-books-requires-clause-wires : goal.close-books-requires-clause-wires
+close-books-requires-clause-wires g c =
+    let ran = c.run_server-ends in
+    let slice = c.as_mut_slice in
+    let xs = c.gather.new.posts.items in
+    let same = with_items_is c.gather.new.posts ran.new.posts (ran.ensures.len ∙ slice.ensures.len) in
+    let all = all_ran g.D.Faulty.seen g.L.Faulty.seen c.args.room.pool c.args.room.desk c.args.run_flushes slice.result.now ran.new.posts ran.ensures.len ran.ensures.each in
+    let wires = ap (λ l. length (flat_map wires_in l)) same ∙ ran_wires g.D.Faulty.seen g.L.Faulty.seen c.args.room.pool c.args.room.desk c.args.run_flushes slice.result.now ran.new.posts all ∙ ap (λ l. length (flat_map wires_in l)) slice.ensures.value in
+    let both = ap length c.gather.ensures.wires ∙ length-append (flat_map wires_in xs) c.gather.new.wires.items in
+    omega (arith, wires, both, c.gather.ensures.wires_room, c.args.wires.now.ok.0, c.args.wires.now.ok.1)
+
+pub close-books-requires-clause-none : goal.close-books-requires-clause-none
+close-books-requires-clause-none g c =
+    let room = c.requires.room in
+    let xs = c.gather.new.posts.items in
+    let n = (sizing_in c.args.room).receivers in
+    let seats = counted_by who_is c.args.room.seats.receivers.items n room.callers in
+    let owns = counted_by number_of_seat c.args.room.owns.items (n + 2) room.numbers in
+    let first = length-map xs seat_in ∙ c.gather.ensures.len ∙ room.places in
+    let first_owns = length-map xs own_in ∙ c.gather.ensures.len ∙ room.places in
+    let left = left_behind c.args.room.owns.items (map own_in xs) c.gather.new.owns.items n 2 c.gather.ensures.owns owns first_owns in
+    let one = ap length c.take_first-own.ensures.items in
+    let two = ap length c.take_first-admin_own.ensures.items in (
+      none_in c.gather.new.seats.items (left_behind c.args.room.seats.receivers.items (map seat_in xs) c.gather.new.seats.items n 0 c.gather.ensures.seats (omega (arith, seats)) first),
+      none_in c.take_first-admin_own.new.items.items (omega (arith, left, one, two)),
+    )
+
+pub close-books-requires-clause-places : goal.close-books-requires-clause-places
+close-books-requires-clause-places g c =
+    let ran = c.run_server-ends in
+    let slice = c.as_mut_slice in
+    let count = ap length (with_items_is c.gather.new.posts ran.new.posts (ran.ensures.len ∙ slice.ensures.len)) ∙ ran.ensures.len ∙ ap length slice.ensures.value in
+    let seats = counted_by who_is c.args.room.seats.receivers.items (sizing_in c.args.room).receivers c.requires.room.callers in
+    omega (arith, count, c.gather.ensures.len, c.requires.room.places, seats, c.gather.ensures.seats_room, c.args.room.seats.receivers.ok.0, c.args.room.seats.receivers.ok.1)
+
+pub close-books-requires-clause-own_places : goal.close-books-requires-clause-own_places
+close-books-requires-clause-own_places g c =
+    let ran = c.run_server-ends in
+    let slice = c.as_mut_slice in
+    let count = ap length (with_items_is c.gather.new.posts ran.new.posts (ran.ensures.len ∙ slice.ensures.len)) ∙ ran.ensures.len ∙ ap length slice.ensures.value in
+    let owns = counted_by number_of_seat c.args.room.owns.items ((sizing_in c.args.room).receivers + 2) c.requires.room.numbers in
+    omega (arith, count, c.gather.ensures.len, c.requires.room.places, owns, c.gather.ensures.owns_room, c.take_first-own.ensures.capacity, c.take_first-admin_own.ensures.capacity, c.args.room.owns.ok.0, c.args.room.owns.ok.1)
+
+pub close-books-requires-clause-receivers : goal.close-books-requires-clause-receivers
+close-books-requires-clause-receivers g c =
+    let ran = c.run_server-ends in
+    let slice = c.as_mut_slice in
+    let same = with_items_is c.gather.new.posts ran.new.posts (ran.ensures.len ∙ slice.ensures.len) in
+    let all = all_ran g.D.Faulty.seen g.L.Faulty.seen c.args.room.pool c.args.room.desk c.args.run_flushes slice.result.now ran.new.posts ran.ensures.len ran.ensures.each in
+    subst (λ l. AllByRecursion (IsSeatOf c.args.room.pool) (map seat_in l)) (sym same) (ran_seats g.D.Faulty.seen g.L.Faulty.seen c.args.room.pool c.args.room.desk c.args.run_flushes slice.result.now ran.new.posts all)
+
+pub close-books-requires-clause-owns : goal.close-books-requires-clause-owns
+close-books-requires-clause-owns g c =
+    let ran = c.run_server-ends in
+    let slice = c.as_mut_slice in
+    let same = with_items_is c.gather.new.posts ran.new.posts (ran.ensures.len ∙ slice.ensures.len) in
+    let all = all_ran g.D.Faulty.seen g.L.Faulty.seen c.args.room.pool c.args.room.desk c.args.run_flushes slice.result.now ran.new.posts ran.ensures.len ran.ensures.each in
+    subst (λ l. All (IsDeskSeatOf c.args.room.desk) (map own_in l)) (sym same) (ran_owns g.D.Faulty.seen g.L.Faulty.seen c.args.room.pool c.args.room.desk c.args.run_flushes slice.result.now ran.new.posts all)
+
+pub returns-clause-served : goal.returns-clause-served
+returns-clause-served g c =
+    let room = c.args.room in
+    let is = c.requires.room in
+    let n = (sizing_in room).receivers in
+    let ran = c.run_server-ends in
+    let slice = c.as_mut_slice in
+    let gathered = c.gather.ensures in
+    let xs = slice.result.now in
+    let ys = ran.new.posts in
+    let value = slice.ensures.value in
+    let same = with_items_is c.gather.new.posts ys (ran.ensures.len ∙ slice.ensures.len) in
+    let all = all_ran g.D.Faulty.seen g.L.Faulty.seen room.pool room.desk c.args.run_flushes xs ys ran.ensures.len ran.ensures.each in
+    let seats = AllByRecursion-front (IsNewSeatOf room.pool) room.seats.receivers.items (room.seats.flusher ∷ room.seats.admin ∷ []) is.seats in
+    let others = AllByRecursion-back (IsNewSeatOf room.pool) room.seats.receivers.items (room.seats.flusher ∷ room.seats.admin ∷ []) is.seats in
+    let owns = subst (AllByRecursion (IsNewDeskSeatOf room.desk)) gathered.owns (by_recursion (IsNewDeskSeatOf room.desk) room.owns.items is.owns) in
+    let taken = c.take_first-own.ensures.items ∙ ap (λ (l : List DeskSeat). c.take_first-own.result ∷ l) c.take_first-admin_own.ensures.items in
+    let left = subst (AllByRecursion (IsNewDeskSeatOf room.desk)) taken (AllByRecursion-back (IsNewDeskSeatOf room.desk) (map own_in c.gather.new.posts.items) c.gather.new.owns.items owns) in
+    let new_xs = new_posts room.pool room.desk c.gather.new.posts.items c.gather.new.seats.items c.gather.new.owns.items (subst (AllByRecursion (IsNewSeatOf room.pool)) gathered.seats seats) owns in
+    let count : length ys ≡ n = ran.ensures.len ∙ ap length value ∙ gathered.len ∙ is.places in
+    let first = length-map c.gather.new.posts.items seat_in ∙ gathered.len ∙ is.places in
+    let receivers = counted_by who_is room.seats.receivers.items n is.callers in
+    let none = none_in c.gather.new.seats.items (left_behind room.seats.receivers.items (map seat_in c.gather.new.posts.items) c.gather.new.seats.items n 0 gathered.seats (omega (arith, receivers)) first) in
+    let all_seats = gathered.seats ∙ ap (λ (l : List Seat). map seat_in c.gather.new.posts.items ++ l) none ∙ append-nil (map seat_in c.gather.new.posts.items) in
+    let callers = ran_callers g.D.Faulty.seen g.L.Faulty.seen room.pool room.desk c.args.run_flushes xs ys all ∙ ap (λ l. map who_is (map seat_in l)) value ∙ sym (ap (map who_is) all_seats) ∙ is.callers ∙ ap (span 0) (sym (length-map ys seat_in ∙ count)) in
+    let flags : uses ran.new.backs ≡ uses c.args.backs.now = (λ i. uses_by (ran.ensures.graphite_flag i) (ran.ensures.console_flag i)) in
+    let told : Told g.D.Faulty.seen g.L.Faulty.seen room.pool room.desk c.args.plan.now c.args.names.now (uses c.args.backs.now) c.args.settings.now c.from.result c.args.run_flushes (g.C.Clock.may_say c.args.clock.now) = record {
+      xs = xs;
+      ys = ys;
+      more = c.gather.new.packets.items;
+      rest = c.gather.new.wires.items;
+      all = all;
+      new_posts = subst AreNew (sym value) new_xs;
+      fitted = subst (AllByRecursion (IsFitted c.from.result)) (sym value) (by_recursion (IsFitted c.from.result) c.gather.new.posts.items gathered.fitted);
+      count = count ∙ sym is.receivers;
+      flushing = c.round.new.seat;
+      administering = ran.new.admin_seat;
+      callers = callers;
+      flusher_is = c.round.ensures.who ∙ ran.ensures.seat.1;
+      administrator_is = ran.ensures.admin_seat.1;
+      own = c.round.new.own;
+      admin_own = ran.new.admin_own;
+      flushed = own_at room.seats.flusher;
+      flushed_mid = own_at ran.new.seat;
+      no_flush = others.0.own;
+      part = part_of c.take_first-own.result;
+      part_mid = part_of ran.new.own;
+      no_share = left.0.share;
+      back = back_of g.B.Faulty.seen c.args.backs.now;
+      back_mid = back_of g.B.Faulty.seen ran.new.backs;
+      back_now = back_of g.B.Faulty.seen c.round.new.backs;
+      beat = g.P.Faulty.seen c.args.beat.now;
+      beat_now = g.P.Faulty.seen ran.new.beat;
+      end = ran.result.flusher;
+      flushes = ran.ensures.flushes;
+      ts = c.now.result;
+      marks = marks_of c.round.result;
+      waiting = waiting_in c.round.new.tables;
+      last = subst (λ used. MakesRoundAt (form_of room.pool c.args.plan.now c.args.names.now) used c.now.result (marks_of c.round.result) (own_at ran.new.seat) (own_at c.round.new.seat) (part_of ran.new.own) (part_of c.round.new.own)
+          (back_of g.B.Faulty.seen ran.new.backs) (back_of g.B.Faulty.seen c.round.new.backs) (waiting_in c.round.new.tables)) flags c.round.ensures.round;
+      told_by_clock = c.now.ensures;
+      commanded = own_at room.seats.admin;
+      no_command = others.1.0.own;
+      admin_part = part_of c.take_first-admin_own.result;
+      no_admin_share = left.1.0.share;
+      door = g.E.Faulty.seen c.args.door.now;
+      door_now = g.E.Faulty.seen ran.new.door;
+      serves = ran.ensures.serves;
+      door_end = ran.result.keeper;
+      keeps = ran.ensures.keeper;
+      books = c.close-books.result.0.items;
+      after = c.close-books.result.1;
+      closed = subst (λ l. IsClosed room.pool room.desk (map seat_in l ++ c.round.new.seat ∷ ran.new.admin_seat ∷ []) (map own_in l ++ c.round.new.own ∷ ran.new.admin_own ∷ []) c.close-books.result.0.items c.close-books.result.1) same c.close-books.ensures.closed;
+      start = c.requires.start;
+    } in
+    served_as g.D.Faulty.seen g.L.Faulty.seen room.pool room.desk c.from.result (g.C.Clock.may_say c.args.clock.now) (sizing_in room) c.args.plan.now c.args.names.now c.args.settings.now c.args.backs.now c.args.run_flushes told
+    is.shards is.limits is.policy is.receivers c.from.ensures
+    (sym (gathered.packets ∙ ap (λ l. map source_in l ++ c.gather.new.packets.items) (sym value)))
+    (sym (gathered.wires ∙ ap (λ l. flat_map wires_in l ++ c.gather.new.wires.items) (sym value)))
+    (sym (c.close-books.ensures.packets ∙ ap (λ l. map source_in l ++ c.gather.new.packets.items) same))
+    (sym (c.close-books.ensures.wires ∙ ap (λ l. flat_map wires_in l ++ c.gather.new.wires.items) same))
+    (ap (map end_of) (c.ends_in-received.ensures ∙ ap (map ended_in) (c.deref.ensures.value ∙ same)) ∙ receptions_ended g.D.Faulty.seen g.L.Faulty.seen room.pool room.desk c.args.run_flushes xs ys all) refl refl refl refl

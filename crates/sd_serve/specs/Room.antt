@@ -1,0 +1,72 @@
+-- What a server's room was opened for.
+use Rattle.std.specs.Prelude.{◌≡◌, ℕ, ◌+◌, ◌≤◌, [], All, length, map, vec_capacity}
+use Rattle.std.specs.List.{AllByRecursion}
+use Rattle.sd_model_shard.specs.Shard as model
+use Rattle.sd_model_record.specs.Callers.{administrator, flusher}
+use Rattle.sd_model_record.specs.Desk.{new_desk}
+use Rattle.sd_epoch.specs.Limits.{AreLimits, limits_of as limits_seen}
+use Rattle.sd_shard.specs.Policy.{policy_of as policy_seen}
+use Rattle.sd_seats.specs.Lists.{span}
+use Rattle.sd_pool.specs.Pool.{IsNewSeatOf, IsRoomOf as IsClosingRoomOf, limits_of, policy_of, receivers_of, seats_in, shards_of, who_is}
+use Rattle.sd_shared_desk.specs.Shared.{IsNewSeatOf as IsNewDeskSeatOf, number_of_seat, opened_with, seats_of, start_of}
+use Rattle.sd_flush.specs.Tables.{AreTablesFor}
+use Rattle.sd_session.specs.Space.{IsSpaceFor}
+use Rattle.sd_serve.specs.Parts.{HasPlace}
+use Rattle.sd_serve.specs.declared.room.ServerRoom.{ServerRoom}
+use Rattle.sd_serve.specs.declared.room.Sizes.{Sizes}
+
+-- how many shards, receivers, and wires of each receiver there are, and what goes by each shard
+pub record Sizing : Type 0 where
+  pub limits : model.Limits
+  pub policy : model.Policy
+  pub shards : ℕ
+  pub receivers : ℕ
+  pub wires : ℕ
+
+-- sizes of the code, as contracts read them
+abbrev pub sizing_of : Sizes → Sizing
+sizing_of s =
+    record { limits = limits_seen s.limits; policy = policy_seen s.policy; shards = s.shards; receivers = s.receivers; wires = s.wires }
+
+-- sizes that a server can be opened for
+pub record AreSizes (sizing : Sizing) : Type 0 where
+  pub limits_are : AreLimits sizing.limits
+  pub some_shards : 1 ≤ sizing.shards
+  pub few_shards : sizing.shards ≤ 16
+  pub some_receivers : 1 ≤ sizing.receivers
+  pub few_receivers : sizing.receivers ≤ 16
+  pub few_wires : sizing.wires ≤ 16
+
+-- the sizes that a room was opened for
+abbrev pub sizing_in : {D L : Type 0} → ServerRoom D L → Sizing
+sizing_in room = sizing_of room.sizes
+
+-- when its server starts
+abbrev pub start_in : {D L : Type 0} → ServerRoom D L → ℕ
+start_in room = start_of room.desk
+
+-- The room is that of a server of its sizes, which has done nothing: it has a pool and its seats, a desk and as many seats as
+-- there are receivers and two more, what flusher and sessions work with, and the room of each receiver.
+pub record IsRoom {D L : Type 0} (room : ServerRoom D L) : Type 0 where
+  pub sizes_are : AreSizes (sizing_in room)
+  pub shards : shards_of room.pool ≡ (sizing_in room).shards
+  pub limits : limits_of room.pool ≡ (sizing_in room).limits
+  pub policy : policy_of room.pool ≡ (sizing_in room).policy
+  pub receivers : receivers_of room.pool ≡ (sizing_in room).receivers
+  pub callers : map who_is room.seats.receivers.items ≡ span 0 (sizing_in room).receivers
+  pub flushes : who_is room.seats.flusher ≡ flusher
+  pub commands : who_is room.seats.admin ≡ administrator
+  pub seats : AllByRecursion (IsNewSeatOf room.pool) (seats_in room.seats)
+  pub closing : IsClosingRoomOf room.pool room.seats.room
+  pub desk : opened_with room.desk ≡ new_desk (start_in room)
+  pub desk_seats : seats_of room.desk ≡ (sizing_in room).receivers + 2
+  pub numbers : map number_of_seat room.owns.items ≡ span 0 ((sizing_in room).receivers + 2)
+  pub owns : All (IsNewDeskSeatOf room.desk) room.owns.items
+  pub tables : AreTablesFor (sizing_in room).limits (sizing_in room).shards room.tables
+  pub space : IsSpaceFor (sizing_in room).limits (sizing_in room).shards room.space
+  pub places : length room.rooms.items ≡ (sizing_in room).receivers
+  pub place_each : All (HasPlace (sizing_in room).wires) room.rooms.items
+  pub no_post : room.posts.items ≡ []
+  pub post_room : (sizing_in room).receivers ≤ vec_capacity room.posts
+  pub no_end : room.ends.items ≡ []
+  pub end_room : (sizing_in room).receivers ≤ vec_capacity room.ends

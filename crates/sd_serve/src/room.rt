@@ -1,0 +1,77 @@
+ghost use Rattle.std.specs.Prelude.{◌≡◌, ◌<◌, ◌≤◌, IfOk};
+ghost use Rattle.sd_epoch.specs.Limits.{AreLimits, limits_of as limits_seen};
+
+use crate::parts::{PostRoom, open_rooms};
+use sd_epoch::Limits;
+use sd_flush::Tables;
+use sd_outside::Ended;
+use sd_pool::{Pool, Seats};
+use sd_receive::Post;
+use sd_session::AdminSpace;
+use sd_shard::Policy;
+use sd_shared_desk::{DeskSeat, SharedDesk};
+use std::alloc::{AllocError, Global};
+
+/// How many shards and receivers a server has, how many wires each receiver has, and what goes by each shard.
+#[derive(Clone, Copy, Debug)]
+pub struct Sizes {
+    pub limits: Limits,
+    pub policy: Policy,
+    pub shards: u16,
+    pub receivers: u16,
+    pub wires: u16,
+}
+
+/// All that a server works on, in room that is taken before its workers start. Nothing was done yet.
+#[derive(Drop)]
+pub struct ServerRoom<D, L> {
+    pub(crate) sizes: Sizes,
+    pub(crate) pool: Pool,
+    pub(crate) seats: Seats,
+    pub(crate) desk: SharedDesk,
+    pub(crate) owns: Vec<DeskSeat>,
+    pub(crate) tables: Tables,
+    pub(crate) space: AdminSpace,
+    pub(crate) rooms: Vec<PostRoom<L>>,
+    pub(crate) posts: Vec<Post<D, L>>,
+    pub(crate) ends: Vec<Ended>,
+}
+
+impl<D: Drop, L: Drop> ServerRoom<D, L> {
+    ghost use Rattle.sd_serve.specs.Room.{AreSizes, IsRoom, sizing_in, sizing_of, start_in};
+
+    /// Takes the room of a server that starts at this Unix second.
+    ///
+    /// # Errors
+    ///
+    /// Where no memory is left for it.
+    pub fn open(alloc: Global, sizes: Sizes, start: u64) -> Result<ServerRoom<D, L>, AllocError>
+        requires { AreSizes (sizing_of sizes) }
+        ensures room { IfOk result IsRoom }
+        ensures sizes { IfOk result (λ room. sizing_in room ≡ sizing_of sizes) }
+        ensures start { IfOk result (λ room. start_in room ≡ start) }
+    {
+        let Sizes {
+            limits,
+            policy,
+            shards,
+            receivers,
+            wires,
+        } = sizes;
+        let (pool, seats) = Pool::open(alloc, limits, policy, shards, receivers)?;
+        let (desk, owns) = SharedDesk::open(alloc, start, receivers + 2)?;
+        let count = usize::from(receivers);
+        Ok(ServerRoom {
+            sizes,
+            pool,
+            seats,
+            desk,
+            owns,
+            tables: Tables::open(alloc, limits, shards)?,
+            space: AdminSpace::open(alloc, limits, shards)?,
+            rooms: open_rooms(alloc, count, usize::from(wires))?,
+            posts: Vec::with_capacity(alloc, count)?,
+            ends: Vec::with_capacity(alloc, count)?,
+        })
+    }
+}
