@@ -1,0 +1,23 @@
+//! The real objects of the server: receivers of datagrams, a beat, a clock, a link to Graphite and a door for clients over
+//! TCP. They tell nothing of their content.
+#![tactic(auto)]
+
+mod clients;
+mod graphite_link;
+mod line_buffer;
+mod place;
+mod session_sink;
+mod session_source;
+mod system_clock;
+mod tcp_door;
+mod tick_beat;
+mod turns;
+mod udp_receiver;
+
+pub use graphite_link::GraphiteLink;
+pub use session_sink::SessionSink;
+pub use session_source::SessionSource;
+pub use system_clock::SystemClock;
+pub use tcp_door::TcpDoor;
+pub use tick_beat::TickBeat;
+pub use udp_receiver::UdpReceiver;

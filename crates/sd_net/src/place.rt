@@ -1,0 +1,30 @@
+ghost use Rattle.std.specs.Prelude.{◌≡◌, ◌≤◌};
+ghost use Rattle.sd_model_outside.specs.Outside.{raised};
+
+use sd_outside::{Address, OpenRefusal, opening_fault};
+use std::io::{Error, ErrorKind};
+use std::str;
+
+/// The host and the port of an address, where it has them and the host is UTF-8.
+pub(crate) fn host_of(at: &Address) -> Option<(&str, u16)> {
+    let Address::Host { host, port } = at else {
+        return None;
+    };
+    match str::from_utf8(host.as_slice()) {
+        Ok(host) => Some((host, *port)),
+        Err(_) => None,
+    }
+}
+
+/// Why an opening failed, which is counted as a fault unless memory was wanted.
+pub(crate) fn refusal(error: &Error, faults: &mut u64) -> OpenRefusal
+    ensures failed { result ≡ OpenRefusal.Failed → faults.new ≡ raised faults.old }
+    ensures stays { faults.old ≤ faults.new }
+    ensures out_of_memory { result ≡ OpenRefusal.OutOfMemory → faults.new ≡ faults.old }
+{
+    if error.kind() == ErrorKind::OutOfMemory {
+        OpenRefusal::OutOfMemory
+    } else {
+        opening_fault(faults)
+    }
+}

@@ -1,0 +1,64 @@
+use crate::line_buffer::LineBuffer;
+use sd_outside::{Address, Failed, Faulty, OpenRefusal, Opens, Source, opening_fault};
+
+/// What a client of a door asks in one session: the whole lines that it had sent. It doesn't tell what it has left.
+#[derive(Drop)]
+pub struct SessionSource {
+    pub(crate) place: usize,
+    pub(crate) lines: LineBuffer,
+    left: usize,
+    pub(crate) is_read: bool,
+    faults: u64,
+}
+
+impl SessionSource {
+    ghost use Rattle.std.specs.Prelude.{◌≡◌, ◌<◌, ◌↔◌, IsTrue};
+    ghost use Rattle.sd_model_outside.specs.Outside.{Untold, fresh};
+
+    /// The first bytes, so many, of what the client at a place has sent.
+    pub(crate) fn new(place: usize, lines: LineBuffer, left: usize) -> SessionSource
+        ensures { ⟦<SessionSource as Faulty>⟧.seen result ≡ fresh Untold }
+    {
+        SessionSource {
+            place,
+            lines,
+            left,
+            is_read: false,
+            faults: 0,
+        }
+    }
+
+    /// Whether a call on it failed.
+    pub(crate) fn has_failed(&self) -> bool
+        ensures { IsTrue result ↔ (0 < (⟦<SessionSource as Faulty>⟧.seen self.now).faults) }
+    {
+        self.faults > 0
+    }
+}
+
+impl Faulty for SessionSource {
+    ghost use Rattle.std.specs.Prelude.{min, None};
+    ghost use Rattle.std.proofs.Common.{arith};
+    ghost use Rattle.sd_model_outside.specs.Outside.{Untold, last_count, object_of};
+
+    ghost seen = { λ s. object_of Untold (min s.faults last_count) None };
+
+    ghost faults_fit = { λ s. omega arith };
+}
+
+impl Opens for SessionSource {
+    /// Opens nowhere.
+    fn open_at(&mut self, _at: &Address) -> Result<(), OpenRefusal> {
+        Err(opening_fault(&mut self.faults))
+    }
+}
+
+impl Source for SessionSource {
+    fn read(&mut self, buf: &mut [u8]) -> Result<usize, Failed> {
+        let most = self.left.min(buf.len());
+        let count = self.lines.take(&mut buf[..most]);
+        self.left = self.left.saturating_sub(count);
+        self.is_read = count == 0;
+        Ok(count)
+    }
+}

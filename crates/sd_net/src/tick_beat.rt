@@ -1,0 +1,135 @@
+use crate::turns::take_turn;
+use sd_outside::{Beat, Faulty, Tick, fault};
+use std::fs::{Files, exists};
+use std::io::{self, ErrorKind};
+use std::sync::atomic::{AtomicBool, Ordering};
+use std::thread::sleep;
+use std::time::{Clock, Duration};
+
+/// How long a beat sleeps at most before it looks again whether it is to end, in milliseconds.
+const NAP_MS: u64 = 50;
+
+/// A beat that ticks at whole multiples of its interval from its start. Where it is asked too late for several ticks, they
+/// are one. It ends once its stop file is there, or `stop` is set, and sets `stop` then.
+#[derive(Drop)]
+pub struct TickBeat<'a, R> {
+    host: &'a R,
+    stop: &'a AtomicBool,
+    stop_file: Option<&'a str>,
+    started: Option<Duration>,
+    interval: Option<u32>,
+    multiple: u128,
+    faults: u64,
+    turns: u64,
+}
+
+/// A tick that is due: which multiple of the interval it is, and its Unix second.
+#[derive(Clone, Copy)]
+struct Due {
+    multiple: u128,
+    second: u64,
+}
+
+impl<'a, R> TickBeat<'a, R> {
+    ghost use Rattle.std.specs.Prelude.{◌≡◌};
+    ghost use Rattle.sd_model_outside.specs.Outside.{Untold, fresh};
+
+    /// A beat that is started later. Without a name of a stop file it ends by `stop` alone.
+    pub fn new(host: &'a R, stop: &'a AtomicBool, stop_file: Option<&'a str>) -> TickBeat<'a, R>
+        ensures { ⟦<TickBeat<'a, R> as Faulty>⟧.seen result ≡ fresh Untold }
+    {
+        TickBeat {
+            host,
+            stop,
+            stop_file,
+            started: None,
+            interval: None,
+            multiple: 0,
+            faults: 0,
+            turns: 0,
+        }
+    }
+}
+
+impl<'a, R: Clock + Files> TickBeat<'a, R> {
+    /// Whether it is to end, which it tells the others then.
+    fn is_stopped(&self) -> bool {
+        if self.stop.load(Ordering::SeqCst) {
+            return true;
+        }
+        let Some(name) = self.stop_file else {
+            return false;
+        };
+        let is_there = matches!(exists(self.host, name), Ok(true));
+        if is_there {
+            self.stop.store(true, Ordering::SeqCst);
+        }
+        is_there
+    }
+
+    /// Waits until a tick is due, or it is to end.
+    fn wait(&self) -> io::Result<Option<Due>> {
+        let (Some(started), Some(interval)) = (self.started, self.interval) else {
+            return Err(io::Error::from(ErrorKind::InvalidInput));
+        };
+        let interval = u128::from(interval.max(1));
+        for _ in 0..u64::MAX {
+            if self.is_stopped() {
+                return Ok(None);
+            }
+            let elapsed = self.host.monotonic()?.saturating_sub(started).as_millis();
+            let multiple = elapsed / interval;
+            if multiple > self.multiple {
+                let second = self.host.since_1970()?.as_secs();
+                return Ok(Some(Due { multiple, second }));
+            }
+            let rest = u64::try_from(interval - elapsed % interval).unwrap_or(NAP_MS);
+            sleep(self.host, Duration::from_millis(rest.min(NAP_MS)));
+        }
+        Ok(None)
+    }
+}
+
+impl<'a, R> Faulty for TickBeat<'a, R> {
+    ghost use Rattle.std.specs.Prelude.{min, false, None};
+    ghost use Rattle.std.proofs.Common.{arith};
+    ghost use Rattle.sd_model_outside.specs.Outside.{Object, Untold, last_count};
+
+    ghost seen = { λ s. record {
+      told = Untold;
+      faults = min s.faults last_count;
+      opened_at = None;
+      turns = min s.turns last_count;
+      is_out = false;
+      interval = s.interval;
+    } };
+
+    ghost faults_fit = { λ s. omega arith };
+}
+
+impl<'a, R: Clock + Files> Beat for TickBeat<'a, R> {
+    ghost use Rattle.std.proofs.Common.{arith};
+
+    fn start(&mut self, interval_ms: u32) {
+        self.started = self.host.monotonic().ok();
+        self.interval = Some(interval_ms);
+        self.multiple = 0;
+    }
+
+    fn next(&mut self) -> Tick {
+        match self.wait() {
+            Ok(Some(due)) => {
+                self.multiple = due.multiple;
+                take_turn(&mut self.turns);
+                Tick::At(due.second)
+            }
+            Ok(None) => Tick::End,
+            Err(_) => {
+                fault(&mut self.faults);
+                Tick::Failed
+            }
+        }
+    }
+
+    ghost turns_fit = { λ s. omega arith };
+}

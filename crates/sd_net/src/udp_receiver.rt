@@ -1,0 +1,170 @@
+ghost use Rattle.std.specs.Prelude.{◌≤◌, length, IfOk};
+
+use crate::place::{host_of, refusal};
+use crate::turns::take_turn;
+use sd_outside::{Address, Datagrams, Faulty, Next, OpenRefusal, Opens, fault, opening_fault};
+use std::io::{self, ErrorKind};
+use std::net::{Net, UdpSocket};
+use std::sync::OnceLock;
+use std::sync::atomic::{AtomicBool, Ordering};
+use std::time::{Clock, Duration};
+
+/// How long a receiver waits for a datagram before it says that none came for now, in milliseconds.
+const WAIT_MS: u64 = 100;
+
+/// How long a receiver goes on once it has seen that it is to stop, where datagrams don't cease to come, in seconds.
+const DRAIN: u64 = 2;
+
+/// How many bytes a datagram has at most.
+const MOST_DATAGRAM: usize = 65_507;
+
+/// A receiver of the datagrams that come to a UDP socket. Receivers share one: the first that is opened binds it, and the
+/// others take a clone. Once it is to stop, it goes on until none came within its time limit, or for two seconds.
+#[derive(Drop)]
+pub struct UdpReceiver<'a, R> {
+    host: &'a R,
+    shared: &'a OnceLock<UdpSocket>,
+    stop: &'a AtomicBool,
+    socket: Option<UdpSocket>,
+    saw_stop: Option<Duration>,
+    opened_at: Option<Address>,
+    faults: u64,
+    turns: u64,
+}
+
+impl<'a, R> UdpReceiver<'a, R> {
+    ghost use Rattle.std.specs.Prelude.{◌≡◌};
+    ghost use Rattle.sd_model_outside.specs.Outside.{Untold, fresh};
+
+    /// A receiver that is opened later. It is to stop once `stop` is set.
+    pub fn new(
+        host: &'a R,
+        shared: &'a OnceLock<UdpSocket>,
+        stop: &'a AtomicBool,
+    ) -> UdpReceiver<'a, R>
+        ensures { ⟦<UdpReceiver<'a, R> as Faulty>⟧.seen result ≡ fresh Untold }
+    {
+        UdpReceiver {
+            host,
+            shared,
+            stop,
+            socket: None,
+            saw_stop: None,
+            opened_at: None,
+            faults: 0,
+            turns: 0,
+        }
+    }
+}
+
+impl<'a, R: Net + Clock> UdpReceiver<'a, R> {
+    /// The shared socket, which is bound to the place where it isn't yet.
+    fn socket_at(&self, place: (&str, u16)) -> io::Result<UdpSocket> {
+        if let Some(first) = self.shared.get() {
+            return first.try_clone();
+        }
+        let first = UdpSocket::bind(self.host, place)?;
+        first.set_read_timeout(Some(Duration::from_millis(WAIT_MS)))?;
+        let socket = first.try_clone()?;
+        match self.shared.try_set(first) {
+            Ok(_) => Ok(socket),
+            Err(_) => Err(io::Error::from(ErrorKind::AddrInUse)),
+        }
+    }
+}
+
+/// Waits for a datagram, and puts its first bytes, so many at most, at the front of the buffer.
+fn receive(socket: &UdpSocket, buf: &mut [u8], most: usize) -> io::Result<usize>
+    requires { most ≤ length buf.old }
+    ensures { IfOk result (λ n. n ≤ most) }
+{
+    socket.recv(&mut buf[..most])
+}
+
+/// Whether it is to stop, and has gone on long enough since it first saw that.
+fn has_drained(host: &impl Clock, stop: &AtomicBool, saw_stop: &mut Option<Duration>) -> bool {
+    if !stop.load(Ordering::SeqCst) {
+        return false;
+    }
+    let Ok(now) = host.monotonic() else {
+        return false;
+    };
+    match *saw_stop {
+        Some(since) => now.saturating_sub(since) >= Duration::from_secs(DRAIN),
+        None => {
+            *saw_stop = Some(now);
+            false
+        }
+    }
+}
+
+impl<'a, R> Faulty for UdpReceiver<'a, R> {
+    ghost use Rattle.std.specs.Prelude.{min, false, None};
+    ghost use Rattle.std.proofs.Common.{arith};
+    ghost use Rattle.sd_model_outside.specs.Outside.{Object, Untold, last_count};
+    ghost use Rattle.sd_outside.specs.Places.{last_place};
+
+    ghost seen = { λ s. record {
+      told = Untold;
+      faults = min s.faults last_count;
+      opened_at = last_place s.opened_at;
+      turns = min s.turns last_count;
+      is_out = false;
+      interval = None;
+    } };
+
+    ghost faults_fit = { λ s. omega arith };
+}
+
+impl<'a, R: Net + Clock> Opens for UdpReceiver<'a, R> {
+    fn open_at(&mut self, at: &Address) -> Result<(), OpenRefusal> {
+        let Some(place) = host_of(at) else {
+            return Err(opening_fault(&mut self.faults));
+        };
+        match self.socket_at(place) {
+            Ok(socket) => {
+                self.socket = Some(socket);
+                self.opened_at = Some(at.copied());
+                Ok(())
+            }
+            Err(e) => Err(refusal(&e, &mut self.faults)),
+        }
+    }
+}
+
+impl<'a, R: Net + Clock> Datagrams for UdpReceiver<'a, R> {
+    ghost use Rattle.std.proofs.Common.{arith};
+
+    fn next(&mut self, buf: &mut [u8]) -> Next {
+        if has_drained(self.host, self.stop, &mut self.saw_stop) {
+            return Next::End;
+        }
+        let Some(socket) = &self.socket else {
+            fault(&mut self.faults);
+            return Next::Failed;
+        };
+        match receive(socket, buf, MOST_DATAGRAM) {
+            Ok(len) => {
+                take_turn(&mut self.turns);
+                Next::Packet { len }
+            }
+            Err(e) if e.kind() == ErrorKind::WouldBlock => {
+                if self.saw_stop.is_some() {
+                    return Next::End;
+                }
+                take_turn(&mut self.turns);
+                Next::Idle
+            }
+            Err(e) if e.kind() == ErrorKind::Interrupted => {
+                take_turn(&mut self.turns);
+                Next::Idle
+            }
+            Err(_) => {
+                fault(&mut self.faults);
+                Next::Failed
+            }
+        }
+    }
+
+    ghost turns_fit = { λ s. omega arith };
+}
