@@ -46,6 +46,13 @@ impl<'a, R> GraphiteLink<'a, R> {
             faults: 0,
         }
     }
+
+    /// How often it failed.
+    pub fn faults(&self) -> u64
+        ensures { result ≡ (⟦<GraphiteLink<'a, R> as Faulty>⟧.seen self.now).faults }
+    {
+        self.faults
+    }
 }
 
 /// A connection to the first address of a place that takes one, all of them within a time limit.

@@ -10,6 +10,7 @@ mod session_sink;
 mod session_source;
 mod system_clock;
 mod tcp_door;
+mod threads;
 mod tick_beat;
 mod turns;
 mod udp_receiver;

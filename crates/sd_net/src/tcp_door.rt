@@ -59,6 +59,13 @@ impl<'a, R> TcpDoor<'a, R> {
         }
     }
 
+    /// How often it failed.
+    pub fn faults(&self) -> u64
+        ensures { result ≡ (⟦<TcpDoor<'a, R> as Faulty>⟧.seen self.now).faults }
+    {
+        self.faults
+    }
+
     /// The port that it listens at, where it is open.
     pub fn port(&self) -> Option<u16> {
         match self.listener.as_ref()?.local_addr() {

@@ -49,6 +49,13 @@ impl<'a, R> TickBeat<'a, R> {
             turns: 0,
         }
     }
+
+    /// How often it failed.
+    pub fn faults(&self) -> u64
+        ensures { result ≡ (⟦<TickBeat<'a, R> as Faulty>⟧.seen self.now).faults }
+    {
+        self.faults
+    }
 }
 
 impl<'a, R: Clock + Files> TickBeat<'a, R> {

@@ -55,6 +55,13 @@ impl<'a, R> UdpReceiver<'a, R> {
             turns: 0,
         }
     }
+
+    /// How often it failed.
+    pub fn faults(&self) -> u64
+        ensures { result ≡ (⟦<UdpReceiver<'a, R> as Faulty>⟧.seen self.now).faults }
+    {
+        self.faults
+    }
 }
 
 impl<'a, R: Net + Clock> UdpReceiver<'a, R> {

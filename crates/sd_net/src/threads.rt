@@ -1,0 +1,37 @@
+//! That workers may take the objects into threads of their own, and share the gate and the clock.
+
+use crate::graphite_link::GraphiteLink;
+use crate::system_clock::SystemClock;
+use crate::tcp_door::TcpDoor;
+use crate::tick_beat::TickBeat;
+use crate::udp_receiver::UdpReceiver;
+use sd_outside::{Backend, Beat, Clock, Datagrams, Door, Gate, NoGate};
+
+fn is_receiver<D: Datagrams + Send>(_receiver: &D) {}
+
+fn is_beat<P: Beat + Send>(_beat: &P) {}
+
+fn is_backend<B: Backend + Send>(_backend: &B) {}
+
+fn is_door<E: Door<Asking: Send, Telling: Send> + Send>(_door: &E) {}
+
+fn is_gate<G: Gate + Sync>(_gate: &G) {}
+
+fn is_clock<C: Clock + Sync>(_clock: &C) {}
+
+/// What a server is given.
+pub(crate) fn are_for_workers(
+    receiver: &UdpReceiver<'_, HostRuntime>,
+    beat: &TickBeat<'_, HostRuntime>,
+    link: &GraphiteLink<'_, HostRuntime>,
+    door: &TcpDoor<'_, HostRuntime>,
+    gate: &NoGate,
+    clock: &SystemClock<'_, HostRuntime>,
+) {
+    is_receiver(receiver);
+    is_beat(beat);
+    is_backend(link);
+    is_door(door);
+    is_gate(gate);
+    is_clock(clock);
+}
