@@ -156,7 +156,7 @@ impl<'a, R: Net + Clock> Datagrams for UdpReceiver<'a, R> {
                 Next::Packet { len }
             }
             Err(e) if e.kind() == ErrorKind::WouldBlock => {
-                if self.saw_stop.is_some() {
+                if self.stop.load(Ordering::SeqCst) {
                     return Next::End;
                 }
                 take_turn(&mut self.turns);

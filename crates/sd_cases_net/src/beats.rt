@@ -1,0 +1,136 @@
+use crate::common::step;
+use sd_case::Answer;
+use sd_net::{SystemClock, TickBeat};
+use sd_outside::{Beat, Clock, Tick};
+use std::alloc::AllocError;
+use std::sync::atomic::{AtomicBool, Ordering};
+use std::thread::{Threads, join, sleep};
+use std::time::{self, Duration};
+use std::{fs, io, process};
+
+/// The interval of the beat that ticks, in milliseconds.
+const INTERVAL: u32 = 100;
+
+/// What a beat answered.
+fn tick_text(tick: Tick) -> &'static str {
+    match tick {
+        Tick::At(_) => " a tick",
+        Tick::End => " the end",
+        Tick::Failed => " failed",
+    }
+}
+
+/// How many milliseconds have gone since a moment.
+fn millis_since(rt: &HostRuntime, from: Duration) -> io::Result<u128> {
+    Ok(time::Clock::monotonic(rt)?.saturating_sub(from).as_millis())
+}
+
+/// A name of a file that no other run has.
+fn name_of_own(rt: &HostRuntime) -> Result<String, AllocError> {
+    let number = process::id(rt.process());
+    format!(in rt.alloc(); "/tmp/sd_cases_net.{number}.stop")
+}
+
+/// Ticks in time, and late ones.
+fn ticks<'a>(rt: &'a HostRuntime, stop: &'a AtomicBool, out: &mut Answer) -> io::Result<()> {
+    let clock = SystemClock::new(rt);
+    let mut beat = TickBeat::new(rt, stop, None);
+    step(out, "one that isn't started");
+    out.text(tick_text(beat.next()));
+    let before = time::Clock::monotonic(rt)?;
+    beat.start(INTERVAL);
+    let started = time::Clock::monotonic(rt)?;
+    let interval = u128::from(INTERVAL);
+    step(
+        out,
+        "three ticks, each not before its multiple of the interval",
+    );
+    let mut least = interval;
+    for _ in 0..3 {
+        let earliest = clock.now();
+        let tick = beat.next();
+        let latest = clock.now();
+        out.text(tick_text(tick));
+        let is_due = millis_since(rt, before)? >= least;
+        out.text(if is_due { " in time," } else { " too early," });
+        let is_now = matches!(tick, Tick::At(second) if earliest <= second && second <= latest);
+        out.text(if is_now {
+            " of now;"
+        } else {
+            " of another second;"
+        });
+        least = least.saturating_add(interval);
+    }
+    step(
+        out,
+        "two ticks after two and a half intervals of sleep, the second at a multiple of its own",
+    );
+    sleep(rt, Duration::from_millis(250));
+    let multiple = millis_since(rt, started)? / interval;
+    out.text(tick_text(beat.next()));
+    out.text(",");
+    out.text(tick_text(beat.next()));
+    let least = multiple.saturating_add(1).saturating_mul(interval);
+    let is_due = millis_since(rt, before)? >= least;
+    out.text(if is_due { " in time" } else { " too early" });
+    step(out, "once it is to stop");
+    stop.store(true, Ordering::SeqCst);
+    out.text(tick_text(beat.next()));
+    out.count("; faults ", beat.faults());
+    Ok(())
+}
+
+/// What a beat answers while its stop file is made beside it, and whether that was made.
+fn next_beside<'a>(
+    threads: &impl Threads,
+    rt: &'a HostRuntime,
+    stop: &'a AtomicBool,
+    name: &'a str,
+) -> (bool, Tick) {
+    let mut beat = TickBeat::new(rt, stop, Some(name));
+    beat.start(10_000);
+    join(
+        threads,
+        || fs::write(rt, name, b"").is_ok(),
+        move || {
+            let mut beat = beat;
+            beat.next()
+        },
+    )
+}
+
+/// A stop file that appears while a beat waits.
+fn stop_file(threads: &impl Threads, rt: &HostRuntime, out: &mut Answer) -> io::Result<()> {
+    let stop = AtomicBool::new(false);
+    let name = name_of_own(rt)?;
+    let name = name.as_str();
+    step(
+        out,
+        "a stop file that appears while it waits for a tick in ten seconds",
+    );
+    let before = time::Clock::monotonic(rt)?;
+    let (made, tick) = next_beside(threads, rt, &stop, name);
+    let is_early = millis_since(rt, before)? < 5_000;
+    let removed = fs::remove_file(rt, name).is_ok();
+    out.text(if made && removed {
+        " made and removed,"
+    } else {
+        " no file,"
+    });
+    out.text(tick_text(tick));
+    out.text(if is_early { " at once" } else { " late" });
+    let is_told = stop.load(Ordering::SeqCst);
+    out.text(if is_told {
+        ", the others are told"
+    } else {
+        ", the others aren't told"
+    });
+    Ok(())
+}
+
+pub(crate) fn run(threads: &impl Threads, rt: &HostRuntime, out: &mut Answer) -> io::Result<()> {
+    out.text("\nbeats");
+    let stop = AtomicBool::new(false);
+    ticks(rt, &stop, out)?;
+    stop_file(threads, rt, out)
+}

@@ -1,0 +1,52 @@
+ghost use Rattle.std.specs.Prelude.{◌≡◌, IfOk, vec_len};
+
+use sd_case::Answer;
+use sd_outside::{Address, Name, OpenRefusal};
+use std::alloc::{AllocError, Global};
+use std::io::{self, ErrorKind};
+use std::net::SocketAddr;
+
+/// A host of at most 255 bytes, and a port.
+pub(crate) fn host_at(host: &[u8], port: u16) -> Address {
+    let mut name = Name::new();
+    let _ = name.try_extend_from_slice(host);
+    Address::Host { host: name, port }
+}
+
+/// This machine, at a port; at 0 the system picks one.
+pub(crate) fn here(port: u16) -> Address {
+    host_at(b"127.0.0.1", port)
+}
+
+/// This machine as sockets of the case's own take it.
+pub(crate) fn socket_here(port: u16) -> SocketAddr {
+    SocketAddr::from(([127, 0, 0, 1], port))
+}
+
+/// What an opening answered.
+pub(crate) fn opening_text(opened: Result<(), OpenRefusal>) -> &'static str {
+    match opened {
+        Ok(()) => "opened",
+        Err(OpenRefusal::Failed) => "failed",
+        Err(OpenRefusal::OutOfMemory) => "no memory",
+    }
+}
+
+/// A buffer of so many bytes.
+pub(crate) fn room(alloc: Global, size: usize) -> Result<Vec<u8>, AllocError>
+    ensures { IfOk result (λ v. vec_len v ≡ size) }
+{
+    vec![in alloc; 0u8; size]
+}
+
+/// That a case couldn't go on.
+pub(crate) fn stuck() -> io::Error {
+    io::Error::from(ErrorKind::NotConnected)
+}
+
+/// Begins the line of a step, whose answers follow, each behind a space.
+pub(crate) fn step(out: &mut Answer, text: &str) {
+    out.text("\n  ");
+    out.text(text);
+    out.text(":");
+}

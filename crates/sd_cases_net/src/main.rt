@@ -1,0 +1,26 @@
+//! Runs of the real objects over sockets of this machine alone. What is printed is the same whatever the order of the threads.
+#![tactic(auto)]
+
+mod beats;
+mod clients;
+mod common;
+mod doors;
+mod links;
+mod receivers;
+mod stalls;
+
+use sd_case::Answer;
+use std::io;
+
+fn main(rt: HostRuntime) -> io::Result<()> {
+    let mut out = Answer::new(rt.alloc());
+    receivers::run(&rt, &mut out)?;
+    beats::run(&rt, &rt, &mut out)?;
+    links::run(&rt, &mut out)?;
+    doors::run(&rt, &mut out)?;
+    stalls::run(&rt, &rt, &mut out)?;
+    match out.finish() {
+        Ok(text) => println!(rt; "{text}"),
+        Err(_) => println!(rt; "no memory is left"),
+    }
+}

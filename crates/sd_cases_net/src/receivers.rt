@@ -1,0 +1,103 @@
+ghost use Rattle.std.specs.Prelude.{◌≤◌, length};
+ghost use Rattle.sd_model_outside.specs.Turns.{most_datagram};
+
+use crate::common::{here, host_at, opening_text, room, socket_here, step, stuck};
+use sd_case::Answer;
+use sd_net::UdpReceiver;
+use sd_outside::{Address, Datagrams, Name, Next, Opens};
+use std::io;
+use std::net::UdpSocket;
+use std::sync::OnceLock;
+use std::sync::atomic::{AtomicBool, Ordering};
+
+/// How many bytes a datagram has at most.
+const MOST_DATAGRAM: usize = 65_507;
+
+/// How often a receiver is asked before it is taken for one that gets nothing.
+const MOST_TURNS: u32 = 50;
+
+/// Asks a receiver once.
+fn ask(receiver: &mut UdpReceiver<'_, HostRuntime>, buf: &mut [u8], out: &mut Answer) -> Next
+    requires { most_datagram ≤ length buf.old }
+{
+    let next = receiver.next(buf);
+    match next {
+        Next::Packet { len } => {
+            out.text(" ");
+            out.bytes(&buf[..len.min(64)]);
+        }
+        Next::End => out.text(" end"),
+        Next::Idle => out.text(" nothing"),
+        Next::Failed => out.text(" failed"),
+    }
+    next
+}
+
+/// Asks a receiver until something came.
+fn wait(receiver: &mut UdpReceiver<'_, HostRuntime>, buf: &mut [u8], out: &mut Answer)
+    requires { most_datagram ≤ length buf.old }
+{
+    for _ in 0..MOST_TURNS {
+        match receiver.next(buf) {
+            Next::Packet { len } => {
+                out.text(" ");
+                out.bytes(&buf[..len.min(64)]);
+                return;
+            }
+            Next::Idle => {}
+            Next::End | Next::Failed => break,
+        }
+    }
+    out.text(" no datagram");
+}
+
+/// Two receivers on one socket.
+pub(crate) fn run(rt: &HostRuntime, out: &mut Answer) -> io::Result<()> {
+    let shared = OnceLock::new();
+    let stop = AtomicBool::new(false);
+    let mut first = UdpReceiver::new(rt, &shared, &stop);
+    let mut second = UdpReceiver::new(rt, &shared, &stop);
+    let mut buf = room(rt.alloc(), MOST_DATAGRAM)?;
+    out.text("receivers");
+    step(out, "one that isn't open");
+    ask(&mut first, buf.as_mut_slice(), out);
+    step(
+        out,
+        "a file, a host with a byte 255, one with a byte 0, this machine, for the second a port that isn't asked for",
+    );
+    for at in [
+        Address::File(Name::new()),
+        host_at(b"a\xffb", 0),
+        host_at(b"a\0b", 0),
+        here(0),
+    ] {
+        out.text(" ");
+        out.text(opening_text(first.open_at(&at)));
+    }
+    out.text(" ");
+    out.text(opening_text(second.open_at(&here(1))));
+    let port = shared.get().ok_or_else(stuck)?.local_addr()?.port();
+    let sender = UdpSocket::bind(rt, socket_here(0))?;
+    step(
+        out,
+        "two datagrams, one of them empty, one by each receiver",
+    );
+    sender.send_to(b"gorets:1|c", socket_here(port))?;
+    wait(&mut first, buf.as_mut_slice(), out);
+    sender.send_to(b"", socket_here(port))?;
+    wait(&mut second, buf.as_mut_slice(), out);
+    step(out, "none");
+    ask(&mut first, buf.as_mut_slice(), out);
+    ask(&mut second, buf.as_mut_slice(), out);
+    step(out, "two datagrams that came before the stop");
+    sender.send_to(b"a:1|c", socket_here(port))?;
+    sender.send_to(b"b:2|c", socket_here(port))?;
+    stop.store(true, Ordering::SeqCst);
+    wait(&mut first, buf.as_mut_slice(), out);
+    wait(&mut first, buf.as_mut_slice(), out);
+    ask(&mut first, buf.as_mut_slice(), out);
+    ask(&mut second, buf.as_mut_slice(), out);
+    out.count("; faults ", first.faults());
+    out.count(" and ", second.faults());
+    Ok(())
+}
