@@ -20,6 +20,15 @@ fn tick_text(tick: Tick) -> &'static str {
     }
 }
 
+/// Whether a beat told the others to stop.
+fn told_text(stop: &AtomicBool) -> &'static str {
+    if stop.load(Ordering::SeqCst) {
+        ", the others are told,"
+    } else {
+        ", the others aren't told,"
+    }
+}
+
 /// How many milliseconds have gone since a moment.
 fn millis_since(rt: &HostRuntime, from: Duration) -> io::Result<u128> {
     Ok(time::Clock::monotonic(rt)?.saturating_sub(from).as_millis())
@@ -35,8 +44,6 @@ fn name_of_own(rt: &HostRuntime) -> Result<String, AllocError> {
 fn ticks<'a>(rt: &'a HostRuntime, stop: &'a AtomicBool, out: &mut Answer) -> io::Result<()> {
     let clock = SystemClock::new(rt);
     let mut beat = TickBeat::new(rt, stop, None);
-    step(out, "one that isn't started");
-    out.text(tick_text(beat.next()));
     let before = time::Clock::monotonic(rt)?;
     beat.start(INTERVAL);
     let started = time::Clock::monotonic(rt)?;
@@ -76,8 +83,17 @@ fn ticks<'a>(rt: &'a HostRuntime, stop: &'a AtomicBool, out: &mut Answer) -> io:
     step(out, "once it is to stop");
     stop.store(true, Ordering::SeqCst);
     out.text(tick_text(beat.next()));
-    out.count("; faults ", beat.faults());
     Ok(())
+}
+
+/// A beat that isn't started.
+fn unstarted<'a>(rt: &'a HostRuntime, stop: &'a AtomicBool, out: &mut Answer) {
+    let mut beat = TickBeat::new(rt, stop, None);
+    step(out, "one that isn't started, twice");
+    out.text(tick_text(beat.next()));
+    out.text(told_text(stop));
+    out.text(tick_text(beat.next()));
+    out.count("; faults ", beat.faults());
 }
 
 /// What a beat answers while its stop file is made beside it, and whether that was made.
@@ -118,19 +134,14 @@ fn stop_file(threads: &impl Threads, rt: &HostRuntime, out: &mut Answer) -> io::
         " no file,"
     });
     out.text(tick_text(tick));
+    out.text(told_text(&stop));
     out.text(if is_early { " at once" } else { " late" });
-    let is_told = stop.load(Ordering::SeqCst);
-    out.text(if is_told {
-        ", the others are told"
-    } else {
-        ", the others aren't told"
-    });
     Ok(())
 }
 
 pub(crate) fn run(threads: &impl Threads, rt: &HostRuntime, out: &mut Answer) -> io::Result<()> {
     out.text("\nbeats");
-    let stop = AtomicBool::new(false);
-    ticks(rt, &stop, out)?;
+    unstarted(rt, &AtomicBool::new(false), out);
+    ticks(rt, &AtomicBool::new(false), out)?;
     stop_file(threads, rt, out)
 }

@@ -10,7 +10,8 @@ use std::time::{Clock, Duration};
 const NAP_MS: u64 = 50;
 
 /// A beat that ticks at whole multiples of its interval from its start. Where it is asked too late for several ticks, they
-/// are one. It ends once its stop file is there, or `stop` is set, and sets `stop` then.
+/// are one. It ends once its stop file is there, or `stop` is set. It sets `stop` where it ends or fails, so that no other part
+/// of a server goes on without it.
 #[derive(Drop)]
 pub struct TickBeat<'a, R> {
     host: &'a R,
@@ -132,6 +133,7 @@ impl<'a, R: Clock + Files> Beat for TickBeat<'a, R> {
             }
             Ok(None) => Tick::End,
             Err(_) => {
+                self.stop.store(true, Ordering::SeqCst);
                 fault(&mut self.faults);
                 Tick::Failed
             }

@@ -19,7 +19,8 @@ const DRAIN: u64 = 2;
 const MOST_DATAGRAM: usize = 65_507;
 
 /// A receiver of the datagrams that come to a UDP socket. Receivers share one: the first that is opened binds it, and the
-/// others take a clone. Once it is to stop, it goes on until none came within its time limit, or for two seconds.
+/// others take a clone. Once it is to stop, it goes on until none came within its time limit, or for two seconds. Where its
+/// socket fails it sets `stop`, so that a server doesn't go on without it.
 #[derive(Drop)]
 pub struct UdpReceiver<'a, R> {
     host: &'a R,
@@ -167,6 +168,7 @@ impl<'a, R: Net + Clock> Datagrams for UdpReceiver<'a, R> {
                 Next::Idle
             }
             Err(_) => {
+                self.stop.store(true, Ordering::SeqCst);
                 fault(&mut self.faults);
                 Next::Failed
             }
