@@ -1,0 +1,59 @@
+//! A beat, and a door with its sessions.
+ghost use Rattle.std.specs.Prelude.{◌≡◌, ◌<◌, ◌^◌, All, IfOk, false};
+ghost use Rattle.sd_outside.specs.MemBeat.{seen_of as beat_seen};
+ghost use Rattle.sd_outside.specs.MemDoor.{seen_of as door_seen};
+ghost use Rattle.sd_outside.specs.MemSessions.{HasNoFaults};
+
+use crate::setup::{numbers_in, values_in};
+use sd_case::{Refusal, bytes_of, number};
+use sd_outside::{MemBeat, MemDoor, MemSink, MemSource};
+use std::alloc::Global;
+
+// For how many bytes of replies each session has room, where it says nothing else.
+const ROOM: u32 = 1 << 16;
+
+/// A beat with the ticks that words write as `tick=SECOND`, whose calls fail that they name as `fail_beat=CALL`.
+pub fn beat_of(alloc: Global, words: &[&str]) -> Result<MemBeat, Refusal>
+    ensures { IfOk result (λ beat. (beat_seen beat).turns ≡ 0) }
+{
+    let mut beat = MemBeat::of(numbers_in(alloc, words, "tick")?);
+    beat.fail_call = numbers_in(alloc, words, "fail_beat")?;
+    Ok(beat)
+}
+
+// The session that a text writes as `ASKED`, as `ASKED/ROOM`, or as `ASKED/ROOM/READ` where that read fails.
+fn session_of(alloc: Global, text: &str) -> Result<(MemSource, MemSink), Refusal>
+    ensures { IfOk result HasNoFaults }
+{
+    let mut parts = text.split('/');
+    let mut source = MemSource::of(bytes_of(alloc, parts.next().unwrap_or(""))?);
+    let room = match parts.next() {
+        Some(room) => number::<u32>(room)?,
+        None => ROOM,
+    };
+    if let Some(call) = parts.next() {
+        source.fail_call.push(number(call)?)?;
+    }
+    Ok((source, MemSink::open(alloc, room as usize)?))
+}
+
+// The sessions that words write as `session=SESSION`.
+fn sessions_of(alloc: Global, words: &[&str]) -> Result<Vec<(MemSource, MemSink)>, Refusal>
+    ensures { IfOk result (λ sessions. All HasNoFaults sessions.items) }
+{
+    let mut sessions = Vec::new(alloc);
+    for text in &values_in(alloc, words, "session")? {
+        sessions.push(session_of(alloc, text)?)?;
+    }
+    Ok(sessions)
+}
+
+/// A door with the sessions that words write, whose calls fail that they name as `fail_door=CALL`.
+pub fn door_of(alloc: Global, words: &[&str]) -> Result<MemDoor, Refusal>
+    ensures none_out { IfOk result (λ door. (door_seen door).is_out ≡ false) }
+    ensures turns { IfOk result (λ door. (door_seen door).turns ≡ 0) }
+{
+    let mut door = MemDoor::open(sessions_of(alloc, words)?)?;
+    door.fail_call = numbers_in(alloc, words, "fail_door")?;
+    Ok(door)
+}

@@ -1,0 +1,99 @@
+//! A server over objects.
+ghost use Rattle.std.specs.Prelude.{IfOk};
+ghost use Rattle.sd_serve.specs.Room.{AreSizes, sizing_of};
+ghost use Rattle.sd_cases_serve.specs.Serving.{IsFresh};
+
+use crate::setup::Setup;
+use sd_case::Refusal;
+use sd_config::Settings;
+use sd_epoch::Limits;
+use sd_outside::{Backend, Backs, Beat, Datagrams, Door, Gate, MemClock, Wire};
+use sd_plan::{Names, Reckoning};
+use sd_serve::{Served, ServerRoom, Sizes, serve};
+use sd_shard::Policy;
+use std::alloc::Global;
+use std::sync::Wait;
+use std::thread::Threads;
+
+// No kind is deleted when idle.
+const POLICY: Policy = Policy {
+    counters: false,
+    timers: false,
+    gauges: false,
+    sets: false,
+    max_ttl: 1,
+};
+
+/// What a server works with.
+#[derive(Drop)]
+pub struct World<D, L, B, P, E> {
+    pub packets: Vec<D>,
+    pub wires: Vec<L>,
+    pub beat: P,
+    pub backs: Backs<B>,
+    pub door: E,
+}
+
+// The sizes that a case sets, which have to be those that a server can have.
+fn sizes_of(setup: &Setup) -> Result<Sizes, Refusal>
+    ensures { IfOk result (λ sizes. AreSizes (sizing_of sizes)) }
+{
+    let limits = Limits {
+        rows: setup.rows.clamp(1, 1 << 16),
+        entries: setup.entries.clamp(1, 1 << 16),
+    };
+    if setup.wires > 16 {
+        return Err(Refusal::Condition);
+    }
+    Ok(Sizes {
+        limits,
+        policy: POLICY,
+        shards: setup.shards.clamp(1, 16),
+        receivers: setup.receivers.clamp(1, 16),
+        wires: setup.wires,
+    })
+}
+
+/// Opens a server's room as a case sets it, and serves over a world.
+pub fn serve_over<
+    D: Datagrams + Send + Drop,
+    L: Wire + Send + Drop,
+    B: Backend + Send,
+    P: Beat + Send,
+    E: Door<Asking: Send, Telling: Send> + Send,
+    G: Gate + Sync,
+    R: Threads + Wait + Sync,
+>(
+    rt: &R,
+    alloc: Global,
+    setup: &Setup,
+    world: &mut World<D, L, B, P, E>,
+    gate: &G,
+) -> Result<Served, Refusal>
+    requires { IsFresh P.seen E.seen world.old }
+{
+    let sizes = sizes_of(setup)?;
+    let receivers = usize::from(sizes.receivers);
+    let runs = receivers * usize::from(sizes.wires);
+    if world.packets.len() < receivers || world.wires.len() < runs {
+        return Err(Refusal::Condition);
+    }
+    let room = ServerRoom::open(alloc, sizes, setup.clock)?;
+    let settings = Settings::read(alloc, b"").map_err(|_| Refusal::Condition)?;
+    let clock = MemClock::of(setup.clock);
+    Ok(serve(
+        rt,
+        room,
+        &settings,
+        &Reckoning::plain(),
+        &Names::plain(),
+        setup.flushes,
+        &mut world.packets,
+        &mut world.wires,
+        &mut world.beat,
+        &mut world.backs,
+        &mut world.door,
+        gate,
+        &clock,
+    ))
+}

@@ -1,0 +1,122 @@
+//! What the words of a case set.
+use sd_case::{Refusal, number};
+use std::alloc::Global;
+
+/// What a server is opened with, and what is made for it.
+#[derive(Clone, Copy)]
+pub struct Setup {
+    pub shards: u16,
+    pub rows: u32,
+    pub entries: u32,
+    pub receivers: u16,
+    /// How many wires each receiver has.
+    pub wires: u16,
+    /// How many sources and wires stand behind those of the receivers.
+    pub spare: u16,
+    /// How often each source gives the datagrams that words write.
+    pub times: u32,
+    /// How many datagrams of its own the first source gives, and how many more each next one does.
+    pub own: u32,
+    pub more: u32,
+    /// How many keys of its own each source gives a sample of.
+    pub keys: u32,
+    pub flushes: u64,
+    pub clock: u64,
+}
+
+impl Setup {
+    // Takes in what a word sets, if it sets anything here.
+    fn set(&mut self, name: &str, value: &str) -> Result<(), Refusal> {
+        match name {
+            "shards" => self.shards = number(value)?,
+            "rows" => self.rows = number(value)?,
+            "entries" => self.entries = number(value)?,
+            "receivers" => self.receivers = number(value)?,
+            "wires" => self.wires = number(value)?,
+            "spare" => self.spare = number(value)?,
+            "times" => self.times = number(value)?,
+            "own" => self.own = number(value)?,
+            "more" => self.more = number(value)?,
+            "keys" => self.keys = number(value)?,
+            "flushes" => self.flushes = number(value)?,
+            "clock" => self.clock = number(value)?,
+            _ => {}
+        }
+        Ok(())
+    }
+}
+
+/// What the words of a case set.
+pub fn setup_of(words: &[&str]) -> Result<Setup, Refusal> {
+    let mut setup = Setup {
+        shards: 1,
+        rows: 64,
+        entries: 4096,
+        receivers: 1,
+        wires: 0,
+        spare: 0,
+        times: 1,
+        own: 0,
+        more: 0,
+        keys: 0,
+        flushes: 0,
+        clock: 1000,
+    };
+    for word in words {
+        if let Some((name, value)) = word.split_once('=') {
+            setup.set(name, value)?;
+        }
+    }
+    Ok(setup)
+}
+
+/// What a word gives this name, if it does.
+pub fn value_in<'a>(word: &'a str, name: &str) -> Option<&'a str> {
+    match word.split_once('=') {
+        Some((before, value)) if before == name => Some(value),
+        _ => None,
+    }
+}
+
+/// What words give this name.
+pub fn values_in<'a>(
+    alloc: Global,
+    words: &[&'a str],
+    name: &str,
+) -> Result<Vec<&'a str>, Refusal> {
+    let mut values = Vec::new(alloc);
+    for word in words {
+        if let Some(value) = value_in(word, name) {
+            values.push(value)?;
+        }
+    }
+    Ok(values)
+}
+
+/// The numbers that words give this name.
+pub fn numbers_in(alloc: Global, words: &[&str], name: &str) -> Result<Vec<u64>, Refusal> {
+    let mut numbers = Vec::new(alloc);
+    for value in &values_in(alloc, words, name)? {
+        numbers.push(number(value)?)?;
+    }
+    Ok(numbers)
+}
+
+/// The numbers that words give this name behind `PLACE/`, for a place.
+pub fn numbers_at(
+    alloc: Global,
+    words: &[&str],
+    name: &str,
+    place: u16,
+) -> Result<Vec<u64>, Refusal> {
+    let mut numbers = Vec::new(alloc);
+    for word in words {
+        if let Some(value) = value_in(word, name) {
+            let (before, value) = value.split_once('/').ok_or(Refusal::Malformed)?;
+            if number::<u16>(before)? == place {
+                numbers.push(number(value)?)?;
+            }
+        }
+    }
+    Ok(numbers)
+}

@@ -1,0 +1,104 @@
+//! Servers over objects in memory.
+ghost use Rattle.std.specs.Prelude.{IfOk};
+ghost use Rattle.sd_outside.specs.MemBeat.{seen_of as beat_seen};
+ghost use Rattle.sd_outside.specs.MemDoor.{seen_of as door_seen};
+ghost use Rattle.sd_cases_serve.specs.Serving.{IsFresh};
+
+use crate::backing::backs_of;
+use crate::entering::{beat_of, door_of};
+use crate::order::Order;
+use crate::packing::{sources_of, wires_of};
+use crate::serving::{World, serve_over};
+use crate::setup::{Setup, setup_of};
+use crate::shown::{
+    show_books, show_desk, show_ends, show_sessions, show_sources, show_turns, show_wires, sums_of,
+};
+use crate::texts::show_backs;
+use sd_case::{Answer, Refusal};
+use sd_outside::{MemBackend, MemBeat, MemDatagrams, MemDoor, MemWire};
+use sd_serve::Served;
+use std::alloc::Global;
+use std::sync::Wait;
+use std::thread::Threads;
+
+type MemWorld = World<MemDatagrams, MemWire, MemBackend, MemBeat, MemDoor>;
+
+// The objects that the words of a case write.
+fn world_of(alloc: Global, words: &[&str], setup: &Setup) -> Result<MemWorld, Refusal>
+    ensures { IfOk result (IsFresh beat_seen door_seen) }
+{
+    Ok(World {
+        packets: sources_of(alloc, words, setup)?,
+        wires: wires_of(alloc, words, setup)?,
+        beat: beat_of(alloc, words)?,
+        backs: backs_of(alloc, words)?,
+        door: door_of(alloc, words)?,
+    })
+}
+
+// Appends what a server left, and its objects.
+fn show(alloc: Global, served: &Served, world: &MemWorld, out: &mut Answer) -> Result<(), Refusal> {
+    show_ends(served, out);
+    show_desk(&served.desk.facts(), out);
+    show_books(served.books.as_slice(), out);
+    show_sources(&world.packets, out);
+    show_wires(&world.wires, out);
+    show_turns(&world.beat, &world.door, out);
+    show_sessions(&world.door, out);
+    show_backs(alloc, &world.backs, out)
+}
+
+/// `serve WORDS`: a server over the objects that the words write.
+pub fn serve_case<R: Threads + Wait + Sync>(
+    rt: &R,
+    alloc: Global,
+    words: &[&str],
+    out: &mut Answer,
+) -> Result<(), Refusal> {
+    let setup = setup_of(words)?;
+    let gate = Order::of(alloc, words)?;
+    let mut world = world_of(alloc, words, &setup)?;
+    let served = serve_over(rt, alloc, &setup, &mut world, &gate)?;
+    show(alloc, &served, &world, out)?;
+    gate.show(out);
+    Ok(())
+}
+
+// How many names the sessions of a door were told to be deleted.
+fn told_deleted(door: &MemDoor) -> u64 {
+    let mut told = 0u64;
+    for (_asking, telling) in door.back() {
+        for line in telling.bytes().split(|byte| *byte == b'\n') {
+            told = told.saturating_add(u64::from(line.starts_with(b"deleted: ")));
+        }
+    }
+    told
+}
+
+/// `share WORDS`: the same, where it isn't known what sessions delete and what rounds write, but what both come to.
+pub fn share_case<R: Threads + Wait + Sync>(
+    rt: &R,
+    alloc: Global,
+    words: &[&str],
+    out: &mut Answer,
+) -> Result<(), Refusal> {
+    let setup = setup_of(words)?;
+    let gate = Order::of(alloc, words)?;
+    let mut world = world_of(alloc, words, &setup)?;
+    let served = serve_over(rt, alloc, &setup, &mut world, &gate)?;
+    show_ends(&served, out);
+    show_desk(&served.desk.facts(), out);
+    let sums = sums_of(served.books.as_slice());
+    out.step("books");
+    out.count("taken ", sums.taken);
+    out.count(
+        " flushed and deleted ",
+        sums.flushed.saturating_add(sums.deleted),
+    );
+    out.count(" held ", sums.held);
+    out.text(", deleted as told ");
+    out.yes_or_no(sums.deleted == told_deleted(&world.door));
+    show_turns(&world.beat, &world.door, out);
+    gate.show(out);
+    Ok(())
+}
