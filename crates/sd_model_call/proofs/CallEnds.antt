@@ -15,7 +15,7 @@ use Rattle.sd_model_replay.specs.Totals.{totals_after}
 use Rattle.sd_model_replay.specs.AccountingTheorem.{Seen, AccountingTheorem, seen_at}
 use Rattle.sd_model_replay.specs.Ends.{End, Complete, Faulted, ReadFailed, WriteFailed, WornOut, Replayed}
 use Rattle.sd_model_call.specs.Words.{Form}
-use Rattle.sd_model_call.specs.Opening.{World, Part, OfSettings, OfScript, OfWire, OfGraphite, OfConsole, AreRead, longest_file, started}
+use Rattle.sd_model_call.specs.Opening.{World, Part, OfSettings, OfScript, OfSource, OfBeat, OfWire, OfGraphite, OfConsole, OfDoor, AreRead, longest_file, started}
 use Rattle.sd_model_call.specs.Call.{Account, Answer, Done, NoMemory, NoForm, Misset, BadScript, NotOpened, NotRead, NotWritten, Worn, Answers, AnswersReplay, Accounts, StopsAt, TakesSettings, Ran, ending}
 use Rattle.sd_model_call.specs.Completeness.{Asks, AsksPlainly, IsSteady, IsUnhindered, IsCutOff, IsLongest, IsWhole, IsFull, IsBlocked, IsOutward, CarriedOut, NoneMissed, refusal}
 use Rattle.sd_model_call.proofs.ReplayEnds.{LeftBehind, left_behind, carries_out}
@@ -56,7 +56,7 @@ unfolding settings
 too_long bytes long = cond-true (nat_lt 65536 (length bytes)) _ _ (grind (arith, nat_tests))
 
 -- what was read of settings that tell their bytes says what these say
-settled : (place : Place) (bytes read : List ℕ) (old new : Object) → old.told ≡ Left bytes → AreRead place read old new → settings read ≡ settings bytes
+pub settled : (place : Place) (bytes read : List ℕ) (old new : Object) → old.told ≡ Left bytes → AreRead place read old new → settings read ≡ settings bytes
 settled place bytes read old new told h = by_decided h.decided where
   rest : LeftBehind read bytes new.told
   rest = left_behind read bytes new.told (sym told ∙ ap (λ (o : Object). o.told) h.read)
@@ -87,7 +87,7 @@ module _ (words : List (List ℕ)) (values : file.Settings) (old new : World) (p
   ran_by end a ran = ran.force ∙ ap goes_by (in_force ran.values ran.taken)
 
   pub answers_so : (answer : Answer) (h : Accounts words old new answer) → AnswersReplay name script answer h.account old new
-  answers_so answer h = subst (λ (f : Option Form). Answers f answer h.account old new) plainly.asks.form h.answers
+  answers_so answer h = (subst (λ (f : Option Form). Answers f answer h.account old new) plainly.asks.form h.answers).0
 
   module _ (expected : Answer)
       (only : (end : End) → Replayed (goes_by values) end (started (goes_by values) script old.seen) new.seen → ending end ≡ expected)
@@ -104,6 +104,9 @@ module _ (words : List (List ℕ)) (values : file.Settings) (old new : World) (p
     full_by (BadScript at flaw) a theorem h = at_end (Faulted at flaw) a theorem h
     full_by (NotOpened OfSettings) a theorem h = absurd (plainly.settings_faults h.0.failed.rose)
     full_by (NotOpened OfScript) a theorem h = absurd (script_faults h.0.fails.failed.rose)
+    full_by (NotOpened (OfSource i)) a theorem h = absurd h
+    full_by (NotOpened OfBeat) a theorem h = absurd h
+    full_by (NotOpened OfDoor) a theorem h = absurd h
     full_by (NotOpened (OfWire i)) a theorem h = inr (OfWire i, tt, refl)
     full_by (NotOpened OfGraphite) a theorem h = inr (OfGraphite, tt, refl)
     full_by (NotOpened OfConsole) a theorem h = inr (OfConsole, tt, refl)
@@ -111,6 +114,9 @@ module _ (words : List (List ℕ)) (values : file.Settings) (old new : World) (p
         let before = ap (λ (o : Object). o.faults) h.0.failed.read in
         absurd (plainly.settings_faults (subst (λ (n : ℕ). Rose n new.settings.faults) (sym before) h.0.failed.failed.rose))
     full_by (NotRead OfScript) a theorem h = at_end ReadFailed a theorem h
+    full_by (NotRead (OfSource i)) a theorem h = absurd h
+    full_by (NotRead OfBeat) a theorem h = absurd h
+    full_by (NotRead OfDoor) a theorem h = absurd h
     full_by (NotRead (OfWire i)) a theorem h = absurd h
     full_by (NotRead OfGraphite) a theorem h = absurd h
     full_by (NotRead OfConsole) a theorem h = absurd h
@@ -130,6 +136,9 @@ module _ (words : List (List ℕ)) (values : file.Settings) (old new : World) (p
   pub outward_opens : (part : Part) → IsOutward part → NoneMissed (goes_by values) old.seen new.seen → Accounts words old new (NotOpened part) → ⊥
   outward_opens OfSettings outward none h = outward
   outward_opens OfScript outward none h = outward
+  outward_opens (OfSource i) outward none h = outward
+  outward_opens OfBeat outward none h = outward
+  outward_opens OfDoor outward none h = outward
   outward_opens (OfWire i) outward none h =
       let stops = (answers_so (NotOpened (OfWire i)) h).0 in none.wires i (stop_named (OfWire i) stops) stops.fails.failed.rose
   outward_opens OfGraphite outward none h =
@@ -172,11 +181,17 @@ module _ (words : List (List ℕ)) (old new : World) (bytes : List ℕ) (refused
   blocked_by (BadScript at flaw) a h = not_taken h.values h.taken
   blocked_by (NotOpened OfSettings) a h = inr (inl refl)
   blocked_by (NotOpened OfScript) a h = not_taken h.0.values h.0.taken
+  blocked_by (NotOpened (OfSource i)) a h = absurd h
+  blocked_by (NotOpened OfBeat) a h = absurd h
+  blocked_by (NotOpened OfDoor) a h = absurd h
   blocked_by (NotOpened (OfWire i)) a h = not_taken h.0.values h.0.taken
   blocked_by (NotOpened OfGraphite) a h = not_taken h.0.values h.0.taken
   blocked_by (NotOpened OfConsole) a h = not_taken h.0.values h.0.taken
   blocked_by (NotRead OfSettings) a h = inr (inr refl)
   blocked_by (NotRead OfScript) a h = not_taken h.values h.taken
+  blocked_by (NotRead (OfSource i)) a h = absurd h
+  blocked_by (NotRead OfBeat) a h = absurd h
+  blocked_by (NotRead OfDoor) a h = absurd h
   blocked_by (NotRead (OfWire i)) a h = absurd h
   blocked_by (NotRead OfGraphite) a h = absurd h
   blocked_by (NotRead OfConsole) a h = absurd h
@@ -184,7 +199,7 @@ module _ (words : List (List ℕ)) (old new : World) (bytes : List ℕ) (refused
   blocked_by (Worn turns) a h = not_taken h.values h.taken
 
   refused_so : (answer : Answer) (h : Accounts words old new answer) → AnswersReplay asks.settings asks.script answer h.account old new
-  refused_so answer h = subst (λ (f : Option Form). Answers f answer h.account old new) asks.form h.answers
+  refused_so answer h = (subst (λ (f : Option Form). Answers f answer h.account old new) asks.form h.answers).0
 
   pub blocked_answer : (answer : Answer) → Accounts words old new answer → IsBlocked refused answer
   blocked_answer answer h = blocked_by answer h.account (refused_so answer h)

@@ -11,9 +11,9 @@ use Rattle.sd_model_replay.specs.Replay.{deliveries, sendings}
 use Rattle.sd_model_replay.specs.Totals.{totals_after}
 use Rattle.sd_model_replay.specs.AccountingTheorem.{Seen, Course, AccountingTheorem, seen_at}
 use Rattle.sd_model_replay.specs.Ends.{End, Complete, Faulted, ReadFailed, WriteFailed, WornOut, OutputAfter}
-use Rattle.sd_model_call.specs.Words.{Form, Replay, Drill, form}
-use Rattle.sd_model_call.specs.Opening.{World, Opening, Part, OfSettings, OfScript, OfWire, OfGraphite, OfConsole, IsOpened, IsUntouched, OnlySettings, UnusedStay, backend_openings, openings, part_in, started, wire_openings}
-use Rattle.sd_model_call.specs.Call.{Account, Answer, Done, NoMemory, NoForm, Misset, BadScript, NotOpened, NotRead, NotWritten, Worn, Answers, AnswersDrill, AnswersReplay, Accounts, OnlyOutput, NotBegun, TakesSettings, StopsAt, Ran}
+use Rattle.sd_model_call.specs.Words.{Form, Replay, Serve, Drill, form}
+use Rattle.sd_model_call.specs.Opening.{World, Opening, Part, OfSettings, OfScript, OfSource, OfBeat, OfWire, OfGraphite, OfConsole, OfDoor, IsOpened, IsUntouched, OnlySettings, UnusedStay, backend_openings, openings, part_in, started, wire_openings}
+use Rattle.sd_model_call.specs.Call.{Account, Answer, Done, NoMemory, NoForm, Misset, BadScript, NotOpened, NotRead, NotWritten, Worn, Answers, AnswersDrill, AnswersReplay, Accounts, IsScripted, OnlyOutput, NotBegun, TakesSettings, StopsAt, Ran}
 use Rattle.sd_model_outside.proofs.DeliveryLemmas.{all_counts}
 use Rattle.sd_model_replay.proofs.SendingLemmas.{wire_counts}
 use Rattle.sd_model_call.proofs.Openings.{all_append, all_behind, opened_where_faults, opened_wire_faults, wire_beyond, wire_opening}
@@ -143,6 +143,9 @@ module _ (old new : World) where
   kept_by name script (BadScript at flaw) a theorem h = kept_run (Faulted at flaw) name script a theorem h
   kept_by name script (NotOpened OfSettings) a theorem h = kept_settings h.0.failed.used.faults h.0.only
   kept_by name script (NotOpened OfScript) a theorem h = kept_stop OfScript name script a h.0 h.1
+  kept_by name script (NotOpened (OfSource i)) a theorem h = absurd h
+  kept_by name script (NotOpened OfBeat) a theorem h = absurd h
+  kept_by name script (NotOpened OfDoor) a theorem h = absurd h
   kept_by name script (NotOpened (OfWire i)) a theorem h = kept_stop (OfWire i) name script a h.0 h.1
   kept_by name script (NotOpened OfGraphite) a theorem h = kept_stop OfGraphite name script a h.0 h.1
   kept_by name script (NotOpened OfConsole) a theorem h = kept_stop OfConsole name script a h.0 h.1
@@ -150,6 +153,9 @@ module _ (old new : World) where
       let first = read_faults h.0.failed.bytes (File name) old.settings h.0.failed.before h.0.failed.read in
       kept_settings (omega (arith, first, h.0.failed.failed.used.faults)) h.0.only
   kept_by name script (NotRead OfScript) a theorem h = kept_run ReadFailed name script a theorem h
+  kept_by name script (NotRead (OfSource i)) a theorem h = absurd h
+  kept_by name script (NotRead OfBeat) a theorem h = absurd h
+  kept_by name script (NotRead OfDoor) a theorem h = absurd h
   kept_by name script (NotRead (OfWire i)) a theorem h = absurd h
   kept_by name script (NotRead OfGraphite) a theorem h = absurd h
   kept_by name script (NotRead OfConsole) a theorem h = absurd h
@@ -174,7 +180,7 @@ module _ (old new : World) where
 
   -- a call that changed nothing
   kept_all : new ≡ old → Kept old new
-  kept_all same = kept_settings (let faults = ap (λ (w : World). w.settings.faults) same in omega (arith, faults)) (record { seen = ap (λ (w : World). w.seen) same; flags = ap (λ (w : World). w.flags) same })
+  kept_all same = kept_settings (let faults = ap (λ (w : World). w.settings.faults) same in omega (arith, faults)) (record { seen = ap (λ (w : World). w.seen) same; served = ap (λ (w : World). w.served) same; flags = ap (λ (w : World). w.flags) same })
 
   kept_drill : (n : ℕ) (answer : Answer) (a : Account) → AnswersDrill n answer a old new → Kept old new
   kept_drill n Done a h = let faults = ap (λ (o : Object). o.faults) h.2 in kept_output h.0.only (record { faults = omega (arith, faults); opened_at = ap (λ (o : Object). o.opened_at) h.2 })
@@ -187,10 +193,11 @@ module _ (old new : World) where
   kept_drill n NotWritten a h = kept_output h.0.only h.1.used
   kept_drill n (Worn turns) a h = absurd h
 
-  kept_form : (f : Option Form) (answer : Answer) (a : Account) → AccountingTheorem a.force a.course a.start a.end → Answers f answer a old new → Kept old new
-  kept_form None answer a theorem h = kept_all h.unused
-  kept_form (Some (Replay name script)) answer a theorem h = kept_by name script answer a theorem h
-  kept_form (Some (Drill n)) answer a theorem h = kept_drill n answer a h
+  kept_form : (f : Option Form) (answer : Answer) (a : Account) → IsScripted f → AccountingTheorem a.force a.course a.start a.end → Answers f answer a old new → Kept old new
+  kept_form None answer a asks theorem h = kept_all h.unused
+  kept_form (Some (Replay name script)) answer a asks theorem h = kept_by name script answer a theorem h.0
+  kept_form (Some (Serve name)) answer a asks theorem h = absurd asks
+  kept_form (Some (Drill n)) answer a asks theorem h = kept_drill n answer a h
 
-pub kept : (words : List (List ℕ)) (old new : World) (answer : Answer) → Accounts words old new answer → Kept old new
-kept words old new answer h = kept_form old new (form words) answer h.account h.theorem h.answers
+pub kept : (words : List (List ℕ)) (old new : World) (answer : Answer) → IsScripted (form words) → Accounts words old new answer → Kept old new
+kept words old new answer asks h = kept_form old new (form words) answer h.account asks h.theorem h.answers

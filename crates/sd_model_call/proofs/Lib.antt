@@ -4,3 +4,4 @@ pub mod CallEnds
 pub mod DrillEnds
 pub mod KeptFaults
 pub mod WordsLemmas
+pub mod ServerEnds

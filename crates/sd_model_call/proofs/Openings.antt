@@ -6,7 +6,7 @@ use Rattle.sd_model_outside.specs.Outside.{Object}
 use Rattle.sd_model_settings.specs.Entries.{Target}
 use Rattle.sd_model_replay.specs.Settings.{Settings}
 use Rattle.sd_model_record.specs.Repeater.{wire_at}
-use Rattle.sd_model_call.specs.Opening.{Opening, Part, OfSettings, OfScript, OfWire, OfGraphite, OfConsole, backend_openings, openings, opened_where, opened_wires, target_place, wire_openings}
+use Rattle.sd_model_call.specs.Opening.{Opening, Part, OfSettings, OfScript, OfSource, OfBeat, OfWire, OfGraphite, OfConsole, OfDoor, backend_openings, openings, opened_where, opened_wires, target_place, wire_openings}
 
 pub all_append : (P : Opening → Type 0) (before behind : List Opening) → AllByRecursion P before → AllByRecursion P behind → AllByRecursion P (before ++ behind)
 all_append P [] behind first rest = rest
@@ -20,9 +20,12 @@ all_behind P (o ∷ before) behind all = all_behind P before behind all.1
 abbrev pub IsNamed : Settings → Part → Type 0
 IsNamed s OfSettings = ⊥
 IsNamed s OfScript = ⊤
+IsNamed s (OfSource i) = ⊥
+IsNamed s OfBeat = ⊥
 IsNamed s (OfWire i) = i < length s.targets
 IsNamed s OfGraphite = s.uses_graphite ≡ true
 IsNamed s OfConsole = s.uses_console ≡ true
+IsNamed s OfDoor = ⊥
 
 abbrev pub named : Settings → Opening → Type 0
 named s o = IsNamed s o.part

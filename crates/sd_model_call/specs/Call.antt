@@ -1,5 +1,5 @@
 -- What the program answers to its words, and what was done by then.
-use Rattle.std.specs.Prelude.{◌≡◌, ◌⊎◌, ℕ, List, [], Option, Some, None}
+use Rattle.std.specs.Prelude.{◌≡◌, ◌⊎◌, ℕ, List, [], Option, Some, None, ⊤}
 use Rattle.sd_model_outside.specs.Outside.{File, Number, Object, HasFailed, HasFailedBehind, given}
 use Rattle.sd_model_settings.specs.Settings as file
 use Rattle.sd_model_settings.specs.Settings.{SettingsFlaw}
@@ -9,8 +9,8 @@ use Rattle.sd_model_replay.specs.AccountingTheorem.{Seen, Course, AccountingTheo
 use Rattle.sd_model_replay.specs.Next.{ScriptFlaw}
 use Rattle.sd_model_replay.specs.Ends.{End, Complete, Faulted, ReadFailed, WriteFailed, WornOut, EndsAs}
 use Rattle.sd_model_call.specs.Drill.{bytes_counted, drill_settings, drill_start, drill_text, drilled}
-use Rattle.sd_model_call.specs.Words.{Form, Replay, Drill, form}
-use Rattle.sd_model_call.specs.Opening.{Part, OfSettings, OfScript, OfWire, OfGraphite, OfConsole, World, flags_of, IsFlawed, IsAccepted, FailsBehind, IsLeftOff, OnlySettings, openings, UnusedStay, OpensSome, FailsToOpen, started}
+use Rattle.sd_model_call.specs.Words.{Form, Replay, Serve, Drill, form}
+use Rattle.sd_model_call.specs.Opening.{Part, OfSettings, OfScript, OfSource, OfBeat, OfWire, OfGraphite, OfConsole, OfDoor, World, flags_of, IsFlawed, IsAccepted, FailsBehind, IsLeftOff, OnlySettings, openings, UnusedStay, OpensSome, FailsToOpen, started}
 
 -- How the program answers: all was done; no memory was left; the words are of no form; the settings have this flaw; the
 -- script's record at this place has this one; an object couldn't be opened; a read failed; the output failed; as many records
@@ -109,14 +109,20 @@ AnswersReplay name script (Misset flaw) a old new = HasFlaw flaw name old new ×
 AnswersReplay name script (BadScript at flaw) a old new = Ran (Faulted at flaw) name script a old new
 AnswersReplay name script (NotOpened OfSettings) a old new = FailsToOpenSettings old new × NotBegun a old new
 AnswersReplay name script (NotOpened OfScript) a old new = StopsAt OfScript name script old new × NotBegun a old new
+AnswersReplay name script (NotOpened (OfSource i)) a old new = ⊥
+AnswersReplay name script (NotOpened OfBeat) a old new = ⊥
 AnswersReplay name script (NotOpened (OfWire i)) a old new = StopsAt (OfWire i) name script old new × NotBegun a old new
 AnswersReplay name script (NotOpened OfGraphite) a old new = StopsAt OfGraphite name script old new × NotBegun a old new
 AnswersReplay name script (NotOpened OfConsole) a old new = StopsAt OfConsole name script old new × NotBegun a old new
+AnswersReplay name script (NotOpened OfDoor) a old new = ⊥
 AnswersReplay name script (NotRead OfSettings) a old new = FailsToRead name old new × NotBegun a old new
 AnswersReplay name script (NotRead OfScript) a old new = Ran ReadFailed name script a old new
+AnswersReplay name script (NotRead (OfSource i)) a old new = ⊥
+AnswersReplay name script (NotRead OfBeat) a old new = ⊥
 AnswersReplay name script (NotRead (OfWire i)) a old new = ⊥
 AnswersReplay name script (NotRead OfGraphite) a old new = ⊥
 AnswersReplay name script (NotRead OfConsole) a old new = ⊥
+AnswersReplay name script (NotRead OfDoor) a old new = ⊥
 AnswersReplay name script NotWritten a old new = Ran WriteFailed name script a old new
 AnswersReplay name script (Worn turns) a old new = Ran (WornOut turns) name script a old new
 
@@ -164,11 +170,20 @@ pub record Refuses (answer : Answer) (a : Account) (old new : World) : Type 0 wh
   pub unused : new ≡ old
   pub not_begun : NotBegun a old new
 
--- Why the program answers so, by the form of its words.
+-- Why the program answers so, by the form of its words. A server carries out no record of a script; of it there is an account
+-- of its own.
 abbrev pub Answers : Option Form → Answer → Account → World → World → Type 0
 Answers None answer a old new = Refuses answer a old new
-Answers (Some (Replay name script)) answer a old new = AnswersReplay name script answer a old new
+Answers (Some (Replay name script)) answer a old new = AnswersReplay name script answer a old new × (new.served ≡ old.served)
+Answers (Some (Serve name)) answer a old new = (a.course.played ≡ []) × (a.course.ahead ≡ [])
 Answers (Some (Drill n)) answer a old new = AnswersDrill n answer a old new
+
+-- the words are none that ask for the server
+abbrev pub IsScripted : Option Form → Type 0
+IsScripted None = ⊤
+IsScripted (Some (Replay name script)) = ⊤
+IsScripted (Some (Serve name)) = ⊥
+IsScripted (Some (Drill n)) = ⊤
 
 -- A call, by its words, what is seen of its objects before and after it, and its answer: whatever it answers, the
 -- accounting theorem holds of the records that it carried out under the settings in force, between what was seen when they

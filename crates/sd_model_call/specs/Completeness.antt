@@ -17,7 +17,7 @@ use Rattle.sd_model_call.specs.Faultless.{well}
 use Rattle.sd_model_call.specs.Words.{Replay, form}
 use Rattle.sd_model_settings.specs.Settings as file
 use Rattle.sd_model_settings.specs.Settings.{SettingsFlaw, settings}
-use Rattle.sd_model_call.specs.Opening.{World, Part, OfSettings, OfScript, OfWire, OfGraphite, OfConsole}
+use Rattle.sd_model_call.specs.Opening.{World, Part, OfSettings, OfScript, OfSource, OfBeat, OfWire, OfGraphite, OfConsole, OfDoor}
 use Rattle.sd_model_call.specs.Call.{Answer, NoMemory, Misset, NotOpened, NotRead}
 
 -- The script tells that it has these legal records and then these bytes, and no fault was counted of it.
@@ -84,9 +84,12 @@ IsWhole ended answer = (answer ≡ ended) ⊎ (answer ≡ NoMemory)
 abbrev pub IsOutward : Part → Type 0
 IsOutward OfSettings = ⊥
 IsOutward OfScript = ⊥
+IsOutward (OfSource i) = ⊥
+IsOutward OfBeat = ⊥
 IsOutward (OfWire i) = ⊤
 IsOutward OfGraphite = ⊤
 IsOutward OfConsole = ⊤
+IsOutward OfDoor = ⊥
 
 -- besides, that a wire or a backend couldn't be opened
 abbrev pub IsFull : Answer → Answer → Type 0

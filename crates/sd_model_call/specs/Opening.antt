@@ -1,7 +1,7 @@
 -- The objects of a call, and how they are opened and read before a replay begins.
-use Rattle.std.specs.Prelude.{◌≡◌, ◌⊎◌, ℕ, ◌+◌, ◌<◌, Bool, false, List, [], ◌∷◌, ◌++◌, length, drop, if◌then◌else◌, Ok, Err}
+use Rattle.std.specs.Prelude.{◌≡◌, ◌⊎◌, ℕ, ◌+◌, ◌<◌, Bool, false, List, [], ◌∷◌, ◌++◌, length, map, drop, get_or, if◌then◌else◌, Ok, Err}
 use Rattle.std.specs.List.{AllByRecursion}
-use Rattle.sd_model_outside.specs.Outside.{Place, File, Host, Object, HasFailed, HasRead, FailedBehind, IsAtEnd, opened}
+use Rattle.sd_model_outside.specs.Outside.{Place, File, Host, Object, Untold, fresh, HasFailed, HasRead, FailedBehind, IsAtEnd, opened}
 use Rattle.sd_model_settings.specs.Settings as file
 use Rattle.sd_model_settings.specs.Settings.{SettingsFlaw, settings}
 use Rattle.sd_model_settings.specs.Entries.{Target}
@@ -10,13 +10,16 @@ use Rattle.sd_model_record.specs.Backends.{Backend}
 use Rattle.sd_model_record.specs.Repeater.{wire_at}
 use Rattle.sd_model_replay.specs.AccountingTheorem.{Seen, seen_at}
 
--- an object that is opened; a wire by its number
+-- an object of a call; a receiver's source and a wire by their numbers
 pub data Part : Type 0 where
   OfSettings : Part
   OfScript : Part
+  OfSource : (i : ℕ) → Part
+  OfBeat : Part
   OfWire : (i : ℕ) → Part
   OfGraphite : Part
   OfConsole : Part
+  OfDoor : Part
 
 -- Which backends are flagged as used.
 pub record Flags : Type 0 where
@@ -27,10 +30,18 @@ pub record Flags : Type 0 where
 abbrev pub flags_of : Settings → Flags
 flags_of s = record { graphite = s.uses_graphite; console = s.uses_console }
 
--- What is seen of a call's objects: the settings and what a replay uses, and which backends are flagged as used.
+-- What is seen of the objects that a server alone uses: the sources of its receivers, the beat and the door.
+pub record Served : Type 0 where
+  pub sources : List Object
+  pub beat : Object
+  pub door : Object
+
+-- What is seen of a call's objects: the settings, what a replay uses, and a server alone; and which backends are flagged as
+-- used.
 pub record World : Type 0 where
   pub settings : Object
   pub seen : Seen
+  pub served : Served
   pub flags : Flags
 
 -- how many bytes a settings file has at most
@@ -66,15 +77,23 @@ IsLeftOff place old new = (new ≡ old) ⊎ ((bytes : List ℕ) × HasRead bytes
 -- no part but the settings was opened, and the flags stayed
 pub record OnlySettings (old new : World) : Type 0 where
   pub seen : new.seen ≡ old.seen
+  pub served : new.served ≡ old.served
   pub flags : new.flags ≡ old.flags
+
+-- what is seen of a source by its number, and of one that isn't there
+abbrev pub source_at : ℕ → List Object → Object
+source_at i sources = get_or sources i (fresh Untold)
 
 -- what is seen of a part
 abbrev pub part_in : World → Part → Object
 part_in world OfSettings = world.settings
 part_in world OfScript = world.seen.script
+part_in world (OfSource i) = source_at i world.served.sources
+part_in world OfBeat = world.served.beat
 part_in world (OfWire i) = wire_at i world.seen.wires
 part_in world OfGraphite = world.seen.graphite
 part_in world OfConsole = world.seen.console
+part_in world OfDoor = world.served.door
 
 -- a part that is opened, and where
 pub record Opening : Type 0 where
@@ -137,11 +156,15 @@ pub record FailsToOpen (part : Part) (parts : List Opening) (old new : World) : 
 abbrev pub opened_where : Bool → Object → Object
 opened_where used o = if used then opened (File []) o else o
 
+-- objects of which each place has one, which is opened there; those behind them are as they were
+abbrev pub opened_each : List Place → List Object → List Object
+opened_each [] objects = objects
+opened_each (p ∷ places) [] = []
+opened_each (p ∷ places) (o ∷ objects) = opened p o ∷ opened_each places objects
+
 -- wires of which each target has one, and is opened there; those behind them are as they were
 abbrev pub opened_wires : List Target → List Object → List Object
-opened_wires [] wires = wires
-opened_wires (t ∷ targets) [] = []
-opened_wires (t ∷ targets) (w ∷ wires) = opened (target_place t) w ∷ opened_wires targets wires
+opened_wires targets wires = opened_each (map target_place targets) wires
 
 -- what is seen where a replay begins: a script of this name was opened, a wire for each target, and each backend that is
 -- used at the empty name

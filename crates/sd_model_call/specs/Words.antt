@@ -5,9 +5,11 @@ use Rattle.std.specs.List.{list_all}
 use Rattle.std.specs.Cmp.Lexicographic.{pointwise}
 use Rattle.std.specs.Str.Parse.{digits_value}
 
--- What is to be done: a script to be carried out by a settings file, or the made script of so many packets.
+-- What is to be done: a script to be carried out by a settings file; the server to be run by one; or the made script of so many
+-- packets to be carried out.
 pub data Form : Type 0 where
   Replay : (settings script : List ℕ) → Form
+  Serve : (settings : List ℕ) → Form
   Drill : (packets : ℕ) → Form
 
 -- a word that names a file: 1 to 255 bytes, the first of which isn't `-`
@@ -18,6 +20,10 @@ is_file_word (b ∷ bytes) = not (b == 45) && nat_le (length (b ∷ bytes)) 255
 -- a replay by the files that two words name
 abbrev pub replay_form : List ℕ → List ℕ → Option Form
 replay_form settings script = if is_file_word settings && is_file_word script then Some (Replay settings script) else None
+
+-- a server by the file that a word names
+abbrev pub serve_form : List ℕ → Option Form
+serve_form settings = if is_file_word settings then Some (Serve settings) else None
 
 -- how many packets a drill has at most
 abbrev pub most_packets : ℕ
@@ -36,10 +42,20 @@ packets_in word = if is_number_word word && nat_le (digits_value 10 word) most_p
 abbrev pub drill_form : List ℕ → Option Form
 drill_form packets = option_map Drill (packets_in packets)
 
--- `replay SETTINGS SCRIPT` and `drill N`, and nothing else so far
+-- what a name and one word ask for
+abbrev pub word_form : List ℕ → List ℕ → Option Form
+word_form name word =
+    if pointwise ◌==◌ name (codes "drill") then drill_form word
+    else (if pointwise ◌==◌ name (codes "serve") then serve_form word else None)
+
+-- what a name and two words ask for
+abbrev pub words_form : List ℕ → List ℕ → List ℕ → Option Form
+words_form name settings script = if pointwise ◌==◌ name (codes "replay") then replay_form settings script else None
+
+-- `replay SETTINGS SCRIPT`, `serve SETTINGS` and `drill N`, and nothing else so far
 abbrev pub form : List (List ℕ) → Option Form
 form [] = None
 form (name ∷ []) = None
-form (name ∷ packets ∷ []) = if pointwise ◌==◌ name (codes "drill") then drill_form packets else None
-form (name ∷ settings ∷ script ∷ []) = if pointwise ◌==◌ name (codes "replay") then replay_form settings script else None
+form (name ∷ word ∷ []) = word_form name word
+form (name ∷ settings ∷ script ∷ []) = words_form name settings script
 form (name ∷ settings ∷ script ∷ word ∷ words) = None

@@ -12,7 +12,7 @@ ghost use Rattle.sd_model_replay.specs.Ends.{Complete, End, Faulted, Replayed, W
 ghost use Rattle.sd_model_call.specs.Opening.{World, started};
 ghost use Rattle.sd_model_call.specs.Words.{Drill, form};
 ghost use Rattle.sd_model_call.specs.Drill.{drill_text};
-ghost use Rattle.sd_model_call.specs.Call.{Accounts, Answer, BadScript, Done, OnlyOutput, Worn};
+ghost use Rattle.sd_model_call.specs.Call.{Accounts, Answer, BadScript, Done, IsScripted, OnlyOutput, Worn};
 ghost use Rattle.sd_model_call.specs.Completeness.{Asks, AsksPlainly, CarriedOut, CarriedOutWell, IsBlocked, IsCutOff, IsFull, IsLongest, IsUnhindered, IsWhole, NoneMissed, refusal};
 
 /// A replay that nothing hinders comes to the word that ends the script. Where no reply fails to be written, one whose
@@ -81,18 +81,18 @@ pub fn drill_words_are_decimal()
         → (words ≡ codes "drill" ∷ decimal n ∷ []) × (0 < n) × (n ≤ 100000) }
 {}
 
-/// A call keeps the counts of faults: none falls. And the output stays where it was opened.
+/// A call that isn't asked to serve keeps the counts of faults: none falls. And the output stays where it was opened.
 pub fn faults_are_kept()
     ensures settings { (words : List (List ℕ)) (old new : World) (answer : Answer)
-        → Accounts words old new answer → old.settings.faults ≤ new.settings.faults }
+        → IsScripted (form words) → Accounts words old new answer → old.settings.faults ≤ new.settings.faults }
     ensures script { (words : List (List ℕ)) (old new : World) (answer : Answer)
-        → Accounts words old new answer → old.seen.script.faults ≤ new.seen.script.faults }
+        → IsScripted (form words) → Accounts words old new answer → old.seen.script.faults ≤ new.seen.script.faults }
     ensures graphite { (words : List (List ℕ)) (old new : World) (answer : Answer)
-        → Accounts words old new answer → old.seen.graphite.faults ≤ new.seen.graphite.faults }
+        → IsScripted (form words) → Accounts words old new answer → old.seen.graphite.faults ≤ new.seen.graphite.faults }
     ensures output { (words : List (List ℕ)) (old new : World) (answer : Answer)
-        → Accounts words old new answer → Used old.seen.output new.seen.output }
+        → IsScripted (form words) → Accounts words old new answer → Used old.seen.output new.seen.output }
     ensures console { (words : List (List ℕ)) (old new : World) (answer : Answer)
-        → Accounts words old new answer → old.seen.console.faults ≤ new.seen.console.faults }
+        → IsScripted (form words) → Accounts words old new answer → old.seen.console.faults ≤ new.seen.console.faults }
     ensures wires { (words : List (List ℕ)) (old new : World) (answer : Answer) (i : ℕ)
-        → Accounts words old new answer → (wire_at i old.seen.wires).faults ≤ (wire_at i new.seen.wires).faults }
+        → IsScripted (form words) → Accounts words old new answer → (wire_at i old.seen.wires).faults ≤ (wire_at i new.seen.wires).faults }
 {}

@@ -7,7 +7,7 @@ use sd_decimal::{Line, write_whole};
 use sd_outside::{Sink, WriteFault};
 use sd_text::write_line;
 
-/// What a replay counted, in whole numbers.
+/// What a replay or a server counted, in whole numbers.
 #[derive(Clone, Copy, Debug, PartialEq, Eq)]
 pub struct Totals {
     pub packets: u128,
@@ -78,7 +78,7 @@ pub fn write_total<O: Sink>(name: &[u8], n: u128, output: &mut O) -> Result<(), 
 /// # Errors
 ///
 /// `WriteFault` where the sink failed. Then a front of the text was written.
-pub(crate) fn write_totals<O: Sink>(totals: &Totals, output: &mut O) -> Result<(), WriteFault>
+pub fn write_totals<O: Sink>(totals: &Totals, output: &mut O) -> Result<(), WriteFault>
     ensures ok { OnOk result (O.seen output.new ≡ given (lines_of (totals_view totals.now)) (O.seen output.old)) }
     ensures failed { OnErr result (HasFailedBehind (lines_of (totals_view totals.now)) (O.seen output.old) (O.seen output.new)) }
 {

@@ -1,5 +1,5 @@
 -- What a call answers, by the step that ended it.
-use Rattle.std.proofs.Common.{◌≡◌, ◌⊎◌, List, ℕ, [], ◌∷◌, ◌++◌, length, drop, Option, Some, None, inl, inr, refl, sym, ap, subst, ◌∙◌}
+use Rattle.std.proofs.Common.{◌≡◌, ◌⊎◌, List, ℕ, ◌<◌, ◌≤◌, [], ◌∷◌, ◌++◌, length, map, drop, Option, Some, None, inl, inr, refl, sym, ap, subst, ◌∙◌, arith}
 use Rattle.std.specs.List.{AllByRecursion}
 use Rattle.sd_model_outside.specs.Outside.{File, Object, HasFailed, HasFailedBehind, given, opened}
 use Rattle.sd_model_outside.proofs.OutsideLemmas.{Reads-nil}
@@ -11,8 +11,8 @@ use Rattle.sd_model_replay.specs.AccountingTheorem.{Seen, Course, AccountingTheo
 use Rattle.sd_model_replay.specs.Ends.{End, Complete, Faulted, ReadFailed, WriteFailed, WornOut, Replayed}
 use Rattle.sd_model_replay.proofs.AccountingLemmas.{are_accounted, are_documented}
 use Rattle.sd_model_call.specs.Drill.{drill_text}
-use Rattle.sd_model_call.specs.Words.{Form, Replay, Drill, form}
-use Rattle.sd_model_call.specs.Opening.{Part, OfSettings, OfScript, OfWire, OfGraphite, OfConsole, World, Opening, IsAccepted, IsOpened, IsUntouched, OnlySettings, UnusedStay, flags_of, openings, part_in, started}
+use Rattle.sd_model_call.specs.Words.{Form, Replay, Serve, Drill, form}
+use Rattle.sd_model_call.specs.Opening.{Part, OfSettings, OfScript, OfSource, OfBeat, OfWire, OfGraphite, OfConsole, OfDoor, World, Opening, IsAccepted, IsOpened, IsUntouched, OnlySettings, UnusedStay, flags_of, openings, part_in, started}
 use Rattle.sd_model_call.specs.Call.{Account, Answer, Done, drill_end, NoForm, NoMemory, NotOpened, NotWritten, Answers, AnswersReplay, Accounts, NotBegun, Ran, StopsAt, TakesSettings, ending}
 use Rattle.sd_model_call.proofs.Openings.{IsNamed, all_behind, all_named}
 use Rattle.sd_top.specs.Causes.{IsDrill, IsNotTaken, IsNotStarted, IsReplay, Stops}
@@ -57,13 +57,32 @@ by_words words old none =
     }
 
 -- they ask for a replay
-pub by_files : (words : List (List ℕ)) (settings script : List ℕ) (old new : World) (answer : Answer) → form words ≡ Some (Replay settings script) → IsReplay settings script answer old new → Accounts words old new answer
-by_files words settings script old new answer asked h =
+pub by_files : (words : List (List ℕ)) (settings script : List ℕ) (old new : World) (answer : Answer) → form words ≡ Some (Replay settings script) → IsReplay settings script answer old new → new.served ≡ old.served → Accounts words old new answer
+by_files words settings script old new answer asked h stays =
     record {
       account = h.account;
       theorem = h.theorem;
-      answers = subst (λ (f : Option Form). Answers f answer h.account old new) (sym asked) h.answers;
+      answers = subst (λ (f : Option Form). Answers f answer h.account old new) (sym asked) (h.answers, stays);
     }
+
+-- they ask for the server, whose account is its own
+pub by_server : (words : List (List ℕ)) (name : List ℕ) (old new : World) (answer : Answer) → form words ≡ Some (Serve name) → Accounts words old new answer
+by_server words name old new answer asked =
+    record {
+      account = idle_account new.seen;
+      theorem = nothing_done new.seen;
+      answers = subst (λ (f : Option Form). Answers f answer (idle_account new.seen) old new) (sym asked) (refl, refl);
+    }
+
+-- too few words are of no form, and too many
+pub of_no_form : {X : Type 0} (bytes : X → List ℕ) (words : List X) → (length words < 2) ⊎ (4 ≤ length words) → None ≡ form (map bytes words)
+of_no_form bytes [] many = refl
+of_no_form bytes (a ∷ []) many = refl
+of_no_form bytes (a ∷ b ∷ []) (inl few) = absurd (omega (arith, few))
+of_no_form bytes (a ∷ b ∷ []) (inr many) = absurd (omega (arith, many))
+of_no_form bytes (a ∷ b ∷ c ∷ []) (inl few) = absurd (omega (arith, few))
+of_no_form bytes (a ∷ b ∷ c ∷ []) (inr many) = absurd (omega (arith, many))
+of_no_form bytes (a ∷ b ∷ c ∷ d ∷ words) many = refl
 
 -- they ask for a drill, which used nothing but the output
 pub by_drill : (words : List (List ℕ)) (n : ℕ) (old : World) (output : Object) (answer : Answer) → form words ≡ Some (Drill n) → IsDrill n answer old.seen.output output → Accounts words old (record old { seen = record old.seen { output = output } }) answer
@@ -92,6 +111,9 @@ by_drill words n old output answer asked (inr h) =
 part_same : (s : Settings) (a b : World) (part : Part) → a.seen ≡ b.seen → IsNamed s part → part_in a part ≡ part_in b part
 part_same s a b OfSettings same is = absurd is
 part_same s a b OfScript same is = ap (λ (seen : Seen). seen.script) same
+part_same s a b (OfSource i) same is = absurd is
+part_same s a b OfBeat same is = absurd is
+part_same s a b OfDoor same is = absurd is
 part_same s a b (OfWire i) same is = ap (λ (seen : Seen). wire_at i seen.wires) same
 part_same s a b OfGraphite same is = ap (λ (seen : Seen). seen.graphite) same
 part_same s a b OfConsole same is = ap (λ (seen : Seen). seen.console) same
@@ -137,12 +159,12 @@ module _ (old new : World) (settings script : List ℕ) where
   Gives answer = AnswersReplay settings script answer (idle_account new.seen) old new
 
   -- nothing but the settings was opened
-  module _ (unused : new.seen ≡ old.seen) (flags : new.flags ≡ old.flags) where
+  module _ (unused : new.seen ≡ old.seen) (stays : new.served ≡ old.served) (flags : new.flags ≡ old.flags) where
     idle : NotBegun (idle_account new.seen) old new
     idle = not_begun old new (ap (λ (s : Seen). s.output) unused)
 
     only : OnlySettings old new
-    only = record { seen = unused; flags = flags }
+    only = record { seen = unused; served = stays; flags = flags }
 
     -- the settings ended it
     pub by_settings : (answer : Answer) → IsNotTaken answer (File settings) old.settings new.settings → IsReplay settings script answer old new
@@ -159,6 +181,9 @@ module _ (old new : World) (settings script : List ℕ) where
     stop_answer : (part : Part) → IsNamed (goes_by values) part → StopsAt part settings script old new → NotBegun (idle_account new.seen) old new → Gives (NotOpened part)
     stop_answer OfSettings is stops idle = absurd is
     stop_answer OfScript is stops idle = (stops, idle)
+    stop_answer (OfSource i) is stops idle = absurd is
+    stop_answer OfBeat is stops idle = absurd is
+    stop_answer OfDoor is stops idle = absurd is
     stop_answer (OfWire i) is stops idle = (stops, idle)
     stop_answer OfGraphite is stops idle = (stops, idle)
     stop_answer OfConsole is stops idle = (stops, idle)

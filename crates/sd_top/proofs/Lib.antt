@@ -3,3 +3,4 @@ mod DrillLemmas
 mod OpeningLemmas
 mod SettingsLemmas
 mod WordsLemmas
+mod ServerLemmas

@@ -1,5 +1,5 @@
 -- Why a step before a replay ended the call, and what was done by then.
-use Rattle.std.specs.Prelude.{◌≡◌, ◌⊎◌, ℕ, ◌+◌, List, [], ◌∷◌, ◌++◌, length, Err}
+use Rattle.std.specs.Prelude.{◌≡◌, ◌⊎◌, ℕ, ◌+◌, List, [], ◌∷◌, ◌++◌, length, map, Err}
 use Rattle.std.specs.List.{AllByRecursion}
 use Rattle.sd_model_outside.specs.Outside.{Object, Place, HasFailed, HasFailedBehind, given, opened}
 use Rattle.sd_model_settings.specs.Settings.{SettingsFlaw, settings}
@@ -30,14 +30,18 @@ IsRefused answer bytes = (answer ≡ NoMemory) ⊎ ((flaw : SettingsFlaw) × (an
 abbrev pub HoldsDeciding : List ℕ → Type 0
 HoldsDeciding buf = length buf ≡ longest_file + 1
 
--- the wires of targets, from this number on, weren't all opened: those before one were, and that one wasn't; or no memory was
--- left for it
+-- objects, each a part by its number from this one on, weren't all opened at their places: those before one were, and that one
+-- wasn't; or no memory was left for it
+abbrev pub EachStops : (ℕ → Part) → ℕ → List Place → Answer → List Object → List Object → Type 0
+EachStops part i (p ∷ places) answer (o ∷ old) (n ∷ new) =
+    IsNotOpened (part i) answer o n × (new ≡ old) ⊎ (n ≡ opened p o) × EachStops part (i + 1) places answer old new
+EachStops part i [] answer old new = ⊥
+EachStops part i (p ∷ places) answer [] new = ⊥
+EachStops part i (p ∷ places) answer (o ∷ old) [] = ⊥
+
+-- the wires of targets, from this number on, weren't all opened
 abbrev pub WiresStop : ℕ → List Target → Answer → List Object → List Object → Type 0
-WiresStop i (t ∷ targets) answer (o ∷ old) (n ∷ new) =
-    IsNotOpened (OfWire i) answer o n × (new ≡ old) ⊎ (n ≡ opened (target_place t) o) × WiresStop (i + 1) targets answer old new
-WiresStop i [] answer old new = ⊥
-WiresStop i (t ∷ targets) answer [] new = ⊥
-WiresStop i (t ∷ targets) answer (o ∷ old) [] = ⊥
+WiresStop i targets answer old new = EachStops OfWire i (map target_place targets) answer old new
 
 -- The first of these that wasn't opened, since it failed or no memory was left: those before it were opened, in their order,
 -- and those behind it are untouched.

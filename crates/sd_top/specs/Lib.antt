@@ -3,3 +3,4 @@ pub mod Causes
 pub mod Status
 pub mod Words
 pub mod World
+pub mod Serving

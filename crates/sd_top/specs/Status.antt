@@ -1,7 +1,7 @@
 -- What a status says to the user, and to the shell.
 use Rattle.std.specs.Prelude.{ℕ, List, [], ◌∷◌, ◌++◌, codes, decimal}
 use Rattle.sd_top.specs.declared.status.Part.{Part}
-use Rattle.sd_top.specs.declared.status.Part.TheVariants.{Settings, Script, Wire, Graphite, Console}
+use Rattle.sd_top.specs.declared.status.Part.TheVariants.{Settings, Script, Packets, Beat, Wire, Graphite, Console, Door}
 use Rattle.sd_top.specs.declared.status.Status.{Status}
 use Rattle.sd_top.specs.declared.status.Status.TheVariants.{Ok, OutOfMemory, Usage, Config, ReadFault, WriteFault, OpenFault, Worn}
 use Rattle.sd_top.specs.declared.status.Status.TheVariants as status
@@ -14,9 +14,12 @@ use Rattle.sd_replay.specs.declared.fault.ScriptFault.TheVariants.{Word, Length,
 abbrev pub part_name : Part → List ℕ
 part_name Settings = codes "settings"
 part_name Script = codes "script"
+part_name (Packets i) = codes "packets " ++ decimal i
+part_name Beat = codes "beat"
 part_name (Wire i) = codes "wire " ++ decimal i
 part_name Graphite = codes "graphite"
 part_name Console = codes "console"
+part_name Door = codes "door"
 
 -- what is said where no memory was left
 abbrev pub no_memory : List ℕ

@@ -1,8 +1,10 @@
-ghost use Rattle.std.specs.Prelude.{◌≡◌, ◌≤◌, length, map, string_bytes, IfOk, IfErr};
+ghost use Rattle.std.specs.Prelude.{◌≡◌, ◌<◌, ◌≤◌, ◌^◌, false, length, map, string_bytes, IfOk, IfErr};
 ghost use Rattle.sd_model_replay.specs.Settings.{goes_by};
 ghost use Rattle.sd_model_replay.specs.Ends.{Replayed};
 ghost use Rattle.sd_model_call.specs.Opening.{flags_of, started};
 ghost use Rattle.sd_model_call.specs.Call.{Accounts};
+ghost use Rattle.sd_model_call.specs.Server.{AnswersServer};
+ghost use Rattle.sd_model_call.specs.Words.{form};
 ghost use Rattle.sd_replay.specs.Ends.{end_of};
 ghost use Rattle.sd_top.specs.Answers.{answer_of};
 ghost use Rattle.sd_top.specs.Causes.{IsNotStarted, IsReplay};
@@ -10,22 +12,32 @@ ghost use Rattle.sd_top.specs.World.{world_of};
 
 use crate::drill::drill;
 use crate::opening::open_parts;
+use crate::server::serve_files;
 use crate::settings::read_settings;
 use crate::status::{Status, status_of};
 use crate::words::{Form, form_of};
 use sd_config::Settings;
-use sd_outside::{Address, Backend, Backs, Name, Sink, Source, Wire};
+use sd_outside::{
+    Address, Backend, Backs, Beat, Clock, Datagrams, Door, Gate, Name, Sink, Source, Wire,
+};
 use sd_replay::{ReplayEnd, ReplayRoom, names_backend, replay};
 use std::alloc::Global;
+use std::sync::Wait;
+use std::thread::Threads;
 
 /// The objects that the program uses. None is opened yet.
 #[derive(Drop)]
-pub struct World<R, O, B, L> {
+pub struct World<R, O, B, D, L, E, P, G, T> {
     pub settings: R,
     pub script: R,
     pub output: O,
     pub backs: Backs<B>,
+    pub packets: Vec<D>,
     pub wires: Vec<L>,
+    pub door: E,
+    pub beat: P,
+    pub gate: G,
+    pub clock: T,
 }
 
 /// Opens what a replay by these settings uses, and carries out the script.
@@ -33,22 +45,23 @@ pub struct World<R, O, B, L> {
 /// # Errors
 ///
 /// `OpenFault` where an object failed, and `OutOfMemory`.
-fn carry_out<R: Source, O: Sink, B: Backend, L: Wire>(
+fn carry_out<R: Source, O: Sink, B: Backend, D: Datagrams, L: Wire, E: Door, P: Beat, G, T>(
     alloc: Global,
     settings: &Settings,
     script: Name,
-    world: &mut World<R, O, B, L>,
+    world: &mut World<R, O, B, D, L, E, P, G, T>,
 ) -> Result<ReplayEnd, Status>
-    requires flags { (world_of R.seen O.seen B.seen L.seen world.old).flags ≡ flags_of (goes_by settings.now) }
+    requires flags { (world_of R.seen O.seen B.seen D.seen L.seen E.seen P.seen world.old).flags ≡ flags_of (goes_by settings.now) }
     requires wires { 16 ≤ length (world.old).wires.items }
     ensures end { IfOk result (λ end. Replayed (goes_by settings.now) (end_of end)
-        (started (goes_by settings.now) script.items (world_of R.seen O.seen B.seen L.seen world.old).seen)
-        (world_of R.seen O.seen B.seen L.seen world.new).seen) }
+        (started (goes_by settings.now) script.items (world_of R.seen O.seen B.seen D.seen L.seen E.seen P.seen world.old).seen)
+        (world_of R.seen O.seen B.seen D.seen L.seen E.seen P.seen world.new).seen) }
     ensures refused { IfErr result (λ status. IsNotStarted (goes_by settings.now) script.items (answer_of status)
-        (world_of R.seen O.seen B.seen L.seen world.old)
-        (world_of R.seen O.seen B.seen L.seen world.new)) }
+        (world_of R.seen O.seen B.seen D.seen L.seen E.seen P.seen world.old)
+        (world_of R.seen O.seen B.seen D.seen L.seen E.seen P.seen world.new)) }
     ensures settings { world.new.settings ≡ world.old.settings }
-    ensures flags { (world_of R.seen O.seen B.seen L.seen world.new).flags ≡ (world_of R.seen O.seen B.seen L.seen world.old).flags }
+    ensures served { (world_of R.seen O.seen B.seen D.seen L.seen E.seen P.seen world.new).served ≡ (world_of R.seen O.seen B.seen D.seen L.seen E.seen P.seen world.old).served }
+    ensures flags { (world_of R.seen O.seen B.seen D.seen L.seen E.seen P.seen world.new).flags ≡ (world_of R.seen O.seen B.seen D.seen L.seen E.seen P.seen world.old).flags }
 {
     let Ok(room) = ReplayRoom::open(alloc, settings) else {
         return Err(Status::OutOfMemory);
@@ -65,16 +78,17 @@ fn carry_out<R: Source, O: Sink, B: Backend, L: Wire>(
 }
 
 /// Reads a settings file, and carries out a script by the settings.
-fn replay_files<R: Source, O: Sink, B: Backend, L: Wire>(
+fn replay_files<R: Source, O: Sink, B: Backend, D: Datagrams, L: Wire, E: Door, P: Beat, G, T>(
     alloc: Global,
     settings: Name,
     script: Name,
-    world: &mut World<R, O, B, L>,
+    world: &mut World<R, O, B, D, L, E, P, G, T>,
 ) -> Status
     requires wires { 256 ≤ length (world.old).wires.items }
-    ensures { IsReplay settings.items script.items (answer_of result)
-        (world_of R.seen O.seen B.seen L.seen world.old)
-        (world_of R.seen O.seen B.seen L.seen world.new) }
+    ensures replay { IsReplay settings.items script.items (answer_of result)
+        (world_of R.seen O.seen B.seen D.seen L.seen E.seen P.seen world.old)
+        (world_of R.seen O.seen B.seen D.seen L.seen E.seen P.seen world.new) }
+    ensures served { (world_of R.seen O.seen B.seen D.seen L.seen E.seen P.seen world.new).served ≡ (world_of R.seen O.seen B.seen D.seen L.seen E.seen P.seen world.old).served }
 {
     let settings = match read_settings(alloc, &mut world.settings, &Address::File(settings)) {
         Ok(settings) => settings,
@@ -97,19 +111,33 @@ fn replay_files<R: Source, O: Sink, B: Backend, L: Wire>(
 /// of the repeater, where the settings name it, and its samples are filed; each flush gives the backends that they name the
 /// record's text; and the output gets the reply to each admin command. It gets the totals at the script's end. Once the
 /// settings are accepted, the flags of `backs` say which backends they name.
-pub fn statsd<R: Source, O: Sink, B: Backend, L: Wire>(
-    alloc: Global,
-    words: &[String],
-    world: &mut World<R, O, B, L>,
-) -> Status
+pub fn statsd<
+    R: Source,
+    O: Sink,
+    B: Backend + Send,
+    D: Datagrams + Send + Drop,
+    L: Wire + Send + Drop,
+    E: Door<Asking: Send, Telling: Send> + Send,
+    P: Beat + Send,
+    G: Gate + Sync,
+    T: Clock + Sync,
+    X: Threads + Wait + Sync,
+>(rt: &X, alloc: Global, words: &[String], world: &mut World<R, O, B, D, L, E, P, G, T>) -> Status
+    requires packets { 16 ≤ length (world.old).packets.items }
     requires wires { 256 ≤ length (world.old).wires.items }
+    requires beat { (P.seen (world.old).beat).turns < 2 ^ 62 }
+    requires door { ((E.seen (world.old).door).is_out ≡ false) × ((E.seen (world.old).door).turns < 2 ^ 62) }
     ensures accounting { Accounts (map (λ w. string_bytes w) words.now)
-        (world_of R.seen O.seen B.seen L.seen world.old)
-        (world_of R.seen O.seen B.seen L.seen world.new)
+        (world_of R.seen O.seen B.seen D.seen L.seen E.seen P.seen world.old)
+        (world_of R.seen O.seen B.seen D.seen L.seen E.seen P.seen world.new)
         (answer_of result) }
+    ensures serving { AnswersServer (form (map (λ w. string_bytes w) words.now)) (T.may_say (world.old).clock) (answer_of result)
+        (world_of R.seen O.seen B.seen D.seen L.seen E.seen P.seen world.old)
+        (world_of R.seen O.seen B.seen D.seen L.seen E.seen P.seen world.new) }
 {
     match form_of(words) {
         Some(Form::Replay { settings, script }) => replay_files(alloc, settings, script, world),
+        Some(Form::Serve { settings }) => serve_files(rt, alloc, settings, world),
         Some(Form::Drill { packets }) => drill(alloc, packets, &mut world.output),
         None => Status::Usage,
     }

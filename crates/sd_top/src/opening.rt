@@ -11,7 +11,9 @@ ghost use Rattle.sd_top.specs.World.{world_of};
 use crate::call::World;
 use crate::status::{Part, Status};
 use sd_config::Settings;
-use sd_outside::{Address, Backend, Name, OpenRefusal, Opens, Sink, Source, Wire};
+use sd_outside::{
+    Address, Backend, Beat, Datagrams, Door, Name, OpenRefusal, Opens, Sink, Source, Wire,
+};
 use sd_plan::Target;
 use sd_replay::targets_of;
 
@@ -46,7 +48,11 @@ fn address_of(target: &Target) -> Address
 /// # Errors
 ///
 /// `OpenFault` where one failed, and `OutOfMemory`.
-fn open_wires<L: Wire>(first: u16, targets: &[Target], wires: &mut [L]) -> Result<(), Status>
+pub(crate) fn open_wires<L: Wire>(
+    first: u16,
+    targets: &[Target],
+    wires: &mut [L],
+) -> Result<(), Status>
     requires { first + length targets.now < 2 ^ 16 }
     ensures ok { OnOk result (map L.seen wires.new ≡ opened_wires (map target_view targets.now) (map L.seen wires.old)) }
     ensures refused { IfErr result (λ status. WiresStop first (map target_view targets.now) (answer_of status) (map L.seen wires.old) (map L.seen wires.new)) }
@@ -83,20 +89,31 @@ fn open_backend<B: Backend>(used: bool, back: &mut B, part: Part) -> Result<(), 
 /// # Errors
 ///
 /// `OpenFault` where an object failed, and `OutOfMemory`.
-pub(crate) fn open_parts<R: Source, O: Sink, B: Backend, L: Wire>(
+pub(crate) fn open_parts<
+    R: Source,
+    O: Sink,
+    B: Backend,
+    D: Datagrams,
+    L: Wire,
+    E: Door,
+    P: Beat,
+    G,
+    T,
+>(
     settings: &Settings,
     script: Name,
-    world: &mut World<R, O, B, L>,
+    world: &mut World<R, O, B, D, L, E, P, G, T>,
 ) -> Result<(), Status>
-    requires flags { (world_of R.seen O.seen B.seen L.seen world.old).flags ≡ flags_of (goes_by settings.now) }
+    requires flags { (world_of R.seen O.seen B.seen D.seen L.seen E.seen P.seen world.old).flags ≡ flags_of (goes_by settings.now) }
     requires wires { 16 ≤ length (world.old).wires.items }
-    ensures started { OnOk result ((world_of R.seen O.seen B.seen L.seen world.new).seen
-        ≡ started (goes_by settings.now) script.items (world_of R.seen O.seen B.seen L.seen world.old).seen) }
+    ensures started { OnOk result ((world_of R.seen O.seen B.seen D.seen L.seen E.seen P.seen world.new).seen
+        ≡ started (goes_by settings.now) script.items (world_of R.seen O.seen B.seen D.seen L.seen E.seen P.seen world.old).seen) }
     ensures refused { IfErr result (λ status. IsNotStarted (goes_by settings.now) script.items (answer_of status)
-        (world_of R.seen O.seen B.seen L.seen world.old)
-        (world_of R.seen O.seen B.seen L.seen world.new)) }
+        (world_of R.seen O.seen B.seen D.seen L.seen E.seen P.seen world.old)
+        (world_of R.seen O.seen B.seen D.seen L.seen E.seen P.seen world.new)) }
     ensures settings { world.new.settings ≡ world.old.settings }
-    ensures flags { (world_of R.seen O.seen B.seen L.seen world.new).flags ≡ (world_of R.seen O.seen B.seen L.seen world.old).flags }
+    ensures served { (world_of R.seen O.seen B.seen D.seen L.seen E.seen P.seen world.new).served ≡ (world_of R.seen O.seen B.seen D.seen L.seen E.seen P.seen world.old).served }
+    ensures flags { (world_of R.seen O.seen B.seen D.seen L.seen E.seen P.seen world.new).flags ≡ (world_of R.seen O.seen B.seen D.seen L.seen E.seen P.seen world.old).flags }
     ensures count { length (world.new).wires.items ≡ length (world.old).wires.items }
     ensures few { length (goes_by settings.now).targets ≤ 16 }
 {

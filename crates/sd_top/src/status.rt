@@ -21,10 +21,14 @@ const NO_MEMORY: &[u8] = b"statsd: out of memory";
 pub enum Part {
     Settings,
     Script,
-    /// The wire of a target, counted from 0.
+    /// The source of a receiver, counted from 0.
+    Packets(u16),
+    Beat,
+    /// A wire, counted from 0.
     Wire(u16),
     Graphite,
     Console,
+    Door,
 }
 
 /// How a run ended.
@@ -91,19 +95,25 @@ fn push_text(text: &[u8], out: &mut Line)
 
 /// Appends the name of an object.
 fn push_part(part: Part, out: &mut Line)
-    requires { length out.old.items + 44 ≤ 1024 }
+    requires { length out.old.items + 47 ≤ 1024 }
     ensures text { out.new.items ≡ out.old.items ++ part_name part }
-    ensures len { length out.new.items ≤ length out.old.items + 44 }
+    ensures len { length out.new.items ≤ length out.old.items + 47 }
 {
     match part {
         Part::Settings => push_text(b"settings", out),
         Part::Script => push_text(b"script", out),
+        Part::Packets(i) => {
+            push_text(b"packets ", out);
+            write_whole(u128::from(i), out);
+        }
+        Part::Beat => push_text(b"beat", out),
         Part::Wire(i) => {
             push_text(b"wire ", out);
             write_whole(u128::from(i), out);
         }
         Part::Graphite => push_text(b"graphite", out),
         Part::Console => push_text(b"console", out),
+        Part::Door => push_text(b"door", out),
     }
 }
 

@@ -1,5 +1,5 @@
 ghost use Rattle.std.specs.Prelude.{◌≡◌, ◌≤◌, ◌<◌, length, map, string_bytes, option_map, true, IsTrue, IfSome};
-ghost use Rattle.sd_model_call.specs.Words.{drill_form, form, is_file_word as names_file, packets_in, replay_form};
+ghost use Rattle.sd_model_call.specs.Words.{drill_form, form, is_file_word as names_file, packets_in, replay_form, serve_form, word_form, words_form};
 ghost use Rattle.sd_top.specs.Words.{form_view};
 
 use arrayvec::ArrayVec;
@@ -11,6 +11,8 @@ use sd_outside::Name;
 pub(crate) enum Form {
     /// To carry out a script by a settings file.
     Replay { settings: Name, script: Name },
+    /// To run the server by a settings file.
+    Serve { settings: Name },
     /// To carry out the made script of so many packets.
     Drill { packets: u32 },
 }
@@ -50,6 +52,18 @@ fn replay_of(settings: &str, script: &str) -> Option<Form>
     })
 }
 
+/// A server by the file that a word names.
+fn server_of(settings: &str) -> Option<Form>
+    ensures { option_map form_view result ≡ serve_form settings.now }
+{
+    if !is_file_word(settings) {
+        return None;
+    }
+    Some(Form::Serve {
+        settings: name_of(settings),
+    })
+}
+
 /// How many packets a word asks for: 1 to 100,000, in decimal digits, the first of which isn't 0.
 fn packets_of(word: &str) -> Option<u32>
     ensures { result ≡ packets_in word.now }
@@ -69,15 +83,37 @@ fn drill_of(packets: &str) -> Option<Form>
     Some(Form::Drill { packets })
 }
 
+/// What a name and one word ask for.
+fn word_of(name: &str, word: &str) -> Option<Form>
+    ensures { option_map form_view result ≡ word_form name.now word.now }
+{
+    if name == "drill" {
+        drill_of(word)
+    } else if name == "serve" {
+        server_of(word)
+    } else {
+        None
+    }
+}
+
+/// What a name and two words ask for.
+fn words_of(name: &str, settings: &str, script: &str) -> Option<Form>
+    ensures { option_map form_view result ≡ words_form name.now settings.now script.now }
+{
+    if name == "replay" {
+        replay_of(settings, script)
+    } else {
+        None
+    }
+}
+
 /// What the words ask for, where they are of a form that is built.
 pub(crate) fn form_of(words: &[String]) -> Option<Form>
     ensures { option_map form_view result ≡ form (map (λ w. string_bytes w) words.now) }
 {
     match words {
-        [name, settings, script] if name.as_str() == "replay" => {
-            replay_of(settings.as_str(), script.as_str())
-        }
-        [name, packets] if name.as_str() == "drill" => drill_of(packets.as_str()),
+        [name, word] => word_of(name.as_str(), word.as_str()),
+        [name, settings, script] => words_of(name.as_str(), settings.as_str(), script.as_str()),
         _ => None,
     }
 }

@@ -5,19 +5,26 @@ ghost use Rattle.std.specs.Prelude.{◌≡◌, drop, length, IfOk};
 ghost use Rattle.std.specs.Process.{exit_status};
 ghost use Rattle.sd_top.specs.Status.{exit_code};
 
+mod backend_out;
 mod file_source;
 mod standard_out;
 mod udp_wire;
 
+use backend_out::BackendOut;
 use file_source::FileSource;
 use sd_decimal::Line;
-use sd_outside::Backs;
+use sd_net::{SystemClock, TcpDoor, TickBeat, UdpReceiver};
+use sd_outside::{Backs, NoGate};
 use sd_top::{Status, World, explain, statsd};
 use standard_out::StandardOut;
 use std::alloc::{AllocError, Global};
-use std::env;
+use std::env::{self, VarError};
 use std::io::{ErrorKind, Write};
+use std::net::UdpSocket;
 use std::process::ExitCode;
+use std::sync::atomic::AtomicBool;
+use std::sync::{OnceLock, Wait};
+use std::thread::Threads;
 use udp_wire::UdpWire;
 
 /// The words of the command line, with the program's name first.
@@ -56,8 +63,62 @@ fn exit_of(status: &Status) -> ExitCode
     ExitCode::from(status.exit())
 }
 
+/// How many receivers of datagrams a world has.
+const RECEIVERS: usize = 16;
+
 /// How many wires a world has.
 const WIRES: usize = 256;
+
+/// How many bytes the admin port holds of each client, the longest line with its newline.
+const CLIENT_ROOM: usize = 1_024;
+
+/// The variable of the environment that names the file whose being there stops a server.
+const STOP_FILE: &str = "STATSD_STOP";
+
+/// What the objects of a server share.
+#[derive(Drop)]
+struct Shared {
+    socket: OnceLock<UdpSocket>,
+    stop: AtomicBool,
+    stop_file: Option<String>,
+}
+
+impl Shared {
+    /// # Errors
+    ///
+    /// `OutOfMemory`, and `Usage` where the name of the stop file isn't UTF-8.
+    fn new(rt: &HostRuntime) -> Result<Shared, Status> {
+        let stop_file = match env::var(rt, STOP_FILE) {
+            Ok(name) => Some(name),
+            Err(VarError::NotPresent) => None,
+            Err(VarError::NotUnicode) => return Err(Status::Usage),
+            Err(VarError::OutOfMemory) => return Err(Status::OutOfMemory),
+        };
+        Ok(Shared {
+            socket: OnceLock::new(),
+            stop: AtomicBool::new(false),
+            stop_file,
+        })
+    }
+}
+
+/// Receivers of datagrams that are opened later.
+///
+/// # Errors
+///
+/// Where no memory is left for the list.
+fn receivers<'a>(
+    rt: &'a HostRuntime,
+    shared: &'a Shared,
+) -> Result<Vec<UdpReceiver<'a, HostRuntime>>, AllocError>
+    ensures { IfOk result (λ receivers. length receivers.items ≡ 16) }
+{
+    let mut receivers = Vec::with_capacity(rt.alloc(), RECEIVERS)?;
+    for _ in 0..RECEIVERS {
+        receivers.push(UdpReceiver::new(rt, &shared.socket, &shared.stop))?;
+    }
+    Ok(receivers)
+}
 
 /// Wires that are opened later.
 ///
@@ -75,10 +136,18 @@ fn wires(rt: &HostRuntime) -> Result<Vec<UdpWire<'_>>, AllocError>
 }
 
 /// Carries out what the words ask for.
-fn run(rt: &HostRuntime) -> Status {
+fn run<'a>(
+    threads: &(impl Threads + Wait + Sync),
+    rt: &'a HostRuntime,
+    shared: &'a Shared,
+) -> Status {
     let words = match words(rt) {
         Ok(words) => words,
         Err(status) => return status,
+    };
+    let alloc = rt.alloc();
+    let Ok(packets) = receivers(rt, shared) else {
+        return Status::OutOfMemory;
     };
     let Ok(wires) = wires(rt) else {
         return Status::OutOfMemory;
@@ -88,18 +157,26 @@ fn run(rt: &HostRuntime) -> Status {
         script: FileSource::new(rt),
         output: StandardOut::new(rt),
         backs: Backs {
-            graphite: StandardOut::new(rt),
-            console: StandardOut::new(rt),
+            graphite: BackendOut::new(rt),
+            console: BackendOut::new(rt),
             graphite_used: true,
             console_used: false,
         },
+        packets,
         wires,
+        door: TcpDoor::new(rt, alloc, &shared.stop, CLIENT_ROOM),
+        beat: TickBeat::new(rt, &shared.stop, shared.stop_file.as_deref()),
+        gate: NoGate,
+        clock: SystemClock::new(rt),
     };
-    statsd(rt.alloc(), behind_name(words.as_slice()), &mut world)
+    statsd(threads, alloc, behind_name(words.as_slice()), &mut world)
 }
 
 fn main(rt: HostRuntime) -> ExitCode {
-    let status = run(&rt);
+    let status = match Shared::new(&rt) {
+        Ok(shared) => run(&rt, &rt, &shared),
+        Err(status) => status,
+    };
     let mut text = Line::new();
     explain(&status, &mut text);
     // there is no one left to tell where this fails

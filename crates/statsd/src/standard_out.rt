@@ -2,9 +2,7 @@ ghost use Rattle.std.specs.Prelude.{◌≡◌, ◌↔◌, [], IsTrue};
 ghost use Rattle.sd_model_outside.specs.Outside.{File};
 ghost use Rattle.sd_outside.specs.Places.{place_of};
 
-use sd_outside::{
-    Address, Backend, Failed, Faulty, OpenRefusal, Opens, Sink, fault, opening_fault,
-};
+use sd_outside::{Address, Failed, Faulty, OpenRefusal, Opens, Sink, fault, opening_fault};
 use std::io::{self, Write};
 
 /// Whether an address is that of standard output, the file with the empty name.
@@ -17,7 +15,7 @@ fn is_standard(at: &Address) -> bool
     }
 }
 
-/// Standard output, as a sink and as a backend, whose lists it doesn't set apart. It doesn't tell what it was given.
+/// Standard output. It doesn't tell what it was given.
 #[derive(Drop)]
 pub(crate) struct StandardOut<'a> {
     rt: &'a HostRuntime,
@@ -66,14 +64,4 @@ impl<'a> Sink for StandardOut<'a> {
     }
 
     ghost number_fits = { λ s. tt };
-}
-
-impl<'a> Backend for StandardOut<'a> {
-    fn begin(&mut self) -> Result<(), Failed> {
-        Ok(())
-    }
-
-    fn finish(&mut self) -> Result<(), Failed> {
-        Ok(())
-    }
 }

@@ -3,7 +3,7 @@ use Rattle.sd_model_call.specs.Words as model
 use Rattle.sd_model_call.proofs.WordsLemmas.{drill_read}
 use Rattle.sd_top.specs.Words.{form_view}
 use Rattle.sd_top.specs.declared.words.Form.{Form}
-use Rattle.sd_top.proofs.CallLemmas.{by_words, by_files, by_drill}
+use Rattle.sd_top.proofs.CallLemmas.{by_words, by_files, by_server, by_drill}
 use Rattle.sd_top.proofs.call.statsd.Goals as goal
 
 -- what the words ask for, where it was told as this form
@@ -11,11 +11,19 @@ asked : (form : Option model.Form) (told : Option Form) (f g : Form) → option_
 asked form told f g views some same = sym views ∙ ap (option_map form_view) some ∙ ap (λ h. Some (form_view h)) same
 
 pub returns-in-None : goal.returns-in-None
-returns-in-None g c = record { accounting = by_words _ _ (sym c.form_of.ensures ∙ ap (option_map form_view) c.in-None.is) }
+returns-in-None g c =
+    let asks = sym c.form_of.ensures ∙ ap (option_map form_view) c.in-None.is in
+    record { accounting = by_words _ _ asks; serving = rw asks tt }
 
 pub returns-in-Some-Replay : goal.returns-in-Some-Replay
 returns-in-Some-Replay g c =
-    record { accounting = by_files _ _ _ _ _ _ (asked _ _ _ _ c.form_of.ensures c.in-Some-Replay.is c.in-Some-Replay.field-0-is) c.replay_files.ensures }
+    let asks = asked _ _ _ _ c.form_of.ensures c.in-Some-Replay.is c.in-Some-Replay.field-0-is in
+    record { accounting = by_files _ _ _ _ _ _ asks c.replay_files.ensures.replay c.replay_files.ensures.served; serving = rw asks tt }
+
+pub returns-in-Some-Serve : goal.returns-in-Some-Serve
+returns-in-Some-Serve g c =
+    let asks = asked _ _ _ _ c.form_of.ensures c.in-Some-Serve.is c.in-Some-Serve.field-0-is in
+    record { accounting = by_server _ _ _ _ _ asks; serving = rw asks c.serve_files.ensures }
 
 pub drill-requires-clause-some : goal.drill-requires-clause-some
 drill-requires-clause-some g c = (drill_read (map (λ w. string_bytes w) c.args.words.now) _ (asked _ _ _ _ c.form_of.ensures c.in-Some-Drill.is c.in-Some-Drill.field-0-is)).1
@@ -25,4 +33,5 @@ drill-requires-clause-most g c = (drill_read (map (λ w. string_bytes w) c.args.
 
 pub returns-in-Some-Drill : goal.returns-in-Some-Drill
 returns-in-Some-Drill g c =
-    record { accounting = by_drill _ _ _ _ _ (asked _ _ _ _ c.form_of.ensures c.in-Some-Drill.is c.in-Some-Drill.field-0-is) c.drill.ensures }
+    let asks = asked _ _ _ _ c.form_of.ensures c.in-Some-Drill.is c.in-Some-Drill.field-0-is in
+    record { accounting = by_drill _ _ _ _ _ asks c.drill.ensures; serving = rw asks tt }

@@ -26,7 +26,7 @@ pub returns-in_err-open_wires-clause-refused : goal.returns-in_err-open_wires-cl
 returns-in_err-open_wires-clause-refused g c =
     let s = goes_by c.args.settings.now in
     let answer = answer_of c.in_err-open_wires.field-0.0 in
-    let old = world_of g.R.Faulty.seen g.O.Faulty.seen g.B.Faulty.seen g.L.Faulty.seen c.args.world.now in
+    let old = world_of g.R.Faulty.seen g.O.Faulty.seen g.B.Faulty.seen g.D.Faulty.seen g.L.Faulty.seen g.E.Faulty.seen g.P.Faulty.seen c.args.world.now in
     let has = map g.L.Faulty.seen c.open_wires.new.wires in
     let new : World = record old { seen = record old.seen { script = g.R.Faulty.seen c.open.new.object; wires = has } } in
     let failed : WiresStop 0 s.targets answer old.seen.wires has =
@@ -43,7 +43,7 @@ pub returns-in_err-open_backend-clause-refused : goal.returns-in_err-open_backen
 returns-in_err-open_backend-clause-refused g c =
     let s = goes_by c.args.settings.now in
     let answer = answer_of c.in_err-open_backend.field-0.0 in
-    let old = world_of g.R.Faulty.seen g.O.Faulty.seen g.B.Faulty.seen g.L.Faulty.seen c.args.world.now in
+    let old = world_of g.R.Faulty.seen g.O.Faulty.seen g.B.Faulty.seen g.D.Faulty.seen g.L.Faulty.seen g.E.Faulty.seen g.P.Faulty.seen c.args.world.now in
     let has = map g.L.Faulty.seen c.open_wires.new.wires in
     let new : World = record old { seen = record old.seen { script = g.R.Faulty.seen c.open.new.object; wires = has; graphite = g.B.Faulty.seen c.open_backend.new.back } } in
     let wires : has ≡ opened_wires s.targets old.seen.wires = c.in_ok-open_wires.ensures.ok ∙ ap (λ ts. opened_wires ts (map g.L.Faulty.seen c.deref_mut.result.now)) c.targets_of-targets.ensures.targets
@@ -59,7 +59,7 @@ returns-in_err-open_backend-clause-refused g c =
 pub returns-clause-refused : goal.returns-clause-refused
 returns-clause-refused g c =
     let s = goes_by c.args.settings.now in
-    let old = world_of g.R.Faulty.seen g.O.Faulty.seen g.B.Faulty.seen g.L.Faulty.seen c.args.world.now in
+    let old = world_of g.R.Faulty.seen g.O.Faulty.seen g.B.Faulty.seen g.D.Faulty.seen g.L.Faulty.seen g.E.Faulty.seen g.P.Faulty.seen c.args.world.now in
     let has = map g.L.Faulty.seen c.open_wires.new.wires in
     let new : World = record old { seen = record old.seen { script = g.R.Faulty.seen c.open.new.object; wires = has; graphite = g.B.Faulty.seen c.open_backend.new.back; console = g.B.Faulty.seen c.open_backend-2.new.back } } in
     let wires : has ≡ opened_wires s.targets old.seen.wires = c.in_ok-open_wires.ensures.ok ∙ ap (λ ts. opened_wires ts (map g.L.Faulty.seen c.deref_mut.result.now)) c.targets_of-targets.ensures.targets

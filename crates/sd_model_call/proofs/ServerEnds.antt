@@ -1,0 +1,554 @@
+-- How a call answers that is asked to serve, where nothing hinders it, and what its answers say of its objects.
+use Rattle.std.proofs.Common.{◌≡◌, ◌⊎◌, ℕ, zero, suc, ◌+◌, ◌<◌, ◌≤◌, Bool, true, false, List, [], ◌∷◌, ◌++◌, length, map, take, drop, get_or, refl, sym, ap, subst, ◌∙◌, Option, Some, Ok, Err, inl, inr, arith}
+use Rattle.std.specs.Prelude.{◌||◌, min, if◌then◌else◌, ⊤}
+use Rattle.std.specs.List.{AllByRecursion, list_any}
+use Rattle.std.proofs.Math.ListN.{get_or-map}
+use Rattle.std.proofs.Math.Seq.{map-set_same}
+use Rattle.std.proofs.lemmas.List.{length-map}
+use Rattle.std.proofs.lemmas.List.Folds.{list_any-append}
+use Rattle.sd_model_outside.specs.Outside.{File, HasRead, Host, Left, Object, Place, Rose, Told, Untold, fresh, last_count, opened, put_back, telling}
+use Rattle.sd_model_outside.specs.Turns.{IsSpent, with_interval}
+use Rattle.sd_model_settings.specs.Settings as file
+use Rattle.sd_model_settings.specs.Settings.{SettingsFlaw, settings}
+use Rattle.sd_model_record.specs.Repeater.{wire_at}
+use Rattle.sd_model_replay.specs.Settings.{goes_by, targets_of}
+use Rattle.sd_model_replay.specs.Totals.{totals_text}
+use Rattle.sd_model_serve.specs.Ends.{LoopEnd, Spent, Failed, Enough, WornOut, EndsReceiver, EndsFlusher, EndsKeeper, most_turns}
+use Rattle.sd_model_run.specs.Course.{Course, Reception}
+use Rattle.sd_model_run.specs.Run.{AreReceptions, IsReception, Objects}
+use Rattle.sd_model_call.specs.Words.{Form, Serve, form}
+use Rattle.sd_model_call.specs.Opening.{World, Opening, Part, OfSettings, OfScript, OfSource, OfBeat, OfWire, OfGraphite, OfConsole, OfDoor, IsAccepted, part_in, source_at, target_place}
+use Rattle.sd_model_call.specs.Call.{Answer, Done, NoMemory, NoForm, Misset, BadScript, NotOpened, NotRead, NotWritten, Worn, HasFlaw}
+use Rattle.sd_model_call.specs.Completeness.{IsWhole, IsBlocked}
+use Rattle.sd_model_call.specs.Server.{AnswersServer, HasServed, ServerAccounts, WritesTotals, by_beat, by_receivers, cut_answer, ends_answer, is_worn, run_answer, run_totals, turns_answer}
+use Rattle.sd_model_call.specs.ServerOpening.{IsNotOpenedAt, NotBegun, StopsAmong, begun, numbered, objects_in, opened_all, opened_part, opening_where, repeated, repeater_openings, server_openings, source_openings, settled, with_part}
+use Rattle.sd_model_call.specs.ServerCompleteness.{AreAllSpent, AsksToServe, HasFaultOf, IsCauseOf, IsOpenedToServe, IsOutermost, IsReadToServe, IsServed, IsUnhinderedServer, NoneFailed, OneTookMost, SourceTookMost, TookFew, TookMost}
+use Rattle.sd_model_call.proofs.CallEnds.{settled as says_so}
+use Rattle.sd_model_call.proofs.Openings.{all_append, all_behind}
+
+-- a number of each object that is the same in two worlds
+pub record Same (f : Object → ℕ) (a b : World) : Type 0 where
+  pub settings : f a.settings ≡ f b.settings
+  pub script : f a.seen.script ≡ f b.seen.script
+  pub sources : map f a.served.sources ≡ map f b.served.sources
+  pub beat : f a.served.beat ≡ f b.served.beat
+  pub wires : map f a.seen.wires ≡ map f b.seen.wires
+  pub graphite : f a.seen.graphite ≡ f b.seen.graphite
+  pub console : f a.seen.console ≡ f b.seen.console
+  pub door : f a.served.door ≡ f b.served.door
+
+module _ (f : Object → ℕ) where
+  at_same : (i : ℕ) (xs ys : List Object) → map f xs ≡ map f ys → f (get_or xs i (fresh Untold)) ≡ f (get_or ys i (fresh Untold))
+  at_same i xs ys same =
+      sym (get_or-map f xs i (fresh Untold)) ∙ ap (λ ns. get_or ns i (f (fresh Untold))) same ∙ get_or-map f ys i (fresh Untold)
+
+  same_part : (a b : World) → Same f a b → (part : Part) → f (part_in a part) ≡ f (part_in b part)
+  same_part a b h OfSettings = h.settings
+  same_part a b h OfScript = h.script
+  same_part a b h (OfSource i) = at_same i a.served.sources b.served.sources h.sources
+  same_part a b h OfBeat = h.beat
+  same_part a b h (OfWire i) = at_same i a.seen.wires b.seen.wires h.wires
+  same_part a b h OfGraphite = h.graphite
+  same_part a b h OfConsole = h.console
+  same_part a b h OfDoor = h.door
+
+  same_next : (a b c : World) → Same f a b → Same f b c → Same f a c
+  same_next a b c g h = record {
+    settings = g.settings ∙ h.settings;
+    script = g.script ∙ h.script;
+    sources = g.sources ∙ h.sources;
+    beat = g.beat ∙ h.beat;
+    wires = g.wires ∙ h.wires;
+    graphite = g.graphite ∙ h.graphite;
+    console = g.console ∙ h.console;
+    door = g.door ∙ h.door;
+  }
+
+  same_self : (a : World) → Same f a a
+  same_self a = record { settings = refl; script = refl; sources = refl; beat = refl; wires = refl; graphite = refl; console = refl; door = refl }
+
+  module _ (keeps : (place : Place) (o : Object) → f (opened place o) ≡ f o) where
+    same_opened : (w : World) (place : Place) (part : Part) → Same f (with_part part (opened place (part_in w part)) w) w
+    same_opened w place OfSettings = record { settings = keeps place w.settings; script = refl; sources = refl; beat = refl; wires = refl; graphite = refl; console = refl; door = refl }
+    same_opened w place OfScript = record { settings = refl; script = keeps place w.seen.script; sources = refl; beat = refl; wires = refl; graphite = refl; console = refl; door = refl }
+    same_opened w place (OfSource i) = record { settings = refl; script = refl; sources = map-set_same f w.served.sources i _ (fresh Untold) (keeps place _); beat = refl; wires = refl; graphite = refl; console = refl; door = refl }
+    same_opened w place OfBeat = record { settings = refl; script = refl; sources = refl; beat = keeps place w.served.beat; wires = refl; graphite = refl; console = refl; door = refl }
+    same_opened w place (OfWire i) = record { settings = refl; script = refl; sources = refl; beat = refl; wires = map-set_same f w.seen.wires i _ (fresh Untold) (keeps place _); graphite = refl; console = refl; door = refl }
+    same_opened w place OfGraphite = record { settings = refl; script = refl; sources = refl; beat = refl; wires = refl; graphite = keeps place w.seen.graphite; console = refl; door = refl }
+    same_opened w place OfConsole = record { settings = refl; script = refl; sources = refl; beat = refl; wires = refl; graphite = refl; console = keeps place w.seen.console; door = refl }
+    same_opened w place OfDoor = record { settings = refl; script = refl; sources = refl; beat = refl; wires = refl; graphite = refl; console = refl; door = keeps place w.served.door }
+
+    pub same_all : (os : List Opening) (w : World) → Same f (opened_all w os) w
+    same_all [] w = same_self w
+    same_all (o ∷ os) w = same_next _ _ w (same_all os (opened_part w o)) (same_opened w o.place o.part)
+
+-- opening counts no fault and no turn
+pub same_faults : (os : List Opening) (w : World) → Same (λ o. o.faults) (opened_all w os) w
+same_faults os w = same_all (λ o. o.faults) (λ place o. refl) os w
+
+pub same_turns : (os : List Opening) (w : World) → Same (λ o. o.turns) (opened_all w os) w
+same_turns os w = same_all (λ o. o.turns) (λ place o. refl) os w
+
+-- a part that a server opens
+abbrev is_served : Opening → Type 0
+is_served o = IsOpenedToServe o.part
+
+all_numbered : (part : ℕ → Part) → ((i : ℕ) → IsOpenedToServe (part i)) → (i : ℕ) (places : List Place) → AllByRecursion is_served (numbered part i places)
+all_numbered part are i [] = tt
+all_numbered part are i (p ∷ places) = (are i, all_numbered part are (i + 1) places)
+
+all_where : (used : Bool) (o : Opening) → is_served o → AllByRecursion is_served (opening_where used o)
+all_where true o is = (is, tt)
+all_where false o is = tt
+
+all_served : (s : file.Settings) → AllByRecursion is_served (server_openings s)
+all_served s =
+    let uses = goes_by s in
+    let at_graphite : Opening = record { part = OfGraphite; place = Host s.addresses.graphite_host s.addresses.graphite_port } in
+    let at_console : Opening = record { part = OfConsole; place = File [] } in
+    let at_door : List Opening = record { part = OfDoor; place = Host s.addresses.mgmt_address s.server.mgmt_port } ∷ [] in
+    let graphite = opening_where uses.uses_graphite at_graphite in
+    let console = opening_where uses.uses_console at_console in
+    let door : AllByRecursion is_served at_door = (tt, tt) in
+    all_append is_served (source_openings s) (repeater_openings s ++ (graphite ++ (console ++ at_door))) (all_numbered OfSource (λ i. tt) 0 (repeated s.sizes.receivers (Host s.addresses.address s.server.port ∷ [])))
+    (all_append is_served (repeater_openings s) (graphite ++ (console ++ at_door)) (all_numbered OfWire (λ i. tt) 0 (repeated s.sizes.receivers (map target_place (targets_of s))))
+    (all_append is_served graphite (console ++ at_door) (all_where uses.uses_graphite at_graphite tt)
+    (all_append is_served console at_door (all_where uses.uses_console at_console tt) door)))
+
+-- what is seen where a server's workers begin has the counts of before
+module _ (f : Object → ℕ) (opens : (place : Place) (o : Object) → f (opened place o) ≡ f o) (tells : (told : Told) (o : Object) → f (telling told o) ≡ f o) (starts : (interval : ℕ) (o : Object) → f (with_interval interval o) ≡ f o) where
+  read_same : (bytes : List ℕ) (place : Place) (o n : Object) → HasRead bytes (opened place o) n → f n ≡ f o
+  read_same bytes place o n read = sym (tells (put_back bytes n.told) n) ∙ sym (ap f read) ∙ opens place o
+
+  same_settled : (values : file.Settings) (settings : Object) (name : List ℕ) (w : World) → IsAccepted values (File name) w.settings settings → Same f (settled values settings w) w
+  same_settled values settings name w taken = record {
+    settings = read_same taken.bytes (File name) w.settings settings taken.read.read;
+    script = refl;
+    sources = refl;
+    beat = refl;
+    wires = refl;
+    graphite = refl;
+    console = refl;
+    door = refl;
+  }
+
+  same_begun : (values : file.Settings) (w : World) → Same f (begun values w) w
+  same_begun values w =
+      let all = same_all f opens (server_openings values) w in
+      record {
+        settings = all.settings;
+        script = all.script;
+        sources = all.sources;
+        beat = starts values.server.flush_interval _ ∙ all.beat;
+        wires = all.wires;
+        graphite = all.graphite;
+        console = all.console;
+        door = all.door;
+      }
+
+  same_start : (values : file.Settings) (settings : Object) (name : List ℕ) (w : World) → IsAccepted values (File name) w.settings settings → Same f (begun values (settled values settings w)) w
+  same_start values settings name w taken = same_next f _ _ w (same_begun values (settled values settings w)) (same_settled values settings name w taken)
+
+-- how a loop over a source ended
+record EndedSo (asked : ℕ) (ended : LoopEnd) (source source_now : Object) : Type 0 where
+  turned : ℕ
+  turns : source_now.turns ≡ min (source.turns + turned) last_count
+  seen : ℕ
+  ends : EndsReceiver asked ended source source_now seen turned
+
+abbrev AreEnded : ℕ → List LoopEnd → List Object → List Object → Type 0
+AreEnded asked [] sources sources_now = ⊤
+AreEnded asked (e ∷ es) [] sources_now = ⊥
+AreEnded asked (e ∷ es) (s ∷ sources) [] = ⊥
+AreEnded asked (e ∷ es) (s ∷ sources) (n ∷ sources_now) = EndedSo asked e s n × AreEnded asked es sources sources_now
+
+are_ended : (asked made run : ℕ) (rs : List Reception) (ss ns ws wn : List Object) → AreReceptions asked made run rs ss ns ws wn → AreEnded asked (map (λ r. r.ended) rs) ss ns
+are_ended asked made run [] ss ns ws wn h = tt
+are_ended asked made run (r ∷ rs) [] ns ws wn h = h
+are_ended asked made run (r ∷ rs) (s ∷ ss) [] ws wn h = h
+are_ended asked made run (r ∷ rs) (s ∷ ss) (n ∷ ns) ws wn h = (
+  record { turned = h.0.turned; turns = h.0.turns; seen = h.0.seen; ends = h.0.ends },
+  are_ended asked made run rs ss ns (drop run ws) (drop run wn) h.1,
+)
+
+-- a loop that ended since all was read or enough flushes were seen
+abbrev GoesWell : LoopEnd → Type 0
+GoesWell Spent = ⊤
+GoesWell Failed = ⊥
+GoesWell (Enough flushes) = ⊤
+GoesWell (WornOut turns) = ⊥
+
+module _ (asked : ℕ) where
+  goes_well : (e : LoopEnd) (o n : Object) → ¬ Rose o.faults n.faults → TookFew o n → n.turns < last_count → EndedSo asked e o n → GoesWell e
+  goes_well Spent o n steady few low h = tt
+  goes_well Failed o n steady few low h = absurd (steady h.ends.0)
+  goes_well (Enough flushes) o n steady few low h = tt
+  goes_well (WornOut turns) o n steady few low h =
+      let turns = h.turns in let most = h.ends.1 in
+      absurd (omega (arith, turns, most, few, low))
+
+  all_well : (es : List LoopEnd) (ss ns : List Object)
+      → ((i : ℕ) → ¬ Rose (source_at i ss).faults (source_at i ns).faults) → ((i : ℕ) → TookFew (source_at i ss) (source_at i ns)) → ((i : ℕ) → (source_at i ns).turns < last_count)
+      → AreEnded asked es ss ns → AllByRecursion GoesWell es
+  all_well [] ss ns steady few low h = tt
+  all_well (e ∷ es) [] ns steady few low h = absurd h
+  all_well (e ∷ es) (s ∷ ss) [] steady few low h = absurd h
+  all_well (e ∷ es) (s ∷ ss) (n ∷ ns) steady few low h =
+      (goes_well e s n (steady 0) (few 0) (low 0) h.0, all_well es ss ns (λ i. steady (suc i)) (λ i. few (suc i)) (λ i. low (suc i)) h.1)
+
+by_none : (i : ℕ) (es : List LoopEnd) (other : Answer) → AllByRecursion GoesWell es → by_receivers i es other ≡ other
+by_none i [] other h = refl
+by_none i (Spent ∷ es) other h = by_none (i + 1) es other h.1
+by_none i (Failed ∷ es) other h = absurd h.0
+by_none i (Enough flushes ∷ es) other h = by_none (i + 1) es other h.1
+by_none i (WornOut turns ∷ es) other h = absurd h.0
+
+none_worn : (es : List LoopEnd) → AllByRecursion GoesWell es → list_any is_worn es ≡ false
+none_worn [] h = refl
+none_worn (Spent ∷ es) h = none_worn es h.1
+none_worn (Failed ∷ es) h = absurd h.0
+none_worn (Enough flushes ∷ es) h = none_worn es h.1
+none_worn (WornOut turns ∷ es) h = absurd h.0
+
+-- a receiver that failed, or the answer is another's
+abbrev ByReceiver : ℕ → Answer → List Object → List Object → Type 0
+ByReceiver k answer ss ns = (i : ℕ) × (answer ≡ NotRead (OfSource (k + i))) × Rose (source_at i ss).faults (source_at i ns).faults
+
+module _ (asked : ℕ) (answer other : Answer) where
+  behind_one : (k : ℕ) (s n : Object) (ss ns : List Object) → ByReceiver (k + 1) answer ss ns ⊎ (other ≡ answer) → ByReceiver k answer (s ∷ ss) (n ∷ ns) ⊎ (other ≡ answer)
+  behind_one k s n ss ns (inl (i, is, rose)) = inl (suc i, is ∙ ap (λ j. NotRead (OfSource j)) (omega arith), rose)
+  behind_one k s n ss ns (inr same) = inr same
+
+  by_one : (k : ℕ) (es : List LoopEnd) (ss ns : List Object) → AreEnded asked es ss ns → by_receivers k es other ≡ answer → ByReceiver k answer ss ns ⊎ (other ≡ answer)
+  by_one k [] ss ns h is = inr is
+  by_one k (e ∷ es) [] ns h is = absurd h
+  by_one k (e ∷ es) (s ∷ ss) [] h is = absurd h
+  by_one k (Spent ∷ es) (s ∷ ss) (n ∷ ns) h is = behind_one k s n ss ns (by_one (k + 1) es ss ns h.1 is)
+  by_one k (Failed ∷ es) (s ∷ ss) (n ∷ ns) h is = inl (0, sym is ∙ ap (λ j. NotRead (OfSource j)) (omega arith), h.0.ends.0)
+  by_one k (Enough flushes ∷ es) (s ∷ ss) (n ∷ ns) h is = behind_one k s n ss ns (by_one (k + 1) es ss ns h.1 is)
+  by_one k (WornOut turns ∷ es) (s ∷ ss) (n ∷ ns) h is = behind_one k s n ss ns (by_one (k + 1) es ss ns h.1 is)
+
+by_flusher : (asked made : ℕ) (answer other : Answer) (ended : LoopEnd) (beat beat_now : Object) → EndsFlusher asked ended beat beat_now made → by_beat ended other ≡ answer
+    → (answer ≡ NotRead OfBeat) × Rose beat.faults beat_now.faults ⊎ (other ≡ answer)
+by_flusher asked made answer other Spent beat beat_now h is = inr is
+by_flusher asked made answer other Failed beat beat_now h is = inl (sym is, h)
+by_flusher asked made answer other (Enough flushes) beat beat_now h is = inr is
+by_flusher asked made answer other (WornOut turns) beat beat_now h is = inr is
+
+by_turns : (es : List LoopEnd) (answer : Answer) → turns_answer es ≡ answer → (answer ≡ Worn most_turns) × (list_any is_worn es ≡ true) ⊎ (answer ≡ Done) × (list_any is_worn es ≡ false)
+by_turns es answer is = by_test (list_any is_worn es) refl where
+  by_test : (worn : Bool) → list_any is_worn es ≡ worn → (answer ≡ Worn most_turns) × (list_any is_worn es ≡ true) ⊎ (answer ≡ Done) × (list_any is_worn es ≡ false)
+  by_test true found = inl (sym is ∙ ap (λ (b : Bool). if b then Worn most_turns else Done) found, found)
+  by_test false found = inr (sym is ∙ ap (λ (b : Bool). if b then Worn most_turns else Done) found, found)
+
+-- a run whose totals couldn't be written is answered as it would be, or by that
+uncut : (whole answer : Answer) → answer ≡ cut_answer whole → (answer ≡ NotWritten) ⊎ (whole ≡ answer)
+uncut Done answer is = inl is
+uncut NoMemory answer is = inr (sym is)
+uncut NoForm answer is = inr (sym is)
+uncut (Misset flaw) answer is = inr (sym is)
+uncut (BadScript at flaw) answer is = inr (sym is)
+uncut (NotOpened part) answer is = inr (sym is)
+uncut (NotRead part) answer is = inr (sym is)
+uncut NotWritten answer is = inl is
+uncut (Worn turns) answer is = inr (sym is)
+
+-- which loop took the most turns
+abbrev OneSourceTookMost : List Object → List Object → Type 0
+OneSourceTookMost ss ns = (i : ℕ) × SourceTookMost (source_at i ss) (source_at i ns)
+
+module _ (rest : List LoopEnd) where
+  worn_behind : (s n : Object) (ss ns : List Object) → OneSourceTookMost ss ns ⊎ (list_any is_worn rest ≡ true) → OneSourceTookMost (s ∷ ss) (n ∷ ns) ⊎ (list_any is_worn rest ≡ true)
+  worn_behind s n ss ns (inl (i, most)) = inl (suc i, most)
+  worn_behind s n ss ns (inr is) = inr is
+
+  worn_one : (asked : ℕ) (es : List LoopEnd) (ss ns : List Object) → AreEnded asked es ss ns → list_any is_worn (es ++ rest) ≡ true → OneSourceTookMost ss ns ⊎ (list_any is_worn rest ≡ true)
+  worn_one asked [] ss ns h is = inr is
+  worn_one asked (e ∷ es) [] ns h is = absurd h
+  worn_one asked (e ∷ es) (s ∷ ss) [] h is = absurd h
+  worn_one asked (Spent ∷ es) (s ∷ ss) (n ∷ ns) h is = worn_behind s n ss ns (worn_one asked es ss ns h.1 is)
+  worn_one asked (Failed ∷ es) (s ∷ ss) (n ∷ ns) h is = worn_behind s n ss ns (worn_one asked es ss ns h.1 is)
+  worn_one asked (Enough flushes ∷ es) (s ∷ ss) (n ∷ ns) h is = worn_behind s n ss ns (worn_one asked es ss ns h.1 is)
+  worn_one asked (WornOut turns ∷ es) (s ∷ ss) (n ∷ ns) h is = inl (0, h.0.turns ∙ ap (λ k. min (s.turns + k) last_count) h.0.ends.1)
+
+-- where no flushes were asked for and no loop failed or took the most turns, all sources are spent
+spent_all : (k : ℕ) (es : List LoopEnd) (other : Answer) (ss ns : List Object) → by_receivers k es other ≡ Done → list_any is_worn es ≡ false → AreEnded 0 es ss ns
+    → (i : ℕ) → i < length es → IsSpent (source_at i ns).told
+spent_all k [] other ss ns done none h i below = absurd (omega (arith, below))
+spent_all k (e ∷ es) other [] ns done none h i below = absurd h
+spent_all k (e ∷ es) other (s ∷ ss) [] done none h i below = absurd h
+spent_all k (Spent ∷ es) other (s ∷ ss) (n ∷ ns) done none h zero below = h.0.ends.0
+spent_all k (Spent ∷ es) other (s ∷ ss) (n ∷ ns) done none h (suc i) below = spent_all (k + 1) es other ss ns done none h.1 i (omega (arith, below))
+spent_all k (Failed ∷ es) other (s ∷ ss) (n ∷ ns) done none h i below = absurd (cc)
+spent_all k (Enough flushes ∷ es) other (s ∷ ss) (n ∷ ns) done none h i below = let asked = h.0.ends.0 in absurd (omega (arith, asked))
+spent_all k (WornOut turns ∷ es) other (s ∷ ss) (n ∷ ns) done none h i below = absurd (cc)
+
+-- a call that served
+module _ (name : List ℕ) (says : ℕ → Type 0) (answer : Answer) (old new : World) (h : HasServed name says answer old new) where
+  abbrev start : World
+  start = begun h.values (settled h.values h.settings old)
+
+  abbrev course : Course
+  course = h.course
+
+  abbrev asked : ℕ
+  asked = h.values.sizes.run_flushes
+
+  abbrev received : List LoopEnd
+  received = map (λ r. r.ended) course.receptions
+
+  abbrev others : List LoopEnd
+  others = course.flusher_ended ∷ course.keeper_ended ∷ []
+
+  faults : Same (λ o. o.faults) start old
+  faults = same_start (λ o. o.faults) (λ place o. refl) (λ told o. refl) (λ interval o. refl) h.values h.settings name old h.taken
+
+  turns : Same (λ o. o.turns) start old
+  turns = same_start (λ o. o.turns) (λ place o. refl) (λ told o. refl) (λ interval o. refl) h.values h.settings name old h.taken
+
+  loops : AreEnded asked received start.served.sources new.served.sources
+  loops = are_ended asked course.desk.rounds _ course.receptions start.served.sources new.served.sources start.seen.wires new.seen.wires h.theorem.run.received
+
+  -- what the answer of a run comes from
+  abbrev Ends : Answer → Type 0
+  Ends a =
+      ByReceiver 0 a start.served.sources new.served.sources
+      ⊎ (a ≡ NotRead OfBeat) × Rose start.served.beat.faults new.served.beat.faults
+      ⊎ (a ≡ Worn most_turns) × (list_any is_worn (received ++ others) ≡ true)
+      ⊎ (a ≡ Done) × (list_any is_worn (received ++ others) ≡ false)
+
+  by_rest : (a : Answer) → (a ≡ NotRead OfBeat) × Rose start.served.beat.faults new.served.beat.faults ⊎ (turns_answer (received ++ others) ≡ a) → Ends a
+  by_rest a (inl beat) = inr (inl beat)
+  by_rest a (inr is) = inr (inr (by_turns (received ++ others) a is))
+
+  by_others : (a : Answer) → ByReceiver 0 a start.served.sources new.served.sources ⊎ (by_beat course.flusher_ended (turns_answer (received ++ others)) ≡ a) → Ends a
+  by_others a (inl receiver) = inl receiver
+  by_others a (inr is) =
+      by_rest a (by_flusher asked (length course.ticked) a (turns_answer (received ++ others)) course.flusher_ended start.served.beat new.served.beat h.theorem.run.flushed.ends is)
+
+  ends : (a : Answer) → run_answer course ≡ a → Ends a
+  ends a is = by_others a (by_one asked a (by_beat course.flusher_ended (turns_answer (received ++ others))) 0 received start.served.sources new.served.sources loops is)
+
+  other_worn : (f k : LoopEnd) (made seen turned : ℕ) → EndsFlusher asked f start.served.beat new.served.beat made → new.served.beat.turns ≡ start.served.beat.turns + made
+      → EndsKeeper asked k new.served.door seen turned → new.served.door.turns ≡ start.served.door.turns + turned
+      → list_any is_worn (f ∷ k ∷ []) ≡ true → TookMost start.served.beat new.served.beat ⊎ TookMost start.served.door new.served.door
+  other_worn Spent Spent made seen turned flushed ticks kept visits is = absurd (cc)
+  other_worn Spent Failed made seen turned flushed ticks kept visits is = absurd kept
+  other_worn Spent (Enough n) made seen turned flushed ticks kept visits is = absurd (cc)
+  other_worn Spent (WornOut n) made seen turned flushed ticks kept visits is = inr (visits ∙ ap (λ j. start.served.door.turns + j) kept.1)
+  other_worn Failed Spent made seen turned flushed ticks kept visits is = absurd (cc)
+  other_worn Failed Failed made seen turned flushed ticks kept visits is = absurd kept
+  other_worn Failed (Enough n) made seen turned flushed ticks kept visits is = absurd (cc)
+  other_worn Failed (WornOut n) made seen turned flushed ticks kept visits is = inr (visits ∙ ap (λ j. start.served.door.turns + j) kept.1)
+  other_worn (Enough m) Spent made seen turned flushed ticks kept visits is = absurd (cc)
+  other_worn (Enough m) Failed made seen turned flushed ticks kept visits is = absurd kept
+  other_worn (Enough m) (Enough n) made seen turned flushed ticks kept visits is = absurd (cc)
+  other_worn (Enough m) (WornOut n) made seen turned flushed ticks kept visits is = inr (visits ∙ ap (λ j. start.served.door.turns + j) kept.1)
+  other_worn (WornOut m) k made seen turned flushed ticks kept visits is = inl (ticks ∙ ap (λ j. start.served.beat.turns + j) (flushed.1 ∙ flushed.0))
+
+  one_worn : OneSourceTookMost start.served.sources new.served.sources ⊎ (list_any is_worn others ≡ true) → OneTookMost old new
+  one_worn (inl (i, most)) = inl (i, most ∙ ap (λ n. min (n + most_turns) last_count) (at_same (λ o. o.turns) i start.served.sources old.served.sources turns.sources))
+  one_worn (inr is) =
+      let flushed = h.theorem.run.flushed in
+      let kept = h.theorem.run.kept in
+      inr (by_other (other_worn course.flusher_ended course.keeper_ended (length course.ticked) kept.seen kept.turned flushed.ends flushed.turns kept.ends kept.turns is))
+    where
+      by_other : TookMost start.served.beat new.served.beat ⊎ TookMost start.served.door new.served.door → TookMost old.served.beat new.served.beat ⊎ TookMost old.served.door new.served.door
+      by_other (inl most) = inl (most ∙ ap (λ n. n + most_turns) turns.beat)
+      by_other (inr most) = inr (most ∙ ap (λ n. n + most_turns) turns.door)
+
+  cause : (a : Answer) → Ends a → IsCauseOf name a old new
+  cause a (inl (i, is, rose)) =
+      let from = subst (λ (n : ℕ). Rose n (source_at i new.served.sources).faults) (at_same (λ o. o.faults) i start.served.sources old.served.sources faults.sources) rose in
+      subst (λ (a : Answer). IsCauseOf name a old new) (sym (is ∙ ap (λ j. NotRead (OfSource j)) (omega arith))) (tt, from)
+  cause a (inr (inl (is, rose))) = subst (λ (a : Answer). IsCauseOf name a old new) (sym is) (tt, subst (λ (n : ℕ). Rose n new.served.beat.faults) faults.beat rose)
+  cause a (inr (inr (inl (is, worn)))) =
+      subst (λ (a : Answer). IsCauseOf name a old new) (sym is) (refl, one_worn (worn_one others asked received start.served.sources new.served.sources loops worn))
+  cause a (inr (inr (inr (is, none)))) = subst (λ (a : Answer). IsCauseOf name a old new) (sym is) tt
+
+  -- a run's answer has its cause
+  pub served_cause : IsCauseOf name answer old new
+  served_cause = by_written h.written where
+    by_uncut : Rose old.seen.output.faults new.seen.output.faults → (answer ≡ NotWritten) ⊎ (run_answer course ≡ answer) → IsCauseOf name answer old new
+    by_uncut rose (inl is) = subst (λ (a : Answer). IsCauseOf name a old new) (sym is) rose
+    by_uncut rose (inr is) = cause answer (ends answer is)
+
+    by_written : WritesTotals (totals_text (run_totals h.values course)) (run_answer course) answer old.seen.output new.seen.output → IsCauseOf name answer old new
+    by_written (inl (is, text)) = cause answer (ends answer (sym is))
+    by_written (inr (is, failed)) = by_uncut failed.rose (uncut (run_answer course) answer is)
+
+-- what nothing is asked of ended since nothing was left, where it did no more than that
+flusher_spent : (made : ℕ) (f : LoopEnd) (other : Answer) (beat beat_now : Object) → EndsFlusher 0 f beat beat_now made → by_beat f other ≡ Done → is_worn f ≡ false → IsSpent beat_now.told
+flusher_spent made Spent other beat beat_now h done none = h.0
+flusher_spent made Failed other beat beat_now h done none = absurd (cc)
+flusher_spent made (Enough n) other beat beat_now h done none = let asked = h.0 in absurd (omega (arith, asked))
+flusher_spent made (WornOut n) other beat beat_now h done none = absurd (cc)
+
+keeper_spent : (k : LoopEnd) (seen turned : ℕ) (door_now : Object) → EndsKeeper 0 k door_now seen turned → is_worn k ≡ false → IsSpent door_now.told
+keeper_spent Spent seen turned door_now h none = h.0
+keeper_spent Failed seen turned door_now h none = absurd h
+keeper_spent (Enough n) seen turned door_now h none = let asked = h.0 in absurd (omega (arith, asked))
+keeper_spent (WornOut n) seen turned door_now h none = absurd (cc)
+
+both_false : (a b : Bool) → (a || b) ≡ false → (a ≡ false) × (b ≡ false)
+both_false true b h = absurd (cc)
+both_false false b h = (refl, h)
+
+module _ (name : List ℕ) (says : ℕ → Type 0) (old new : World) (h : HasServed name says Done old new) where
+  abbrev begin : World
+  begin = begun h.values (settled h.values h.settings old)
+
+  abbrev heard : List LoopEnd
+  heard = map (λ r. r.ended) h.course.receptions
+
+  abbrev rest : List LoopEnd
+  rest = h.course.flusher_ended ∷ h.course.keeper_ended ∷ []
+
+  done : run_answer h.course ≡ Done
+  done = by_written h.written where
+    by_uncut : (Done ≡ NotWritten) ⊎ (run_answer h.course ≡ Done) → run_answer h.course ≡ Done
+    by_uncut (inl is) = absurd (cc)
+    by_uncut (inr is) = is
+
+    by_written : WritesTotals (totals_text (run_totals h.values h.course)) (run_answer h.course) Done old.seen.output new.seen.output → run_answer h.course ≡ Done
+    by_written (inl (is, text)) = sym is
+    by_written (inr (is, failed)) = by_uncut (uncut (run_answer h.course) Done is)
+
+  module _ (asked : h.values.sizes.run_flushes ≡ 0) where
+    pub all_spent : AreAllSpent h.values.sizes.receivers new
+    all_spent = by_ends (by_one 0 Done (by_beat h.course.flusher_ended (turns_answer (heard ++ rest))) 0 heard begin.served.sources new.served.sources loops_of done) where
+      loops_of : AreEnded 0 heard begin.served.sources new.served.sources
+      loops_of = subst (λ (n : ℕ). AreEnded n heard begin.served.sources new.served.sources) asked (loops name says Done old new h)
+
+      by_tests : (list_any is_worn heard ≡ false) × (list_any is_worn rest ≡ false) → by_beat h.course.flusher_ended (turns_answer (heard ++ rest)) ≡ Done → AreAllSpent h.values.sizes.receivers new
+      by_tests none beat =
+          let two = both_false (is_worn h.course.flusher_ended) _ none.1 in
+          let one = both_false (is_worn h.course.keeper_ended) false two.1 in
+          let flushed = h.theorem.run.flushed in
+          let kept = h.theorem.run.kept in
+          record {
+            sources = λ i below. spent_all 0 heard _ begin.served.sources new.served.sources done none.0 loops_of i (omega (arith, below, length-map h.course.receptions (λ (r : Reception). r.ended), h.theorem.run.count));
+            beat = flusher_spent (length h.course.ticked) h.course.flusher_ended _ begin.served.beat new.served.beat (subst (λ (n : ℕ). EndsFlusher n h.course.flusher_ended begin.served.beat new.served.beat (length h.course.ticked)) asked flushed.ends) beat two.0;
+            door = keeper_spent h.course.keeper_ended kept.seen kept.turned new.served.door (subst (λ (n : ℕ). EndsKeeper n h.course.keeper_ended new.served.door kept.seen kept.turned) asked kept.ends) one.0;
+          }
+
+      by_end : (Done ≡ Worn most_turns) × (list_any is_worn (heard ++ rest) ≡ true) ⊎ (Done ≡ Done) × (list_any is_worn (heard ++ rest) ≡ false) → by_beat h.course.flusher_ended (turns_answer (heard ++ rest)) ≡ Done → AreAllSpent h.values.sizes.receivers new
+      by_end (inl (is, worn)) beat = absurd (cc)
+      by_end (inr (is, none)) beat = by_tests (both_false (list_any is_worn heard) _ (sym (list_any-append is_worn heard rest) ∙ none)) beat
+
+      by_flush : (Done ≡ NotRead OfBeat) × Rose begin.served.beat.faults new.served.beat.faults ⊎ (turns_answer (heard ++ rest) ≡ Done) → by_beat h.course.flusher_ended (turns_answer (heard ++ rest)) ≡ Done → AreAllSpent h.values.sizes.receivers new
+      by_flush (inl (is, rose)) beat = absurd (cc)
+      by_flush (inr is) beat = by_end (by_turns (heard ++ rest) Done is) beat
+
+      by_ends : ByReceiver 0 Done begin.served.sources new.served.sources ⊎ (by_beat h.course.flusher_ended (turns_answer (heard ++ rest)) ≡ Done) → AreAllSpent h.values.sizes.receivers new
+      by_ends (inl (i, is, rose)) = absurd (cc)
+      by_ends (inr is) =
+          by_flush (by_flusher h.values.sizes.run_flushes (length h.course.ticked) Done (turns_answer (heard ++ rest)) h.course.flusher_ended begin.served.beat new.served.beat h.theorem.run.flushed.ends is) is
+
+module _ (name : List ℕ) (says : ℕ → Type 0) (old new : World) where
+  -- the count of faults of a part is that before settings were read
+  settled_part : (values : file.Settings) (settings : Object) (part : Part) (os : List Opening) → IsAccepted values (File name) old.settings settings
+      → (part_in (opened_all (settled values settings old) os) part).faults ≡ (part_in old part).faults
+  settled_part values settings part os taken =
+      same_part (λ o. o.faults) _ old
+      (same_next (λ o. o.faults) _ _ old (same_all (λ o. o.faults) (λ place o. refl) os (settled values settings old)) (same_settled (λ o. o.faults) (λ place o. refl) (λ told o. refl) (λ interval o. refl) values settings name old taken)) part
+
+  stopped_cause : (answer : Answer) (h : NotBegun name answer old new) → IsCauseOf name answer old new
+  stopped_cause answer h = by_stop h.stops where
+    by_stop : StopsAmong (server_openings h.values) answer (settled h.values h.settings old) new → IsCauseOf name answer old new
+    by_stop (inl (is, some)) = subst (λ (a : Answer). IsCauseOf name a old new) (sym is) tt
+    by_stop (inr (part, is, not)) =
+        let among = (all_behind is_served not.before (record { part = part; place = not.place } ∷ not.behind) (subst (AllByRecursion is_served) not.order (all_served h.values))).0 in
+        subst (λ (a : Answer). IsCauseOf name a old new) (sym is)
+        (among, subst (λ (n : ℕ). Rose n (part_in new part).faults) (settled_part h.values h.settings part not.before h.taken) not.failed.rose)
+
+  -- every answer has its cause
+  pub answer_cause : (answer : Answer) → ServerAccounts name says answer old new → IsCauseOf name answer old new
+  answer_cause answer (inl (inl (is, off))) = subst (λ (a : Answer). IsCauseOf name a old new) (sym is) tt
+  answer_cause answer (inl (inr (inl (is, fails)))) = subst (λ (a : Answer). IsCauseOf name a old new) (sym is) (tt, fails.failed.rose)
+  answer_cause answer (inl (inr (inr (inl (is, fails))))) =
+      let before = ap (λ (o : Object). o.faults) fails.failed.read in
+      subst (λ (a : Answer). IsCauseOf name a old new) (sym is) (tt, subst (λ (n : ℕ). Rose n new.settings.faults) (sym before) fails.failed.failed.rose)
+  answer_cause answer (inl (inr (inr (inr (flaw, is, has))))) = subst (λ (a : Answer). IsCauseOf name a old new) (sym is) has
+  answer_cause answer (inr (inl not)) = stopped_cause answer not
+  answer_cause answer (inr (inr served)) = served_cause name says answer old new served
+
+-- a call whose words ask to serve, by settings with these bytes
+module _ (words : List (List ℕ)) (bytes : List ℕ) (says : ℕ → Type 0) (old new : World) (asks : AsksToServe words old bytes) where
+  caused : (answer : Answer) → AnswersServer (form words) says answer old new → IsCauseOf asks.name answer old new
+  caused answer h = answer_cause asks.name says old new answer (subst (λ (f : Option Form). AnswersServer f says answer old new) asks.form h)
+
+  read_so : (flaw : SettingsFlaw) → HasFlaw flaw asks.name old new → settings bytes ≡ Err flaw
+  read_so flaw has = sym (says_so (File asks.name) bytes has.file.bytes old.settings new.settings asks.told has.file.read) ∙ has.file.refused
+
+  module _ (values : file.Settings) (accepted : settings bytes ≡ Ok values) (steady : IsUnhinderedServer old new) where
+    by_cause : (answer : Answer) → IsCauseOf asks.name answer old new → IsServed answer
+    by_cause Done h = inl (inl refl)
+    by_cause NoMemory h = inl (inr refl)
+    by_cause NoForm h = absurd h
+    by_cause (Misset flaw) h = let same : Err flaw ≡ Ok values = sym (read_so flaw h) ∙ accepted in absurd (cc)
+    by_cause (BadScript at flaw) h = absurd h
+    by_cause (NotOpened OfSettings) h = absurd (steady.settings h.1)
+    by_cause (NotOpened OfScript) h = absurd h.0
+    by_cause (NotOpened (OfSource i)) h = absurd (steady.sources i h.1)
+    by_cause (NotOpened OfBeat) h = absurd h.0
+    by_cause (NotOpened (OfWire i)) h = inr (OfWire i, tt, refl)
+    by_cause (NotOpened OfGraphite) h = inr (OfGraphite, tt, refl)
+    by_cause (NotOpened OfConsole) h = inr (OfConsole, tt, refl)
+    by_cause (NotOpened OfDoor) h = inr (OfDoor, tt, refl)
+    by_cause (NotRead OfSettings) h = absurd (steady.settings h.1)
+    by_cause (NotRead OfScript) h = absurd h.0
+    by_cause (NotRead (OfSource i)) h = absurd (steady.sources i h.1)
+    by_cause (NotRead OfBeat) h = absurd (steady.beat h.1)
+    by_cause (NotRead (OfWire i)) h = absurd h.0
+    by_cause (NotRead OfGraphite) h = absurd h.0
+    by_cause (NotRead OfConsole) h = absurd h.0
+    by_cause (NotRead OfDoor) h = absurd h.0
+    by_cause NotWritten h = absurd (steady.output h)
+    by_cause (Worn turns) h = by_loop h.1 where
+      by_loop : OneTookMost old new → IsServed (Worn turns)
+      by_loop (inl (i, most)) = let few = steady.source_turns i in let low = steady.uncapped i in absurd (omega (arith, most, few, low))
+      by_loop (inr (inl most)) = let few = steady.beat_turns in absurd (omega (arith, most, few))
+      by_loop (inr (inr most)) = let few = steady.door_turns in absurd (omega (arith, most, few))
+
+    pub serves : (answer : Answer) → AnswersServer (form words) says answer old new → IsServed answer
+    serves answer h = by_cause answer (caused answer h)
+
+    module _ (none : NoneFailed old new) where
+      -- of a part that has no fault none was counted
+      not_failed : (part : Part) → IsOutermost part → ¬ HasFaultOf part old new
+      not_failed OfSettings outer = absurd outer
+      not_failed OfScript outer = absurd outer
+      not_failed (OfSource i) outer = absurd outer
+      not_failed OfBeat outer = absurd outer
+      not_failed (OfWire i) outer = none.wires i
+      not_failed OfGraphite outer = none.graphite
+      not_failed OfConsole outer = none.console
+      not_failed OfDoor outer = none.door
+
+      is_whole : (answer : Answer) → IsCauseOf asks.name answer old new → IsServed answer → IsWhole Done answer
+      is_whole answer h (inl whole) = whole
+      is_whole answer h (inr (part, outer, is)) = absurd (not_failed part outer (subst (λ (a : Answer). IsCauseOf asks.name a old new) is h).1)
+
+      pub serves_whole : (answer : Answer) → AnswersServer (form words) says answer old new → IsWhole Done answer
+      serves_whole answer h = is_whole answer (caused answer h) (serves answer h)
+
+  module _ (flaw : SettingsFlaw) (refused : settings bytes ≡ Err flaw) where
+    not_accepted : (values : file.Settings) (now : Object) → IsAccepted values (File asks.name) old.settings now → ⊥
+    not_accepted values now taken =
+        let same : Ok values ≡ Err flaw = sym taken.accepted ∙ says_so (File asks.name) bytes taken.bytes old.settings now asks.told taken.read ∙ refused in
+        absurd (cc)
+
+    by_account : (answer : Answer) → ServerAccounts asks.name says answer old new → IsBlocked (Misset flaw) answer
+    by_account answer (inl (inl (is, off))) = inl (inr is)
+    by_account answer (inl (inr (inl (is, fails)))) = inr (inl is)
+    by_account answer (inl (inr (inr (inl (is, fails))))) = inr (inr is)
+    by_account answer (inl (inr (inr (inr (other, is, has))))) =
+        let same : Err other ≡ Err flaw = sym (read_so other has) ∙ refused in
+        let one : other ≡ flaw = cc in
+        inl (inl (is ∙ ap (λ f. Misset f) one))
+    by_account answer (inr (inl not)) = absurd (not_accepted not.values not.settings not.taken)
+    by_account answer (inr (inr served)) = absurd (not_accepted served.values served.settings served.taken)
+
+    pub blocked : (answer : Answer) → AnswersServer (form words) says answer old new → IsBlocked (Misset flaw) answer
+    blocked answer h = by_account answer (subst (λ (f : Option Form). AnswersServer f says answer old new) asks.form h)

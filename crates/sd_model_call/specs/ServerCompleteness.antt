@@ -1,0 +1,116 @@
+-- What a call that is asked to serve has to come to, by its words, what its objects tell, and where no fault was counted; and what
+-- its answers say of its objects.
+use Rattle.std.specs.Prelude.{◌≡◌, ◌⊎◌, ℕ, ◌+◌, ◌<◌, min, ⊤, List, Some}
+use Rattle.sd_model_outside.specs.Outside.{Left, Object, Rose, last_count}
+use Rattle.sd_model_outside.specs.Turns.{IsSpent}
+use Rattle.sd_model_record.specs.Repeater.{wire_at}
+use Rattle.sd_model_serve.specs.Ends.{most_turns}
+use Rattle.sd_model_call.specs.Words.{Serve, form}
+use Rattle.sd_model_call.specs.Opening.{Part, OfSettings, OfScript, OfSource, OfBeat, OfWire, OfGraphite, OfConsole, OfDoor, World, part_in, source_at}
+use Rattle.sd_model_call.specs.Call.{Answer, Done, NoMemory, NoForm, Misset, BadScript, NotOpened, NotRead, NotWritten, Worn, HasFlaw}
+use Rattle.sd_model_call.specs.Completeness.{IsWhole}
+
+-- The words ask to serve, and the settings tell that they have these bytes.
+pub record AsksToServe (words : List (List ℕ)) (old : World) (bytes : List ℕ) : Type 0 where
+  pub name : List ℕ
+  pub form : form words ≡ Some (Serve name)
+  pub told : old.settings.told ≡ Left bytes
+
+-- an object took fewer turns than a loop takes at most
+abbrev pub TookFew : Object → Object → Type 0
+TookFew old new = new.turns < old.turns + most_turns
+
+-- Nothing hinders a server: no fault was counted of the settings, a source, the beat and the output, and no loop took as many turns
+-- as there may be.
+pub record IsUnhinderedServer (old new : World) : Type 0 where
+  pub settings : ¬ Rose old.settings.faults new.settings.faults
+  pub sources : (i : ℕ) → ¬ Rose (source_at i old.served.sources).faults (source_at i new.served.sources).faults
+  pub beat : ¬ Rose old.served.beat.faults new.served.beat.faults
+  pub output : ¬ Rose old.seen.output.faults new.seen.output.faults
+  pub source_turns : (i : ℕ) → TookFew (source_at i old.served.sources) (source_at i new.served.sources)
+  pub uncapped : (i : ℕ) → (source_at i new.served.sources).turns < last_count
+  pub beat_turns : TookFew old.served.beat new.served.beat
+  pub door_turns : TookFew old.served.door new.served.door
+
+-- a wire, a backend or the door, whose faults never end a server that has begun
+abbrev pub IsOutermost : Part → Type 0
+IsOutermost OfSettings = ⊥
+IsOutermost OfScript = ⊥
+IsOutermost (OfSource i) = ⊥
+IsOutermost OfBeat = ⊥
+IsOutermost (OfWire i) = ⊤
+IsOutermost OfGraphite = ⊤
+IsOutermost OfConsole = ⊤
+IsOutermost OfDoor = ⊤
+
+-- no fault was counted of one of them
+pub record NoneFailed (old new : World) : Type 0 where
+  pub wires : (i : ℕ) → ¬ Rose (wire_at i old.seen.wires).faults (wire_at i new.seen.wires).faults
+  pub graphite : ¬ Rose old.seen.graphite.faults new.seen.graphite.faults
+  pub console : ¬ Rose old.seen.console.faults new.seen.console.faults
+  pub door : ¬ Rose old.served.door.faults new.served.door.faults
+
+-- all was done, or no memory was left, or one of them couldn't be opened
+abbrev pub IsServed : Answer → Type 0
+IsServed answer = IsWhole Done answer ⊎ ((part : Part) × IsOutermost part × (answer ≡ NotOpened part))
+
+-- The source of each receiver, the beat and the door have nothing left, where they tell what they have.
+pub record AreAllSpent (receivers : ℕ) (world : World) : Type 0 where
+  pub sources : (i : ℕ) → i < receivers → IsSpent (source_at i world.served.sources).told
+  pub beat : IsSpent world.served.beat.told
+  pub door : IsSpent world.served.door.told
+
+-- an object took as many turns as a loop takes at most
+abbrev pub TookMost : Object → Object → Type 0
+TookMost old new = new.turns ≡ old.turns + most_turns
+
+-- a source of datagrams did, which counts its turns up to the last count
+abbrev pub SourceTookMost : Object → Object → Type 0
+SourceTookMost old new = new.turns ≡ min (old.turns + most_turns) last_count
+
+-- a source, the beat or the door did
+abbrev pub OneTookMost : World → World → Type 0
+OneTookMost old new =
+    ((i : ℕ) × SourceTookMost (source_at i old.served.sources) (source_at i new.served.sources))
+    ⊎ TookMost old.served.beat new.served.beat
+    ⊎ TookMost old.served.door new.served.door
+
+-- a part that is opened to serve
+abbrev pub IsOpenedToServe : Part → Type 0
+IsOpenedToServe OfSettings = ⊤
+IsOpenedToServe OfScript = ⊥
+IsOpenedToServe (OfSource i) = ⊤
+IsOpenedToServe OfBeat = ⊥
+IsOpenedToServe (OfWire i) = ⊤
+IsOpenedToServe OfGraphite = ⊤
+IsOpenedToServe OfConsole = ⊤
+IsOpenedToServe OfDoor = ⊤
+
+-- a part whose read or tick ends a call that serves, where it fails
+abbrev pub IsReadToServe : Part → Type 0
+IsReadToServe OfSettings = ⊤
+IsReadToServe OfScript = ⊥
+IsReadToServe (OfSource i) = ⊤
+IsReadToServe OfBeat = ⊤
+IsReadToServe (OfWire i) = ⊥
+IsReadToServe OfGraphite = ⊥
+IsReadToServe OfConsole = ⊥
+IsReadToServe OfDoor = ⊥
+
+-- a fault of a part was counted
+abbrev pub HasFaultOf : Part → World → World → Type 0
+HasFaultOf part old new = Rose (part_in old part).faults (part_in new part).faults
+
+-- What an answer to a call that is asked to serve by a settings file says of the objects: the file has just that flaw; of a part that
+-- couldn't be opened or read a fault was counted, and of the output; and a loop is worn out only where it took the most turns. No
+-- answer is one of a script, or of words without a form.
+abbrev pub IsCauseOf : List ℕ → Answer → World → World → Type 0
+IsCauseOf name Done old new = ⊤
+IsCauseOf name NoMemory old new = ⊤
+IsCauseOf name NoForm old new = ⊥
+IsCauseOf name (Misset flaw) old new = HasFlaw flaw name old new
+IsCauseOf name (BadScript at flaw) old new = ⊥
+IsCauseOf name (NotOpened part) old new = IsOpenedToServe part × HasFaultOf part old new
+IsCauseOf name (NotRead part) old new = IsReadToServe part × HasFaultOf part old new
+IsCauseOf name NotWritten old new = Rose old.seen.output.faults new.seen.output.faults
+IsCauseOf name (Worn turns) old new = (turns ≡ most_turns) × OneTookMost old new

@@ -1,0 +1,106 @@
+use Rattle.std.proofs.Common.{◌≡◌, [], List, length, map, refl, sym, ap, subst, ◌∙◌, arith, inl}
+use Rattle.std.proofs.lemmas.List.{length-map}
+use Rattle.sd_model_outside.specs.Outside.{Object}
+use Rattle.sd_model_outside.specs.Turns.{with_interval}
+use Rattle.sd_model_settings.specs.Defaults.{plan_of, names_of}
+use Rattle.sd_model_replay.specs.Settings.{goes_by, is_used}
+use Rattle.sd_model_record.specs.Backends.{Backend, Graphite, Console}
+use Rattle.sd_model_run.specs.Course.{Terms}
+use Rattle.sd_model_run.specs.Run.{Objects}
+use Rattle.sd_model_call.specs.Opening.{Flags, World, flags_of}
+use Rattle.sd_model_call.specs.ServerOpening.{back_in, begun, objects_in, opened_all, server_openings, serves_by}
+use Rattle.sd_flush.specs.Flushing.{back_of, uses, uses_by}
+use Rattle.sd_outside.specs.declared.backend.Backs.{Backs}
+use Rattle.sd_plan.specs.Plan.{plan_view}
+use Rattle.sd_serve.specs.Room.{sizing_in, start_in}
+use Rattle.sd_serve.specs.Serving.{HasServed, end_of, objects_of, terms_of}
+use Rattle.sd_top.specs.Serving.{sizing_by}
+use Rattle.sd_top.specs.World.{world_of}
+use Rattle.sd_top.proofs.server.run_server.Goals as goal
+
+pub returns-in_default-clause-refused : goal.returns-in_default-clause-refused
+returns-in_default-clause-refused g c = inl (refl, record { before = []; behind = server_openings c.args.settings.now; order = refl; opened = refl })
+
+pub serve-requires-clause-start : goal.serve-requires-clause-start
+serve-requires-clause-start g c κs within =
+    subst (λ k. g.T.Clock.may_say k (start_in c.in-Ok.room)) (sym c.open_server.ensures.clock)
+    (subst (g.T.Clock.may_say c.args.world.now.clock) (sym c.in-Ok.ensures.start) c.now-start.ensures)
+
+pub serve-requires-clause-beat : goal.serve-requires-clause-beat
+serve-requires-clause-beat g c =
+    let started = ap (λ (o : Object). o.turns) c.start.ensures in
+    let same = ap (λ b. (g.P.Faulty.seen b).turns) c.open_server.ensures.beat in
+    omega (arith, started, same, c.requires.beat)
+
+pub serve-requires-clause-door : goal.serve-requires-clause-door
+serve-requires-clause-door g c κs within =
+    let opened_there = c.in_ok-open_server.ensures.door in
+    (ap (λ (o : Object). o.is_out) opened_there ∙ c.requires.door.0, let turns = ap (λ (o : Object). o.turns) opened_there in let few = c.requires.door.1 in omega (arith, turns, few))
+
+-- the backends that the flags say are used are those that the settings name
+used_as : (s : _) (graphite console : _) → graphite ≡ (goes_by s).uses_graphite → console ≡ (goes_by s).uses_console → (b : Backend) → uses_by graphite console b ≡ is_used (goes_by s) b
+used_as s graphite console g c Graphite = g
+used_as s graphite console g c Console = c
+
+-- what is seen of a backend
+seen_as : {B : Type 0} (see : B → Object) (backs : Backs B) (w : World) → w.seen.graphite ≡ see backs.graphite → w.seen.console ≡ see backs.console → (b : Backend) → back_of see backs b ≡ back_in w b
+seen_as see backs w g c Graphite = sym g
+seen_as see backs w g c Console = sym c
+
+pub returns-clause-few : goal.returns-clause-few
+returns-clause-few g c =
+    let h = c.serve.ensures.served in
+    let received = length-map c.serve.result.received.items end_of in
+    let receptions = length-map h.course.receptions (λ r. r.ended) in
+    let same = ap length h.received in
+    let count = h.theorem.run.count in
+    let few = (c.in-Ok.ensures.room).sizes_are.few_receivers in
+    omega (arith, received, receptions, same, count, few)
+
+pub returns-clause-served : goal.returns-clause-served
+returns-clause-served g c =
+    let s = c.args.settings.now in
+    let old = world_of g.R.Faulty.seen g.O.Faulty.seen g.B.Faulty.seen g.D.Faulty.seen g.L.Faulty.seen g.E.Faulty.seen g.P.Faulty.seen c.args.world.now in
+    let mid = c.open_server.new.world in
+    let seen_mid = world_of g.R.Faulty.seen g.O.Faulty.seen g.B.Faulty.seen g.D.Faulty.seen g.L.Faulty.seen g.E.Faulty.seen g.P.Faulty.seen mid in
+    let opened = c.in_ok-open_server.ensures.opened in
+    let sizes = c.in-Ok.ensures.sizes ∙ c.sizes_of.ensures.sizes in
+    let flags = c.in_ok-open_server.ensures.flags ∙ c.requires.flags in
+    let used = used_as s mid.backs.graphite_used mid.backs.console_used (ap (λ (f : Flags). f.graphite) flags) (ap (λ (f : Flags). f.console) flags) in
+    let flushes = c.from.ensures ∙ c.run_flushes.ensures.value in
+    let terms : terms_of (sizing_in c.in-Ok.room) c.plan.result.now c.of-names.result s mid.backs c.from.result ≡ serves_by s = (λ i. record {
+      limits = (sizes i).limits;
+      policy = (sizes i).policy;
+      form = record { shards = (sizes i).shards; plan = c.plan.ensures i; names = c.of-names.ensures i };
+      uses = λ b. used b i;
+      settings = s;
+      receivers = (sizes i).receivers;
+      wires = (sizes i).wires;
+      run_flushes = flushes i;
+    }) in
+    let begun_is : record seen_mid { served = record seen_mid.served { beat = with_interval s.server.flush_interval seen_mid.served.beat } } ≡ begun s old =
+    (λ i. record (opened i) { served = record (opened i).served { beat = with_interval s.server.flush_interval (opened i).served.beat } }) in
+    let beat = c.start.ensures ∙ ap (λ n. with_interval n (g.P.Faulty.seen mid.beat)) c.flush_interval.ensures.value in
+    let before : objects_of g.D.Faulty.seen g.L.Faulty.seen g.P.Faulty.seen g.B.Faulty.seen g.E.Faulty.seen mid.packets.items mid.wires.items c.start.new.self mid.backs mid.door
+    ≡ objects_in (record seen_mid { served = record seen_mid.served { beat = with_interval s.server.flush_interval seen_mid.served.beat } }) =
+    (λ i. record {
+      sources = map g.D.Faulty.seen mid.packets.items;
+      wires = map g.L.Faulty.seen mid.wires.items;
+      beat = beat i;
+      backs = λ b. seen_as g.B.Faulty.seen mid.backs seen_mid refl refl b i;
+      door = g.E.Faulty.seen mid.door;
+    }) in
+    let new = world_of g.R.Faulty.seen g.O.Faulty.seen g.B.Faulty.seen g.D.Faulty.seen g.L.Faulty.seen g.E.Faulty.seen g.P.Faulty.seen (record mid { backs = c.serve.new.backs; packets = c.serve.new.packets; wires = c.serve.new.wires; door = c.serve.new.door; beat = c.serve.new.beat }) in
+    let after : objects_of g.D.Faulty.seen g.L.Faulty.seen g.P.Faulty.seen g.B.Faulty.seen g.E.Faulty.seen c.serve.new.packets.items c.serve.new.wires.items c.serve.new.beat c.serve.new.backs c.serve.new.door ≡ objects_in new =
+    (λ i. record {
+      sources = map g.D.Faulty.seen c.serve.new.packets.items;
+      wires = map g.L.Faulty.seen c.serve.new.wires.items;
+      beat = g.P.Faulty.seen c.serve.new.beat;
+      backs = λ b. seen_as g.B.Faulty.seen c.serve.new.backs new refl refl b i;
+      door = g.E.Faulty.seen c.serve.new.door;
+    }) in
+    subst (λ (t : Terms). HasServed t (g.T.Clock.may_say c.args.world.now.clock) (objects_in (begun s old)) (objects_in new) c.serve.result) terms
+    (subst (λ k. HasServed (terms_of (sizing_in c.in-Ok.room) c.plan.result.now c.of-names.result s mid.backs c.from.result) (g.T.Clock.may_say k) (objects_in (begun s old)) (objects_in new) c.serve.result) c.open_server.ensures.clock
+    (subst (λ (o : Objects). HasServed (terms_of (sizing_in c.in-Ok.room) c.plan.result.now c.of-names.result s mid.backs c.from.result) (g.T.Clock.may_say mid.clock) o (objects_in new) c.serve.result) (before ∙ ap objects_in begun_is)
+    (subst (λ (o : Objects). HasServed (terms_of (sizing_in c.in-Ok.room) c.plan.result.now c.of-names.result s mid.backs c.from.result) (g.T.Clock.may_say mid.clock) (objects_of g.D.Faulty.seen g.L.Faulty.seen g.P.Faulty.seen g.B.Faulty.seen g.E.Faulty.seen mid.packets.items mid.wires.items c.start.new.self mid.backs mid.door) o c.serve.result) after
+    c.serve.ensures.served)))

@@ -1,0 +1,48 @@
+use Rattle.std.proofs.Common.{◌≡◌, ◌≤◌, ◌*◌, ◌∷◌, [], List, length, map, refl, sym, ap, subst, ◌∙◌, arith, rules}
+use Rattle.std.proofs.lemmas.List.{length-map, with_items_is}
+use Rattle.std.proofs.lemmas.Result.{IfErr-weaker, on_ok_weaker}
+use Rattle.sd_model_outside.specs.Outside.{Object, Place}
+use Rattle.sd_model_call.specs.Opening.{World, OfSource, opened_each}
+use Rattle.sd_model_call.specs.ServerOpening.{StopsAmong, numbered, opened_all, repeated}
+use Rattle.sd_model_outside.specs.Outside.{Host}
+use Rattle.sd_outside.specs.Places.{place_of}
+use Rattle.sd_top.specs.Answers.{answer_of}
+use Rattle.sd_top.specs.Causes.{EachStops}
+use Rattle.sd_top.specs.World.{world_of}
+use Rattle.sd_top.proofs.ServerLemmas.{all_opened, each_stops, repeated_count}
+use Rattle.sd_top.proofs.server_opening.open_packets.Goals as goal
+
+pub returns-clause-opened : goal.returns-clause-opened
+returns-clause-opened g c =
+    let old = world_of g.R.Faulty.seen g.O.Faulty.seen g.B.Faulty.seen g.D.Faulty.seen g.L.Faulty.seen g.E.Faulty.seen g.P.Faulty.seen c.args.world.now in
+    let put : List Object → World = λ l. record old { served = record old.served { sources = l } } in
+    let ps = Host c.args.settings.now.addresses.address c.args.settings.now.server.port ∷ [] in
+    let runs = c.args.settings.now.sizes.receivers in
+    let receivers : c.unwrap-receivers.result ≡ c.args.settings.now.sizes.receivers = search rules in
+    let place : place_of c.host_address-at.result ≡ Host c.args.settings.now.addresses.address c.args.settings.now.server.port = search rules in
+    let same : repeated c.unwrap-receivers.result (place_of c.host_address-at.result ∷ []) ≡ repeated runs ps =
+    (λ i. repeated (receivers i) (place i ∷ [])) in
+    let now = with_items_is c.args.world.now.packets c.open_sources.new.sources (c.open_sources.ensures.count ∙ c.deref_mut.ensures.len) in
+    let few : length (repeated runs ps) ≤ length (map g.D.Faulty.seen c.args.world.now.packets.items) = let n = repeated_count runs ps in let m = length-map c.args.world.now.packets.items g.D.Faulty.seen in omega (arith, n, m, c.requires, c.receivers.ensures.value, c.receivers.ensures.range) in
+    on_ok_weaker c.open_sources.result
+    (λ is. ap (λ l. put (map g.D.Faulty.seen l)) now ∙ ap put (is ∙ ap (λ l. opened_each (repeated c.unwrap-receivers.result (place_of c.host_address-at.result ∷ [])) (map g.D.Faulty.seen l)) c.deref_mut.ensures.value ∙ ap (λ places. opened_each places (map g.D.Faulty.seen c.args.world.now.packets.items)) same)
+    ∙ sym (all_opened OfSource put (λ l i. refl) (λ l i o. refl) [] (map g.D.Faulty.seen c.args.world.now.packets.items) (repeated runs ps) few))
+    c.open_sources.ensures.ok
+
+pub returns-clause-refused : goal.returns-clause-refused
+returns-clause-refused g c =
+    let old = world_of g.R.Faulty.seen g.O.Faulty.seen g.B.Faulty.seen g.D.Faulty.seen g.L.Faulty.seen g.E.Faulty.seen g.P.Faulty.seen c.args.world.now in
+    let put : List Object → World = λ l. record old { served = record old.served { sources = l } } in
+    let ps = Host c.args.settings.now.addresses.address c.args.settings.now.server.port ∷ [] in
+    let runs = c.args.settings.now.sizes.receivers in
+    let receivers : c.unwrap-receivers.result ≡ c.args.settings.now.sizes.receivers = search rules in
+    let place : place_of c.host_address-at.result ≡ Host c.args.settings.now.addresses.address c.args.settings.now.server.port = search rules in
+    let same : repeated c.unwrap-receivers.result (place_of c.host_address-at.result ∷ []) ≡ repeated runs ps =
+    (λ i. repeated (receivers i) (place i ∷ [])) in
+    let now = with_items_is c.args.world.now.packets c.open_sources.new.sources (c.open_sources.ensures.count ∙ c.deref_mut.ensures.len) in
+    IfErr-weaker c.open_sources.result _ _
+    (λ status h. subst (λ l. StopsAmong (numbered OfSource 0 (repeated runs ps)) (answer_of status) old (put (map g.D.Faulty.seen l))) (sym now)
+    (each_stops OfSource put (λ l i. refl) (λ l i o. refl) [] (map g.D.Faulty.seen c.args.world.now.packets.items) (map g.D.Faulty.seen c.open_sources.new.sources) (repeated runs ps) (answer_of status)
+    (subst (λ l. EachStops OfSource 0 (repeated runs ps) (answer_of status) (map g.D.Faulty.seen l) (map g.D.Faulty.seen c.open_sources.new.sources)) c.deref_mut.ensures.value
+    (subst (λ places. EachStops OfSource 0 places (answer_of status) (map g.D.Faulty.seen c.deref_mut.result.now) (map g.D.Faulty.seen c.open_sources.new.sources)) same h))))
+    c.open_sources.ensures.refused

@@ -1,0 +1,40 @@
+-- What a server of a settings file is opened for, and what it tells once its run has ended.
+use Rattle.std.specs.Prelude.{List, length, map, sum_by}
+use Rattle.sd_model_record.specs.Desk.{Desk}
+use Rattle.sd_model_settings.specs.Settings as file
+use Rattle.sd_model_replay.specs.Settings.{limits_of, policy_of, targets_of}
+use Rattle.sd_model_replay.specs.Totals as model
+use Rattle.sd_model_call.specs.Call.{Answer}
+use Rattle.sd_model_call.specs.Server.{ends_answer}
+use Rattle.sd_outside.specs.declared.datagrams.Ended.{Ended}
+use Rattle.sd_shard.specs.declared.shard.ShardBook.{ShardBook}
+use Rattle.sd_serve.specs.Room.{Sizing}
+use Rattle.sd_serve.specs.Serving.{door_end_of, end_of}
+use Rattle.sd_serve.specs.declared.workers.Ends.{Ends}
+
+-- its sizes
+abbrev pub sizing_by : file.Settings → Sizing
+sizing_by s = record { limits = limits_of s; policy = policy_of s; shards = s.sizes.shards; receivers = s.sizes.receivers; wires = length (targets_of s) }
+
+-- how a run is answered whose workers ended so
+abbrev pub ends_of : List Ended → Ends → Answer
+ends_of received ends = ends_answer (map end_of received) (end_of ends.flusher) (door_end_of ends.keeper)
+
+-- the totals of shards with these numbers, and of a desk
+abbrev pub totals_in : List ShardBook → Desk → model.Totals
+totals_in books desk =
+    record {
+      packets = desk.totals.packets;
+      lines = desk.totals.lines;
+      bad = desk.totals.bad;
+      taken = sum_by (λ (b : ShardBook). b.taken) books;
+      dropped = sum_by (λ (b : ShardBook). b.dropped) books;
+      flushed = sum_by (λ (b : ShardBook). b.flushed) books;
+      held = sum_by (λ (b : ShardBook). b.held) books;
+      deleted = sum_by (λ (b : ShardBook). b.deleted) books;
+      rounds = desk.rounds;
+      graphite_faults = desk.graphite_faults;
+      console_faults = desk.console_faults;
+      repeater_faults = desk.repeater_faults;
+      admin_faults = desk.admin_faults;
+    }

@@ -1,0 +1,136 @@
+//! A server, from its settings to its answer.
+ghost use Rattle.std.specs.Prelude.{◌≡◌, ◌<◌, ◌≤◌, ◌^◌, false, length, map, IfOk, IfErr};
+ghost use Rattle.sd_model_replay.specs.Settings.{goes_by};
+ghost use Rattle.sd_model_call.specs.Opening.{flags_of};
+ghost use Rattle.sd_model_call.specs.Server.{ServerAccounts};
+ghost use Rattle.sd_model_call.specs.ServerOpening.{StopsAmong, begun, objects_in, server_openings, serves_by};
+ghost use Rattle.sd_serve.specs.Room.{AreSizes, sizing_of};
+ghost use Rattle.sd_serve.specs.Serving.{HasServed};
+ghost use Rattle.sd_top.specs.Answers.{answer_of};
+ghost use Rattle.sd_top.specs.Serving.{sizing_by};
+ghost use Rattle.sd_top.specs.World.{world_of};
+
+use crate::call::World;
+use crate::server_end::finish;
+use crate::server_opening::open_server;
+use crate::settings::read_settings;
+use crate::status::Status;
+use sd_config::{NamesOf, Settings};
+use sd_outside::{Address, Backend, Beat, Clock, Datagrams, Door, Gate, Name, Sink, Source, Wire};
+use sd_plan::Names;
+use sd_replay::{limits_of, names_backend, policy_of, targets_of};
+use sd_serve::{Served, ServerRoom, Sizes, serve};
+use std::alloc::Global;
+use std::sync::Wait;
+use std::thread::Threads;
+
+/// What a server is opened for, by these settings.
+fn sizes_of(settings: &Settings) -> Sizes
+    ensures sizes { sizing_of result ≡ sizing_by settings.now }
+    ensures range { AreSizes (sizing_of result) }
+{
+    Sizes {
+        limits: limits_of(settings),
+        policy: policy_of(settings),
+        shards: u16::try_from(settings.shards()).unwrap(),
+        receivers: u16::try_from(settings.receivers()).unwrap(),
+        wires: u16::try_from(targets_of(settings).len()).unwrap(),
+    }
+}
+
+/// Takes the room of a server by these settings, opens its parts, starts the beat, and runs the server until its workers have
+/// ended and its last round is made.
+///
+/// # Errors
+///
+/// `OpenFault` where a part couldn't be opened, and `OutOfMemory`.
+pub(crate) fn run_server<
+    R: Source,
+    O: Sink,
+    B: Backend + Send,
+    D: Datagrams + Send + Drop,
+    L: Wire + Send + Drop,
+    E: Door<Asking: Send, Telling: Send> + Send,
+    P: Beat + Send,
+    G: Gate + Sync,
+    T: Clock + Sync,
+    X: Threads + Wait + Sync,
+>(
+    rt: &X,
+    alloc: Global,
+    settings: &Settings,
+    world: &mut World<R, O, B, D, L, E, P, G, T>,
+) -> Result<Served, Status>
+    requires flags { (world_of R.seen O.seen B.seen D.seen L.seen E.seen P.seen world.old).flags ≡ flags_of (goes_by settings.now) }
+    requires packets { 16 ≤ length (world.old).packets.items }
+    requires wires { 256 ≤ length (world.old).wires.items }
+    requires beat { (P.seen (world.old).beat).turns < 2 ^ 62 }
+    requires door { ((E.seen (world.old).door).is_out ≡ false) × ((E.seen (world.old).door).turns < 2 ^ 62) }
+    ensures served { IfOk result (HasServed (serves_by settings.now) (T.may_say (world.old).clock)
+        (objects_in (begun settings.now (world_of R.seen O.seen B.seen D.seen L.seen E.seen P.seen world.old)))
+        (objects_in (world_of R.seen O.seen B.seen D.seen L.seen E.seen P.seen world.new))) }
+    ensures few { IfOk result (λ served. length served.received.items ≤ 16) }
+    ensures settings { (world.new).settings ≡ (world.old).settings }
+    ensures script { (world.new).script ≡ (world.old).script }
+    ensures output { (world.new).output ≡ (world.old).output }
+    ensures flags { (world_of R.seen O.seen B.seen D.seen L.seen E.seen P.seen world.new).flags ≡ (world_of R.seen O.seen B.seen D.seen L.seen E.seen P.seen world.old).flags }
+    ensures refused { IfErr result (λ status. StopsAmong (server_openings settings.now) (answer_of status)
+        (world_of R.seen O.seen B.seen D.seen L.seen E.seen P.seen world.old)
+        (world_of R.seen O.seen B.seen D.seen L.seen E.seen P.seen world.new)) }
+{
+    let start = world.clock.now();
+    let Ok(room) = ServerRoom::open(alloc, sizes_of(settings), start) else {
+        return Err(Status::OutOfMemory);
+    };
+    open_server(settings, world)?;
+    world.beat.start(settings.flush_interval());
+    let names = Names::of(settings);
+    Ok(serve(
+        rt,
+        room,
+        settings,
+        settings.plan(),
+        &names,
+        u64::from(settings.run_flushes()),
+        &mut world.packets,
+        &mut world.wires,
+        &mut world.beat,
+        &mut world.backs,
+        &mut world.door,
+        &world.gate,
+        &world.clock,
+    ))
+}
+
+/// Reads a settings file, and runs the server by the settings.
+pub(crate) fn serve_files<
+    R: Source,
+    O: Sink,
+    B: Backend + Send,
+    D: Datagrams + Send + Drop,
+    L: Wire + Send + Drop,
+    E: Door<Asking: Send, Telling: Send> + Send,
+    P: Beat + Send,
+    G: Gate + Sync,
+    T: Clock + Sync,
+    X: Threads + Wait + Sync,
+>(rt: &X, alloc: Global, settings: Name, world: &mut World<R, O, B, D, L, E, P, G, T>) -> Status
+    requires packets { 16 ≤ length (world.old).packets.items }
+    requires wires { 256 ≤ length (world.old).wires.items }
+    requires beat { (P.seen (world.old).beat).turns < 2 ^ 62 }
+    requires door { ((E.seen (world.old).door).is_out ≡ false) × ((E.seen (world.old).door).turns < 2 ^ 62) }
+    ensures { ServerAccounts settings.items (T.may_say (world.old).clock) (answer_of result)
+        (world_of R.seen O.seen B.seen D.seen L.seen E.seen P.seen world.old)
+        (world_of R.seen O.seen B.seen D.seen L.seen E.seen P.seen world.new) }
+{
+    let settings = match read_settings(alloc, &mut world.settings, &Address::File(settings)) {
+        Ok(settings) => settings,
+        Err(status) => return status,
+    };
+    world.backs.graphite_used = names_backend(&settings, b"graphite");
+    world.backs.console_used = names_backend(&settings, b"console");
+    match run_server(rt, alloc, &settings, world) {
+        Ok(served) => finish(&served, &mut world.output),
+        Err(status) => status,
+    }
+}

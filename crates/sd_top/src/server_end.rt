@@ -1,0 +1,166 @@
+//! What a server tells once its run has ended: the totals, and the status.
+ghost use Rattle.std.specs.Prelude.{◌≡◌, ◌+◌, ◌<◌, ◌≤◌, ◌^◌, ◌++◌, [], ◌∷◌, length, map, sum_by};
+ghost use Rattle.std.specs.List.{list_any};
+ghost use Rattle.sd_model_call.specs.Server.{WritesTotals, by_receivers as first_failed, cut_answer, is_worn, turns_answer};
+ghost use Rattle.sd_model_replay.specs.Totals.{totals_text};
+ghost use Rattle.sd_replay.specs.Totals.{totals_view};
+ghost use Rattle.sd_serve.specs.Serving.{door_end_of, end_of};
+ghost use Rattle.sd_top.specs.Answers.{answer_of};
+ghost use Rattle.sd_top.specs.Serving.{ends_of, totals_in};
+
+use crate::status::{Part, Status};
+use sd_desk::Desk;
+use sd_outside::{DoorEnd, Ended, Sink, WriteFault};
+use sd_replay::{Totals, write_totals};
+use sd_serve::{Ends, Served};
+use sd_shard::ShardBook;
+use sd_shards::ShardsBook;
+
+/// How many turns a loop takes at most.
+const MOST_TURNS: u64 = 1 << 62;
+
+/// The numbers of all shards together.
+fn add_up(books: &[ShardBook]) -> ShardsBook
+    requires { length books.now ≤ 16 }
+    ensures taken { result.taken ≡ sum_by (λ b. b.taken) books.now }
+    ensures flushed { result.flushed ≡ sum_by (λ b. b.flushed) books.now }
+    ensures deleted { result.deleted ≡ sum_by (λ b. b.deleted) books.now }
+    ensures dropped { result.dropped ≡ sum_by (λ b. b.dropped) books.now }
+    ensures held { result.held ≡ sum_by (λ b. b.held) books.now }
+{
+    let mut sums = ShardsBook {
+        taken: 0,
+        flushed: 0,
+        deleted: 0,
+        dropped: 0,
+        held: 0,
+    };
+    for book in books {
+        let ShardBook {
+            taken,
+            flushed,
+            deleted,
+            dropped,
+            held,
+        } = *book;
+        sums.taken += u128::from(taken);
+        sums.flushed += u128::from(flushed);
+        sums.deleted += u128::from(deleted);
+        sums.dropped += u128::from(dropped);
+        sums.held += u128::from(held);
+    }
+    sums
+}
+
+/// The totals of shards with these numbers, and of a desk.
+fn totals_of(books: &[ShardBook], desk: &Desk) -> Totals
+    requires { length books.now ≤ 16 }
+    ensures { totals_view result ≡ totals_in books.now desk.now }
+{
+    let book = add_up(books);
+    let facts = desk.facts();
+    Totals {
+        packets: u128::from(facts.totals.packets),
+        lines: u128::from(facts.totals.lines),
+        bad: u128::from(facts.totals.bad),
+        taken: book.taken,
+        dropped: book.dropped,
+        flushed: book.flushed,
+        held: book.held,
+        deleted: book.deleted,
+        rounds: u128::from(facts.rounds),
+        graphite_faults: u128::from(facts.graphite_faults),
+        console_faults: u128::from(facts.console_faults),
+        repeater_faults: u128::from(facts.repeater_faults),
+        admin_faults: u128::from(facts.admin_faults),
+    }
+}
+
+/// The status by the receiver of least number that failed, of receivers of which the first has this number; where none failed,
+/// the other status.
+fn by_receivers(first: u16, received: &[Ended], other: Status) -> Status
+    requires { first + length received.now < 2 ^ 16 }
+    ensures { answer_of result ≡ first_failed first (map end_of received.now) (answer_of other) }
+{
+    match received {
+        [] => other,
+        [Ended::Failed, ..] => Status::ReadFault {
+            part: Part::Packets(first),
+        },
+        [_, rest @ ..] => by_receivers(first + 1, rest, other),
+    }
+}
+
+/// Whether a loop ended since it took the most turns.
+fn took_most_turns(ended: &Ended) -> bool
+    ensures { result ≡ is_worn (end_of ended.now) }
+{
+    matches!(ended, Ended::Worn { .. })
+}
+
+/// Whether a receiver did.
+fn any_worn(received: &[Ended]) -> bool
+    ensures { result ≡ list_any (λ ended. is_worn (end_of ended)) received.now }
+{
+    received.iter().any(took_most_turns)
+}
+
+/// Whether the keeper of the door did.
+fn keeper_worn(ended: &DoorEnd) -> bool
+    ensures { result ≡ is_worn (door_end_of ended.now) }
+{
+    matches!(ended, DoorEnd::Worn { .. })
+}
+
+/// Whether any worker did.
+fn some_worn(received: &[Ended], ends: &Ends) -> bool
+    ensures { result ≡ list_any is_worn (map end_of received.now ++ end_of (ends.now).flusher ∷ door_end_of (ends.now).keeper ∷ []) }
+{
+    any_worn(received) || took_most_turns(&ends.flusher) || keeper_worn(&ends.keeper)
+}
+
+/// How a run is answered whose workers ended so, by the turns that they took.
+fn by_turns(received: &[Ended], ends: &Ends) -> Status
+    ensures { answer_of result ≡ turns_answer (map end_of received.now ++ end_of (ends.now).flusher ∷ door_end_of (ends.now).keeper ∷ []) }
+{
+    if some_worn(received, ends) {
+        Status::Worn { turns: MOST_TURNS }
+    } else {
+        Status::Ok
+    }
+}
+
+/// How a run is answered whose workers ended so, where its totals are written.
+fn status_after(received: &[Ended], ends: &Ends) -> Status
+    requires { length received.now ≤ 16 }
+    ensures { answer_of result ≡ ends_of received.now ends.now }
+{
+    let by_beat = match ends.flusher {
+        Ended::Failed => Status::ReadFault { part: Part::Beat },
+        _ => by_turns(received, ends),
+    };
+    by_receivers(0, received, by_beat)
+}
+
+/// The status of a run whose totals couldn't be written.
+fn cut(whole: Status) -> Status
+    ensures { answer_of result ≡ cut_answer (answer_of whole) }
+{
+    match whole {
+        Status::Ok => Status::WriteFault,
+        other => other,
+    }
+}
+
+/// Writes the totals of a run, and answers how it ended.
+pub(crate) fn finish<O: Sink>(served: &Served, output: &mut O) -> Status
+    requires { length (served.now).received.items ≤ 16 }
+    ensures { WritesTotals (totals_text (totals_in (served.now).books.items (served.now).desk)) (ends_of (served.now).received.items (served.now).ends)
+        (answer_of result) (O.seen output.old) (O.seen output.new) }
+{
+    let status = status_after(&served.received, &served.ends);
+    match write_totals(&totals_of(&served.books, &served.desk), output) {
+        Ok(()) => status,
+        Err(WriteFault) => cut(status),
+    }
+}
