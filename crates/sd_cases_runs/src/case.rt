@@ -1,44 +1,35 @@
-ghost use Rattle.std.specs.Prelude.{◌≡◌, ◌<◌, length, IfOk};
+ghost use Rattle.std.specs.Prelude.{◌≡◌, length, IfOk};
+ghost use Rattle.sd_outside.specs.MemBeat.{seen_of as beat_seen};
+ghost use Rattle.sd_outside.specs.MemDoor.{seen_of as door_seen};
+ghost use Rattle.sd_cases_runs.specs.Ready.{IsReady};
 
+use crate::calls::{Failing, fail};
+use crate::traffic::Traffic;
 use sd_case::{Refusal, bytes_of, number};
 use sd_drill::{Drill, MOST_PACKETS};
-use sd_outside::{Backs, MemBackend, MemSink, MemSource, MemWire, read_full};
+use sd_outside::{
+    Backs, MemBackend, MemBeat, MemClock, MemDatagrams, MemDoor, MemSink, MemSource, MemWire,
+    NoGate, read_full,
+};
 use sd_top::World;
 use std::alloc::Global;
 use std::str;
 
 /// The objects of a run, in memory.
-pub(crate) type MemWorld = World<MemSource, MemSink, MemBackend, MemWire>;
+pub(crate) type MemWorld = World<
+    MemSource,
+    MemSink,
+    MemBackend,
+    MemDatagrams,
+    MemWire,
+    MemDoor,
+    MemBeat,
+    NoGate,
+    MemClock,
+>;
 
 /// How many wires a run has.
 const WIRES: usize = 256;
-
-/// A call on an object.
-#[derive(Clone, Copy, Debug)]
-enum Call {
-    OpenSettings,
-    ReadSettings,
-    OpenScript,
-    ReadScript,
-    OpenWire { wire: usize },
-    Send { wire: usize },
-    OpenGraphite,
-    Begin,
-    Write,
-    Finish,
-    OpenConsole,
-    BeginConsole,
-    WriteConsole,
-    FinishConsole,
-    WriteOutput,
-}
-
-/// A call that is to fail, by its number from 1.
-#[derive(Clone, Copy, Debug)]
-struct Failing {
-    call: Call,
-    number: u64,
-}
 
 /// What a run is given.
 #[derive(Debug, Drop)]
@@ -53,6 +44,7 @@ pub(crate) struct Case {
     console_lists: usize,
     wire_bytes: usize,
     wire_packets: usize,
+    traffic: Traffic,
     failing: Vec<Failing>,
 }
 
@@ -75,6 +67,7 @@ impl Case {
             console_lists: 4,
             wire_bytes: 64,
             wire_packets: 4,
+            traffic: Traffic::none(alloc),
             failing: Vec::new(alloc),
         };
         let mut are_words = true;
@@ -91,7 +84,7 @@ impl Case {
     }
 
     /// Takes a part: `settings=TEXT`, `script=TEXT`, `made=PACKETS` for the made script, `output=BYTES`,
-    /// `graphite=BYTES/LISTS`, `console=BYTES/LISTS`, `wires=BYTES/PACKETS` or `fail=CALL:NUMBER`.
+    /// `graphite=BYTES/LISTS`, `console=BYTES/LISTS`, `wires=BYTES/PACKETS`, `fail=CALL:NUMBER`, or what a server is given.
     fn set(&mut self, alloc: Global, part: &str) -> Result<(), Refusal> {
         match part.split_once('=') {
             Some(("settings", text)) => self.settings = bytes_of(alloc, text)?,
@@ -105,14 +98,9 @@ impl Case {
                 (self.console_bytes, self.console_lists) = room_of(room)?;
             }
             Some(("wires", room)) => (self.wire_bytes, self.wire_packets) = room_of(room)?,
-            Some(("fail", failing)) => {
-                let (call, place) = failing.split_once(':').ok_or(Refusal::Malformed)?;
-                self.failing.push(Failing {
-                    call: call_of(call)?,
-                    number: number(place)?,
-                })?;
-            }
-            _ => return Err(Refusal::Malformed),
+            Some(("fail", failing)) => self.failing.push(Failing::of(failing)?)?,
+            Some((name, value)) => self.traffic.set(alloc, name, value)?,
+            None => return Err(Refusal::Malformed),
         }
         Ok(())
     }
@@ -130,7 +118,7 @@ impl Case {
 
     /// The objects of the run.
     pub(crate) fn world(&self, alloc: Global) -> Result<MemWorld, Refusal>
-        ensures { IfOk result (λ world. length world.wires.items ≡ 256) }
+        ensures { IfOk result (IsReady door_seen beat_seen) }
     {
         let mut world = World {
             settings: MemSource::of(self.settings.clone()?),
@@ -142,7 +130,12 @@ impl Case {
                 graphite_used: false,
                 console_used: true,
             },
+            packets: self.traffic.sources(alloc)?,
             wires: self.wires(alloc)?,
+            door: self.traffic.door(alloc)?,
+            beat: self.traffic.beat()?,
+            gate: NoGate,
+            clock: self.traffic.clock(),
         };
         for failing in &self.failing {
             fail(&mut world, *failing)?;
@@ -171,76 +164,6 @@ fn made_script(alloc: Global, packets: u32) -> Result<Vec<u8>, Refusal> {
 fn room_of(word: &str) -> Result<(usize, usize), Refusal> {
     let (bytes, parts) = word.split_once('/').ok_or(Refusal::Malformed)?;
     Ok((number(bytes)?, number(parts)?))
-}
-
-/// The wire of a call, by its number below 256.
-fn wire_of(word: &str) -> Result<usize, Refusal>
-    ensures { IfOk result (λ wire. wire < 256) }
-{
-    let wire = number::<usize>(word)?;
-    if wire < WIRES {
-        Ok(wire)
-    } else {
-        Err(Refusal::Malformed)
-    }
-}
-
-/// The call that a word names.
-fn call_of(word: &str) -> Result<Call, Refusal> {
-    if let Some((call, wire)) = word.split_once('/') {
-        let wire = wire_of(wire)?;
-        return match call {
-            "open_wire" => Ok(Call::OpenWire { wire }),
-            "send" => Ok(Call::Send { wire }),
-            _ => Err(Refusal::Malformed),
-        };
-    }
-    match word {
-        "open_settings" => Ok(Call::OpenSettings),
-        "read_settings" => Ok(Call::ReadSettings),
-        "open_script" => Ok(Call::OpenScript),
-        "read_script" => Ok(Call::ReadScript),
-        "open_graphite" => Ok(Call::OpenGraphite),
-        "begin" => Ok(Call::Begin),
-        "write" => Ok(Call::Write),
-        "finish" => Ok(Call::Finish),
-        "open_console" => Ok(Call::OpenConsole),
-        "begin_console" => Ok(Call::BeginConsole),
-        "write_console" => Ok(Call::WriteConsole),
-        "finish_console" => Ok(Call::FinishConsole),
-        "write_output" => Ok(Call::WriteOutput),
-        _ => Err(Refusal::Malformed),
-    }
-}
-
-/// The wire of a number.
-fn wire_at(wires: &mut [MemWire], wire: usize) -> Result<&mut MemWire, Refusal> {
-    wires.get_mut(wire).ok_or(Refusal::Malformed)
-}
-
-/// Has a call fail.
-fn fail(world: &mut MemWorld, failing: Failing) -> Result<(), Refusal>
-    ensures { length (world.new).wires.items ≡ length (world.old).wires.items }
-{
-    let number = failing.number;
-    match failing.call {
-        Call::OpenSettings => world.settings.fail_open.push(number)?,
-        Call::ReadSettings => world.settings.fail_call.push(number)?,
-        Call::OpenScript => world.script.fail_open.push(number)?,
-        Call::ReadScript => world.script.fail_call.push(number)?,
-        Call::OpenGraphite => world.backs.graphite.fail_open.push(number)?,
-        Call::Begin => world.backs.graphite.fail_begin.push(number)?,
-        Call::Write => world.backs.graphite.fail_call.push(number)?,
-        Call::Finish => world.backs.graphite.fail_finish.push(number)?,
-        Call::OpenWire { wire } => wire_at(&mut world.wires, wire)?.fail_open.push(number)?,
-        Call::Send { wire } => wire_at(&mut world.wires, wire)?.fail_call.push(number)?,
-        Call::OpenConsole => world.backs.console.fail_open.push(number)?,
-        Call::BeginConsole => world.backs.console.fail_begin.push(number)?,
-        Call::WriteConsole => world.backs.console.fail_call.push(number)?,
-        Call::FinishConsole => world.backs.console.fail_finish.push(number)?,
-        Call::WriteOutput => world.output.fail_call.push(number)?,
-    }
-    Ok(())
 }
 
 /// The word of a command line that a word of a case stands for.

@@ -2,27 +2,40 @@
 //! objects in memory, and prints the line with all that came of it.
 #![tactic(auto)]
 
+mod calls;
 mod case;
 mod report;
 mod run;
 mod status;
+mod traffic;
 
 use sd_case::{Answer, Refusal, answer_cases};
 use std::alloc::Global;
 use std::io;
+use std::sync::Wait;
+use std::thread::Threads;
 
 /// Runs what a case says.
-fn run_case(alloc: Global, words: &[&str], out: &mut Answer) -> Result<(), Refusal> {
+fn run_case<R: Threads + Wait + Sync>(
+    rt: &R,
+    alloc: Global,
+    words: &[&str],
+    out: &mut Answer,
+) -> Result<(), Refusal> {
     match words {
-        ["run", parts @ ..] => run::whole(alloc, parts, out),
-        ["cut", record, parts @ ..] => run::each_truncation(alloc, record, parts, out),
-        ["both", first, second, parts @ ..] => run::by_both(alloc, first, second, parts, out),
-        ["slow", most, parts @ ..] => run::by_slow(alloc, most, parts, out),
+        ["run", parts @ ..] => run::whole(rt, alloc, parts, out),
+        ["cut", record, parts @ ..] => run::each_truncation(rt, alloc, record, parts, out),
+        ["both", first, second, parts @ ..] => run::by_both(rt, alloc, first, second, parts, out),
+        ["slow", most, parts @ ..] => run::by_slow(rt, alloc, most, parts, out),
         ["status", fields @ ..] => status::texts_of(alloc, fields, out),
         _ => Err(Refusal::UnknownCall),
     }
 }
 
 fn main(rt: HostRuntime) -> io::Result<()> {
-    answer_cases(&rt, rt.alloc(), run_case)
+    answer_cases(
+        &rt,
+        rt.alloc(),
+        |alloc: Global, words: &[&str], out: &mut Answer| { run_case(&rt, alloc, words, out) },
+    )
 }

@@ -1,17 +1,20 @@
 use crate::case::MemWorld;
 use crate::status::show_status;
 use sd_case::Answer;
-use sd_outside::{Address, MemBackend, MemWire};
+use sd_outside::{Address, MemBackend, MemBeat, MemDatagrams, MemDoor, MemWire};
 use sd_top::Status;
 
-/// Appends all that came of a run: its status, exit and explanation, Graphite's lists, the output, the counts of
-/// faults, where each object was opened, and which backends are used.
+/// Appends all that came of a run: its status, exit and explanation, Graphite's lists, what came of the objects of a server, the
+/// output, the counts of faults, where each object was opened, and which backends are used.
 pub(crate) fn report(status: &Status, world: &MemWorld, out: &mut Answer) {
     out.text("\n  ");
     show_status(status, out);
     show_lists(&world.backs.graphite, "list", out);
     show_lists(&world.backs.console, "console", out);
+    show_sources(&world.packets, out);
     show_wires(&world.wires, out);
+    show_beat(&world.beat, out);
+    show_door(&world.door, out);
     out.text("\n  output:");
     out.lines(world.output.bytes());
     show_faults(world, out);
@@ -47,6 +50,45 @@ fn show_wires(wires: &[MemWire], out: &mut Answer) {
             out.count(", faults ", wire.faults());
             out.count(", packets ", wire.packets() as u64);
             show_packets(wire, out);
+        }
+    }
+}
+
+/// Appends the sources that were opened or failed: where they were opened, how often they failed, and how many datagrams they
+/// have left.
+fn show_sources(sources: &[MemDatagrams], out: &mut Answer) {
+    for (place, source) in sources.iter().enumerate() {
+        if source.opened_at().is_some() || source.faults() > 0 {
+            out.count("\n  source ", place as u64);
+            out.text(": opened ");
+            show_address(source.opened_at(), out);
+            out.count(", faults ", source.faults());
+            out.count(", left ", source.remaining().len() as u64);
+        }
+    }
+}
+
+/// Appends what came of the beat, where it was started.
+fn show_beat(beat: &MemBeat, out: &mut Answer) {
+    if let Some(interval) = beat.interval() {
+        out.count("\n  beat: every ", u64::from(interval));
+        out.count(" ms, faults ", beat.faults());
+        out.count(", left ", beat.remaining().len() as u64);
+    }
+}
+
+/// Appends what came of the door, where it was opened or failed, and the replies of the sessions that were given back.
+fn show_door(door: &MemDoor, out: &mut Answer) {
+    if door.opened_at().is_some() || door.faults() > 0 {
+        out.text("\n  door: opened ");
+        show_address(door.opened_at(), out);
+        out.count(", faults ", door.faults());
+        out.count(", left ", door.remaining().len() as u64);
+        for (asking, telling) in door.back() {
+            out.text("\n  session, left ");
+            out.bytes(asking.remaining());
+            out.text(":");
+            out.lines(telling.bytes());
         }
     }
 }

@@ -6,24 +6,37 @@ use sd_case::{Answer, Refusal, bytes_of, number};
 use sd_outside::MemBackend;
 use sd_top::statsd;
 use std::alloc::Global;
+use std::sync::Wait;
+use std::thread::Threads;
 
 /// Runs the program, and appends all that came of it.
-fn carry_out(alloc: Global, case: &Case, out: &mut Answer) -> Result<(), Refusal> {
+fn carry_out<R: Threads + Wait + Sync>(
+    rt: &R,
+    alloc: Global,
+    case: &Case,
+    out: &mut Answer,
+) -> Result<(), Refusal> {
     let mut world = case.world(alloc)?;
-    let status = statsd(alloc, &case.words, &mut world);
+    let status = statsd(rt, alloc, &case.words, &mut world);
     report(&status, &world, out);
     Ok(())
 }
 
 /// `run WORDS : PARTS`: what comes of a run.
-pub(crate) fn whole(alloc: Global, parts: &[&str], out: &mut Answer) -> Result<(), Refusal> {
-    carry_out(alloc, &Case::of(alloc, parts)?, out)
+pub(crate) fn whole<R: Threads + Wait + Sync>(
+    rt: &R,
+    alloc: Global,
+    parts: &[&str],
+    out: &mut Answer,
+) -> Result<(), Refusal> {
+    carry_out(rt, alloc, &Case::of(alloc, parts)?, out)
 }
 
 /// `cut RECORD WORDS : PARTS`: what comes of the run whose script is that of the parts and behind it the record cut
 /// short at each place, from 0 bytes of it to all but one. It is answered once for places in a row that give the
 /// same.
-pub(crate) fn each_truncation(
+pub(crate) fn each_truncation<R: Threads + Wait + Sync>(
+    rt: &R,
     alloc: Global,
     record: &str,
     parts: &[&str],
@@ -32,7 +45,7 @@ pub(crate) fn each_truncation(
     let record = bytes_of(alloc, record)?;
     let mut previous = String::new(alloc);
     for len in 0..record.len() {
-        let report = report_of_front(alloc, &record[..len], parts)?;
+        let report = report_of_front(rt, alloc, &record[..len], parts)?;
         if report != previous {
             out.count("\n  from ", len as u64);
             out.text(" bytes on:");
@@ -44,17 +57,23 @@ pub(crate) fn each_truncation(
 }
 
 /// What comes of the run where these bytes stand behind the script.
-fn report_of_front(alloc: Global, front: &[u8], parts: &[&str]) -> Result<String, Refusal> {
+fn report_of_front<R: Threads + Wait + Sync>(
+    rt: &R,
+    alloc: Global,
+    front: &[u8],
+    parts: &[&str],
+) -> Result<String, Refusal> {
     let mut case = Case::of(alloc, parts)?;
     case.script.extend_from_slice(front)?;
     let mut report = Answer::new(alloc);
-    carry_out(alloc, &case, &mut report)?;
+    carry_out(rt, alloc, &case, &mut report)?;
     report.finish()
 }
 
 /// `both TEXT TEXT WORDS : PARTS`: how many bytes Graphite is given in the run with each of two settings files, and whether
 /// all that comes of the two runs is the same.
-pub(crate) fn by_both(
+pub(crate) fn by_both<R: Threads + Wait + Sync>(
+    rt: &R,
     alloc: Global,
     first: &str,
     second: &str,
@@ -63,16 +82,17 @@ pub(crate) fn by_both(
 ) -> Result<(), Refusal> {
     let mut case = Case::of(alloc, parts)?;
     case.settings = bytes_of(alloc, first)?;
-    let first = report_by(alloc, &case, usize::MAX, out)?;
+    let first = report_by(rt, alloc, &case, usize::MAX, out)?;
     case.settings = bytes_of(alloc, second)?;
-    let second = report_by(alloc, &case, usize::MAX, out)?;
+    let second = report_by(rt, alloc, &case, usize::MAX, out)?;
     show_alike(&first, &second, out);
     Ok(())
 }
 
 /// `slow MOST WORDS : PARTS`: how many bytes Graphite is given in the run, and in the same run where no read and no write
 /// takes more than so many bytes, and whether all that comes of the two runs is the same.
-pub(crate) fn by_slow(
+pub(crate) fn by_slow<R: Threads + Wait + Sync>(
+    rt: &R,
     alloc: Global,
     most: &str,
     parts: &[&str],
@@ -83,8 +103,8 @@ pub(crate) fn by_slow(
         return Err(Refusal::Condition);
     }
     let case = Case::of(alloc, parts)?;
-    let whole = report_by(alloc, &case, usize::MAX, out)?;
-    let slow = report_by(alloc, &case, most, out)?;
+    let whole = report_by(rt, alloc, &case, usize::MAX, out)?;
+    let slow = report_by(rt, alloc, &case, most, out)?;
     show_alike(&whole, &slow, out);
     Ok(())
 }
@@ -99,7 +119,13 @@ fn show_alike(first: &String, second: &String, out: &mut Answer) {
 }
 
 /// What comes of the run whose reads and writes take at most so many bytes. The number of Graphite's bytes is appended.
-fn report_by(alloc: Global, case: &Case, most: usize, out: &mut Answer) -> Result<String, Refusal>
+fn report_by<R: Threads + Wait + Sync>(
+    rt: &R,
+    alloc: Global,
+    case: &Case,
+    most: usize,
+    out: &mut Answer,
+) -> Result<String, Refusal>
     requires { 0 < most }
 {
     let mut world = case.world(alloc)?;
@@ -108,7 +134,7 @@ fn report_by(alloc: Global, case: &Case, most: usize, out: &mut Answer) -> Resul
     world.output.most = most;
     world.backs.graphite.most = most;
     world.backs.console.most = most;
-    let status = statsd(alloc, &case.words, &mut world);
+    let status = statsd(rt, alloc, &case.words, &mut world);
     out.count("\n  graphite ", bytes_in(&world.backs.graphite));
     let mut text = Answer::new(alloc);
     report(&status, &world, &mut text);

@@ -6,16 +6,27 @@ use sd_replay::ScriptFault;
 use sd_top::{Part, Status, explain};
 use std::alloc::Global;
 
-/// The object that a word names; a wire is `wire/NUMBER`.
+/// The object of a number.
+fn numbered_part_of(word: &str, place: u16) -> Result<Part, Refusal> {
+    match word {
+        "wire" => Ok(Part::Wire(place)),
+        "packets" => Ok(Part::Packets(place)),
+        _ => Err(Refusal::Malformed),
+    }
+}
+
+/// The object that a word names; a wire is `wire/NUMBER`, and a source `packets/NUMBER`.
 fn part_of(word: &str) -> Result<Part, Refusal> {
-    if let Some(("wire", wire)) = word.split_once('/') {
-        return Ok(Part::Wire(number(wire)?));
+    if let Some((word, place)) = word.split_once('/') {
+        return numbered_part_of(word, number(place)?);
     }
     match word {
         "settings" => Ok(Part::Settings),
         "script" => Ok(Part::Script),
         "graphite" => Ok(Part::Graphite),
         "console" => Ok(Part::Console),
+        "beat" => Ok(Part::Beat),
+        "door" => Ok(Part::Door),
         _ => Err(Refusal::Malformed),
     }
 }

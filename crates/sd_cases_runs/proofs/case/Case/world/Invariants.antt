@@ -1,5 +1,8 @@
-use Rattle.std.proofs.Common.{◌≡◌, length}
+use Rattle.std.proofs.Common.{◌≡◌}
+use Rattle.sd_outside.specs.MemBeat as beat
+use Rattle.sd_outside.specs.MemDoor as door
+use Rattle.sd_cases_runs.specs.Ready.{IsReady}
 use Rattle.sd_cases_runs.proofs.case.Case.world.Given as goal
 
 abbrev pub invariant-loop-failing : goal.invariant-loop-failing
-invariant-loop-failing l = length l.world.wires.items ≡ 256
+invariant-loop-failing l = IsReady door.seen_of beat.seen_of l.world

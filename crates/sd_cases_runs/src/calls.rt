@@ -1,0 +1,137 @@
+//! Calls that are to fail.
+ghost use Rattle.std.specs.Prelude.{◌≡◌, length};
+ghost use Rattle.sd_outside.specs.MemBeat.{seen_of as beat_seen};
+ghost use Rattle.sd_outside.specs.MemDoor.{seen_of as door_seen};
+
+use crate::case::MemWorld;
+use sd_case::{Refusal, number};
+use sd_outside::{MemDatagrams, MemWire};
+
+/// A call on an object.
+#[derive(Clone, Copy, Debug)]
+enum Call {
+    OpenSettings,
+    ReadSettings,
+    OpenScript,
+    ReadScript,
+    OpenSource { source: usize },
+    Next { source: usize },
+    OpenWire { wire: usize },
+    Send { wire: usize },
+    OpenGraphite,
+    Begin,
+    Write,
+    Finish,
+    OpenConsole,
+    BeginConsole,
+    WriteConsole,
+    FinishConsole,
+    OpenDoor,
+    NextSession,
+    NextTick,
+    WriteOutput,
+}
+
+/// A call that is to fail, by its number from 1.
+#[derive(Clone, Copy, Debug)]
+pub(crate) struct Failing {
+    call: Call,
+    number: u64,
+}
+
+impl Failing {
+    /// The call that is written as `CALL:NUMBER`.
+    pub(crate) fn of(text: &str) -> Result<Failing, Refusal> {
+        let (call, place) = text.split_once(':').ok_or(Refusal::Malformed)?;
+        Ok(Failing {
+            call: call_of(call)?,
+            number: number(place)?,
+        })
+    }
+}
+
+/// The call on the wire or the source of a number.
+fn numbered_call_of(call: &str, place: usize) -> Result<Call, Refusal> {
+    match call {
+        "open_source" => Ok(Call::OpenSource { source: place }),
+        "next" => Ok(Call::Next { source: place }),
+        "open_wire" => Ok(Call::OpenWire { wire: place }),
+        "send" => Ok(Call::Send { wire: place }),
+        _ => Err(Refusal::Malformed),
+    }
+}
+
+/// The call that a word names.
+fn call_of(word: &str) -> Result<Call, Refusal> {
+    if let Some((call, place)) = word.split_once('/') {
+        return numbered_call_of(call, number(place)?);
+    }
+    match word {
+        "open_settings" => Ok(Call::OpenSettings),
+        "read_settings" => Ok(Call::ReadSettings),
+        "open_script" => Ok(Call::OpenScript),
+        "read_script" => Ok(Call::ReadScript),
+        "open_graphite" => Ok(Call::OpenGraphite),
+        "begin" => Ok(Call::Begin),
+        "write" => Ok(Call::Write),
+        "finish" => Ok(Call::Finish),
+        "open_console" => Ok(Call::OpenConsole),
+        "begin_console" => Ok(Call::BeginConsole),
+        "write_console" => Ok(Call::WriteConsole),
+        "finish_console" => Ok(Call::FinishConsole),
+        "open_door" => Ok(Call::OpenDoor),
+        "next_session" => Ok(Call::NextSession),
+        "next_tick" => Ok(Call::NextTick),
+        "write_output" => Ok(Call::WriteOutput),
+        _ => Err(Refusal::Malformed),
+    }
+}
+
+/// The source of a number.
+fn source_at(sources: &mut [MemDatagrams], source: usize) -> Result<&mut MemDatagrams, Refusal> {
+    sources.get_mut(source).ok_or(Refusal::Malformed)
+}
+
+/// The wire of a number.
+fn wire_at(wires: &mut [MemWire], wire: usize) -> Result<&mut MemWire, Refusal> {
+    wires.get_mut(wire).ok_or(Refusal::Malformed)
+}
+
+/// Has a call fail.
+pub(crate) fn fail(world: &mut MemWorld, failing: Failing) -> Result<(), Refusal>
+    ensures packets { length (world.new).packets.items ≡ length (world.old).packets.items }
+    ensures wires { length (world.new).wires.items ≡ length (world.old).wires.items }
+    ensures beat { beat_seen (world.new).beat ≡ beat_seen (world.old).beat }
+    ensures door { door_seen (world.new).door ≡ door_seen (world.old).door }
+{
+    let number = failing.number;
+    match failing.call {
+        Call::OpenSettings => world.settings.fail_open.push(number)?,
+        Call::ReadSettings => world.settings.fail_call.push(number)?,
+        Call::OpenScript => world.script.fail_open.push(number)?,
+        Call::ReadScript => world.script.fail_call.push(number)?,
+        Call::OpenSource { source } => {
+            source_at(&mut world.packets, source)?
+                .fail_open
+                .push(number)?;
+        }
+        Call::Next { source } => source_at(&mut world.packets, source)?
+            .fail_call
+            .push(number)?,
+        Call::OpenWire { wire } => wire_at(&mut world.wires, wire)?.fail_open.push(number)?,
+        Call::Send { wire } => wire_at(&mut world.wires, wire)?.fail_call.push(number)?,
+        Call::OpenGraphite => world.backs.graphite.fail_open.push(number)?,
+        Call::Begin => world.backs.graphite.fail_begin.push(number)?,
+        Call::Write => world.backs.graphite.fail_call.push(number)?,
+        Call::Finish => world.backs.graphite.fail_finish.push(number)?,
+        Call::OpenConsole => world.backs.console.fail_open.push(number)?,
+        Call::BeginConsole => world.backs.console.fail_begin.push(number)?,
+        Call::WriteConsole => world.backs.console.fail_call.push(number)?,
+        Call::FinishConsole => world.backs.console.fail_finish.push(number)?,
+        Call::OpenDoor => world.door.fail_open.push(number)?,
+        Call::NextSession => world.door.fail_call.push(number)?,
+        Call::NextTick => world.beat.fail_call.push(number)?,
+        Call::WriteOutput => world.output.fail_call.push(number)?,
+    }
+    Ok(())
+}

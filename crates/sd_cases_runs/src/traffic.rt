@@ -1,0 +1,179 @@
+//! What a server of a case is given.
+ghost use Rattle.std.specs.Prelude.{◌≡◌, ◌≤◌, All, IfOk, false, length, vec_len};
+ghost use Rattle.sd_model_outside.specs.Turns.{most_datagram};
+ghost use Rattle.sd_outside.specs.MemBeat.{seen_of as beat_seen};
+ghost use Rattle.sd_outside.specs.MemDoor.{seen_of as door_seen};
+ghost use Rattle.sd_outside.specs.MemSessions.{HasNoFaults};
+
+use sd_case::{Refusal, bytes_of, number};
+use sd_outside::{MemBeat, MemClock, MemDatagrams, MemDoor, MemSink, MemSource};
+use std::alloc::Global;
+
+/// How many sources a run has.
+const SOURCES: usize = 16;
+
+/// How many bytes a datagram has at most.
+const MOST_DATAGRAM: usize = 65_507;
+
+/// For how many bytes of replies each session has room.
+const ROOM: usize = 1 << 16;
+
+/// A datagram that a source gives.
+#[derive(Debug, Drop)]
+struct Sent {
+    source: usize,
+    datagram: Vec<u8>,
+}
+
+/// A read of a session's source that is to fail, by its number from 1.
+#[derive(Clone, Copy, Debug)]
+struct Unread {
+    session: usize,
+    read: u64,
+}
+
+/// Datagrams, ticks and sessions, and the moment of the clock.
+#[derive(Debug, Drop)]
+pub(crate) struct Traffic {
+    sent: Vec<Sent>,
+    ticks: Vec<u64>,
+    sessions: Vec<Vec<u8>>,
+    unread: Vec<Unread>,
+    now: u64,
+}
+
+/// The source that a word names by its number.
+fn source_of(word: &str) -> Result<usize, Refusal> {
+    let source = number(word)?;
+    if source < SOURCES {
+        Ok(source)
+    } else {
+        Err(Refusal::Malformed)
+    }
+}
+
+impl Traffic {
+    /// None, at the moment 1000.
+    pub(crate) fn none(alloc: Global) -> Traffic {
+        Traffic {
+            sent: Vec::new(alloc),
+            ticks: Vec::new(alloc),
+            sessions: Vec::new(alloc),
+            unread: Vec::new(alloc),
+            now: 1000,
+        }
+    }
+
+    /// Takes a part: a datagram `packet=SOURCE/TEXT`, `counted=SOURCE/COUNT/NAME` for the datagrams `NAME:I|c` with I from 1 on,
+    /// `tick=SECOND`, `session=TEXT`, `unread=SESSION/READ` for a read that is to fail, or the moment `clock=SECOND`.
+    ///
+    /// # Errors
+    ///
+    /// `Malformed` where the part is of no form, and `OutOfMemory`.
+    pub(crate) fn set(&mut self, alloc: Global, name: &str, value: &str) -> Result<(), Refusal> {
+        match name {
+            "packet" => {
+                let (source, text) = value.split_once('/').ok_or(Refusal::Malformed)?;
+                let source = source_of(source)?;
+                let datagram = bytes_of(alloc, text)?;
+                self.sent.push(Sent { source, datagram })?;
+            }
+            "counted" => self.push_counted(alloc, value)?,
+            "tick" => self.ticks.push(number(value)?)?,
+            "session" => self.sessions.push(bytes_of(alloc, value)?)?,
+            "unread" => {
+                let (session, read) = value.split_once('/').ok_or(Refusal::Malformed)?;
+                let (session, read) = (number(session)?, number(read)?);
+                self.unread.push(Unread { session, read })?;
+            }
+            "clock" => self.now = number(value)?,
+            _ => return Err(Refusal::Malformed),
+        }
+        Ok(())
+    }
+
+    /// Appends the datagrams that `SOURCE/COUNT/NAME` stands for.
+    fn push_counted(&mut self, alloc: Global, value: &str) -> Result<(), Refusal> {
+        let (source, rest) = value.split_once('/').ok_or(Refusal::Malformed)?;
+        let (count, name) = rest.split_once('/').ok_or(Refusal::Malformed)?;
+        let source = source_of(source)?;
+        for i in 1..=number::<u32>(count)? {
+            let datagram = format!(in alloc; "{name}:{i}|c")?.into_bytes();
+            self.sent.push(Sent { source, datagram })?;
+        }
+        Ok(())
+    }
+
+    /// The datagrams of the source of a number.
+    fn datagrams(&self, alloc: Global, source: usize) -> Result<Vec<Vec<u8>>, Refusal>
+        ensures { IfOk result (λ packets. All (λ packet. vec_len packet ≤ most_datagram) packets.items) }
+    {
+        let mut packets = Vec::new(alloc);
+        for sent in &self.sent {
+            if sent.source == source {
+                packets.push(sent.datagram.clone()?)?;
+            }
+        }
+        if packets.iter().all(|packet| packet.len() <= MOST_DATAGRAM) {
+            Ok(packets)
+        } else {
+            Err(Refusal::Condition)
+        }
+    }
+
+    /// The sources of the run.
+    pub(crate) fn sources(&self, alloc: Global) -> Result<Vec<MemDatagrams>, Refusal>
+        ensures { IfOk result (λ sources. length sources.items ≡ 16) }
+    {
+        let mut sources = Vec::new(alloc);
+        for source in 0..SOURCES {
+            sources.push(MemDatagrams::of(self.datagrams(alloc, source)?))?;
+        }
+        Ok(sources)
+    }
+
+    /// The beat of the run.
+    pub(crate) fn beat(&self) -> Result<MemBeat, Refusal>
+        ensures { IfOk result (λ beat. (beat_seen beat).turns ≡ 0) }
+    {
+        Ok(MemBeat::of(self.ticks.clone()?))
+    }
+
+    /// The reads of the session of a number that are to fail.
+    fn unread_of(&self, alloc: Global, session: usize) -> Result<Vec<u64>, Refusal> {
+        let mut reads = Vec::new(alloc);
+        for unread in &self.unread {
+            if unread.session == session {
+                reads.push(unread.read)?;
+            }
+        }
+        Ok(reads)
+    }
+
+    /// The two ends of the session of a number.
+    fn ends(&self, alloc: Global, session: usize) -> Result<(MemSource, MemSink), Refusal>
+        ensures { IfOk result HasNoFaults }
+    {
+        let asked = self.sessions.get(session).ok_or(Refusal::Malformed)?;
+        let mut source = MemSource::of(asked.clone()?);
+        source.fail_call = self.unread_of(alloc, session)?;
+        Ok((source, MemSink::open(alloc, ROOM)?))
+    }
+
+    /// The door of the run.
+    pub(crate) fn door(&self, alloc: Global) -> Result<MemDoor, Refusal>
+        ensures none_out { IfOk result (λ door. (door_seen door).is_out ≡ false) }
+        ensures turns { IfOk result (λ door. (door_seen door).turns ≡ 0) }
+    {
+        let mut given = Vec::new(alloc);
+        for session in 0..self.sessions.len() {
+            given.push(self.ends(alloc, session)?)?;
+        }
+        Ok(MemDoor::open(given)?)
+    }
+
+    /// The clock of the run.
+    pub(crate) fn clock(&self) -> MemClock {
+        MemClock::of(self.now)
+    }
+}
