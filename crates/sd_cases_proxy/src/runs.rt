@@ -1,0 +1,63 @@
+//! Runs of the proxy.
+use crate::packing::{MOST_BYTES, output_of, source_of, wires_of};
+use crate::rings::ring_of;
+use sd_case::{Answer, Refusal, number};
+use sd_outside::{Ended, MemDatagrams, MemSink, MemWire};
+use sd_proxy::proxy;
+use std::alloc::Global;
+
+/// `proxy NODES CACHE UP STEPS`: how a run with these nodes up ends, what its wires have, and its totals.
+pub fn run(
+    alloc: Global,
+    nodes: &str,
+    cache: &str,
+    up: &str,
+    steps: &[&str],
+    out: &mut Answer,
+) -> Result<(), Refusal> {
+    let mut ring = ring_of(alloc, nodes, cache)?;
+    let mut source = source_of(alloc, steps)?;
+    let mut wires = wires_of(alloc, ring.nodes().len(), steps)?;
+    let mut output = output_of(alloc, steps)?;
+    let mut buf = Vec::from_elem(alloc, b'.', MOST_BYTES)?;
+    let got = proxy(&mut ring, &mut source, &mut wires, &mut buf, number(up)?);
+    show_end(got.ended, &source, out);
+    for (place, wire) in wires.iter().enumerate() {
+        show_wire(place, wire, out);
+    }
+    let written = got.totals.write(&mut output);
+    show_output(&output, written.is_ok(), out);
+    Ok(())
+}
+
+fn show_end(ended: Ended, source: &MemDatagrams, out: &mut Answer) {
+    out.step("ended");
+    match ended {
+        Ended::End => out.text("end"),
+        Ended::Failed => out.text("failed"),
+        Ended::Stopped { rounds } => out.count("stopped ", rounds),
+        Ended::Worn { turns } => out.count("worn ", turns),
+    }
+    out.count("; source turns ", source.turns());
+    out.count(" faults ", source.faults());
+    out.count(" left ", source.remaining().len() as u64);
+}
+
+/// Appends what a wire has, unless it has no packet and no faults.
+fn show_wire(place: usize, wire: &MemWire, out: &mut Answer) {
+    if wire.packets() == 0 && wire.faults() == 0 {
+        return;
+    }
+    out.count("\n  wire ", place as u64);
+    out.count(": faults ", wire.faults());
+    for at in 0..wire.packets() {
+        out.text(" ");
+        out.bytes(wire.packet(at));
+    }
+}
+
+fn show_output(output: &MemSink, written: bool, out: &mut Answer) {
+    out.step("written");
+    out.yes_or_no(written);
+    out.lines(output.bytes());
+}

@@ -1,0 +1,4 @@
+pub mod RouteLemmas
+pub mod SendLemmas
+pub mod TotalLemmas
+pub mod WireTotals

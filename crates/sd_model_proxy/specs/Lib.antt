@@ -1,0 +1,4 @@
+pub mod Routes
+pub mod Sends
+pub mod Totals
+pub mod Relays

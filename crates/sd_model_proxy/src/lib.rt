@@ -1,0 +1,11 @@
+//! The definitions of a proxy: where each line of a datagram goes, what that does to the wires of the nodes, and what is
+//! counted. The functions have no code, and each states a law of the definitions.
+#![tactic(auto)]
+
+mod routes;
+mod sends;
+mod totals;
+
+pub use routes::{all_up_all_owned, lines_go_to_owners};
+pub use sends::{wires_have_their_lines, wires_lack_by_faults};
+pub use totals::{lines_have_one_fate, totals_add_up, wires_add_up};

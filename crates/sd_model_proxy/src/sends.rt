@@ -1,0 +1,18 @@
+ghost use Rattle.std.specs.Prelude.{◌≡◌, ℕ, List, ◌++◌};
+ghost use Rattle.sd_model_outside.specs.Outside.{Object, Packets, RoseBy, Used};
+ghost use Rattle.sd_model_proxy.specs.Sends.{AfterSends, WireSend, failed_among, packets_of};
+
+/// A wire that tells its packets has those that were sent behind those that it had, in order, but for those whose send failed.
+pub fn wires_have_their_lines()
+    ensures { (sends : List WireSend) (packets : List (List ℕ)) (old new : Object)
+        → old.told ≡ Packets packets → AfterSends sends old new → new.told ≡ Packets (packets ++ packets_of sends) }
+{}
+
+/// A wire lacks at most as many packets as its count of faults rose by; where no send failed, the count stayed. It is where it
+/// was opened.
+pub fn wires_lack_by_faults()
+    ensures rose { (sends : List WireSend) (old new : Object) → AfterSends sends old new → RoseBy (failed_among sends) old.faults new.faults }
+    ensures steady { (sends : List WireSend) (old new : Object)
+        → AfterSends sends old new → failed_among sends ≡ 0 → new.faults ≡ old.faults }
+    ensures used { (sends : List WireSend) (old new : Object) → AfterSends sends old new → Used old new }
+{}

@@ -1,0 +1,131 @@
+-- What a receiver of a proxy did, one turn of its source after another.
+use Rattle.std.proofs.Common.{◌≡◌, ◌∙◌, ℕ, ◌+◌, ◌<◌, ◌≤◌, min, List, [], ◌∷◌, ◌++◌, length, length-append, append-nil, map, refl, sym, ap, subst, arith}
+use Rattle.std.specs.Prelude.{All, flat_map}
+use Rattle.std.proofs.lemmas.List.{map-append}
+use Rattle.std.proofs.lemmas.List.Concat.{flat_map-append, flat_map-cons}
+use Rattle.std.proofs.lemmas.List.Elements.{All-nil, All-cons, All-append}
+use Rattle.sd_model_outside.specs.Outside.{Object, Told, Datagrams, HasFailed, Rose, last_count, raised}
+use Rattle.sd_model_outside.specs.Turns.{GivesDatagram, IsSpent, turned, with_datagrams}
+use Rattle.sd_model_outside.proofs.TurnLemmas.{with_datagrams-append}
+use Rattle.sd_model_settings.specs.Entries.{Node}
+use Rattle.sd_model_serve.specs.Ends.{EndsReceiver, most_turns}
+use Rattle.sd_model_proxy.specs.Routes.{Read, lines_of_read}
+use Rattle.sd_model_proxy.specs.Totals.{ProxyTotals, no_totals}
+use Rattle.sd_proxy.specs.Forwarding.{Forwards}
+use Rattle.sd_proxy.specs.Proxying.{Proxies}
+use Rattle.sd_proxy.specs.Views.{end_view, totals_view}
+use Rattle.sd_outside.specs.declared.datagrams.Ended.{Ended}
+use Rattle.sd_proxy.specs.declared.proxied.Proxied.{Proxied}
+use Rattle.sd_proxy.specs.declared.totals.ProxyTotals as code
+use Rattle.sd_proxy.proofs.ForwardLemmas.{Forwards-none, Forwards-next}
+
+-- a source gave no datagram
+with_datagrams-nil : (told : Told) → told ≡ with_datagrams [] told
+with_datagrams-nil (Datagrams left) = refl
+with_datagrams-nil told = refl
+
+-- what a receiver did in so many turns of its source, in which the source didn't fail
+pub record Ran (nodes : List Node) (up : ℕ) (source source_now : Object) (took : ℕ) (wires wires_now : List Object) (totals : ProxyTotals) : Type 0 where
+  pub reads : List Read
+  pub under : All (λ r. r.up ≡ up) reads
+  pub forwards : Forwards nodes (length reads) (flat_map lines_of_read reads) wires wires_now no_totals totals
+  pub given : source.told ≡ with_datagrams (map (λ x. x.datagram) reads) source_now.told
+  pub turns : source_now.turns ≡ min (source.turns + took) last_count
+  pub many : length reads ≤ took
+  pub faults : source_now.faults ≡ source.faults
+  pub same : source_now ≡ record source { told = source_now.told; faults = source_now.faults; turns = source_now.turns }
+
+pub ran_first : (nodes : List Node) (up : ℕ) (source : Object) (wires : List Object) (t : ProxyTotals) → source.turns ≤ last_count → t ≡ no_totals → Ran nodes up source source 0 wires wires t
+ran_first nodes up source wires t fits none = record {
+  reads = [];
+  under = All-nil (λ (r : Read). r.up ≡ up);
+  forwards = Forwards-none nodes 0 wires no_totals t none;
+  given = with_datagrams-nil source.told;
+  turns = omega (arith, fits);
+  many = omega arith;
+  faults = refl;
+  same = refl;
+}
+
+-- a source that is as it was
+pub same_faults : (old new : Object) → new ≡ old → new ≡ record old { faults = new.faults }
+same_faults old new last = last ∙ ap (λ (o : Object). record old { faults = o.faults }) (sym last)
+
+module _ (nodes : List Node) (up : ℕ) (source mid now : Object) (took : ℕ) where
+  -- nothing else of a source changed
+  abbrev Same : Object → Object → Type 0
+  Same old new = new ≡ record old { told = new.told; faults = new.faults; turns = new.turns }
+
+  same_next : Same source mid → Same mid now → Same source now
+  same_next first second = second ∙ ap (λ (o : Object). record o { told = now.told; faults = now.faults; turns = now.turns }) first
+
+  same_given : (datagram : List ℕ) → GivesDatagram datagram mid now → Same mid now
+  same_given datagram gives = ap (λ (o : Object). record o { told = now.told; faults = now.faults; turns = now.turns }) (sym gives)
+
+  -- a turn that gave a datagram, whose lines were sent
+  pub ran_read : (datagram : List ℕ) (wires wires_mid wires_now : List Object) (t t_now : ProxyTotals) → Ran nodes up source mid took wires wires_mid t → GivesDatagram datagram mid now
+      → Forwards nodes 1 (lines_of_read (record { datagram = datagram; up = up })) wires_mid wires_now t t_now → Ran nodes up source now (took + 1) wires wires_now t_now
+  ran_read datagram wires wires_mid wires_now t t_now ran gives forwards =
+      let read : Read = record { datagram = datagram; up = up } in
+      let told : mid.told ≡ with_datagrams (datagram ∷ []) now.told = ap (λ (o : Object). o.told) gives in
+      let datagrams : List Read → List (List ℕ) = map (λ (x : Read). x.datagram) in
+      let one : flat_map lines_of_read (read ∷ []) ≡ lines_of_read read = flat_map-cons lines_of_read read [] ∙ append-nil (lines_of_read read) in
+      let count : length (ran.reads ++ read ∷ []) ≡ length ran.reads + 1 = length-append ran.reads (read ∷ []) in
+      let turn : raised mid.turns ≡ now.turns = ap (λ (o : Object). o.turns) gives in
+      record {
+        reads = ran.reads ++ read ∷ [];
+        under = All-append (λ (r : Read). r.up ≡ up) ran.reads (read ∷ []) ran.under (All-cons (λ (r : Read). r.up ≡ up) read [] refl (All-nil (λ (r : Read). r.up ≡ up)));
+        forwards = subst (λ (z : ℕ × List (List ℕ × ℕ)). Forwards nodes z.0 z.1 wires wires_now no_totals t_now)
+            (λ i. (sym count i, (ap (λ ls. flat_map lines_of_read ran.reads ++ ls) (sym one) ∙ sym (flat_map-append lines_of_read ran.reads (read ∷ []))) i))
+            (Forwards-next nodes (length ran.reads) 1 (flat_map lines_of_read ran.reads) (lines_of_read read) wires wires_mid wires_now no_totals t t_now ran.forwards forwards);
+        given = ran.given ∙ ap (with_datagrams (datagrams ran.reads)) told ∙ with_datagrams-append now.told (datagrams ran.reads) (datagram ∷ [])
+            ∙ ap (λ ds. with_datagrams ds now.told) (sym (map-append (λ (x : Read). x.datagram) ran.reads (read ∷ [])));
+        turns = omega (arith, turn, ran.turns);
+        many = omega (arith, count, ran.many);
+        faults = ap (λ (o : Object). o.faults) (sym gives) ∙ ran.faults;
+        same = same_next ran.same (same_given datagram gives);
+      }
+
+  -- a turn that gave nothing
+  pub ran_idle : (wires wires_now : List Object) (t : ProxyTotals) → Ran nodes up source mid took wires wires_now t → now ≡ turned mid → Ran nodes up source now (took + 1) wires wires_now t
+  ran_idle wires wires_now t ran idle =
+      let turn : now.turns ≡ raised mid.turns = ap (λ (o : Object). o.turns) idle in
+      record {
+        reads = ran.reads;
+        under = ran.under;
+        forwards = ran.forwards;
+        given = ran.given ∙ ap (λ (o : Object). with_datagrams (map (λ (x : Read). x.datagram) ran.reads) o.told) (sym idle);
+        turns = omega (arith, turn, ran.turns);
+        many = omega (arith, ran.many);
+        faults = ap (λ (o : Object). o.faults) idle ∙ ran.faults;
+        same = same_next ran.same (let back : turned mid ≡ now = sym idle in ap (λ (o : Object). record o { told = now.told; faults = now.faults; turns = now.turns }) (sym back));
+      }
+
+  -- how it ended: at most the count of the source's faults changed
+  pub ran_out : (wires wires_now : List Object) (ended : Ended) (t : code.ProxyTotals) (p : Proxied) → p.ended ≡ ended → p.totals ≡ t → Ran nodes up source mid took wires wires_now (totals_view t) → length wires ≡ length nodes
+      → now ≡ record mid { faults = now.faults } → EndsReceiver 0 (end_view ended) source now 0 took → Proxies nodes up source now wires wires_now p
+  ran_out wires wires_now ended t p so counts ran each last ends = record {
+    relay = record { reads = ran.reads; routed = ran.forwards.routed; ended = end_view ended };
+    under = ran.under;
+    relays = record {
+      given = ran.given ∙ ap (λ (o : Object). with_datagrams (map (λ (x : Read). x.datagram) ran.reads) o.told) (sym last);
+      lines = ran.forwards.lines_are;
+      each = each;
+      sends = ran.forwards.sends;
+      turned = took;
+      turns = ap (λ (o : Object). o.turns) last ∙ ran.turns;
+      many = ran.many;
+      ends = ends;
+      same = same_next ran.same (last ∙ ap (λ (o : Object). record mid { told = o.told; faults = now.faults; turns = o.turns }) (sym last));
+    };
+    totals = ap totals_view counts ∙ ran.forwards.counted;
+    ended = ap end_view so;
+  }
+
+  -- the source had nothing left
+  pub ends_spent : (wires wires_now : List Object) (t : ProxyTotals) → Ran nodes up source mid took wires wires_now t → now ≡ mid → IsSpent mid.told → took < most_turns → IsSpent now.told × (now.faults ≡ source.faults) × (0 < 0 → 0 < 0) × (took < most_turns)
+  ends_spent wires wires_now t ran last spent few = (subst (λ (o : Object). IsSpent o.told) (sym last) spent, ap (λ (o : Object). o.faults) last ∙ ran.faults, λ none. none, few)
+
+  -- the source failed
+  pub ends_failed : (wires wires_now : List Object) (t : ProxyTotals) → Ran nodes up source mid took wires wires_now t → HasFailed mid now → took < most_turns → Rose source.faults now.faults × (0 < 0 → 0 < 0) × (took < most_turns)
+  ends_failed wires wires_now t ran failed few = (subst (λ n. Rose n now.faults) ran.faults failed.rose, λ none. none, few)

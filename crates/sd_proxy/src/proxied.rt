@@ -1,0 +1,9 @@
+use crate::totals::ProxyTotals;
+use sd_outside::Ended;
+
+/// What a proxy did: how it ended, and what it counted. `Stopped` doesn't come.
+#[derive(Clone, Copy, Debug, PartialEq, Eq)]
+pub struct Proxied {
+    pub ended: Ended,
+    pub totals: ProxyTotals,
+}
