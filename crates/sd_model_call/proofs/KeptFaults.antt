@@ -11,7 +11,7 @@ use Rattle.sd_model_replay.specs.Replay.{deliveries, sendings}
 use Rattle.sd_model_replay.specs.Totals.{totals_after}
 use Rattle.sd_model_replay.specs.AccountingTheorem.{Seen, Course, AccountingTheorem, seen_at}
 use Rattle.sd_model_replay.specs.Ends.{End, Complete, Faulted, ReadFailed, WriteFailed, WornOut, OutputAfter}
-use Rattle.sd_model_call.specs.Words.{Form, Replay, Serve, Drill, form}
+use Rattle.sd_model_call.specs.Words.{Form, Replay, Serve, Proxy, Drill, form}
 use Rattle.sd_model_call.specs.Opening.{World, Opening, Part, OfSettings, OfScript, OfSource, OfBeat, OfWire, OfGraphite, OfConsole, OfDoor, IsOpened, IsUntouched, OnlySettings, UnusedStay, backend_openings, openings, part_in, started, wire_openings}
 use Rattle.sd_model_call.specs.Call.{Account, Answer, Done, NoMemory, NoForm, Misset, BadScript, NotOpened, NotRead, NotWritten, Worn, Answers, AnswersDrill, AnswersReplay, Accounts, IsScripted, OnlyOutput, NotBegun, TakesSettings, StopsAt, Ran}
 use Rattle.sd_model_outside.proofs.DeliveryLemmas.{all_counts}
@@ -197,6 +197,7 @@ module _ (old new : World) where
   kept_form None answer a asks theorem h = kept_all h.unused
   kept_form (Some (Replay name script)) answer a asks theorem h = kept_by name script answer a theorem h.0
   kept_form (Some (Serve name)) answer a asks theorem h = absurd asks
+  kept_form (Some (Proxy name)) answer a asks theorem h = absurd asks
   kept_form (Some (Drill n)) answer a asks theorem h = kept_drill n answer a h
 
 pub kept : (words : List (List ℕ)) (old new : World) (answer : Answer) → IsScripted (form words) → Accounts words old new answer → Kept old new

@@ -10,7 +10,7 @@ use Rattle.std.proofs.lemmas.Bool.Decides.{Decides-eqb, nat_tests}
 use Rattle.std.proofs.lemmas.Fmt.{decimal-digits_value, decimal_digit, digits_decimal, digits_value-decimal, first_decimal}
 use Rattle.std.proofs.lemmas.Slice.Eq.{slice_eq-Decides}
 use Rattle.sd_model_text.proofs.Digits.{numerals}
-use Rattle.sd_model_call.specs.Words.{Replay, Serve, Drill, drill_form, form, is_file_word, is_number_word, most_packets, packets_in, replay_form, serve_form}
+use Rattle.sd_model_call.specs.Words.{Replay, Serve, Proxy, Drill, drill_form, form, is_file_word, is_number_word, most_packets, packets_in, proxy_form, replay_form, serve_form}
 
 -- a choice that gives something only where its test is passed
 chosen : {A : Type 0} (b : Bool) (x : Option A) (y : A) → (if b then x else None) ≡ Some y → (b ≡ true) × (x ≡ Some y)
@@ -71,17 +71,24 @@ no_replay settings script n is =
 no_serve : (settings : List ℕ) (n : ℕ) → serve_form settings ≡ Some (Drill n) → ⊥
 no_serve settings n is = let taken = chosen (is_file_word settings) (Some (Serve settings)) (Drill n) is in absurd (cc)
 
+no_proxy : (settings : List ℕ) (n : ℕ) → proxy_form settings ≡ Some (Drill n) → ⊥
+no_proxy settings n is = let taken = chosen (is_file_word settings) (Some (Proxy settings)) (Drill n) is in absurd (cc)
+
+no_other : (b c : Bool) (settings : List ℕ) (n : ℕ) → (if b then serve_form settings else (if c then proxy_form settings else None)) ≡ Some (Drill n) → ⊥
+no_other true c settings n is = no_serve settings n is
+no_other false true settings n is = no_proxy settings n is
+no_other false false settings n is = absurd (cc)
+
 -- of two choices the first gave something that the second doesn't give
-chosen_first : {A : Type 0} (b c : Bool) (x z : Option A) (y : A) → (z ≡ Some y → ⊥) → (if b then x else (if c then z else None)) ≡ Some y → (b ≡ true) × (x ≡ Some y)
-chosen_first true c x z y other is = (refl, is)
-chosen_first false true x z y other is = absurd (other is)
-chosen_first false false x z y other is = absurd (cc)
+chosen_first : {A : Type 0} (b : Bool) (x z : Option A) (y : A) → (z ≡ Some y → ⊥) → (if b then x else z) ≡ Some y → (b ≡ true) × (x ≡ Some y)
+chosen_first true x z y other is = (refl, is)
+chosen_first false x z y other is = absurd (other is)
 
 pub drill_read : (words : List (List ℕ)) (n : ℕ) → form words ≡ Some (Drill n) → AreDrill words n
 drill_read [] n is = absurd (cc)
 drill_read (name ∷ []) n is = absurd (cc)
 drill_read (name ∷ packets ∷ []) n is =
-    let taken = chosen_first (pointwise ◌==◌ name (codes "drill")) (pointwise ◌==◌ name (codes "serve")) (drill_form packets) (serve_form packets) (Drill n) (no_serve packets n) is in
+    let taken = chosen_first (pointwise ◌==◌ name (codes "drill")) (drill_form packets) _ (Drill n) (no_other (pointwise ◌==◌ name (codes "serve")) (pointwise ◌==◌ name (codes "proxy")) packets n) is in
     let first : name ≡ codes "drill" = (slice_eq-Decides Decides-eqb name (codes "drill") _ refl).0 taken.0 in
     let read = packets_read packets n (drill_packets (packets_in packets) n taken.1) in (λ i. first i ∷ read.0 i ∷ [], read.1, read.2)
 drill_read (name ∷ settings ∷ script ∷ []) n is =

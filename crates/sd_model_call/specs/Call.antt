@@ -9,7 +9,7 @@ use Rattle.sd_model_replay.specs.AccountingTheorem.{Seen, Course, AccountingTheo
 use Rattle.sd_model_replay.specs.Next.{ScriptFlaw}
 use Rattle.sd_model_replay.specs.Ends.{End, Complete, Faulted, ReadFailed, WriteFailed, WornOut, EndsAs}
 use Rattle.sd_model_call.specs.Drill.{bytes_counted, drill_settings, drill_start, drill_text, drilled}
-use Rattle.sd_model_call.specs.Words.{Form, Replay, Serve, Drill, form}
+use Rattle.sd_model_call.specs.Words.{Form, Replay, Serve, Proxy, Drill, form}
 use Rattle.sd_model_call.specs.Opening.{Part, OfSettings, OfScript, OfSource, OfBeat, OfWire, OfGraphite, OfConsole, OfDoor, World, flags_of, IsFlawed, IsAccepted, FailsBehind, IsLeftOff, OnlySettings, openings, UnusedStay, OpensSome, FailsToOpen, started}
 
 -- How the program answers: all was done; no memory was left; the words are of no form; the settings have this flaw; the
@@ -170,19 +170,21 @@ pub record Refuses (answer : Answer) (a : Account) (old new : World) : Type 0 wh
   pub unused : new ≡ old
   pub not_begun : NotBegun a old new
 
--- Why the program answers so, by the form of its words. A server carries out no record of a script; of it there is an account
--- of its own.
+-- Why the program answers so, by the form of its words. A server and a proxy carry out no record of a script; of each there is an
+-- account of its own.
 abbrev pub Answers : Option Form → Answer → Account → World → World → Type 0
 Answers None answer a old new = Refuses answer a old new
 Answers (Some (Replay name script)) answer a old new = AnswersReplay name script answer a old new × (new.served ≡ old.served)
 Answers (Some (Serve name)) answer a old new = (a.course.played ≡ []) × (a.course.ahead ≡ [])
+Answers (Some (Proxy name)) answer a old new = (a.course.played ≡ []) × (a.course.ahead ≡ [])
 Answers (Some (Drill n)) answer a old new = AnswersDrill n answer a old new
 
--- the words are none that ask for the server
+-- the words are none that ask for the server or the proxy
 abbrev pub IsScripted : Option Form → Type 0
 IsScripted None = ⊤
 IsScripted (Some (Replay name script)) = ⊤
 IsScripted (Some (Serve name)) = ⊥
+IsScripted (Some (Proxy name)) = ⊥
 IsScripted (Some (Drill n)) = ⊤
 
 -- A call, by its words, what is seen of its objects before and after it, and its answer: whatever it answers, the

@@ -7,3 +7,4 @@ pub mod Words
 pub mod ServerOpening
 pub mod Server
 pub mod ServerCompleteness
+pub mod Proxy

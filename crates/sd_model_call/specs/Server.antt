@@ -10,7 +10,7 @@ use Rattle.sd_model_run.specs.Course.{Course}
 use Rattle.sd_model_run.specs.Run.{ServerTheorem}
 use Rattle.sd_model_replay.specs.Settings.{goes_by, limits_of, policy_of}
 use Rattle.sd_model_replay.specs.Totals.{Totals, totals_of, totals_text}
-use Rattle.sd_model_call.specs.Words.{Form, Replay, Serve, Drill}
+use Rattle.sd_model_call.specs.Words.{Form, Replay, Serve, Proxy, Drill}
 use Rattle.sd_model_call.specs.Opening.{OfSettings, OfSource, OfBeat, World, IsAccepted, flags_of}
 use Rattle.sd_model_call.specs.Call.{Answer, Done, NoMemory, Misset, NotOpened, NotRead, NotWritten, Worn, HasFlaw, FailsToRead, FailsToOpenSettings, LeavesOff}
 use Rattle.sd_model_call.specs.ServerOpening.{NotBegun, begun, objects_in, serves_by, settled}
@@ -96,4 +96,5 @@ abbrev pub AnswersServer : Option Form → (ℕ → Type 0) → Answer → World
 AnswersServer None says answer old new = ⊤
 AnswersServer (Some (Replay name script)) says answer old new = ⊤
 AnswersServer (Some (Serve name)) says answer old new = ServerAccounts name says answer old new
+AnswersServer (Some (Proxy name)) says answer old new = ⊤
 AnswersServer (Some (Drill n)) says answer old new = ⊤

@@ -5,11 +5,12 @@ use Rattle.std.specs.List.{list_all}
 use Rattle.std.specs.Cmp.Lexicographic.{pointwise}
 use Rattle.std.specs.Str.Parse.{digits_value}
 
--- What is to be done: a script to be carried out by a settings file; the server to be run by one; or the made script of so many
--- packets to be carried out.
+-- What is to be done: a script to be carried out by a settings file; the server or the proxy to be run by one; or the made script of
+-- so many packets to be carried out.
 pub data Form : Type 0 where
   Replay : (settings script : List ℕ) → Form
   Serve : (settings : List ℕ) → Form
+  Proxy : (settings : List ℕ) → Form
   Drill : (packets : ℕ) → Form
 
 -- a word that names a file: 1 to 255 bytes, the first of which isn't `-`
@@ -24,6 +25,10 @@ replay_form settings script = if is_file_word settings && is_file_word script th
 -- a server by the file that a word names
 abbrev pub serve_form : List ℕ → Option Form
 serve_form settings = if is_file_word settings then Some (Serve settings) else None
+
+-- a proxy by the file that a word names
+abbrev pub proxy_form : List ℕ → Option Form
+proxy_form settings = if is_file_word settings then Some (Proxy settings) else None
 
 -- how many packets a drill has at most
 abbrev pub most_packets : ℕ
@@ -46,13 +51,14 @@ drill_form packets = option_map Drill (packets_in packets)
 abbrev pub word_form : List ℕ → List ℕ → Option Form
 word_form name word =
     if pointwise ◌==◌ name (codes "drill") then drill_form word
-    else (if pointwise ◌==◌ name (codes "serve") then serve_form word else None)
+    else (if pointwise ◌==◌ name (codes "serve") then serve_form word
+    else (if pointwise ◌==◌ name (codes "proxy") then proxy_form word else None))
 
 -- what a name and two words ask for
 abbrev pub words_form : List ℕ → List ℕ → List ℕ → Option Form
 words_form name settings script = if pointwise ◌==◌ name (codes "replay") then replay_form settings script else None
 
--- `replay SETTINGS SCRIPT`, `serve SETTINGS` and `drill N`, and nothing else so far
+-- `replay SETTINGS SCRIPT`, `serve SETTINGS`, `proxy SETTINGS` and `drill N`, and nothing else
 abbrev pub form : List (List ℕ) → Option Form
 form [] = None
 form (name ∷ []) = None

@@ -65,13 +65,13 @@ by_files words settings script old new answer asked h stays =
       answers = subst (λ (f : Option Form). Answers f answer h.account old new) (sym asked) (h.answers, stays);
     }
 
--- they ask for the server, whose account is its own
-pub by_server : (words : List (List ℕ)) (name : List ℕ) (old new : World) (answer : Answer) → form words ≡ Some (Serve name) → Accounts words old new answer
-by_server words name old new answer asked =
+-- they ask for what carries out no record of a script, whose account is its own
+pub by_own : (words : List (List ℕ)) (asks : Form) (old new : World) (answer : Answer) → form words ≡ Some asks → Answers (Some asks) answer (idle_account new.seen) old new → Accounts words old new answer
+by_own words asks old new answer asked h =
     record {
       account = idle_account new.seen;
       theorem = nothing_done new.seen;
-      answers = subst (λ (f : Option Form). Answers f answer (idle_account new.seen) old new) (sym asked) (refl, refl);
+      answers = subst (λ (f : Option Form). Answers f answer (idle_account new.seen) old new) (sym asked) h;
     }
 
 -- too few words are of no form, and too many

@@ -4,3 +4,4 @@ mod OpeningLemmas
 mod SettingsLemmas
 mod WordsLemmas
 mod ServerLemmas
+mod ProxyLemmas

@@ -4,3 +4,4 @@ pub mod Status
 pub mod Words
 pub mod World
 pub mod Serving
+pub mod Relaying

@@ -4,6 +4,7 @@ ghost use Rattle.sd_model_replay.specs.Ends.{Replayed};
 ghost use Rattle.sd_model_call.specs.Opening.{flags_of, started};
 ghost use Rattle.sd_model_call.specs.Call.{Accounts};
 ghost use Rattle.sd_model_call.specs.Server.{AnswersServer};
+ghost use Rattle.sd_model_call.specs.Proxy.{AnswersProxy};
 ghost use Rattle.sd_model_call.specs.Words.{form};
 ghost use Rattle.sd_replay.specs.Ends.{end_of};
 ghost use Rattle.sd_top.specs.Answers.{answer_of};
@@ -12,6 +13,7 @@ ghost use Rattle.sd_top.specs.World.{world_of};
 
 use crate::drill::drill;
 use crate::opening::open_parts;
+use crate::proxy::proxy_files;
 use crate::server::serve_files;
 use crate::settings::read_settings;
 use crate::status::{Status, status_of};
@@ -134,10 +136,14 @@ pub fn statsd<
     ensures serving { AnswersServer (form (map (λ w. string_bytes w) words.now)) (T.may_say (world.old).clock) (answer_of result)
         (world_of R.seen O.seen B.seen D.seen L.seen E.seen P.seen world.old)
         (world_of R.seen O.seen B.seen D.seen L.seen E.seen P.seen world.new) }
+    ensures proxying { AnswersProxy (form (map (λ w. string_bytes w) words.now)) (answer_of result)
+        (world_of R.seen O.seen B.seen D.seen L.seen E.seen P.seen world.old)
+        (world_of R.seen O.seen B.seen D.seen L.seen E.seen P.seen world.new) }
 {
     match form_of(words) {
         Some(Form::Replay { settings, script }) => replay_files(alloc, settings, script, world),
         Some(Form::Serve { settings }) => serve_files(rt, alloc, settings, world),
+        Some(Form::Proxy { settings }) => proxy_files(alloc, settings, world),
         Some(Form::Drill { packets }) => drill(alloc, packets, &mut world.output),
         None => Status::Usage,
     }

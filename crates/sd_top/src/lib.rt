@@ -5,6 +5,7 @@ mod call;
 mod completeness;
 mod drill;
 mod opening;
+mod proxy;
 mod server;
 mod server_end;
 mod server_opening;

@@ -143,7 +143,7 @@ fn status_after(received: &[Ended], ends: &Ends) -> Status
 }
 
 /// The status of a run whose totals couldn't be written.
-fn cut(whole: Status) -> Status
+pub(crate) fn cut(whole: Status) -> Status
     ensures { answer_of result ≡ cut_answer (answer_of whole) }
 {
     match whole {

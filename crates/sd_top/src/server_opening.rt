@@ -19,7 +19,7 @@ use sd_plan::Target;
 use sd_replay::targets_of;
 
 /// An address on the network.
-fn host_address(host: &Name, port: u32) -> Address
+pub(crate) fn host_address(host: &Name, port: u32) -> Address
     requires { port < 2 ^ 16 }
     ensures { place_of result ≡ Host host.now.items port }
 {
@@ -34,7 +34,7 @@ fn host_address(host: &Name, port: u32) -> Address
 /// # Errors
 ///
 /// `OpenFault` where one failed, and `OutOfMemory`.
-fn open_sources<D: Datagrams>(
+pub(crate) fn open_sources<D: Datagrams>(
     first: u16,
     count: u16,
     at: &Address,

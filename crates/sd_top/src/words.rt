@@ -1,5 +1,5 @@
 ghost use Rattle.std.specs.Prelude.{◌≡◌, ◌≤◌, ◌<◌, length, map, string_bytes, option_map, true, IsTrue, IfSome};
-ghost use Rattle.sd_model_call.specs.Words.{drill_form, form, is_file_word as names_file, packets_in, replay_form, serve_form, word_form, words_form};
+ghost use Rattle.sd_model_call.specs.Words.{drill_form, form, is_file_word as names_file, packets_in, proxy_form, replay_form, serve_form, word_form, words_form};
 ghost use Rattle.sd_top.specs.Words.{form_view};
 
 use arrayvec::ArrayVec;
@@ -13,6 +13,8 @@ pub(crate) enum Form {
     Replay { settings: Name, script: Name },
     /// To run the server by a settings file.
     Serve { settings: Name },
+    /// To run the proxy by a settings file.
+    Proxy { settings: Name },
     /// To carry out the made script of so many packets.
     Drill { packets: u32 },
 }
@@ -64,6 +66,18 @@ fn server_of(settings: &str) -> Option<Form>
     })
 }
 
+/// A proxy by the file that a word names.
+fn proxy_of(settings: &str) -> Option<Form>
+    ensures { option_map form_view result ≡ proxy_form settings.now }
+{
+    if !is_file_word(settings) {
+        return None;
+    }
+    Some(Form::Proxy {
+        settings: name_of(settings),
+    })
+}
+
 /// How many packets a word asks for: 1 to 100,000, in decimal digits, the first of which isn't 0.
 fn packets_of(word: &str) -> Option<u32>
     ensures { result ≡ packets_in word.now }
@@ -91,6 +105,8 @@ fn word_of(name: &str, word: &str) -> Option<Form>
         drill_of(word)
     } else if name == "serve" {
         server_of(word)
+    } else if name == "proxy" {
+        proxy_of(word)
     } else {
         None
     }

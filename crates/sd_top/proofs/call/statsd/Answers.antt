@@ -1,9 +1,9 @@
-use Rattle.std.proofs.Common.{◌≡◌, Option, Some, map, string_bytes, sym, ap, ◌∙◌, option_map}
+use Rattle.std.proofs.Common.{◌≡◌, Option, Some, map, string_bytes, refl, sym, ap, ◌∙◌, option_map}
 use Rattle.sd_model_call.specs.Words as model
 use Rattle.sd_model_call.proofs.WordsLemmas.{drill_read}
 use Rattle.sd_top.specs.Words.{form_view}
 use Rattle.sd_top.specs.declared.words.Form.{Form}
-use Rattle.sd_top.proofs.CallLemmas.{by_words, by_files, by_server, by_drill}
+use Rattle.sd_top.proofs.CallLemmas.{by_words, by_files, by_own, by_drill}
 use Rattle.sd_top.proofs.call.statsd.Goals as goal
 
 -- what the words ask for, where it was told as this form
@@ -13,17 +13,22 @@ asked form told f g views some same = sym views ∙ ap (option_map form_view) so
 pub returns-in-None : goal.returns-in-None
 returns-in-None g c =
     let asks = sym c.form_of.ensures ∙ ap (option_map form_view) c.in-None.is in
-    record { accounting = by_words _ _ asks; serving = rw asks tt }
+    record { accounting = by_words _ _ asks; serving = rw asks tt; proxying = rw asks tt }
 
 pub returns-in-Some-Replay : goal.returns-in-Some-Replay
 returns-in-Some-Replay g c =
     let asks = asked _ _ _ _ c.form_of.ensures c.in-Some-Replay.is c.in-Some-Replay.field-0-is in
-    record { accounting = by_files _ _ _ _ _ _ asks c.replay_files.ensures.replay c.replay_files.ensures.served; serving = rw asks tt }
+    record { accounting = by_files _ _ _ _ _ _ asks c.replay_files.ensures.replay c.replay_files.ensures.served; serving = rw asks tt; proxying = rw asks tt }
 
 pub returns-in-Some-Serve : goal.returns-in-Some-Serve
 returns-in-Some-Serve g c =
     let asks = asked _ _ _ _ c.form_of.ensures c.in-Some-Serve.is c.in-Some-Serve.field-0-is in
-    record { accounting = by_server _ _ _ _ _ asks; serving = rw asks c.serve_files.ensures }
+    record { accounting = by_own _ _ _ _ _ asks (refl, refl); serving = rw asks c.serve_files.ensures; proxying = rw asks tt }
+
+pub returns-in-Some-Proxy : goal.returns-in-Some-Proxy
+returns-in-Some-Proxy g c =
+    let asks = asked _ _ _ _ c.form_of.ensures c.in-Some-Proxy.is c.in-Some-Proxy.field-0-is in
+    record { accounting = by_own _ _ _ _ _ asks (refl, refl); serving = rw asks tt; proxying = rw asks c.proxy_files.ensures }
 
 pub drill-requires-clause-some : goal.drill-requires-clause-some
 drill-requires-clause-some g c = (drill_read (map (λ w. string_bytes w) c.args.words.now) _ (asked _ _ _ _ c.form_of.ensures c.in-Some-Drill.is c.in-Some-Drill.field-0-is)).1
@@ -34,4 +39,4 @@ drill-requires-clause-most g c = (drill_read (map (λ w. string_bytes w) c.args.
 pub returns-in-Some-Drill : goal.returns-in-Some-Drill
 returns-in-Some-Drill g c =
     let asks = asked _ _ _ _ c.form_of.ensures c.in-Some-Drill.is c.in-Some-Drill.field-0-is in
-    record { accounting = by_drill _ _ _ _ _ asks c.drill.ensures; serving = rw asks tt }
+    record { accounting = by_drill _ _ _ _ _ asks c.drill.ensures; serving = rw asks tt; proxying = rw asks tt }
