@@ -1,12 +1,14 @@
--- What one more byte of a name adds to its key.
-use Rattle.std.proofs.Common.{◌≡◌, ℕ, Bool, true, false, cond, List, [], ◌∷◌, ◌++◌, length, take, filter, ◌==◌, ◌<◌, not, arith, length-take, ap, refl}
+-- What one more byte of a name adds to its key, and names that are keys as they stand.
+use Rattle.std.proofs.Common.{◌≡◌, ℕ, Bool, true, false, cond, List, [], ◌∷◌, ◌++◌, length, take, filter, ◌==◌, ◌<◌, ◌≤◌, not, arith, length-take, ap, refl, ◌∙◌, Ok}
 use Rattle.std.specs.Bool.{then_some}
+use Rattle.std.specs.List.{list_all}
 use Rattle.std.specs.Option.{option_to_list}
 use Rattle.std.proofs.lemmas.List.{map-append, take_all, take-append-le, length_push}
 use Rattle.std.proofs.lemmas.List.Elements.{filter-append}
-use Rattle.std.proofs.lemmas.List.Sums.{fold_push}
+use Rattle.std.proofs.lemmas.List.Sums.{AllPass-from_list_all, fold_push}
 use Rattle.sd_model_text.specs.Lists.{is_white_space}
-use Rattle.sd_model_text.specs.Names.{is_name_byte, underscored, dashed, cleaned}
+use Rattle.sd_model_text.specs.Names.{as_key, clean, is_name_byte, underscored, dashed, cleaned}
+use Rattle.sd_model_text.proofs.NamesLemmas.{as_key-fits, cleaned-names}
 use Rattle.sd_key.specs.Clean.{ends_blank}
 
 -- what that byte adds
@@ -79,3 +81,7 @@ take-push_room n xs x room =
 -- and no more goes on it then
 pub take-push_full : (n : ℕ) (xs : List ℕ) (x : ℕ) → length (take n xs) ≡ n → take n (xs ++ x ∷ []) ≡ take n xs
 take-push_full n xs x full = take-append-le n xs (x ∷ []) (omega (arith, length-take n xs))
+
+-- a name of so many bytes that a key may have is its own key
+pub stands : (name : List ℕ) → list_all is_name_byte name ≡ true → 0 < length name → length name ≤ 255 → clean name ≡ Ok name
+stands name names some short = ap as_key (cleaned-names name (AllPass-from_list_all is_name_byte name names)) ∙ as_key-fits name some short

@@ -1,4 +1,5 @@
-ghost use Rattle.std.specs.Prelude.{◌≡◌, ◌<◌, ℕ, List, [], ◌∷◌, ◌++◌, length, Ok, Err, IfOk, IfErr};
+ghost use Rattle.std.specs.Prelude.{◌≡◌, ◌<◌, ℕ, List, [], ◌∷◌, ◌++◌, length, Ok, Err, IfOk, IfErr, IfSome};
+ghost use Rattle.std.specs.List.{list_all};
 ghost use Rattle.std.specs.Option.{option_to_list};
 ghost use Rattle.sd_model_text.specs.Lists.{is_white_space};
 ghost use Rattle.sd_model_text.specs.Names.{clean, cleaned, is_name_byte};
@@ -23,6 +24,36 @@ pub enum KeyFault {
 ///
 /// `Empty` where no byte is left, and `Long` where more than 255 are.
 pub fn clean(name: &[u8]) -> Result<Key, KeyFault>
+    ensures ok { IfOk result (λ key. clean name.now ≡ Ok key) }
+    ensures some { IfOk result (λ key. 0 < length key) }
+    ensures err { IfErr result (λ fault. clean name.now ≡ Err (fault_of fault)) }
+{
+    match key_as_it_stands(name) {
+        Some(key) => Ok(key),
+        None => clean_each(name),
+    }
+}
+
+/// The key of a name that has a byte and is its own key, as most names are: that costs less than to clean each byte.
+fn key_as_it_stands(name: &[u8]) -> Option<Key>
+    ensures key { IfSome result (λ key. clean name.now ≡ Ok key) }
+    ensures some { IfSome result (λ key. 0 < length key) }
+{
+    if name.is_empty() || !is_clean(name) {
+        return None;
+    }
+    Key::of(name)
+}
+
+/// Whether a key may have each byte of a name.
+fn is_clean(name: &[u8]) -> bool
+    ensures { result ≡ list_all is_name_byte name.now }
+{
+    name.iter().all(|b| is_name_byte(*b))
+}
+
+/// The key of a name, byte by byte.
+fn clean_each(name: &[u8]) -> Result<Key, KeyFault>
     ensures ok { IfOk result (λ key. clean name.now ≡ Ok key) }
     ensures some { IfOk result (λ key. 0 < length key) }
     ensures err { IfErr result (λ fault. clean name.now ≡ Err (fault_of fault)) }

@@ -42,6 +42,14 @@ impl Key {
         }
     }
 
+    /// Takes the bytes of another key in the place of its own.
+    pub fn clone_from(&mut self, source: &Key)
+        ensures { self.new ≡ source.now }
+    {
+        self.bytes.clear();
+        self.bytes.try_extend_from_slice(source.as_slice()).unwrap();
+    }
+
     /// The bytes.
     pub fn as_slice(&self) -> &[u8]
         ensures bytes { result.now ≡ self.now }

@@ -1,3 +1,5 @@
+ghost use Rattle.std.specs.Prelude.{◌≡◌};
+
 use arrayvec::ArrayVec;
 use sd_decimal::Micro;
 use sd_key::{Key, Kind};
@@ -28,4 +30,21 @@ impl Model for Sample {
     ghost view = { sample_view };
 
     ghost invariant = { IsSample };
+}
+
+impl Sample {
+    /// Takes the parts of another sample in the place of its own. It copies no more bytes than key and member have.
+    pub fn clone_from(&mut self, source: &Sample)
+        ensures { self.new ≡ source.now }
+    {
+        self.kind = source.kind;
+        self.key.clone_from(&source.key);
+        self.value = source.value;
+        self.rate = source.rate;
+        self.signed = source.signed;
+        self.member.clear();
+        self.member
+            .try_extend_from_slice(source.member.as_slice())
+            .unwrap();
+    }
 }

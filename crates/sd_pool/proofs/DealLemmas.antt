@@ -15,7 +15,7 @@ use Rattle.sd_pool.specs.Noted.{acts}
 use Rattle.sd_pool.specs.Behind.{setup_of}
 use Rattle.sd_pool.specs.TurnSeats.{AreSeatsOf}
 use Rattle.sd_pool.specs.Along.{Along}
-use Rattle.sd_pool.specs.Pool.{OwnTurn, OwnSeat, turns_in, no_setup, setup_in, setup_at, receivers_of, HasRoom, HasRoomForOne, IsPool, IsRoomOf, IsSeatOf, IsNewSeatOf, who_is}
+use Rattle.sd_pool.specs.Pool.{OwnTurn, OwnSeat, turns_in, no_setup, setup_in, setup_at, receivers_of, HasRoom, HasPlaceForOne, HasRoomForOne, IsPool, IsRoomOf, IsSeatOf, IsNewSeatOf, who_is}
 use Rattle.sd_pool.specs.Dealing.{the_setup, IsNew, Given, IsDealt, AreDealt, AreSetUp}
 use Rattle.sd_pool.specs.declared.pool.Pool.{Pool}
 use Rattle.sd_pool.specs.declared.pool.ShardTurn.{ShardTurn}
@@ -42,7 +42,7 @@ dealt_more turns t r n o m s is given named new = record {
   seats = subst (λ (ts : List OwnTurn). AreSeatsOf ts m.seats.items n) (sym (map_push (λ (u : ShardTurn). u.turn) turns t))
       (subst (λ (ss : List OwnSeat). AreSeatsOf (turns_in turns ++ t.turn ∷ []) ss n) (sym given.1) (AreSeatsOf-push (turns_in turns) o.seats.items n t.turn s is.seats new.0 named));
   new = subst (AllByRecursion IsNew) (sym given.1) (All-push IsNew o.seats.items s is.new (new.1, new.2));
-  samples = subst HasRoomForOne (sym given.2) is.samples;
+  samples = subst HasPlaceForOne (sym given.2) is.samples;
   patterns = subst HasRoomForOne (sym given.3) is.patterns;
 }
 

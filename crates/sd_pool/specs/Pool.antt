@@ -96,10 +96,14 @@ pub record Sits (pool : Pool) (caller : ℕ) (all : List OwnSeat) : Type 0 where
 abbrev pub HasRoomForOne : {X : Type 0} → Vec X Global → Type 0
 HasRoomForOne list = (list.items ≡ []) × (1 ≤ vec_capacity list)
 
+-- there is room for one, which may be there
+abbrev pub HasPlaceForOne : {X : Type 0} → Vec X Global → Type 0
+HasPlaceForOne list = (length list.items ≤ 1) × (1 ≤ vec_capacity list)
+
 -- The seat is one of this pool's.
 pub record IsSeatOf (pool : Pool) (seat : Seat) : Type 0 where
   pub sits : Sits pool seat.who.0 seat.seats.items
-  pub samples : HasRoomForOne seat.samples
+  pub samples : HasPlaceForOne seat.samples
   pub patterns : HasRoomForOne seat.patterns
 
 -- the caller

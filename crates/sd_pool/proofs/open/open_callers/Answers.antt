@@ -17,7 +17,7 @@ loop-number-preserved c =
       who = c.caller.ensures;
       seats = subst (λ (ss : List OwnSeat). AreSeatsOf (turns_in []) ss c.loop-number.number) (sym c.new.ensures.items) tt;
       new = subst (AllByRecursion IsNew) (sym c.new.ensures.items) tt;
-      samples = (c.in_ok-samples.ensures.items, c.in_ok-samples.ensures.capacity);
+      samples = (omega (arith, ap length c.in_ok-samples.ensures.items), c.in_ok-samples.ensures.capacity);
       patterns = (c.in_ok-patterns.ensures.items, c.in_ok-patterns.ensures.capacity);
     } in (
       ap length c.in_ok-push.ensures.items ∙ length_push all s ∙ ap (λ n. n + 1) inv.0,

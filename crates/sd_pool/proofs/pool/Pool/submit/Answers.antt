@@ -1,4 +1,4 @@
-use Rattle.std.proofs.Common.{rules, ◌≡◌, ℕ, List, [], ◌∷◌, ◌++◌, ap, subst, ◌∙◌}
+use Rattle.std.proofs.Common.{rules, ◌≡◌, ℕ, ap, subst}
 use Rattle.sd_model_text.specs.Names.{shard}
 use Rattle.sd_model_text.specs.Lines.{Sample}
 use Rattle.sd_model_shard.specs.Shard.{Answered, Submit}
@@ -12,9 +12,7 @@ pub returns-clause-act : goal.returns-clause-act
 returns-clause-act g c =
     let pool = c.args.self.now in
     let seat = c.args.seat.now in
-    let none : c.replace-samples.result.items ≡ [] = ap (λ v. v.items) c.replace-samples.ensures.value ∙ c.requires.samples.0 in
-    let items : c.push_reserved.new.self.items ≡ c.copied.result ∷ [] = c.push_reserved.ensures.items ∙ ap (λ (l : List Sample). l ++ c.copied.result ∷ []) none in
-    let one : sample_in c.push_reserved.new.self.items ≡ c.args.s.now = ap sample_in items ∙ c.copied.ensures in
+    let one : sample_in c.put.new.room.items ≡ c.args.s.now = ap sample_in c.put.ensures.one in
     let home : c.shard_of-i.result ≡ shard c.args.s.now.key (shards_of pool) = search rules in
     let before : Seat = record seat { samples = c.replace-samples.new.dest } in
     let placed = Answered (placed_of c.in-Placed.placed) in

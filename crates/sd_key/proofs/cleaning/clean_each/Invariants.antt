@@ -2,7 +2,7 @@
 use Rattle.std.proofs.Common.{◌≡◌, ◌≤◌, length, take}
 use Rattle.sd_model_text.specs.Names.{cleaned}
 use Rattle.sd_key.specs.Clean.{ends_blank}
-use Rattle.sd_key.proofs.cleaning.clean.Given as goal
+use Rattle.sd_key.proofs.cleaning.clean_each.Given as goal
 
 abbrev pub invariant-loop-b : goal.invariant-loop-b
 invariant-loop-b l = record {

@@ -7,8 +7,8 @@ use Rattle.sd_model_text.specs.Names.{cleaned}
 use Rattle.sd_model_text.proofs.NamesLemmas.{as_key-fits}
 use Rattle.sd_key.specs.Clean.{ends_blank}
 use Rattle.sd_key.proofs.CleanLemmas.{ends_blank-push, take-push_room, take-push_full}
-use Rattle.sd_key.proofs.cleaning.clean.Goals as goal
-use Rattle.sd_key.proofs.cleaning.clean.Goals.{in-Some+then-not-is_full, in-Some+else-not-is_full, in_default}
+use Rattle.sd_key.proofs.cleaning.clean_each.Goals as goal
+use Rattle.sd_key.proofs.cleaning.clean_each.Goals.{in-Some+then-not-is_full, in-Some+else-not-is_full, in_default}
 
 pub loop-b-preserved : goal.loop-b-preserved
 loop-b-preserved c =
