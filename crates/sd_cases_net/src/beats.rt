@@ -1,12 +1,10 @@
-use crate::common::step;
+use crate::common::{step, stop_name};
 use sd_case::Answer;
-use sd_net::{SystemClock, TickBeat};
+use sd_net::{Stop, SystemClock, TickBeat};
 use sd_outside::{Beat, Clock, Tick};
-use std::alloc::AllocError;
-use std::sync::atomic::{AtomicBool, Ordering};
 use std::thread::{Threads, join, sleep};
 use std::time::{self, Duration};
-use std::{fs, io, process};
+use std::{fs, io};
 
 /// The interval of the beat that ticks, in milliseconds.
 const INTERVAL: u32 = 100;
@@ -21,8 +19,8 @@ fn tick_text(tick: Tick) -> &'static str {
 }
 
 /// Whether a beat told the others to stop.
-fn told_text(stop: &AtomicBool) -> &'static str {
-    if stop.load(Ordering::SeqCst) {
+fn told_text(stop: &Stop) -> &'static str {
+    if stop.is_set() {
         ", the others are told,"
     } else {
         ", the others aren't told,"
@@ -34,16 +32,10 @@ fn millis_since(rt: &HostRuntime, from: Duration) -> io::Result<u128> {
     Ok(time::Clock::monotonic(rt)?.saturating_sub(from).as_millis())
 }
 
-/// A name of a file that no other run has.
-fn name_of_own(rt: &HostRuntime) -> Result<String, AllocError> {
-    let number = process::id(rt.process());
-    format!(in rt.alloc(); "/tmp/sd_cases_net.{number}.stop")
-}
-
 /// Ticks in time, and late ones.
-fn ticks<'a>(rt: &'a HostRuntime, stop: &'a AtomicBool, out: &mut Answer) -> io::Result<()> {
+fn ticks<'a>(rt: &'a HostRuntime, stop: &'a Stop, out: &mut Answer) -> io::Result<()> {
     let clock = SystemClock::new(rt);
-    let mut beat = TickBeat::new(rt, stop, None);
+    let mut beat = TickBeat::new(rt, stop);
     let before = time::Clock::monotonic(rt)?;
     beat.start(INTERVAL);
     let started = time::Clock::monotonic(rt)?;
@@ -81,14 +73,14 @@ fn ticks<'a>(rt: &'a HostRuntime, stop: &'a AtomicBool, out: &mut Answer) -> io:
     let is_due = millis_since(rt, before)? >= least;
     out.text(if is_due { " in time" } else { " too early" });
     step(out, "once it is to stop");
-    stop.store(true, Ordering::SeqCst);
+    stop.set();
     out.text(tick_text(beat.next()));
     Ok(())
 }
 
 /// A beat that isn't started.
-fn unstarted<'a>(rt: &'a HostRuntime, stop: &'a AtomicBool, out: &mut Answer) {
-    let mut beat = TickBeat::new(rt, stop, None);
+fn unstarted<'a>(rt: &'a HostRuntime, stop: &'a Stop, out: &mut Answer) {
+    let mut beat = TickBeat::new(rt, stop);
     step(out, "one that isn't started, twice");
     out.text(tick_text(beat.next()));
     out.text(told_text(stop));
@@ -100,10 +92,10 @@ fn unstarted<'a>(rt: &'a HostRuntime, stop: &'a AtomicBool, out: &mut Answer) {
 fn next_beside<'a>(
     threads: &impl Threads,
     rt: &'a HostRuntime,
-    stop: &'a AtomicBool,
-    name: &'a str,
+    stop: &'a Stop,
+    name: &str,
 ) -> (bool, Tick) {
-    let mut beat = TickBeat::new(rt, stop, Some(name));
+    let mut beat = TickBeat::new(rt, stop);
     beat.start(10_000);
     join(
         threads,
@@ -117,8 +109,8 @@ fn next_beside<'a>(
 
 /// A stop file that appears while a beat waits.
 fn stop_file(threads: &impl Threads, rt: &HostRuntime, out: &mut Answer) -> io::Result<()> {
-    let stop = AtomicBool::new(false);
-    let name = name_of_own(rt)?;
+    let stop = Stop::new(Some(stop_name(rt)?));
+    let name = stop_name(rt)?;
     let name = name.as_str();
     step(
         out,
@@ -141,7 +133,7 @@ fn stop_file(threads: &impl Threads, rt: &HostRuntime, out: &mut Answer) -> io::
 
 pub(crate) fn run(threads: &impl Threads, rt: &HostRuntime, out: &mut Answer) -> io::Result<()> {
     out.text("\nbeats");
-    unstarted(rt, &AtomicBool::new(false), out);
-    ticks(rt, &AtomicBool::new(false), out)?;
+    unstarted(rt, &Stop::new(None), out);
+    ticks(rt, &Stop::new(None), out)?;
     stop_file(threads, rt, out)
 }

@@ -5,6 +5,7 @@ use sd_outside::{Address, Name, OpenRefusal};
 use std::alloc::{AllocError, Global};
 use std::io::{self, ErrorKind};
 use std::net::SocketAddr;
+use std::process;
 
 /// A host of at most 255 bytes, and a port.
 pub(crate) fn host_at(host: &[u8], port: u16) -> Address {
@@ -37,6 +38,12 @@ pub(crate) fn room(alloc: Global, size: usize) -> Result<Vec<u8>, AllocError>
     ensures { IfOk result (λ v. vec_len v ≡ size) }
 {
     vec![in alloc; 0u8; size]
+}
+
+/// A name of a stop file that no other run has.
+pub(crate) fn stop_name(rt: &HostRuntime) -> Result<String, AllocError> {
+    let number = process::id(rt.process());
+    format!(in rt.alloc(); "/tmp/sd_cases_net.{number}.stop")
 }
 
 /// That a case couldn't go on.

@@ -3,10 +3,9 @@ ghost use Rattle.std.specs.Prelude.{◌≡◌, ◌≤◌, false, length};
 use crate::clients::{client_of, show_next};
 use crate::common::{here, room, step, stuck};
 use sd_case::Answer;
-use sd_net::TcpDoor;
+use sd_net::{Stop, TcpDoor};
 use sd_outside::{Address, Door, Entry, Faulty, Name, OpenRefusal, Opens, read_full, write_all};
 use std::io::{self, Write};
-use std::sync::atomic::{AtomicBool, Ordering};
 use std::thread::sleep;
 use std::time::Duration;
 
@@ -97,7 +96,7 @@ fn rest<'a>(door: &mut TcpDoor<'a, HostRuntime>, buf: &mut [u8], out: &mut Answe
 
 /// Clients of a door, one that says nothing among them.
 pub(crate) fn run(rt: &HostRuntime, out: &mut Answer) -> io::Result<()> {
-    let stop = AtomicBool::new(false);
+    let stop = Stop::new(None);
     let mut door = TcpDoor::new(rt, rt.alloc(), &stop, ROOM);
     let mut buf = room(rt.alloc(), 2 * ROOM)?;
     out.text("\ndoors");
@@ -119,7 +118,7 @@ pub(crate) fn run(rt: &HostRuntime, out: &mut Answer) -> io::Result<()> {
     first.write_all(b"health\nhea")?;
     second.write_all(b"hea")?;
     sleep(rt, Duration::from_millis(50));
-    stop.store(true, Ordering::SeqCst);
+    stop.set();
     serve(&mut door, buf.as_mut_slice(), out);
     show_next(&mut first, buf.as_mut_slice(), out);
     first.write_all(b"lth\n")?;

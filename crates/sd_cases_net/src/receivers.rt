@@ -1,20 +1,22 @@
 ghost use Rattle.std.specs.Prelude.{◌≤◌, length};
 ghost use Rattle.sd_model_outside.specs.Turns.{most_datagram};
 
-use crate::common::{here, host_at, opening_text, room, socket_here, step, stuck};
+use crate::common::{here, host_at, opening_text, room, socket_here, step, stop_name, stuck};
 use sd_case::Answer;
-use sd_net::UdpReceiver;
+use sd_net::{Stop, UdpReceiver};
 use sd_outside::{Address, Datagrams, Name, Next, Opens};
-use std::io;
 use std::net::UdpSocket;
 use std::sync::OnceLock;
-use std::sync::atomic::{AtomicBool, Ordering};
+use std::{fs, io};
 
 /// How many bytes a datagram has at most.
 const MOST_DATAGRAM: usize = 65_507;
 
 /// How often a receiver is asked before it is taken for one that gets nothing.
 const MOST_TURNS: u32 = 50;
+
+/// How many datagrams come while a stop file is there.
+const BURST: u32 = 70;
 
 /// Asks a receiver once.
 fn ask(receiver: &mut UdpReceiver<'_, HostRuntime>, buf: &mut [u8], out: &mut Answer) -> Next
@@ -51,10 +53,51 @@ fn wait(receiver: &mut UdpReceiver<'_, HostRuntime>, buf: &mut [u8], out: &mut A
     out.text(" no datagram");
 }
 
-/// Two receivers on one socket.
+/// A stop file that appears while no datagram comes, and one that is there while many come.
+fn stop_files(rt: &HostRuntime, buf: &mut [u8], out: &mut Answer) -> io::Result<()>
+    requires { most_datagram ≤ length buf.old }
+{
+    let name = stop_name(rt)?;
+    let name = name.as_str();
+    step(out, "a stop file that appears while no datagram comes");
+    let shared = OnceLock::new();
+    let stop = Stop::new(Some(stop_name(rt)?));
+    let mut receiver = UdpReceiver::new(rt, &shared, &stop);
+    out.text(" ");
+    out.text(opening_text(receiver.open_at(&here(0))));
+    ask(&mut receiver, buf, out);
+    fs::write(rt, name, b"")?;
+    ask(&mut receiver, buf, out);
+    fs::remove_file(rt, name)?;
+    step(
+        out,
+        "one that is there while 70 datagrams come, and no longer behind them",
+    );
+    let stop = Stop::new(Some(stop_name(rt)?));
+    let mut receiver = UdpReceiver::new(rt, &shared, &stop);
+    out.text(" ");
+    out.text(opening_text(receiver.open_at(&here(0))));
+    ask(&mut receiver, buf, out);
+    let port = shared.get().ok_or_else(stuck)?.local_addr()?.port();
+    let sender = UdpSocket::bind(rt, socket_here(0))?;
+    fs::write(rt, name, b"")?;
+    let mut came = 0u64;
+    for _ in 0..BURST {
+        sender.send_to(b"a:1|c", socket_here(port))?;
+        if let Next::Packet { len: _ } = receiver.next(buf) {
+            came = came.saturating_add(1);
+        }
+    }
+    fs::remove_file(rt, name)?;
+    out.count(" came ", came);
+    ask(&mut receiver, buf, out);
+    Ok(())
+}
+
+/// Two receivers on one socket, and stop files.
 pub(crate) fn run(rt: &HostRuntime, out: &mut Answer) -> io::Result<()> {
     let shared = OnceLock::new();
-    let stop = AtomicBool::new(false);
+    let stop = Stop::new(None);
     let mut first = UdpReceiver::new(rt, &shared, &stop);
     let mut second = UdpReceiver::new(rt, &shared, &stop);
     let mut buf = room(rt.alloc(), MOST_DATAGRAM)?;
@@ -92,12 +135,12 @@ pub(crate) fn run(rt: &HostRuntime, out: &mut Answer) -> io::Result<()> {
     step(out, "two datagrams that came before the stop");
     sender.send_to(b"a:1|c", socket_here(port))?;
     sender.send_to(b"b:2|c", socket_here(port))?;
-    stop.store(true, Ordering::SeqCst);
+    stop.set();
     wait(&mut first, buf.as_mut_slice(), out);
     wait(&mut first, buf.as_mut_slice(), out);
     ask(&mut first, buf.as_mut_slice(), out);
     ask(&mut second, buf.as_mut_slice(), out);
     out.count("; faults ", first.faults());
     out.count(" and ", second.faults());
-    Ok(())
+    stop_files(rt, buf.as_mut_slice(), out)
 }

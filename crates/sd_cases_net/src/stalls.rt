@@ -3,11 +3,10 @@ ghost use Rattle.std.specs.Prelude.{◌≡◌, false};
 use crate::clients::client_of;
 use crate::common::{here, room, socket_here, step, stuck};
 use sd_case::Answer;
-use sd_net::{GraphiteLink, TcpDoor};
+use sd_net::{GraphiteLink, Stop, TcpDoor};
 use sd_outside::{Backend, Door, Entry, Faulty, Opens, Sink};
 use std::io::{self, Write};
 use std::net::TcpListener;
-use std::sync::atomic::AtomicBool;
 use std::thread::{Threads, join};
 use std::time::{Clock, Duration};
 
@@ -62,7 +61,7 @@ fn flood<'a>(door: &mut TcpDoor<'a, HostRuntime>, piece: &[u8]) -> Option<bool>
 /// A session of a client that doesn't read.
 fn door_gives_up(rt: &HostRuntime) -> io::Result<bool> {
     let piece = room(rt.alloc(), PIECE)?;
-    let stop = AtomicBool::new(false);
+    let stop = Stop::new(None);
     let mut door = TcpDoor::new(rt, rt.alloc(), &stop, 1_024);
     if door.open_at(&here(0)).is_err() {
         return Err(stuck());

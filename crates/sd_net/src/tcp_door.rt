@@ -2,12 +2,12 @@ use crate::clients::Clients;
 use crate::place::{host_of, refusal};
 use crate::session_sink::SessionSink;
 use crate::session_source::SessionSource;
+use crate::stop::Stop;
 use crate::turns::take_turn;
 use sd_outside::{Address, Door, Entry, Faulty, OpenRefusal, Opens, fault, opening_fault};
 use std::alloc::Global;
 use std::io::{self, ErrorKind};
 use std::net::{Net, TcpListener, TcpStream};
-use std::sync::atomic::{AtomicBool, Ordering};
 use std::thread::sleep;
 use std::time::{Clock, Duration};
 
@@ -25,7 +25,7 @@ const NAP_MS: u64 = 20;
 pub struct TcpDoor<'a, R> {
     host: &'a R,
     alloc: Global,
-    stop: &'a AtomicBool,
+    stop: &'a Stop,
     room: usize,
     listener: Option<TcpListener>,
     clients: Clients,
@@ -41,7 +41,7 @@ impl<'a, R> TcpDoor<'a, R> {
     ghost use Rattle.sd_model_outside.specs.Outside.{Untold, fresh};
 
     /// A door that is opened later, with room for so many bytes of each client. It is to stop once `stop` is set.
-    pub fn new(host: &'a R, alloc: Global, stop: &'a AtomicBool, room: usize) -> TcpDoor<'a, R>
+    pub fn new(host: &'a R, alloc: Global, stop: &'a Stop, room: usize) -> TcpDoor<'a, R>
         ensures { ⟦<TcpDoor<'a, R> as Faulty>⟧.seen result ≡ fresh Untold }
     {
         TcpDoor {
@@ -151,7 +151,7 @@ impl<'a, R: Net<Listener = TcpListener, Stream = TcpStream> + Clock> Door for Tc
     ghost use Rattle.std.proofs.Common.{arith};
 
     fn next_session(&mut self) -> Entry<SessionSource, SessionSink<'a, R>> {
-        let is_stopped = self.stop.load(Ordering::SeqCst);
+        let is_stopped = self.stop.is_set();
         if !self.looked_last && !self.clients.is_one_ready() {
             self.looked_last = is_stopped;
             if look(self.host, &self.listener, &mut self.clients).is_err() {

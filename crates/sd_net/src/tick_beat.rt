@@ -1,8 +1,8 @@
+use crate::stop::Stop;
 use crate::turns::take_turn;
 use sd_outside::{Beat, Faulty, Tick, fault};
-use std::fs::{Files, exists};
+use std::fs::Files;
 use std::io::{self, ErrorKind};
-use std::sync::atomic::{AtomicBool, Ordering};
 use std::thread::sleep;
 use std::time::{Clock, Duration};
 
@@ -10,13 +10,12 @@ use std::time::{Clock, Duration};
 const NAP_MS: u64 = 50;
 
 /// A beat that ticks at whole multiples of its interval from its start. Where it is asked too late for several ticks, they
-/// are one. It ends once its stop file is there, or `stop` is set. It sets `stop` where it ends or fails, so that no other part
-/// of a server goes on without it.
+/// are one. It looks for the stop file, ends once `stop` is set, and sets it where it fails, so that no other part of a server
+/// goes on without it.
 #[derive(Drop)]
 pub struct TickBeat<'a, R> {
     host: &'a R,
-    stop: &'a AtomicBool,
-    stop_file: Option<&'a str>,
+    stop: &'a Stop,
     started: Option<Duration>,
     interval: Option<u32>,
     multiple: u128,
@@ -35,14 +34,13 @@ impl<'a, R> TickBeat<'a, R> {
     ghost use Rattle.std.specs.Prelude.{◌≡◌};
     ghost use Rattle.sd_model_outside.specs.Outside.{Untold, fresh};
 
-    /// A beat that is started later. Without a name of a stop file it ends by `stop` alone.
-    pub fn new(host: &'a R, stop: &'a AtomicBool, stop_file: Option<&'a str>) -> TickBeat<'a, R>
+    /// A beat that is started later. It is to end once `stop` is set.
+    pub fn new(host: &'a R, stop: &'a Stop) -> TickBeat<'a, R>
         ensures { ⟦<TickBeat<'a, R> as Faulty>⟧.seen result ≡ fresh Untold }
     {
         TickBeat {
             host,
             stop,
-            stop_file,
             started: None,
             interval: None,
             multiple: 0,
@@ -60,21 +58,6 @@ impl<'a, R> TickBeat<'a, R> {
 }
 
 impl<'a, R: Clock + Files> TickBeat<'a, R> {
-    /// Whether it is to end, which it tells the others then.
-    fn is_stopped(&self) -> bool {
-        if self.stop.load(Ordering::SeqCst) {
-            return true;
-        }
-        let Some(name) = self.stop_file else {
-            return false;
-        };
-        let is_there = matches!(exists(self.host, name), Ok(true));
-        if is_there {
-            self.stop.store(true, Ordering::SeqCst);
-        }
-        is_there
-    }
-
     /// Waits until a tick is due, or it is to end.
     fn wait(&self) -> io::Result<Option<Due>> {
         let (Some(started), Some(interval)) = (self.started, self.interval) else {
@@ -82,7 +65,7 @@ impl<'a, R: Clock + Files> TickBeat<'a, R> {
         };
         let interval = u128::from(interval.max(1));
         for _ in 0..u64::MAX {
-            if self.is_stopped() {
+            if self.stop.look(self.host) {
                 return Ok(None);
             }
             let elapsed = self.host.monotonic()?.saturating_sub(started).as_millis();
@@ -133,7 +116,7 @@ impl<'a, R: Clock + Files> Beat for TickBeat<'a, R> {
             }
             Ok(None) => Tick::End,
             Err(_) => {
-                self.stop.store(true, Ordering::SeqCst);
+                self.stop.set();
                 fault(&mut self.faults);
                 Tick::Failed
             }

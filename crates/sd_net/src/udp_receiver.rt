@@ -1,12 +1,13 @@
 ghost use Rattle.std.specs.Prelude.{◌≤◌, length, IfOk};
 
 use crate::place::{host_of, refusal};
+use crate::stop::Stop;
 use crate::turns::take_turn;
 use sd_outside::{Address, Datagrams, Faulty, Next, OpenRefusal, Opens, fault, opening_fault};
+use std::fs::Files;
 use std::io::{self, ErrorKind};
 use std::net::{Net, UdpSocket};
 use std::sync::OnceLock;
-use std::sync::atomic::{AtomicBool, Ordering};
 use std::time::{Clock, Duration};
 
 /// How long a receiver waits for a datagram before it says that none came for now, in milliseconds.
@@ -15,17 +16,21 @@ const WAIT_MS: u64 = 100;
 /// How long a receiver goes on once it has seen that it is to stop, where datagrams don't cease to come, in seconds.
 const DRAIN: u64 = 2;
 
+/// At how many turns a receiver looks for the stop file where datagrams don't cease to come.
+const TURNS_TO_LOOK: u64 = 64;
+
 /// How many bytes a datagram has at most.
 const MOST_DATAGRAM: usize = 65_507;
 
 /// A receiver of the datagrams that come to a UDP socket. Receivers share one: the first that is opened binds it, and the
-/// others take a clone. Once it is to stop, it goes on until none came within its time limit, or for two seconds. Where its
-/// socket fails it sets `stop`, so that a server doesn't go on without it.
+/// others take a clone. It looks for the stop file where none came within its time limit, and at each 64th turn. Once it is to
+/// stop, it goes on until none came within that limit, or for two seconds. Where its socket fails it sets `stop`, so that a
+/// server doesn't go on without it.
 #[derive(Drop)]
 pub struct UdpReceiver<'a, R> {
     host: &'a R,
     shared: &'a OnceLock<UdpSocket>,
-    stop: &'a AtomicBool,
+    stop: &'a Stop,
     socket: Option<UdpSocket>,
     saw_stop: Option<Duration>,
     opened_at: Option<Address>,
@@ -38,11 +43,7 @@ impl<'a, R> UdpReceiver<'a, R> {
     ghost use Rattle.sd_model_outside.specs.Outside.{Untold, fresh};
 
     /// A receiver that is opened later. It is to stop once `stop` is set.
-    pub fn new(
-        host: &'a R,
-        shared: &'a OnceLock<UdpSocket>,
-        stop: &'a AtomicBool,
-    ) -> UdpReceiver<'a, R>
+    pub fn new(host: &'a R, shared: &'a OnceLock<UdpSocket>, stop: &'a Stop) -> UdpReceiver<'a, R>
         ensures { ⟦<UdpReceiver<'a, R> as Faulty>⟧.seen result ≡ fresh Untold }
     {
         UdpReceiver {
@@ -65,7 +66,7 @@ impl<'a, R> UdpReceiver<'a, R> {
     }
 }
 
-impl<'a, R: Net + Clock> UdpReceiver<'a, R> {
+impl<'a, R: Net + Clock + Files> UdpReceiver<'a, R> {
     /// The shared socket, which is bound to the place where it isn't yet.
     fn socket_at(&self, place: (&str, u16)) -> io::Result<UdpSocket> {
         if let Some(first) = self.shared.get() {
@@ -90,8 +91,8 @@ fn receive(socket: &UdpSocket, buf: &mut [u8], most: usize) -> io::Result<usize>
 }
 
 /// Whether it is to stop, and has gone on long enough since it first saw that.
-fn has_drained(host: &impl Clock, stop: &AtomicBool, saw_stop: &mut Option<Duration>) -> bool {
-    if !stop.load(Ordering::SeqCst) {
+fn has_drained(host: &impl Clock, stop: &Stop, saw_stop: &mut Option<Duration>) -> bool {
+    if !stop.is_set() {
         return false;
     }
     let Ok(now) = host.monotonic() else {
@@ -124,7 +125,7 @@ impl<'a, R> Faulty for UdpReceiver<'a, R> {
     ghost faults_fit = { λ s. omega arith };
 }
 
-impl<'a, R: Net + Clock> Opens for UdpReceiver<'a, R> {
+impl<'a, R: Net + Clock + Files> Opens for UdpReceiver<'a, R> {
     fn open_at(&mut self, at: &Address) -> Result<(), OpenRefusal> {
         let Some(place) = host_of(at) else {
             return Err(opening_fault(&mut self.faults));
@@ -140,10 +141,13 @@ impl<'a, R: Net + Clock> Opens for UdpReceiver<'a, R> {
     }
 }
 
-impl<'a, R: Net + Clock> Datagrams for UdpReceiver<'a, R> {
+impl<'a, R: Net + Clock + Files> Datagrams for UdpReceiver<'a, R> {
     ghost use Rattle.std.proofs.Common.{arith};
 
     fn next(&mut self, buf: &mut [u8]) -> Next {
+        if self.turns % TURNS_TO_LOOK == 0 {
+            self.stop.look(self.host);
+        }
         if has_drained(self.host, self.stop, &mut self.saw_stop) {
             return Next::End;
         }
@@ -157,7 +161,7 @@ impl<'a, R: Net + Clock> Datagrams for UdpReceiver<'a, R> {
                 Next::Packet { len }
             }
             Err(e) if e.kind() == ErrorKind::WouldBlock => {
-                if self.stop.load(Ordering::SeqCst) {
+                if self.stop.look(self.host) {
                     return Next::End;
                 }
                 take_turn(&mut self.turns);
@@ -168,7 +172,7 @@ impl<'a, R: Net + Clock> Datagrams for UdpReceiver<'a, R> {
                 Next::Idle
             }
             Err(_) => {
-                self.stop.store(true, Ordering::SeqCst);
+                self.stop.set();
                 fault(&mut self.faults);
                 Next::Failed
             }

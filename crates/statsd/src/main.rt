@@ -13,7 +13,7 @@ mod udp_wire;
 use backend_out::BackendOut;
 use file_source::FileSource;
 use sd_decimal::Line;
-use sd_net::{SystemClock, TcpDoor, TickBeat, UdpReceiver};
+use sd_net::{Stop, SystemClock, TcpDoor, TickBeat, UdpReceiver};
 use sd_outside::{Backs, NoGate};
 use sd_top::{Status, World, explain, statsd};
 use standard_out::StandardOut;
@@ -22,7 +22,6 @@ use std::env::{self, VarError};
 use std::io::{ErrorKind, Write};
 use std::net::UdpSocket;
 use std::process::ExitCode;
-use std::sync::atomic::AtomicBool;
 use std::sync::{OnceLock, Wait};
 use std::thread::Threads;
 use udp_wire::UdpWire;
@@ -72,15 +71,14 @@ const WIRES: usize = 256;
 /// How many bytes the admin port holds of each client, the longest line with its newline.
 const CLIENT_ROOM: usize = 1_024;
 
-/// The variable of the environment that names the file whose being there stops a server.
+/// The variable of the environment that names the file whose being there stops a server or a proxy.
 const STOP_FILE: &str = "STATSD_STOP";
 
-/// What the objects of a server share.
+/// What the objects of a server or a proxy share.
 #[derive(Drop)]
 struct Shared {
     socket: OnceLock<UdpSocket>,
-    stop: AtomicBool,
-    stop_file: Option<String>,
+    stop: Stop,
 }
 
 impl Shared {
@@ -96,8 +94,7 @@ impl Shared {
         };
         Ok(Shared {
             socket: OnceLock::new(),
-            stop: AtomicBool::new(false),
-            stop_file,
+            stop: Stop::new(stop_file),
         })
     }
 }
@@ -165,7 +162,7 @@ fn run<'a>(
         packets,
         wires,
         door: TcpDoor::new(rt, alloc, &shared.stop, CLIENT_ROOM),
-        beat: TickBeat::new(rt, &shared.stop, shared.stop_file.as_deref()),
+        beat: TickBeat::new(rt, &shared.stop),
         gate: NoGate,
         clock: SystemClock::new(rt),
     };
