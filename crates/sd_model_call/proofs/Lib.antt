@@ -4,4 +4,6 @@ pub mod CallEnds
 pub mod DrillEnds
 pub mod KeptFaults
 pub mod WordsLemmas
+pub mod BegunLemmas
 pub mod ServerEnds
+pub mod ProxyEnds

@@ -1,101 +1,31 @@
 -- How a call answers that is asked to serve, where nothing hinders it, and what its answers say of its objects.
-use Rattle.std.proofs.Common.{◌≡◌, ◌⊎◌, ℕ, zero, suc, ◌+◌, ◌<◌, ◌≤◌, Bool, true, false, List, [], ◌∷◌, ◌++◌, length, map, take, drop, get_or, refl, sym, ap, subst, ◌∙◌, Option, Some, Ok, Err, inl, inr, arith}
+use Rattle.std.proofs.Common.{◌≡◌, ◌⊎◌, ℕ, zero, suc, ◌+◌, ◌<◌, Bool, true, false, List, [], ◌∷◌, ◌++◌, length, map, drop, refl, sym, ap, subst, ◌∙◌, Option, Ok, Err, inl, inr, arith}
 use Rattle.std.specs.Prelude.{◌||◌, min, if◌then◌else◌, ⊤}
 use Rattle.std.specs.List.{AllByRecursion, list_any}
-use Rattle.std.proofs.Math.ListN.{get_or-map}
-use Rattle.std.proofs.Math.Seq.{map-set_same}
 use Rattle.std.proofs.lemmas.List.{length-map}
 use Rattle.std.proofs.lemmas.List.Folds.{list_any-append}
-use Rattle.sd_model_outside.specs.Outside.{File, HasRead, Host, Left, Object, Place, Rose, Told, Untold, fresh, last_count, opened, put_back, telling}
+use Rattle.sd_model_outside.specs.Outside.{File, Host, Object, Place, Rose, Told, last_count, opened, telling}
 use Rattle.sd_model_outside.specs.Turns.{IsSpent, with_interval}
 use Rattle.sd_model_settings.specs.Settings as file
 use Rattle.sd_model_settings.specs.Settings.{SettingsFlaw, settings}
-use Rattle.sd_model_record.specs.Repeater.{wire_at}
 use Rattle.sd_model_replay.specs.Settings.{goes_by, targets_of}
 use Rattle.sd_model_replay.specs.Totals.{totals_text}
 use Rattle.sd_model_serve.specs.Ends.{LoopEnd, Spent, Failed, Enough, WornOut, EndsReceiver, EndsFlusher, EndsKeeper, most_turns}
 use Rattle.sd_model_run.specs.Course.{Course, Reception}
-use Rattle.sd_model_run.specs.Run.{AreReceptions, IsReception, Objects}
-use Rattle.sd_model_call.specs.Words.{Form, Serve, form}
-use Rattle.sd_model_call.specs.Opening.{World, Opening, Part, OfSettings, OfScript, OfSource, OfBeat, OfWire, OfGraphite, OfConsole, OfDoor, IsAccepted, part_in, source_at, target_place}
+use Rattle.sd_model_run.specs.Run.{AreReceptions}
+use Rattle.sd_model_call.specs.Words.{Form, form}
+use Rattle.sd_model_call.specs.Opening.{World, Opening, Part, OfSettings, OfScript, OfSource, OfBeat, OfWire, OfGraphite, OfConsole, OfDoor, IsAccepted, source_at, target_place}
 use Rattle.sd_model_call.specs.Call.{Answer, Done, NoMemory, NoForm, Misset, BadScript, NotOpened, NotRead, NotWritten, Worn, HasFlaw}
 use Rattle.sd_model_call.specs.Completeness.{IsWhole, IsBlocked}
-use Rattle.sd_model_call.specs.Server.{AnswersServer, HasServed, ServerAccounts, WritesTotals, by_beat, by_receivers, cut_answer, ends_answer, is_worn, run_answer, run_totals, turns_answer}
-use Rattle.sd_model_call.specs.ServerOpening.{IsNotOpenedAt, NotBegun, StopsAmong, begun, numbered, objects_in, opened_all, opened_part, opening_where, repeated, repeater_openings, server_openings, source_openings, settled, with_part}
-use Rattle.sd_model_call.specs.ServerCompleteness.{AreAllSpent, AsksToServe, HasFaultOf, IsCauseOf, IsOpenedToServe, IsOutermost, IsReadToServe, IsServed, IsUnhinderedServer, NoneFailed, OneTookMost, SourceTookMost, TookFew, TookMost}
-use Rattle.sd_model_call.proofs.CallEnds.{settled as says_so}
-use Rattle.sd_model_call.proofs.Openings.{all_append, all_behind}
-
--- a number of each object that is the same in two worlds
-pub record Same (f : Object → ℕ) (a b : World) : Type 0 where
-  pub settings : f a.settings ≡ f b.settings
-  pub script : f a.seen.script ≡ f b.seen.script
-  pub sources : map f a.served.sources ≡ map f b.served.sources
-  pub beat : f a.served.beat ≡ f b.served.beat
-  pub wires : map f a.seen.wires ≡ map f b.seen.wires
-  pub graphite : f a.seen.graphite ≡ f b.seen.graphite
-  pub console : f a.seen.console ≡ f b.seen.console
-  pub door : f a.served.door ≡ f b.served.door
-
-module _ (f : Object → ℕ) where
-  at_same : (i : ℕ) (xs ys : List Object) → map f xs ≡ map f ys → f (get_or xs i (fresh Untold)) ≡ f (get_or ys i (fresh Untold))
-  at_same i xs ys same =
-      sym (get_or-map f xs i (fresh Untold)) ∙ ap (λ ns. get_or ns i (f (fresh Untold))) same ∙ get_or-map f ys i (fresh Untold)
-
-  same_part : (a b : World) → Same f a b → (part : Part) → f (part_in a part) ≡ f (part_in b part)
-  same_part a b h OfSettings = h.settings
-  same_part a b h OfScript = h.script
-  same_part a b h (OfSource i) = at_same i a.served.sources b.served.sources h.sources
-  same_part a b h OfBeat = h.beat
-  same_part a b h (OfWire i) = at_same i a.seen.wires b.seen.wires h.wires
-  same_part a b h OfGraphite = h.graphite
-  same_part a b h OfConsole = h.console
-  same_part a b h OfDoor = h.door
-
-  same_next : (a b c : World) → Same f a b → Same f b c → Same f a c
-  same_next a b c g h = record {
-    settings = g.settings ∙ h.settings;
-    script = g.script ∙ h.script;
-    sources = g.sources ∙ h.sources;
-    beat = g.beat ∙ h.beat;
-    wires = g.wires ∙ h.wires;
-    graphite = g.graphite ∙ h.graphite;
-    console = g.console ∙ h.console;
-    door = g.door ∙ h.door;
-  }
-
-  same_self : (a : World) → Same f a a
-  same_self a = record { settings = refl; script = refl; sources = refl; beat = refl; wires = refl; graphite = refl; console = refl; door = refl }
-
-  module _ (keeps : (place : Place) (o : Object) → f (opened place o) ≡ f o) where
-    same_opened : (w : World) (place : Place) (part : Part) → Same f (with_part part (opened place (part_in w part)) w) w
-    same_opened w place OfSettings = record { settings = keeps place w.settings; script = refl; sources = refl; beat = refl; wires = refl; graphite = refl; console = refl; door = refl }
-    same_opened w place OfScript = record { settings = refl; script = keeps place w.seen.script; sources = refl; beat = refl; wires = refl; graphite = refl; console = refl; door = refl }
-    same_opened w place (OfSource i) = record { settings = refl; script = refl; sources = map-set_same f w.served.sources i _ (fresh Untold) (keeps place _); beat = refl; wires = refl; graphite = refl; console = refl; door = refl }
-    same_opened w place OfBeat = record { settings = refl; script = refl; sources = refl; beat = keeps place w.served.beat; wires = refl; graphite = refl; console = refl; door = refl }
-    same_opened w place (OfWire i) = record { settings = refl; script = refl; sources = refl; beat = refl; wires = map-set_same f w.seen.wires i _ (fresh Untold) (keeps place _); graphite = refl; console = refl; door = refl }
-    same_opened w place OfGraphite = record { settings = refl; script = refl; sources = refl; beat = refl; wires = refl; graphite = keeps place w.seen.graphite; console = refl; door = refl }
-    same_opened w place OfConsole = record { settings = refl; script = refl; sources = refl; beat = refl; wires = refl; graphite = refl; console = keeps place w.seen.console; door = refl }
-    same_opened w place OfDoor = record { settings = refl; script = refl; sources = refl; beat = refl; wires = refl; graphite = refl; console = refl; door = keeps place w.served.door }
-
-    pub same_all : (os : List Opening) (w : World) → Same f (opened_all w os) w
-    same_all [] w = same_self w
-    same_all (o ∷ os) w = same_next _ _ w (same_all os (opened_part w o)) (same_opened w o.place o.part)
-
--- opening counts no fault and no turn
-pub same_faults : (os : List Opening) (w : World) → Same (λ o. o.faults) (opened_all w os) w
-same_faults os w = same_all (λ o. o.faults) (λ place o. refl) os w
-
-pub same_turns : (os : List Opening) (w : World) → Same (λ o. o.turns) (opened_all w os) w
-same_turns os w = same_all (λ o. o.turns) (λ place o. refl) os w
+use Rattle.sd_model_call.specs.Server.{AnswersServer, HasServed, ServerAccounts, WritesTotals, by_beat, by_receivers, is_worn, run_answer, run_totals, turns_answer}
+use Rattle.sd_model_call.specs.ServerOpening.{NotBegun, StopsAmong, begun, opening_where, repeated, repeater_openings, server_openings, source_openings, settled}
+use Rattle.sd_model_call.specs.ServerCompleteness.{AreAllSpent, AsksToServe, HasFaultOf, IsCauseOf, IsOpenedToServe, IsOutermost, IsServed, IsUnhinderedServer, NoneFailed, OneTookMost, SourceTookMost, TookFew, TookMost}
+use Rattle.sd_model_call.proofs.BegunLemmas.{Same, all_numbered, accepted_so, at_same, has_flaw, not_opened, same_all, same_next, same_settled, uncut}
+use Rattle.sd_model_call.proofs.Openings.{all_append}
 
 -- a part that a server opens
 abbrev is_served : Opening → Type 0
 is_served o = IsOpenedToServe o.part
-
-all_numbered : (part : ℕ → Part) → ((i : ℕ) → IsOpenedToServe (part i)) → (i : ℕ) (places : List Place) → AllByRecursion is_served (numbered part i places)
-all_numbered part are i [] = tt
-all_numbered part are i (p ∷ places) = (are i, all_numbered part are (i + 1) places)
 
 all_where : (used : Bool) (o : Opening) → is_served o → AllByRecursion is_served (opening_where used o)
 all_where true o is = (is, tt)
@@ -110,28 +40,13 @@ all_served s =
     let graphite = opening_where uses.uses_graphite at_graphite in
     let console = opening_where uses.uses_console at_console in
     let door : AllByRecursion is_served at_door = (tt, tt) in
-    all_append is_served (source_openings s) (repeater_openings s ++ (graphite ++ (console ++ at_door))) (all_numbered OfSource (λ i. tt) 0 (repeated s.sizes.receivers (Host s.addresses.address s.server.port ∷ [])))
-    (all_append is_served (repeater_openings s) (graphite ++ (console ++ at_door)) (all_numbered OfWire (λ i. tt) 0 (repeated s.sizes.receivers (map target_place (targets_of s))))
+    all_append is_served (source_openings s) (repeater_openings s ++ (graphite ++ (console ++ at_door))) (all_numbered IsOpenedToServe OfSource (λ i. tt) 0 (repeated s.sizes.receivers (Host s.addresses.address s.server.port ∷ [])))
+    (all_append is_served (repeater_openings s) (graphite ++ (console ++ at_door)) (all_numbered IsOpenedToServe OfWire (λ i. tt) 0 (repeated s.sizes.receivers (map target_place (targets_of s))))
     (all_append is_served graphite (console ++ at_door) (all_where uses.uses_graphite at_graphite tt)
     (all_append is_served console at_door (all_where uses.uses_console at_console tt) door)))
 
 -- what is seen where a server's workers begin has the counts of before
 module _ (f : Object → ℕ) (opens : (place : Place) (o : Object) → f (opened place o) ≡ f o) (tells : (told : Told) (o : Object) → f (telling told o) ≡ f o) (starts : (interval : ℕ) (o : Object) → f (with_interval interval o) ≡ f o) where
-  read_same : (bytes : List ℕ) (place : Place) (o n : Object) → HasRead bytes (opened place o) n → f n ≡ f o
-  read_same bytes place o n read = sym (tells (put_back bytes n.told) n) ∙ sym (ap f read) ∙ opens place o
-
-  same_settled : (values : file.Settings) (settings : Object) (name : List ℕ) (w : World) → IsAccepted values (File name) w.settings settings → Same f (settled values settings w) w
-  same_settled values settings name w taken = record {
-    settings = read_same taken.bytes (File name) w.settings settings taken.read.read;
-    script = refl;
-    sources = refl;
-    beat = refl;
-    wires = refl;
-    graphite = refl;
-    console = refl;
-    door = refl;
-  }
-
   same_begun : (values : file.Settings) (w : World) → Same f (begun values w) w
   same_begun values w =
       let all = same_all f opens (server_openings values) w in
@@ -147,14 +62,14 @@ module _ (f : Object → ℕ) (opens : (place : Place) (o : Object) → f (opene
       }
 
   same_start : (values : file.Settings) (settings : Object) (name : List ℕ) (w : World) → IsAccepted values (File name) w.settings settings → Same f (begun values (settled values settings w)) w
-  same_start values settings name w taken = same_next f _ _ w (same_begun values (settled values settings w)) (same_settled values settings name w taken)
+  same_start values settings name w taken = same_next f _ _ w (same_begun values (settled values settings w)) (same_settled f opens tells values settings name w taken)
 
 -- how a loop over a source ended
-record EndedSo (asked : ℕ) (ended : LoopEnd) (source source_now : Object) : Type 0 where
-  turned : ℕ
-  turns : source_now.turns ≡ min (source.turns + turned) last_count
-  seen : ℕ
-  ends : EndsReceiver asked ended source source_now seen turned
+pub record EndedSo (asked : ℕ) (ended : LoopEnd) (source source_now : Object) : Type 0 where
+  pub turned : ℕ
+  pub turns : source_now.turns ≡ min (source.turns + turned) last_count
+  pub seen : ℕ
+  pub ends : EndsReceiver asked ended source source_now seen turned
 
 abbrev AreEnded : ℕ → List LoopEnd → List Object → List Object → Type 0
 AreEnded asked [] sources sources_now = ⊤
@@ -240,18 +155,6 @@ by_turns es answer is = by_test (list_any is_worn es) refl where
   by_test : (worn : Bool) → list_any is_worn es ≡ worn → (answer ≡ Worn most_turns) × (list_any is_worn es ≡ true) ⊎ (answer ≡ Done) × (list_any is_worn es ≡ false)
   by_test true found = inl (sym is ∙ ap (λ (b : Bool). if b then Worn most_turns else Done) found, found)
   by_test false found = inr (sym is ∙ ap (λ (b : Bool). if b then Worn most_turns else Done) found, found)
-
--- a run whose totals couldn't be written is answered as it would be, or by that
-uncut : (whole answer : Answer) → answer ≡ cut_answer whole → (answer ≡ NotWritten) ⊎ (whole ≡ answer)
-uncut Done answer is = inl is
-uncut NoMemory answer is = inr (sym is)
-uncut NoForm answer is = inr (sym is)
-uncut (Misset flaw) answer is = inr (sym is)
-uncut (BadScript at flaw) answer is = inr (sym is)
-uncut (NotOpened part) answer is = inr (sym is)
-uncut (NotRead part) answer is = inr (sym is)
-uncut NotWritten answer is = inl is
-uncut (Worn turns) answer is = inr (sym is)
 
 -- which loop took the most turns
 abbrev OneSourceTookMost : List Object → List Object → Type 0
@@ -446,21 +349,13 @@ module _ (name : List ℕ) (says : ℕ → Type 0) (old new : World) (h : HasSer
           by_flush (by_flusher h.values.sizes.run_flushes (length h.course.ticked) Done (turns_answer (heard ++ rest)) h.course.flusher_ended begin.served.beat new.served.beat h.theorem.run.flushed.ends is) is
 
 module _ (name : List ℕ) (says : ℕ → Type 0) (old new : World) where
-  -- the count of faults of a part is that before settings were read
-  settled_part : (values : file.Settings) (settings : Object) (part : Part) (os : List Opening) → IsAccepted values (File name) old.settings settings
-      → (part_in (opened_all (settled values settings old) os) part).faults ≡ (part_in old part).faults
-  settled_part values settings part os taken =
-      same_part (λ o. o.faults) _ old
-      (same_next (λ o. o.faults) _ _ old (same_all (λ o. o.faults) (λ place o. refl) os (settled values settings old)) (same_settled (λ o. o.faults) (λ place o. refl) (λ told o. refl) (λ interval o. refl) values settings name old taken)) part
-
   stopped_cause : (answer : Answer) (h : NotBegun name answer old new) → IsCauseOf name answer old new
   stopped_cause answer h = by_stop h.stops where
     by_stop : StopsAmong (server_openings h.values) answer (settled h.values h.settings old) new → IsCauseOf name answer old new
     by_stop (inl (is, some)) = subst (λ (a : Answer). IsCauseOf name a old new) (sym is) tt
     by_stop (inr (part, is, not)) =
-        let among = (all_behind is_served not.before (record { part = part; place = not.place } ∷ not.behind) (subst (AllByRecursion is_served) not.order (all_served h.values))).0 in
         subst (λ (a : Answer). IsCauseOf name a old new) (sym is)
-        (among, subst (λ (n : ℕ). Rose n (part_in new part).faults) (settled_part h.values h.settings part not.before h.taken) not.failed.rose)
+        (not_opened name old new h.values h.settings h.taken IsOpenedToServe (server_openings h.values) (all_served h.values) part not)
 
   -- every answer has its cause
   pub answer_cause : (answer : Answer) → ServerAccounts name says answer old new → IsCauseOf name answer old new
@@ -479,7 +374,7 @@ module _ (words : List (List ℕ)) (bytes : List ℕ) (says : ℕ → Type 0) (o
   caused answer h = answer_cause asks.name says old new answer (subst (λ (f : Option Form). AnswersServer f says answer old new) asks.form h)
 
   read_so : (flaw : SettingsFlaw) → HasFlaw flaw asks.name old new → settings bytes ≡ Err flaw
-  read_so flaw has = sym (says_so (File asks.name) bytes has.file.bytes old.settings new.settings asks.told has.file.read) ∙ has.file.refused
+  read_so flaw has = has_flaw asks.name bytes old new asks.told flaw has
 
   module _ (values : file.Settings) (accepted : settings bytes ≡ Ok values) (steady : IsUnhinderedServer old new) where
     by_cause : (answer : Answer) → IsCauseOf asks.name answer old new → IsServed answer
@@ -536,7 +431,7 @@ module _ (words : List (List ℕ)) (bytes : List ℕ) (says : ℕ → Type 0) (o
   module _ (flaw : SettingsFlaw) (refused : settings bytes ≡ Err flaw) where
     not_accepted : (values : file.Settings) (now : Object) → IsAccepted values (File asks.name) old.settings now → ⊥
     not_accepted values now taken =
-        let same : Ok values ≡ Err flaw = sym taken.accepted ∙ says_so (File asks.name) bytes taken.bytes old.settings now asks.told taken.read ∙ refused in
+        let same : Ok values ≡ Err flaw = sym (accepted_so asks.name bytes old asks.told values now taken) ∙ refused in
         absurd (cc)
 
     by_account : (answer : Answer) → ServerAccounts asks.name says answer old new → IsBlocked (Misset flaw) answer

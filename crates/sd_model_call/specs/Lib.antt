@@ -8,3 +8,4 @@ pub mod ServerOpening
 pub mod Server
 pub mod ServerCompleteness
 pub mod Proxy
+pub mod ProxyCompleteness

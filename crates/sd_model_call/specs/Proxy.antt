@@ -1,5 +1,5 @@
 -- What the program answers where it is asked for the proxy, and what was done by then.
-use Rattle.std.specs.Prelude.{◌≡◌, ◌⊎◌, ℕ, ◌<◌, List, [], ◌∷◌, ◌++◌, length, map, codes, All, Option, Some, None, ⊤}
+use Rattle.std.specs.Prelude.{◌≡◌, ◌⊎◌, ℕ, ◌<◌, List, [], ◌∷◌, length, map, codes, All, Option, Some, None, ⊤}
 use Rattle.sd_model_outside.specs.Outside.{Object, Place, File, Host}
 use Rattle.sd_model_settings.specs.Entries.{Node}
 use Rattle.sd_model_settings.specs.Settings as file
@@ -8,10 +8,9 @@ use Rattle.sd_model_serve.specs.Ends.{LoopEnd, Spent, Failed, Enough, WornOut}
 use Rattle.sd_model_proxy.specs.Routes.{AreAllUp}
 use Rattle.sd_model_proxy.specs.Relays.{Relay, AreRelays, relays_totals}
 use Rattle.sd_model_proxy.specs.Totals.{proxy_text}
-use Rattle.sd_model_replay.specs.Settings.{goes_by}
 use Rattle.sd_model_call.specs.Words.{Form, Replay, Serve, Proxy, Drill}
-use Rattle.sd_model_call.specs.Opening.{Opening, OfSource, OfWire, World, IsAccepted, flags_of}
-use Rattle.sd_model_call.specs.Call.{Answer, Done, Misset, NotRead, Worn, TakesSettings}
+use Rattle.sd_model_call.specs.Opening.{Opening, OfSource, OfWire, World, IsAccepted}
+use Rattle.sd_model_call.specs.Call.{Answer, Done, Misset, NotRead, Worn}
 use Rattle.sd_model_call.specs.ServerOpening.{StopsAmong, numbered, opened_all, settled}
 use Rattle.sd_model_call.specs.Server.{NotTaken, WritesTotals}
 

@@ -1,7 +1,7 @@
-ghost use Rattle.std.specs.Prelude.{◌≡◌, ◌<◌, ◌≤◌, ℕ, List, [], ◌∷◌, length, min, codes, decimal, Some};
+ghost use Rattle.std.specs.Prelude.{◌≡◌, ◌<◌, ◌≤◌, ℕ, List, [], ◌∷◌, length, min, codes, decimal, Some, Ok, Err};
 ghost use Rattle.sd_model_outside.specs.Outside.{Rose, Used, given, last_count};
 ghost use Rattle.sd_model_settings.specs.Settings as file;
-ghost use Rattle.sd_model_settings.specs.Settings.{settings};
+ghost use Rattle.sd_model_settings.specs.Settings.{OutOfRange, SettingsFlaw, settings};
 ghost use Rattle.sd_model_replay.specs.Settings.{Settings, goes_by};
 ghost use Rattle.sd_model_replay.specs.Script.{Command, script_text};
 ghost use Rattle.sd_model_replay.specs.Totals.{Totals};
@@ -12,8 +12,10 @@ ghost use Rattle.sd_model_replay.specs.Ends.{Complete, End, Faulted, Replayed, W
 ghost use Rattle.sd_model_call.specs.Opening.{World, started};
 ghost use Rattle.sd_model_call.specs.Words.{Drill, form};
 ghost use Rattle.sd_model_call.specs.Drill.{drill_text};
-ghost use Rattle.sd_model_call.specs.Call.{Accounts, Answer, BadScript, Done, IsScripted, OnlyOutput, Worn};
+ghost use Rattle.sd_model_call.specs.Call.{Accounts, Answer, BadScript, Done, IsScripted, Misset, OnlyOutput, Worn};
 ghost use Rattle.sd_model_call.specs.Completeness.{Asks, AsksPlainly, CarriedOut, CarriedOutWell, IsBlocked, IsCutOff, IsFull, IsLongest, IsUnhindered, IsWhole, NoneMissed, refusal};
+ghost use Rattle.sd_model_call.specs.Proxy.{AnswersProxy, ProxyAccounts};
+ghost use Rattle.sd_model_call.specs.ProxyCompleteness.{AsksForProxy, IsProxyCauseOf, IsRelayed, IsUnhinderedProxy, NoWireFailed};
 
 /// A replay that nothing hinders comes to the word that ends the script. Where no reply fails to be written, one whose
 /// script is cut off behind some records, by a flaw, stops at that place and tells which; and one of as many records as
@@ -72,6 +74,23 @@ pub fn drills_complete()
         → form words ≡ Some (Drill n) → Accounts words old new Done → new.seen.output ≡ given (drill_text n) old.seen.output }
     ensures only { (words : List (List ℕ)) (n : ℕ) (old new : World) (answer : Answer)
         → form words ≡ Some (Drill n) → Accounts words old new answer → OnlyOutput old new }
+{}
+
+/// A proxy that nothing hinders sends on what its source gives, unless memory or the wire of a node is lacking; one whose settings
+/// have a flaw, or name no node, says so. Each answer has its cause: where all was done, the source has nothing left.
+pub fn unhindered_proxies_relay()
+    ensures relays { (words : List (List ℕ)) (values : file.Settings) (old new : World) (bytes : List ℕ) (answer : Answer)
+        → AsksForProxy words old bytes → settings bytes ≡ Ok values → 0 < length values.lists.nodes → IsUnhinderedProxy old new
+        → AnswersProxy (form words) answer old new → IsRelayed answer }
+    ensures whole { (words : List (List ℕ)) (values : file.Settings) (old new : World) (bytes : List ℕ) (answer : Answer)
+        → AsksForProxy words old bytes → settings bytes ≡ Ok values → 0 < length values.lists.nodes → IsUnhinderedProxy old new
+        → NoWireFailed old new → AnswersProxy (form words) answer old new → IsWhole Done answer }
+    ensures blocked { (words : List (List ℕ)) (flaw : SettingsFlaw) (old new : World) (bytes : List ℕ) (answer : Answer)
+        → AsksForProxy words old bytes → settings bytes ≡ Err flaw → AnswersProxy (form words) answer old new → IsBlocked (Misset flaw) answer }
+    ensures nodes { (words : List (List ℕ)) (values : file.Settings) (old new : World) (bytes : List ℕ) (answer : Answer)
+        → AsksForProxy words old bytes → settings bytes ≡ Ok values → values.lists.nodes ≡ []
+        → AnswersProxy (form words) answer old new → IsBlocked (Misset (OutOfRange (codes "nodes"))) answer }
+    ensures causes { (name : List ℕ) (old new : World) (answer : Answer) → ProxyAccounts name answer old new → IsProxyCauseOf name answer old new }
 {}
 
 /// A drill is asked for by just these words: `drill`, and the decimal text of a number from 1 to 100,000.

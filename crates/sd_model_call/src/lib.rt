@@ -6,5 +6,5 @@ mod completeness;
 
 pub use completeness::{
     blocked_calls_stop, drill_words_are_decimal, drills_complete, faults_are_kept,
-    unhindered_calls_complete, unhindered_replays_complete,
+    unhindered_calls_complete, unhindered_proxies_relay, unhindered_replays_complete,
 };
