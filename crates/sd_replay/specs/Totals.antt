@@ -4,6 +4,7 @@ use Rattle.sd_model_record.specs.Desk.{Desk}
 use Rattle.sd_model_replay.specs.Totals as model
 use Rattle.sd_shards.specs.Shards.{Group}
 use Rattle.sd_shards.specs.Book.{summed}
+use Rattle.sd_shards.specs.declared.book.ShardsBook.{ShardsBook}
 use Rattle.sd_replay.specs.declared.totals.Totals.{Totals}
 
 abbrev pub totals_view : Totals → model.Totals
@@ -22,6 +23,25 @@ totals_view t =
       console_faults = t.console_faults;
       repeater_faults = t.repeater_faults;
       admin_faults = t.admin_faults;
+    }
+
+-- the totals of shards with these numbers all together, and of a desk
+abbrev pub totals_by : ShardsBook → Desk → model.Totals
+totals_by book desk =
+    record {
+      packets = desk.totals.packets;
+      lines = desk.totals.lines;
+      bad = desk.totals.bad;
+      taken = book.taken;
+      dropped = book.dropped;
+      flushed = book.flushed;
+      held = book.held;
+      deleted = book.deleted;
+      rounds = desk.rounds;
+      graphite_faults = desk.graphite_faults;
+      console_faults = desk.console_faults;
+      repeater_faults = desk.repeater_faults;
+      admin_faults = desk.admin_faults;
     }
 
 -- the totals of shards and a desk

@@ -52,23 +52,7 @@ pub enum ReplayEnd {
 fn totals_of(shards: &Shards, desk: &Desk) -> Totals
     ensures { totals_view result ≡ totals_of_group shards.now desk.now }
 {
-    let book = shards.book();
-    let facts = desk.facts();
-    Totals {
-        packets: u128::from(facts.totals.packets),
-        lines: u128::from(facts.totals.lines),
-        bad: u128::from(facts.totals.bad),
-        taken: book.taken,
-        dropped: book.dropped,
-        flushed: book.flushed,
-        held: book.held,
-        deleted: book.deleted,
-        rounds: u128::from(facts.rounds),
-        graphite_faults: u128::from(facts.graphite_faults),
-        console_faults: u128::from(facts.console_faults),
-        repeater_faults: u128::from(facts.repeater_faults),
-        admin_faults: u128::from(facts.admin_faults),
-    }
+    Totals::new(&shards.book(), desk)
 }
 
 /// Sends a datagram on each wire, files its samples, and counts it at its moment.

@@ -1,10 +1,12 @@
 ghost use Rattle.std.specs.Prelude.{◌≡◌, ◌+◌, ◌≤◌, ◌++◌, length, OnOk, OnErr};
 ghost use Rattle.sd_model_outside.specs.Outside.{HasFailedBehind, given};
 ghost use Rattle.sd_model_replay.specs.Totals.{total_line, totals_text as lines_of};
-ghost use Rattle.sd_replay.specs.Totals.{totals_view};
+ghost use Rattle.sd_replay.specs.Totals.{totals_by, totals_view};
 
 use sd_decimal::{Line, write_whole};
+use sd_desk::Desk;
 use sd_outside::{Sink, WriteFault};
+use sd_shards::ShardsBook;
 use sd_text::write_line;
 
 /// What a replay or a server counted, in whole numbers.
@@ -23,6 +25,30 @@ pub struct Totals {
     pub console_faults: u128,
     pub repeater_faults: u128,
     pub admin_faults: u128,
+}
+
+impl Totals {
+    /// The totals of shards with these numbers all together, and of a desk.
+    pub fn new(book: &ShardsBook, desk: &Desk) -> Totals
+        ensures { totals_view result ≡ totals_by book.now desk.now }
+    {
+        let facts = desk.facts();
+        Totals {
+            packets: u128::from(facts.totals.packets),
+            lines: u128::from(facts.totals.lines),
+            bad: u128::from(facts.totals.bad),
+            taken: book.taken,
+            dropped: book.dropped,
+            flushed: book.flushed,
+            held: book.held,
+            deleted: book.deleted,
+            rounds: u128::from(facts.rounds),
+            graphite_faults: u128::from(facts.graphite_faults),
+            console_faults: u128::from(facts.console_faults),
+            repeater_faults: u128::from(facts.repeater_faults),
+            admin_faults: u128::from(facts.admin_faults),
+        }
+    }
 }
 
 /// Appends a line: the name, a space, the number and a newline.

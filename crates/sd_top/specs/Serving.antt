@@ -8,6 +8,8 @@ use Rattle.sd_model_call.specs.Call.{Answer}
 use Rattle.sd_model_call.specs.Server.{ends_answer}
 use Rattle.sd_outside.specs.declared.datagrams.Ended.{Ended}
 use Rattle.sd_shard.specs.declared.shard.ShardBook.{ShardBook}
+use Rattle.sd_shards.specs.declared.book.ShardsBook.{ShardsBook}
+use Rattle.sd_replay.specs.Totals.{totals_by}
 use Rattle.sd_serve.specs.Room.{Sizing}
 use Rattle.sd_serve.specs.Serving.{door_end_of, end_of}
 use Rattle.sd_serve.specs.declared.workers.Ends.{Ends}
@@ -20,21 +22,17 @@ sizing_by s = record { limits = limits_of s; policy = policy_of s; shards = s.si
 abbrev pub ends_of : List Ended → Ends → Answer
 ends_of received ends = ends_answer (map end_of received) (end_of ends.flusher) (door_end_of ends.keeper)
 
+-- the numbers of all shards together
+abbrev pub sums_of : List ShardBook → ShardsBook
+sums_of books =
+    record {
+      taken = sum_by (λ (b : ShardBook). b.taken) books;
+      flushed = sum_by (λ (b : ShardBook). b.flushed) books;
+      deleted = sum_by (λ (b : ShardBook). b.deleted) books;
+      dropped = sum_by (λ (b : ShardBook). b.dropped) books;
+      held = sum_by (λ (b : ShardBook). b.held) books;
+    }
+
 -- the totals of shards with these numbers, and of a desk
 abbrev pub totals_in : List ShardBook → Desk → model.Totals
-totals_in books desk =
-    record {
-      packets = desk.totals.packets;
-      lines = desk.totals.lines;
-      bad = desk.totals.bad;
-      taken = sum_by (λ (b : ShardBook). b.taken) books;
-      dropped = sum_by (λ (b : ShardBook). b.dropped) books;
-      flushed = sum_by (λ (b : ShardBook). b.flushed) books;
-      held = sum_by (λ (b : ShardBook). b.held) books;
-      deleted = sum_by (λ (b : ShardBook). b.deleted) books;
-      rounds = desk.rounds;
-      graphite_faults = desk.graphite_faults;
-      console_faults = desk.console_faults;
-      repeater_faults = desk.repeater_faults;
-      admin_faults = desk.admin_faults;
-    }
+totals_in books desk = totals_by (sums_of books) desk

@@ -57,23 +57,7 @@ fn totals_of(books: &[ShardBook], desk: &Desk) -> Totals
     requires { length books.now ≤ 16 }
     ensures { totals_view result ≡ totals_in books.now desk.now }
 {
-    let book = add_up(books);
-    let facts = desk.facts();
-    Totals {
-        packets: u128::from(facts.totals.packets),
-        lines: u128::from(facts.totals.lines),
-        bad: u128::from(facts.totals.bad),
-        taken: book.taken,
-        dropped: book.dropped,
-        flushed: book.flushed,
-        held: book.held,
-        deleted: book.deleted,
-        rounds: u128::from(facts.rounds),
-        graphite_faults: u128::from(facts.graphite_faults),
-        console_faults: u128::from(facts.console_faults),
-        repeater_faults: u128::from(facts.repeater_faults),
-        admin_faults: u128::from(facts.admin_faults),
-    }
+    Totals::new(&add_up(books), desk)
 }
 
 /// The status by the receiver of least number that failed, of receivers of which the first has this number; where none failed,
