@@ -1,0 +1,79 @@
+// Sends datagrams to a port of this machine for some seconds, and prints how many it sent.
+//
+//     flood PORT one|mixed RATE SECONDS
+//
+// `one` is datagrams of one counter's line, `mixed` of 40 lines of all kinds; both over 1,000 names. RATE is in datagrams a
+// second; 0 is as many as can be.
+#define _GNU_SOURCE
+#include <arpa/inet.h>
+#include <errno.h>
+#include <stdio.h>
+#include <stdlib.h>
+#include <string.h>
+#include <sys/socket.h>
+#include <time.h>
+
+enum { NAMES = 1000, LINES = 40, BATCH = 16 };
+
+static char text[NAMES][LINES * 48];
+static size_t length[NAMES];
+
+static double now(void) {
+    struct timespec t;
+    clock_gettime(CLOCK_MONOTONIC, &t);
+    return t.tv_sec + t.tv_nsec * 1e-9;
+}
+
+static int line(char *to, int i) {
+    int name = i % NAMES;
+    switch (i % 8) {
+    case 0:
+        return sprintf(to, "web.host%d.latency:%d|ms\n", name, i % 997);
+    case 1:
+        return sprintf(to, "web.host%d.users:u%d|s\n", name, i % 512);
+    case 2:
+        return sprintf(to, "web.host%d.load:%d.%d|g\n", name, i % 64, i % 10);
+    default:
+        return sprintf(to, "web.host%d.requests:%d|c%s\n", name, i % 3 + 1, i % 5 ? "" : "|@0.5");
+    }
+}
+
+int main(int argc, char **argv) {
+    if (argc != 5) {
+        fprintf(stderr, "usage: flood PORT one|mixed RATE SECONDS\n");
+        return 2;
+    }
+    int lines = strcmp(argv[2], "one") ? LINES : 1;
+    double rate = atof(argv[3]), seconds = atof(argv[4]);
+    for (int i = 0; i < NAMES; i++)
+        for (int j = 0; j < lines; j++)
+            length[i] += lines == 1 ? sprintf(text[i], "web.host%d.requests:1|c\n", i) : line(text[i] + length[i], i * 37 + j * 101);
+
+    struct sockaddr_in to = {.sin_family = AF_INET, .sin_port = htons(atoi(argv[1])), .sin_addr.s_addr = htonl(INADDR_LOOPBACK)};
+    int s = socket(AF_INET, SOCK_DGRAM, 0);
+    if (s < 0 || connect(s, (struct sockaddr *)&to, sizeof to) < 0)
+        return perror("flood"), 1;
+    struct iovec part[BATCH];
+    struct mmsghdr batch[BATCH];
+    memset(batch, 0, sizeof batch);
+    for (int i = 0; i < BATCH; i++) {
+        batch[i].msg_hdr.msg_iov = &part[i];
+        batch[i].msg_hdr.msg_iovlen = 1;
+    }
+    unsigned long long sent = 0;
+    double start = now(), at = start;
+    for (unsigned next = 0; at - start < seconds; at = now()) {
+        if (rate > 0 && sent >= (at - start) * rate) {
+            struct timespec nap = {0, 50000};
+            nanosleep(&nap, NULL);
+            continue;
+        }
+        for (int i = 0; i < BATCH; i++, next = (next + 1) % NAMES)
+            part[i] = (struct iovec){text[next], length[next]};
+        int n = sendmmsg(s, batch, BATCH, 0);
+        if (n < 0 && errno != ECONNREFUSED && errno != ENOBUFS)
+            return perror("flood"), 1;
+        sent += n < 0 ? 0 : n;
+    }
+    printf("%llu\n", sent);
+}
