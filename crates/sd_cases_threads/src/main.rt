@@ -10,7 +10,7 @@ mod register;
 
 use book::add_both;
 use desk::{Counted, add_and_take, each_call};
-use puts::{Done, put_both};
+use puts::{Done, open_many, put_both};
 use sd_desk::Tally;
 use std::alloc::{AllocError, Global};
 use std::io;
@@ -86,6 +86,20 @@ fn turn_case<R: Threads + Wait + Sync>(
     )
 }
 
+// A turn for so many seats.
+fn seats_case(alloc: Global, seats: u32) -> Result<String, AllocError> {
+    let Ok(seats) = u16::try_from(seats) else {
+        return format!(in alloc; "too many");
+    };
+    if seats == 0 {
+        return format!(in alloc; "too few");
+    }
+    match open_many(alloc, seats)? {
+        (count, Some(last)) => format!(in alloc; "{count}, the last {last}"),
+        (count, None) => format!(in alloc; "{count}"),
+    }
+}
+
 fn tally_text(alloc: Global, t: Tally) -> Result<String, AllocError> {
     format!(in alloc;
         "{} packets, {} lines, {} bad, {} dropped",
@@ -136,6 +150,7 @@ fn answer<R: Threads + Wait + Sync>(
     match (name, first, second) {
         ("ledger", Ok(first), Ok(second)) => ledger_case(rt, alloc, first, second),
         ("turn", Ok(first), Ok(second)) => turn_case(rt, alloc, first, second),
+        ("seats", Ok(seats), _) => seats_case(alloc, seats),
         ("desk", Ok(first), Ok(second)) => desk_case(rt, alloc, first, second),
         ("facts", Ok(lines), Ok(bad)) => facts_case(rt, alloc, lines, bad),
         _ => format!(in alloc; "no such case"),

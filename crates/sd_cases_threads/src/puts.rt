@@ -1,5 +1,5 @@
 //! Two threads over one register.
-ghost use Rattle.std.specs.Prelude.{◌≡◌, false, List, map, IfOk};
+ghost use Rattle.std.specs.Prelude.{◌≡◌, ◌<◌, false, List, map, IfOk};
 ghost use Rattle.sd_turn.specs.Turn.{IsSeatOf, number_of};
 ghost use Rattle.sd_cases_threads.specs.Puts.{IsLegal, sum_after};
 ghost use Rattle.sd_cases_threads.specs.declared.register.Event.{Event};
@@ -108,4 +108,18 @@ pub fn put_both<R: Threads + Wait + Sync>(
         first: one.found,
         second: two.found,
     })
+}
+
+/// How many seats a turn has that is opened for so many, and the last one's number.
+pub fn open_many(alloc: Global, seats: u16) -> Result<(usize, Option<u16>), AllocError>
+    requires { 0 < seats }
+{
+    let empty = Register {
+        seats,
+        sum: 0,
+        log: Vec::new(alloc),
+        missed: false,
+    };
+    let (_turn, seats) = Turn::open(alloc, empty, seats)?;
+    Ok((seats.len(), seats.last().map(|seat| seat.number())))
 }
