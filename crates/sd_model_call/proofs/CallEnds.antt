@@ -17,7 +17,7 @@ use Rattle.sd_model_replay.specs.Ends.{End, Complete, Faulted, ReadFailed, Write
 use Rattle.sd_model_call.specs.Words.{Form}
 use Rattle.sd_model_call.specs.Opening.{World, Part, OfSettings, OfScript, OfSource, OfBeat, OfWire, OfGraphite, OfConsole, OfDoor, AreRead, longest_file, started}
 use Rattle.sd_model_call.specs.Call.{Account, Answer, Done, NoMemory, NoForm, Misset, BadScript, NotOpened, NotRead, NotWritten, Worn, Answers, AnswersReplay, Accounts, StopsAt, TakesSettings, Ran, ending}
-use Rattle.sd_model_call.specs.Completeness.{Asks, AsksPlainly, IsSteady, IsUnhindered, IsCutOff, IsLongest, IsWhole, IsFull, IsBlocked, IsOutward, CarriedOut, NoneMissed, refusal}
+use Rattle.sd_model_call.specs.Completeness.{Asks, AsksPlainly, IsSteady, IsUnhindered, IsCutOff, IsLongest, IsWhole, IsBlocked, IsOutward, CarriedOut, NoneMissed, refusal}
 use Rattle.sd_model_call.proofs.ReplayEnds.{LeftBehind, left_behind, carries_out}
 use Rattle.sd_model_call.proofs.Openings.{IsNamed, is_named, opened_where_faults, opened_wire_faults}
 
@@ -30,10 +30,10 @@ module _ (s : Settings) (name : List ℕ) (old new : Seen) where
   unhindered_started commands rest h = record { steady = steady_started commands (end_word ++ rest) h.steady; few = h.few; output_faults = h.output_faults }
 
   pub cut_started : (commands : List Command) (flaw : ScriptFlaw) (bytes : List ℕ) → IsCutOff s old new commands flaw bytes → IsCutOff s (started s name old) new commands flaw bytes
-  cut_started commands flaw bytes h = record { steady = steady_started commands bytes h.steady; few = h.few; begins = h.begins; heard = h.heard }
+  cut_started commands flaw bytes h = record { steady = steady_started commands bytes h.steady; few = h.few; begins = h.begins }
 
   pub longest_started : (commands : List Command) (bytes : List ℕ) → IsLongest s old new commands bytes → IsLongest s (started s name old) new commands bytes
-  longest_started commands bytes h = record { steady = steady_started commands bytes h.steady; most = h.most; heard = h.heard }
+  longest_started commands bytes h = record { steady = steady_started commands bytes h.steady; most = h.most }
 
   pub none_missed_started : NoneMissed s old new → NoneMissed s (started s name old) new
   none_missed_started none = record { backends = backends; wires = wires } where
@@ -89,14 +89,18 @@ module _ (words : List (List ℕ)) (values : file.Settings) (old new : World) (p
   pub answers_so : (answer : Answer) (h : Accounts words old new answer) → AnswersReplay name script answer h.account old new
   answers_so answer h = (subst (λ (f : Option Form). Answers f answer h.account old new) plainly.asks.form h.answers).0
 
-  module _ (expected : Answer)
-      (only : (end : End) → Replayed (goes_by values) end (started (goes_by values) script old.seen) new.seen → ending end ≡ expected)
+  -- these answers, or that no memory was left, or that a wire or a backend couldn't be opened
+  abbrev pub IsAmong : (Answer → Type 0) → Answer → Type 0
+  IsAmong Expected answer = (Expected answer ⊎ (answer ≡ NoMemory)) ⊎ ((part : Part) × IsOutward part × (answer ≡ NotOpened part))
+
+  module _ (Expected : Answer → Type 0)
+      (only : (end : End) → Replayed (goes_by values) end (started (goes_by values) script old.seen) new.seen → Expected (ending end))
       (script_faults : ¬ Rose old.seen.script.faults new.seen.script.faults) where
-    at_end : (end : End) (a : Account) → AccountingTheorem a.force a.course a.start a.end → Ran end name script a old new → IsFull expected (ending end)
+    at_end : (end : End) (a : Account) → AccountingTheorem a.force a.course a.start a.end → Ran end name script a old new → IsAmong Expected (ending end)
     at_end end a theorem ran =
         inl (inl (only end (subst (λ (f : Settings). Replayed f end (started f script old.seen) new.seen) (ran_by end a ran) (replayed end name script a old new theorem ran))))
 
-    full_by : (answer : Answer) (a : Account) → AccountingTheorem a.force a.course a.start a.end → AnswersReplay name script answer a old new → IsFull expected answer
+    full_by : (answer : Answer) (a : Account) → AccountingTheorem a.force a.course a.start a.end → AnswersReplay name script answer a old new → IsAmong Expected answer
     full_by Done a theorem h = at_end (Complete (totals_after a.force a.course.played)) a theorem h
     full_by NoMemory a theorem h = inl (inr refl)
     full_by NoForm a theorem h = absurd h
@@ -123,7 +127,7 @@ module _ (words : List (List ℕ)) (values : file.Settings) (old new : World) (p
     full_by NotWritten a theorem h = at_end WriteFailed a theorem h
     full_by (Worn turns) a theorem h = at_end (WornOut turns) a theorem h
 
-    pub full_answer : (answer : Answer) → Accounts words old new answer → IsFull expected answer
+    pub full_answer : (answer : Answer) → Accounts words old new answer → IsAmong Expected answer
     full_answer answer h = full_by answer h.account h.theorem (answers_so answer h)
 
   -- a wire or a backend that couldn't be opened is named

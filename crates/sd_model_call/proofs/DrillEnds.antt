@@ -17,10 +17,10 @@ use Rattle.sd_model_replay.specs.Ends.{End, Complete, WriteFailed, EndsAs, most_
 use Rattle.sd_model_call.specs.Words.{most_packets}
 use Rattle.sd_model_call.specs.Faultless.{well, well_mark}
 use Rattle.sd_model_call.specs.Drill.{bytes_counted, drill_settings, drill_start, drilled}
-use Rattle.sd_model_call.specs.Completeness.{IsSilent, IsSteady, NoneMissed}
+use Rattle.sd_model_call.specs.Completeness.{IsSteady, NoneMissed}
 use Rattle.sd_model_replay.proofs.MadeLemmas.{legal_commands}
 use Rattle.sd_model_outside.proofs.WriteLemmas.{behind-later}
-use Rattle.sd_model_call.proofs.ReplayEnds.{all_carried_out, commands_of, deliveries_from, ends_whole, no_reply, played_well, silent_in}
+use Rattle.sd_model_call.proofs.ReplayEnds.{IsSilent, all_carried_out, commands_of, deliveries_from, ends_whole, no_reply, played_well, silent_in}
 
 -- the flush behind a packet, before others: one record more at most, to which nothing is replied
 flush_by_length : (b : Bool) (ts n : ℕ) (behind : List Command) → length behind ≤ n → length ((if b then Flush ts ∷ [] else []) ++ behind) ≤ n + 1
@@ -182,6 +182,6 @@ module _ (n : ℕ) (few : n ≤ most_packets) (output : Object) (new : Seen) (sc
                       (subst (λ t. HasFailedBehind t (given [] output) new.output) text (subst (λ out. HasFailedBehind h.text (given out output) new.output) before h.failed)),
                 );
               }
-          | inr reply ↦ absurd (no_reply drill_settings (drill_start n output) new (made_commands n) [] steady few_records course theorem (λ rose. made_silent n) h reply)
+          | inr reply ↦ absurd (no_reply drill_settings (drill_start n output) new (made_commands n) [] steady few_records course theorem (made_silent n) h reply)
         ]
   ]

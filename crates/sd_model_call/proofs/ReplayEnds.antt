@@ -12,12 +12,13 @@ use Rattle.sd_model_replay.specs.Script.{Command, Packet, Flush, Admin, spelled,
 use Rattle.sd_model_replay.specs.Next.{ScriptFlaw, Next, Carried, Ending, Faulty, Begins}
 use Rattle.sd_model_settings.specs.Entries.{Target}
 use Rattle.sd_model_record.specs.Repeater.{AfterSendings, missed_on, wire_at, Sending}
-use Rattle.sd_model_replay.specs.Replay.{Outcome, Played, Run, IsOutcome, first_run, run_of, play, flushes, deliveries, sendings}
+use Rattle.sd_model_shard.specs.Shard.{table_of}
+use Rattle.sd_model_replay.specs.Replay.{Outcome, Played, Run, IsOutcome, first_run, run_of, play, rounds_from, deliveries, sendings}
 use Rattle.sd_model_replay.specs.Output.{output_in, output_of}
 use Rattle.sd_model_replay.specs.Totals.{Totals, totals_after, totals_text}
 use Rattle.sd_model_replay.specs.AccountingTheorem.{Seen, Course, AccountingTheorem, seen_at}
-use Rattle.sd_model_replay.specs.Ends.{End, Complete, Faulted, ReadFailed, WriteFailed, WornOut, most_records, AreFew, StopsFor, IsInReply, IsBrokenOff, EndsAs, Replayed, behind}
-use Rattle.sd_model_call.specs.Completeness.{IsSilent, IsHeard, IsSteady, IsUnhindered, IsCutOff, IsLongest, CarriedOut, CarriedOutWell, NoneMissed}
+use Rattle.sd_model_replay.specs.Ends.{End, Complete, Faulted, ReadFailed, WriteFailed, WornOut, most_records, StopsFor, IsInReply, IsBrokenOff, EndsAs, Replayed, behind}
+use Rattle.sd_model_call.specs.Completeness.{EndsSo, IsSteady, IsUnhindered, IsCutOff, IsLongest, CarriedOut, CarriedOutWell, NoneMissed}
 use Rattle.sd_model_call.specs.Faultless.{well, well_mark, well_sent}
 use Rattle.sd_model_replay.proofs.ReadingLemmas.{Behind, ended_script, cut_script, one_script, one_end, not_end, begins, begins_record}
 use Rattle.sd_model_replay.proofs.NextLemmas.{one_next, next_stays}
@@ -101,6 +102,12 @@ module _ (settings : Settings) (old new : Seen) (commands : List Command) (bytes
   no_read_failed : EndsAs settings ReadFailed course old new → ⊥
   no_read_failed ends = absurd (steady.script_faults ends.script_faults)
 
+-- a record to which nothing is replied, whatever it holds: only an admin line has replies
+abbrev pub IsSilent : Command → Type 0
+IsSilent (Packet who moment datagram) = ⊤
+IsSilent (Flush ts) = ⊤
+IsSilent (Admin moment line) = ⊥
+
 -- nothing is written of a record that is silent
 pub silent_in : (settings : Settings) (run : Run) (c : Command) → IsSilent c → output_in settings run c ≡ []
 silent_in settings run (Packet who moment datagram) silent = refl
@@ -112,11 +119,11 @@ last_silent : (before : List Played) (last : Played) (behind : List Command) →
 last_silent [] last behind all = all.0
 last_silent (p ∷ before) last behind all = last_silent before last behind all.1
 
--- no write of a reply failed to records that are heard
-no_reply_failed : (settings : Settings) (old new : Seen) (commands behind : List Command) (course : Course) → IsHeard old new commands → commands ≡ commands_of course.played ++ behind
+-- no write of a reply failed to records that are silent
+no_reply_failed : (settings : Settings) (old new : Seen) (commands behind : List Command) (course : Course) → AllByRecursion IsSilent commands → commands ≡ commands_of course.played ++ behind
     → (h : IsBrokenOff settings course old.output new.output) → IsInReply settings course h.before h.text → ⊥
-no_reply_failed settings old new commands behind course heard whole h reply =
-    let played = subst (λ ps. AllByRecursion IsSilent (commands_of ps ++ behind)) reply.order (subst (AllByRecursion IsSilent) whole (heard h.failed.rose)) in
+no_reply_failed settings old new commands behind course silent whole h reply =
+    let played = subst (λ ps. AllByRecursion IsSilent (commands_of ps ++ behind)) reply.order (subst (AllByRecursion IsSilent) whole silent) in
     let nothing = reply.replies ∙ silent_in settings (run_of settings (first_run course.played) h.before) reply.last.command (last_silent h.before reply.last behind played) in
     omega (arith, h.failed.front.1, ap length nothing)
 
@@ -151,8 +158,8 @@ module _ (settings : Settings) (old new : Seen) (commands : List Command) (rest 
       absurd (omega (arith, few, ends.read.1, ap length h.whole, length-append (commands_of course.played) h.behind, length-map course.played (λ (p : Played). p.command)))
 
   -- and not of a reply, where nothing is replied
-  pub no_reply : IsHeard old new commands → (h : IsBrokenOff settings course old.output new.output) → IsInReply settings course h.before h.text → ⊥
-  no_reply heard h reply = let b = ended_behind reached_end in no_reply_failed settings old new commands b.behind course heard b.whole h reply
+  pub no_reply : AllByRecursion IsSilent commands → (h : IsBrokenOff settings course old.output new.output) → IsInReply settings course h.before h.text → ⊥
+  no_reply silent h reply = let b = ended_behind reached_end in no_reply_failed settings old new commands b.behind course silent b.whole h reply
 
   ends_complete : ¬ Rose old.output.faults new.output.faults → (end : End) → EndsAs settings end course old new → (totals : Totals) × (end ≡ Complete totals)
   ends_complete steady_output end ends = elim (ends_whole end ends) [
@@ -227,19 +234,16 @@ module _ (settings : Settings) (old new : Seen) (commands : List Command) (flaw 
       let same_flaw : flaw ≡ other = (let both : Faulty flaw ≡ Faulty other = same.1 in cc) in
       ap (λ f. Faulted at f) (sym same_flaw) ∙ ap (λ n. Faulted n flaw) (ends.place ∙ ap (λ cs. min (length (script_text cs)) last_count) (sym same.0))
 
-  ends_cut : (end : End) → EndsAs settings end course old new → end ≡ Faulted (min (length (script_text commands)) last_count) flaw
+  ends_cut : (end : End) → EndsAs settings end course old new → EndsSo (Faulted (min (length (script_text commands)) last_count) flaw) end
   ends_cut (Complete totals) ends = absurd (no_end_there ends.read.1.0 ends.read.1.1)
-  ends_cut (Faulted at other) ends = ends_stop other at ends.read
+  ends_cut (Faulted at other) ends = inl (ends_stop other at ends.read)
   ends_cut ReadFailed ends = absurd (no_read_failed settings old new commands bytes cut.steady course theorem ends)
-  ends_cut WriteFailed ends = elim ends.output.writing [
-    | inl totals ↦ absurd (no_end_there totals.ends.0 totals.ends.1)
-    | inr reply ↦ let h = cut_behind reached_cut in absurd (no_reply_failed settings old new commands h.behind course cut.heard h.whole ends.output reply)
-  ]
+  ends_cut WriteFailed ends = inr refl
   ends_cut (WornOut turns) ends =
       let h = cut_behind reached_cut in
       absurd (omega (arith, cut.few, ends.read.1, ap length h.whole, length-append (commands_of course.played) h.behind, length-map course.played (λ (p : Played). p.command)))
 
-pub replay_stops : (settings : Settings) (old new : Seen) (commands : List Command) (flaw : ScriptFlaw) (bytes : List ℕ) (end : End) → IsCutOff settings old new commands flaw bytes → Replayed settings end old new → end ≡ Faulted (min (length (script_text commands)) last_count) flaw
+pub replay_stops : (settings : Settings) (old new : Seen) (commands : List Command) (flaw : ScriptFlaw) (bytes : List ℕ) (end : End) → IsCutOff settings old new commands flaw bytes → Replayed settings end old new → EndsSo (Faulted (min (length (script_text commands)) last_count) flaw) end
 replay_stops settings old new commands flaw bytes end cut h = ends_cut settings old new commands flaw bytes cut h.course h.theorem end h.ends
 
 -- of a script of as many records as there may be
@@ -272,25 +276,14 @@ module _ (settings : Settings) (old new : Seen) (commands : List Command) (bytes
       not_stop settings.receivers (course.ahead ++ r.left) next (Carried one.0) (Left []) (Left []) stop (λ h. h)
       (stop_stands settings old new commands bytes longest.steady course theorem r next at ends) (one.2, (one.1, one.3))
 
-  no_reply_behind : (h : IsBrokenOff settings course old.output new.output) → IsInReply settings course h.before h.text → ⊥
-  no_reply_behind h reply =
-      let counted = length-map course.played (λ (p : Played). p.command) in
-      elim (one_script settings.receivers commands (commands_of course.played) bytes (course.ahead ++ reached_more.left) longest.steady.legal (all_legal settings.receivers course.played theorem.legal) reached_more.same) [
-        | inl b ↦ no_reply_failed settings old new commands b.behind course longest.heard b.whole h reply
-        | inr b ↦ absurd (omega (arith, h.few, longest.most, b.0, counted, ap length reply.order, length-append h.before (reply.last ∷ [])))
-      ]
-
-  ends_worn : (end : End) → EndsAs settings end course old new → end ≡ WornOut most_records
+  ends_worn : (end : End) → EndsAs settings end course old new → EndsSo (WornOut most_records) end
   ends_worn (Complete totals) ends = absurd (no_end_behind ends.read.1.0 ends.read.0 ends.read.1.1)
   ends_worn (Faulted at flaw) ends = absurd (no_stop_behind (Faulty flaw) at tt ends.read)
   ends_worn ReadFailed ends = absurd (no_read_failed settings old new commands bytes longest.steady course theorem ends)
-  ends_worn WriteFailed ends = elim ends.output.writing [
-    | inl totals ↦ absurd (no_end_behind totals.ends.0 (subst AreFew totals.all ends.output.few) totals.ends.1)
-    | inr reply ↦ absurd (no_reply_behind ends.output reply)
-  ]
-  ends_worn (WornOut turns) ends = ap WornOut ends.read.0
+  ends_worn WriteFailed ends = inr refl
+  ends_worn (WornOut turns) ends = inl (ap WornOut ends.read.0)
 
-pub replay_wears_out : (settings : Settings) (old new : Seen) (commands : List Command) (bytes : List ℕ) (end : End) → IsLongest settings old new commands bytes → Replayed settings end old new → end ≡ WornOut most_records
+pub replay_wears_out : (settings : Settings) (old new : Seen) (commands : List Command) (bytes : List ℕ) (end : End) → IsLongest settings old new commands bytes → Replayed settings end old new → EndsSo (WornOut most_records) end
 replay_wears_out settings old new commands bytes end longest h = ends_worn settings old new commands bytes longest h.course h.theorem end h.ends
 
 -- what a send counts as a fault
@@ -309,9 +302,9 @@ none_failed (f ∷ failed) [] count none = absurd (omega (arith, count))
 
 -- Records carried out where no backend that is used missed a flush, and no packet was missed on the wire of a target.
 module _ (settings : Settings) where
-  -- what flushes have for a backend, from a state on
+  -- what rounds have for a backend, from a state on
   abbrev pub deliveries_from : Run → Backend → List Played → List Delivery
-  deliveries_from run back played = map (delivery_of settings back) (flushes settings run played)
+  deliveries_from run back played = map (delivery_of settings back) (rounds_from settings run played)
 
   -- no backend that is used missed one
   abbrev IsMet : Run → List Played → Type 0
@@ -325,7 +318,7 @@ module _ (settings : Settings) where
   missed-flush : (run : Run) (ts : ℕ) (outcome : Outcome) (played : List Played) (back : Backend) → missed (deliveries_from run back (record { command = Flush ts; outcome = outcome } ∷ played))
       ≡ fault_of (mark_of back outcome.marks) + missed (deliveries_from (play settings run (record { command = Flush ts; outcome = outcome })) back played)
   missed-flush run ts outcome played back =
-      sum_by-cons (λ (d : Delivery). fault_of d.mark) (delivery_of settings back (record { before = run; ts = ts; marks = outcome.marks }))
+      sum_by-cons (λ (d : Delivery). fault_of d.mark) (delivery_of settings back (record { ts = ts; tally = run.desk.tally; tables = λ i. table_of (run.shards i); marks = outcome.marks }))
       (deliveries_from (play settings run (record { command = Flush ts; outcome = outcome })) back played)
 
   -- no packet was missed on the wire of a target

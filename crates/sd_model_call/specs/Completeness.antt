@@ -5,20 +5,20 @@ use Rattle.sd_model_outside.specs.Outside.{Left, Rose, given}
 use Rattle.sd_model_outside.specs.Deliveries.{AfterDeliveries}
 use Rattle.sd_model_replay.specs.Settings.{Settings, is_used}
 use Rattle.sd_model_record.specs.Backends.{Backend}
-use Rattle.sd_model_replay.specs.Script.{Command, Packet, Flush, Admin, end_word, script_text, IsLegal}
+use Rattle.sd_model_replay.specs.Script.{Command, end_word, script_text, IsLegal}
 use Rattle.sd_model_replay.specs.Next.{ScriptFlaw, Faulty, Begins}
 use Rattle.sd_model_record.specs.Repeater.{AfterSendings, wire_at}
 use Rattle.sd_model_replay.specs.Replay.{deliveries, sendings}
 use Rattle.sd_model_replay.specs.Output.{output_of}
 use Rattle.sd_model_replay.specs.Totals.{totals_after, totals_text}
 use Rattle.sd_model_replay.specs.AccountingTheorem.{Seen, Course, AccountingTheorem, seen_at}
-use Rattle.sd_model_replay.specs.Ends.{most_records, behind}
+use Rattle.sd_model_replay.specs.Ends.{End, WriteFailed, most_records, behind}
 use Rattle.sd_model_call.specs.Faultless.{well}
 use Rattle.sd_model_call.specs.Words.{Replay, form}
 use Rattle.sd_model_settings.specs.Settings as file
 use Rattle.sd_model_settings.specs.Settings.{SettingsFlaw, settings}
 use Rattle.sd_model_call.specs.Opening.{World, Part, OfSettings, OfScript, OfSource, OfBeat, OfWire, OfGraphite, OfConsole, OfDoor}
-use Rattle.sd_model_call.specs.Call.{Answer, NoMemory, Misset, NotOpened, NotRead}
+use Rattle.sd_model_call.specs.Call.{Answer, NoMemory, Misset, NotOpened, NotRead, NotWritten}
 
 -- The script tells that it has these legal records and then these bytes, and no fault was counted of it.
 pub record IsSteady (settings : Settings) (old new : Seen) (commands : List Command) (bytes : List ℕ) : Type 0 where
@@ -33,29 +33,20 @@ pub record IsUnhindered (settings : Settings) (old new : Seen) (commands : List 
   pub few : length commands < most_records
   pub output_faults : ¬ Rose old.output.faults new.output.faults
 
--- a record to which nothing is replied, whatever it holds: only an admin line has replies
-abbrev pub IsSilent : Command → Type 0
-IsSilent (Packet who moment datagram) = ⊤
-IsSilent (Flush ts) = ⊤
-IsSilent (Admin moment line) = ⊥
-
--- no fault was counted of the output, or nothing is replied to these records
-abbrev pub IsHeard : Seen → Seen → List Command → Type 0
-IsHeard old new commands = Rose old.output.faults new.output.faults → AllByRecursion IsSilent commands
-
--- fewer records than there may be, whose replies nothing hinders, and behind them this flaw stands next in all that the script
--- has left
+-- fewer records than there may be, and behind them this flaw stands next in all that the script has left
 pub record IsCutOff (settings : Settings) (old new : Seen) (commands : List Command) (flaw : ScriptFlaw) (bytes : List ℕ) : Type 0 where
   pub steady : IsSteady settings old new commands bytes
   pub few : length commands < most_records
   pub begins : Begins settings.receivers (Faulty flaw) bytes (Left [])
-  pub heard : IsHeard old new commands
 
--- as many records as there may be, whose replies nothing hinders
+-- as many records as there may be
 pub record IsLongest (settings : Settings) (old new : Seen) (commands : List Command) (bytes : List ℕ) : Type 0 where
   pub steady : IsSteady settings old new commands bytes
   pub most : length commands ≡ most_records
-  pub heard : IsHeard old new commands
+
+-- a replay ends so, or a write failed
+abbrev pub EndsSo : End → End → Type 0
+EndsSo ended end = (end ≡ ended) ⊎ (end ≡ WriteFailed)
 
 -- The words ask for a replay, and the settings tell that they have these bytes.
 pub record Asks (words : List (List ℕ)) (old new : World) (bytes : List ℕ) : Type 0 where
@@ -94,6 +85,10 @@ IsOutward OfDoor = ⊥
 -- besides, that a wire or a backend couldn't be opened
 abbrev pub IsFull : Answer → Answer → Type 0
 IsFull ended answer = IsWhole ended answer ⊎ ((part : Part) × IsOutward part × (answer ≡ NotOpened part))
+
+-- besides, that the output failed
+abbrev pub IsTold : Answer → Answer → Type 0
+IsTold ended answer = IsFull ended answer ⊎ (answer ≡ NotWritten)
 
 -- what a call has to answer whose settings have a flaw; with nothing told, all else
 abbrev pub refusal : Result file.Settings SettingsFlaw → Option Answer

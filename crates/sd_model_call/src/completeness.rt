@@ -13,21 +13,21 @@ ghost use Rattle.sd_model_call.specs.Opening.{World, started};
 ghost use Rattle.sd_model_call.specs.Words.{Drill, form};
 ghost use Rattle.sd_model_call.specs.Drill.{drill_text};
 ghost use Rattle.sd_model_call.specs.Call.{Accounts, Answer, BadScript, Done, IsScripted, Misset, OnlyOutput, Worn};
-ghost use Rattle.sd_model_call.specs.Completeness.{Asks, AsksPlainly, CarriedOut, CarriedOutWell, IsBlocked, IsCutOff, IsFull, IsLongest, IsUnhindered, IsWhole, NoneMissed, refusal};
+ghost use Rattle.sd_model_call.specs.Completeness.{Asks, AsksPlainly, CarriedOut, CarriedOutWell, EndsSo, IsBlocked, IsCutOff, IsFull, IsLongest, IsTold, IsUnhindered, IsWhole, NoneMissed, refusal};
 ghost use Rattle.sd_model_call.specs.Proxy.{AnswersProxy, ProxyAccounts};
 ghost use Rattle.sd_model_call.specs.ProxyCompleteness.{AsksForProxy, IsProxyCauseOf, IsRelayed, IsUnhinderedProxy, NoWireFailed};
 
-/// A replay that nothing hinders comes to the word that ends the script. Where no reply fails to be written, one whose
-/// script is cut off behind some records, by a flaw, stops at that place and tells which; and one of as many records as
-/// there may be carries these out, and then no more.
+/// A replay that nothing hinders comes to the word that ends the script. One whose script is cut off behind some records, by a
+/// flaw, stops at that place and tells which, and one of as many records as there may be carries these out, and then no more,
+/// unless a write failed before.
 pub fn unhindered_replays_complete()
     ensures complete { (settings : Settings) (old new : Seen) (commands : List Command) (rest : List ℕ) (end : End)
         → IsUnhindered settings old new commands rest → Replayed settings end old new → (totals : Totals) × (end ≡ Complete totals) }
     ensures cut_off { (settings : Settings) (old new : Seen) (commands : List Command) (flaw : ScriptFlaw) (bytes : List ℕ) (end : End)
         → IsCutOff settings old new commands flaw bytes → Replayed settings end old new
-        → end ≡ Faulted (min (length (script_text commands)) last_count) flaw }
+        → EndsSo (Faulted (min (length (script_text commands)) last_count) flaw) end }
     ensures longest { (settings : Settings) (old new : Seen) (commands : List Command) (bytes : List ℕ) (end : End)
-        → IsLongest settings old new commands bytes → Replayed settings end old new → end ≡ WornOut most_records }
+        → IsLongest settings old new commands bytes → Replayed settings end old new → EndsSo (WornOut most_records) end }
 {}
 
 /// A call that nothing hinders carries out the whole script, unless memory, a wire or a backend is lacking; and where it
@@ -47,10 +47,10 @@ pub fn unhindered_calls_complete()
         → Accounts words old new Done → CarriedOutWell (goes_by values) (started (goes_by values) plainly.asks.script old.seen) new.seen commands }
     ensures cut_off { (words : List (List ℕ)) (values : file.Settings) (old new : World) (commands : List Command) (flaw : ScriptFlaw) (bytes : List ℕ) (answer : Answer)
         → AsksPlainly words values old new → IsCutOff (goes_by values) old.seen new.seen commands flaw bytes
-        → Accounts words old new answer → IsFull (BadScript (min (length (script_text commands)) last_count) flaw) answer }
+        → Accounts words old new answer → IsTold (BadScript (min (length (script_text commands)) last_count) flaw) answer }
     ensures longest { (words : List (List ℕ)) (values : file.Settings) (old new : World) (commands : List Command) (bytes : List ℕ) (answer : Answer)
         → AsksPlainly words values old new → IsLongest (goes_by values) old.seen new.seen commands bytes
-        → Accounts words old new answer → IsFull (Worn most_records) answer }
+        → Accounts words old new answer → IsTold (Worn most_records) answer }
     ensures outward { (words : List (List ℕ)) (values : file.Settings) (old new : World) (ended answer : Answer)
         → AsksPlainly words values old new → NoneMissed (goes_by values) old.seen new.seen → Accounts words old new answer → IsFull ended answer → IsWhole ended answer }
 {}

@@ -4,18 +4,19 @@ use Rattle.std.specs.Prelude.{filter_map, Option, None, Some, Result, Ok, Err}
 use Rattle.std.proofs.lemmas.List.Elements.{filter_map-append, filter-append}
 use Rattle.std.proofs.lemmas.List.Sums.{fold-append}
 use Rattle.sd_model_text.specs.Lines.{Sample, samples_of}
-use Rattle.sd_model_shard.specs.Shard.{State, empty_state, Cause, Limits, Policy, Event, Submit, Delete, Table, table_of, admitted, refusal, step}
+use Rattle.sd_model_shard.specs.Shard.{State, empty_state, Cause, Limits, Policy, Event, Submit, Delete, Table, admitted, refusal, step}
 use Rattle.sd_model_shard.specs.History.{Act, History, Asked, after, after_all, answered, part_of, state_after}
 use Rattle.sd_model_shard.specs.Whereabouts.{Arrival, arrivals, arrival_in, tables, table_in}
 use Rattle.sd_model_shard.proofs.AnsweredLemmas.{answered-append, arrivals-answered}
 use Rattle.sd_model_text.specs.Names.{Kind}
 use Rattle.sd_model_record.specs.Admin as admin
 use Rattle.sd_model_record.specs.Admin.{AdminFault}
+use Rattle.sd_model_serve.specs.Rounds.{Round}
 use Rattle.sd_model_replay.specs.Settings.{Settings}
 use Rattle.sd_model_replay.specs.Script.{Command, Packet, Flush, Admin}
 use Rattle.sd_model_record.specs.Callers.{administrator}
 use Rattle.sd_model_record.specs.Replying.{admin_events}
-use Rattle.sd_model_replay.specs.Replay.{Outcome, Played, home_of, events_in, events_at, history_at, samples_in, samples_at, Run, first_run, acts_in, play, run_of, Moment, moments, FlushMoment, flush_by, flushes}
+use Rattle.sd_model_replay.specs.Replay.{Outcome, Played, home_of, events_in, events_at, history_at, samples_in, samples_at, Run, first_run, acts_in, play, run_of, Moment, moments, round_by, rounds_from, rounds}
 
 abbrev arrivals_asked : List Asked → List Arrival
 arrivals_asked asked = filter_map (λ q. arrival_in q.who q.event) asked
@@ -94,26 +95,26 @@ no_line_tables limits policy state (Ok (admin.Delete kind names)) = line_tables 
 no_line_tables limits policy state (Ok (admin.Health word)) = refl
 no_line_tables limits policy state (Err fault) = refl
 
--- the tables of shard i at the flushes among records
-abbrev pub tables_at : ℕ → List FlushMoment → List Table
-tables_at i fs = map (λ f. table_of (f.before.shards i)) fs
+-- the tables of shard i in rounds
+abbrev pub tables_at : ℕ → List Round → List Table
+tables_at i rs = map (λ r. r.tables i) rs
 
-flushes_of : Run → Command → Outcome → List Moment → List FlushMoment
-flushes_of run c outcome ms = filter_map (λ (m : Moment). flush_by m.before m.played.command m.played.outcome) (record { before = run; played = record { command = c; outcome = outcome } } ∷ ms)
+rounds_of : Run → Command → Outcome → List Moment → List Round
+rounds_of run c outcome ms = filter_map (λ (m : Moment). round_by m.before m.played.command m.played.outcome) (record { before = run; played = record { command = c; outcome = outcome } } ∷ ms)
 
 one_table : (settings : Settings) (i : ℕ) (run : Run) (c : Command) (outcome : Outcome) (ms : List Moment)
-    → tables (acts_in settings run i c) ++ tables_at i (filter_map (λ (m : Moment). flush_by m.before m.played.command m.played.outcome) ms) ≡ tables_at i (flushes_of run c outcome ms)
-unfolding flushes_of
+    → tables (acts_in settings run i c) ++ tables_at i (filter_map (λ (m : Moment). round_by m.before m.played.command m.played.outcome) ms) ≡ tables_at i (rounds_of run c outcome ms)
+unfolding rounds_of
 one_table settings i run (Packet who moment datagram) outcome ms =
-    ap (λ (ts : List Table). ts ++ tables_at i (filter_map (λ (m : Moment). flush_by m.before m.played.command m.played.outcome) ms))
+    ap (λ (ts : List Table). ts ++ tables_at i (filter_map (λ (m : Moment). round_by m.before m.played.command m.played.outcome) ms))
     (no_tables settings.limits settings.policy (run.shards i) who (part_of (home_of settings) i (samples_of datagram)))
 one_table settings i run (Flush ts) outcome ms = refl
 one_table settings i run (Admin moment line) outcome ms =
-    ap (λ (ts : List Table). ts ++ tables_at i (filter_map (λ (m : Moment). flush_by m.before m.played.command m.played.outcome) ms))
+    ap (λ (ts : List Table). ts ++ tables_at i (filter_map (λ (m : Moment). round_by m.before m.played.command m.played.outcome) ms))
     (no_line_tables settings.limits settings.policy (run.shards i) (admin.command line))
 
-tables_from : (settings : Settings) (i : ℕ) (run : Run) (played : List Played) → tables (answered settings.limits settings.policy (run.shards i) (events_at settings i played)) ≡ tables_at i (flushes settings run played)
-unfolding flushes_of
+tables_from : (settings : Settings) (i : ℕ) (run : Run) (played : List Played) → tables (answered settings.limits settings.policy (run.shards i) (events_at settings i played)) ≡ tables_at i (rounds_from settings run played)
+unfolding rounds_of
 tables_from settings i run [] = refl
 tables_from settings i run (p ∷ played) =
     let acts = acts_in settings run i p.command in
@@ -124,8 +125,8 @@ tables_from settings i run (p ∷ played) =
     ∙ ap (λ (ts : List Table). tables acts ++ ts) (tables_from settings i next played)
     ∙ one_table settings i run p.command p.outcome (moments settings next played)
 
--- a shard answers its table at each flush
-pub tables-history_at : (settings : Settings) (i : ℕ) (played : List Played) → tables (history_at settings i played) ≡ tables_at i (flushes settings (first_run played) played)
+-- a shard hands out its table in each round
+pub tables-history_at : (settings : Settings) (i : ℕ) (played : List Played) → tables (history_at settings i played) ≡ tables_at i (rounds settings played)
 tables-history_at settings i played = tables_from settings i (first_run played) played
 
 -- the state of a shard after records, from a state on, is the one after the acts that they ask

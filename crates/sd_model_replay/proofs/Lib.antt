@@ -1,6 +1,7 @@
 pub mod AccountingLemmas
 mod Decisions
 pub mod HistoryLemmas
+pub mod AskedLemmas
 pub mod LineLemmas
 pub mod MadeLemmas
 pub mod NextLemmas

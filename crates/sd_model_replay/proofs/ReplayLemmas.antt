@@ -6,11 +6,12 @@ use Rattle.std.proofs.lemmas.Grind.{flat_map-append}
 use Rattle.std.proofs.lemmas.List.{map-append}
 use Rattle.std.proofs.lemmas.List.Elements.{filter_map-append}
 use Rattle.std.proofs.lemmas.List.Sums.{fold_push}
+use Rattle.sd_model_serve.specs.Rounds.{Round, round_text}
 use Rattle.sd_model_replay.specs.Settings.{Settings}
 use Rattle.sd_model_outside.specs.Deliveries.{Delivery}
-use Rattle.sd_model_record.specs.Backends.{Backend, text_of, mark_of}
+use Rattle.sd_model_record.specs.Backends.{Backend, mark_of}
 use Rattle.sd_model_replay.specs.Script.{Command, spelled, script_text}
-use Rattle.sd_model_replay.specs.Replay.{Played, Run, first_run, play, run_of, Moment, moments, FlushMoment, flush_by, flushes, record_at, deliveries, sending_by, sendings}
+use Rattle.sd_model_replay.specs.Replay.{Played, Run, first_run, play, run_of, Moment, moments, form_of, round_by, rounds, deliveries, sending_by, sendings}
 use Rattle.sd_model_replay.specs.Output.{output_in, output_of}
 
 -- The state before a record that comes behind others, whose first one, or else itself, tells the start.
@@ -36,25 +37,25 @@ moments-more settings played p =
     moments-push settings (first_run (played ++ p ∷ [])) played p
     ∙ ap (λ (ms : List Moment). ms ++ record { before = run_before settings played p; played = p } ∷ []) (same_moments settings played p)
 
--- the flush that a record is in this state, if it is one
-abbrev pub flush_at : Run → Played → Option FlushMoment
-flush_at run p = flush_by run p.command p.outcome
+-- the round that a record is in this state, if it is a flush
+abbrev pub round_at : Run → Played → Option Round
+round_at run p = round_by run p.command p.outcome
 
-flushes-push : (settings : Settings) (played : List Played) (p : Played)
-    → flushes settings (first_run (played ++ p ∷ [])) (played ++ p ∷ []) ≡ flushes settings (first_run played) played ++ cons_option (flush_at (run_before settings played p) p) []
-flushes-push settings played p =
-    ap (filter_map (λ (m : Moment). flush_by m.before m.played.command m.played.outcome)) (moments-more settings played p)
-    ∙ filter_map-append (λ (m : Moment). flush_by m.before m.played.command m.played.outcome) (moments settings (first_run played) played) (record { before = run_before settings played p; played = p } ∷ [])
+rounds-push : (settings : Settings) (played : List Played) (p : Played)
+    → rounds settings (played ++ p ∷ []) ≡ rounds settings played ++ cons_option (round_at (run_before settings played p) p) []
+rounds-push settings played p =
+    ap (filter_map (λ (m : Moment). round_by m.before m.played.command m.played.outcome)) (moments-more settings played p)
+    ∙ filter_map-append (λ (m : Moment). round_by m.before m.played.command m.played.outcome) (moments settings (first_run played) played) (record { before = run_before settings played p; played = p } ∷ [])
 
--- what a flush has for a backend
-abbrev pub delivery_of : Settings → Backend → FlushMoment → Delivery
-delivery_of settings back f = record { text = text_of settings.names back (record_at settings f); mark = mark_of back f.marks }
+-- what a round has for a backend
+abbrev pub delivery_of : Settings → Backend → Round → Delivery
+delivery_of settings back r = record { text = round_text (form_of settings) back r; mark = mark_of back r.marks }
 
 pub deliveries-push : (settings : Settings) (back : Backend) (played : List Played) (p : Played)
-    → deliveries settings back (played ++ p ∷ []) ≡ deliveries settings back played ++ map (delivery_of settings back) (cons_option (flush_at (run_before settings played p) p) [])
+    → deliveries settings back (played ++ p ∷ []) ≡ deliveries settings back played ++ map (delivery_of settings back) (cons_option (round_at (run_before settings played p) p) [])
 deliveries-push settings back played p =
-    ap (map (delivery_of settings back)) (flushes-push settings played p)
-    ∙ map-append (delivery_of settings back) (flushes settings (first_run played) played) (cons_option (flush_at (run_before settings played p) p) [])
+    ap (map (delivery_of settings back)) (rounds-push settings played p)
+    ∙ map-append (delivery_of settings back) (rounds settings played) (cons_option (round_at (run_before settings played p) p) [])
 
 -- what a record writes stands behind what those before it write
 pub output_of-push : (settings : Settings) (played : List Played) (p : Played) → output_of settings (played ++ p ∷ []) ≡ output_of settings played ++ output_in settings (run_before settings played p) p.command

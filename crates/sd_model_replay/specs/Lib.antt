@@ -8,3 +8,4 @@ pub mod Output
 pub mod Totals
 pub mod AccountingTheorem
 pub mod Ends
+pub mod Asked

@@ -6,15 +6,16 @@ use Rattle.sd_model_text.specs.Lines.{Sample, samples_of, pieces, bad_of}
 use Rattle.sd_model_shard.specs.Shard.{State, empty_state, Submit, Swap, Reply, table_of}
 use Rattle.sd_model_shard.specs.History.{Asked, History, after_all, answered, part_of}
 use Rattle.sd_model_shard.specs.Whereabouts.{Arrival, dropped_in}
-use Rattle.sd_model_record.specs.Record.{Tally, Record, record_of}
+use Rattle.sd_model_record.specs.Record.{Tally, Record}
 use Rattle.sd_model_record.specs.Admin as admin
 use Rattle.sd_model_record.specs.Admin.{AdminFault}
 use Rattle.sd_model_outside.specs.Deliveries.{NotUsed, Delivery, FitsUse}
 use Rattle.sd_model_record.specs.Desk.{Desk, new_desk, with_tally, with_repeater_faults, with_round, with_health, Marks}
-use Rattle.sd_model_record.specs.Backends.{Backend, text_of, mark_of}
+use Rattle.sd_model_record.specs.Backends.{Backend, mark_of}
 use Rattle.sd_model_record.specs.Repeater.{Sending, failures}
 use Rattle.sd_model_record.specs.Callers.{flusher, administrator}
 use Rattle.sd_model_record.specs.Replying.{admin_events, health_after}
+use Rattle.sd_model_serve.specs.Rounds.{Form, Round, round_deliveries, round_record}
 use Rattle.sd_model_replay.specs.Settings.{Settings, is_used}
 use Rattle.sd_model_replay.specs.Script.{Command, Packet, Flush, Admin}
 
@@ -140,35 +141,32 @@ abbrev pub moments : Settings → Run → List Played → List Moment
 moments settings run [] = []
 moments settings run (p ∷ played) = record { before = run; played = p } ∷ moments settings (play settings run p) played
 
--- a flush: its Unix second, its marks, and the state before it
-pub record FlushMoment : Type 0 where
-  pub before : Run
-  pub ts : ℕ
-  pub marks : Marks
+-- how records are made and written by these settings
+abbrev pub form_of : Settings → Form
+form_of settings = record { shards = settings.shards; plan = settings.plan; names = settings.names }
 
--- the flush that a record is, if it is one
-abbrev pub flush_by : Run → Command → Outcome → Option FlushMoment
-flush_by before (Packet who moment datagram) outcome = None
-flush_by before (Flush ts) outcome = Some (record { before = before; ts = ts; marks = outcome.marks })
-flush_by before (Admin moment line) outcome = None
+-- the round that a record is in this state, if it is a flush: it takes the tally, and each shard hands out its table
+abbrev pub round_by : Run → Command → Outcome → Option Round
+round_by before (Packet who moment datagram) outcome = None
+round_by before (Flush ts) outcome =
+    Some (record { ts = ts; tally = before.desk.tally; tables = λ i. table_of (before.shards i); marks = outcome.marks })
+round_by before (Admin moment line) outcome = None
 
--- the flushes among records
-abbrev pub flushes : Settings → Run → List Played → List FlushMoment
-flushes settings run played = filter_map (λ m. flush_by m.before m.played.command m.played.outcome) (moments settings run played)
+-- the rounds among records, from a state on
+abbrev pub rounds_from : Settings → Run → List Played → List Round
+rounds_from settings run played = filter_map (λ m. round_by m.before m.played.command m.played.outcome) (moments settings run played)
 
--- the record of a flush: of the tables of all shards, and of the tally since the last one
-abbrev pub record_at : Settings → FlushMoment → Record
-record_at settings f =
-    record_of settings.plan (map (λ i. table_of (f.before.shards i)) (range_with_len 0 settings.shards)) f.before.desk.tally f.ts
+-- the rounds of a replay
+abbrev pub rounds : Settings → List Played → List Round
+rounds settings played = rounds_from settings (first_run played) played
 
--- the records of the flushes
+-- their records
 abbrev pub records : Settings → List Played → List Record
-records settings played = map (record_at settings) (flushes settings (first_run played) played)
+records settings played = map (round_record (form_of settings)) (rounds settings played)
 
--- what the flushes have for a backend: the text of each record, with its mark
+-- what they have for a backend: the text of each record, with its mark
 abbrev pub deliveries : Settings → Backend → List Played → List Delivery
-deliveries settings back played =
-    map (λ f. record { text = text_of settings.names back (record_at settings f); mark = mark_of back f.marks }) (flushes settings (first_run played) played)
+deliveries settings back played = round_deliveries (form_of settings) back (rounds settings played)
 
 -- the packet that a record repeats, if it is one
 abbrev pub sending_by : Command → Outcome → Option Sending

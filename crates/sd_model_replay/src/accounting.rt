@@ -1,21 +1,46 @@
-ghost use Rattle.std.specs.Prelude.{◌≡◌, ℕ, List, map};
+ghost use Rattle.std.specs.Prelude.{◌≡◌, ◌<◌, ◌≤◌, ℕ, List, map};
+ghost use Rattle.std.specs.List.{AllByRecursion, range_with_len};
 ghost use Rattle.sd_model_outside.specs.Outside.{Object, Packets, RoseBy, Used};
+ghost use Rattle.sd_model_shard.specs.History.{part_of, state_after};
+ghost use Rattle.sd_model_shard.specs.Whereabouts.{arrivals};
+ghost use Rattle.sd_model_record.specs.Record.{record_rows};
+ghost use Rattle.sd_model_record.specs.Callers.{flusher};
+ghost use Rattle.sd_model_serve.specs.Accounting.{AreAccounted};
+ghost use Rattle.sd_model_serve.specs.Served.{Ran};
 ghost use Rattle.sd_model_replay.specs.Settings.{Settings};
 ghost use Rattle.sd_model_record.specs.Repeater.{AfterSendings, HasPackets, Sending, missed_on, sent_on, wire_at};
-ghost use Rattle.sd_model_replay.specs.Replay.{Played, first_run, flushes, records};
-ghost use Rattle.sd_model_replay.specs.AccountingTheorem.{AreAccounted, AreDocumented};
+ghost use Rattle.sd_model_replay.specs.Script.{IsLegal};
+ghost use Rattle.sd_model_replay.specs.Asked.{asked_in, brought_in};
+ghost use Rattle.sd_model_replay.specs.Replay.{Played, first_run, form_of, history_at, home_of, records, rounds, run_of, samples_at};
 
-/// Each good sample of records is submitted to the shard of its key and to no other, and stands there in one place: the
-/// journal of one flush, what one deletion took out, the entries held, or a drop.
+/// The histories that records make account for each good sample: it is submitted to the shard of its key and to no other, and
+/// stands there in one place: the journal of one flush, what one deletion took out, the entries held, or a drop. The state of a
+/// shard is the one after its history.
 pub fn samples_are_accounted()
-    ensures { (settings : Settings) (played : List Played) (i : ℕ) → AreAccounted settings played i }
+    ensures accounted { (settings : Settings) (played : List Played)
+        → AreAccounted settings.limits settings.policy (form_of settings) (λ i. history_at settings i played) (rounds settings played) }
+    ensures submitted { (settings : Settings) (played : List Played) (i : ℕ)
+        → arrivals (history_at settings i played) ≡ part_of (λ a. home_of settings a.sample) i (samples_at played) }
+    ensures homes { (settings : Settings) (played : List Played)
+        → 0 < settings.shards → AllByRecursion (λ a. home_of settings a.sample < settings.shards) (samples_at played) }
+    ensures state { (settings : Settings) (played : List Played) (i : ℕ)
+        → (run_of settings (first_run played) played).shards i ≡ state_after settings.limits settings.policy (history_at settings i played) }
 {}
 
-/// Each flush's record has the statistics of its own journal over the rows carried in, and is at the flush's second.
+/// The history of a shard is one that the callers of a run leave: each receiver submitted the samples that it brought, those with
+/// keys of that shard, the flusher swapped once for each round, the administrator asked for what the admin lines ask, each in
+/// its order, and nobody else asked for anything.
+pub fn replays_are_runs()
+    ensures { (settings : Settings) (played : List Played) (i : ℕ)
+        → settings.receivers ≤ flusher → AllByRecursion (λ p. IsLegal settings.receivers p.command) played
+        → Ran settings.limits settings.policy settings.shards (brought_in settings.receivers played) (rounds settings played) (asked_in settings played) i (history_at settings i played) }
+{}
+
+/// Each flush's record has the rows of its own tables, and is at the flush's second.
 pub fn records_are_documented()
-    ensures statistics { (settings : Settings) (played : List Played) → AreDocumented settings played }
-    ensures times { (settings : Settings) (played : List Played)
-        → map (λ r. r.ts) (records settings played) ≡ map (λ f. f.ts) (flushes settings (first_run played) played) }
+    ensures statistics { (settings : Settings) (played : List Played)
+        → map (λ r. r.rows) (records settings played) ≡ map (λ r. record_rows settings.plan (map r.tables (range_with_len 0 settings.shards))) (rounds settings played) }
+    ensures times { (settings : Settings) (played : List Played) → map (λ r. r.ts) (records settings played) ≡ map (λ r. r.ts) (rounds settings played) }
 {}
 
 /// A wire that tells its packets has those whose send on it didn't fail, in order, behind those that it had. Its count of

@@ -1,19 +1,17 @@
 -- A run of the server between two times, over the objects that its workers use.
 use Rattle.std.specs.Prelude.{◌≡◌, ℕ, ◌+◌, ◌<◌, ◌≤◌, min, List, [], ◌∷◌, length, map, take, drop}
-use Rattle.std.specs.FinMap.{empty}
-use Rattle.std.specs.List.{AllByRecursion, range_with_len}
+use Rattle.std.specs.List.{AllByRecursion}
 use Rattle.sd_model_outside.specs.Outside.{Object, last_count}
 use Rattle.sd_model_outside.specs.Deliveries.{AfterDeliveries}
 use Rattle.sd_model_outside.specs.Turns.{with_ticks}
-use Rattle.sd_model_shard.specs.Whereabouts.{Accounted, RowsAreCarried}
 use Rattle.sd_model_record.specs.Backends.{Backend}
 use Rattle.sd_model_record.specs.Counts.{Count, number_of}
 use Rattle.sd_model_record.specs.Desk.{IsBalanced, last_counted}
-use Rattle.sd_model_record.specs.Record.{record_rows}
+use Rattle.sd_model_serve.specs.Accounting.{AreAccounted}
 use Rattle.sd_model_serve.specs.Doors.{ServesDoor}
 use Rattle.sd_model_serve.specs.Ends.{LoopEnd, EndsReceiver, EndsFlusher, EndsKeeper}
 use Rattle.sd_model_serve.specs.Receiving.{PassesOn}
-use Rattle.sd_model_serve.specs.Rounds.{MarksFit, Round, round_deliveries, round_record}
+use Rattle.sd_model_serve.specs.Rounds.{MarksFit, Round, round_deliveries}
 use Rattle.sd_model_serve.specs.Served.{Ran}
 use Rattle.sd_model_serve.specs.Visits.{AreVisitsOf, asked_by}
 use Rattle.sd_model_run.specs.Course.{Course, Reception, Terms, brought_by, counts_of, rounds_in}
@@ -90,9 +88,7 @@ pub record IsRun (terms : Terms) (says : ℕ → Type 0) (c : Course) (old new :
   pub balanced : IsBalanced c.desk
 
 -- The accounting theorem of a run: besides, each good sample of the datagrams that were read is in exactly one place, and each
--- round's record has the documented statistics of its own journal over the rows carried in.
+-- round's record has the documented statistics of its own journals over the rows carried in.
 pub record ServerTheorem (terms : Terms) (says : ℕ → Type 0) (c : Course) (old new : Objects) : Type 0 where
   pub run : IsRun terms says c old new
-  pub places : (i : ℕ) → i < terms.form.shards → Accounted terms.limits terms.policy (c.histories i)
-  pub carried : (i : ℕ) → i < terms.form.shards → RowsAreCarried terms.policy empty (c.histories i)
-  pub statistics : AllByRecursion (λ r. (round_record terms.form r).rows ≡ record_rows terms.form.plan (map r.tables (range_with_len 0 terms.form.shards))) (rounds_in c)
+  pub accounted : AreAccounted terms.limits terms.policy terms.form c.histories (rounds_in c)

@@ -1,5 +1,5 @@
 -- How the loops of the server's workers end.
-use Rattle.std.specs.Prelude.{◌≡◌, ℕ, ◌+◌, ◌<◌, ◌≤◌, ◌^◌}
+use Rattle.std.specs.Prelude.{◌≡◌, ℕ, ◌<◌, ◌≤◌, ◌^◌}
 use Rattle.sd_model_outside.specs.Outside.{Object, Rose}
 use Rattle.sd_model_outside.specs.Turns.{IsSpent}
 

@@ -6,3 +6,4 @@ pub mod Doors
 pub mod Served
 pub mod Visits
 pub mod Ends
+pub mod Accounting

@@ -6,4 +6,4 @@ mod acts;
 mod served;
 
 pub use acts::acts_add_up;
-pub use served::callers_tell_the_run;
+pub use served::{callers_tell_the_run, histories_account};

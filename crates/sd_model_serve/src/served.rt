@@ -1,11 +1,13 @@
-ghost use Rattle.std.specs.Prelude.{◌≡◌, ℕ, ◌<◌, List, [], length, get_or, Result};
+ghost use Rattle.std.specs.Prelude.{◌≡◌, ℕ, ◌<◌, List, [], length, map, get_or, Result};
 ghost use Rattle.sd_model_text.specs.Lines.{Sample};
 ghost use Rattle.sd_model_shard.specs.Shard.{Limits, Policy};
-ghost use Rattle.sd_model_shard.specs.History.{History};
+ghost use Rattle.sd_model_shard.specs.History.{History, Legal};
+ghost use Rattle.sd_model_shard.specs.Whereabouts.{tables};
 ghost use Rattle.sd_model_record.specs.Admin.{AdminFault, Command};
 ghost use Rattle.sd_model_record.specs.Replying.{admin_events};
+ghost use Rattle.sd_model_serve.specs.Accounting.{AreAccounted};
 ghost use Rattle.sd_model_serve.specs.Acts.{asks, events_of};
-ghost use Rattle.sd_model_serve.specs.Rounds.{Round, swaps_at};
+ghost use Rattle.sd_model_serve.specs.Rounds.{Form, Round, swaps_at};
 ghost use Rattle.sd_model_serve.specs.Sessions.{Broadcast, acts_in, events_in};
 ghost use Rattle.sd_model_serve.specs.Served.{AreCommands, JoinsAs, Ran};
 
@@ -19,4 +21,13 @@ pub fn callers_tell_the_run()
         → JoinsAs limits policy receivers (swaps_at rounds i) (acts_in asked i) acts
         → Ran limits policy shards brought rounds asked i acts }
     ensures lines { (answer : Result Command AdminFault) → AreCommands (admin_events answer) }
+{}
+
+/// Histories that are legal, and hand out the tables of rounds, account for all samples, and the records of the rounds are
+/// documented.
+pub fn histories_account()
+    ensures { (limits : Limits) (policy : Policy) (form : Form) (histories : ℕ → History) (rounds : List Round)
+        → ((i : ℕ) → i < form.shards → Legal limits policy (histories i))
+        → ((i : ℕ) → i < form.shards → tables (histories i) ≡ map (λ r. r.tables i) rounds)
+        → AreAccounted limits policy form histories rounds }
 {}

@@ -15,7 +15,7 @@ use Rattle.sd_model_settings.specs.Defaults.{Plan}
 use Rattle.sd_model_shard.specs.Rows.{RowId, row_cmp, Kept, row_of, base_of, is_same_row}
 use Rattle.sd_model_shard.specs.Commands.{DumpRow, dump_of, dump_row, is_hit, is_of_kind, keys_of, rows_taken_out}
 use Rattle.sd_model_shard.specs.Shard as at_shard
-use Rattle.sd_model_shard.specs.Shard.{State, Cause, Limits, Policy, Event, Submit, Swap, Delete, Dump, Dumped, step, admitted, refusal, left_of, after_swap, after_delete, deletion_of, table_of}
+use Rattle.sd_model_shard.specs.Shard.{State, Cause, Limits, Policy, Event, Submit, Swap, Delete, Dump, Dumped, step, admitted, refusal, left_of, after_swap, after_delete, deletion_of, empty_state, table_of, Table}
 use Rattle.sd_model_shard.specs.History.{Asked, part_of}
 use Rattle.sd_model_shard.proofs.RowLemmas.{rows_total}
 use Rattle.sd_model_shard.proofs.CarriedLemmas.{get-carried}
@@ -24,18 +24,19 @@ use Rattle.sd_model_shard.proofs.EntryLemmas.{StandApart, StandApart-sorted}
 use Rattle.sd_model_record.specs.Admin as admin
 use Rattle.sd_model_record.specs.Admin.{AdminFault}
 use Rattle.sd_model_record.specs.Record.{Row, row_value, table_rows}
+use Rattle.sd_model_serve.specs.Rounds.{Round}
 use Rattle.sd_model_replay.specs.Settings.{Settings}
 use Rattle.sd_model_replay.specs.Script.{Command, Packet, Flush, Admin}
 use Rattle.sd_model_record.specs.Replying.{admin_events, keys_in, rows_in}
-use Rattle.sd_model_replay.specs.Replay.{Outcome, Played, Run, first_run, events_in, play, run_of, moments, FlushMoment, flushes}
+use Rattle.sd_model_replay.specs.Replay.{Outcome, Played, Run, first_run, events_in, play, run_of, moments, rounds, rounds_from}
 use Rattle.sd_model_replay.specs.Output.{answers_to}
 use Rattle.sd_model_shard.proofs.ToldLemmas.{by_key}
 use Rattle.sd_model_record.proofs.OrderLemmas.{StandOnce, StandOnce-shards, StandApart-shards, keys_once, rows_once, hit_of_kind}
-use Rattle.sd_model_shards.specs.Shards.{AtHome, rows_before}
+use Rattle.sd_model_shards.specs.Shards.{AtHome, rows_taken}
 use Rattle.sd_model_shards.proofs.ViewLemmas.{after_asked}
 use Rattle.sd_model_shards.proofs.EventsLemmas.{asks, submits, other_row}
 use Rattle.sd_model_shards.proofs.ToldLemmas.{find_retained, find_value}
-use Rattle.sd_model_shards.proofs.ShownLemmas.{answers_at, told_by_all, none_there, flushes_with}
+use Rattle.sd_model_shards.proofs.ShownLemmas.{answers_at, told_by_all, none_there, rounds_with}
 
 -- an event that isn't a sample of this row
 abbrev pub IsForeign : RowId → Event → Type 0
@@ -247,18 +248,22 @@ keys_answered_once settings run h moment line k = (line_once settings.limits set
 pub rows_answered_once : (settings : Settings) (run : Run) → AtHome settings.shards run.shards → (moment : ℕ) (line : List ℕ) (k : ℕ) → StandOnce (λ (row : DumpRow). row.key) (flat_map rows_in (answers_to settings run (Admin moment line) k))
 rows_answered_once settings run h moment line k = (line_once settings.limits settings.policy settings.shards run.shards h (admin.command line) k).1
 
--- at each flush the rows are at home
-flushes_at_home : (settings : Settings) (run : Run) (played : List Played) → AtHome settings.shards run.shards → AllByRecursion (λ f. AtHome settings.shards f.before.shards) (flushes settings run played)
-flushes_at_home settings run [] h = tt
-flushes_at_home settings run (p ∷ played) h = by_command p.command p.outcome (flushes_at_home settings (play settings run p) played (AtHome-play settings run p h)) where
-  by_command : (c : Command) (outcome : Outcome) → AllByRecursion (λ f. AtHome settings.shards f.before.shards) (flushes settings (play settings run p) played)
-      → AllByRecursion (λ f. AtHome settings.shards f.before.shards) (flushes_with run c outcome (moments settings (play settings run p) played))
+-- the tables of a round are at home, as states are
+abbrev pub TablesAtHome : ℕ → (ℕ → Table) → Type 0
+TablesAtHome shards tables = AtHome shards (λ i. record empty_state { live = (tables i).live })
+
+-- in each round the rows are at home
+rounds_at_home : (settings : Settings) (run : Run) (played : List Played) → AtHome settings.shards run.shards → AllByRecursion (λ r. TablesAtHome settings.shards r.tables) (rounds_from settings run played)
+rounds_at_home settings run [] h = tt
+rounds_at_home settings run (p ∷ played) h = by_command p.command p.outcome (rounds_at_home settings (play settings run p) played (AtHome-play settings run p h)) where
+  by_command : (c : Command) (outcome : Outcome) → AllByRecursion (λ r. TablesAtHome settings.shards r.tables) (rounds_from settings (play settings run p) played)
+      → AllByRecursion (λ r. TablesAtHome settings.shards r.tables) (rounds_with run c outcome (moments settings (play settings run p) played))
   by_command (Packet who moment datagram) outcome rest = rest
   by_command (Flush ts) outcome rest = (h, rest)
   by_command (Admin moment line) outcome rest = rest
 
-pub AtHome-flushes : (settings : Settings) (played : List Played) → AllByRecursion (λ f. AtHome settings.shards f.before.shards) (flushes settings (first_run played) played)
-AtHome-flushes settings played = flushes_at_home settings (first_run played) played (AtHome-first settings.shards played)
+pub AtHome-rounds : (settings : Settings) (played : List Played) → AllByRecursion (λ r. TablesAtHome settings.shards r.tables) (rounds settings played)
+AtHome-rounds settings played = rounds_at_home settings (first_run played) played (AtHome-first settings.shards played)
 
 -- ids of rows that stand apart
 distinct_ids : (es : List (RowId × Kept)) → StandApart row_cmp es → IsDistinct is_same_row (map (λ (e : RowId × Kept). e.0) es)
@@ -279,7 +284,7 @@ ids_listed : (g : ℕ → List (RowId × Kept)) (is : List ℕ) → map (λ (e :
 ids_listed g [] = refl
 ids_listed g (i ∷ is) = map-append (λ (e : RowId × Kept). e.0) (g i) (flat_map g is) ∙ ap (λ (rest : List RowId). map (λ (e : RowId × Kept). e.0) (g i) ++ rest) (ids_listed g is)
 
-pub rows_distinct : (settings : Settings) (f : FlushMoment) → AtHome settings.shards f.before.shards → IsDistinct is_same_row (rows_before settings f)
-rows_distinct settings f h =
-    subst (IsDistinct is_same_row) (ids_listed (λ i. entries (f.before.shards i).live) (range_with_len 0 settings.shards))
-    (distinct_ids (flat_map (λ i. entries (f.before.shards i).live) (range_with_len 0 settings.shards)) (rows_apart settings.shards f.before.shards h))
+pub rows_distinct : (settings : Settings) (r : Round) → TablesAtHome settings.shards r.tables → IsDistinct is_same_row (rows_taken settings r)
+rows_distinct settings r h =
+    subst (IsDistinct is_same_row) (ids_listed (λ i. entries (r.tables i).live) (range_with_len 0 settings.shards))
+    (distinct_ids (flat_map (λ i. entries (r.tables i).live) (range_with_len 0 settings.shards)) (rows_apart settings.shards (λ i. record empty_state { live = (r.tables i).live }) h))

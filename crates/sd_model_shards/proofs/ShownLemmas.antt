@@ -27,7 +27,8 @@ use Rattle.sd_model_outside.specs.Deliveries.{Delivery}
 use Rattle.sd_model_record.specs.Backends.{Backend, text_of, mark_of}
 use Rattle.sd_model_record.specs.Repeater.{failures}
 use Rattle.sd_model_record.specs.Replying.{admin_events, health_after, keys_in, rows_in, keys_told, rows_told, names_replied}
-use Rattle.sd_model_replay.specs.Replay.{Outcome, Played, Run, first_run, events_in, events_at, acts_in, replies_to, packet_tally, desk_after, desk_after_line, play, run_of, Moment, moments, FlushMoment, flush_by, flushes, record_at, records, deliveries}
+use Rattle.sd_model_serve.specs.Rounds.{Round, round_record}
+use Rattle.sd_model_replay.specs.Replay.{Outcome, Played, Run, first_run, events_in, events_at, acts_in, replies_to, packet_tally, desk_after, desk_after_line, play, run_of, Moment, moments, form_of, round_by, rounds, rounds_from, records, deliveries}
 use Rattle.sd_model_replay.specs.Output.{answers_to, replies_to_line, replies_in, output_in, output_of}
 use Rattle.sd_model_shards.specs.Shards.{over, NoneDropped, ShowsNone, ShowsNoSettings}
 use Rattle.sd_model_shards.proofs.ViewLemmas.{View, nothing, view-empty}
@@ -121,9 +122,9 @@ none_first settings run p played none i below = (none_cut settings.limits settin
 pub none_behind : (settings : Settings) (run : Run) (p : Played) (played : List Played) → NoneFrom settings run (p ∷ played) → NoneFrom settings (play settings run p) played
 none_behind settings run p played none i below = (none_cut settings.limits settings.policy (run.shards i) (events_in settings i p.command) (events_at settings i played) (none i below)).1
 
--- the flushes among a record and the moments behind it
-abbrev pub flushes_with : Run → Command → Outcome → List Moment → List FlushMoment
-flushes_with run c outcome ms = filter_map (λ (m : Moment). flush_by m.before m.played.command m.played.outcome) (record { before = run; played = record { command = c; outcome = outcome } } ∷ ms)
+-- the rounds among a record and the moments behind it
+abbrev pub rounds_with : Run → Command → Outcome → List Moment → List Round
+rounds_with run c outcome ms = filter_map (λ (m : Moment). round_by m.before m.played.command m.played.outcome) (record { before = run; played = record { command = c; outcome = outcome } } ∷ ms)
 
 module _ (settings : Settings) (n m : ℕ) (told other : file.Settings) (some_n : 1 ≤ n) (some_m : 1 ≤ m) where
   abbrev S : Settings
@@ -148,9 +149,13 @@ module _ (settings : Settings) (n m : ℕ) (told other : file.Settings) (some_n 
     desk = desk_alike one another p.command p.outcome h.desk none_n none_m;
   }
 
+  -- the round that a flush is in a state
+  abbrev round_in : Run → ℕ → Marks → Round
+  round_in run ts marks = record { ts = ts; tally = run.desk.tally; tables = λ i. table_of (run.shards i); marks = marks }
+
   -- the records of a flush
   record_alike : (one another : Run) (seen : RowId → View) (ts : ℕ) (marks : Marks) → AreAlike n m one another seen
-      → record_at S (record { before = one; ts = ts; marks = marks }) ≡ record_at T (record { before = another; ts = ts; marks = marks })
+      → round_record (form_of S) (round_in one ts marks) ≡ round_record (form_of T) (round_in another ts marks)
   record_alike one another seen ts marks h =
       let listed : (shards : ℕ) (run : Run) → flat_map (table_rows settings.plan) (map (λ i. table_of (run.shards i)) (range_with_len 0 shards)) ≡ flat_map (λ i. table_rows settings.plan (table_of (run.shards i))) (range_with_len 0 shards) =
       λ shards run. flat_map-map (table_rows settings.plan) (λ i. table_of (run.shards i)) (range_with_len 0 shards) in
@@ -160,36 +165,36 @@ module _ (settings : Settings) (n m : ℕ) (told other : file.Settings) (some_n 
       ∙ sym (ap (λ es. map (λ e. e.1) (entries (from_entries {R = row_cmp} es))) (listed m another)) in
       λ k. record { rows = rows k; tally = (h.desk k).tally; ts = ts; interval_ms = settings.plan.interval_ms }
 
-  -- the flushes among records, each with its record and its marks
-  abbrev recorded : Settings → FlushMoment → Record × Marks
-  recorded settings f = (record_at settings f, f.marks)
+  -- a round's record and its marks
+  abbrev recorded : Settings → Round → Record × Marks
+  recorded settings r = (round_record (form_of settings) r, r.marks)
 
-  flushes_alike : (one another : Run) (seen : RowId → View) (played : List Played) → AreAlike n m one another seen → NoneFrom S one played → NoneFrom T another played
-      → map (recorded S) (flushes S one played) ≡ map (recorded T) (flushes T another played)
-  flushes_alike one another seen [] h none_n none_m = refl
-  flushes_alike one another seen (p ∷ played) h none_n none_m =
+  rounds_alike : (one another : Run) (seen : RowId → View) (played : List Played) → AreAlike n m one another seen → NoneFrom S one played → NoneFrom T another played
+      → map (recorded S) (rounds_from S one played) ≡ map (recorded T) (rounds_from T another played)
+  rounds_alike one another seen [] h none_n none_m = refl
+  rounds_alike one another seen (p ∷ played) h none_n none_m =
       by_command p.command p.outcome
-      (flushes_alike (play S one p) (play T another p) (seen_after settings.policy seen p.command) played (alike_after one another seen p h (none_first S one p played none_n) (none_first T another p played none_m))
+      (rounds_alike (play S one p) (play T another p) (seen_after settings.policy seen p.command) played (alike_after one another seen p h (none_first S one p played none_n) (none_first T another p played none_m))
       (none_behind S one p played none_n) (none_behind T another p played none_m)) where
         by_command : (c : Command) (outcome : Outcome)
-            → map (recorded S) (flushes S (play S one p) played) ≡ map (recorded T) (flushes T (play T another p) played)
-            → map (recorded S) (flushes_with one c outcome (moments S (play S one p) played)) ≡ map (recorded T) (flushes_with another c outcome (moments T (play T another p) played))
+            → map (recorded S) (rounds_from S (play S one p) played) ≡ map (recorded T) (rounds_from T (play T another p) played)
+            → map (recorded S) (rounds_with one c outcome (moments S (play S one p) played)) ≡ map (recorded T) (rounds_with another c outcome (moments T (play T another p) played))
         by_command (Packet who moment datagram) outcome rest = rest
         by_command (Flush ts) outcome rest = λ k. (record_alike one another seen ts outcome.marks h k, outcome.marks) ∷ rest k
         by_command (Admin moment line) outcome rest = rest
 
   pub records_alike : (played : List Played) → NoneDropped S played → NoneDropped T played → records S played ≡ records T played
   records_alike played none_n none_m =
-      sym (map-map (λ (r : Record × Marks). r.0) (recorded S) (flushes S (first_run played) played))
-      ∙ ap (map (λ (r : Record × Marks). r.0)) (flushes_alike (first_run played) (first_run played) (λ id. nothing) played (alike_first n m played) none_n none_m)
-      ∙ map-map (λ (r : Record × Marks). r.0) (recorded T) (flushes T (first_run played) played)
+      sym (map-map (λ (r : Record × Marks). r.0) (recorded S) (rounds S played))
+      ∙ ap (map (λ (r : Record × Marks). r.0)) (rounds_alike (first_run played) (first_run played) (λ id. nothing) played (alike_first n m played) none_n none_m)
+      ∙ map-map (λ (r : Record × Marks). r.0) (recorded T) (rounds T played)
 
   pub deliveries_alike : (played : List Played) → NoneDropped S played → NoneDropped T played → (back : Backend) → deliveries S back played ≡ deliveries T back played
   deliveries_alike played none_n none_m back =
       let deliver : Settings → Record × Marks → Delivery = λ s r. record { text = text_of s.names back r.0; mark = mark_of back r.1 } in
-      sym (map-map (deliver S) (recorded S) (flushes S (first_run played) played))
-      ∙ ap (map (deliver S)) (flushes_alike (first_run played) (first_run played) (λ id. nothing) played (alike_first n m played) none_n none_m)
-      ∙ map-map (deliver T) (recorded T) (flushes T (first_run played) played)
+      sym (map-map (deliver S) (recorded S) (rounds S played))
+      ∙ ap (map (deliver S)) (rounds_alike (first_run played) (first_run played) (λ id. nothing) played (alike_first n m played) none_n none_m)
+      ∙ map-map (deliver T) (recorded T) (rounds T played)
 
   -- the replies to a line, by its command
   names_told : (names : List (List ℕ)) (answers others : ℕ → List at_shard.Reply) → ((k : ℕ) → keys_told (answers k) ≡ keys_told (others k)) → names_replied answers names ≡ names_replied others names

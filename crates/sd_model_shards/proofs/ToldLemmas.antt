@@ -1,5 +1,5 @@
 -- What records, deletions and dumps tell of a row: what is seen of it.
-use Rattle.std.proofs.Common.{◌≡◌, ℕ, ◌*◌, ◌<◌, ◌≤◌, Bool, true, false, cond, eqb, List, [], ◌∷◌, length, map, refl, sym, ap, ◌∙◌, arith}
+use Rattle.std.proofs.Common.{◌≡◌, ℕ, ◌*◌, ◌<◌, ◌≤◌, Bool, true, false, cond, eqb, List, [], ◌∷◌, length, map, refl, sym, ap, ◌∙◌}
 use Rattle.std.specs.Prelude.{Option, Some, None, option_map, flat_map, ℤ, pos}
 use Rattle.std.specs.List.{range_with_len}
 use Rattle.std.specs.Ordering.{nat_cmp, eq_by_cmp}
@@ -9,8 +9,7 @@ use Rattle.std.proofs.lemmas.Bool.{eq-eqb}
 use Rattle.std.proofs.lemmas.List.{length-map}
 use Rattle.std.proofs.lemmas.List.Folds.{fold-map}
 use Rattle.std.proofs.lemmas.Simd.{map-map}
-use Rattle.std.proofs.Math.Nat.{mod-lt}
-use Rattle.sd_model_text.specs.Names.{Kind, Counter, Timer, Gauge, Set, rank, shard, fnv1a}
+use Rattle.sd_model_text.specs.Names.{Kind, Counter, Timer, Gauge, Set, rank, shard}
 use Rattle.sd_model_text.specs.Lines.{Sample}
 use Rattle.sd_model_text.specs.Numbers.{per_second}
 use Rattle.sd_model_settings.specs.Defaults.{Plan}
@@ -24,6 +23,7 @@ use Rattle.sd_model_shard.proofs.DeletionLemmas.{same_row}
 use Rattle.sd_model_record.specs.Record.{Row, CounterRow, TimerRow, GaugeRow, SetRow, timer_figures, row_of_kind, row_value, table_rows}
 use Rattle.sd_model_shard.proofs.ToldLemmas.{by_key}
 use Rattle.sd_model_record.proofs.OrderLemmas.{by_key-flat_map, AreOfKind, retained_of_kind, hit_of_kind, tie_by_key}
+use Rattle.sd_model_replay.proofs.AccountingLemmas.{in_range}
 use Rattle.sd_model_shards.proofs.ViewLemmas.{View, nothing, view, came_to, gauge_from}
 use Rattle.sd_model_shards.proofs.EventsLemmas.{Reflects}
 use Rattle.sd_model_shards.proofs.MergedLemmas.{merged_alike}
@@ -89,9 +89,6 @@ row-told held id kept =
 masked : {X : Type 0} (f : View → Option X) (b : Bool) (v : View) → f nothing ≡ None → f (cond b v nothing) ≡ cond b (f v) None
 masked f true v h = refl
 masked f false v h = h
-
-in_range : (shards : ℕ) → 1 ≤ shards → (key : List ℕ) → shard key shards < shards
-in_range shards h key = mod-lt (fnv1a key) (omega arith)
 
 -- rows of one kind, found by their keys
 module _ {X : Type 0} (key : X → List ℕ) (kind : Kind) where

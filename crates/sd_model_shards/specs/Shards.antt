@@ -8,16 +8,21 @@ use Rattle.sd_model_shard.specs.Rows.{RowId}
 use Rattle.sd_model_shard.specs.Shard.{State}
 use Rattle.sd_model_shard.specs.Whereabouts.{causes}
 use Rattle.sd_model_record.specs.Admin as admin
+use Rattle.sd_model_serve.specs.Rounds.{Round}
 use Rattle.sd_model_replay.specs.Settings.{Settings}
 use Rattle.sd_model_replay.specs.Script.{Command, Packet, Flush, Admin}
 use Rattle.sd_model_record.specs.Backends.{Backend}
-use Rattle.sd_model_replay.specs.Replay.{Played, FlushMoment, history_at, records, deliveries}
+use Rattle.sd_model_replay.specs.Replay.{Played, history_at, records, deliveries}
 use Rattle.sd_model_replay.specs.Output.{output_of}
 use Rattle.sd_model_replay.specs.Totals.{totals_after}
 
 -- these settings over so many shards, where `config` tells others
 abbrev pub over : ℕ → file.Settings → Settings → Settings
 over n told settings = record settings { shards = n; in_force = told }
+
+-- the settings of a file with another number of shards
+abbrev pub with_shards : ℕ → file.Settings → file.Settings
+with_shards n values = record values { sizes = record values.sizes { shards = n } }
 
 -- No shard drops a sample.
 abbrev pub NoneDropped : Settings → List Played → Type 0
@@ -41,9 +46,9 @@ pub record ShowTheSame (one other : Settings) (played : List Played) : Type 0 wh
   pub output : ShowsNoSettings played → output_of one played ≡ output_of other played
   pub totals : totals_after one played ≡ totals_after other played
 
--- the rows of all shards before a flush, shard by shard
-abbrev pub rows_before : Settings → FlushMoment → List RowId
-rows_before settings f = flat_map (λ i. map (λ row. row.0) (entries (f.before.shards i).live)) (range_with_len 0 settings.shards)
+-- the rows of the tables that a round took, shard by shard
+abbrev pub rows_taken : Settings → Round → List RowId
+rows_taken settings r = flat_map (λ i. map (λ row. row.0) (entries (r.tables i).live)) (range_with_len 0 settings.shards)
 
 -- No shard of so many has a row of another one's key.
 abbrev pub AtHome : ℕ → (ℕ → State) → Type 0

@@ -31,12 +31,14 @@ use Rattle.sd_model_record.specs.Backends.{Backend, mark_of, text_of}
 use Rattle.sd_model_record.specs.Repeater.{AfterSendings, IsRepeated, failures}
 use Rattle.sd_model_replay.specs.Script.{Command, Packet, Flush, Admin, end_word, spelled, script_text, IsLegal}
 use Rattle.sd_model_replay.specs.Next.{ScriptFlaw, Faulty, Begins, IsUndecided}
-use Rattle.sd_model_replay.specs.Replay.{Played, IsOutcome, no_marks, home_of, events_in, replies_to, packet_tally, moment_of, desk_after_line, Run, begun_at, first_run, record_at, play, run_of, FlushMoment, deliveries, sendings}
+use Rattle.sd_model_serve.specs.Rounds.{Round, round_text}
+use Rattle.sd_model_replay.specs.Replay.{Played, IsOutcome, no_marks, home_of, events_in, replies_to, packet_tally, moment_of, desk_after_line, Run, begun_at, first_run, form_of, play, run_of, deliveries, sendings}
 use Rattle.sd_model_replay.specs.Output.{output_in, output_of}
 use Rattle.sd_model_replay.specs.Totals.{Totals, totals_of, totals_after, totals_text}
 use Rattle.sd_model_replay.specs.AccountingTheorem.{Seen, Course, AccountingTheorem, seen_at}
 use Rattle.sd_model_replay.specs.Ends.{Complete, Faulted, ReadFailed, WriteFailed, WornOut, Replayed, text_length}
-use Rattle.sd_model_replay.proofs.AccountingLemmas.{are_accounted, are_documented}
+use Rattle.sd_model_replay.proofs.AccountingLemmas.{are_accounted}
+use Rattle.sd_model_replay.proofs.HistoryLemmas.{arrivals-history_at, state-history_at}
 use Rattle.sd_model_outside.proofs.DeliveryLemmas.{AfterDeliveries-push}
 use Rattle.sd_model_replay.proofs.SendingLemmas.{AfterSendings-push}
 use Rattle.sd_model_replay.proofs.ReplayLemmas.{run_before, run_of-push, output_of-push, deliveries-push, delivery_of, sendings-push, script_text-end, AllByRecursion-push}
@@ -269,15 +271,15 @@ module _ (settings : file.Settings) (some : 0 < (goes_by settings).shards) (scri
   flush_more ts marks text legal same_desk uses after each d a kept =
       let p : Played = record { command = Flush ts; outcome = record { marks = marks; failed = [] } } in
       let run = before p in
-      let f : FlushMoment = record { before = run; ts = ts; marks = marks } in
+      let r : Round = record { ts = ts; tally = run.desk.tally; tables = λ i. table_of (run.shards i); marks = marks } in
       let record_in : ℕ → (ℕ → State) → Desk → Record = λ n states e. record_of (goes_by settings).plan (map (λ i. table_of (states i)) (range_with_len 0 n)) e.tally ts in
       let same_record : record_in (length group.states) (state_at group) begun ≡ record_in (goes_by settings).shards run.shards run.desk =
       ap (λ n. record_in n (state_at group) begun) by.count ∙ ap (λ states. record_in (goes_by settings).shards states begun) (states_before p) ∙ ap (record_in (goes_by settings).shards run.shards) same_desk in
-      let delivered : (back : Backend) → AfterMark (mark_of back marks) (text_of (goes_by settings).names back (record_at (goes_by settings) f)) (new back) (new' back) =
-      λ back. subst (λ r. AfterMark (mark_of back marks) (text_of (goes_by settings).names back r) (new back) (new' back)) same_record (after back) in
+      let delivered : (back : Backend) → AfterMark (mark_of back marks) (round_text (form_of (goes_by settings)) back r) (new back) (new' back) =
+      λ back. subst (λ x. AfterMark (mark_of back marks) (text_of (goes_by settings).names back x) (new back) (new' back)) same_record (after back) in
       one_more p text legal (refl, uses)
       (λ back. subst (λ ds. AfterDeliveries ds (old back) (new' back)) (sym (deliveries-push (goes_by settings) back so_far.played p))
-      (AfterDeliveries-push (deliveries (goes_by settings) back so_far.played) (delivery_of (goes_by settings) back f) (old back) (new back) (new' back) (so_far.texts back) (delivered back)))
+      (AfterDeliveries-push (deliveries (goes_by settings) back so_far.played) (delivery_of (goes_by settings) back r) (old back) (new back) (new' back) (so_far.texts back) (delivered back)))
       (no_sending p (sendings-push so_far.played p ∙ append-nil (sendings so_far.played)) kept)
       (λ i below. each i (omega (arith, below, by.count)) ∙ ap (λ policy. after_swap policy (state_at group i)) by.policy)
       (d ∙ ap (λ (e : Desk). with_round e marks) same_desk)
@@ -318,8 +320,9 @@ module _ (settings : file.Settings) (old new : Seen) (left : Told) (group : Grou
   theorem = record {
     read = Reads-append old.script.told left new.script.told (script_text (commands_of so_far.played)) ahead so_far.read behind;
     legal = so_far.legal;
-    places = λ i below. are_accounted (goes_by settings) so_far.played i;
-    statistics = are_documented (goes_by settings) so_far.played;
+    accounted = are_accounted (goes_by settings) so_far.played;
+    submitted = λ i below. arrivals-history_at (goes_by settings) i so_far.played;
+    state = λ i below. state-history_at (goes_by settings) i so_far.played;
     used = so_far.used;
     texts = λ back. subst (λ o. AfterDeliveries (deliveries (goes_by settings) back so_far.played) (seen_at back old) o) (now back)
         (subst (λ o. AfterDeliveries (deliveries (goes_by settings) back so_far.played) o (has back)) (before back) (so_far.texts back));

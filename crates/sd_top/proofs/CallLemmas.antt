@@ -9,7 +9,8 @@ use Rattle.sd_model_replay.specs.Settings.{Settings, goes_by}
 use Rattle.sd_model_record.specs.Repeater.{wire_at}
 use Rattle.sd_model_replay.specs.AccountingTheorem.{Seen, Course, AccountingTheorem, seen_at}
 use Rattle.sd_model_replay.specs.Ends.{End, Complete, Faulted, ReadFailed, WriteFailed, WornOut, Replayed}
-use Rattle.sd_model_replay.proofs.AccountingLemmas.{are_accounted, are_documented}
+use Rattle.sd_model_replay.proofs.AccountingLemmas.{are_accounted}
+use Rattle.sd_model_replay.proofs.HistoryLemmas.{arrivals-history_at, state-history_at}
 use Rattle.sd_model_call.specs.Drill.{drill_text}
 use Rattle.sd_model_call.specs.Words.{Form, Replay, Serve, Drill, form}
 use Rattle.sd_model_call.specs.Opening.{Part, OfSettings, OfScript, OfSource, OfBeat, OfWire, OfGraphite, OfConsole, OfDoor, World, Opening, IsAccepted, IsOpened, IsUntouched, OnlySettings, UnusedStay, flags_of, openings, part_in, started}
@@ -31,8 +32,9 @@ nothing_done now =
     record {
       read = Reads-nil now.script.told;
       legal = tt;
-      places = λ i below. are_accounted plain [] i;
-      statistics = are_documented plain [];
+      accounted = are_accounted plain [];
+      submitted = λ i below. arrivals-history_at plain i [];
+      state = λ i below. state-history_at plain i [];
       used = tt;
       texts = λ back. refl;
       sends = refl;

@@ -1,5 +1,16 @@
-use Rattle.sd_model_replay.proofs.AccountingLemmas.{are_accounted}
+use Rattle.sd_model_replay.proofs.AccountingLemmas.{all_homes, are_accounted}
+use Rattle.sd_model_replay.proofs.HistoryLemmas.{arrivals-history_at, state-history_at}
+use Rattle.sd_model_replay.specs.Replay.{samples_at}
 use Rattle.sd_model_replay.proofs.accounting.samples_are_accounted.Goals as goal
 
-pub returns : goal.returns
-returns c settings played i = are_accounted settings played i
+pub returns-clause-accounted : goal.returns-clause-accounted
+returns-clause-accounted c settings played = are_accounted settings played
+
+pub returns-clause-submitted : goal.returns-clause-submitted
+returns-clause-submitted c settings played i = arrivals-history_at settings i played
+
+pub returns-clause-homes : goal.returns-clause-homes
+returns-clause-homes c settings played some = all_homes settings some (samples_at played)
+
+pub returns-clause-state : goal.returns-clause-state
+returns-clause-state c settings played i = state-history_at settings i played
