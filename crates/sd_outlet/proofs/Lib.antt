@@ -1,0 +1,6 @@
+pub mod ViewLists
+pub mod QueueSteps
+pub mod FlagSteps
+pub mod OutBufLemmas
+pub mod WorkedLemmas
+pub mod ListLemmas
