@@ -1,17 +1,17 @@
 -- A piece is read as a sample just where it is good.
-use Rattle.std.proofs.Common.{◌≡◌, ℕ, ◌+◌, ◌<◌, ℤ, Bool, true, false, cond, not, ◌||◌, ◌&&◌, List, [], ◌∷◌, ◌++◌, length, refl, sym, ap, ◌∙◌, subst, Option, Some, None, Result, Ok, Err, ok_or, unwrap_or, is_some, nat_lt, arith, append-nil}
+use Rattle.std.proofs.Common.{◌≡◌, ℕ, ◌+◌, ◌<◌, ℤ, Bool, true, false, cond, not, ◌&&◌, List, [], ◌∷◌, ◌++◌, length, refl, sym, ap, ◌∙◌, subst, Option, Some, None, Result, Ok, Err, ok_or, unwrap_or, is_some, nat_lt, arith, append-nil}
 use Rattle.std.specs.Cmp.Lexicographic.{same_text}
 use Rattle.std.proofs.lemmas.Bool.Decides.{nat_tests}
 use Rattle.sd_model_text.specs.Lists.{split, cut_at, Cut}
 use Rattle.sd_model_text.specs.Names.{Kind, Counter, Timer, Gauge, Set, KeyFault, clean}
 use Rattle.sd_model_text.specs.Numbers.{NumberFlaw}
 use Rattle.sd_model_text.specs.Lines.{Sample, Flaw, NoType, UnknownType, BadRate, NegativeTimer, LongMember, ExtraField, ◌>>=◌, type_text, kind_named, typed, valued, named, unless_so, field, value_of, rate_of, sample, is_below_zero, is_long_member, is_over, has_byte, reading_behind, reading_cut, reading}
-use Rattle.sd_model_text.specs.Grammar.{Good, third}
+use Rattle.sd_model_text.specs.Grammar.{Good, IsPiece, third}
 use Rattle.sd_model_text.proofs.ListLemmas.{split-cut, parts_of}
 use Rattle.sd_model_text.proofs.CutLemmas.{has-cut, cut-leaves, cut-first, split-none, split-first}
 
 -- what a sample that was read has passed
-record Passed (name rest : List ℕ) (fields : List (List ℕ)) (s : Sample) : Type 0 where
+record Passed (name : List ℕ) (fields : List (List ℕ)) (s : Sample) : Type 0 where
   pub kind : Kind
   pub v : ℤ
   pub rate : ℕ
@@ -22,7 +22,7 @@ record Passed (name rest : List ℕ) (fields : List (List ℕ)) (s : Sample) : T
   pub above : is_below_zero kind v ≡ false
   pub cleaned : clean name ≡ Ok key
   pub short : is_long_member kind (field 0 fields) ≡ false
-  pub whole : is_over fields rest ≡ false
+  pub whole : is_over fields ≡ false
   pub made : s ≡ sample kind key (field 0 fields) v rate
 
 -- where a step leads on, it and the next one passed
@@ -46,16 +46,16 @@ of_test : (b : Bool) (flaw : Flaw) (u : Unit {0}) → unless_so b flaw ≡ Ok u 
 of_test true flaw u h = absurd (cc)
 of_test false flaw u h = refl
 
-passed : (name rest : List ℕ) (fields : List (List ℕ)) (s : Sample) → reading_behind name rest fields ≡ Ok s → Passed name rest fields s
+passed : (name : List ℕ) (fields : List (List ℕ)) (s : Sample) → reading_behind name fields ≡ Ok s → Passed name fields s
 unfolding reading_behind
-passed name rest fields s h =
+passed name fields s h =
     let a = both_passed (typed (field 1 fields)) _ s h in
     let b = both_passed (valued (value_of a.0 (field 0 fields))) _ s a.2 in
     let c = both_passed (ok_or (rate_of (field 2 fields)) BadRate) _ s b.2 in
     let d = both_passed (unless_so (is_below_zero a.0 b.0) NegativeTimer) _ s c.2 in
     let e = both_passed (named (clean name)) _ s d.2 in
     let f = both_passed (unless_so (is_long_member a.0 (field 0 fields)) LongMember) _ s e.2 in
-    let g = both_passed (unless_so (is_over fields rest) ExtraField) _ s f.2 in
+    let g = both_passed (unless_so (is_over fields) ExtraField) _ s f.2 in
     record {
       kind = a.0;
       v = b.0;
@@ -72,9 +72,9 @@ passed name rest fields s h =
     }
 
 -- what has passed is read
-unpassed : (name rest : List ℕ) (fields : List (List ℕ)) (s : Sample) → Passed name rest fields s → reading_behind name rest fields ≡ Ok s
+unpassed : (name : List ℕ) (fields : List (List ℕ)) (s : Sample) → Passed name fields s → reading_behind name fields ≡ Ok s
 unfolding reading_behind
-unpassed name rest fields s p = rw (p.type, p.number, p.weighed, p.above, p.cleaned, p.short, p.whole) (ap Ok (sym p.made))
+unpassed name fields s p = rw (p.type, p.number, p.weighed, p.above, p.cleaned, p.short, p.whole) (ap Ok (sym p.made))
 
 -- the fields behind the type
 abbrev rate_fields : Option (List ℕ) → List (List ℕ)
@@ -115,11 +115,11 @@ third_field : (a b : List ℕ) (rate_field : Option (List ℕ)) → field 2 (a �
 third_field a b None = refl
 third_field a b (Some text) = refl
 
-not_over : (a b : List ℕ) (rate_field : Option (List ℕ)) (rest : List ℕ) → has_byte 58 rest ≡ false → is_over (a ∷ b ∷ rate_fields rate_field) rest ≡ false
-not_over a b None rest h = h
-not_over a b (Some text) rest h = h
+not_over : (a b : List ℕ) (rate_field : Option (List ℕ)) → is_over (a ∷ b ∷ rate_fields rate_field) ≡ false
+not_over a b None = refl
+not_over a b (Some text) = refl
 
-passes : (piece : List ℕ) (s : Sample) (g : Good piece s) → let rest : List ℕ = g.text ++ 124 ∷ (type_text g.kind ++ third g.rate_field) in Passed g.name rest (g.text ∷ type_text g.kind ∷ rate_fields g.rate_field) s
+passes : (piece : List ℕ) (s : Sample) (g : Good piece s) → Passed g.name (g.text ∷ type_text g.kind ∷ rate_fields g.rate_field) s
 passes piece s g =
     record {
       kind = g.kind;
@@ -132,7 +132,7 @@ passes piece s g =
       above = g.above;
       cleaned = g.cleaned;
       short = g.short;
-      whole = not_over g.text (type_text g.kind) g.rate_field (g.text ++ 124 ∷ (type_text g.kind ++ third g.rate_field)) g.no_colon;
+      whole = not_over g.text (type_text g.kind) g.rate_field;
       made = g.made;
     }
 
@@ -143,8 +143,8 @@ good-reading piece s g =
     let behind : Behind rest g.kind = record { text = g.text; rate_field = g.rate_field; spelled = refl; no_bar = g.no_bar; last_field = g.last_field } in
     ap reading g.spelled
     ∙ ap reading_cut (cut-first 58 g.name rest g.one_colon)
-    ∙ ap (reading_behind g.name rest) (good_fields rest g.kind behind)
-    ∙ unpassed g.name rest (g.text ∷ type_text g.kind ∷ rate_fields g.rate_field) s (passes piece s g)
+    ∙ ap (reading_behind g.name) (good_fields rest g.kind behind)
+    ∙ unpassed g.name (g.text ∷ type_text g.kind ∷ rate_fields g.rate_field) s (passes piece s g)
 
 of_kind : (b : Bool) (first : Kind) (others : Option Kind) (x : List ℕ) (kind : Kind) → cond b (Some first) others ≡ Some kind → (b ≡ true → x ≡ type_text first) → (others ≡ Some kind → x ≡ type_text kind) → x ≡ type_text kind
 of_kind true first others x kind h is inner = is refl ∙ ap type_text cc
@@ -216,14 +216,9 @@ shape rest kind type few =
     (ap (λ xs. typed (field 1 xs)) (sym (split-cut 124 rest)) ∙ type)
     (ap (λ xs. nat_lt 3 (length xs)) (sym (split-cut 124 rest)) ∙ few)
 
-neither : (a b : Bool) → (a || b) ≡ false → (a ≡ false) × (b ≡ false)
-neither true b h = absurd (cc)
-neither false b h = (refl, h)
-
-good_from : (piece name rest : List ℕ) (s : Sample) → piece ≡ name ++ 58 ∷ rest → has_byte 58 name ≡ false → Passed name rest (split 124 rest) s → Good piece s
-good_from piece name rest s spelled first p =
-    let over = neither (nat_lt 3 (length (split 124 rest))) (has_byte 58 rest) p.whole in
-    let b = shape rest p.kind p.type over.0 in
+good_from : (piece name rest : List ℕ) (s : Sample) → piece ≡ name ++ 58 ∷ rest → has_byte 58 name ≡ false → has_byte 58 rest ≡ false → Passed name (split 124 rest) s → Good piece s
+good_from piece name rest s spelled first alone p =
+    let b = shape rest p.kind p.type p.whole in
     let fields = good_fields rest p.kind b in
     let value : field 0 (split 124 rest) ≡ b.text = ap (field 0) fields in
     record {
@@ -236,7 +231,7 @@ good_from piece name rest s spelled first p =
       rate = p.rate;
       spelled = spelled ∙ ap (λ xs. name ++ 58 ∷ xs) b.spelled;
       one_colon = first;
-      no_colon = ap (has_byte 58) (sym b.spelled) ∙ over.1;
+      no_colon = ap (has_byte 58) (sym b.spelled) ∙ alone;
       no_bar = b.no_bar;
       last_field = b.last_field;
       cleaned = p.cleaned;
@@ -247,12 +242,12 @@ good_from piece name rest s spelled first p =
       made = p.made ∙ ap (λ text. sample p.kind p.key text p.v p.rate) value;
     }
 
-by_cut : (piece : List ℕ) (c : Option Cut) (s : Sample) → cut_at 58 piece ≡ c → reading_cut c ≡ Ok s → Good piece s
-by_cut piece None s is h = absurd (cc)
-by_cut piece (Some c) s is h =
+by_cut : (piece : List ℕ) (c : Option Cut) (s : Sample) → cut_at 58 piece ≡ c → has_byte 58 (unwrap_or c (record { part = piece; rest = [] })).rest ≡ false → reading_cut c ≡ Ok s → Good piece s
+by_cut piece None s is alone h = absurd (cc)
+by_cut piece (Some c) s is alone h =
     let cut = cut-leaves 58 piece c is in
-    good_from piece c.part c.rest s cut.spelled cut.first (passed c.part c.rest (split 124 c.rest) s h)
+    good_from piece c.part c.rest s cut.spelled cut.first alone (passed c.part (split 124 c.rest) s h)
 
 -- what is read as a sample is good
-pub reading-good : (piece : List ℕ) (s : Sample) → reading piece ≡ Ok s → Good piece s
-reading-good piece s h = by_cut piece (cut_at 58 piece) s refl h
+pub reading-good : (piece : List ℕ) (s : Sample) → IsPiece piece → reading piece ≡ Ok s → Good piece s
+reading-good piece s alone h = by_cut piece (cut_at 58 piece) s refl alone h

@@ -39,28 +39,28 @@ by_number : (n : Result ℤ NumberFlaw) (r : Option ℕ) (test : ℤ → Bool) (
 by_number (Ok v) r test k long over s = by_rate r (test v) k long over (s v)
 by_number (Err flaw) r test k long over s = refl
 
-by_kind : (kind : Option Kind) (name rest : List ℕ) (fields : List (List ℕ)) → err_of ((ok_or kind UnknownType) >>= (λ kind. (valued (value_of kind (field 0 fields))) >>= (λ v. (ok_or (rate_of (field 2 fields)) BadRate) >>= (λ rate. (unless_so (is_below_zero kind v) NegativeTimer) >>= (λ above. (named (clean name)) >>= (λ key. read_key (is_long_member kind (field 0 fields)) (is_over fields rest) (sample kind key (field 0 fields) v rate))))))) ≡ first_of (where_ (is_none kind) UnknownType ∷ number_flaw kind (field 0 fields) ∷ where_ (is_none (rate_of (field 2 fields))) BadRate ∷ where_ (is_negative kind (field 0 fields)) NegativeTimer ∷ option_map BadKey (err_of (clean name)) ∷ behind_key (is_long kind (field 0 fields)) (is_over fields rest))
-by_kind None name rest fields = refl
-by_kind (Some kind) name rest fields =
-    by_number (value_of kind (field 0 fields)) (rate_of (field 2 fields)) (is_below_zero kind) (clean name) (is_long_member kind (field 0 fields)) (is_over fields rest) (λ v rate key. sample kind key (field 0 fields) v rate)
+by_kind : (kind : Option Kind) (name : List ℕ) (fields : List (List ℕ)) → err_of ((ok_or kind UnknownType) >>= (λ kind. (valued (value_of kind (field 0 fields))) >>= (λ v. (ok_or (rate_of (field 2 fields)) BadRate) >>= (λ rate. (unless_so (is_below_zero kind v) NegativeTimer) >>= (λ above. (named (clean name)) >>= (λ key. read_key (is_long_member kind (field 0 fields)) (is_over fields) (sample kind key (field 0 fields) v rate))))))) ≡ first_of (where_ (is_none kind) UnknownType ∷ number_flaw kind (field 0 fields) ∷ where_ (is_none (rate_of (field 2 fields))) BadRate ∷ where_ (is_negative kind (field 0 fields)) NegativeTimer ∷ option_map BadKey (err_of (clean name)) ∷ behind_key (is_long kind (field 0 fields)) (is_over fields))
+by_kind None name fields = refl
+by_kind (Some kind) name fields =
+    by_number (value_of kind (field 0 fields)) (rate_of (field 2 fields)) (is_below_zero kind) (clean name) (is_long_member kind (field 0 fields)) (is_over fields) (λ v rate key. sample kind key (field 0 fields) v rate)
 
-by_type : (type : List ℕ) (name rest : List ℕ) (fields : List (List ℕ)) → err_of ((typed type) >>= (λ kind. (valued (value_of kind (field 0 fields))) >>= (λ v. (ok_or (rate_of (field 2 fields)) BadRate) >>= (λ rate. (unless_so (is_below_zero kind v) NegativeTimer) >>= (λ above. (named (clean name)) >>= (λ key. read_key (is_long_member kind (field 0 fields)) (is_over fields rest) (sample kind key (field 0 fields) v rate))))))) ≡ first_of (where_ (is_empty type) NoType ∷ where_ (is_none (kind_named type)) UnknownType ∷ number_flaw (kind_named type) (field 0 fields) ∷ where_ (is_none (rate_of (field 2 fields))) BadRate ∷ where_ (is_negative (kind_named type) (field 0 fields)) NegativeTimer ∷ option_map BadKey (err_of (clean name)) ∷ behind_key (is_long (kind_named type) (field 0 fields)) (is_over fields rest))
-by_type [] name rest fields = refl
-by_type (b ∷ bytes) name rest fields = by_kind (kind_named (b ∷ bytes)) name rest fields
+by_type : (type : List ℕ) (name : List ℕ) (fields : List (List ℕ)) → err_of ((typed type) >>= (λ kind. (valued (value_of kind (field 0 fields))) >>= (λ v. (ok_or (rate_of (field 2 fields)) BadRate) >>= (λ rate. (unless_so (is_below_zero kind v) NegativeTimer) >>= (λ above. (named (clean name)) >>= (λ key. read_key (is_long_member kind (field 0 fields)) (is_over fields) (sample kind key (field 0 fields) v rate))))))) ≡ first_of (where_ (is_empty type) NoType ∷ where_ (is_none (kind_named type)) UnknownType ∷ number_flaw (kind_named type) (field 0 fields) ∷ where_ (is_none (rate_of (field 2 fields))) BadRate ∷ where_ (is_negative (kind_named type) (field 0 fields)) NegativeTimer ∷ option_map BadKey (err_of (clean name)) ∷ behind_key (is_long (kind_named type) (field 0 fields)) (is_over fields))
+by_type [] name fields = refl
+by_type (b ∷ bytes) name fields = by_kind (kind_named (b ∷ bytes)) name fields
 
-behind : (name rest : List ℕ) (fields : List (List ℕ)) → err_of (reading_behind name rest fields) ≡ first_of (flaws_behind name rest fields)
+behind : (name : List ℕ) (fields : List (List ℕ)) → err_of (reading_behind name fields) ≡ first_of (flaws_behind name fields)
 unfolding reading_behind
-behind name rest fields = by_type (field 1 fields) name rest fields
+behind name fields = by_type (field 1 fields) name fields
 
-by_cut : (piece : List ℕ) (c : Option Cut) → err_of (reading_cut c) ≡ first_of (where_ (not (is_some c)) NoValue ∷ flaws_behind (unwrap_or c (record { part = piece; rest = [] })).part (unwrap_or c (record { part = piece; rest = [] })).rest (split 124 (unwrap_or c (record { part = piece; rest = [] })).rest))
+by_cut : (piece : List ℕ) (c : Option Cut) → err_of (reading_cut c) ≡ first_of (where_ (not (is_some c)) NoValue ∷ flaws_behind (unwrap_or c (record { part = piece; rest = [] })).part (split 124 (unwrap_or c (record { part = piece; rest = [] })).rest))
 by_cut piece None = refl
-by_cut piece (Some c) = behind c.part c.rest (split 124 c.rest)
+by_cut piece (Some c) = behind c.part (split 124 c.rest)
 
 -- the flaw of a reading is the first that holds
 pub first_flaw : (piece : List ℕ) → err_of (reading piece) ≡ first_of (flaws piece)
 first_flaw piece =
     by_cut piece (cut_at 58 piece)
-    ∙ ap (λ b. first_of (where_ (not b) NoValue ∷ flaws_behind (parted piece).part (parted piece).rest (split 124 (parted piece).rest))) (sym (has-cut 58 piece))
+    ∙ ap (λ b. first_of (where_ (not b) NoValue ∷ flaws_behind (parted piece).part (split 124 (parted piece).rest))) (sym (has-cut 58 piece))
 
 pub err-of : (r : Result Sample Flaw) (flaw : Flaw) → err_of r ≡ Some flaw → r ≡ Err flaw
 err-of (Ok s) flaw h = absurd (cc)

@@ -1,3 +1,4 @@
+pub mod BeforeLemmas
 pub mod CutLemmas
 pub mod Cuts
 pub mod Digits
@@ -7,6 +8,7 @@ pub mod ListLemmas
 pub mod NamesLemmas
 pub mod PartLemmas
 pub mod PieceCounts
+pub mod PieceLemmas
 pub mod Places
 pub mod Rounding
 pub mod Trims

@@ -1,4 +1,4 @@
--- The grammar of a line: which pieces are good, and with which sample, and which are bad, and why. The form is that of
+-- The grammar of a piece: which are good, and with which sample, and which are bad, and why. The form is that of a line of
 -- StatsD (docs/metric_types.md), the rest is this project's own.
 use Rattle.std.specs.Prelude.{◌≡◌, ℕ, ◌==◌, ◌&&◌, Bool, true, false, not, nat_lt, ℤ, List, [], ◌∷◌, ◌++◌, length, if◌then◌else◌, Option, Some, None, Result, Ok, Err, unwrap_or, is_none, option_map}
 use Rattle.sd_model_text.specs.Lists.{split, cut_at, Cut}
@@ -72,8 +72,8 @@ is_long None text = false
 is_long (Some kind) text = is_long_member kind text
 
 -- the flaws of a name and the fields behind it that hold, in the order in which they are tested
-abbrev pub flaws_behind : List ℕ → List ℕ → List (List ℕ) → List (Option Flaw)
-flaws_behind name rest fields =
+abbrev pub flaws_behind : List ℕ → List (List ℕ) → List (Option Flaw)
+flaws_behind name fields =
     where_ (is_empty (field 1 fields)) NoType
     ∷ where_ (is_none (kind_named (field 1 fields))) UnknownType
     ∷ number_flaw (kind_named (field 1 fields)) (field 0 fields)
@@ -81,13 +81,13 @@ flaws_behind name rest fields =
     ∷ where_ (is_negative (kind_named (field 1 fields)) (field 0 fields)) NegativeTimer
     ∷ option_map BadKey (err_of (clean name))
     ∷ where_ (is_long (kind_named (field 1 fields)) (field 0 fields)) LongMember
-    ∷ where_ (is_over fields rest) ExtraField
+    ∷ where_ (is_over fields) ExtraField
     ∷ []
 
 -- those of a piece
 abbrev pub flaws : List ℕ → List (Option Flaw)
 flaws piece =
-    where_ (not (has_byte 58 piece)) NoValue ∷ flaws_behind (parted piece).part (parted piece).rest (fields_of piece)
+    where_ (not (has_byte 58 piece)) NoValue ∷ flaws_behind (parted piece).part (fields_of piece)
 
 -- the first that holds, if one does
 abbrev pub first_of : List (Option Flaw) → Option Flaw
@@ -98,3 +98,7 @@ first_of (Some flaw ∷ flaws) = Some flaw
 -- A piece is bad, for this cause: of nine flaws in their order it is the first that holds.
 abbrev pub IsBad : List ℕ → Flaw → Type 0
 IsBad piece flaw = first_of (flaws piece) ≡ Some flaw
+
+-- a list of bytes is one piece where it has at most one colon
+abbrev pub IsPiece : List ℕ → Type 0
+IsPiece piece = has_byte 58 (parted piece).rest ≡ false

@@ -3,3 +3,4 @@ pub mod Numbers
 pub mod Names
 pub mod Lines
 pub mod Grammar
+pub mod Before

@@ -1,6 +1,6 @@
--- Datagrams and lines: the pieces of a datagram, and the sample of a piece. The form of a line is that of
--- StatsD, `NAME:VALUE|TYPE`, with or without `|@RATE` behind it.
-use Rattle.std.specs.Prelude.{ℕ, ◌+◌, ◌^◌, ◌==◌, ◌&&◌, ◌||◌, Bool, true, false, not, nat_lt, nat_le, ℤ, pos, negsuc, unsigned_abs, int_lt, List, [], ◌∷◌, length, map, filter, if◌then◌else◌, Option, Some, None, Result, Ok, Err, slice_get, unwrap_or, option_map, ok_or, filter_map, count_by, codes}
+-- Datagrams and lines: the pieces of a datagram, and the sample of a piece. The form of a piece is that of a line of
+-- StatsD, `NAME:VALUE|TYPE`, with or without `|@RATE` behind it; a line may have several values behind its name.
+use Rattle.std.specs.Prelude.{ℕ, ◌+◌, ◌^◌, ◌==◌, ◌&&◌, ◌||◌, Bool, true, false, not, nat_lt, nat_le, ℤ, pos, negsuc, unsigned_abs, int_lt, List, [], ◌∷◌, ◌++◌, length, map, filter, flat_map, if◌then◌else◌, Option, Some, None, Result, Ok, Err, slice_get, unwrap_or, option_map, ok_or, filter_map, count_by, codes}
 use Rattle.std.specs.List.{list_any}
 use Rattle.std.specs.Str.{bytes_eq}
 use Rattle.sd_model_text.specs.Lists.{is_white_space, trim_end, split, cut_at, Cut}
@@ -17,7 +17,7 @@ pub record Sample : Type 0 where
   pub member : List ℕ
 
 -- Why a piece has no sample: it has no colon; no type; a type of no kind; a value that is no number; a rate that is
--- none; a timer below 0; a name that has no key; a member of over 128 bytes; a fourth field or a further colon.
+-- none; a timer below 0; a name that has no key; a member of over 128 bytes; a fourth field.
 pub data Flaw : Type 0 where
   NoValue : Flaw
   NoType : Flaw
@@ -38,9 +38,18 @@ is_empty (x ∷ xs) = false
 abbrev pub lines : List ℕ → List (List ℕ)
 lines datagram = filter (λ line. not (is_empty line)) (map (trim_end is_white_space) (split 10 datagram))
 
--- the pieces of a datagram: each line is one
+-- the pieces of a line that is cut at its first colon: its name before each of the parts between the colons behind it
+abbrev pub pieces_cut : List ℕ → Option Cut → List (List ℕ)
+pieces_cut line None = line ∷ []
+pieces_cut line (Some c) = map (λ part. c.part ++ 58 ∷ part) (split 58 c.rest)
+
+-- the pieces of a line: itself, where it has no colon
+abbrev pub pieces_in : List ℕ → List (List ℕ)
+pieces_in line = pieces_cut line (cut_at 58 line)
+
+-- the pieces of a datagram: those of its lines, in order
 abbrev pub pieces : List ℕ → List (List ℕ)
-pieces datagram = lines datagram
+pieces datagram = flat_map pieces_in (lines datagram)
 
 -- the name of a line: what stands before its first colon, where it has one
 abbrev pub name_in_line : List ℕ → Option (List ℕ)
@@ -140,30 +149,30 @@ is_long_member kind text = false
 abbrev pub has_byte : ℕ → List ℕ → Bool
 has_byte byte xs = list_any (λ x. x == byte) xs
 
--- whether there is a fourth field, or a further colon
-abbrev pub is_over : List (List ℕ) → List ℕ → Bool
-is_over fields rest = nat_lt 3 (length fields) || has_byte 58 rest
+-- whether there is a fourth field
+abbrev pub is_over : List (List ℕ) → Bool
+is_over fields = nat_lt 3 (length fields)
 
 -- a flaw, where it holds
 abbrev pub unless_so : Bool → Flaw → Result (Unit {0}) Flaw
 unless_so holds flaw = if holds then Err flaw else Ok tt
 
 -- the sample of a name and what stands behind its colon, cut into fields, or the first flaw
-unfoldable pub reading_behind : List ℕ → List ℕ → List (List ℕ) → Result Sample Flaw
-reading_behind name rest fields = do
+unfoldable pub reading_behind : List ℕ → List (List ℕ) → Result Sample Flaw
+reading_behind name fields = do
   kind ← typed (field 1 fields)
   v ← valued (value_of kind (field 0 fields))
   rate ← ok_or (rate_of (field 2 fields)) BadRate
   above ← unless_so (is_below_zero kind v) NegativeTimer
   key ← named (clean name)
   short ← unless_so (is_long_member kind (field 0 fields)) LongMember
-  whole ← unless_so (is_over fields rest) ExtraField
+  whole ← unless_so (is_over fields) ExtraField
   Ok (sample kind key (field 0 fields) v rate)
 
 -- the name stands before the first colon, and the fields behind it stand between bars
 abbrev pub reading_cut : Option Cut → Result Sample Flaw
 reading_cut None = Err NoValue
-reading_cut (Some c) = reading_behind c.part c.rest (split 124 c.rest)
+reading_cut (Some c) = reading_behind c.part (split 124 c.rest)
 
 -- What a piece is read as: its sample, or why it has none.
 abbrev pub reading : List ℕ → Result Sample Flaw

@@ -1,9 +1,9 @@
 -- Numbers are whole millionths: 1 stands for 0.000001.
-use Rattle.std.specs.Prelude.{ℕ, ◌+◌, ◌*◌, ◌/◌, ◌%◌, ◌^◌, ◌==◌, ◌&&◌, ◌||◌, Bool, true, false, nat_lt, nat_le, int_lt, if◌then◌else◌, ℤ, pos, negsuc, ◌*ℤ◌, List, [], ◌∷◌, ◌++◌, length, map, Result, Ok, Err}
+use Rattle.std.specs.Prelude.{◌≡◌, ℕ, ◌+◌, ◌*◌, ◌/◌, ◌%◌, ◌^◌, ◌==◌, ◌&&◌, ◌||◌, Bool, true, false, nat_lt, nat_le, int_lt, if◌then◌else◌, ℤ, pos, negsuc, ◌*ℤ◌, List, [], ◌∷◌, ◌++◌, length, drop, map, Option, Some, None, Result, Ok, Err}
 use Rattle.std.proofs.Common.{suc, neg_ℤ}
 use Rattle.std.specs.Char.{is_ascii_digit}
 use Rattle.std.specs.Fmt.{decimal}
-use Rattle.std.specs.List.{list_all, before_first, after_first}
+use Rattle.std.specs.List.{list_all, list_any, position_or_len, before_first, after_first}
 use Rattle.std.specs.Str.Parse.{digits_value}
 use Rattle.sd_model_text.specs.Lists.{trim_end}
 
@@ -51,9 +51,20 @@ pub data NumberFlaw : Type 0 where
 abbrev pub is_point : ℕ → Bool
 is_point b = b == 46
 
--- the number of these digits before and behind a point: the exact fraction, rounded once to millionths
-abbrev pub exact_magnitude : List ℕ → List ℕ → ℕ
-exact_magnitude whole fraction = rounded (digits_value 10 (whole ++ fraction) * 1000000) (10 ^ length fraction)
+-- ten to an exponent, as the numerator of a fraction
+abbrev pub raised : ℤ → ℕ
+raised (pos n) = 10 ^ n
+raised (negsuc n) = 1
+
+-- and as its denominator
+abbrev pub lowered : ℤ → ℕ
+lowered (pos n) = 1
+lowered (negsuc n) = 10 ^ suc n
+
+-- the number of these digits before and behind a point, times ten to an exponent: the exact fraction, rounded once to millionths
+abbrev pub exact_magnitude : List ℕ → List ℕ → ℤ → ℕ
+exact_magnitude whole fraction exponent =
+    rounded (digits_value 10 (whole ++ fraction) * 1000000 * raised exponent) (10 ^ length fraction * lowered exponent)
 
 -- at least one digit, and nothing else
 abbrev pub is_digits : List ℕ → Bool
@@ -62,15 +73,6 @@ is_digits text = list_all is_ascii_digit text && nat_lt 0 (length text)
 -- a magnitude that is at most 10^12
 abbrev pub within_range : ℕ → Result ℕ NumberFlaw
 within_range n = if nat_le n (10 ^ 18) then Ok n else Err BadRange
-
--- the magnitude of the two sides of a point
-abbrev pub magnitude_of_sides : List ℕ → List ℕ → Result ℕ NumberFlaw
-magnitude_of_sides whole fraction =
-    if is_digits (whole ++ fraction) then within_range (exact_magnitude whole fraction) else Err BadShape
-
--- the magnitude of a number text without a sign: digits with at most one point among, before or after them
-abbrev pub decimal_magnitude : List ℕ → Result ℕ NumberFlaw
-decimal_magnitude text = magnitude_of_sides (before_first is_point text) (after_first is_point text)
 
 -- whether a text begins with `-`
 abbrev pub has_minus : List ℕ → Bool
@@ -87,13 +89,51 @@ abbrev pub without_sign : List ℕ → List ℕ
 without_sign [] = []
 without_sign (b ∷ bs) = if b == 45 || b == 43 then bs else b ∷ bs
 
+-- a number with its sign
+abbrev pub signed : Bool → ℕ → ℤ
+signed is_negative n = if is_negative then neg_ℤ (pos n) else pos n
+
+-- the magnitude of the two sides of a point, times ten to an exponent
+abbrev pub magnitude_of_sides : List ℕ → List ℕ → ℤ → Result ℕ NumberFlaw
+magnitude_of_sides whole fraction exponent =
+    if is_digits (whole ++ fraction) then within_range (exact_magnitude whole fraction exponent) else Err BadShape
+
+-- whether a byte is `e` or `E`, which an exponent begins with
+abbrev pub is_mark : ℕ → Bool
+is_mark b = b == 101 || b == 69
+
+-- a text has no such byte
+abbrev pub HasNoMark : List ℕ → Type 0
+HasNoMark text = list_any is_mark text ≡ false
+
+-- what an exponent says behind its mark: an optional sign, and one to four digits
+abbrev pub exponent_behind : List ℕ → Option ℤ
+exponent_behind text =
+    if is_digits (without_sign text) && nat_le (length (without_sign text)) 4
+    then Some (signed (has_minus text) (digits_value 10 (without_sign text)))
+    else None
+
+-- what stands of a text from its first mark on: an exponent, where it has the form of one; where nothing does, it is 0
+abbrev pub exponent_of : List ℕ → Option ℤ
+exponent_of [] = Some (pos 0)
+exponent_of (mark ∷ text) = exponent_behind text
+
+-- the magnitude of what stands before an exponent: digits with at most one point among, before or after them
+abbrev pub magnitude_by : List ℕ → Option ℤ → Result ℕ NumberFlaw
+magnitude_by text None = Err BadShape
+magnitude_by text (Some exponent) = magnitude_of_sides (before_first is_point text) (after_first is_point text) exponent
+
+-- the magnitude of a number text without a sign: digits with at most one point, and then an exponent or nothing
+abbrev pub decimal_magnitude : List ℕ → Result ℕ NumberFlaw
+decimal_magnitude text = magnitude_by (before_first is_mark text) (exponent_of (drop (position_or_len is_mark text) text))
+
 -- a magnitude with its sign
 abbrev pub with_sign : Bool → Result ℕ NumberFlaw → Result ℤ NumberFlaw
-with_sign is_negative (Ok n) = Ok (if is_negative then neg_ℤ (pos n) else pos n)
+with_sign is_negative (Ok n) = Ok (signed is_negative n)
 with_sign is_negative (Err flaw) = Err flaw
 
--- The value of a number text, an optional sign before digits with at most one point: the exact decimal,
--- rounded once to millionths, half away from zero.
+-- The value of a number text, an optional sign before digits with at most one point, and then an exponent of one to four
+-- digits or nothing: the exact decimal times ten to the exponent, rounded once to millionths, half away from zero.
 abbrev pub decimal_value : List ℕ → Result ℤ NumberFlaw
 decimal_value text = with_sign (has_minus text) (decimal_magnitude (without_sign text))
 

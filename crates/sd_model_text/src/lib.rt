@@ -7,7 +7,7 @@ mod grammar;
 mod names;
 mod numbers;
 
-pub use grammar::pieces_are_good_or_bad;
+pub use grammar::{pieces_are_good_or_bad, pieces_have_one_colon, plain_lines_stay};
 pub use names::{
     clean_keys, clean_names, clean_twice, hash_vectors, matches_families, parts_are_told,
 };
