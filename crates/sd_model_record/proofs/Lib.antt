@@ -2,3 +2,4 @@ pub mod CommandLemmas
 pub mod WordLemmas
 pub mod CountLemmas
 pub mod OrderLemmas
+pub mod SentLemmas

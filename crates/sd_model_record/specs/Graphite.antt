@@ -4,7 +4,7 @@ use Rattle.std.specs.Prelude.{ℕ, ℤ, List, [], ◌∷◌, ◌++◌, length, f
 use Rattle.sd_model_text.specs.Numbers.{number_text, per_second}
 use Rattle.sd_model_settings.specs.Defaults.{Names}
 use Rattle.sd_model_record.specs.Record.{Row, CounterRow, TimerRow, GaugeRow, SetRow, Record}
-use Rattle.sd_model_record.specs.Figures.{Figure, whole_number, figures_of}
+use Rattle.sd_model_record.specs.Figures.{Figure, whole_number, sent_figures}
 
 -- a part of a path, with the point behind it; an empty one is left out with its point
 abbrev pub dotted : List ℕ → List ℕ
@@ -43,13 +43,13 @@ abbrev pub figure_line : Names → ℕ → List ℕ → Figure → List ℕ
 figure_line names ts key f =
     line names (front names (codes "stats.timers.") names.namespace.prefix_timer ++ key ++ 46 ∷ f.name) (number_text f.value) ts
 
--- the lines of a row
-abbrev pub row_lines : Names → ℕ → Row → List ℕ
-row_lines names ts (CounterRow key count rate) = counter_lines names ts key count rate
-row_lines names ts (TimerRow key timer) = flat_map (figure_line names ts key) (figures_of timer)
-row_lines names ts (GaugeRow key value) =
+-- the lines of a row, by the names of the classes of timers' lines that are chosen
+abbrev pub row_lines : Names → List (List ℕ) → ℕ → Row → List ℕ
+row_lines names calculated ts (CounterRow key count rate) = counter_lines names ts key count rate
+row_lines names calculated ts (TimerRow key timer) = flat_map (figure_line names ts key) (sent_figures calculated timer)
+row_lines names calculated ts (GaugeRow key value) =
     line names (front names (codes "stats.gauges.") names.namespace.prefix_gauge ++ key) (number_text value) ts
-row_lines names ts (SetRow key count) =
+row_lines names calculated ts (SetRow key count) =
     line names (front names (codes "stats.sets.") names.namespace.prefix_set ++ key ++ codes ".count") (decimal count) ts
 
 -- one of the server's own counters, by its name and number
@@ -73,4 +73,4 @@ tail_lines names r =
 
 -- the text of a record
 abbrev pub graphite_text : Names → Record → List ℕ
-graphite_text names r = flat_map (row_lines names r.ts) r.rows ++ tail_lines names r
+graphite_text names r = flat_map (row_lines names r.calculated r.ts) r.rows ++ tail_lines names r

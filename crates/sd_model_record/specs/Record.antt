@@ -34,12 +34,14 @@ pub record Tally : Type 0 where
   pub bad : ℕ
   pub dropped : ℕ
 
--- The record of a flush: its rows, the tally since the flush before, the flush's Unix second, and the interval.
+-- The record of a flush: its rows, the tally since the flush before, the flush's Unix second, the interval, and the names of
+-- the classes of timers' lines that are chosen.
 pub record Record : Type 0 where
   pub rows : List Row
   pub tally : Tally
   pub ts : ℕ
   pub interval_ms : ℕ
+  pub calculated : List (List ℕ)
 
 -- the limits of the bins of a key: those of the first entry whose metric is part of it
 abbrev pub limits_for : List ℕ → List Classes → List Limit
@@ -84,4 +86,10 @@ record_rows plan tables =
 -- the record of these tables and this tally
 abbrev pub record_of : Plan → List Table → Tally → ℕ → Record
 record_of plan tables tally ts =
-    record { rows = record_rows plan tables; tally = tally; ts = ts; interval_ms = plan.interval_ms }
+    record {
+      rows = record_rows plan tables;
+      tally = tally;
+      ts = ts;
+      interval_ms = plan.interval_ms;
+      calculated = plan.calculated;
+    }

@@ -5,6 +5,8 @@
 
 mod admin;
 mod desk;
+mod texts;
 
 pub use admin::{deletions_have_names, lines_have_words, sets_are_not_shown};
 pub use desk::{desks_are_balanced, desks_count, desks_keep_counts, parts_add_up};
+pub use texts::empty_lists_send_all;

@@ -27,7 +27,7 @@ pub record Settings : Type 0 where
 abbrev pub limits_of : file.Settings → Limits
 limits_of s = record { rows = s.sizes.rows; entries = s.sizes.entries }
 
--- which kinds go when idle; so far a gauge that goes does so at its first swap
+-- which kinds go when idle, and at which swap behind its last sample a gauge that does
 abbrev pub policy_of : file.Settings → Policy
 policy_of s =
     record {
@@ -35,7 +35,7 @@ policy_of s =
       timers = s.deletions.timers;
       gauges = s.deletions.gauges;
       sets = s.deletions.sets;
-      max_ttl = 1;
+      max_ttl = s.rules.gauges_max_ttl;
     }
 
 -- whether a backend is named

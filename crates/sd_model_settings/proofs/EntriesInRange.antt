@@ -1,17 +1,19 @@
 -- Texts, thresholds, backends and entries that were read are in range.
-use Rattle.std.proofs.Common.{◌≡◌, ℕ, ◌<◌, ◌≤◌, true, ◌&&◌, nat_lt, nat_le, ℤ, List, length, codes, IfOk, All, inl, inr, arith}
+use Rattle.std.proofs.Common.{◌≡◌, ℕ, ◌<◌, ◌≤◌, true, ◌&&◌, nat_lt, nat_le, ℤ, List, [], ◌∷◌, length, map, codes, IfOk, All, refl, ap, inl, inr, arith}
 use Rattle.std.specs.Prelude.{⊤}
-use Rattle.std.proofs.lemmas.Bool.{and_parts, cases_Bool}
+use Rattle.std.proofs.lemmas.Bool.{and_parts, or_cases, cases_Bool, false≢true}
 use Rattle.std.proofs.lemmas.Bool.Decides.{nat_tests}
 use Rattle.std.proofs.lemmas.List.Sums.{AllPass-from_list_all}
-use Rattle.std.specs.List.{list_all, AllPass}
+use Rattle.std.proofs.lemmas.Slice.Eq.{bytes_eq-Decides}
+use Rattle.std.specs.List.{list_any, list_all, AllPass}
 use Rattle.std.specs.Str.{bytes_eq}
 use Rattle.toml.specs.Data.{Data, array, table, Items, Members, get_member}
 use Rattle.sd_model_text.specs.Names.{is_name_byte}
 use Rattle.sd_model_settings.specs.Values.{text, whole, is_prefix, is_filled_prefix, is_host, is_host_byte, is_metric, decimal, each, are_at_most, listed, one_or_list, are_distinct, ranged, both, required}
 use Rattle.sd_model_text.specs.Numbers.{Limit}
 use Rattle.sd_model_settings.specs.Entries.{is_threshold, are_thresholds, thresholds, is_backend, backends, limit, is_limit, are_limits, has_early_inf, bins_of, bins, classes_of, classes, target, node}
-use Rattle.sd_model_settings.specs.Ranges.{IsWithin, IsPrefix, IsHost, IsThreshold, AreThresholds, AreBackends, AreLimits, IsClasses, AreHistograms, IsTarget, AreTargets, IsNode, AreNodes}
+use Rattle.sd_model_settings.specs.TimerClasses.{class_name, timer_classes, is_class_name, class_names}
+use Rattle.sd_model_settings.specs.Ranges.{IsWithin, IsPrefix, IsHost, IsThreshold, AreThresholds, AreBackends, AreClassNames, AreLimits, IsClasses, AreHistograms, IsTarget, AreTargets, IsNode, AreNodes}
 use Rattle.sd_model_settings.proofs.ValuesInRange.{anything_in_range, ranged_in_range, mapped_in_range, both_in_range, whole_in_range, text_in_range, each_in_range, few, listed_in_range, required_in_range, optional_in_range}
 
 pub is_prefix-prefix : (s : List ℕ) → is_prefix s ≡ true → IsPrefix s
@@ -56,6 +58,12 @@ pub backends_in_range : (d : Data) → IfOk (backends d) AreBackends
 backends_in_range d =
     ranged_in_range (are_distinct bytes_eq) _ (λ xs. (length xs ≤ 3) × All (λ s. is_backend s ≡ true) xs) AreBackends
     (listed_in_range 3 (text is_backend) (λ s. is_backend s ≡ true) _ (text_in_range is_backend (λ s. is_backend s ≡ true) (λ s e. e)) (λ xs all short. (short, all)) d)
+    (λ xs p e. record { few = p.0; known = p.1; distinct = e })
+
+pub class_names_in_range : (d : Data) → IfOk (class_names d) AreClassNames
+class_names_in_range d =
+    ranged_in_range (are_distinct bytes_eq) _ (λ xs. (length xs ≤ 16) × All (λ s. is_class_name s ≡ true) xs) AreClassNames
+    (listed_in_range 16 (text is_class_name) (λ s. is_class_name s ≡ true) _ (text_in_range is_class_name (λ s. is_class_name s ≡ true) (λ s e. e)) (λ xs all short. (short, all)) d)
     (λ xs p e. record { few = p.0; known = p.1; distinct = e })
 
 limits_apart : (ls : List Limit) → length ls ≤ 64 → are_limits ls ≡ true → AreLimits ls
@@ -124,3 +132,19 @@ repeater_in_range = listed_in_range 16 target IsTarget AreTargets target_in_rang
 
 pub nodes_in_range : (d : Data) → IfOk (listed 64 node d) AreNodes
 nodes_in_range = listed_in_range 64 node IsNode AreNodes node_in_range (λ xs all short. record { few = short; range = all })
+
+-- a text is no longer than the longest of those among which it is
+length-among : (n : ℕ) (s : List ℕ) (names : List (List ℕ)) → list_all (λ name. nat_le (length name) n) names ≡ true → list_any (bytes_eq s) names ≡ true → length s ≤ n
+length-among n s [] short among = absurd (false≢true among)
+length-among n s (name ∷ names) short among =
+    let parts = and_parts (nat_le (length name) n) (list_all (λ name. nat_le (length name) n) names) short in
+    elim (or_cases (bytes_eq s name) (list_any (bytes_eq s) names) among) [
+      | inl here ↦
+          let same : s ≡ name = (bytes_eq-Decides s name).0 here in
+          let most : length name ≤ n = grind (arith, nat_tests) in
+          omega (arith, ap length same)
+      | inr there ↦ length-among n s names parts.1 there
+    ]
+
+pub length-class_name : (s : List ℕ) → is_class_name s ≡ true → length s ≤ 19
+length-class_name s e = length-among 19 s (map class_name timer_classes) refl e

@@ -3,3 +3,4 @@ pub mod ValuesInRange
 pub mod EntriesInRange
 pub mod SettingsInRange
 pub mod DefaultsInRange
+pub mod EarlierLemmas

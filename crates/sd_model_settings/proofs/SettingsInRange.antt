@@ -1,22 +1,32 @@
 -- The settings of an accepted file are in range.
-use Rattle.std.proofs.Common.{◌≡◌, ℕ, ◌<◌, true, nat_lt, pos, List, [], ◌∷◌, length, codes, Option, Some, None, Result, Ok, IfOk, refl, inl, inr, arith}
+use Rattle.std.proofs.Common.{◌≡◌, ℕ, ◌*◌, ◌<◌, ◌≤◌, true, nat_lt, nat_le, pos, List, [], ◌∷◌, length, codes, Option, Some, None, Result, Ok, IfOk, refl, inl, inr, arith}
 use Rattle.std.specs.Prelude.{⊤}
 use Rattle.std.proofs.lemmas.Bool.{cases_Bool}
+use Rattle.std.proofs.lemmas.Bool.Decides.{nat_tests}
 use Rattle.std.proofs.lemmas.Result.{IfOk-at_ok}
 use Rattle.toml.specs.Data.{no_members}
 use Rattle.sd_model_settings.specs.Values.{flag, text, whole, is_prefix, is_filled_prefix, is_host, members, listed}
 use Rattle.sd_model_settings.specs.Entries.{thresholds, backends, classes, target, node}
+use Rattle.sd_model_settings.specs.TimerClasses.{class_names}
 use Rattle.sd_model_settings.specs.KnownNames.{unknown}
-use Rattle.sd_model_settings.specs.Settings.{SettingsFlaw, ◌>>=◌, Section, setting, Server, Addresses, Namespace, EntryLists, Sizes, top, inside_graphite, server, deletions, addresses, namespace, entry_lists, sizes, Settings, settings_in, unless_unknown, document, settings}
-use Rattle.sd_model_settings.specs.Ranges.{IsWithin, IsPrefix, IsHost, AreThresholds, AreBackends, AreHistograms, AreTargets, AreNodes, ServerInRange, AddressesInRange, NamespaceInRange, EntryListsInRange, SizesInRange, InRange}
+use Rattle.sd_model_settings.specs.Settings.{SettingsFlaw, ◌>>=◌, Section, setting, within_product, Server, Addresses, Namespace, EntryLists, Sizes, FlushRules, top, inside_graphite, server, deletions, addresses, namespace, entry_lists, sizes, flush_rules, Settings, settings_in, unless_unknown, document, settings}
+use Rattle.sd_model_settings.specs.Ranges.{IsWithin, IsPrefix, IsHost, AreThresholds, AreBackends, AreClassNames, AreHistograms, AreTargets, AreNodes, ServerInRange, AddressesInRange, NamespaceInRange, EntryListsInRange, SizesInRange, FlushRulesInRange, InRange}
 use Rattle.sd_model_settings.proofs.ValuesInRange.{anything_in_range, bind_in_range, setting_in_range, whole_in_range}
-use Rattle.sd_model_settings.proofs.EntriesInRange.{is_prefix-prefix, is_host-host, prefix_in_range, filled_prefix_in_range, host_in_range, thresholds_in_range, backends_in_range, histogram_in_range, repeater_in_range, nodes_in_range}
+use Rattle.sd_model_settings.proofs.EntriesInRange.{is_prefix-prefix, is_host-host, prefix_in_range, filled_prefix_in_range, host_in_range, thresholds_in_range, backends_in_range, class_names_in_range, histogram_in_range, repeater_in_range, nodes_in_range}
 
 -- an integer with a default in range, before the rest
 whole_then : {B : Type 0} (s : Section) (name : List ℕ) (least most default : ℕ) (f : ℕ → Result B SettingsFlaw) (Q : B → Type 0)
     → IsWithin least most default → ((n : ℕ) → IsWithin least most n → IfOk (f n) Q) → IfOk (setting s name (whole least most) default >>= f) Q
 whole_then s name least most default f Q p h =
     bind_in_range _ f (IsWithin least most) Q (setting_in_range s name _ default (IsWithin least most) p (whole_in_range least most)) h
+
+-- a product that isn't too large, before the rest
+product_then : {B : Type 0} (s : Section) (name : List ℕ) (most earlier value : ℕ) (f : ℕ → Result B SettingsFlaw) (Q : B → Type 0)
+    → (earlier * value ≤ most → IfOk (f value) Q) → IfOk (within_product s name most earlier value >>= f) Q
+product_then s name most earlier value f Q h = elim (cases_Bool (nat_le (earlier * value) most)) [
+  | inl e ↦ rw e (h (grind (arith, nat_tests)))
+  | inr e ↦ rw e tt
+]
 
 -- the text of a prefix before the rest
 prefix_then : {B : Type 0} (s : Section) (name default : List ℕ) (f : List ℕ → Result B SettingsFlaw) (Q : B → Type 0)
@@ -89,10 +99,18 @@ sizes_in_range s =
     whole_then s (codes "cacheSize") 1 1000000 10000 _ SizesInRange (omega arith, omega arith) (λ cache_size c.
     whole_then s (codes "shards") 1 16 4 _ SizesInRange (omega arith, omega arith) (λ shards h.
     whole_then s (codes "rows") 1 16384 4096 _ SizesInRange (omega arith, omega arith) (λ rows r.
-    whole_then s (codes "entries") 1 65536 65536 _ SizesInRange (omega arith, omega arith) (λ entries e.
+    whole_then s (codes "entries") 1 1048576 65536 _ SizesInRange (omega arith, omega arith) (λ entries e.
+    product_then s (codes "entries") 2097152 shards entries _ SizesInRange (λ a.
     whole_then s (codes "receivers") 1 16 2 _ SizesInRange (omega arith, omega arith) (λ receivers v.
     whole_then s (codes "runFlushes") 0 1000000000 0 _ SizesInRange (omega arith, omega arith) (λ run_flushes f.
-    record { check_interval = i; cache_size = c; shards = h; rows = r; entries = e; receivers = v; run_flushes = f.1 })))))))
+    record { check_interval = i; cache_size = c; shards = h; rows = r; entries = e; all_entries = a; receivers = v; run_flushes = f.1 }))))))))
+
+pub flush_rules_in_range : (s : Section) → IfOk (flush_rules s) FlushRulesInRange
+unfolding flush_rules
+flush_rules_in_range s =
+    whole_then s (codes "gaugesMaxTTL") 1 1000000000 1 _ FlushRulesInRange (omega arith, omega arith) (λ gauges_max_ttl g.
+    bind_in_range _ _ AreClassNames FlushRulesInRange (setting_in_range s (codes "calculatedTimerMetrics") class_names [] AreClassNames (record { few = omega arith; known = λ k d l. absurd (omega arith); distinct = refl }) class_names_in_range) (λ names n.
+    record { gauges_max_ttl = g; calculated_timer_metrics = n }))
 
 pub settings_in_in_range : (s : Section) → IfOk (settings_in s) InRange
 unfolding settings_in
@@ -103,7 +121,8 @@ settings_in_in_range s =
     bind_in_range _ _ NamespaceInRange InRange (namespace_in_range s) (λ namespace n.
     bind_in_range _ _ EntryListsInRange InRange (entry_lists_in_range s) (λ lists l.
     bind_in_range _ _ SizesInRange InRange (sizes_in_range s) (λ sizes z.
-    record { server = r; addresses = a; namespace = n; lists = l; sizes = z }))))))
+    bind_in_range _ _ FlushRulesInRange InRange (flush_rules_in_range s) (λ rules u.
+    record { server = r; addresses = a; namespace = n; lists = l; sizes = z; rules = u })))))))
 
 known_in_range : (name : Option (List ℕ)) (r : Result Settings SettingsFlaw) → IfOk r InRange → IfOk (unless_unknown name r) InRange
 known_in_range None r h = h
@@ -131,3 +150,6 @@ entry_lists_read s {v} e = IfOk-at_ok EntryListsInRange e (entry_lists_in_range 
 
 pub sizes_read : (s : Section) {v : Sizes} → sizes s ≡ Ok v → SizesInRange v
 sizes_read s {v} e = IfOk-at_ok SizesInRange e (sizes_in_range s)
+
+pub flush_rules_read : (s : Section) {v : FlushRules} → flush_rules s ≡ Ok v → FlushRulesInRange v
+flush_rules_read s {v} e = IfOk-at_ok FlushRulesInRange e (flush_rules_in_range s)

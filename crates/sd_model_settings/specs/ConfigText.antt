@@ -3,7 +3,7 @@ use Rattle.std.specs.Prelude.{ℕ, Bool, if◌then◌else◌, List, [], ◌∷�
 use Rattle.std.specs.List.{concat, join_with_byte}
 use Rattle.sd_model_text.specs.Numbers.{number_text, Limit, Below, Infinite}
 use Rattle.sd_model_settings.specs.Entries.{Classes, Target, Node}
-use Rattle.sd_model_settings.specs.Settings.{Server, Deletions, Addresses, Namespace, Sizes, Settings}
+use Rattle.sd_model_settings.specs.Settings.{Server, Deletions, Addresses, Namespace, Sizes, FlushRules, Settings}
 
 -- a line: a name, a colon, a space and a value
 abbrev pub line : List ℕ → List ℕ → List ℕ
@@ -85,6 +85,12 @@ size_lines s =
     ∷ line (codes "runFlushes") (decimal s.run_flushes)
     ∷ []
 
+abbrev pub rule_lines : FlushRules → List (List ℕ)
+rule_lines s =
+    line (codes "gaugesMaxTTL") (decimal s.gauges_max_ttl)
+    ∷ line (codes "calculatedTimerMetrics") (joined s.calculated_timer_metrics)
+    ∷ []
+
 -- the lines before those of entries
 abbrev pub front_lines : Settings → List (List ℕ)
 front_lines s = server_lines s.server ++ deletion_lines s.deletions ++ address_lines s.addresses ++ namespace_lines s.namespace
@@ -94,9 +100,13 @@ abbrev pub entry_lines : Settings → List (List ℕ)
 entry_lines s =
     map histogram_line s.lists.histogram ++ map repeater_line s.lists.repeater ++ map node_line s.lists.nodes
 
+-- the lines behind those of entries
+abbrev pub back_lines : Settings → List (List ℕ)
+back_lines s = size_lines s.sizes ++ rule_lines s.rules
+
 -- the lines of all settings
 abbrev pub config_lines : Settings → List (List ℕ)
-config_lines s = front_lines s ++ entry_lines s ++ size_lines s.sizes
+config_lines s = front_lines s ++ entry_lines s ++ back_lines s
 
 -- the reply, without its end
 abbrev pub config_text : Settings → List ℕ

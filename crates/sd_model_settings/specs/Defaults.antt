@@ -37,13 +37,16 @@ default_settings =
         receivers = 2;
         run_flushes = 0;
       };
+      rules = record { gauges_max_ttl = 1; calculated_timer_metrics = [] };
     }
 
--- What a record is reckoned by: the interval of rates in milliseconds, the thresholds, and the bins.
+-- What a record is reckoned by: the interval of rates in milliseconds, the thresholds, the bins, and the names of the
+-- classes of timers' lines that are chosen.
 pub record Plan : Type 0 where
   pub interval_ms : ℕ
   pub thresholds : List ℤ
   pub histograms : List Classes
+  pub calculated : List (List ℕ)
 
 -- the plan that settings make
 abbrev pub plan_of : Settings → Plan
@@ -52,6 +55,7 @@ plan_of s =
       interval_ms = s.server.flush_interval;
       thresholds = s.server.percent_threshold;
       histograms = s.lists.histogram;
+      calculated = s.rules.calculated_timer_metrics;
     }
 
 -- What Graphite's names are made of: the namespace, and the prefix of the server's own metrics.

@@ -12,7 +12,8 @@ top_names =
     ∷ codes "deleteCounters" ∷ codes "deleteTimers" ∷ codes "deleteSets" ∷ codes "deleteGauges" ∷ codes "prefixStats"
     ∷ codes "address" ∷ codes "mgmt_address" ∷ codes "backends" ∷ codes "graphiteHost" ∷ codes "graphitePort" ∷ codes "graphite"
     ∷ codes "histogram" ∷ codes "repeater" ∷ codes "nodes" ∷ codes "checkInterval" ∷ codes "cacheSize" ∷ codes "shards"
-    ∷ codes "rows" ∷ codes "entries" ∷ codes "receivers" ∷ codes "runFlushes" ∷ []
+    ∷ codes "rows" ∷ codes "entries" ∷ codes "receivers" ∷ codes "runFlushes" ∷ codes "gaugesMaxTTL"
+    ∷ codes "calculatedTimerMetrics" ∷ []
 
 -- the names in the table `graphite`
 abbrev pub graphite_names : List (List ℕ)
@@ -58,11 +59,18 @@ abbrev pub unknown_in_list : List ℕ → List (List ℕ) → Option Data → Op
 unknown_in_list prefix known (Some (array ds)) = unknown_among prefix known ds
 unknown_in_list prefix known _ = None
 
--- the first unknown name of a file: at the top, and then in `graphite`, `histogram`, `repeater` and `nodes`
-unfoldable pub unknown : Members → Option (List ℕ)
-unknown doc =
-    option_or (first_unknown [] top_names (names doc))
-    (option_or (unknown_in (codes "graphite.") graphite_names (get_member (codes "graphite") doc))
+-- the first unknown name inside `graphite`, `histogram`, `repeater` and `nodes`, in this order
+abbrev pub unknown_inside : Members → Option (List ℕ)
+unknown_inside doc =
+    option_or (unknown_in (codes "graphite.") graphite_names (get_member (codes "graphite") doc))
     (option_or (unknown_in_list (codes "histogram.") histogram_names (get_member (codes "histogram") doc))
     (option_or (unknown_in_list (codes "repeater.") repeater_names (get_member (codes "repeater") doc))
-    (unknown_in_list (codes "nodes.") node_names (get_member (codes "nodes") doc)))))
+    (unknown_in_list (codes "nodes.") node_names (get_member (codes "nodes") doc))))
+
+-- the first unknown name of a file, by the names that are known at its top
+abbrev pub unknown_by : List (List ℕ) → Members → Option (List ℕ)
+unknown_by known doc = option_or (first_unknown [] known (names doc)) (unknown_inside doc)
+
+-- the first unknown name of a file
+unfoldable pub unknown : Members → Option (List ℕ)
+unknown doc = unknown_by top_names doc

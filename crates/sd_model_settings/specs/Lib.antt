@@ -1,7 +1,9 @@
 pub mod Values
 pub mod Entries
+pub mod TimerClasses
 pub mod KnownNames
 pub mod Settings
 pub mod Defaults
 pub mod Ranges
 pub mod ConfigText
+pub mod Earlier

@@ -1,5 +1,5 @@
 -- The ranges that the values of every accepted file are in, as those rely on them who use the values.
-use Rattle.std.specs.Prelude.{◌≡◌, ◌≢◌, ℕ, ◌<◌, ◌≤◌, true, ℤ, pos, unsigned_abs, List, length, All}
+use Rattle.std.specs.Prelude.{◌≡◌, ◌≢◌, ℕ, ◌*◌, ◌<◌, ◌≤◌, true, ℤ, pos, unsigned_abs, List, length, All}
 use Rattle.std.specs.List.{AllPass}
 use Rattle.std.specs.Ordering.{int_eq}
 use Rattle.std.specs.Str.{bytes_eq}
@@ -7,7 +7,8 @@ use Rattle.sd_model_text.specs.Names.{is_name_byte}
 use Rattle.sd_model_settings.specs.Values.{is_host_byte, are_distinct}
 use Rattle.sd_model_text.specs.Numbers.{Limit, ascends}
 use Rattle.sd_model_settings.specs.Entries.{is_backend, is_limit, Classes, Target, Node}
-use Rattle.sd_model_settings.specs.Settings.{Server, Addresses, Namespace, EntryLists, Sizes, Settings}
+use Rattle.sd_model_settings.specs.TimerClasses.{is_class_name}
+use Rattle.sd_model_settings.specs.Settings.{Server, Addresses, Namespace, EntryLists, Sizes, FlushRules, Settings}
 
 -- a number from least to most
 abbrev pub IsWithin : ℕ → ℕ → ℕ → Type 0
@@ -38,6 +39,12 @@ pub record AreThresholds (xs : List ℤ) : Type 0 where
 pub record AreBackends (names : List (List ℕ)) : Type 0 where
   pub few : length names ≤ 3
   pub known : AllPass is_backend names
+  pub distinct : are_distinct bytes_eq names ≡ true
+
+-- Names of classes of timers' lines, each at most once.
+pub record AreClassNames (names : List (List ℕ)) : Type 0 where
+  pub few : length names ≤ 16
+  pub known : AllPass is_class_name names
   pub distinct : are_distinct bytes_eq names ≡ true
 
 -- At most 64 limits that ascend.
@@ -111,9 +118,14 @@ pub record SizesInRange (s : Sizes) : Type 0 where
   pub cache_size : IsWithin 1 1000000 s.cache_size
   pub shards : IsWithin 1 16 s.shards
   pub rows : IsWithin 1 16384 s.rows
-  pub entries : IsWithin 1 65536 s.entries
+  pub entries : IsWithin 1 1048576 s.entries
+  pub all_entries : s.shards * s.entries ≤ 2097152
   pub receivers : IsWithin 1 16 s.receivers
   pub run_flushes : s.run_flushes ≤ 1000000000
+
+pub record FlushRulesInRange (s : FlushRules) : Type 0 where
+  pub gauges_max_ttl : IsWithin 1 1000000000 s.gauges_max_ttl
+  pub calculated_timer_metrics : AreClassNames s.calculated_timer_metrics
 
 -- Each setting is in its range.
 pub record InRange (s : Settings) : Type 0 where
@@ -122,3 +134,4 @@ pub record InRange (s : Settings) : Type 0 where
   pub namespace : NamespaceInRange s.namespace
   pub lists : EntryListsInRange s.lists
   pub sizes : SizesInRange s.sizes
+  pub rules : FlushRulesInRange s.rules

@@ -1,10 +1,11 @@
 -- What a settings file sets, or its first fault.
-use Rattle.std.specs.Prelude.{ℕ, Bool, true, false, nat_lt, if◌then◌else◌, ℤ, pos, List, [], ◌∷◌, ◌++◌, length, take, codes, Option, Some, None, Result, Ok, Err}
+use Rattle.std.specs.Prelude.{ℕ, ◌*◌, Bool, true, false, nat_lt, nat_le, if◌then◌else◌, ℤ, pos, List, [], ◌∷◌, ◌++◌, length, take, codes, Option, Some, None, Result, Ok, Err}
 use Rattle.std.specs.Str.{is_utf8}
 use Rattle.toml.specs.Data.{Data, Members, no_members, get_member}
 use Rattle.toml.specs.Parse.{parse_document}
 use Rattle.sd_model_settings.specs.Values.{ValueFlaw, OtherKind, OutsideRange, flag, whole, text, is_prefix, is_filled_prefix, is_host, listed, members}
 use Rattle.sd_model_settings.specs.Entries.{Classes, Target, Node, thresholds, backends, classes, target, node}
+use Rattle.sd_model_settings.specs.TimerClasses.{class_names}
 use Rattle.sd_model_settings.specs.KnownNames.{unknown}
 
 -- Why a file sets nothing, with the name of a setting.
@@ -52,8 +53,14 @@ in_force name read default (Some d) = named name (read d)
 abbrev pub setting : {A : Type 0} → Section → List ℕ → (Data → Result A ValueFlaw) → A → Result A SettingsFlaw
 setting s name read default = in_force (s.prefix ++ name) read default (get_member name s.members)
 
+-- the value in force of the setting with this name, out of range where its product with that of an earlier setting is
+-- above the most that the two may have
+abbrev pub within_product : Section → List ℕ → ℕ → ℕ → ℕ → Result ℕ SettingsFlaw
+within_product s name most earlier value =
+    if nat_le (earlier * value) most then Ok value else Err (OutOfRange (shown (s.prefix ++ name)))
+
 -- The settings in the order in which they are tested, each on one line: its name, what it is read as with its
--- range, and its default. They stand in six groups in that order.
+-- range, and its default. They stand in seven groups in that order.
 
 -- Ports, the time between two flushes in milliseconds, and the thresholds of timers.
 pub record Server : Type 0 where
@@ -157,10 +164,23 @@ sizes s = do
   cache_size ← setting s (codes "cacheSize") (whole 1 1000000) 10000
   shards ← setting s (codes "shards") (whole 1 16) 4
   rows ← setting s (codes "rows") (whole 1 16384) 4096
-  entries ← setting s (codes "entries") (whole 1 65536) 65536
+  per_shard ← setting s (codes "entries") (whole 1 1048576) 65536
+  entries ← within_product s (codes "entries") 2097152 shards per_shard
   receivers ← setting s (codes "receivers") (whole 1 16) 2
   run_flushes ← setting s (codes "runFlushes") (whole 0 1000000000) 0
   Ok (record { check_interval = check_interval; cache_size = cache_size; shards = shards; rows = rows; entries = entries; receivers = receivers; run_flushes = run_flushes })
+
+-- At which swap behind its last sample a gauge that goes when idle goes, and the names of the classes of timers' lines that
+-- are chosen.
+pub record FlushRules : Type 0 where
+  pub gauges_max_ttl : ℕ
+  pub calculated_timer_metrics : List (List ℕ)
+
+unfoldable pub flush_rules : Section → Result FlushRules SettingsFlaw
+flush_rules s = do
+  gauges_max_ttl ← setting s (codes "gaugesMaxTTL") (whole 1 1000000000) 1
+  calculated_timer_metrics ← setting s (codes "calculatedTimerMetrics") class_names []
+  Ok (record { gauges_max_ttl = gauges_max_ttl; calculated_timer_metrics = calculated_timer_metrics })
 
 -- The values of all settings.
 pub record Settings : Type 0 where
@@ -170,6 +190,7 @@ pub record Settings : Type 0 where
   pub namespace : Namespace
   pub lists : EntryLists
   pub sizes : Sizes
+  pub rules : FlushRules
 
 -- the values that a file's table sets
 unfoldable pub settings_in : Section → Result Settings SettingsFlaw
@@ -180,7 +201,8 @@ settings_in s = do
   namespace-values ← namespace s
   lists-values ← entry_lists s
   sizes-values ← sizes s
-  Ok (record { server = server-values; deletions = deletions-values; addresses = addresses-values; namespace = namespace-values; lists = lists-values; sizes = sizes-values })
+  rules-values ← flush_rules s
+  Ok (record { server = server-values; deletions = deletions-values; addresses = addresses-values; namespace = namespace-values; lists = lists-values; sizes = sizes-values; rules = rules-values })
 
 -- a name that isn't known comes before all settings
 abbrev pub unless_unknown : Option (List ℕ) → Result Settings SettingsFlaw → Result Settings SettingsFlaw

@@ -2,7 +2,7 @@ ghost use Rattle.std.specs.Prelude.{◌≡◌, ◌∷◌, [], pos, codes, Ok, Er
 ghost use Rattle.sd_model_text.specs.Numbers.{Below, Infinite};
 ghost use Rattle.sd_model_settings.specs.Settings.{settings, Unknown, WrongKind, OutOfRange, NotToml};
 ghost use Rattle.sd_model_settings.specs.Defaults.{default_settings};
-ghost use Rattle.sd_model_settings.specs.ConfigText.{server_lines, deletion_lines, address_lines, namespace_lines, size_lines, histogram_line, repeater_line, node_line};
+ghost use Rattle.sd_model_settings.specs.ConfigText.{server_lines, deletion_lines, address_lines, namespace_lines, size_lines, rule_lines, histogram_line, repeater_line, node_line};
 
 /// What files set.
 #[tactic(auto, unfolding(crate::proofs::OnLiterals::settings_on_literals))]
@@ -17,6 +17,14 @@ pub fn accepted_files()
     ensures a_deletion { settings (codes "deleteIdleStats = true\ndeleteGauges = false\n")
         ≡ Ok (record default_settings {
           deletions = record { idle_stats = true; counters = true; timers = true; sets = true; gauges = false };
+        }) }
+    ensures rules { settings (codes "gaugesMaxTTL = 2\ncalculatedTimerMetrics = ['count', 'median']\n")
+        ≡ Ok (record default_settings {
+          rules = record { gauges_max_ttl = 2; calculated_timer_metrics = codes "count" ∷ codes "median" ∷ [] };
+        }) }
+    ensures most_entries { settings (codes "entries = 1048576\nshards = 2\n")
+        ≡ Ok (record default_settings {
+          sizes = record default_settings.sizes { shards = 2; entries = 1048576 };
         }) }
 {}
 
@@ -35,6 +43,11 @@ pub fn refused_files()
         ≡ Err (OutOfRange (codes "percentThreshold")) }
     ensures early_inf { settings (codes "histogram = [{metric = '', bins = ['inf', 1]}]\n")
         ≡ Err (WrongKind (codes "histogram")) }
+    ensures too_many_entries { settings (codes "entries = 1048576\n") ≡ Err (OutOfRange (codes "entries")) }
+    ensures no_class { settings (codes "calculatedTimerMetrics = ['foo']\n") ≡ Err (OutOfRange (codes "calculatedTimerMetrics")) }
+    ensures class_twice { settings (codes "calculatedTimerMetrics = ['sum', 'sum']\n")
+        ≡ Err (OutOfRange (codes "calculatedTimerMetrics")) }
+    ensures no_list { settings (codes "calculatedTimerMetrics = 3\n") ≡ Err (WrongKind (codes "calculatedTimerMetrics")) }
 {}
 
 /// The lines of the reply to `config` where nothing is set, and of entries.
@@ -78,6 +91,14 @@ pub fn config_lines_of_files()
         ∷ codes "entries: 65536\n"
         ∷ codes "receivers: 2\n"
         ∷ codes "runFlushes: 0\n"
+        ∷ [] }
+    ensures rule_defaults { rule_lines default_settings.rules
+        ≡ codes "gaugesMaxTTL: 1\n"
+        ∷ codes "calculatedTimerMetrics: \n"
+        ∷ [] }
+    ensures chosen_lines { rule_lines (record { gauges_max_ttl = 2; calculated_timer_metrics = codes "count" ∷ codes "upper_percent" ∷ [] })
+        ≡ codes "gaugesMaxTTL: 2\n"
+        ∷ codes "calculatedTimerMetrics: count,upper_percent\n"
         ∷ [] }
     ensures a_histogram { histogram_line (record { metric = codes "web"; limits = Below (pos 2500000) ∷ Infinite ∷ [] })
         ≡ codes "histogram: web 2.5,inf\n" }

@@ -4,7 +4,9 @@
 #![tactic(auto)]
 
 mod accepted;
+mod earlier;
 mod files;
 
 pub use accepted::accepted_values;
+pub use earlier::earlier_files;
 pub use files::{accepted_files, config_lines_of_files, refused_files};

@@ -163,7 +163,7 @@ module _ (settings : Settings) (n m : ℕ) (told other : file.Settings) (some_n 
       ap (λ es. map (λ e. e.1) (entries (from_entries {R = row_cmp} es))) (listed n one)
       ∙ ap (λ rows. map (λ e. e.1) (entries rows)) (values_alike settings.plan n m some_n some_m one.shards another.shards seen h.left h.right)
       ∙ sym (ap (λ es. map (λ e. e.1) (entries (from_entries {R = row_cmp} es))) (listed m another)) in
-      λ k. record { rows = rows k; tally = (h.desk k).tally; ts = ts; interval_ms = settings.plan.interval_ms }
+      λ k. record { rows = rows k; tally = (h.desk k).tally; ts = ts; interval_ms = settings.plan.interval_ms; calculated = settings.plan.calculated }
 
   -- a round's record and its marks
   abbrev recorded : Settings → Round → Record × Marks

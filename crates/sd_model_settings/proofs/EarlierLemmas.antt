@@ -1,0 +1,198 @@
+-- A file that was accepted earlier sets the same values.
+use Rattle.std.proofs.Common.{◌≡◌, ℕ, ◌*◌, ◌≤◌, Bool, true, false, cond, ◌||◌, ◌&&◌, nat_le, nat_lt, pos, negsuc, List, [], ◌∷◌, ◌++◌, length, drop, codes, Option, Some, None, Result, Ok, Err, IfOk, refl, sym, ap, subst, ◌∙◌, inl, inr, arith}
+use Rattle.std.proofs.Common.{Ordering, nat_cmp, Less, Equal, Greater}
+use Rattle.std.specs.Prelude.{⊤}
+use Rattle.std.specs.List.{list_any}
+use Rattle.std.specs.Str.{bytes_eq}
+use Rattle.std.specs.Option.{option_or}
+use Rattle.std.specs.Ordering.{is_eq, match_ordering}
+use Rattle.std.specs.Cmp.Lexicographic.{slice_cmp}
+use Rattle.std.proofs.lemmas.Bool.{cases_Bool, false≢true}
+use Rattle.std.proofs.lemmas.Bool.Decides.{nat_tests}
+use Rattle.std.proofs.lemmas.List.Folds.{list_any-append}
+use Rattle.std.proofs.lemmas.Map.Text.{is_eq-slice_cmp}
+use Rattle.std.proofs.lemmas.Nat.{mul-le}
+use Rattle.std.proofs.lemmas.Slice.Eq.{bytes_eq-Decides}
+use Rattle.std.proofs.lemmas.Result.{IfOk-at_ok}
+use Rattle.toml.specs.Data.{Data, integer, Members, no_members, member, get_member}
+use Rattle.sd_model_settings.specs.Values.{ValueFlaw, whole}
+use Rattle.sd_model_settings.specs.TimerClasses.{class_names}
+use Rattle.sd_model_settings.specs.KnownNames.{top_names, names, first_unknown, unknown_inside, unknown_by, unknown}
+use Rattle.sd_model_settings.specs.Settings.{SettingsFlaw, ◌>>=◌, in_force, Section, setting, within_product, top, server, deletions, addresses, namespace, entry_lists, sizes, flush_rules, Settings, settings_in, unless_unknown, document, settings}
+use Rattle.sd_model_settings.specs.Earlier.{earlier_names, earlier_rules, earlier_sizes, earlier_in, earlier_settings}
+use Rattle.sd_model_settings.specs.Ranges.{IsWithin}
+use Rattle.sd_model_settings.proofs.ValuesInRange.{bind_in_range, anything_in_range, setting_in_range, whole_in_range}
+
+-- the second gives what the first gives, where that gives a value
+abbrev Gives : {A : Type 0} → Result A SettingsFlaw → Result A SettingsFlaw → Type 0
+Gives r q = IfOk r (λ v. q ≡ Ok v)
+
+-- a step after the same value
+same_then : {A B : Type 0} (r : Result A SettingsFlaw) (f g : A → Result B SettingsFlaw) → ((x : A) → r ≡ Ok x → Gives (f x) (g x)) → Gives (r >>= f) (r >>= g)
+same_then (Ok x) f g h = h x refl
+same_then (Err flaw) f g h = tt
+
+-- a step after a value that is given too
+given_then : {A B : Type 0} (r q : Result A SettingsFlaw) (f g : A → Result B SettingsFlaw) → Gives r q → ((x : A) → Gives (f x) (g x)) → Gives (r >>= f) (q >>= g)
+given_then (Ok x) q f g e h = subst (λ p. IfOk (f x) (λ v. (p >>= g) ≡ Ok v)) (sym e) (h x)
+given_then (Err flaw) q f g e h = tt
+
+-- a step after a value that is known
+known_then : {A B : Type 0} (q : Result A SettingsFlaw) (x : A) (g : A → Result B SettingsFlaw) → q ≡ Ok x → (q >>= g) ≡ g x
+known_then q x g e = ap (λ p. p >>= g) e
+
+same : {A : Type 0} (r : Result A SettingsFlaw) → Gives r r
+same (Ok x) = refl
+same (Err flaw) = tt
+
+-- so many shards have at most so many entries
+product_fits : (shards n : ℕ) → shards ≤ 16 → n ≤ 65536 → nat_le (shards * n) 2097152 ≡ true
+product_fits shards n few short =
+    let product : shards * n ≤ 16 * 65536 = mul-le shards n 16 65536 few short in
+    let most : shards * n ≤ 2097152 = omega arith in
+    grind (arith, nat_tests)
+
+module _ {B : Type 0} (s : Section) (shards : ℕ) (few : shards ≤ 16) (f g : ℕ → Result B SettingsFlaw) (h : (n : ℕ) → Gives (f n) (g n)) where
+  -- the rest, behind the number of entries and their product with the shards
+  abbrev rest : ℕ → Result B SettingsFlaw
+  rest n = within_product s (codes "entries") 2097152 shards n >>= g
+
+  within : (n : ℕ) → n ≤ 65536 → Gives (f n) (rest n)
+  within n short = rw (product_fits shards n few short) (h n)
+
+  by_number : (n : ℕ) → Gives (in_force (s.prefix ++ codes "entries") (whole 1 65536) 65536 (Some (integer (pos n))) >>= f) (in_force (s.prefix ++ codes "entries") (whole 1 1048576) 65536 (Some (integer (pos n))) >>= rest)
+  by_number n = elim (cases_Bool (nat_le 1 n && nat_le n 65536)) [
+    | inl e ↦
+        let short : n ≤ 65536 = grind (arith, nat_tests) in
+        let wide : (nat_le 1 n && nat_le n 1048576) ≡ true = grind (arith, nat_tests) in
+        rw (e, wide) (within n short)
+    | inr e ↦ rw e tt
+  ]
+
+  by_given : (given : Option Data) → Gives (in_force (s.prefix ++ codes "entries") (whole 1 65536) 65536 given >>= f) (in_force (s.prefix ++ codes "entries") (whole 1 1048576) 65536 given >>= rest)
+  by_given None = within 65536 (omega arith)
+  by_given (Some (integer (pos n))) = by_number n
+  by_given (Some (integer (negsuc n))) = tt
+  by_given (Some _) = tt
+
+  entries_then : Gives (setting s (codes "entries") (whole 1 65536) 65536 >>= f) (setting s (codes "entries") (whole 1 1048576) 65536 >>= rest)
+  entries_then = by_given (get_member (codes "entries") s.members)
+
+few_shards : (s : Section) (n : ℕ) → setting s (codes "shards") (whole 1 16) 4 ≡ Ok n → n ≤ 16
+few_shards s n e =
+    (IfOk-at_ok (IsWithin 1 16) e (setting_in_range s (codes "shards") (whole 1 16) 4 (IsWithin 1 16) (omega arith, omega arith) (whole_in_range 1 16))).1
+
+sizes_kept : (s : Section) → Gives (earlier_sizes s) (sizes s)
+unfolding earlier_sizes sizes
+sizes_kept s =
+    same_then (setting s (codes "checkInterval") (whole 1 86400000) 10000) _ _ (λ check_interval _.
+    same_then (setting s (codes "cacheSize") (whole 1 1000000) 10000) _ _ (λ cache_size _.
+    same_then (setting s (codes "shards") (whole 1 16) 4) _ _ (λ shards few.
+    same_then (setting s (codes "rows") (whole 1 16384) 4096) _ _ (λ rows _.
+    entries_then s shards (few_shards s shards few) _ _ (λ entries.
+    same_then (setting s (codes "receivers") (whole 1 16) 2) _ _ (λ receivers _.
+    same (setting s (codes "runFlushes") (whole 0 1000000000) 0 >>= (λ run_flushes. Ok (record { check_interval = check_interval; cache_size = cache_size; shards = shards; rows = rows; entries = entries; receivers = receivers; run_flushes = run_flushes })))))))))
+
+-- a setting that isn't given has its default
+by_default : {A : Type 0} (s : Section) (name : List ℕ) (read : Data → Result A ValueFlaw) (default : A) → get_member name s.members ≡ None → setting s name read default ≡ Ok default
+by_default s name read default none = ap (in_force (s.prefix ++ name) read default) none
+
+-- the rules where neither setting is given
+rules_kept : (s : Section) → get_member (codes "gaugesMaxTTL") s.members ≡ None → get_member (codes "calculatedTimerMetrics") s.members ≡ None → flush_rules s ≡ Ok earlier_rules
+unfolding flush_rules
+rules_kept s first second =
+    known_then (setting s (codes "gaugesMaxTTL") (whole 1 1000000000) 1) 1 _ (by_default s (codes "gaugesMaxTTL") (whole 1 1000000000) 1 first)
+    ∙ known_then (setting s (codes "calculatedTimerMetrics") class_names []) [] _ (by_default s (codes "calculatedTimerMetrics") class_names [] second)
+
+values_kept : (s : Section) → flush_rules s ≡ Ok earlier_rules → Gives (earlier_in s) (settings_in s)
+unfolding earlier_in settings_in
+values_kept s rules =
+    same_then (server s) _ _ (λ server-values _.
+    same_then (deletions s) _ _ (λ deletions-values _.
+    same_then (addresses s) _ _ (λ addresses-values _.
+    same_then (namespace s) _ _ (λ namespace-values _.
+    same_then (entry_lists s) _ _ (λ lists-values _.
+    given_then (earlier_sizes s) (sizes s) _ _ (sizes_kept s) (λ sizes-values.
+    known_then (flush_rules s) earlier_rules _ rules))))))
+
+-- names that are known among fewer are known
+known_among_more : (name : List ℕ) → list_any (λ k. bytes_eq k name) earlier_names ≡ true → list_any (λ k. bytes_eq k name) top_names ≡ true
+known_among_more name known =
+    list_any-append (λ k. bytes_eq k name) earlier_names (drop 26 top_names)
+    ∙ ap (λ b. b || list_any (λ k. bytes_eq k name) (drop 26 top_names)) known
+
+all_known : (ns : List (List ℕ)) → first_unknown [] earlier_names ns ≡ None → first_unknown [] top_names ns ≡ None
+all_known [] h = refl
+all_known (n ∷ ns) h = by_test (list_any (λ k. bytes_eq k n) earlier_names) refl h (all_known ns) where
+  by_test : (b : Bool) → list_any (λ k. bytes_eq k n) earlier_names ≡ b → cond b (first_unknown [] earlier_names ns) (Some n) ≡ None
+      → (first_unknown [] earlier_names ns ≡ None → first_unknown [] top_names ns ≡ None) → first_unknown [] top_names (n ∷ ns) ≡ None
+  by_test true known rest others =
+      ap (λ b. cond b (first_unknown [] top_names ns) (Some n)) (known_among_more n known) ∙ others rest
+  by_test false known rest others = absurd (cc)
+
+-- a name that isn't known stands in no table without unknown names
+absent : (name : List ℕ) → list_any (λ k. bytes_eq k name) earlier_names ≡ false → (ms : Members) → first_unknown [] earlier_names (names ms) ≡ None → get_member name ms ≡ None
+absent name other no_members h = refl
+absent name other (member l d ms) h = by_test (list_any (λ k. bytes_eq k l) earlier_names) refl h (absent name other ms) where
+  by_order : (o : Ordering) → is_eq o ≡ bytes_eq name l → bytes_eq name l ≡ false → get_member name ms ≡ None → match_ordering o (get_member name ms) (Some d) (get_member name ms) ≡ None
+  by_order Less e apart rest = rest
+  by_order Equal e apart rest = absurd (cc)
+  by_order Greater e apart rest = rest
+
+  apart : (b : Bool) → bytes_eq name l ≡ b → list_any (λ k. bytes_eq k l) earlier_names ≡ true → bytes_eq name l ≡ false
+  apart false e known = e
+  apart true e known =
+      let same : name ≡ l = (bytes_eq-Decides name l).0 e in
+      absurd (false≢true (sym other ∙ ap (λ n. list_any (λ k. bytes_eq k n) earlier_names) same ∙ known))
+
+  by_test : (b : Bool) → list_any (λ k. bytes_eq k l) earlier_names ≡ b → cond b (first_unknown [] earlier_names (names ms)) (Some l) ≡ None
+      → (first_unknown [] earlier_names (names ms) ≡ None → get_member name ms ≡ None) → get_member name (member l d ms) ≡ None
+  by_test true known rest others =
+      by_order (slice_cmp nat_cmp name l) (is_eq-slice_cmp name l) (apart (bytes_eq name l) refl known) (others rest)
+  by_test false known rest others = absurd (cc)
+
+none_of_both : {A : Type 0} (a b : Option A) → option_or a b ≡ None → (a ≡ None) × (b ≡ None)
+none_of_both None b h = (refl, h)
+none_of_both (Some x) b h = absurd (cc)
+
+file_kept : (doc : Members) (name : Option (List ℕ)) → unknown_by earlier_names doc ≡ name → Gives (unless_unknown name (earlier_in (top doc))) (unless_unknown (unknown doc) (settings_in (top doc)))
+unfolding unknown
+file_kept doc (Some name) is = tt
+file_kept doc None is =
+    let parts = none_of_both (first_unknown [] earlier_names (names doc)) (unknown_inside doc) is in
+    let all : unknown doc ≡ None = ap (λ o. option_or o (unknown_inside doc)) (all_known (names doc) parts.0) ∙ parts.1 in
+    let rules : flush_rules (top doc) ≡ Ok earlier_rules = rules_kept (top doc) (absent (codes "gaugesMaxTTL") refl doc parts.0) (absent (codes "calculatedTimerMetrics") refl doc parts.0) in
+    subst (λ o. IfOk (earlier_in (top doc)) (λ v. unless_unknown o (settings_in (top doc)) ≡ Ok v)) (sym all) (values_kept (top doc) rules)
+
+pub settings_kept : (bytes : List ℕ) → IfOk (earlier_settings bytes) (λ v. settings bytes ≡ Ok v)
+unfolding earlier_settings settings
+settings_kept bytes = elim (cases_Bool (nat_lt 65536 (length bytes))) [
+  | inl e ↦ rw e tt
+  | inr e ↦ rw e (same_then (document bytes) _ _ (λ doc _. file_kept doc (unknown_by earlier_names doc) refl))
+]
+
+-- the rules behind a value of which nothing is asked
+any_then : {A : Type 0} (r : Result A SettingsFlaw) (f : A → Result Settings SettingsFlaw) → ((x : A) → IfOk (f x) (λ v. v.rules ≡ earlier_rules)) → IfOk (r >>= f) (λ v. v.rules ≡ earlier_rules)
+any_then r f h = bind_in_range r f (λ _. ⊤) (λ v. v.rules ≡ earlier_rules) (anything_in_range r) (λ x _. h x)
+
+-- the rules of every file that was accepted
+rules_of : (s : Section) → IfOk (earlier_in s) (λ v. v.rules ≡ earlier_rules)
+unfolding earlier_in
+rules_of s =
+    any_then (server s) _ (λ server-values.
+    any_then (deletions s) _ (λ deletions-values.
+    any_then (addresses s) _ (λ addresses-values.
+    any_then (namespace s) _ (λ namespace-values.
+    any_then (entry_lists s) _ (λ lists-values.
+    any_then (earlier_sizes s) _ (λ sizes-values. refl))))))
+
+rules_unless : (name : Option (List ℕ)) (r : Result Settings SettingsFlaw) → IfOk r (λ v. v.rules ≡ earlier_rules) → IfOk (unless_unknown name r) (λ v. v.rules ≡ earlier_rules)
+rules_unless None r h = h
+rules_unless (Some name) r h = tt
+
+pub earlier_rules_in_force : (bytes : List ℕ) → IfOk (earlier_settings bytes) (λ v. v.rules ≡ earlier_rules)
+unfolding earlier_settings
+earlier_rules_in_force bytes = elim (cases_Bool (nat_lt 65536 (length bytes))) [
+  | inl e ↦ rw e tt
+  | inr e ↦ rw e (bind_in_range (document bytes) _ (λ _. ⊤) (λ v. v.rules ≡ earlier_rules) (anything_in_range (document bytes)) (λ doc _. rules_unless (unknown_by earlier_names doc) (earlier_in (top doc)) (rules_of (top doc))))
+]
