@@ -1,33 +1,31 @@
 -- The two sides of the point in a number text, by the digits that the text begins with.
-use Rattle.std.proofs.Common.{◌≡◌, ◌≢◌, ℕ, ◌+◌, ◌*◌, ◌^◌, ◌<◌, ◌≤◌, min, Bool, true, false, cond, List, [], ◌∷◌, ◌++◌, length, take, drop, get_or, Ok, Err, refl, sym, ap, ◌∙◌, ⊎_elim, eq-eqb, arith, length-append}
+use Rattle.std.proofs.Common.{◌≡◌, ◌≢◌, ℕ, ℤ, ◌+◌, ◌*◌, ◌^◌, ◌<◌, ◌≤◌, Bool, true, false, cond, List, [], ◌∷◌, ◌++◌, length, take, drop, get_or, Some, Err, refl, sym, ap, ◌∙◌, ⊎_elim, eq-eqb, arith, length-append}
 use Rattle.std.specs.Prelude.{not}
 use Rattle.std.specs.Char.{is_ascii_digit}
 use Rattle.std.specs.List.{list_all, prefix_len, position_or_len, before_first, after_first}
-use Rattle.std.specs.Str.Parse.{digits_value}
+use Rattle.std.specs.Str.Parse.{digits_value, digits_value_after}
 use Rattle.std.proofs.Math.ListN.{drop_of_length-le}
-use Rattle.std.proofs.Math.Nat.{one-le-pow}
 use Rattle.std.proofs.Math.Numerals.{one-add}
-use Rattle.std.proofs.lemmas.Bool.{and_from, and_left, and_right, both_ways, cond-true, cond-false, cases_lt, eqb-true, le-leb, lt-leb, lt-ltb, le-ltb, not-false}
+use Rattle.std.proofs.lemmas.Bool.{and_from, and_left, and_right, both_ways, cond-true, cond-false, cases_lt, eqb-true, lt-ltb, le-ltb, not-false}
 use Rattle.std.proofs.lemmas.List.{get_or-take, length-take-le}
 use Rattle.std.proofs.lemmas.List.Folds.{list_all-append, list_all_at}
 use Rattle.std.proofs.lemmas.List.Sums.{position_or_len_is, prefix_len_passes, prefix_len_stops, prefix_len-le-length}
-use Rattle.sd_model_text.specs.Numbers.{rounded, BadShape, BadRange, is_point, exact_magnitude, within_range, magnitude_of_sides, decimal_magnitude}
-use Rattle.sd_model_text.proofs.Rounding.{rounded-add}
+use Rattle.sd_model_text.specs.Numbers.{rounded, raised, lowered, BadShape, is_point, within_range, magnitude_of_sides, magnitude_by}
 use Rattle.sd_decimal.proofs.Digits.{digits_value-append}
 
 digit_no_point : (b : ℕ) → is_ascii_digit b ≡ true → is_point b ≡ false
 digit_no_point b digit = grind arith
 
 -- a byte that no digit is
-sides_bad_byte : (whole fraction : List ℕ) → list_all is_ascii_digit (whole ++ fraction) ≡ false → magnitude_of_sides whole fraction ≡ Err BadShape
-sides_bad_byte whole fraction bad = cond-false _ _ _ (and_left _ _ bad)
+sides_bad_byte : (whole fraction : List ℕ) (e : ℤ) → list_all is_ascii_digit (whole ++ fraction) ≡ false → magnitude_of_sides whole fraction e ≡ Err BadShape
+sides_bad_byte whole fraction e bad = cond-false _ _ _ (and_left _ _ bad)
 
-pub sides_bad : (whole fraction : List ℕ) → list_all is_ascii_digit fraction ≡ false → magnitude_of_sides whole fraction ≡ Err BadShape
-sides_bad whole fraction bad =
-    sides_bad_byte whole fraction (list_all-append is_ascii_digit whole fraction ∙ and_right _ _ bad)
+pub sides_bad : (whole fraction : List ℕ) (e : ℤ) → list_all is_ascii_digit fraction ≡ false → magnitude_of_sides whole fraction e ≡ Err BadShape
+sides_bad whole fraction e bad =
+    sides_bad_byte whole fraction e (list_all-append is_ascii_digit whole fraction ∙ and_right _ _ bad)
 
-pub sides_none : (whole fraction : List ℕ) → length whole + length fraction ≡ 0 → magnitude_of_sides whole fraction ≡ Err BadShape
-sides_none whole fraction empty =
+pub sides_none : (whole fraction : List ℕ) (e : ℤ) → length whole + length fraction ≡ 0 → magnitude_of_sides whole fraction e ≡ Err BadShape
+sides_none whole fraction e empty =
     cond-false _ _ _ (and_right _ _ (le-ltb 0 (length (whole ++ fraction)) (omega (arith, length-append whole fraction))))
 
 leading_by_test : (b : ℕ) (bs : List ℕ) (t : Bool) → is_ascii_digit b ≡ t → list_all is_ascii_digit (take (prefix_len is_ascii_digit bs) bs) ≡ true → list_all is_ascii_digit (take (cond t (1 + prefix_len is_ascii_digit bs) 0) (b ∷ bs)) ≡ true
@@ -46,7 +44,7 @@ length-leading_digits text n digits =
     length-take-le n text (omega (arith, prefix_len-le-length is_ascii_digit text))
 
 -- the digits that a text begins with
-module _ (text : List ℕ) (n : ℕ) (digits : n ≡ prefix_len is_ascii_digit text) where
+module _ (text : List ℕ) (n : ℕ) (digits : n ≡ prefix_len is_ascii_digit text) (e : ℤ) where
   within : n ≤ length text
   within = omega (arith, prefix_len-le-length is_ascii_digit text)
 
@@ -57,13 +55,13 @@ module _ (text : List ℕ) (n : ℕ) (digits : n ≡ prefix_len is_ascii_digit t
   point_place : (n < length text → get_or text n 0 ≡ 46) → position_or_len is_point text ≡ n
   point_place follows = position_or_len_is is_point text n 0 within no_point (λ h. eq-eqb _ 46 (follows h))
 
-  pub sides_end : length text ≤ n → decimal_magnitude text ≡ magnitude_of_sides (take n text) []
+  pub sides_end : length text ≤ n → magnitude_by text (Some e) ≡ magnitude_of_sides (take n text) [] e
   sides_end end =
-      ap (λ p. magnitude_of_sides (take p text) (drop (p + 1) text)) (point_place (λ h. absurd (omega arith)))
-      ∙ ap (magnitude_of_sides (take n text)) (drop_of_length-le text (omega arith))
+      ap (λ p. magnitude_of_sides (take p text) (drop (p + 1) text) e) (point_place (λ h. absurd (omega arith)))
+      ∙ ap (λ back. magnitude_of_sides (take n text) back e) (drop_of_length-le text (omega arith))
 
-  pub sides_point : get_or text n 0 ≡ 46 → decimal_magnitude text ≡ magnitude_of_sides (take n text) (drop (n + 1) text)
-  sides_point point = ap (λ p. magnitude_of_sides (take p text) (drop (p + 1) text)) (point_place (λ h. point))
+  pub sides_point : get_or text n 0 ≡ 46 → magnitude_by text (Some e) ≡ magnitude_of_sides (take n text) (drop (n + 1) text) e
+  sides_point point = ap (λ p. magnitude_of_sides (take p text) (drop (p + 1) text) e) (point_place (λ h. point))
 
   -- where another byte follows them, it stands before the first point
   before_point : n < length text → get_or text n 0 ≢ 46 → n < position_or_len is_point text
@@ -80,7 +78,7 @@ module _ (text : List ℕ) (n : ℕ) (digits : n ≡ prefix_len is_ascii_digit t
       (cases_lt place n))
       (cases_lt n place)
 
-  pub sides_other : n < length text → get_or text n 0 ≢ 46 → decimal_magnitude text ≡ Err BadShape
+  pub sides_other : n < length text → get_or text n 0 ≢ 46 → magnitude_by text (Some e) ≡ Err BadShape
   sides_other inside other =
       let place = position_or_len is_point text in
       let front = before_first is_point text in
@@ -90,31 +88,13 @@ module _ (text : List ℕ) (n : ℕ) (digits : n ≡ prefix_len is_ascii_digit t
       let bad : is_ascii_digit (get_or front n 0) ≡ false =
       ap is_ascii_digit (get_or-take place text n 0 before) ∙ ap (λ k. is_ascii_digit (get_or text k 0)) digits
       ∙ prefix_len_stops is_ascii_digit text 0 (omega arith) in
-      sides_bad_byte front back
+      sides_bad_byte front back e
       (list_all-append is_ascii_digit front back ∙ and_left _ _ (list_all_at is_ascii_digit front n 0 (omega arith) bad))
 
 -- digits on both sides, of which some stand there
-module _ (whole fraction : List ℕ) (left : list_all is_ascii_digit whole ≡ true) (right : list_all is_ascii_digit fraction ≡ true) (some : 0 < length whole + length fraction) (w m : ℕ) (number : w ≡ min (digits_value 10 whole) 1000000000001) (millionths : m ≡ rounded (digits_value 10 fraction * 1000000) (10 ^ length fraction)) where
-  exact : exact_magnitude whole fraction ≡ digits_value 10 whole * 1000000 + m
-  exact =
-      let p = 10 ^ length fraction in
-      let number : digits_value 10 (whole ++ fraction) * 1000000 ≡ (digits_value 10 whole * 1000000) * p + digits_value 10 fraction * 1000000 =
-      omega (arith, digits_value-append whole fraction) in
-      ap (λ a. rounded a p) number
-      ∙ rounded-add (digits_value 10 whole * 1000000) (digits_value 10 fraction * 1000000) p (one-le-pow (length fraction) 10 (omega arith))
-      ∙ ap (λ x. digits_value 10 whole * 1000000 + x) (sym millionths)
-
-  all_digits : magnitude_of_sides whole fraction ≡ within_range (exact_magnitude whole fraction)
-  all_digits =
-      cond-true _ _ _
-      (and_from _ _ (list_all-append is_ascii_digit whole fraction ∙ and_from _ _ left right)
-      (lt-ltb 0 (length (whole ++ fraction)) (omega (arith, length-append whole fraction))))
-
-  pub sides_within : w * 1000000 + m ≤ 10 ^ 18 → magnitude_of_sides whole fraction ≡ Ok (w * 1000000 + m)
-  sides_within fits =
-      let same : exact_magnitude whole fraction ≡ w * 1000000 + m = omega (arith, exact) in
-      all_digits ∙ ap within_range same ∙ cond-true _ _ _ (le-leb _ (10 ^ 18) fits)
-
-  pub sides_beyond : 10 ^ 18 < w * 1000000 + m → magnitude_of_sides whole fraction ≡ Err BadRange
-  sides_beyond large =
-      all_digits ∙ cond-false _ _ _ (lt-leb (exact_magnitude whole fraction) (10 ^ 18) (omega (arith, exact)))
+pub sides_digits : (whole fraction : List ℕ) (e : ℤ) → list_all is_ascii_digit whole ≡ true → list_all is_ascii_digit fraction ≡ true → 0 < length whole + length fraction → magnitude_of_sides whole fraction e ≡ within_range (rounded (digits_value_after 10 (digits_value 10 whole) fraction * 1000000 * raised e) (10 ^ length fraction * lowered e))
+sides_digits whole fraction e left right some =
+    cond-true _ _ _
+    (and_from _ _ (list_all-append is_ascii_digit whole fraction ∙ and_from _ _ left right)
+    (lt-ltb 0 (length (whole ++ fraction)) (omega (arith, length-append whole fraction))))
+    ∙ ap (λ n. within_range (rounded (n * 1000000 * raised e) (10 ^ length fraction * lowered e))) (digits_value-append whole fraction)

@@ -22,7 +22,7 @@ pub enum Limit {
 /// Why a text is no number.
 #[derive(Clone, Copy, Debug, PartialEq, Eq)]
 pub enum NumberFault {
-    /// The text isn't an optional sign and digits with at most one point.
+    /// The text isn't an optional sign, digits with at most one point, and then an exponent or nothing.
     Shape,
     /// The number is rounded to more than 10^12 in magnitude.
     Range,

@@ -4,3 +4,4 @@ pub mod Reading
 pub mod Piece
 pub mod Lines
 pub mod Sample
+pub mod Values

@@ -1,4 +1,4 @@
--- The name of a piece, as the definitions cut it.
+-- The name of a line, as the definitions cut it.
 use Rattle.sd_model_text.specs.Lists as model
 use Rattle.sd_line.specs.declared.named.Named.{Named}
 

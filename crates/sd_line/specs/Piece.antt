@@ -1,6 +1,5 @@
 -- What the code reads of a piece, as the definitions have it.
-use Rattle.std.specs.Prelude.{◌≡◌, ℕ, List, [], Option, Some, None, Result, Ok, Err, MatchResult}
-use Rattle.sd_model_text.specs.Lists.{split}
+use Rattle.std.specs.Prelude.{◌≡◌, ℕ, List, Result, Ok, Err, MatchResult}
 use Rattle.sd_model_text.specs.Lines as model
 use Rattle.sd_model_text.specs.Lines.{reading}
 use Rattle.sd_model_text.specs.Grammar as grammar
@@ -30,8 +29,3 @@ Gives f (Err bad) read = read ≡ Err (cause_of bad)
 pub record Answers (piece : List ℕ) (answer : Result model.Sample Bad) : Type 0 where
   pub read : Gives (λ s. s) answer (reading piece)
   pub grammar : MatchResult answer (grammar.Good piece) (λ bad. grammar.IsBad piece (cause_of bad))
-
--- the fields that are left, where any are
-abbrev pub fields_in : Option (List ℕ) → List (List ℕ)
-fields_in None = []
-fields_in (Some bytes) = split 124 bytes

@@ -1,6 +1,6 @@
-ghost use Rattle.std.specs.Prelude.{◌≡◌, ◌<◌, ◌+◌, length, take, drop, IfSome, MatchOption, None, Some, option_map};
-ghost use Rattle.sd_model_text.specs.Lists.{cut_at, trim_end, is_white_space};
-ghost use Rattle.sd_line.specs.Cut.{cut_view};
+ghost use Rattle.std.specs.Prelude.{◌≡◌, ◌<◌, ◌+◌, ◌∷◌, length, take, drop, IfSome, MatchOption, None, Some, option_map};
+ghost use Rattle.sd_model_text.specs.Lists.{cut_at, split, trim_end, is_white_space};
+ghost use Rattle.sd_line.specs.Cut.{cut_view, parts_in};
 
 use sd_key::is_white_space;
 
@@ -46,6 +46,29 @@ pub(crate) fn first_cut(bytes: &[u8], separator: u8) -> Option<Cut<'_>>
 {
     let place = place_of(bytes, separator)?;
     Some(cut_around(bytes, place))
+}
+
+/// The first part of bytes, and what stands behind its separator, where it has one.
+#[derive(Clone, Copy, Debug)]
+pub(crate) struct Part<'a> {
+    pub text: &'a [u8],
+    pub behind: Option<&'a [u8]>,
+}
+
+/// The first of the parts between separators.
+pub(crate) fn first_part(bytes: &[u8], separator: u8) -> Part<'_>
+    ensures { split separator bytes.now ≡ result.text.now ∷ parts_in separator (option_map (λ b. b.now) result.behind) }
+{
+    match first_cut(bytes, separator) {
+        Some(cut) => Part {
+            text: cut.part,
+            behind: Some(cut.rest),
+        },
+        None => Part {
+            text: bytes,
+            behind: None,
+        },
+    }
 }
 
 /// The bytes without the white space at their end.

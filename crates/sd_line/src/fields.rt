@@ -1,41 +1,25 @@
 ghost use Rattle.std.specs.Prelude.{◌≡◌, nat_lt, length, drop, option_map};
 ghost use Rattle.sd_model_text.specs.Lists.{split};
 ghost use Rattle.sd_model_text.specs.Lines.{field};
-ghost use Rattle.sd_line.specs.Piece.{fields_in};
+ghost use Rattle.sd_line.specs.Cut.{parts_in};
 
-use crate::cut::first_cut;
+use crate::cut::{Part, first_part};
 
-/// The first of the fields that are left, and those behind it. A field that isn't there has no byte.
-#[derive(Clone, Copy)]
-struct Field<'a> {
-    text: &'a [u8],
-    behind: Option<&'a [u8]>,
-}
-
-/// The first field of bytes, where any are left.
-fn first_field(left: Option<&[u8]>) -> Field<'_>
-    ensures text { result.text.now ≡ field 0 (fields_in (option_map (λ b. b.now) left.entry)) }
-    ensures behind { fields_in (option_map (λ b. b.now) result.behind) ≡ drop 1 (fields_in (option_map (λ b. b.now) left.entry)) }
+/// The first field of bytes, where any are left. A field that isn't there has no byte.
+fn first_field(left: Option<&[u8]>) -> Part<'_>
+    ensures text { result.text.now ≡ field 0 (parts_in 124 (option_map (λ b. b.now) left.entry)) }
+    ensures behind { parts_in 124 (option_map (λ b. b.now) result.behind) ≡ drop 1 (parts_in 124 (option_map (λ b. b.now) left.entry)) }
 {
-    let Some(bytes) = left else {
-        return Field {
+    match left {
+        Some(bytes) => first_part(bytes, b'|'),
+        None => Part {
             text: &[],
-            behind: None,
-        };
-    };
-    match first_cut(bytes, b'|') {
-        Some(cut) => Field {
-            text: cut.part,
-            behind: Some(cut.rest),
-        },
-        None => Field {
-            text: bytes,
             behind: None,
         },
     }
 }
 
-/// What stands behind the colon of a piece: its value, type and rate, and whether there are further fields. A
+/// What stands behind the name of a piece: its value, type and rate, and whether there are further fields. A
 /// field that isn't there has no byte.
 #[derive(Clone, Copy)]
 pub(crate) struct Fields<'a> {

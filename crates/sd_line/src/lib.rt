@@ -9,6 +9,7 @@ mod parts;
 mod piece;
 mod reading;
 mod sample;
+mod values;
 
 pub use lines::Lines;
 pub use parts::{Parts, name_before_colon};

@@ -2,24 +2,28 @@ ghost use Rattle.std.specs.Prelude.{◌≡◌, ℕ, List, [], ◌∷◌, IsNone,
 ghost use Rattle.sd_model_text.specs.Lines.{pieces};
 ghost use Rattle.sd_line.specs.Piece.{Answers};
 
+use crate::named::name_of;
 use crate::parts::next_part;
-use crate::piece::{Bad, read_piece};
+use crate::piece::Bad;
 use crate::sample::Sample;
+use crate::values::Values;
 use std::marker::Model;
 
-/// The pieces of a datagram that are left, in order.
+/// The pieces of a datagram that are left, in order. A line without a colon is one piece. Another line has one for each of its
+/// values, which stand between the colons behind its name.
 #[derive(Debug, Drop)]
 pub struct Lines<'a> {
+    values: Values<'a>,
     rest: &'a [u8],
 }
 
 impl<'a> Model for Lines<'a> {
-    ghost use Rattle.std.specs.Prelude.{ℕ, List};
+    ghost use Rattle.std.specs.Prelude.{ℕ, List, ◌++◌};
     ghost use Rattle.sd_model_text.specs.Lines.{pieces};
 
     ghost Value = { List (List ℕ) };
 
-    ghost view = { λ l. pieces l.rest.now };
+    ghost view = { λ l. l.values ++ pieces l.rest.now };
 }
 
 impl<'a> Lines<'a> {
@@ -27,7 +31,10 @@ impl<'a> Lines<'a> {
     pub fn new(datagram: &'a [u8]) -> Lines<'a>
         ensures { result ≡ pieces datagram.now }
     {
-        Lines { rest: datagram }
+        Lines {
+            values: Values::none(),
+            rest: datagram,
+        }
     }
 
     /// The next piece: its sample, or why it has none. None at the end.
@@ -35,18 +42,17 @@ impl<'a> Lines<'a> {
         ensures end { IsNone result → (self.old ≡ []) × (self.new ≡ []) }
         ensures next { IfSome result (λ answer. (piece : List ℕ) × (self.old ≡ piece ∷ self.new) × Answers piece answer) }
     {
-        match next_part(self.rest) {
-            Some(piece) => {
-                self.rest = piece.rest;
-                match read_piece(piece.part) {
-                    Ok(reading) => Some(Ok(reading.sample())),
-                    Err(bad) => Some(Err(bad)),
-                }
-            }
-            None => {
+        if self.values.is_empty() {
+            let Some(line) = next_part(self.rest) else {
                 self.rest = &[];
-                None
-            }
+                return None;
+            };
+            self.rest = line.rest;
+            let Some(named) = name_of(line.part) else {
+                return Some(Err(Bad::NoValue));
+            };
+            self.values.begin(&named);
         }
+        self.values.next()
     }
 }

@@ -6,7 +6,7 @@ ghost use Rattle.sd_line.specs.Named.{named_view};
 
 use crate::cut::{cut_around, first_cut};
 
-/// The name before the first colon of a piece, and what stands behind it. `is_key` says that the name is a key
+/// The name before the first colon of a line, and what stands behind it. `is_key` says that the name is a key
 /// as it stands, where that is known.
 #[derive(Clone, Copy)]
 pub(crate) struct Named<'a> {
@@ -22,28 +22,28 @@ fn is_name_byte(b: u8) -> bool
     b.is_ascii_alphanumeric() || matches!(b, b'_' | b'-' | b'.')
 }
 
-/// How many bytes of names a piece begins with.
-fn plain_len(piece: &[u8]) -> usize
-    ensures { result ≡ prefix_len is_name piece.now }
+/// How many bytes of names a line begins with.
+fn plain_len(line: &[u8]) -> usize
+    ensures { result ≡ prefix_len is_name line.now }
 {
-    for (i, byte) in piece.iter().enumerate() {
+    for (i, byte) in line.iter().enumerate() {
         if !is_name_byte(*byte) {
             return i;
         }
     }
-    piece.len()
+    line.len()
 }
 
-/// The name of a piece, where it has one. Most names are keys as they stand, and end at the first byte that no key
+/// The name of a line, where it has one. Most names are keys as they stand, and end at the first byte that no key
 /// has.
-pub(crate) fn name_of(piece: &[u8]) -> Option<Named<'_>>
-    ensures cut { option_map named_view result ≡ cut_at 58 piece.now }
+pub(crate) fn name_of(line: &[u8]) -> Option<Named<'_>>
+    ensures cut { option_map named_view result ≡ cut_at 58 line.now }
     ensures key { IfSome result (λ n. n.is_key ≡ true → clean n.name.now ≡ Ok n.name.now) }
 {
-    let len = plain_len(piece);
-    match piece.get(len) {
+    let len = plain_len(line);
+    match line.get(len) {
         Some(b':') if 0 < len && len <= 255 => {
-            let cut = cut_around(piece, len);
+            let cut = cut_around(line, len);
             Some(Named {
                 name: cut.part,
                 rest: cut.rest,
@@ -51,7 +51,7 @@ pub(crate) fn name_of(piece: &[u8]) -> Option<Named<'_>>
             })
         }
         _ => {
-            let cut = first_cut(piece, b':')?;
+            let cut = first_cut(line, b':')?;
             Some(Named {
                 name: cut.part,
                 rest: cut.rest,

@@ -6,12 +6,13 @@ ghost use Rattle.sd_model_text.specs.Lines as model;
 ghost use Rattle.sd_decimal.specs.NumberFault.{seen_by as number_seen_by};
 ghost use Rattle.sd_key.specs.Kind.{kind_of as kind_view};
 ghost use Rattle.sd_line.specs.Piece.{Gives};
+ghost use Rattle.sd_line.specs.Reading.{key_view};
+ghost use Rattle.sd_line.specs.Values.{key_by};
 
 use crate::fields::Fields;
-use crate::named::{Named, name_of};
-use crate::reading::{ONE, Reading, has_sign};
+use crate::reading::{KeyBytes, ONE, Reading, has_sign};
 use sd_decimal::{Micro, NumberFault, read};
-use sd_key::{KeyFault, Kind, clean};
+use sd_key::{Key, KeyFault, Kind};
 
 /// Why a piece has no sample: the first of these that holds.
 #[derive(Clone, Copy, Debug, PartialEq, Eq)]
@@ -32,7 +33,7 @@ pub enum Bad {
     Key(KeyFault),
     /// A set's member has more than 128 bytes.
     MemberLong,
-    /// There is a fourth field, or a further colon.
+    /// There is a fourth field.
     ExtraField,
 }
 
@@ -127,17 +128,20 @@ fn not_below_zero(kind: Kind, value: Micro) -> Result<(), Bad>
     }
 }
 
-/// A name has a key.
-fn has_key(named: &Named<'_>) -> Result<(), Bad>
-    requires { named.now.is_key ≡ true → names.clean named.now.name.now ≡ Ok named.now.name.now }
-    ensures { Gives (λ _. names.cleaned named.now.name.now) result (model.named (names.clean named.now.name.now)) }
+/// The key of a name, by what cleaning made of it.
+fn key_of<'a>(
+    name: &'a [u8],
+    cleaned: &'a Option<Result<Key, KeyFault>>,
+) -> Result<KeyBytes<'a>, Bad>
+    requires { names.clean name.now ≡ key_by name.now cleaned.now }
+    ensures key { Gives key_view result (model.named (names.clean name.now)) }
+    ensures some { IfOk result (λ k. 0 < length (key_view k)) }
+    ensures short { IfOk result (λ k. length (key_view k) ≤ 255) }
 {
-    if named.is_key {
-        return Ok(());
-    }
-    match clean(named.name) {
-        Ok(_) => Ok(()),
-        Err(fault) => Err(Bad::Key(fault)),
+    match cleaned {
+        None => Ok(KeyBytes::Name(name)),
+        Some(Ok(key)) => Ok(KeyBytes::Cleaned(key)),
+        Some(Err(fault)) => Err(Bad::Key(*fault)),
     }
 }
 
@@ -151,40 +155,33 @@ fn not_long(kind: Kind, text: &[u8]) -> Result<(), Bad>
     }
 }
 
-/// There is no fourth field and no further colon.
-fn not_over(fields: &Fields<'_>, rest: &[u8]) -> Result<(), Bad>
-    requires { fields.now.has_more ≡ nat_lt 3 (length (split 124 rest.now)) }
-    ensures { Gives (λ _. tt) result (model.unless_so (model.is_over (split 124 rest.now) rest.now) model.ExtraField) }
+/// There is no fourth field.
+fn not_over(fields: &Fields<'_>) -> Result<(), Bad>
+    ensures { Gives (λ _. tt) result (model.unless_so fields.now.has_more model.ExtraField) }
 {
-    if fields.has_more || rest.contains(&b':') {
+    if fields.has_more {
         return Err(Bad::ExtraField);
     }
     Ok(())
 }
 
-/// What a name and what stands behind its colon say, or why they say nothing.
+/// What a name and one value behind it say, or why they say nothing.
 #[tactic(auto, unfolding(sd_model_text::specs::Lines::reading_behind))]
-fn read_behind<'a>(named: &Named<'a>) -> Result<Reading<'a>, Bad>
-    requires { named.now.is_key ≡ true → names.clean named.now.name.now ≡ Ok named.now.name.now }
-    ensures { Gives (λ r. r) result (model.reading_behind named.now.name.now named.now.rest.now (split 124 named.now.rest.now)) }
+pub(crate) fn read_value<'a>(
+    name: &'a [u8],
+    cleaned: &'a Option<Result<Key, KeyFault>>,
+    value: &'a [u8],
+) -> Result<Reading<'a>, Bad>
+    requires { names.clean name.now ≡ key_by name.now cleaned.now }
+    ensures { Gives (λ r. r) result (model.reading_behind name.now (split 124 value.now)) }
 {
-    let fields = Fields::of(named.rest);
+    let fields = Fields::of(value);
     let kind = kind_of(fields.kind)?;
-    let value = value_of(kind, fields.value)?;
+    let number = value_of(kind, fields.value)?;
     let rate = rate_of(fields.rate)?;
-    not_below_zero(kind, value)?;
-    has_key(named)?;
+    not_below_zero(kind, number)?;
+    let key = key_of(name, cleaned)?;
     not_long(kind, fields.value)?;
-    not_over(&fields, named.rest)?;
-    Ok(Reading::of(kind, named, fields.value, value, rate))
-}
-
-/// What a piece says, or why it says nothing.
-pub(crate) fn read_piece(piece: &[u8]) -> Result<Reading<'_>, Bad>
-    ensures { Gives (λ r. r) result (model.reading piece.now) }
-{
-    match name_of(piece) {
-        Some(named) => read_behind(&named),
-        None => Err(Bad::NoValue),
-    }
+    not_over(&fields)?;
+    Ok(Reading::of(kind, key, fields.value, number, rate))
 }

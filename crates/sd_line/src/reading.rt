@@ -1,25 +1,31 @@
-ghost use Rattle.std.specs.Prelude.{◌≡◌, ◌^◌, ◌≤◌, pos, ◌≤ℤ◌, true, false, length, unsigned_abs, Ok};
-ghost use Rattle.sd_model_text.specs.Names.{Timer, clean as clean_name, cleaned};
+ghost use Rattle.std.specs.Prelude.{◌≡◌, ◌^◌, ◌<◌, ◌≤◌, pos, ◌≤ℤ◌, false, length, unsigned_abs};
+ghost use Rattle.sd_model_text.specs.Names.{Timer};
 ghost use Rattle.sd_model_text.specs.Lines.{sample, is_long_member};
 ghost use Rattle.sd_model_text.specs.Lines as model;
 ghost use Rattle.sd_model_text.specs.Numbers as numbers;
 ghost use Rattle.sd_key.specs.Kind.{kind_of};
+ghost use Rattle.sd_line.specs.Reading.{key_view};
 
-use crate::named::Named;
 use crate::sample::{Member, Sample};
 use sd_decimal::Micro;
-use sd_key::{Key, Kind, clean};
+use sd_key::{Key, Kind};
 use std::marker::Model;
 
 /// The rate 1.
 pub(crate) const ONE: Micro = Micro(1_000_000);
 
+/// The bytes of a key: a name that is one as it stands, or what cleaning left of a name.
+#[derive(Clone, Copy)]
+pub(crate) enum KeyBytes<'a> {
+    Name(&'a [u8]),
+    Cleaned(&'a Key),
+}
+
 /// What a good piece says. Its bytes aren't copied.
 #[derive(Drop)]
 pub(crate) struct Reading<'a> {
     kind: Kind,
-    name: &'a [u8],
-    is_key: bool,
+    key: KeyBytes<'a>,
     value: Micro,
     rate: Micro,
     signed: bool,
@@ -53,22 +59,22 @@ fn member_of(text: &[u8]) -> &[u8]
 }
 
 impl<'a> Reading<'a> {
-    /// What a name and the fields behind it say.
+    /// What a key and the fields behind it say.
     pub(crate) fn of(
         kind: Kind,
-        named: &Named<'a>,
+        key: KeyBytes<'a>,
         text: &'a [u8],
         value: Micro,
         rate: Micro,
     ) -> Reading<'a>
-        requires named { clean_name named.now.name.now ≡ Ok (cleaned named.now.name.now) }
-        requires plain { named.now.is_key ≡ true → clean_name named.now.name.now ≡ Ok named.now.name.now }
+        requires some { 0 < length (key_view key) }
+        requires short { length (key_view key) ≤ 255 }
         requires rate_low { pos 1 ≤ℤ rate.0 }
         requires rate_high { rate.0 ≤ℤ pos (10 ^ 9) }
         requires value { unsigned_abs value.0 ≤ 10 ^ 18 }
         requires timer { kind_of kind ≡ Timer → (pos 0 ≤ℤ value.0) × (value.0 ≤ℤ pos (10 ^ 16)) }
         requires member { is_long_member (kind_of kind) text.now ≡ false }
-        ensures { result ≡ sample (kind_of kind) (cleaned named.now.name.now) text.now value.0 (unsigned_abs rate.0) }
+        ensures { result ≡ sample (kind_of kind) (key_view key.entry) text.now value.0 (unsigned_abs rate.0) }
     {
         let (rate, signed, member) = match kind {
             Kind::Counter | Kind::Timer => (rate, false, b"".as_slice()),
@@ -77,8 +83,7 @@ impl<'a> Reading<'a> {
         };
         Reading {
             kind,
-            name: named.name,
-            is_key: named.is_key,
+            key,
             value,
             rate,
             signed,
@@ -86,15 +91,15 @@ impl<'a> Reading<'a> {
         }
     }
 
-    /// The key. A name that is one as it stands isn't cleaned again.
+    /// The key, by itself.
     fn key(&self) -> Key
         ensures { result ≡ self.now.key }
     {
-        if self.is_key {
-            Key::of(self.name).unwrap()
-        } else {
-            clean(self.name).unwrap()
-        }
+        let bytes = match self.key {
+            KeyBytes::Name(name) => name,
+            KeyBytes::Cleaned(key) => key.as_slice(),
+        };
+        Key::of(bytes).unwrap()
     }
 
     /// The member's bytes in their place.

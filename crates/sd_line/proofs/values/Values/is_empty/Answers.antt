@@ -1,0 +1,8 @@
+use Rattle.std.proofs.Common.{◌≡◌, ◌↔◌, ◌∷◌, ◌++◌, [], IsTrue, sym, ◌∙◌}
+use Rattle.sd_line.proofs.PieceLemmas.{no-values}
+use Rattle.sd_line.proofs.values.Values.is_empty.Goals as goal
+
+pub returns : goal.returns
+returns c =
+    let told = no-values (λ b. b.now) (λ part. c.self.inside.name.now ++ 58 ∷ part) c.self.inside.left c.is_none.result c.is_none.ensures in
+    (λ h. sym c.self.view_is ∙ told.0 h, λ h. told.1 (c.self.view_is ∙ h))
