@@ -11,7 +11,7 @@ use sd_outside::{Failed, MemSink, Name};
 use sd_plan::{Names, Reckoning};
 use std::alloc::Global;
 use std::io;
-use values::{CALLS, show_histogram, show_names, show_thresholds, show_value};
+use values::{CALLS, show_histogram, show_names, show_texts, show_thresholds, show_value};
 
 /// Makes the call of a case.
 fn call(alloc: Global, words: &[&str], out: &mut Answer) -> Result<(), Refusal> {
@@ -119,6 +119,8 @@ fn show_plan(plan: &Reckoning, out: &mut Answer) {
     show_thresholds(plan.thresholds.as_slice(), out);
     out.text(" ");
     show_histogram(plan.histograms.as_slice(), out);
+    out.text(" ");
+    show_texts(plan.calculated.as_slice(), out);
 }
 
 /// Appends what the defaults make.

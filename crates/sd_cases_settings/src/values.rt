@@ -5,7 +5,7 @@ use sd_outside::Name;
 use sd_plan::{Classes, Names, Node, Target};
 
 /// The read calls in the order of the settings.
-pub(crate) const CALLS: [&str; 32] = [
+pub(crate) const CALLS: [&str; 34] = [
     "port",
     "mgmt_port",
     "flush_interval",
@@ -38,6 +38,8 @@ pub(crate) const CALLS: [&str; 32] = [
     "entries",
     "receivers",
     "run_flushes",
+    "gauges_max_ttl",
+    "calculated_timer_metrics",
 ];
 
 /// Appends what a read call answers.
@@ -68,6 +70,7 @@ fn number_of(settings: &Settings, call: &str) -> Option<u32> {
         "entries" => Some(settings.entries()),
         "receivers" => Some(settings.receivers()),
         "run_flushes" => Some(settings.run_flushes()),
+        "gauges_max_ttl" => Some(settings.gauges_max_ttl()),
         _ => None,
     }
 }
@@ -106,7 +109,8 @@ fn name_of<'a>(settings: &'a Settings, call: &str) -> Option<&'a Name> {
 fn show_list(settings: &Settings, call: &str, out: &mut Answer) -> Result<(), Refusal> {
     match call {
         "percent_threshold" => show_thresholds(settings.percent_threshold(), out),
-        "backends" => show_backends(settings.backends(), out),
+        "backends" => show_texts(settings.backends(), out),
+        "calculated_timer_metrics" => show_texts(settings.calculated_timer_metrics(), out),
         "histogram" => show_histogram(settings.histogram(), out),
         "repeater" => show_repeater(settings.repeater(), out),
         "nodes" => show_nodes(settings.nodes(), out),
@@ -152,12 +156,12 @@ pub(crate) fn show_thresholds(thresholds: &[Micro], out: &mut Answer) {
     }
 }
 
-/// Appends backends, parted by commas.
-fn show_backends(backends: &[Name], out: &mut Answer) {
-    show_none(backends.is_empty(), out);
-    for (place, backend) in backends.iter().enumerate() {
+/// Appends texts, parted by commas.
+pub(crate) fn show_texts(texts: &[Name], out: &mut Answer) {
+    show_none(texts.is_empty(), out);
+    for (place, text) in texts.iter().enumerate() {
         show_comma(place, out);
-        out.bytes(backend.as_slice());
+        out.bytes(text.as_slice());
     }
 }
 

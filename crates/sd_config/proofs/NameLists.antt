@@ -10,11 +10,18 @@ use Rattle.std.specs.List.Sorted.{IsStrictlySortedBy}
 use Rattle.std.specs.Map.{keys_of}
 use Rattle.toml.specs.declared.value.Value.{Value}
 use Rattle.toml.specs.View.{members_view}
+use Rattle.arrayvec.specs.ArrayVec.{ArrayVec}
+use Rattle.sd_model_settings.specs.Values.{are_distinct}
 use Rattle.sd_model_settings.specs.KnownNames.{names, first_unknown}
+use Rattle.sd_plan.specs.Values.{name_bytes}
 
 pub list_any-map : {X Y : Type 0} (f : X → Y) (p : Y → Bool) (xs : List X) → list_any p (map f xs) ≡ list_any (λ x. p (f x)) xs
 list_any-map f p [] = refl
 list_any-map f p (x ∷ xs) = rw (list_any-map f p xs)
+
+pub are_distinct-names : (xs : List (ArrayVec ℕ)) → are_distinct bytes_eq (name_bytes xs) ≡ are_distinct (λ a b. bytes_eq a.items b.items) xs
+are_distinct-names [] = refl
+are_distinct-names (x ∷ xs) = rw (list_any-map (λ n. n.items) (λ y. bytes_eq y x.items) xs, are_distinct-names xs)
 
 pub names-members : (es : List (String Global × Value)) → names (members_view es) ≡ map string_bytes (keys_of es)
 names-members [] = refl

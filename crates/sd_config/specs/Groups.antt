@@ -6,9 +6,9 @@ use Rattle.sd_plan.specs.Entries.{classes_view, target_view, node_view}
 use Rattle.sd_config.specs.declared.groups.Server.{Server}
 use Rattle.sd_config.specs.declared.groups.Deletions.{Deletions}
 use Rattle.sd_config.specs.declared.groups.Addresses.{Addresses}
-use Rattle.sd_plan.specs.declared.names.Namespace.{Namespace}
 use Rattle.sd_config.specs.declared.groups.EntryLists.{EntryLists}
 use Rattle.sd_config.specs.declared.groups.Sizes.{Sizes}
+use Rattle.sd_config.specs.declared.groups.FlushRules.{FlushRules}
 
 abbrev pub server_view : Server → model.Server
 server_view s =
@@ -59,3 +59,7 @@ sizes_view s =
       receivers = s.receivers;
       run_flushes = s.run_flushes;
     }
+
+abbrev pub flush_rules_view : FlushRules → model.FlushRules
+flush_rules_view s =
+    record { gauges_max_ttl = s.gauges_max_ttl; calculated_timer_metrics = name_bytes s.calculated_timer_metrics.items }

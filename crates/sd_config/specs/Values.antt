@@ -1,18 +1,17 @@
 -- Values and tables of the code as the definitions have them.
-use Rattle.std.specs.Prelude.{ℕ, ℤ, Bool, List, map, Option, Some, None, String}
+use Rattle.std.specs.Prelude.{ℕ, Bool, List, Option, Some, None, String}
 use Rattle.std.proofs.Common.{Bor}
 use Rattle.std.specs.BTreeMap.{BTreeMap}
 use Rattle.std.specs.declared.alloc.Global.{Global}
 use Rattle.toml.specs.declared.value.Value.{Value}
 use Rattle.toml.specs.Data.{Members, no_members}
 use Rattle.toml.specs.View.{table_view}
-use Rattle.sd_decimal.specs.declared.number.Micro.{Micro}
-use Rattle.arrayvec.specs.ArrayVec.{ArrayVec}
 use Rattle.sd_model_settings.specs.Values.{is_prefix, is_filled_prefix, is_metric, is_host}
 use Rattle.sd_model_settings.specs.Entries.{is_backend}
+use Rattle.sd_model_settings.specs.TimerClasses.{is_class_name}
 use Rattle.sd_model_settings.specs.Settings as model
 use Rattle.sd_config.specs.declared.values.TextRule.{TextRule}
-use Rattle.sd_config.specs.declared.values.TextRule.TheVariants.{Prefix, FilledPrefix, Host, Backend, Metric}
+use Rattle.sd_config.specs.declared.values.TextRule.TheVariants.{Prefix, FilledPrefix, Host, Backend, ClassName, Metric}
 use Rattle.sd_config.specs.declared.section.Section.{Section}
 
 -- the test that a text has to pass
@@ -21,6 +20,7 @@ passes Prefix = is_prefix
 passes FilledPrefix = is_filled_prefix
 passes Host = is_host
 passes Backend = is_backend
+passes ClassName = is_class_name
 passes Metric = is_metric
 
 -- the length that it has at most
@@ -29,6 +29,7 @@ longest Prefix = 64
 longest FilledPrefix = 64
 longest Host = 64
 longest Backend = 64
+longest ClassName = 64
 longest Metric = 255
 
 -- the members of a table, where there is one

@@ -1,7 +1,7 @@
-ghost use Rattle.sd_model_settings.specs.Settings.{server, deletions, addresses, namespace, entry_lists, sizes};
+ghost use Rattle.sd_model_settings.specs.Settings.{server, deletions, addresses, namespace, entry_lists, sizes, flush_rules};
 ghost use Rattle.sd_config.specs.Answers.{Gives};
 ghost use Rattle.sd_config.specs.Values.{section_of};
-ghost use Rattle.sd_config.specs.Groups.{server_view, deletions_view, addresses_view, entry_lists_view, sizes_view};
+ghost use Rattle.sd_config.specs.Groups.{server_view, deletions_view, addresses_view, entry_lists_view, sizes_view, flush_rules_view};
 ghost use Rattle.sd_plan.specs.Names.{namespace_view};
 
 use crate::fault::ConfigFault;
@@ -164,7 +164,8 @@ pub(crate) fn sizes_in(top: &Section) -> Result<Sizes, ConfigFault>
     let cache_size = top.whole("cacheSize", 1, 1_000_000, 10_000)?;
     let shards = top.whole("shards", 1, 16, 4)?;
     let rows = top.whole("rows", 1, 16_384, 4096)?;
-    let entries = top.whole("entries", 1, 65_536, 65_536)?;
+    let per_shard = top.whole("entries", 1, 1_048_576, 65_536)?;
+    let entries = top.within_product("entries", 2_097_152, shards, per_shard)?;
     let receivers = top.whole("receivers", 1, 16, 2)?;
     let run_flushes = top.whole("runFlushes", 0, 1_000_000_000, 0)?;
     Ok(Sizes {
@@ -175,5 +176,25 @@ pub(crate) fn sizes_in(top: &Section) -> Result<Sizes, ConfigFault>
         entries,
         receivers,
         run_flushes,
+    })
+}
+
+/// At which swap behind its last sample a gauge that goes when idle goes, and the names of the classes of timers' lines that
+/// are chosen.
+#[derive(Debug, Drop)]
+pub(crate) struct FlushRules {
+    pub(crate) gauges_max_ttl: u32,
+    pub(crate) calculated_timer_metrics: ArrayVec<Name, 16>,
+}
+
+#[tactic(auto, unfolding(sd_model_settings::specs::Settings::flush_rules))]
+pub(crate) fn flush_rules_in(top: &Section) -> Result<FlushRules, ConfigFault>
+    ensures { Gives flush_rules_view result (flush_rules (section_of top.now)) }
+{
+    let gauges_max_ttl = top.whole("gaugesMaxTTL", 1, 1_000_000_000, 1)?;
+    let calculated_timer_metrics = top.class_names("calculatedTimerMetrics")?;
+    Ok(FlushRules {
+        gauges_max_ttl,
+        calculated_timer_metrics,
     })
 }

@@ -15,7 +15,7 @@ use crate::fields::found;
 use sd_outside::Name;
 use toml::{Table, Value};
 
-const TOP: [&str; 26] = [
+const TOP: [&str; 28] = [
     "port",
     "mgmt_port",
     "flushInterval",
@@ -42,6 +42,8 @@ const TOP: [&str; 26] = [
     "entries",
     "receivers",
     "runFlushes",
+    "gaugesMaxTTL",
+    "calculatedTimerMetrics",
 ];
 
 const GRAPHITE: [&str; 7] = [

@@ -1,11 +1,16 @@
 ghost use Rattle.std.specs.Prelude.{◌≡◌, Result, map};
+ghost use Rattle.std.specs.Str.{bytes_eq};
 ghost use Rattle.toml.specs.Data.{Data};
 ghost use Rattle.toml.specs.View.{view, items_view};
-ghost use Rattle.sd_model_settings.specs.Values.{ValueFlaw, each, ranged, are_at_most, listed, one_or_list, are_distinct};
+ghost use Rattle.sd_model_settings.specs.Values.{ValueFlaw, each, ranged, are_at_most, listed, one_or_list, are_distinct, text};
 ghost use Rattle.sd_config.specs.Answers.{seen_by};
+ghost use Rattle.sd_config.specs.Values.{passes};
+ghost use Rattle.sd_plan.specs.Values.{name_bytes};
 
 use crate::fault::ValueFault;
+use crate::values::{TextRule, text};
 use arrayvec::ArrayVec;
+use sd_outside::Name;
 use toml::Value;
 
 /// What stands in a list.
@@ -80,5 +85,62 @@ pub(crate) fn are_distinct<T: PartialEq>(elements: &[T]) -> bool
     match elements {
         [] => true,
         [first, rest @ ..] => !rest.contains(first) && are_distinct(rest),
+    }
+}
+
+/// Each item as a text that passes the rule, at most `N` of them, as `each` has elements.
+fn each_text<const N: usize>(
+    items: &[Value],
+    rule: TextRule,
+) -> Result<ArrayVec<Name, N>, ValueFault>
+    ensures { seen_by (λ v. name_bytes v.items) result
+        ≡ ranged (are_at_most N) (each (text (passes rule)) (items_view items.now)) }
+{
+    let mut texts = ArrayVec::new();
+    let mut out_of_range = false;
+    for item in items {
+        match text(item, rule) {
+            Ok(name) => {
+                if texts.try_push(name).is_err() {
+                    out_of_range = true;
+                }
+            }
+            Err(ValueFault::Range) => out_of_range = true,
+            Err(ValueFault::Kind) => return Err(ValueFault::Kind),
+        }
+    }
+    if out_of_range {
+        Err(ValueFault::Range)
+    } else {
+        Ok(texts)
+    }
+}
+
+/// A list of at most `N` texts that pass the rule.
+fn listed_texts<const N: usize>(
+    value: &Value,
+    rule: TextRule,
+) -> Result<ArrayVec<Name, N>, ValueFault>
+    ensures { seen_by (λ v. name_bytes v.items) result ≡ listed N (text (passes rule)) (view value.now) }
+{
+    match value {
+        Value::Array(items) => each_text(items.as_slice(), rule),
+        _ => Err(ValueFault::Kind),
+    }
+}
+
+/// A list of at most `N` texts that pass the rule, each at most once.
+pub(crate) fn distinct_texts<const N: usize>(
+    value: &Value,
+    rule: TextRule,
+) -> Result<ArrayVec<Name, N>, ValueFault>
+    ensures { seen_by (λ v. name_bytes v.items) result
+        ≡ ranged (are_distinct bytes_eq) (listed N (text (passes rule)) (view value.now)) }
+{
+    let texts: ArrayVec<Name, N> = listed_texts(value, rule)?;
+    if are_distinct(texts.as_slice()) {
+        Ok(texts)
+    } else {
+        Err(ValueFault::Range)
     }
 }

@@ -4,7 +4,8 @@ ghost use Rattle.toml.specs.Data.{get_member, no_members};
 ghost use Rattle.toml.specs.View.{view, table_view};
 ghost use Rattle.sd_model_settings.specs.Values.{whole, flag, text, listed, members};
 ghost use Rattle.sd_model_settings.specs.Entries.{thresholds, backends};
-ghost use Rattle.sd_model_settings.specs.Settings.{named, setting};
+ghost use Rattle.sd_model_settings.specs.TimerClasses.{class_names};
+ghost use Rattle.sd_model_settings.specs.Settings.{named, setting, within_product};
 ghost use Rattle.sd_config.specs.Answers.{Gives, seen_by};
 ghost use Rattle.sd_config.specs.Values.{passes, section_of, members_of};
 ghost use Rattle.sd_plan.specs.Values.{micros, name_bytes};
@@ -80,6 +81,25 @@ impl<'a> Section<'a> {
         }
     }
 
+    /// The number, where its product with that of an earlier setting is at most `most`.
+    pub(crate) fn within_product(
+        &self,
+        name: &str,
+        most: u64,
+        earlier: u32,
+        number: u32,
+    ) -> Result<u32, ConfigFault>
+        ensures { Gives (λ n. n) result (within_product (section_of self.now) name.now most earlier number) }
+    {
+        if u64::from(earlier) * u64::from(number) <= most {
+            Ok(number)
+        } else {
+            Err(ConfigFault::OutOfRange {
+                name: shown(self.prefix, name),
+            })
+        }
+    }
+
     /// A boolean.
     pub(crate) fn flag(&self, name: &str, default: bool) -> Result<bool, ConfigFault>
         ensures { Gives (λ b. b) result (setting (section_of self.now) name.now flag default) }
@@ -143,6 +163,17 @@ impl<'a> Section<'a> {
                 Ok(one)
             }
             Some(value) => self.named(name, backends::backends(value)),
+        }
+    }
+
+    /// The names of classes of timers' lines, none where the setting isn't given.
+    pub(crate) fn class_names(&self, name: &str) -> Result<ArrayVec<Name, 16>, ConfigFault>
+        ensures { Gives (λ v. name_bytes v.items) result
+            (setting (section_of self.now) name.now class_names []) }
+    {
+        match self.get(name) {
+            None => Ok(ArrayVec::new()),
+            Some(value) => self.named(name, backends::class_names(value)),
         }
     }
 

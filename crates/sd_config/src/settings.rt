@@ -1,8 +1,8 @@
-ghost use Rattle.std.specs.Prelude.{◌≡◌, ◌<◌, ◌≤◌, length, map};
+ghost use Rattle.std.specs.Prelude.{◌≡◌, ◌*◌, ◌<◌, ◌≤◌, length, map};
 ghost use Rattle.toml.specs.View.{table_view};
 ghost use Rattle.sd_model_settings.specs.Settings.{top, settings_in, document, settings};
 ghost use Rattle.sd_model_settings.specs.Defaults.{plan_of};
-ghost use Rattle.sd_model_settings.specs.Ranges.{IsWithin, IsPrefix, IsHost, AreThresholds, AreBackends, AreHistograms, AreTargets, AreNodes, InRange};
+ghost use Rattle.sd_model_settings.specs.Ranges.{IsWithin, IsPrefix, IsHost, AreThresholds, AreBackends, AreClassNames, AreHistograms, AreTargets, AreNodes, InRange};
 ghost use Rattle.sd_config.specs.Answers.{Gives};
 ghost use Rattle.sd_plan.specs.Values.{micros, name_bytes};
 ghost use Rattle.sd_plan.specs.Entries.{classes_view, target_view, node_view};
@@ -10,15 +10,15 @@ ghost use Rattle.sd_plan.specs.Plan.{plan_view};
 
 use crate::fault::{ConfigFault, shown};
 use crate::groups::{
-    Addresses, Deletions, EntryLists, Server, Sizes, addresses_in, deletions_in, entry_lists_in,
-    namespace_in, server_in, sizes_in,
+    Addresses, Deletions, EntryLists, FlushRules, Server, Sizes, addresses_in, deletions_in,
+    entry_lists_in, flush_rules_in, namespace_in, server_in, sizes_in,
 };
 use crate::known_names::unknown;
 use crate::section::Section;
 use arrayvec::ArrayVec;
 use sd_decimal::Micro;
 use sd_outside::Name;
-use sd_plan::{Classes, Histograms, Namespace, Node, Reckoning, Target, Thresholds};
+use sd_plan::{Calculated, Classes, Histograms, Namespace, Node, Reckoning, Target, Thresholds};
 use std::alloc::Global;
 use std::marker::Model;
 use toml::Table;
@@ -38,6 +38,7 @@ pub struct Settings {
     repeater: ArrayVec<Target, 16>,
     nodes: ArrayVec<Node, 64>,
     sizes: Sizes,
+    gauges_max_ttl: u32,
 }
 
 impl Model for Settings {
@@ -66,6 +67,10 @@ impl Model for Settings {
         nodes = map node_view s.nodes.items;
       };
       sizes = sizes_view s.sizes;
+      rules = record {
+        gauges_max_ttl = s.gauges_max_ttl;
+        calculated_timer_metrics = s.plan.calculated;
+      };
     } };
 
     // the ranges of what the plan has are kept by its own fields
@@ -74,7 +79,8 @@ impl Model for Settings {
         × NamespaceInRange (namespace_view s.namespace)
         × AreTargets (map target_view s.repeater.items)
         × AreNodes (map node_view s.nodes.items)
-        × SizesInRange (sizes_view s.sizes) };
+        × SizesInRange (sizes_view s.sizes)
+        × IsWithin 1 1000000000 s.gauges_max_ttl };
 }
 
 #[tactic(auto, unfolding(sd_model_settings::specs::Settings::settings_in))]
@@ -100,10 +106,15 @@ fn settings_in(table: &Table) -> Result<Settings, ConfigFault>
         nodes,
     } = entry_lists_in(&top)?;
     let sizes = sizes_in(&top)?;
+    let FlushRules {
+        gauges_max_ttl,
+        calculated_timer_metrics,
+    } = flush_rules_in(&top)?;
     let plan = Reckoning {
         interval_ms: flush_interval,
         thresholds: Thresholds::of(percent_threshold),
         histograms: Histograms::of(histogram),
+        calculated: Calculated::of(calculated_timer_metrics),
     };
     Ok(Settings {
         port,
@@ -115,6 +126,7 @@ fn settings_in(table: &Table) -> Result<Settings, ConfigFault>
         repeater,
         nodes,
         sizes,
+        gauges_max_ttl,
     })
 }
 
@@ -223,10 +235,11 @@ impl Settings {
         self.sizes.rows
     }
 
-    /// The number of entries of a shard.
+    /// The number of entries of a shard. All shards have at most 2,097,152 together.
     pub fn entries(&self) -> u32
         ensures value { result ≡ self.now.sizes.entries }
-        ensures range { IsWithin 1 65536 result }
+        ensures range { IsWithin 1 1048576 result }
+        ensures all { self.now.sizes.shards * result ≤ 2097152 }
     {
         self.sizes.entries
     }
@@ -245,6 +258,14 @@ impl Settings {
         ensures range { result ≤ 1000000000 }
     {
         self.sizes.run_flushes
+    }
+
+    /// At which swap behind its last sample a gauge goes, where gauges are deleted when idle.
+    pub fn gauges_max_ttl(&self) -> u32
+        ensures value { result ≡ self.now.rules.gauges_max_ttl }
+        ensures range { IsWithin 1 1000000000 result }
+    {
+        self.gauges_max_ttl
     }
 
     /// Whether idle rows are deleted, unless their kind has a setting of its own.
@@ -392,6 +413,14 @@ impl Settings {
         ensures range { AreHistograms (map classes_view result.now) }
     {
         self.plan.histograms.as_slice()
+    }
+
+    /// The names of the classes of timers' lines that are sent; with none, all are.
+    pub fn calculated_timer_metrics(&self) -> &[Name]
+        ensures value { name_bytes result.now ≡ self.now.rules.calculated_timer_metrics }
+        ensures range { AreClassNames (name_bytes result.now) }
+    {
+        self.plan.calculated.as_slice()
     }
 
     /// Where packets are repeated to.

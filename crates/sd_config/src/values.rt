@@ -11,7 +11,7 @@ ghost use Rattle.sd_config.specs.Values.{passes, longest};
 use crate::fault::ValueFault;
 use sd_decimal::{Micro, NumberFault};
 use sd_outside::Name;
-use sd_plan::name_of;
+use sd_plan::{is_class_name, name_of};
 use toml::Value;
 
 /// Which texts a setting takes.
@@ -25,6 +25,8 @@ pub(crate) enum TextRule {
     Host,
     /// The name of a backend.
     Backend,
+    /// The name of a class of timers' lines.
+    ClassName,
     /// At most 255 bytes of names.
     Metric,
 }
@@ -105,6 +107,7 @@ fn passes(rule: TextRule, bytes: &[u8]) -> bool
         TextRule::FilledPrefix => !bytes.is_empty() && is_prefix(bytes),
         TextRule::Host => is_host(bytes),
         TextRule::Backend => is_backend(bytes),
+        TextRule::ClassName => is_class_name(bytes),
         TextRule::Metric => is_metric(bytes),
     }
 }

@@ -7,7 +7,9 @@ use Rattle.std.proofs.lemmas.Bool.Decides.{nat_tests}
 use Rattle.sd_model_text.specs.Numbers.{number_text, Limit, Below, Infinite}
 use Rattle.sd_decimal.proofs.NumberTexts.{length-number_text}
 use Rattle.sd_model_settings.specs.Entries.{is_limit, is_backend}
-use Rattle.sd_model_settings.specs.Ranges.{IsThreshold, AreThresholds, AreBackends, AreLimits}
+use Rattle.sd_model_settings.specs.TimerClasses.{is_class_name}
+use Rattle.sd_model_settings.specs.Ranges.{IsThreshold, AreThresholds, AreBackends, AreClassNames, AreLimits}
+use Rattle.sd_model_settings.proofs.EntriesInRange.{length-class_name}
 use Rattle.sd_model_settings.specs.ConfigText.{joined, limit_text}
 use Rattle.sd_decimal.specs.declared.number.Micro.{Micro}
 use Rattle.sd_decimal.specs.declared.number.Limit as code
@@ -67,6 +69,16 @@ length-names (t ∷ u ∷ ts) h =
 
 pub length-backends : (ts : List (List ℕ)) → AreBackends ts → length (joined ts) ≤ 27
 length-backends ts h = omega (arith, h.few, length-names ts h.known)
+
+length-class_names : (ts : List (List ℕ)) → AllPass is_class_name ts → length (joined ts) ≤ 20 * length ts
+length-class_names [] h = omega arith
+length-class_names (t ∷ []) h = omega (arith, length-class_name t (h zero t (omega arith)))
+length-class_names (t ∷ u ∷ ts) h =
+    let rest = length-class_names (u ∷ ts) (λ k d l. h (suc k) d (omega arith)) in
+    omega (arith, rest, length-class_name t (h zero t (omega arith)), length-append t (44 ∷ joined (u ∷ ts)))
+
+pub length-calculated : (ts : List (List ℕ)) → AreClassNames ts → length (joined ts) ≤ 320
+length-calculated ts h = omega (arith, h.few, length-class_names ts h.known)
 
 -- the texts of numbers and limits of the code
 pub micro_texts : (xs : List Micro) → map (λ m. number_text m.0) xs ≡ map number_text (micros xs)

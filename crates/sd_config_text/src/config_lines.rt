@@ -2,8 +2,8 @@ ghost use Rattle.std.specs.Prelude.{◌≡◌, ◌+◌, ◌≤◌, ◌∷◌, �
 ghost use Rattle.std.specs.Option.{option_map};
 ghost use Rattle.arrayvec.specs.ArrayVec.{array_vec_len};
 ghost use Rattle.sd_model_text.specs.Numbers.{number_text};
-ghost use Rattle.sd_model_settings.specs.Ranges.{IsClasses, AreThresholds, AreBackends, AreLimits, AreHistograms};
-ghost use Rattle.sd_model_settings.specs.ConfigText.{line, flag_text, limit_text, joined, server_lines, deletion_lines, address_lines, namespace_lines, front_lines, entry_lines, histogram_line, repeater_line, node_line, size_lines, config_lines};
+ghost use Rattle.sd_model_settings.specs.Ranges.{IsClasses, AreThresholds, AreBackends, AreClassNames, AreLimits, AreHistograms};
+ghost use Rattle.sd_model_settings.specs.ConfigText.{line, flag_text, limit_text, joined, server_lines, deletion_lines, address_lines, namespace_lines, front_lines, entry_lines, histogram_line, repeater_line, node_line, size_lines, rule_lines, back_lines, config_lines};
 ghost use Rattle.sd_plan.specs.Values.{micros, name_bytes};
 ghost use Rattle.sd_plan.specs.Entries.{limits_of, classes_view, target_view, node_view};
 
@@ -17,7 +17,7 @@ use sd_plan::{Classes, Node, Target};
 // how many lines stand before those of entries, and behind them
 const FRONT_LINES: usize = 22;
 
-const SIZE_LINES: usize = 7;
+const BACK_LINES: usize = 9;
 
 /// The line of a name and a value.
 pub fn line_of(name: &[u8], value: &[u8]) -> ReplyLine
@@ -166,6 +166,28 @@ fn size_line(settings: &Settings, place: usize) -> Option<ReplyLine>
     }
 }
 
+/// The line of the classes of timers' lines that are chosen.
+fn calculated_line(names: &[Name]) -> ReplyLine
+    requires { AreClassNames (name_bytes names.now) }
+    ensures { result.items
+        ≡ line (codes "calculatedTimerMetrics") (joined (name_bytes names.now)) }
+{
+    let mut value = ReplyLine::new();
+    push_joined(names, &mut value);
+    line_of(b"calculatedTimerMetrics", value.as_slice())
+}
+
+/// The line of when a gauge goes or which lines of timers are sent, at a place.
+fn rule_line(settings: &Settings, place: usize) -> Option<ReplyLine>
+    ensures { option_map (λ l. l.items) result ≡ slice_get (rule_lines settings.now.rules) place }
+{
+    match place {
+        0 => Some(setting_line("gaugesMaxTTL", settings.gauges_max_ttl())),
+        1 => Some(calculated_line(settings.calculated_timer_metrics())),
+        _ => None,
+    }
+}
+
 /// Appends limits joined by commas.
 fn push_limits(limits: &[Limit], value: &mut ReplyLine)
     requires range { AreLimits (limits_of limits.now) }
@@ -240,6 +262,18 @@ fn front_line(settings: &Settings, place: usize) -> Option<ReplyLine>
     }
 }
 
+/// The line at a place behind those of entries.
+fn back_line(settings: &Settings, place: usize) -> Option<ReplyLine>
+    ensures { option_map (λ l. l.items) result
+        ≡ slice_get (back_lines settings.now) place }
+{
+    if place < 7 {
+        size_line(settings, place)
+    } else {
+        rule_line(settings, place - 7)
+    }
+}
+
 /// The line of the entry of `histogram` at a place.
 fn histogram_at(histogram: &[Classes], place: usize) -> Option<ReplyLine>
     requires { AreHistograms (map classes_view histogram.now) }
@@ -277,10 +311,10 @@ fn node_at(nodes: &[Node], place: usize) -> Option<ReplyLine>
 /// How many lines the reply to `config` has.
 pub fn config_line_count(settings: &Settings) -> usize
     ensures len { result ≡ length (config_lines settings.now) }
-    ensures short { result ≤ 125 }
+    ensures short { result ≤ 127 }
 {
     let entries = settings.histogram().len() + settings.repeater().len() + settings.nodes().len();
-    FRONT_LINES + entries + SIZE_LINES
+    FRONT_LINES + entries + BACK_LINES
 }
 
 /// The line of the reply to `config` at a place, counted from 0, or none behind the last.
@@ -305,7 +339,7 @@ pub fn config_line(settings: &Settings, place: usize) -> Option<ReplyLine>
     if place < nodes.len() {
         return node_at(nodes, place);
     }
-    size_line(settings, place - nodes.len())
+    back_line(settings, place - nodes.len())
 }
 
 /// The reply to `config` of the settings in force: `settings.config_text(sink)`.

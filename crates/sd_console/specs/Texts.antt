@@ -1,8 +1,9 @@
 -- The console's text of a record, line by line.
-use Rattle.std.specs.Prelude.{ℕ, ℤ, List, [], ◌∷◌, ◌++◌, length, map, codes, decimal}
+use Rattle.std.specs.Prelude.{ℕ, ℤ, List, [], ◌∷◌, ◌++◌, length, map, if◌then◌else◌, codes, decimal}
 use Rattle.sd_model_text.specs.Numbers.{number_text}
+use Rattle.sd_model_settings.specs.TimerClasses.{sends}
 use Rattle.sd_model_record.specs.Record.{Row, CounterRow, TimerRow, GaugeRow, SetRow, Record}
-use Rattle.sd_model_record.specs.Figures.{figures_of}
+use Rattle.sd_model_record.specs.Figures.{Figure, figures_of}
 use Rattle.sd_model_record.specs.Console.{console_figure, console_count}
 
 -- the line of a counter
@@ -17,12 +18,16 @@ gauge_line key value = codes "gauge " ++ key ++ 32 ∷ number_text value ++ 10 �
 abbrev pub set_line : List ℕ → ℕ → List ℕ
 set_line key count = codes "set " ++ key ++ 32 ∷ decimal count ++ 10 ∷ []
 
+-- the line of a timer's figure, or nothing where its class isn't sent
+abbrev pub sent_line : List (List ℕ) → List ℕ → Figure → List ℕ
+sent_line calculated key f = if sends calculated f.class then console_figure key f else []
+
 -- the lines of a row, one by one
-unfoldable pub row_texts : Row → List (List ℕ)
-row_texts (CounterRow key count rate) = counter_line key count rate ∷ []
-row_texts (TimerRow key timer) = map (console_figure key) (figures_of timer)
-row_texts (GaugeRow key value) = gauge_line key value ∷ []
-row_texts (SetRow key count) = set_line key count ∷ []
+unfoldable pub row_texts : List (List ℕ) → Row → List (List ℕ)
+row_texts calculated (CounterRow key count rate) = counter_line key count rate ∷ []
+row_texts calculated (TimerRow key timer) = map (sent_line calculated key) (figures_of timer)
+row_texts calculated (GaugeRow key value) = gauge_line key value ∷ []
+row_texts calculated (SetRow key count) = set_line key count ∷ []
 
 -- the lines of the server's own counts
 abbrev pub count_texts : Record → List (List ℕ)

@@ -9,8 +9,8 @@ use sd_outside::{Sink, WriteFault};
 use sd_record::Record;
 use sd_text::{write_line, write_lines, write_rows};
 
-/// Writes the console's text of a record: the flush, the lines of each row, the server's own counts and the number of
-/// rows, and the end. No memory is taken.
+/// Writes the console's text of a record: the flush, the lines of each row, of a timer those that are sent, the server's
+/// own counts and the number of rows, and the end. No memory is taken.
 ///
 /// # Errors
 ///
@@ -23,7 +23,10 @@ pub fn write_record<K: Sink>(rec: &mut Record<'_>, sink: &mut K) -> Result<(), W
     ensures same_scratch { SameScratch rec.new rec.old }
 {
     write_line(&second_line(b"flush", rec.ts()), sink)?;
-    write_rows(&ConsoleRows, rec, sink)?;
+    let form = ConsoleRows {
+        calculated: rec.calculated(),
+    };
+    write_rows(&form, rec, sink)?;
     write_lines(&count_lines(rec), sink)?;
     write_line(&second_line(b"end", rec.ts()), sink)
 }

@@ -2,20 +2,24 @@ ghost use Rattle.std.specs.Prelude.{◌≡◌, ◌≤◌, ◌∷◌, ◌++◌, [
 ghost use Rattle.sd_model_text.specs.Numbers.{number_text};
 ghost use Rattle.sd_model_record.specs.Console.{console_figure};
 ghost use Rattle.sd_record.specs.Figures.{figure_view};
-ghost use Rattle.sd_console.specs.Texts.{counter_line, gauge_line, set_line};
+ghost use Rattle.sd_console.specs.Texts.{counter_line, sent_line, gauge_line, set_line};
 
 use sd_decimal::{Line, Micro, Sum};
 use sd_key::Key;
+use sd_plan::Calculated;
 use sd_record::{Figure, Row};
 use sd_text::{RowText, push_number, push_text, push_whole};
 
-/// How the console gets the rows of a record.
-pub(crate) struct ConsoleRows;
+/// How the console gets the rows of a record, where these classes of timers' lines are chosen.
+#[derive(Clone, Copy)]
+pub(crate) struct ConsoleRows<'a> {
+    pub calculated: &'a Calculated,
+}
 
-impl RowText for ConsoleRows {
+impl<'a> RowText for ConsoleRows<'a> {
     ghost use Rattle.sd_console.specs.Texts.{row_texts};
 
-    ghost lines_of = { λ _. row_texts };
+    ghost lines_of = { λ s. row_texts s.calculated.now };
 
     fn line_count(&self, row: &Row) -> usize {
         match row {
@@ -33,7 +37,10 @@ impl RowText for ConsoleRows {
     fn put_line(&self, row: &Row, place: usize, line: &mut Line) {
         match row {
             Row::Counter { key, count, rate } => put_counter(key, *count, *rate, line),
-            Row::Timer { key, timer } => put_figure(key, &timer.figure(place), line),
+            Row::Timer { key, timer } => {
+                let figure = timer.figure(place);
+                put_sent(key, &figure, self.calculated, line);
+            }
             Row::Gauge { key, value } => put_gauge(key, *value, line),
             Row::Set { key, count } => put_set(key, *count, line),
         }
@@ -71,6 +78,18 @@ fn put_figure(key: &Key, figure: &Figure, line: &mut Line)
     push_text(figure.name.as_slice(), line);
     push_number(figure.value, line);
     line.push(b'\n');
+}
+
+/// Puts the line of a timer's figure into `line`, or nothing where its class isn't sent.
+fn put_sent(key: &Key, figure: &Figure, calculated: &Calculated, line: &mut Line)
+    requires { length figure.now.name.items ≤ 64 }
+    ensures { line.new.items ≡ sent_line calculated.now key.now (figure_view figure.now) }
+{
+    if calculated.sends(figure.class) {
+        put_figure(key, figure, line);
+    } else {
+        line.clear();
+    }
 }
 
 /// Puts the line of a gauge into `line`.

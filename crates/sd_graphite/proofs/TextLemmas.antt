@@ -6,13 +6,14 @@ use Rattle.std.specs.List.{concat}
 use Rattle.std.specs.Fmt.{decimal}
 use Rattle.sd_model_text.specs.Numbers.{per_second}
 use Rattle.sd_model_settings.specs.Defaults.{Names}
+use Rattle.sd_model_settings.specs.TimerClasses.{sends}
 use Rattle.sd_model_record.specs.Record.{Row, CounterRow, TimerRow, GaugeRow, SetRow, TimerFigures, Tally, Record}
 use Rattle.sd_model_record.specs.Figures.{Figure, whole_number, figures_of}
 use Rattle.sd_model_record.specs.Graphite.{dotted, front, line, figure_line, row_lines, own_counter, rows_front, tail_lines, graphite_text}
 use Rattle.sd_graphite.specs.declared.path.Path.{Path}
-use Rattle.sd_graphite.specs.Texts.{path_text, rate_line, count_line, gauge_line, set_line, row_texts, row_text, own_text, rows_line, tail_text}
+use Rattle.sd_graphite.specs.Texts.{path_text, rate_line, count_line, sent_line, gauge_line, set_line, row_texts, row_text, own_text, rows_line, tail_text}
 use Rattle.sd_text.specs.Rows.{rows_text}
-use Rattle.sd_text.proofs.RowLemmas.{concat-map, flat_map-same}
+use Rattle.sd_text.proofs.RowLemmas.{concat-sent, flat_map-same}
 
 -- the text of a path by its parts
 pub path_text-parts : (names : Names) (p : Path) (legacy prefix key back : List ℕ) → p.legacy.now ≡ legacy → p.prefix.now ≡ prefix → p.key.now ≡ key → p.back.now ≡ back → path_text names p ≡ front names legacy prefix ++ key ++ back
@@ -24,69 +25,69 @@ path_text-parts names p legacy prefix key back before of_kind of_key behind =
     ∙ ap (λ (xs : List ℕ). front names legacy prefix ++ key ++ xs) behind
 
 -- the lines of a row, joined
-pub row_texts-joined : (names : Names) (ts : ℕ) (row : Row) → concat (row_texts names ts row) ≡ row_text names ts row
+pub row_texts-joined : (names : Names) (calculated : List (List ℕ)) (ts : ℕ) (row : Row) → concat (row_texts names calculated ts row) ≡ row_text names calculated ts row
 unfolding row_texts row_text
-row_texts-joined names ts (CounterRow key count rate) = ap (λ (text : List ℕ). rate_line names ts key rate ++ text) (append-nil (count_line names ts key count))
-row_texts-joined names ts (TimerRow key timer) = concat-map (figure_line names ts key) (figures_of timer)
-row_texts-joined names ts (GaugeRow key value) = append-nil (gauge_line names ts key value)
-row_texts-joined names ts (SetRow key count) = append-nil (set_line names ts key count)
+row_texts-joined names calculated ts (CounterRow key count rate) = ap (λ (text : List ℕ). rate_line names ts key rate ++ text) (append-nil (count_line names ts key count))
+row_texts-joined names calculated ts (TimerRow key timer) = concat-sent (λ f. sends calculated f.class) (figure_line names ts key) (figures_of timer)
+row_texts-joined names calculated ts (GaugeRow key value) = append-nil (gauge_line names ts key value)
+row_texts-joined names calculated ts (SetRow key count) = append-nil (set_line names ts key count)
 
 -- the lines of a row of each kind, by their places
-module _ (names : Names) (ts : ℕ) (row : Row) (key : List ℕ) where
+module _ (names : Names) (calculated : List (List ℕ)) (ts : ℕ) (row : Row) (key : List ℕ) where
   module _ (count rate : ℤ) (is : row ≡ CounterRow key count rate) where
-    counter_texts : row_texts names ts row ≡ rate_line names ts key rate ∷ count_line names ts key count ∷ []
+    counter_texts : row_texts names calculated ts row ≡ rate_line names ts key rate ∷ count_line names ts key count ∷ []
     unfolding row_texts
-    counter_texts = ap (row_texts names ts) is
+    counter_texts = ap (row_texts names calculated ts) is
 
-    pub counter_count : length (row_texts names ts row) ≡ 2
+    pub counter_count : length (row_texts names calculated ts row) ≡ 2
     counter_count = ap length counter_texts
 
-    pub counter_at : (place : ℕ) → slice_get (row_texts names ts row) place ≡ slice_get (rate_line names ts key rate ∷ count_line names ts key count ∷ []) place
+    pub counter_at : (place : ℕ) → slice_get (row_texts names calculated ts row) place ≡ slice_get (rate_line names ts key rate ∷ count_line names ts key count ∷ []) place
     counter_at place = ap (λ texts. slice_get texts place) counter_texts
 
   module _ (timer : TimerFigures) (is : row ≡ TimerRow key timer) where
-    timer_texts : row_texts names ts row ≡ map (figure_line names ts key) (figures_of timer)
+    timer_texts : row_texts names calculated ts row ≡ map (sent_line names calculated ts key) (figures_of timer)
     unfolding row_texts
-    timer_texts = ap (row_texts names ts) is
+    timer_texts = ap (row_texts names calculated ts) is
 
-    pub timer_count : length (row_texts names ts row) ≡ length (figures_of timer)
-    timer_count = ap length timer_texts ∙ length-map (figures_of timer) (figure_line names ts key)
+    pub timer_count : length (row_texts names calculated ts row) ≡ length (figures_of timer)
+    timer_count = ap length timer_texts ∙ length-map (figures_of timer) (sent_line names calculated ts key)
 
-    pub timer_at : (place : ℕ) (f : Figure) → slice_get (figures_of timer) place ≡ Some f → slice_get (row_texts names ts row) place ≡ Some (figure_line names ts key f)
+    pub timer_at : (place : ℕ) (f : Figure) → slice_get (figures_of timer) place ≡ Some f → slice_get (row_texts names calculated ts row) place ≡ Some (sent_line names calculated ts key f)
     timer_at place f there =
-        ap (λ texts. slice_get texts place) timer_texts ∙ slice_get-map (figure_line names ts key) (figures_of timer) place
-        ∙ ap (option_map (figure_line names ts key)) there
+        ap (λ texts. slice_get texts place) timer_texts ∙ slice_get-map (sent_line names calculated ts key) (figures_of timer) place
+        ∙ ap (option_map (sent_line names calculated ts key)) there
 
   module _ (value : ℤ) (is : row ≡ GaugeRow key value) where
-    gauge_texts : row_texts names ts row ≡ gauge_line names ts key value ∷ []
+    gauge_texts : row_texts names calculated ts row ≡ gauge_line names ts key value ∷ []
     unfolding row_texts
-    gauge_texts = ap (row_texts names ts) is
+    gauge_texts = ap (row_texts names calculated ts) is
 
-    pub gauge_count : length (row_texts names ts row) ≡ 1
+    pub gauge_count : length (row_texts names calculated ts row) ≡ 1
     gauge_count = ap length gauge_texts
 
-    pub gauge_at : (place : ℕ) → place < length (row_texts names ts row) → slice_get (row_texts names ts row) place ≡ Some (gauge_line names ts key value)
+    pub gauge_at : (place : ℕ) → place < length (row_texts names calculated ts row) → slice_get (row_texts names calculated ts row) place ≡ Some (gauge_line names ts key value)
     gauge_at place inside =
         let first : place ≡ 0 = omega (arith, gauge_count) in
         ap (λ texts. slice_get texts place) gauge_texts ∙ ap (slice_get (gauge_line names ts key value ∷ [])) first
 
   module _ (count : ℕ) (is : row ≡ SetRow key count) where
-    set_texts : row_texts names ts row ≡ set_line names ts key count ∷ []
+    set_texts : row_texts names calculated ts row ≡ set_line names ts key count ∷ []
     unfolding row_texts
-    set_texts = ap (row_texts names ts) is
+    set_texts = ap (row_texts names calculated ts) is
 
-    pub set_count : length (row_texts names ts row) ≡ 1
+    pub set_count : length (row_texts names calculated ts row) ≡ 1
     set_count = ap length set_texts
 
-    pub set_at : (place : ℕ) → place < length (row_texts names ts row) → slice_get (row_texts names ts row) place ≡ Some (set_line names ts key count)
+    pub set_at : (place : ℕ) → place < length (row_texts names calculated ts row) → slice_get (row_texts names calculated ts row) place ≡ Some (set_line names ts key count)
     set_at place inside =
         let first : place ≡ 0 = omega (arith, set_count) in
         ap (λ texts. slice_get texts place) set_texts ∙ ap (slice_get (set_line names ts key count ∷ [])) first
 
 -- the lines of one of the server's own counters are those of a row
-pub own_text-row : (names : Names) (r : Record) (name : List ℕ) (number ts : ℕ) (row : Row) → ts ≡ r.ts → row ≡ CounterRow (names.prefix_stats ++ 46 ∷ name) (whole_number number) (per_second (whole_number number) r.interval_ms) → row_text names ts row ≡ own_text names r name number
+pub own_text-row : (names : Names) (calculated : List (List ℕ)) (r : Record) (name : List ℕ) (number ts : ℕ) (row : Row) → ts ≡ r.ts → row ≡ CounterRow (names.prefix_stats ++ 46 ∷ name) (whole_number number) (per_second (whole_number number) r.interval_ms) → row_text names calculated ts row ≡ own_text names r name number
 unfolding own_text row_text
-own_text-row names r name number ts row second is = ap (λ n. row_lines names n row) second ∙ ap (row_lines names r.ts) is
+own_text-row names calculated r name number ts row second is = ap (λ n. row_lines names calculated n row) second ∙ ap (row_lines names calculated r.ts) is
 
 -- what stands before the number of rows has neither prefix nor key
 pub rows_front-front : (names : Names) → front names [] [] ≡ rows_front names
@@ -113,9 +114,9 @@ tail_text-parts names r t counted rows ts all second last is =
     ∙ ap (λ (xs : List ℕ). own t ++ xs) (sym is)
 
 -- the text of a record: the lines of its rows, and those at its end
-pub graphite_text-parts : (names : Names) (r : Record) (ts : ℕ) → ts ≡ r.ts → graphite_text names r ≡ rows_text (row_texts names ts) r.rows ++ tail_text names r
+pub graphite_text-parts : (names : Names) (r : Record) (calculated : List (List ℕ)) (ts : ℕ) → calculated ≡ r.calculated → ts ≡ r.ts → graphite_text names r ≡ rows_text (row_texts names calculated ts) r.rows ++ tail_text names r
 unfolding row_text tail_text
-graphite_text-parts names r ts second =
+graphite_text-parts names r calculated ts chosen second =
     ap (λ (text : List ℕ). text ++ tail_lines names r)
-    (flat_map-same (row_lines names r.ts) (λ row. concat (row_texts names ts row)) r.rows
-    (λ row. ap (λ s. row_lines names s row) (sym second) ∙ sym (row_texts-joined names ts row)))
+    (flat_map-same (row_lines names r.calculated r.ts) (λ row. concat (row_texts names calculated ts row)) r.rows
+    (λ row. ap (λ s. row_lines names r.calculated s row) (sym second) ∙ ap (λ cs. row_lines names cs ts row) (sym chosen) ∙ sym (row_texts-joined names calculated ts row)))

@@ -1,9 +1,10 @@
 -- Graphite's text of a record, line by line.
-use Rattle.std.specs.Prelude.{ℕ, ℤ, List, [], ◌∷◌, ◌++◌, map, codes, decimal}
+use Rattle.std.specs.Prelude.{ℕ, ℤ, List, [], ◌∷◌, ◌++◌, map, if◌then◌else◌, codes, decimal}
 use Rattle.sd_model_text.specs.Numbers.{number_text}
 use Rattle.sd_model_settings.specs.Defaults.{Names}
+use Rattle.sd_model_settings.specs.TimerClasses.{sends}
 use Rattle.sd_model_record.specs.Record.{Row, CounterRow, TimerRow, GaugeRow, SetRow, Record}
-use Rattle.sd_model_record.specs.Figures.{figures_of}
+use Rattle.sd_model_record.specs.Figures.{Figure, figures_of}
 use Rattle.sd_model_record.specs.Graphite.{front, line, counter_back, figure_line, row_lines, own_counter, rows_front, tail_lines}
 use Rattle.sd_graphite.specs.declared.path.Path.{Path}
 
@@ -31,16 +32,20 @@ abbrev pub set_line : Names → ℕ → List ℕ → ℕ → List ℕ
 set_line names ts key count =
     line names (front names (codes "stats.sets.") names.namespace.prefix_set ++ key ++ codes ".count") (decimal count) ts
 
+-- the line of a timer's figure, or nothing where its class isn't sent
+abbrev pub sent_line : Names → List (List ℕ) → ℕ → List ℕ → Figure → List ℕ
+sent_line names calculated ts key f = if sends calculated f.class then figure_line names ts key f else []
+
 -- the lines of a row, one by one
-unfoldable pub row_texts : Names → ℕ → Row → List (List ℕ)
-row_texts names ts (CounterRow key count rate) = rate_line names ts key rate ∷ count_line names ts key count ∷ []
-row_texts names ts (TimerRow key timer) = map (figure_line names ts key) (figures_of timer)
-row_texts names ts (GaugeRow key value) = gauge_line names ts key value ∷ []
-row_texts names ts (SetRow key count) = set_line names ts key count ∷ []
+unfoldable pub row_texts : Names → List (List ℕ) → ℕ → Row → List (List ℕ)
+row_texts names calculated ts (CounterRow key count rate) = rate_line names ts key rate ∷ count_line names ts key count ∷ []
+row_texts names calculated ts (TimerRow key timer) = map (sent_line names calculated ts key) (figures_of timer)
+row_texts names calculated ts (GaugeRow key value) = gauge_line names ts key value ∷ []
+row_texts names calculated ts (SetRow key count) = set_line names ts key count ∷ []
 
 -- the lines of a row
-unfoldable pub row_text : Names → ℕ → Row → List ℕ
-row_text names ts row = row_lines names ts row
+unfoldable pub row_text : Names → List (List ℕ) → ℕ → Row → List ℕ
+row_text names calculated ts row = row_lines names calculated ts row
 
 -- the lines of one of the server's own counters, by its name and number
 unfoldable pub own_text : Names → Record → List ℕ → ℕ → List ℕ

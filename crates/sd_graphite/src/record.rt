@@ -10,8 +10,8 @@ use sd_plan::Names;
 use sd_record::Record;
 use sd_text::write_rows;
 
-/// Writes Graphite's text of a record under these names: the lines of each row, the server's own counters, and the
-/// number of rows. No memory is taken.
+/// Writes Graphite's text of a record under these names: the lines of each row, of a timer those that are sent, the
+/// server's own counters, and the number of rows. No memory is taken.
 ///
 /// # Errors
 ///
@@ -29,6 +29,7 @@ pub fn write_record<K: Sink>(
 {
     let form = GraphiteRows {
         names,
+        calculated: rec.calculated(),
         ts: rec.ts(),
     };
     write_rows(&form, rec, sink)?;

@@ -1,28 +1,30 @@
 ghost use Rattle.std.specs.Prelude.{◌≡◌, ◌≤◌, ◌∷◌, length, codes};
 ghost use Rattle.sd_model_record.specs.Graphite.{counter_back, figure_line};
 ghost use Rattle.sd_record.specs.Figures.{figure_view};
-ghost use Rattle.sd_graphite.specs.Texts.{rate_line, count_line, gauge_line, set_line};
+ghost use Rattle.sd_graphite.specs.Texts.{rate_line, count_line, sent_line, gauge_line, set_line};
 
 use crate::line::put_path;
 use crate::path::Path;
 use arrayvec::ArrayVec;
 use sd_decimal::{Line, Micro, Sum};
 use sd_key::Key;
-use sd_plan::Names;
+use sd_plan::{Calculated, Names};
 use sd_record::{Figure, Row, whole_number};
 use sd_text::RowText;
 
-/// How Graphite gets the rows of a record under these names, at this Unix second.
+/// How Graphite gets the rows of a record under these names, at this Unix second, where these classes of timers' lines are
+/// chosen.
 #[derive(Clone, Copy)]
 pub(crate) struct GraphiteRows<'a> {
     pub names: &'a Names,
+    pub calculated: &'a Calculated,
     pub ts: u64,
 }
 
 impl<'a> RowText for GraphiteRows<'a> {
     ghost use Rattle.sd_graphite.specs.Texts.{row_texts};
 
-    ghost lines_of = { λ s. row_texts s.names.now s.ts };
+    ghost lines_of = { λ s. row_texts s.names.now s.calculated.now s.ts };
 
     fn line_count(&self, row: &Row) -> usize {
         match row {
@@ -44,7 +46,8 @@ impl<'a> RowText for GraphiteRows<'a> {
                 _ => put_count(key, *count, self.names, self.ts, line),
             },
             Row::Timer { key, timer } => {
-                put_figure(key, &timer.figure(place), self.names, self.ts, line);
+                let figure = timer.figure(place);
+                put_sent(key, &figure, self.calculated, self.names, self.ts, line);
             }
             Row::Gauge { key, value } => put_gauge(key, *value, self.names, self.ts, line),
             Row::Set { key, count } => put_set(key, *count, self.names, self.ts, line),
@@ -111,6 +114,25 @@ fn put_figure(key: &Key, figure: &Figure, names: &Names, ts: u64, line: &mut Lin
         back: back.as_slice(),
     };
     put_path(names, &path, figure.value, ts, line);
+}
+
+/// Puts the line of a timer's figure into `line`, or nothing where its class isn't sent.
+fn put_sent(
+    key: &Key,
+    figure: &Figure,
+    calculated: &Calculated,
+    names: &Names,
+    ts: u64,
+    line: &mut Line,
+)
+    requires { length figure.now.name.items ≤ 64 }
+    ensures { line.new.items ≡ sent_line names.now calculated.now ts key.now (figure_view figure.now) }
+{
+    if calculated.sends(figure.class) {
+        put_figure(key, figure, names, ts, line);
+    } else {
+        line.clear();
+    }
 }
 
 /// A value as a sum of one.

@@ -58,6 +58,7 @@ fn write_own_counter<K: Sink>(
 {
     let form = GraphiteRows {
         names,
+        calculated: rec.calculated(),
         ts: rec.ts(),
     };
     write_row(&form, &own_row(name, number, names, rec), sink)

@@ -3,4 +3,5 @@ use Rattle.sd_model_settings.specs.Defaults.{Plan}
 use Rattle.sd_plan.specs.declared.reckoning.Reckoning.{Reckoning}
 
 abbrev pub plan_view : Reckoning → Plan
-plan_view r = record { interval_ms = r.interval_ms; thresholds = r.thresholds; histograms = r.histograms }
+plan_view r =
+    record { interval_ms = r.interval_ms; thresholds = r.thresholds; histograms = r.histograms; calculated = r.calculated }

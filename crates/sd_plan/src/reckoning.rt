@@ -1,5 +1,6 @@
 ghost use Rattle.sd_model_settings.specs.Ranges.{IsWithin};
 
+use crate::calculated::Calculated;
 use crate::entries::Classes;
 use crate::thresholds::Thresholds;
 use arrayvec::ArrayVec;
@@ -48,12 +49,13 @@ impl Histograms {
 }
 
 /// What a record is reckoned by: the interval of its rates in milliseconds, which isn't 0, the thresholds and
-/// the bins of timers.
+/// the bins of timers, and the classes of their lines that are chosen.
 #[derive(Debug, Drop)]
 pub struct Reckoning {
     pub interval_ms: u32,
     pub thresholds: Thresholds,
     pub histograms: Histograms,
+    pub calculated: Calculated,
     ghost interval: { IsWithin 1 86400000 interval_ms },
 }
 
@@ -62,7 +64,7 @@ impl Reckoning {
     ghost use Rattle.sd_model_settings.specs.Defaults.{plan_of, default_settings};
     ghost use Rattle.sd_plan.specs.Plan.{plan_view};
 
-    /// What the defaults make: 10 seconds, the threshold 90, and no bins.
+    /// What the defaults make: 10 seconds, the threshold 90, no bins, and all lines of timers.
     #[tactic(auto, using(sd_model_settings::proofs::DefaultsInRange::defaults_in_range))]
     pub fn plain() -> Reckoning
         ensures { plan_view result ≡ plan_of default_settings }
@@ -73,6 +75,7 @@ impl Reckoning {
             interval_ms: 10_000,
             thresholds: Thresholds::of(numbers),
             histograms: Histograms::of(ArrayVec::new()),
+            calculated: Calculated::of(ArrayVec::new()),
         }
     }
 }

@@ -1,10 +1,12 @@
 ghost use Rattle.std.specs.Prelude.{◌≤◌, length};
 
 use sd_decimal::Sum;
+use sd_plan::TimerClass;
 
-/// A value, and what the name of its figure begins with.
+/// A value, the class of its figure, and what its name begins with.
 #[derive(Clone, Copy)]
 pub(crate) struct Entry {
+    pub class: TimerClass,
     pub title: &'static [u8],
     pub value: Sum,
     ghost short: { length title.now ≤ 16 },
@@ -13,12 +15,17 @@ pub(crate) struct Entry {
 impl Entry {
     ghost use Rattle.std.specs.Prelude.{◌≡◌};
 
-    /// A value under a title.
-    pub fn new(title: &'static [u8], value: Sum) -> Entry
+    /// A value of a class, under a title.
+    pub fn new(class: TimerClass, title: &'static [u8], value: Sum) -> Entry
         requires { length title.now ≤ 16 }
+        ensures class { result.class ≡ class }
         ensures title { result.title.now ≡ title.now }
         ensures value { result.value ≡ value }
     {
-        Entry { title, value }
+        Entry {
+            class,
+            title,
+            value,
+        }
     }
 }

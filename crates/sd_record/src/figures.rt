@@ -1,8 +1,10 @@
 ghost use Rattle.std.specs.Prelude.{◌≡◌, ◌+◌, ◌<◌, ◌≤◌, ◌++◌, [], length, map, slice_get, option_map, Some, codes, pos, unsigned_abs, if◌then◌else◌};
 ghost use Rattle.arrayvec.specs.ArrayVec.{array_vec_len};
 ghost use Rattle.sd_model_text.specs.Numbers.{number_text};
+ghost use Rattle.sd_model_settings.specs.TimerClasses.{UpperPercent, LowerPercent};
 ghost use Rattle.sd_model_shard.specs.Values.{is_upper};
 ghost use Rattle.sd_model_record.specs.Figures.{whole_number, underlined, label, part_figures, whole_figures, bin_figure, idle_figures, figures_of};
+ghost use Rattle.sd_plan.specs.Calculated.{class_of};
 ghost use Rattle.sd_stats.specs.Timer.{part_of, whole_of};
 ghost use Rattle.sd_record.specs.Row.{bin_view, timer_view};
 ghost use Rattle.sd_record.specs.Figures.{figure_view, entry_view, titled};
@@ -11,6 +13,7 @@ use crate::entry::Entry;
 use crate::row::{Bin, TimerRow};
 use arrayvec::ArrayVec;
 use sd_decimal::{Limit, Line, Micro, Sum, write};
+use sd_plan::TimerClass;
 use sd_stats::{PctStats, Whole};
 
 // how many figures a part has, and all values
@@ -21,9 +24,10 @@ const OF_WHOLE: usize = 9;
 /// The name of a figure: at most 64 bytes.
 pub type Label = ArrayVec<u8, 64>;
 
-/// A figure of a timer: a number under a name.
+/// A figure of a timer: a number under a name, and the class that it is of.
 #[derive(Debug, Drop)]
 pub struct Figure {
+    pub class: TimerClass,
     pub name: Label,
     pub value: Sum,
 }
@@ -40,8 +44,8 @@ fn idle_entries(timer: &TimerRow) -> [Entry; 2]
     ensures { map entry_view result ≡ idle_figures (timer_view timer.now) }
 {
     [
-        Entry::new(b"count", timer.count),
-        Entry::new(b"count_ps", timer.count_ps),
+        Entry::new(TimerClass::Count, b"count", timer.count),
+        Entry::new(TimerClass::CountPs, b"count_ps", timer.count_ps),
     ]
 }
 
@@ -50,15 +54,15 @@ fn whole_entries(whole: &Whole) -> [Entry; 9]
     ensures { map entry_view result ≡ whole_figures (whole_of whole.now) }
 {
     [
-        Entry::new(b"std", whole.std),
-        Entry::new(b"upper", whole.upper),
-        Entry::new(b"lower", whole.lower),
-        Entry::new(b"count", whole.count),
-        Entry::new(b"count_ps", whole.count_ps),
-        Entry::new(b"sum", whole.sum),
-        Entry::new(b"sum_squares", whole.sum_squares),
-        Entry::new(b"mean", whole.mean),
-        Entry::new(b"median", whole.median),
+        Entry::new(TimerClass::Std, b"std", whole.std),
+        Entry::new(TimerClass::Upper, b"upper", whole.upper),
+        Entry::new(TimerClass::Lower, b"lower", whole.lower),
+        Entry::new(TimerClass::Count, b"count", whole.count),
+        Entry::new(TimerClass::CountPs, b"count_ps", whole.count_ps),
+        Entry::new(TimerClass::Sum, b"sum", whole.sum),
+        Entry::new(TimerClass::SumSquares, b"sum_squares", whole.sum_squares),
+        Entry::new(TimerClass::Mean, b"mean", whole.mean),
+        Entry::new(TimerClass::Median, b"median", whole.median),
     ]
 }
 
@@ -67,12 +71,35 @@ fn part_entries(part: &PctStats) -> [Entry; 5]
     ensures { map (titled (label part.now.threshold.0)) result ≡ part_figures (part_of part.now) }
 {
     [
-        Entry::new(b"count_", whole_number(part.count)),
-        Entry::new(b"mean_", part.mean),
-        Entry::new(edge_title(part.threshold), part.edge),
-        Entry::new(b"sum_", part.sum),
-        Entry::new(b"sum_squares_", part.sum_squares),
+        Entry::new(
+            TimerClass::CountPercent,
+            b"count_",
+            whole_number(part.count),
+        ),
+        Entry::new(TimerClass::MeanPercent, b"mean_", part.mean),
+        Entry::new(
+            edge_class(part.threshold),
+            edge_title(part.threshold),
+            part.edge,
+        ),
+        Entry::new(TimerClass::SumPercent, b"sum_", part.sum),
+        Entry::new(
+            TimerClass::SumSquaresPercent,
+            b"sum_squares_",
+            part.sum_squares,
+        ),
     ]
+}
+
+/// The class of a part's edge.
+fn edge_class(threshold: Micro) -> TimerClass
+    ensures { class_of result ≡ (if is_upper threshold.0 then UpperPercent else LowerPercent) }
+{
+    if threshold.0 > 0 {
+        TimerClass::UpperPercent
+    } else {
+        TimerClass::LowerPercent
+    }
 }
 
 /// What the name of a part's edge begins with.
@@ -138,6 +165,7 @@ fn plain(entry: Entry) -> Figure
     let mut name = Label::new();
     push_text(entry.title, &mut name);
     Figure {
+        class: entry.class,
         name,
         value: entry.value,
     }
@@ -148,11 +176,15 @@ fn part_figure(part: &PctStats, i: usize) -> Figure
     requires { i < 5 }
     ensures { slice_get (part_figures (part_of part.now)) i ≡ Some (figure_view result) }
 {
-    let Entry { title, value } = part_entries(part)[i];
+    let Entry {
+        class,
+        title,
+        value,
+    } = part_entries(part)[i];
     let mut name = Label::new();
     push_text(title, &mut name);
     push_threshold(part.threshold, &mut name);
-    Figure { name, value }
+    Figure { class, name, value }
 }
 
 /// The figure of a bin, which has the name of its upper limit.
@@ -166,6 +198,7 @@ fn bin_figure(bin: &Bin) -> Figure
         Limit::Infinite => push_text(b"inf", &mut name),
     }
     Figure {
+        class: TimerClass::Histogram,
         name,
         value: whole_number(bin.count),
     }

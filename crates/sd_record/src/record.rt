@@ -11,10 +11,10 @@ use crate::row::Row;
 use crate::scratch::RecordScratch;
 use sd_desk::Tally;
 use sd_epoch::Table;
-use sd_plan::Reckoning;
+use sd_plan::{Calculated, Reckoning};
 
-/// The record of a flush: the rows of tables by kind and key, the tally, the Unix second, and the interval that the
-/// rates are over. Contracts see it through `record_view`.
+/// The record of a flush: the rows of tables by kind and key, the tally, the Unix second, the interval that the rates are
+/// over, and the classes of timers' lines that are chosen. Contracts see it through `record_view`.
 #[derive(Drop)]
 pub struct Record<'a> {
     tables: &'a [Table],
@@ -106,5 +106,12 @@ impl<'a> Record<'a> {
         ensures some { 0 < result }
     {
         self.plan.interval_ms
+    }
+
+    /// The classes of timers' lines that are chosen.
+    pub fn calculated(&self) -> &'a Calculated
+        ensures { result.now ≡ (record_view self.now).calculated }
+    {
+        &self.plan.calculated
     }
 }

@@ -12,9 +12,6 @@ use sd_outside::Name;
 use sd_plan::Target;
 use sd_shard::Policy;
 
-/// How long a gauge that goes when idle stays, in swaps: it goes at the first.
-const MAX_TTL: u32 = 1;
-
 /// How many rows and entries a shard may have.
 pub fn limits_of(settings: &Settings) -> Limits
     ensures value { limits_view result ≡ limits_by settings.now }
@@ -26,7 +23,7 @@ pub fn limits_of(settings: &Settings) -> Limits
     }
 }
 
-/// Which kinds of rows go at a flush when idle.
+/// Which kinds of rows go at a flush when idle, and at which one behind its last sample a gauge does.
 pub fn policy_of(settings: &Settings) -> Policy
     ensures { policy_view result ≡ policy_by settings.now }
 {
@@ -35,7 +32,7 @@ pub fn policy_of(settings: &Settings) -> Policy
         timers: settings.delete_timers(),
         gauges: settings.delete_gauges(),
         sets: settings.delete_sets(),
-        max_ttl: MAX_TTL,
+        max_ttl: settings.gauges_max_ttl(),
     }
 }
 

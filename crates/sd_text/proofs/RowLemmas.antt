@@ -1,9 +1,10 @@
 -- How the texts of rows and lines stand together.
-use Rattle.std.proofs.Common.{◌≡◌, ℕ, ◌+◌, ◌<◌, length, get_or, option_map, List, [], ◌∷◌, ◌++◌, map, flat_map, take, drop, refl, sym, ap, ◌∙◌, append-nil, slice_get, Some}
+use Rattle.std.proofs.Common.{◌≡◌, ℕ, ◌+◌, ◌<◌, Bool, true, false, cond, length, get_or, option_map, List, [], ◌∷◌, ◌++◌, map, flat_map, take, drop, refl, sym, ap, ◌∙◌, append-nil, slice_get, Some}
 use Rattle.std.proofs.lemmas.List.{take_more, take-append-drop}
 use Rattle.std.proofs.lemmas.List.Concat.{flat_map-append}
 use Rattle.std.proofs.lemmas.Option.{slice_get-map, slice_get_read, slice_get_within, get_or_from_slice_get}
 use Rattle.std.specs.List.{concat}
+use Rattle.std.specs.Prelude.{filter}
 use Rattle.sd_model_record.specs.Record.{Row}
 use Rattle.sd_text.specs.Rows.{rows_text}
 
@@ -11,6 +12,14 @@ use Rattle.sd_text.specs.Rows.{rows_text}
 pub concat-map : {A : Type 0} (f : A → List ℕ) (xs : List A) → concat (map f xs) ≡ flat_map f xs
 concat-map f [] = refl
 concat-map f (x ∷ xs) = ap (λ (text : List ℕ). f x ++ text) (concat-map f xs)
+
+-- the texts of the things that pass a test, where the others have none
+pub concat-sent : {A : Type 0} (p : A → Bool) (f : A → List ℕ) (xs : List A) → concat (map (λ x. cond (p x) (f x) []) xs) ≡ flat_map f (filter p xs)
+concat-sent p f [] = refl
+concat-sent p f (x ∷ xs) = by_test (p x) (concat-sent p f xs) where
+  by_test : (b : Bool) → concat (map (λ y. cond (p y) (f y) []) xs) ≡ flat_map f (filter p xs) → cond b (f x) [] ++ concat (map (λ y. cond (p y) (f y) []) xs) ≡ flat_map f (cond b (x ∷ filter p xs) (filter p xs))
+  by_test true rest = ap (λ (text : List ℕ). f x ++ text) rest
+  by_test false rest = rest
 
 -- the text of the thing at a place
 pub map-at : {A : Type 0} (f : A → List ℕ) (xs : List A) (i : ℕ) (x : A) → i < length xs → x ≡ get_or xs i x → slice_get (map f xs) i ≡ Some (f x)

@@ -4,13 +4,13 @@ use Rattle.sd_console.proofs.TextLemmas.{counter_texts, timer_count, gauge_texts
 use Rattle.sd_console.proofs.row.ConsoleRowsRowText.line_count.Goals as goal
 
 pub returns-in-Counter : goal.returns-in-Counter
-returns-in-Counter c = sym (ap length (counter_texts _ _ _ _ (ap row_view c.in-Counter.is)))
+returns-in-Counter c = sym (ap length (counter_texts c.args.self.now.calculated.now _ _ _ _ (ap row_view c.in-Counter.is)))
 
 pub returns-in-Timer : goal.returns-in-Timer
-returns-in-Timer c = c.figures.ensures ∙ sym (timer_count _ _ _ (ap row_view c.in-Timer.is))
+returns-in-Timer c = c.figures.ensures ∙ sym (timer_count c.args.self.now.calculated.now _ _ _ (ap row_view c.in-Timer.is))
 
 pub returns-in-Gauge : goal.returns-in-Gauge
-returns-in-Gauge c = sym (ap length (gauge_texts _ _ _ (ap row_view c.in-Gauge.is)))
+returns-in-Gauge c = sym (ap length (gauge_texts c.args.self.now.calculated.now _ _ _ (ap row_view c.in-Gauge.is)))
 
 pub returns-in-Set : goal.returns-in-Set
-returns-in-Set c = sym (ap length (set_texts _ _ _ (ap row_view c.in-Set.is)))
+returns-in-Set c = sym (ap length (set_texts c.args.self.now.calculated.now _ _ _ (ap row_view c.in-Set.is)))
