@@ -4,6 +4,7 @@ ghost use Rattle.sd_outside.specs.MemDoor.{seen_of as door_seen};
 ghost use Rattle.sd_cases_runs.specs.Ready.{IsReady};
 
 use crate::calls::{Failing, fail};
+use crate::most::Most;
 use crate::traffic::Traffic;
 use sd_case::{Refusal, bytes_of, number};
 use sd_drill::{Drill, MOST_PACKETS};
@@ -13,6 +14,7 @@ use sd_outside::{
 };
 use sd_top::World;
 use std::alloc::Global;
+use std::num::NonZeroUsize;
 use std::str;
 
 /// The objects of a run, in memory.
@@ -44,6 +46,7 @@ pub(crate) struct Case {
     console_lists: usize,
     wire_bytes: usize,
     wire_packets: usize,
+    pub most: Most,
     traffic: Traffic,
     failing: Vec<Failing>,
 }
@@ -67,6 +70,7 @@ impl Case {
             console_lists: 4,
             wire_bytes: 64,
             wire_packets: 4,
+            most: Most::all(NonZeroUsize::MAX),
             traffic: Traffic::none(alloc),
             failing: Vec::new(alloc),
         };
@@ -84,7 +88,8 @@ impl Case {
     }
 
     /// Takes a part: `settings=TEXT`, `script=TEXT`, `made=PACKETS` for the made script, `output=BYTES`,
-    /// `graphite=BYTES/LISTS`, `console=BYTES/LISTS`, `wires=BYTES/PACKETS`, `fail=CALL:NUMBER`, or what a server is given.
+    /// `graphite=BYTES/LISTS`, `console=BYTES/LISTS`, `wires=BYTES/PACKETS`, `most=BYTES` or `most=BYTES/OBJECT` for what reads and
+    /// writes take, `fail=CALL:NUMBER`, or what a server is given.
     fn set(&mut self, alloc: Global, part: &str) -> Result<(), Refusal> {
         match part.split_once('=') {
             Some(("settings", text)) => self.settings = bytes_of(alloc, text)?,
@@ -98,6 +103,7 @@ impl Case {
                 (self.console_bytes, self.console_lists) = room_of(room)?;
             }
             Some(("wires", room)) => (self.wire_bytes, self.wire_packets) = room_of(room)?,
+            Some(("most", text)) => self.most.set(text)?,
             Some(("fail", failing)) => self.failing.push(Failing::of(failing)?)?,
             Some((name, value)) => self.traffic.set(alloc, name, value)?,
             None => return Err(Refusal::Malformed),
@@ -132,11 +138,16 @@ impl Case {
             },
             packets: self.traffic.sources(alloc)?,
             wires: self.wires(alloc)?,
-            door: self.traffic.door(alloc)?,
+            door: self.traffic.door(alloc, self.most.sessions)?,
             beat: self.traffic.beat()?,
             gate: NoGate,
             clock: self.traffic.clock(),
         };
+        world.settings.most = self.most.settings.get();
+        world.script.most = self.most.script.get();
+        world.output.most = self.most.output.get();
+        world.backs.graphite.most = self.most.graphite.get();
+        world.backs.console.most = self.most.console.get();
         for failing in &self.failing {
             fail(&mut world, *failing)?;
         }

@@ -4,6 +4,7 @@
 
 mod calls;
 mod case;
+mod most;
 mod report;
 mod run;
 mod status;

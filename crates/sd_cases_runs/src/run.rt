@@ -1,8 +1,7 @@
-ghost use Rattle.std.specs.Prelude.{◌<◌};
-
 use crate::case::Case;
+use crate::most::{Most, bytes_of_word};
 use crate::report::report;
-use sd_case::{Answer, Refusal, bytes_of, number};
+use sd_case::{Answer, Refusal, bytes_of};
 use sd_outside::MemBackend;
 use sd_top::statsd;
 use std::alloc::Global;
@@ -82,9 +81,9 @@ pub(crate) fn by_both<R: Threads + Wait + Sync>(
 ) -> Result<(), Refusal> {
     let mut case = Case::of(alloc, parts)?;
     case.settings = bytes_of(alloc, first)?;
-    let first = report_by(rt, alloc, &case, usize::MAX, out)?;
+    let first = report_by(rt, alloc, &case, out)?;
     case.settings = bytes_of(alloc, second)?;
-    let second = report_by(rt, alloc, &case, usize::MAX, out)?;
+    let second = report_by(rt, alloc, &case, out)?;
     show_alike(&first, &second, out);
     Ok(())
 }
@@ -98,13 +97,10 @@ pub(crate) fn by_slow<R: Threads + Wait + Sync>(
     parts: &[&str],
     out: &mut Answer,
 ) -> Result<(), Refusal> {
-    let most = number::<usize>(most)?;
-    if most == 0 {
-        return Err(Refusal::Condition);
-    }
-    let case = Case::of(alloc, parts)?;
-    let whole = report_by(rt, alloc, &case, usize::MAX, out)?;
-    let slow = report_by(rt, alloc, &case, most, out)?;
+    let mut case = Case::of(alloc, parts)?;
+    let whole = report_by(rt, alloc, &case, out)?;
+    case.most = Most::all(bytes_of_word(most)?);
+    let slow = report_by(rt, alloc, &case, out)?;
     show_alike(&whole, &slow, out);
     Ok(())
 }
@@ -118,22 +114,14 @@ fn show_alike(first: &String, second: &String, out: &mut Answer) {
     });
 }
 
-/// What comes of the run whose reads and writes take at most so many bytes. The number of Graphite's bytes is appended.
+/// What comes of the run. The number of Graphite's bytes is appended.
 fn report_by<R: Threads + Wait + Sync>(
     rt: &R,
     alloc: Global,
     case: &Case,
-    most: usize,
     out: &mut Answer,
-) -> Result<String, Refusal>
-    requires { 0 < most }
-{
+) -> Result<String, Refusal> {
     let mut world = case.world(alloc)?;
-    world.settings.most = most;
-    world.script.most = most;
-    world.output.most = most;
-    world.backs.graphite.most = most;
-    world.backs.console.most = most;
     let status = statsd(rt, alloc, &case.words, &mut world);
     out.count("\n  graphite ", bytes_in(&world.backs.graphite));
     let mut text = Answer::new(alloc);

@@ -8,6 +8,7 @@ ghost use Rattle.sd_outside.specs.MemSessions.{HasNoFaults};
 use sd_case::{Refusal, bytes_of, number};
 use sd_outside::{MemBeat, MemClock, MemDatagrams, MemDoor, MemSink, MemSource};
 use std::alloc::Global;
+use std::num::NonZeroUsize;
 
 /// How many sources a run has.
 const SOURCES: usize = 16;
@@ -150,24 +151,32 @@ impl Traffic {
         Ok(reads)
     }
 
-    /// The two ends of the session of a number.
-    fn ends(&self, alloc: Global, session: usize) -> Result<(MemSource, MemSink), Refusal>
+    /// The two ends of the session of a number, whose reads and writes take so many bytes at most.
+    fn ends(
+        &self,
+        alloc: Global,
+        session: usize,
+        most: NonZeroUsize,
+    ) -> Result<(MemSource, MemSink), Refusal>
         ensures { IfOk result HasNoFaults }
     {
         let asked = self.sessions.get(session).ok_or(Refusal::Malformed)?;
         let mut source = MemSource::of(asked.clone()?);
         source.fail_call = self.unread_of(alloc, session)?;
-        Ok((source, MemSink::open(alloc, ROOM)?))
+        source.most = most.get();
+        let mut replies = MemSink::open(alloc, ROOM)?;
+        replies.most = most.get();
+        Ok((source, replies))
     }
 
-    /// The door of the run.
-    pub(crate) fn door(&self, alloc: Global) -> Result<MemDoor, Refusal>
+    /// The door of the run, the reads and writes of whose sessions take so many bytes at most.
+    pub(crate) fn door(&self, alloc: Global, most: NonZeroUsize) -> Result<MemDoor, Refusal>
         ensures none_out { IfOk result (λ door. (door_seen door).is_out ≡ false) }
         ensures turns { IfOk result (λ door. (door_seen door).turns ≡ 0) }
     {
         let mut given = Vec::new(alloc);
         for session in 0..self.sessions.len() {
-            given.push(self.ends(alloc, session)?)?;
+            given.push(self.ends(alloc, session, most)?)?;
         }
         Ok(MemDoor::open(given)?)
     }
