@@ -22,7 +22,7 @@ use Rattle.sd_model_shard.specs.History.{Asked, answered, after_all}
 use Rattle.sd_model_record.specs.Admin as admin
 use Rattle.sd_model_record.specs.Admin.{AdminFault, TooLong, words, command_named, command_of_words, longest_line}
 use Rattle.sd_model_record.specs.Replies.{Reply, Rows, Gone, Finish, reply_text}
-use Rattle.sd_model_replay.specs.Settings.{Settings}
+use Rattle.sd_model_replay.specs.Settings.{limits_of, policy_of}
 use Rattle.sd_model_replay.specs.Script.{Admin}
 use Rattle.sd_model_record.specs.Callers.{administrator}
 use Rattle.sd_model_record.specs.Replying.{admin_events, keys_told, names_replied, rows_told}
@@ -30,6 +30,7 @@ use Rattle.sd_model_replay.specs.Replay.{Run, acts_in}
 use Rattle.sd_model_replay.specs.Output.{replies_to_line}
 use Rattle.sd_shards.specs.Shards.{Group, AreAlike, state_at}
 use Rattle.sd_command.specs.Commanded.{IsWritten, deleted, replied, gone, shown, commanded}
+use Rattle.sd_model_settings.specs.Settings.{Settings}
 
 -- what is there for each number
 all_there : (answer : ℕ → shard.Reply) (numbers : List ℕ) → filter_map (λ i. Some (answer i)) numbers ≡ map answer numbers
@@ -96,33 +97,33 @@ commanded-at (Err fault) states others i same = same
 
 -- What a line does to the shards of a replay, by its command or its fault.
 pub line_carried : (settings : Settings) (run : Run) (moment : ℕ) (line : List ℕ) (i : ℕ)
-    → after_all settings.limits settings.policy (run.shards i) (acts_in settings run i (Admin moment line)) ≡ commanded (admin.command line) run.shards i
+    → after_all (limits_of settings) (policy_of settings) (run.shards i) (acts_in settings run i (Admin moment line)) ≡ commanded (admin.command line) run.shards i
 line_carried settings run moment line i = by_answer (admin.command line) where
   by_answer : (answer : Result admin.Command AdminFault)
-      → after_all settings.limits settings.policy (run.shards i) (answered settings.limits settings.policy (run.shards i) (as_asked (admin_events answer))) ≡ commanded answer run.shards i
+      → after_all (limits_of settings) (policy_of settings) (run.shards i) (answered (limits_of settings) (policy_of settings) (run.shards i) (as_asked (admin_events answer))) ≡ commanded answer run.shards i
   by_answer (Ok admin.Stats) = refl
   by_answer (Ok admin.Config) = refl
   by_answer (Ok admin.Quit) = refl
   by_answer (Ok (admin.Show kind)) = refl
-  by_answer (Ok (admin.Delete kind names)) = deleted_is settings.limits settings.policy kind run.shards names i
+  by_answer (Ok (admin.Delete kind names)) = deleted_is (limits_of settings) (policy_of settings) kind run.shards names i
   by_answer (Ok (admin.Health word)) = refl
   by_answer (Err fault) = refl
 
 -- what is replied to a deletion, and to a dump
 module _ (settings : Settings) (run : Run) (moment : ℕ) (line : List ℕ) where
   pub deletion_replied : (kind : Kind) (names : List (List ℕ)) → admin.command line ≡ Ok (admin.Delete kind names)
-      → replies_to_line settings run (Admin moment line) moment (admin.command line) ≡ replied settings.shards kind run.shards names ++ Finish ∷ []
+      → replies_to_line settings run (Admin moment line) moment (admin.command line) ≡ replied settings.sizes.shards kind run.shards names ++ Finish ∷ []
   deletion_replied kind names is =
       ap (replies_to_line settings run (Admin moment line) moment) is
-      ∙ ap (λ (answer : Result admin.Command AdminFault). names_replied (λ n. filter_map (λ i. slice_get (map (λ a. a.reply) (answered settings.limits settings.policy (run.shards i) (as_asked (admin_events answer)))) n) (range_with_len 0 settings.shards)) names ++ Finish ∷ []) is
-      ∙ ap (λ (replies : List Reply). replies ++ Finish ∷ []) (replied_is settings.shards settings.limits settings.policy kind run.shards names)
+      ∙ ap (λ (answer : Result admin.Command AdminFault). names_replied (λ n. filter_map (λ i. slice_get (map (λ a. a.reply) (answered (limits_of settings) (policy_of settings) (run.shards i) (as_asked (admin_events answer)))) n) (range_with_len 0 settings.sizes.shards)) names ++ Finish ∷ []) is
+      ∙ ap (λ (replies : List Reply). replies ++ Finish ∷ []) (replied_is settings.sizes.shards (limits_of settings) (policy_of settings) kind run.shards names)
 
   pub dump_replied : (kind : Kind) → admin.command line ≡ Ok (admin.Show kind)
-      → replies_to_line settings run (Admin moment line) moment (admin.command line) ≡ shown settings.shards kind run.shards ∷ []
+      → replies_to_line settings run (Admin moment line) moment (admin.command line) ≡ shown settings.sizes.shards kind run.shards ∷ []
   dump_replied kind is =
       ap (replies_to_line settings run (Admin moment line) moment) is
-      ∙ ap (λ (answer : Result admin.Command AdminFault). Rows kind (rows_told (filter_map (λ i. slice_get (map (λ a. a.reply) (answered settings.limits settings.policy (run.shards i) (as_asked (admin_events answer)))) 0) (range_with_len 0 settings.shards))) ∷ []) is
-      ∙ ap (λ (told : List shard.Reply). Rows kind (rows_told told) ∷ []) (all_there (λ i. shard.Dumped (dump_of kind (run.shards i).live (run.shards i).held)) (range_with_len 0 settings.shards))
+      ∙ ap (λ (answer : Result admin.Command AdminFault). Rows kind (rows_told (filter_map (λ i. slice_get (map (λ a. a.reply) (answered (limits_of settings) (policy_of settings) (run.shards i) (as_asked (admin_events answer)))) 0) (range_with_len 0 settings.sizes.shards))) ∷ []) is
+      ∙ ap (λ (told : List shard.Reply). Rows kind (rows_told told) ∷ []) (all_there (λ i. shard.Dumped (dump_of kind (run.shards i).live (run.shards i).held)) (range_with_len 0 settings.sizes.shards))
 
 -- what was written whole, and then this
 pub written-more : {E : Type 0} (text more : List ℕ) (result : Result ⊤ E) (old mid new : Object) → mid ≡ given text old → IsWritten more result mid new → IsWritten (text ++ more) result old new

@@ -3,7 +3,6 @@ ghost use Rattle.sd_model_text.specs.Names.{Set};
 ghost use Rattle.sd_model_outside.specs.Outside.{Object};
 ghost use Rattle.sd_model_record.specs.Admin.{command, names_of};
 ghost use Rattle.sd_model_record.specs.Replies.{Finish, IsInOrder, reply_text};
-ghost use Rattle.sd_model_replay.specs.Settings.{goes_by};
 ghost use Rattle.sd_model_replay.specs.Script.{Admin};
 ghost use Rattle.sd_model_record.specs.Replying.{health_after};
 ghost use Rattle.sd_model_replay.specs.Replay.{desk_after_line};
@@ -118,7 +117,7 @@ pub fn carry_out<O: Sink>(
     line: &[u8],
     output: &mut O,
 ) -> Result<(), WriteFault>
-    requires count { length shards.old.states ≡ (goes_by settings.now).shards }
+    requires count { length shards.old.states ≡ (settings.now).sizes.shards }
     requires keys { length shards.old.states * shards.old.limits.rows ≤ keys.old.room }
     requires dump { length shards.old.states * shards.old.limits.rows ≤ dump.old.room }
     ensures states { (i : ℕ) → state_at shards.new i ≡ commanded (command line.now) (state_at shards.old) i }
@@ -126,7 +125,7 @@ pub fn carry_out<O: Sink>(
     ensures desk { desk.new ≡ desk_after_line desk.old (command line.now) }
     ensures keys { keys.new.room ≡ keys.old.room }
     ensures dump { dump.new.room ≡ dump.old.room }
-    ensures written { IsWritten (output_in (goes_by settings.now) (run_with (state_at shards.old) desk.old) (Admin now line.now))
+    ensures written { IsWritten (output_in settings.now (run_with (state_at shards.old) desk.old) (Admin now line.now))
         result (O.seen output.old) (O.seen output.new) }
 {
     let command = match Command::read(line) {

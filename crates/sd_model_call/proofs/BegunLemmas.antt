@@ -1,22 +1,40 @@
 -- What is told of settings that were read, what their reading and the opening of parts keep, and what is told of an opening that
 -- failed.
-use Rattle.std.proofs.Common.{◌≡◌, ◌⊎◌, ℕ, ◌+◌, List, [], ◌∷◌, map, get_or, refl, sym, ap, subst, ◌∙◌, Ok, Err, inl, inr}
+use Rattle.std.proofs.Common.{◌≡◌, ◌⊎◌, ℕ, ◌+◌, ◌<◌, List, [], ◌∷◌, ◌++◌, length, map, get_or, refl, sym, ap, subst, ◌∙◌, Ok, Err, inl, inr, nat_lt, codes, arith, length-append, append-nil}
+use Rattle.std.specs.Prelude.{IfSome}
 use Rattle.std.specs.List.{AllByRecursion}
+use Rattle.std.proofs.lemmas.Bool.{cond-true}
+use Rattle.std.proofs.lemmas.Bool.Decides.{nat_tests}
 use Rattle.std.proofs.Math.ListN.{get_or-map}
 use Rattle.std.proofs.Math.Seq.{map-set_same}
-use Rattle.sd_model_outside.specs.Outside.{File, HasRead, Left, Object, Place, Rose, Told, Untold, fresh, opened, put_back, telling}
-use Rattle.sd_model_settings.specs.Settings as file
-use Rattle.sd_model_settings.specs.Settings.{SettingsFlaw, settings}
-use Rattle.sd_model_call.specs.Opening.{World, Opening, Part, OfSettings, OfScript, OfSource, OfBeat, OfWire, OfGraphite, OfConsole, OfDoor, IsAccepted, part_in}
-use Rattle.sd_model_call.specs.Call.{Answer, Done, NoMemory, NoForm, Misset, BadScript, NotOpened, NotRead, NotWritten, Worn, HasFlaw}
-use Rattle.sd_model_call.specs.Server.{cut_answer}
-use Rattle.sd_model_call.specs.ServerOpening.{IsNotOpenedAt, numbered, opened_all, opened_part, settled, with_part}
+use Rattle.sd_model_outside.specs.Outside.{File, HasRead, IsAtEnd, Left, Object, Place, Rose, Told, Untold, fresh, left_in, opened, put_back, telling}
+use Rattle.sd_model_settings.specs.Settings.{Settings, OutOfRange, SettingsFlaw, settings}
+use Rattle.sd_model_call.specs.Opening.{World, Opening, Part, OfSettings, OfScript, OfSource, OfBeat, OfWire, OfGraphite, OfConsole, OfDoor, AreRead, IsAccepted, IsFlawed, IsNotOpenedAt, longest_file, numbered, opened_all, opened_part, part_in, settled, with_part}
+use Rattle.sd_model_call.specs.Call.{Answer, Done, NoMemory, NoForm, Misset, BadScript, NotOpened, NotRead, NotWritten, Worn, IsNotTaken, NotBegun, NotTaken, StopsAmong, cut_answer}
 use Rattle.sd_model_call.specs.ServerCompleteness.{HasFaultOf}
-use Rattle.sd_model_call.proofs.CallEnds.{settled as says_so}
 use Rattle.sd_model_call.proofs.Openings.{all_behind}
+use Rattle.sd_model_call.proofs.ReplayEnds.{LeftBehind, left_behind}
 
--- a number of each object that is the same in two worlds
-pub record Same (f : Object → ℕ) (a b : World) : Type 0 where
+-- a file that is too long has that flaw
+too_long : (bytes : List ℕ) → longest_file < length bytes → settings bytes ≡ Err (OutOfRange (codes "file"))
+unfolding settings
+too_long bytes long = cond-true (nat_lt 65536 (length bytes)) _ _ (grind (arith, nat_tests))
+
+-- what was read of settings that tell their bytes says what these say
+says_so : (place : Place) (bytes read : List ℕ) (old new : Object) → old.told ≡ Left bytes → AreRead place read old new → settings read ≡ settings bytes
+says_so place bytes read old new told h = by_decided h.decided where
+  rest : LeftBehind read bytes new.told
+  rest = left_behind read bytes new.told (sym told ∙ ap (λ (o : Object). o.told) h.read)
+
+  at_end : IsAtEnd new.told → rest.bytes ≡ []
+  at_end ended = subst (λ (t : Told). IfSome (left_in t) (λ bs. bs ≡ [])) rest.is ended
+
+  by_decided : IsAtEnd new.told ⊎ (longest_file < length read) → settings read ≡ settings bytes
+  by_decided (inl ended) = ap settings (sym (rest.stands ∙ ap (λ more. read ++ more) (at_end ended) ∙ append-nil read))
+  by_decided (inr long) = too_long read long ∙ sym (too_long bytes (omega (arith, long, ap length rest.stands, length-append read rest.bytes)))
+
+-- what is seen of each object that is the same in two worlds, and all that is seen of the output
+pub record Same {X : Type 0} (f : Object → X) (a b : World) : Type 0 where
   pub settings : f a.settings ≡ f b.settings
   pub script : f a.seen.script ≡ f b.seen.script
   pub sources : map f a.served.sources ≡ map f b.served.sources
@@ -25,8 +43,9 @@ pub record Same (f : Object → ℕ) (a b : World) : Type 0 where
   pub graphite : f a.seen.graphite ≡ f b.seen.graphite
   pub console : f a.seen.console ≡ f b.seen.console
   pub door : f a.served.door ≡ f b.served.door
+  pub output : a.seen.output ≡ b.seen.output
 
-module _ (f : Object → ℕ) where
+module _ {X : Type 0} (f : Object → X) where
   pub at_same : (i : ℕ) (xs ys : List Object) → map f xs ≡ map f ys → f (get_or xs i (fresh Untold)) ≡ f (get_or ys i (fresh Untold))
   at_same i xs ys same =
       sym (get_or-map f xs i (fresh Untold)) ∙ ap (λ ns. get_or ns i (f (fresh Untold))) same ∙ get_or-map f ys i (fresh Untold)
@@ -51,21 +70,22 @@ module _ (f : Object → ℕ) where
     graphite = g.graphite ∙ h.graphite;
     console = g.console ∙ h.console;
     door = g.door ∙ h.door;
+    output = g.output ∙ h.output;
   }
 
   same_self : (a : World) → Same f a a
-  same_self a = record { settings = refl; script = refl; sources = refl; beat = refl; wires = refl; graphite = refl; console = refl; door = refl }
+  same_self a = record { settings = refl; script = refl; sources = refl; beat = refl; wires = refl; graphite = refl; console = refl; door = refl; output = refl }
 
   module _ (keeps : (place : Place) (o : Object) → f (opened place o) ≡ f o) where
     same_opened : (w : World) (place : Place) (part : Part) → Same f (with_part part (opened place (part_in w part)) w) w
-    same_opened w place OfSettings = record { settings = keeps place w.settings; script = refl; sources = refl; beat = refl; wires = refl; graphite = refl; console = refl; door = refl }
-    same_opened w place OfScript = record { settings = refl; script = keeps place w.seen.script; sources = refl; beat = refl; wires = refl; graphite = refl; console = refl; door = refl }
-    same_opened w place (OfSource i) = record { settings = refl; script = refl; sources = map-set_same f w.served.sources i _ (fresh Untold) (keeps place _); beat = refl; wires = refl; graphite = refl; console = refl; door = refl }
-    same_opened w place OfBeat = record { settings = refl; script = refl; sources = refl; beat = keeps place w.served.beat; wires = refl; graphite = refl; console = refl; door = refl }
-    same_opened w place (OfWire i) = record { settings = refl; script = refl; sources = refl; beat = refl; wires = map-set_same f w.seen.wires i _ (fresh Untold) (keeps place _); graphite = refl; console = refl; door = refl }
-    same_opened w place OfGraphite = record { settings = refl; script = refl; sources = refl; beat = refl; wires = refl; graphite = keeps place w.seen.graphite; console = refl; door = refl }
-    same_opened w place OfConsole = record { settings = refl; script = refl; sources = refl; beat = refl; wires = refl; graphite = refl; console = keeps place w.seen.console; door = refl }
-    same_opened w place OfDoor = record { settings = refl; script = refl; sources = refl; beat = refl; wires = refl; graphite = refl; console = refl; door = keeps place w.served.door }
+    same_opened w place OfSettings = record { settings = keeps place w.settings; script = refl; sources = refl; beat = refl; wires = refl; graphite = refl; console = refl; door = refl; output = refl }
+    same_opened w place OfScript = record { settings = refl; script = keeps place w.seen.script; sources = refl; beat = refl; wires = refl; graphite = refl; console = refl; door = refl; output = refl }
+    same_opened w place (OfSource i) = record { settings = refl; script = refl; sources = map-set_same f w.served.sources i _ (fresh Untold) (keeps place _); beat = refl; wires = refl; graphite = refl; console = refl; door = refl; output = refl }
+    same_opened w place OfBeat = record { settings = refl; script = refl; sources = refl; beat = keeps place w.served.beat; wires = refl; graphite = refl; console = refl; door = refl; output = refl }
+    same_opened w place (OfWire i) = record { settings = refl; script = refl; sources = refl; beat = refl; wires = map-set_same f w.seen.wires i _ (fresh Untold) (keeps place _); graphite = refl; console = refl; door = refl; output = refl }
+    same_opened w place OfGraphite = record { settings = refl; script = refl; sources = refl; beat = refl; wires = refl; graphite = keeps place w.seen.graphite; console = refl; door = refl; output = refl }
+    same_opened w place OfConsole = record { settings = refl; script = refl; sources = refl; beat = refl; wires = refl; graphite = refl; console = keeps place w.seen.console; door = refl; output = refl }
+    same_opened w place OfDoor = record { settings = refl; script = refl; sources = refl; beat = refl; wires = refl; graphite = refl; console = refl; door = keeps place w.served.door; output = refl }
 
     pub same_all : (os : List Opening) (w : World) → Same f (opened_all w os) w
     same_all [] w = same_self w
@@ -84,11 +104,11 @@ all_numbered P part are i [] = tt
 all_numbered P part are i (p ∷ places) = (are i, all_numbered P part are (i + 1) places)
 
 -- reading settings keeps a count that opening keeps, and that what is told doesn't touch
-module _ (f : Object → ℕ) (opens : (place : Place) (o : Object) → f (opened place o) ≡ f o) (tells : (told : Told) (o : Object) → f (telling told o) ≡ f o) where
+module _ {X : Type 0} (f : Object → X) (opens : (place : Place) (o : Object) → f (opened place o) ≡ f o) (tells : (told : Told) (o : Object) → f (telling told o) ≡ f o) where
   read_same : (bytes : List ℕ) (place : Place) (o n : Object) → HasRead bytes (opened place o) n → f n ≡ f o
   read_same bytes place o n read = sym (tells (put_back bytes n.told) n) ∙ sym (ap f read) ∙ opens place o
 
-  pub same_settled : (values : file.Settings) (settings : Object) (name : List ℕ) (w : World) → IsAccepted values (File name) w.settings settings → Same f (settled values settings w) w
+  pub same_settled : (values : Settings) (settings : Object) (name : List ℕ) (w : World) → IsAccepted values (File name) w.settings settings → Same f (settled values settings w) w
   same_settled values settings name w taken = record {
     settings = read_same taken.bytes (File name) w.settings settings taken.read.read;
     script = refl;
@@ -98,9 +118,10 @@ module _ (f : Object → ℕ) (opens : (place : Place) (o : Object) → f (opene
     graphite = refl;
     console = refl;
     door = refl;
+    output = refl;
   }
 
-module _ (name : List ℕ) (old new : World) (values : file.Settings) (settings : Object) (taken : IsAccepted values (File name) old.settings settings) where
+module _ (name : List ℕ) (old new : World) (values : Settings) (settings : Object) (taken : IsAccepted values (File name) old.settings settings) where
   -- the count of faults of a part is that before settings were read
   settled_part : (part : Part) (os : List Opening) → (part_in (opened_all (settled values settings old) os) part).faults ≡ (part_in old part).faults
   settled_part part os =
@@ -108,19 +129,39 @@ module _ (name : List ℕ) (old new : World) (values : file.Settings) (settings 
       (same_next (λ o. o.faults) _ _ old (same_all (λ o. o.faults) (λ place o. refl) os (settled values settings old)) (same_settled (λ o. o.faults) (λ place o. refl) (λ told o. refl) values settings name old taken)) part
 
   -- a part whose opening failed is of the kind of all, and a fault of it was counted
-  pub not_opened : (P : Part → Type 0) (parts : List Opening) → AllByRecursion (λ o. P o.part) parts → (part : Part) → IsNotOpenedAt parts part (settled values settings old) new → P part × HasFaultOf part old new
+  not_opened : (P : Part → Type 0) (parts : List Opening) → AllByRecursion (λ o. P o.part) parts → (part : Part) → IsNotOpenedAt parts part (settled values settings old) new → P part × HasFaultOf part old new
   not_opened P parts all part not = (
     (all_behind (λ o. P o.part) not.before (record { part = part; place = not.place } ∷ not.behind) (subst (AllByRecursion (λ o. P o.part)) not.order all)).0,
     subst (λ (n : ℕ). Rose n (part_in new part).faults) (settled_part part not.before) not.failed.rose,
   )
 
 -- what was read of settings that tell these bytes is what these say
-module _ (name : List ℕ) (bytes : List ℕ) where
-  pub has_flaw : (old new : World) → old.settings.told ≡ Left bytes → (flaw : SettingsFlaw) → HasFlaw flaw name old new → settings bytes ≡ Err flaw
-  has_flaw old new told flaw has = sym (says_so (File name) bytes has.file.bytes old.settings new.settings told has.file.read) ∙ has.file.refused
+module _ (name : List ℕ) (bytes : List ℕ) (old : World) (told : old.settings.told ≡ Left bytes) where
+  pub has_flaw : (flaw : SettingsFlaw) (now : Object) → IsFlawed flaw (File name) old.settings now → settings bytes ≡ Err flaw
+  has_flaw flaw now has = sym (says_so (File name) bytes has.bytes old.settings now told has.read) ∙ has.refused
 
-  pub accepted_so : (old : World) → old.settings.told ≡ Left bytes → (values : file.Settings) (now : Object) → IsAccepted values (File name) old.settings now → settings bytes ≡ Ok values
-  accepted_so old told values now taken = sym (says_so (File name) bytes taken.bytes old.settings now told taken.read) ∙ taken.accepted
+  pub accepted_so : (values : Settings) (now : Object) → IsAccepted values (File name) old.settings now → settings bytes ≡ Ok values
+  accepted_so values now taken = sym (says_so (File name) bytes taken.bytes old.settings now told taken.read) ∙ taken.accepted
+
+-- What holds of an answer where a call didn't begin what it was asked for, by its cause.
+module _ (name : List ℕ) (old new : World) (Says : Answer → Type 0) (lacks : Says NoMemory) where
+  pub not_taken : (answer : Answer) → NotTaken name answer old new → (Rose old.settings.faults new.settings.faults → Says (NotOpened OfSettings)) → (Rose old.settings.faults new.settings.faults → Says (NotRead OfSettings))
+      → ((flaw : SettingsFlaw) → IsFlawed flaw (File name) old.settings new.settings → Says (Misset flaw)) → Says answer
+  not_taken answer h closed failed flawed = by_why h.why where
+    by_why : IsNotTaken answer (File name) old.settings new.settings → Says answer
+    by_why (inl (is, left)) = subst Says (sym is) lacks
+    by_why (inr (inl (is, fails))) = subst Says (sym is) (closed fails.rose)
+    by_why (inr (inr (inl (is, fails)))) =
+        let before = ap (λ (o : Object). o.faults) fails.read in
+        subst Says (sym is) (failed (subst (λ (n : ℕ). Rose n new.settings.faults) (sym before) fails.failed.rose))
+    by_why (inr (inr (inr (flaw, is, has)))) = subst Says (sym is) (flawed flaw has)
+
+  pub not_begun : (parts : Settings → List Opening) (IsOpened : Part → Type 0) (answer : Answer) (h : NotBegun parts name answer old new) → AllByRecursion (λ o. IsOpened o.part) (parts h.values)
+      → ((part : Part) → IsOpened part × HasFaultOf part old new → Says (NotOpened part)) → Says answer
+  not_begun parts IsOpened answer h all closed = by_stop h.stops where
+    by_stop : StopsAmong (parts h.values) answer (settled h.values h.settings old) new → Says answer
+    by_stop (inl (is, some)) = subst Says (sym is) lacks
+    by_stop (inr (part, is, not)) = subst Says (sym is) (closed part (not_opened name old new h.values h.settings h.taken IsOpened (parts h.values) all part not))
 
 -- a run whose totals couldn't be written is answered as it would be, or by that
 pub uncut : (whole answer : Answer) → answer ≡ cut_answer whole → (answer ≡ NotWritten) ⊎ (whole ≡ answer)

@@ -5,7 +5,7 @@ use Rattle.std.specs.List.{AllByRecursion, range_with_len}
 use Rattle.std.proofs.lemmas.List.Sums.{sum_by-cons}
 use Rattle.sd_model_outside.specs.Outside.{Number, Object, Rose, HasFailedBehind, appended, begun, ended, given, last_count}
 use Rattle.sd_model_outside.specs.Deliveries.{Mark, NotUsed, Written, Fault, Delivery, AfterMark, AfterDeliveries}
-use Rattle.sd_model_replay.specs.Settings.{Settings, is_used}
+use Rattle.sd_model_replay.specs.Settings.{is_used}
 use Rattle.sd_model_record.specs.Backends.{Backend, Graphite, Console}
 use Rattle.sd_model_replay.specs.Script.{Command, Packet, Flush, Admin, end_word}
 use Rattle.sd_model_replay.specs.MadeScript.{made_commands, made_moment, made_packet, flush_behind}
@@ -21,6 +21,7 @@ use Rattle.sd_model_call.specs.Completeness.{IsSteady, NoneMissed}
 use Rattle.sd_model_replay.proofs.MadeLemmas.{legal_commands}
 use Rattle.sd_model_outside.proofs.WriteLemmas.{behind-later}
 use Rattle.sd_model_call.proofs.ReplayEnds.{IsSilent, all_carried_out, commands_of, deliveries_from, ends_whole, no_reply, played_well, silent_in}
+use Rattle.sd_model_settings.specs.Settings.{Settings}
 
 -- the flush behind a packet, before others: one record more at most, to which nothing is replied
 flush_by_length : (b : Bool) (ts n : ℕ) (behind : List Command) → length behind ≤ n → length ((if b then Flush ts ∷ [] else []) ++ behind) ≤ n + 1
@@ -87,7 +88,7 @@ count_all (d ∷ ds) k old new fits all told (mid, one, others) =
     ∙ ap Number (min_min k (length d.text) (sum_by length_of ds) ∙ ap (λ n. min (k + n) last_count) (sym (sum_by-cons length_of d ds)))
 
 -- flushes of records that are carried out well are written where Graphite is used
-module _ (s : Settings) (used : s.uses_graphite ≡ true) where
+module _ (s : Settings) (used : is_used s Graphite ≡ true) where
   all_written : (run : Run) (cs : List Command) → AllByRecursion IsWritten (deliveries_from s run Graphite (map (well s) cs))
   all_written run [] = tt
   all_written run (Packet who moment datagram ∷ cs) = all_written (play s run (well s (Packet who moment datagram))) cs
@@ -105,7 +106,7 @@ pub record DrillEnd (n : ℕ) (end : End) (course : Course) (output : Object) (n
   pub ends : (end ≡ Complete (totals_after drill_settings (drilled n))) × (new.output ≡ given (drill_totals n) output)
       ⊎ (end ≡ WriteFailed) × HasFailedBehind (drill_totals n) output new.output
 
-uses_graphite : drill_settings.uses_graphite ≡ true
+uses_graphite : is_used drill_settings Graphite ≡ true
 unfolding drill_settings
 uses_graphite = refl
 

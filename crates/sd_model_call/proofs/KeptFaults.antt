@@ -1,23 +1,21 @@
 -- What a call keeps of each object: its count of faults doesn't fall.
-use Rattle.std.proofs.Common.{◌≡◌, ◌⊎◌, ℕ, ◌+◌, ◌≤◌, Bool, true, false, List, [], ◌∷◌, ◌++◌, length, refl, sym, ap, subst, arith, Option, Some, None, inl, inr}
-use Rattle.std.specs.List.{AllByRecursion}
-use Rattle.std.proofs.lemmas.Bool.{cases_lt}
+use Rattle.std.proofs.Common.{◌≡◌, ℕ, zero, suc, ◌≤◌, List, [], ◌∷◌, set, refl, sym, ap, subst, ◌∙◌, arith, Option, Some, None, inl, inr}
 use Rattle.sd_model_outside.specs.Outside.{Place, File, Object, Used, HasRead, opened}
-use Rattle.sd_model_settings.specs.Settings as file
-use Rattle.sd_model_replay.specs.Settings.{Settings, goes_by}
-use Rattle.sd_model_record.specs.Backends.{Backend, Graphite, Console}
+use Rattle.sd_model_record.specs.Backends.{Graphite, Console}
 use Rattle.sd_model_record.specs.Repeater.{wire_at}
 use Rattle.sd_model_replay.specs.Replay.{deliveries, sendings}
-use Rattle.sd_model_replay.specs.Totals.{totals_after}
-use Rattle.sd_model_replay.specs.AccountingTheorem.{Seen, Course, AccountingTheorem, seen_at}
+use Rattle.sd_model_replay.specs.AccountingTheorem.{Course, AccountingTheorem}
 use Rattle.sd_model_replay.specs.Ends.{End, Complete, Faulted, ReadFailed, WriteFailed, WornOut, OutputAfter}
+use Rattle.sd_model_call.specs.Drill.{drill_text}
 use Rattle.sd_model_call.specs.Words.{Form, Replay, Serve, Proxy, Drill, form}
-use Rattle.sd_model_call.specs.Opening.{World, Opening, Part, OfSettings, OfScript, OfSource, OfBeat, OfWire, OfGraphite, OfConsole, OfDoor, IsOpened, IsUntouched, OnlySettings, UnusedStay, backend_openings, openings, part_in, started, wire_openings}
-use Rattle.sd_model_call.specs.Call.{Account, Answer, Done, NoMemory, NoForm, Misset, BadScript, NotOpened, NotRead, NotWritten, Worn, Answers, AnswersDrill, AnswersReplay, Accounts, IsScripted, OnlyOutput, NotBegun, TakesSettings, StopsAt, Ran}
+use Rattle.sd_model_call.specs.Opening.{World, Opening, Part, OfSettings, OfScript, OfSource, OfBeat, OfWire, OfGraphite, OfConsole, OfDoor, IsAccepted, IsLeftOff, OnlySettings, opened_all, part_in, replay_openings, settled, with_part}
+use Rattle.sd_model_call.specs.Call.{Account, Answer, Done, Answers, AnswersReplay, Accounts, HasReplayed, IsNotTaken, IsScripted, NotBegun, NotTaken, OnlyOutput, StopsAmong, WritesTotals}
+use Rattle.sd_model_call.specs.Completeness.{start_of}
 use Rattle.sd_model_outside.proofs.DeliveryLemmas.{all_counts}
 use Rattle.sd_model_replay.proofs.SendingLemmas.{wire_counts}
-use Rattle.sd_model_call.proofs.Openings.{all_append, all_behind, opened_where_faults, opened_wire_faults, wire_beyond, wire_opening}
+use Rattle.sd_model_call.proofs.BegunLemmas.{Same, at_same, same_faults}
 use Rattle.sd_model_call.proofs.CallEnds.{replayed}
+use Rattle.sd_model_settings.specs.Settings.{Settings}
 
 pub record Kept (old new : World) : Type 0 where
   pub settings : old.settings.faults ≤ new.settings.faults
@@ -30,6 +28,9 @@ pub record Kept (old new : World) : Type 0 where
 used_same : (old new : Object) → new ≡ old → Used old new
 used_same old new same = let faults = ap (λ (o : Object). o.faults) same in record { faults = omega (arith, faults); opened_at = ap (λ (o : Object). o.opened_at) same }
 
+used_next : (a b c : Object) → Used a b → Used b c → Used a c
+used_next a b c one two = record { faults = omega (arith, one.faults, two.faults); opened_at = two.opened_at ∙ one.opened_at }
+
 -- the output is used, however a replay ends
 output_used : (settings : Settings) (end : End) (course : Course) (old new : Object) → OutputAfter settings end course old new → Used old new
 output_used settings (Complete totals) course old new h = let faults = ap (λ (o : Object). o.faults) h in record { faults = omega (arith, faults); opened_at = ap (λ (o : Object). o.opened_at) h }
@@ -41,164 +42,130 @@ output_used settings (WornOut turns) course old new h = let faults = ap (λ (o :
 read_faults : (bytes : List ℕ) (place : Place) (old new : Object) → HasRead bytes (opened place old) new → old.faults ≤ new.faults
 read_faults bytes place old new h = let faults = ap (λ (o : Object). o.faults) h in omega (arith, faults)
 
+-- a wire in the place of another whose count isn't higher
+set_rises : (wires : List Object) (i j : ℕ) (o : Object) → (wire_at i wires).faults ≤ o.faults → (wire_at j wires).faults ≤ (wire_at j (set wires i o)).faults
+set_rises [] i j o rises = omega arith
+set_rises (w ∷ wires) zero zero o rises = rises
+set_rises (w ∷ wires) zero (suc j) o rises = omega arith
+set_rises (w ∷ wires) (suc i) zero o rises = omega arith
+set_rises (w ∷ wires) (suc i) (suc j) o rises = set_rises wires i j o rises
+
+kept_next : (a b c : World) → Kept a b → Kept b c → Kept a c
+kept_next a b c one two = record {
+  settings = omega (arith, one.settings, two.settings);
+  script = omega (arith, one.script, two.script);
+  graphite = omega (arith, one.graphite, two.graphite);
+  console = omega (arith, one.console, two.console);
+  output = used_next a.seen.output b.seen.output c.seen.output one.output two.output;
+  wires = λ i. omega (arith, one.wires i, two.wires i);
+}
+
+-- of a world that differs in one part alone, whose count isn't lower
+kept_part : (part : Part) (o : Object) (w : World) → (part_in w part).faults ≤ o.faults → Kept w (with_part part o w)
+kept_part OfSettings o w rises = record { settings = rises; script = omega arith; graphite = omega arith; console = omega arith; output = used_same w.seen.output w.seen.output refl; wires = λ i. omega arith }
+kept_part OfScript o w rises = record { settings = omega arith; script = rises; graphite = omega arith; console = omega arith; output = used_same w.seen.output w.seen.output refl; wires = λ i. omega arith }
+kept_part (OfSource j) o w rises = record { settings = omega arith; script = omega arith; graphite = omega arith; console = omega arith; output = used_same w.seen.output w.seen.output refl; wires = λ i. omega arith }
+kept_part OfBeat o w rises = record { settings = omega arith; script = omega arith; graphite = omega arith; console = omega arith; output = used_same w.seen.output w.seen.output refl; wires = λ i. omega arith }
+kept_part (OfWire j) o w rises =
+    record { settings = omega arith; script = omega arith; graphite = omega arith; console = omega arith; output = used_same w.seen.output w.seen.output refl; wires = λ i. set_rises w.seen.wires j i o rises }
+kept_part OfGraphite o w rises = record { settings = omega arith; script = omega arith; graphite = rises; console = omega arith; output = used_same w.seen.output w.seen.output refl; wires = λ i. omega arith }
+kept_part OfConsole o w rises = record { settings = omega arith; script = omega arith; graphite = omega arith; console = rises; output = used_same w.seen.output w.seen.output refl; wires = λ i. omega arith }
+kept_part OfDoor o w rises = record { settings = omega arith; script = omega arith; graphite = omega arith; console = omega arith; output = used_same w.seen.output w.seen.output refl; wires = λ i. omega arith }
+
+-- of a world with the same counts and the same output
+kept_same : (a b : World) → Same (λ o. o.faults) b a → Kept a b
+kept_same a b same = record {
+  settings = omega (arith, same.settings);
+  script = omega (arith, same.script);
+  graphite = omega (arith, same.graphite);
+  console = omega (arith, same.console);
+  output = used_same a.seen.output b.seen.output same.output;
+  wires = λ i. omega (arith, at_same (λ o. o.faults) i b.seen.wires a.seen.wires same.wires);
+}
+
 module _ (old new : World) where
-  -- one that opened and read nothing but the settings
+  -- one that changed nothing but the settings
   kept_settings : old.settings.faults ≤ new.settings.faults → OnlySettings old new → Kept old new
-  kept_settings settings only =
-      let script = ap (λ (s : Seen). s.script.faults) only.seen in
-      let graphite = ap (λ (s : Seen). s.graphite.faults) only.seen in
-      let console = ap (λ (s : Seen). s.console.faults) only.seen in
-      record {
-        settings = settings;
-        script = omega (arith, script);
-        graphite = omega (arith, graphite);
-        console = omega (arith, console);
-        output = used_same old.seen.output new.seen.output (ap (λ (s : Seen). s.output) only.seen);
-        wires = λ i. omega (arith, ap (λ (s : Seen). (wire_at i s.wires).faults) only.seen);
-      }
+  kept_settings rises only = subst (Kept old) (sym only) (kept_part OfSettings new.settings old rises)
 
-  -- the count of a part to open doesn't fall
-  abbrev IsKept : Opening → Type 0
-  IsKept o = (part_in old o.part).faults ≤ (part_in new o.part).faults
+  -- one whose settings were accepted
+  kept_settled : (values : Settings) (now : Object) (name : List ℕ) → IsAccepted values (File name) old.settings now → Kept old (settled values now old)
+  kept_settled values now name taken = record {
+    settings = read_faults taken.bytes (File name) old.settings now taken.read.read;
+    script = omega arith;
+    graphite = omega arith;
+    console = omega arith;
+    output = used_same old.seen.output old.seen.output refl;
+    wires = λ i. omega arith;
+  }
 
-  opened_kept : (os : List Opening) → AllByRecursion (IsOpened old new) os → AllByRecursion IsKept os
-  opened_kept [] all = tt
-  opened_kept (o ∷ os) all = let faults = ap (λ (x : Object). x.faults) all.0 in (omega (arith, faults), opened_kept os all.1)
+  -- and then parts were opened
+  kept_opened : (values : Settings) (now : Object) (name : List ℕ) (parts : List Opening) → IsAccepted values (File name) old.settings now → Kept old (opened_all (settled values now old) parts)
+  kept_opened values now name parts taken =
+      kept_next old (settled values now old) (opened_all (settled values now old) parts) (kept_settled values now name taken) (kept_same (settled values now old) (opened_all (settled values now old) parts) (same_faults parts (settled values now old)))
 
-  untouched_kept : (os : List Opening) → AllByRecursion (IsUntouched old new) os → AllByRecursion IsKept os
-  untouched_kept [] all = tt
-  untouched_kept (o ∷ os) all = let faults = ap (λ (x : Object). x.faults) all.0 in (omega (arith, faults), untouched_kept os all.1)
-
-  -- a backend's count, by whether it is opened
-  backend_kept : (part : Part) (back : Backend) (used : Bool) → part_in old part ≡ seen_at back old.seen → part_in new part ≡ seen_at back new.seen
-      → (used ≡ false → seen_at back new.seen ≡ seen_at back old.seen) → AllByRecursion IsKept (backend_openings part used) → (seen_at back old.seen).faults ≤ (seen_at back new.seen).faults
-  backend_kept part back true before after stays all =
-      let first = ap (λ (o : Object). o.faults) before in let then = ap (λ (o : Object). o.faults) after in omega (arith, first, then, all.0)
-  backend_kept part back false before after stays all = let faults = ap (λ (o : Object). o.faults) (stays refl) in omega (arith, faults)
-
-  front_kept : (before behind : List Opening) → AllByRecursion IsKept (before ++ behind) → AllByRecursion IsKept before
-  front_kept [] behind all = tt
-  front_kept (o ∷ before) behind all = (all.0, front_kept before behind all.1)
-
-  -- a wire's count, by whether it is opened
-  wire_kept : (s : Settings) (script : List ℕ) (i : ℕ) → AllByRecursion IsKept (openings s script) → UnusedStay s old new → (wire_at i old.seen.wires).faults ≤ (wire_at i new.seen.wires).faults
-  wire_kept s script i all unused = elim (cases_lt i (length s.targets)) [
-    | inl below ↦ let from : 0 + i ≡ i = omega arith in subst (λ k. (wire_at k old.seen.wires).faults ≤ (wire_at k new.seen.wires).faults) from
-        (wire_opening IsKept 0 i s.targets _ (λ k. (wire_at k old.seen.wires).faults ≤ (wire_at k new.seen.wires).faults) (λ k t h. h) below all.1)
-    | inr beyond ↦ let faults = ap (λ (o : Object). o.faults) (wire_beyond (length s.targets) i old.seen.wires new.seen.wires beyond unused.wires unused.count) in omega (arith, faults)
-  ]
-
-  -- a call that began no replay once its settings were taken
-  kept_parts : (name script : List ℕ) (values : file.Settings) (a : Account) → TakesSettings name values old new → AllByRecursion IsKept (openings (goes_by values) script) → UnusedStay (goes_by values) old new → NotBegun a old new → Kept old new
-  kept_parts name script values a taken all unused idle =
-      let s = goes_by values in
-      let graphite = backend_openings OfGraphite s.uses_graphite in
-      let console = backend_openings OfConsole s.uses_console in
-      let backends = all_behind IsKept (wire_openings 0 s.targets) (graphite ++ console) all.1 in
-      record {
-        settings = read_faults taken.file.bytes (File name) old.settings new.settings taken.file.read.read;
-        script = all.0;
-        graphite = backend_kept OfGraphite Graphite s.uses_graphite refl refl (unused.backends Graphite) (front_kept graphite console backends);
-        console = backend_kept OfConsole Console s.uses_console refl refl (unused.backends Console) (all_behind IsKept graphite console backends);
-        output = used_same old.seen.output new.seen.output idle.output;
-        wires = λ i. wire_kept s script i all unused;
-      }
-
-  kept_run : (end : End) (name script : List ℕ) (a : Account) → AccountingTheorem a.force a.course a.start a.end → Ran end name script a old new → Kept old new
-  kept_run end name script a theorem ran =
-      let s = a.force in
-      let r = replayed end name script a old new theorem ran in
-      let began = started s script old.seen in
-      let graphite = all_counts (deliveries s Graphite r.course.played) began.graphite new.seen.graphite (r.theorem.texts Graphite) in
-      let console = all_counts (deliveries s Console r.course.played) began.console new.seen.console (r.theorem.texts Console) in
-      let opened_graphite = opened_where_faults s.uses_graphite old.seen.graphite in
-      let opened_console = opened_where_faults s.uses_console old.seen.console in
-      record {
-        settings = read_faults ran.taken.file.bytes (File name) old.settings new.settings ran.taken.file.read.read;
-        script = r.ends.script.faults;
-        graphite = omega (arith, opened_graphite, graphite.used.faults);
-        console = omega (arith, opened_console, console.used.faults);
-        output = output_used s end r.course old.seen.output new.seen.output r.ends.output;
-        wires = λ i. omega (arith, opened_wire_faults s.targets old.seen.wires i, (wire_counts (sendings r.course.played) i began.wires new.seen.wires r.theorem.sends).used.faults);
-      }
-
-  kept_stop : (part : Part) (name script : List ℕ) (a : Account) → StopsAt part name script old new → NotBegun a old new → Kept old new
-  kept_stop part name script a h idle =
-      kept_parts name script h.values a h.taken
-      (subst (AllByRecursion IsKept) (sym h.fails.order) (all_append IsKept h.fails.before (record { part = part; place = h.fails.place } ∷ h.fails.behind) (opened_kept h.fails.before h.fails.opened) (h.fails.failed.used.faults, untouched_kept h.fails.behind h.fails.untouched)))
-      h.unused idle
-
-  kept_by : (name script : List ℕ) (answer : Answer) (a : Account) → AccountingTheorem a.force a.course a.start a.end → AnswersReplay name script answer a old new → Kept old new
-  kept_by name script Done a theorem h = kept_run (Complete (totals_after a.force a.course.played)) name script a theorem h
-  kept_by name script NoMemory a theorem (inl h, idle) = kept_settings (left_off h.settings) h.only where
-    left_off : (new.settings ≡ old.settings) ⊎ ((bytes : List ℕ) × HasRead bytes (opened (File name) old.settings) new.settings) → old.settings.faults ≤ new.settings.faults
+  kept_not_taken : (name : List ℕ) (answer : Answer) → NotTaken name answer old new → Kept old new
+  kept_not_taken name answer h = kept_settings (by_why h.why) h.only where
+    left_off : IsLeftOff (File name) old.settings new.settings → old.settings.faults ≤ new.settings.faults
     left_off (inl same) = let faults = ap (λ (o : Object). o.faults) same in omega (arith, faults)
     left_off (inr (bytes, read)) = read_faults bytes (File name) old.settings new.settings read
-  kept_by name script NoMemory a theorem (inr h, idle) =
-      kept_parts name script h.values a h.taken
-      (subst (AllByRecursion IsKept) (sym h.some.order) (all_append IsKept h.some.before h.some.behind (opened_kept h.some.before h.some.opened) (untouched_kept h.some.behind h.some.untouched)))
-      h.unused idle
-  kept_by name script NoForm a theorem h = absurd h
-  kept_by name script (Misset flaw) a theorem h = kept_settings (read_faults h.0.file.bytes (File name) old.settings new.settings h.0.file.read.read) h.0.only
-  kept_by name script (BadScript at flaw) a theorem h = kept_run (Faulted at flaw) name script a theorem h
-  kept_by name script (NotOpened OfSettings) a theorem h = kept_settings h.0.failed.used.faults h.0.only
-  kept_by name script (NotOpened OfScript) a theorem h = kept_stop OfScript name script a h.0 h.1
-  kept_by name script (NotOpened (OfSource i)) a theorem h = absurd h
-  kept_by name script (NotOpened OfBeat) a theorem h = absurd h
-  kept_by name script (NotOpened OfDoor) a theorem h = absurd h
-  kept_by name script (NotOpened (OfWire i)) a theorem h = kept_stop (OfWire i) name script a h.0 h.1
-  kept_by name script (NotOpened OfGraphite) a theorem h = kept_stop OfGraphite name script a h.0 h.1
-  kept_by name script (NotOpened OfConsole) a theorem h = kept_stop OfConsole name script a h.0 h.1
-  kept_by name script (NotRead OfSettings) a theorem h =
-      let first = read_faults h.0.failed.bytes (File name) old.settings h.0.failed.before h.0.failed.read in
-      kept_settings (omega (arith, first, h.0.failed.failed.used.faults)) h.0.only
-  kept_by name script (NotRead OfScript) a theorem h = kept_run ReadFailed name script a theorem h
-  kept_by name script (NotRead (OfSource i)) a theorem h = absurd h
-  kept_by name script (NotRead OfBeat) a theorem h = absurd h
-  kept_by name script (NotRead OfDoor) a theorem h = absurd h
-  kept_by name script (NotRead (OfWire i)) a theorem h = absurd h
-  kept_by name script (NotRead OfGraphite) a theorem h = absurd h
-  kept_by name script (NotRead OfConsole) a theorem h = absurd h
-  kept_by name script NotWritten a theorem h = kept_run WriteFailed name script a theorem h
-  kept_by name script (Worn turns) a theorem h = kept_run (WornOut turns) name script a theorem h
+
+    by_why : IsNotTaken answer (File name) old.settings new.settings → old.settings.faults ≤ new.settings.faults
+    by_why (inl (is, left)) = left_off left
+    by_why (inr (inl (is, fails))) = fails.used.faults
+    by_why (inr (inr (inl (is, fails)))) = let first = read_faults fails.bytes (File name) old.settings fails.before fails.read in omega (arith, first, fails.failed.used.faults)
+    by_why (inr (inr (inr (flaw, is, has)))) = read_faults has.bytes (File name) old.settings new.settings has.read.read
+
+  kept_not_begun : (parts : Settings → List Opening) (name : List ℕ) (answer : Answer) → NotBegun parts name answer old new → Kept old new
+  kept_not_begun parts name answer h = by_stop h.stops where
+    by_stop : StopsAmong (parts h.values) answer (settled h.values h.settings old) new → Kept old new
+    by_stop (inl (is, some)) = subst (Kept old) (sym some.opened) (kept_opened h.values h.settings name some.before h.taken)
+    by_stop (inr (part, is, stops)) =
+        let before = opened_all (settled h.values h.settings old) stops.before in
+        subst (Kept old) (sym stops.others) (kept_next old before (with_part part (part_in new part) before) (kept_opened h.values h.settings name stops.before h.taken) (kept_part part (part_in new part) before stops.failed.used.faults))
+
+  kept_run : (name script : List ℕ) (answer : Answer) (a : Account) → AccountingTheorem a.force a.course a.start a.end → HasReplayed name script answer a old new → Kept old new
+  kept_run name script answer a theorem h =
+      let r = replayed name script answer a old new theorem h in
+      let begin = start_of h.values script old new in
+      let same = same_faults (replay_openings script h.values) (settled h.values new.settings old) in
+      let graphite = all_counts (deliveries h.values Graphite r.course.played) begin.graphite new.seen.graphite (r.theorem.texts Graphite) in
+      let console = all_counts (deliveries h.values Console r.course.played) begin.console new.seen.console (r.theorem.texts Console) in
+      let read = read_faults h.taken.bytes (File name) old.settings h.settings h.taken.read.read in
+      let left = ap (λ (w : World). w.settings.faults) h.others in
+      record {
+        settings = omega (arith, read, left);
+        script = omega (arith, same.script, r.ends.script.faults);
+        graphite = omega (arith, same.graphite, graphite.used.faults);
+        console = omega (arith, same.console, console.used.faults);
+        output = used_next old.seen.output begin.output new.seen.output (used_same old.seen.output begin.output same.output) (output_used h.values h.end r.course begin.output new.seen.output r.ends.output);
+        wires = λ i. omega (arith, at_same (λ o. o.faults) i begin.wires old.seen.wires same.wires, (wire_counts (sendings r.course.played) i begin.wires new.seen.wires r.theorem.sends).used.faults);
+      }
+
+  kept_by : (name script : List ℕ) (answer : Answer) (a : Account) → AccountingTheorem a.force a.course a.start a.end → AnswersReplay name script answer a old new → Kept old new
+  kept_by name script answer a theorem (inl (inl taken, idle)) = kept_not_taken name answer taken
+  kept_by name script answer a theorem (inl (inr not, idle)) = kept_not_begun (replay_openings script) name answer not
+  kept_by name script answer a theorem (inr h) = kept_run name script answer a theorem h
 
   -- a call that changed nothing but the output
   kept_output : OnlyOutput old new → Used old.seen.output new.seen.output → Kept old new
-  kept_output only used =
-      let settings = ap (λ (w : World). w.settings.faults) only in
-      let script = ap (λ (w : World). w.seen.script.faults) only in
-      let graphite = ap (λ (w : World). w.seen.graphite.faults) only in
-      let console = ap (λ (w : World). w.seen.console.faults) only in
-      record {
-        settings = omega (arith, settings);
-        script = omega (arith, script);
-        graphite = omega (arith, graphite);
-        console = omega (arith, console);
-        output = used;
-        wires = λ i. omega (arith, ap (λ (w : World). (wire_at i w.seen.wires).faults) only);
-      }
+  kept_output only used = subst (Kept old) (sym only) (record { settings = omega arith; script = omega arith; graphite = omega arith; console = omega arith; output = used; wires = λ i. omega arith })
 
   -- a call that changed nothing
   kept_all : new ≡ old → Kept old new
-  kept_all same = kept_settings (let faults = ap (λ (w : World). w.settings.faults) same in omega (arith, faults)) (record { seen = ap (λ (w : World). w.seen) same; served = ap (λ (w : World). w.served) same; flags = ap (λ (w : World). w.flags) same })
+  kept_all same = kept_settings (let faults = ap (λ (w : World). w.settings.faults) same in omega (arith, faults)) (same ∙ ap (λ (w : World). record old { settings = w.settings }) (sym same))
 
-  kept_drill : (n : ℕ) (answer : Answer) (a : Account) → AnswersDrill n answer a old new → Kept old new
-  kept_drill n Done a h = let faults = ap (λ (o : Object). o.faults) h.2 in kept_output h.0.only (record { faults = omega (arith, faults); opened_at = ap (λ (o : Object). o.opened_at) h.2 })
-  kept_drill n NoMemory a h = kept_all h.0
-  kept_drill n NoForm a h = absurd h
-  kept_drill n (Misset flaw) a h = absurd h
-  kept_drill n (BadScript at flaw) a h = absurd h
-  kept_drill n (NotOpened part) a h = absurd h
-  kept_drill n (NotRead part) a h = absurd h
-  kept_drill n NotWritten a h = kept_output h.0.only h.1.used
-  kept_drill n (Worn turns) a h = absurd h
+  drill_output : (text : List ℕ) (answer : Answer) → WritesTotals text Done answer old.seen.output new.seen.output → Used old.seen.output new.seen.output
+  drill_output text answer (inl (is, written)) = let faults = ap (λ (o : Object). o.faults) written in record { faults = omega (arith, faults); opened_at = ap (λ (o : Object). o.opened_at) written }
+  drill_output text answer (inr (is, failed)) = failed.used
 
   kept_form : (f : Option Form) (answer : Answer) (a : Account) → IsScripted f → AccountingTheorem a.force a.course a.start a.end → Answers f answer a old new → Kept old new
-  kept_form None answer a asks theorem h = kept_all h.unused
-  kept_form (Some (Replay name script)) answer a asks theorem h = kept_by name script answer a theorem h.0
+  kept_form None answer a asks theorem (is, nothing) = kept_all nothing.0
+  kept_form (Some (Replay name script)) answer a asks theorem h = kept_by name script answer a theorem h
   kept_form (Some (Serve name)) answer a asks theorem h = absurd asks
   kept_form (Some (Proxy name)) answer a asks theorem h = absurd asks
-  kept_form (Some (Drill n)) answer a asks theorem h = kept_drill n answer a h
+  kept_form (Some (Drill n)) answer a asks theorem (inl (is, nothing)) = kept_all nothing.0
+  kept_form (Some (Drill n)) answer a asks theorem (inr h) = kept_output h.only (drill_output (drill_text n) answer h.written)
 
 pub kept : (words : List (List ℕ)) (old new : World) (answer : Answer) → IsScripted (form words) → Accounts words old new answer → Kept old new
 kept words old new answer asks h = kept_form old new (form words) answer h.account asks h.theorem h.answers

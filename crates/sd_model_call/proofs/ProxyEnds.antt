@@ -4,24 +4,21 @@ use Rattle.std.specs.Prelude.{min}
 use Rattle.std.specs.List.{AllByRecursion}
 use Rattle.sd_model_outside.specs.Outside.{File, Object, Rose, last_count}
 use Rattle.sd_model_settings.specs.Entries.{Node}
-use Rattle.sd_model_settings.specs.Settings as file
-use Rattle.sd_model_settings.specs.Settings.{SettingsFlaw, OutOfRange, settings}
+use Rattle.sd_model_settings.specs.Settings.{Settings, SettingsFlaw, OutOfRange, settings}
 use Rattle.sd_model_serve.specs.Ends.{LoopEnd, Spent, Failed, Enough, WornOut, most_turns}
 use Rattle.sd_model_proxy.specs.Relays.{Relay, AreRelays, relays_totals}
 use Rattle.sd_model_proxy.specs.Totals.{proxy_text}
 use Rattle.sd_model_call.specs.Words.{Form, form}
-use Rattle.sd_model_call.specs.Opening.{World, Opening, OfSettings, OfScript, OfSource, OfBeat, OfWire, OfGraphite, OfConsole, OfDoor, IsAccepted, source_at}
-use Rattle.sd_model_call.specs.Call.{Answer, Done, NoMemory, NoForm, Misset, BadScript, NotOpened, NotRead, NotWritten, Worn, HasFlaw}
+use Rattle.sd_model_call.specs.Opening.{World, Opening, OfSettings, OfScript, OfSource, OfBeat, OfWire, OfGraphite, OfConsole, OfDoor, IsAccepted, IsFlawed, opened_all, settled, source_at}
+use Rattle.sd_model_call.specs.Call.{Answer, Done, NoMemory, NoForm, Misset, BadScript, NotOpened, NotRead, NotWritten, Worn, WritesTotals}
 use Rattle.sd_model_call.specs.Completeness.{IsBlocked, IsWhole}
-use Rattle.sd_model_call.specs.Server.{WritesTotals}
-use Rattle.sd_model_call.specs.ServerOpening.{StopsAmong, opened_all, settled}
 use Rattle.sd_model_call.specs.ServerCompleteness.{HasFaultOf}
-use Rattle.sd_model_call.specs.Proxy.{AnswersProxy, HasNoNodes, HasProxied, ProxyAccounts, ProxyNotBegun, node_place, proxy_openings, relay_answer}
+use Rattle.sd_model_call.specs.Proxy.{AnswersProxy, HasNoNodes, HasProxied, ProxyAccounts, node_place, proxy_openings, relay_answer}
 use Rattle.sd_model_call.specs.ProxyCompleteness.{AsksForProxy, IsOpenedToRelay, IsProxyCauseOf, IsRelayed, IsUnhinderedProxy, NoWireFailed, proxy_source}
-use Rattle.sd_model_call.proofs.BegunLemmas.{Same, all_numbered, accepted_so, at_same, has_flaw, not_opened, same_all, same_next, same_settled, uncut}
+use Rattle.sd_model_call.proofs.BegunLemmas.{Same, all_numbered, accepted_so, at_same, has_flaw, not_begun, not_taken, same_all, same_next, same_settled, uncut}
 use Rattle.sd_model_call.proofs.ServerEnds.{EndedSo}
 
-all_relayed : (s : file.Settings) → AllByRecursion (λ (o : Opening). IsOpenedToRelay o.part) (proxy_openings s)
+all_relayed : (s : Settings) → AllByRecursion (λ (o : Opening). IsOpenedToRelay o.part) (proxy_openings s)
 all_relayed s = (refl, all_numbered IsOpenedToRelay OfWire (λ i. tt) 0 (map node_place s.lists.nodes))
 
 looped : (nodes : List Node) (r : Relay) (ss ns ws wn : List Object) → AreRelays nodes (r ∷ []) ss ns ws wn → EndedSo 0 r.ended (source_at 0 ss) (source_at 0 ns)
@@ -67,29 +64,18 @@ module _ (name : List ℕ) (answer : Answer) (old new : World) (h : HasProxied n
     by_written (inr (is, failed)) = by_uncut failed.rose (uncut (relay_answer h.relay.ended) answer is)
 
 module _ (name : List ℕ) (old new : World) where
-  not_begun_cause : (answer : Answer) (h : ProxyNotBegun name answer old new) → IsProxyCauseOf name answer old new
-  not_begun_cause answer h = by_stop h.stops where
-    by_stop : StopsAmong (proxy_openings h.values) answer (settled h.values h.settings old) new → IsProxyCauseOf name answer old new
-    by_stop (inl (is, some)) = subst (λ (a : Answer). IsProxyCauseOf name a old new) (sym is) tt
-    by_stop (inr (part, is, not)) =
-        subst (λ (a : Answer). IsProxyCauseOf name a old new) (sym is)
-        (not_opened name old new h.values h.settings h.taken IsOpenedToRelay (proxy_openings h.values) (all_relayed h.values) part not)
-
   no_nodes_cause : (answer : Answer) (h : HasNoNodes name answer old new) → IsProxyCauseOf name answer old new
   no_nodes_cause answer h =
       subst (λ (a : Answer). IsProxyCauseOf name a old new) (sym h.answer_is)
-      (inr (record { values = h.values; taken = h.taken; none = h.none; answer_is = refl; others = h.others }))
+      (inr (record { values = h.values; taken = h.taken; none = h.none; answer_is = refl; only = h.only }))
 
   -- every answer has its cause
   pub proxy_answer_cause : (answer : Answer) → ProxyAccounts name answer old new → IsProxyCauseOf name answer old new
-  proxy_answer_cause answer (inl (inl (is, off))) = subst (λ (a : Answer). IsProxyCauseOf name a old new) (sym is) tt
-  proxy_answer_cause answer (inl (inr (inl (is, fails)))) = subst (λ (a : Answer). IsProxyCauseOf name a old new) (sym is) (tt, fails.failed.rose)
-  proxy_answer_cause answer (inl (inr (inr (inl (is, fails))))) =
-      let before = ap (λ (o : Object). o.faults) fails.failed.read in
-      subst (λ (a : Answer). IsProxyCauseOf name a old new) (sym is) (tt, subst (λ (n : ℕ). Rose n new.settings.faults) (sym before) fails.failed.failed.rose)
-  proxy_answer_cause answer (inl (inr (inr (inr (flaw, is, has))))) = subst (λ (a : Answer). IsProxyCauseOf name a old new) (sym is) (inl has)
+  proxy_answer_cause answer (inl taken) =
+      not_taken name old new (λ a. IsProxyCauseOf name a old new) tt answer taken (λ rose. (tt, rose)) (λ rose. (tt, rose)) (λ flaw has. inl (has, taken.only))
   proxy_answer_cause answer (inr (inl none)) = no_nodes_cause answer none
-  proxy_answer_cause answer (inr (inr (inl not))) = not_begun_cause answer not
+  proxy_answer_cause answer (inr (inr (inl not))) =
+      not_begun name old new (λ a. IsProxyCauseOf name a old new) tt proxy_openings IsOpenedToRelay answer not.not_begun (all_relayed not.not_begun.values) (λ part closed. closed)
   proxy_answer_cause answer (inr (inr (inr proxied))) = proxied_cause name answer old new proxied
 
 -- a call whose words ask for the proxy, by settings with these bytes
@@ -100,18 +86,18 @@ module _ (words : List (List ℕ)) (bytes : List ℕ) (old new : World) (asks : 
   caused : (answer : Answer) → AnswersProxy (form words) answer old new → IsProxyCauseOf asks.name answer old new
   caused answer h = proxy_answer_cause asks.name old new answer (accounted answer h)
 
-  module _ (values : file.Settings) (accepted : settings bytes ≡ Ok values) where
-    not_flawed : (flaw : SettingsFlaw) → HasFlaw flaw asks.name old new → ⊥
-    not_flawed flaw has = let same : Err flaw ≡ Ok values = sym (has_flaw asks.name bytes old new asks.told flaw has) ∙ accepted in absurd (cc)
+  module _ (values : Settings) (accepted : settings bytes ≡ Ok values) where
+    not_flawed : (flaw : SettingsFlaw) → IsFlawed flaw (File asks.name) old.settings new.settings → ⊥
+    not_flawed flaw has = let same : Err flaw ≡ Ok values = sym (has_flaw asks.name bytes old asks.told flaw new.settings has) ∙ accepted in absurd (cc)
 
-    same_nodes : (others : file.Settings) (now : Object) → IsAccepted others (File asks.name) old.settings now → others.lists.nodes ≡ values.lists.nodes
+    same_nodes : (others : Settings) (now : Object) → IsAccepted others (File asks.name) old.settings now → others.lists.nodes ≡ values.lists.nodes
     same_nodes others now taken =
         let same : Ok others ≡ Ok values = sym (accepted_so asks.name bytes old asks.told others now taken) ∙ accepted in
         let one : others ≡ values = cc in
-        ap (λ (s : file.Settings). s.lists.nodes) one
+        ap (λ (s : Settings). s.lists.nodes) one
 
     -- settings that name no node, and some
-    no_nodes : (others : file.Settings) (now : Object) → values.lists.nodes ≡ [] → 0 < length others.lists.nodes → IsAccepted others (File asks.name) old.settings now → ⊥
+    no_nodes : (others : Settings) (now : Object) → values.lists.nodes ≡ [] → 0 < length others.lists.nodes → IsAccepted others (File asks.name) old.settings now → ⊥
     no_nodes others now none some taken = let all = ap length (same_nodes others now taken ∙ none) in omega (arith, all, some)
 
     module _ (some : 0 < length values.lists.nodes) (steady : IsUnhinderedProxy old new) where
@@ -122,7 +108,7 @@ module _ (words : List (List ℕ)) (bytes : List ℕ) (old new : World) (asks : 
       by_cause Done h = inl (inl refl)
       by_cause NoMemory h = inl (inr refl)
       by_cause NoForm h = absurd h
-      by_cause (Misset flaw) (inl has) = absurd (not_flawed flaw has)
+      by_cause (Misset flaw) (inl has) = absurd (not_flawed flaw has.0)
       by_cause (Misset flaw) (inr none) = let all = ap length (sym (same_nodes none.values new.settings none.taken) ∙ none.none) in absurd (omega (arith, all, some))
       by_cause (BadScript at flaw) h = absurd h
       by_cause (NotOpened OfSettings) h = absurd (steady.settings h.1)
@@ -157,31 +143,28 @@ module _ (words : List (List ℕ)) (bytes : List ℕ) (old new : World) (asks : 
 
     module _ (none : values.lists.nodes ≡ []) where
       by_account : (answer : Answer) → ProxyAccounts asks.name answer old new → IsBlocked (Misset (OutOfRange (codes "nodes"))) answer
-      by_account answer (inl (inl (is, off))) = inl (inr is)
-      by_account answer (inl (inr (inl (is, fails)))) = inr (inl is)
-      by_account answer (inl (inr (inr (inl (is, fails))))) = inr (inr is)
-      by_account answer (inl (inr (inr (inr (flaw, is, has))))) = absurd (not_flawed flaw has)
+      by_account answer (inl taken) =
+          not_taken asks.name old new (IsBlocked (Misset (OutOfRange (codes "nodes")))) (inl (inr refl)) answer taken (λ rose. inr (inl refl)) (λ rose. inr (inr refl)) (λ flaw has. absurd (not_flawed flaw has))
       by_account answer (inr (inl lacks)) = inl (inl lacks.answer_is)
-      by_account answer (inr (inr (inl not))) = absurd (no_nodes not.values not.settings none not.some not.taken)
+      by_account answer (inr (inr (inl not))) = absurd (no_nodes not.not_begun.values not.not_begun.settings none not.some not.not_begun.taken)
       by_account answer (inr (inr (inr proxied))) = absurd (no_nodes proxied.values proxied.settings none proxied.some proxied.taken)
 
       pub without_nodes : (answer : Answer) → AnswersProxy (form words) answer old new → IsBlocked (Misset (OutOfRange (codes "nodes"))) answer
       without_nodes answer h = by_account answer (accounted answer h)
 
   module _ (flaw : SettingsFlaw) (refused : settings bytes ≡ Err flaw) where
-    not_accepted : (values : file.Settings) (now : Object) → IsAccepted values (File asks.name) old.settings now → ⊥
+    not_accepted : (values : Settings) (now : Object) → IsAccepted values (File asks.name) old.settings now → ⊥
     not_accepted values now taken = let same : Ok values ≡ Err flaw = sym (accepted_so asks.name bytes old asks.told values now taken) ∙ refused in absurd (cc)
 
     by_flaw : (answer : Answer) → ProxyAccounts asks.name answer old new → IsBlocked (Misset flaw) answer
-    by_flaw answer (inl (inl (is, off))) = inl (inr is)
-    by_flaw answer (inl (inr (inl (is, fails)))) = inr (inl is)
-    by_flaw answer (inl (inr (inr (inl (is, fails))))) = inr (inr is)
-    by_flaw answer (inl (inr (inr (inr (other, is, has))))) =
-        let same : Err other ≡ Err flaw = sym (has_flaw asks.name bytes old new asks.told other has) ∙ refused in
-        let one : other ≡ flaw = cc in
-        inl (inl (is ∙ ap (λ f. Misset f) one))
+    by_flaw answer (inl taken) = not_taken asks.name old new (IsBlocked (Misset flaw)) (inl (inr refl)) answer taken (λ rose. inr (inl refl)) (λ rose. inr (inr refl)) same_flaw where
+      same_flaw : (other : SettingsFlaw) → IsFlawed other (File asks.name) old.settings new.settings → IsBlocked (Misset flaw) (Misset other)
+      same_flaw other has =
+          let same : Err other ≡ Err flaw = sym (has_flaw asks.name bytes old asks.told other new.settings has) ∙ refused in
+          let one : other ≡ flaw = cc in
+          inl (inl (ap (λ f. Misset f) one))
     by_flaw answer (inr (inl lacks)) = absurd (not_accepted lacks.values new.settings lacks.taken)
-    by_flaw answer (inr (inr (inl not))) = absurd (not_accepted not.values not.settings not.taken)
+    by_flaw answer (inr (inr (inl not))) = absurd (not_accepted not.not_begun.values not.not_begun.settings not.not_begun.taken)
     by_flaw answer (inr (inr (inr proxied))) = absurd (not_accepted proxied.values proxied.settings proxied.taken)
 
     pub proxy_blocked : (answer : Answer) → AnswersProxy (form words) answer old new → IsBlocked (Misset flaw) answer

@@ -6,7 +6,7 @@ use Rattle.std.proofs.lemmas.List.{length-map}
 use Rattle.std.proofs.lemmas.List.Sums.{sum_by-cons}
 use Rattle.sd_model_outside.specs.Outside.{Told, Untold, Left, Number, Bytes, Buffer, Rounds, Packets, Datagrams, Ticks, Sessions, Replies, Rose, put_back, given, last_count}
 use Rattle.sd_model_outside.specs.Deliveries.{Mark, fault_of, Delivery, AfterDeliveries, FitsUse, missed}
-use Rattle.sd_model_replay.specs.Settings.{Settings, is_used}
+use Rattle.sd_model_replay.specs.Settings.{is_used, targets_of}
 use Rattle.sd_model_record.specs.Backends.{Backend, Graphite, Console, mark_of}
 use Rattle.sd_model_replay.specs.Script.{Command, Packet, Flush, Admin, spelled, end_word, script_text, IsLegal, BeginsEnd, BeginsRecord}
 use Rattle.sd_model_replay.specs.Next.{ScriptFlaw, Next, Carried, Ending, Faulty, Begins}
@@ -25,6 +25,7 @@ use Rattle.sd_model_replay.proofs.NextLemmas.{one_next, next_stays}
 use Rattle.sd_model_outside.proofs.DeliveryLemmas.{all_counts, none_missed, written_mark}
 use Rattle.sd_model_replay.proofs.ReplayLemmas.{delivery_of}
 use Rattle.sd_model_replay.proofs.SendingLemmas.{wire_counts}
+use Rattle.sd_model_settings.specs.Settings.{Settings}
 
 -- what a script tells that it has left, where it told what it had
 pub record LeftBehind (front whole : List ℕ) (told : Told) : Type 0 where
@@ -90,9 +91,9 @@ module _ (settings : Settings) (old new : Seen) (commands : List Command) (bytes
       }
 
   -- what the replay stopped for stands next in all that the script has left
-  stop_stands : (r : Reached) (next : Next) (at : ℕ) → StopsFor settings next at course new → Begins settings.receivers next (course.ahead ++ r.left) (Left [])
+  stop_stands : (r : Reached) (next : Next) (at : ℕ) → StopsFor settings next at course new → Begins settings.sizes.receivers next (course.ahead ++ r.left) (Left [])
   stop_stands r next at ends =
-      next_stays settings.receivers course.ahead r.left next (subst (λ told. Begins settings.receivers next course.ahead told) r.is ends.begins)
+      next_stays settings.sizes.receivers course.ahead r.left next (subst (λ told. Begins settings.sizes.receivers next course.ahead told) r.is ends.begins)
 
   -- where the replay came to the end, the end stands behind
   end_stands : (r : Reached) (rest : List ℕ) → course.ahead ≡ end_word ++ rest → end_word ++ (rest ++ r.left) ≡ course.ahead ++ r.left
@@ -130,9 +131,9 @@ no_reply_failed settings old new commands behind course silent whole h reply =
 -- of a script that ends behind its records
 module _ (settings : Settings) (old new : Seen) (commands : List Command) (rest : List ℕ) (steady : IsSteady settings old new commands (end_word ++ rest)) (few : length commands < most_records) (course : Course) (theorem : AccountingTheorem settings course old new) where
   ended_behind : (r : Reached settings old new commands (end_word ++ rest) steady course theorem)
-      → Behind settings.receivers commands (commands_of course.played) (end_word ++ rest) (course.ahead ++ r.left)
+      → Behind settings.sizes.receivers commands (commands_of course.played) (end_word ++ rest) (course.ahead ++ r.left)
   ended_behind r =
-      ended_script settings.receivers commands (commands_of course.played) rest (course.ahead ++ r.left) steady.legal (all_legal settings.receivers course.played theorem.legal) r.same
+      ended_script settings.sizes.receivers commands (commands_of course.played) rest (course.ahead ++ r.left) steady.legal (all_legal settings.sizes.receivers course.played theorem.legal) r.same
 
   reached_end : Reached settings old new commands (end_word ++ rest) steady course theorem
   reached_end = reached settings old new commands (end_word ++ rest) steady course theorem
@@ -141,10 +142,10 @@ module _ (settings : Settings) (old new : Seen) (commands : List Command) (rest 
   no_stop next at stop ends =
       let r = reached_end in
       let h = ended_behind r in
-      let stands = subst (λ bs. Begins settings.receivers next bs (Left [])) h.stands (stop_stands settings old new commands (end_word ++ rest) steady course theorem r next at ends) in
-      elim (begins settings.receivers h.behind rest (Left []) h.legal) [
-        | inl end ↦ not_stop settings.receivers (script_text h.behind ++ (end_word ++ rest)) next Ending (Left []) (Left []) stop (λ h. h) stands end
-        | inr one ↦ not_stop settings.receivers (script_text h.behind ++ (end_word ++ rest)) next (Carried one.0) (Left []) (Left []) stop (λ h. h) stands one.1
+      let stands = subst (λ bs. Begins settings.sizes.receivers next bs (Left [])) h.stands (stop_stands settings old new commands (end_word ++ rest) steady course theorem r next at ends) in
+      elim (begins settings.sizes.receivers h.behind rest (Left []) h.legal) [
+        | inl end ↦ not_stop settings.sizes.receivers (script_text h.behind ++ (end_word ++ rest)) next Ending (Left []) (Left []) stop (λ h. h) stands end
+        | inr one ↦ not_stop settings.sizes.receivers (script_text h.behind ++ (end_word ++ rest)) next (Carried one.0) (Left []) (Left []) stop (λ h. h) stands one.1
       ]
 
   -- a replay comes to the end of such a script, or a write failed
@@ -171,7 +172,7 @@ module _ (settings : Settings) (old new : Seen) (commands : List Command) (rest 
   none_behind : (r : Reached settings old new commands (end_word ++ rest) steady course theorem) → BeginsEnd course.ahead → (ended_behind r).behind ≡ []
   none_behind r word =
       let h = ended_behind r in
-      (one_end settings.receivers h.behind (end_word ++ rest) (word.0 ++ r.left) (end_stands settings old new commands (end_word ++ rest) steady course theorem r word.0 word.1 ∙ h.stands)).0
+      (one_end settings.sizes.receivers h.behind (end_word ++ rest) (word.0 ++ r.left) (end_stands settings old new commands (end_word ++ rest) steady course theorem r word.0 word.1 ∙ h.stands)).0
 
   pub all_carried_out : BeginsEnd course.ahead → commands_of course.played ≡ commands
   all_carried_out word =
@@ -198,28 +199,28 @@ module _ (settings : Settings) (old new : Seen) (commands : List Command) (flaw 
   reached_cut : Reached settings old new commands bytes cut.steady course theorem
   reached_cut = reached settings old new commands bytes cut.steady course theorem
 
-  no_record_there : ¬ BeginsRecord settings.receivers bytes
-  no_record_there (command, rest, legal, is) = not_stop settings.receivers bytes (Faulty flaw) (Carried command) (Left []) (Left []) tt (λ h. h) cut.begins (legal, (rest, is))
+  no_record_there : ¬ BeginsRecord settings.sizes.receivers bytes
+  no_record_there (command, rest, legal, is) = not_stop settings.sizes.receivers bytes (Faulty flaw) (Carried command) (Left []) (Left []) tt (λ h. h) cut.begins (legal, (rest, is))
 
-  cut_behind : (r : Reached settings old new commands bytes cut.steady course theorem) → Behind settings.receivers commands (commands_of course.played) bytes (course.ahead ++ r.left)
+  cut_behind : (r : Reached settings old new commands bytes cut.steady course theorem) → Behind settings.sizes.receivers commands (commands_of course.played) bytes (course.ahead ++ r.left)
   cut_behind r =
-      cut_script settings.receivers commands (commands_of course.played) bytes (course.ahead ++ r.left) no_record_there cut.steady.legal (all_legal settings.receivers course.played theorem.legal) r.same
+      cut_script settings.sizes.receivers commands (commands_of course.played) bytes (course.ahead ++ r.left) no_record_there cut.steady.legal (all_legal settings.sizes.receivers course.played theorem.legal) r.same
 
   -- what stands behind the records carried out, and is no record, is what the script is cut off by
-  found : (r : Reached settings old new commands bytes cut.steady course theorem) (other : Next) → IsLast other → Begins settings.receivers other (course.ahead ++ r.left) (Left []) → (commands ≡ commands_of course.played) × (Faulty flaw ≡ other)
+  found : (r : Reached settings old new commands bytes cut.steady course theorem) (other : Next) → IsLast other → Begins settings.sizes.receivers other (course.ahead ++ r.left) (Left []) → (commands ≡ commands_of course.played) × (Faulty flaw ≡ other)
   found r other last begins_other = found_by h.behind h.whole h.legal h.stands where
-    h : Behind settings.receivers commands (commands_of course.played) bytes (course.ahead ++ r.left)
+    h : Behind settings.sizes.receivers commands (commands_of course.played) bytes (course.ahead ++ r.left)
     h = cut_behind r
 
-    found_by : (behind : List Command) → commands ≡ commands_of course.played ++ behind → AllByRecursion (IsLegal settings.receivers) behind → course.ahead ++ r.left ≡ script_text behind ++ bytes → (commands ≡ commands_of course.played) × (Faulty flaw ≡ other)
+    found_by : (behind : List Command) → commands ≡ commands_of course.played ++ behind → AllByRecursion (IsLegal settings.sizes.receivers) behind → course.ahead ++ r.left ≡ script_text behind ++ bytes → (commands ≡ commands_of course.played) × (Faulty flaw ≡ other)
     found_by [] whole legal stands = (
       whole ∙ append-nil (commands_of course.played),
-      one_next settings.receivers bytes (Faulty flaw) other (Left []) (Left []) cut.begins (subst (λ bs. Begins settings.receivers other bs (Left [])) stands begins_other),
+      one_next settings.sizes.receivers bytes (Faulty flaw) other (Left []) (Left []) cut.begins (subst (λ bs. Begins settings.sizes.receivers other bs (Left [])) stands begins_other),
     )
     found_by (c ∷ behind) whole legal stands =
-        let there = subst (λ bs. Begins settings.receivers other bs (Left [])) stands begins_other in
-        let record_there = begins_record settings.receivers c behind bytes (Left []) legal in
-        absurd (subst IsLast (one_next settings.receivers (script_text (c ∷ behind) ++ bytes) other (Carried c) (Left []) (Left []) there record_there) last)
+        let there = subst (λ bs. Begins settings.sizes.receivers other bs (Left [])) stands begins_other in
+        let record_there = begins_record settings.sizes.receivers c behind bytes (Left []) legal in
+        absurd (subst IsLast (one_next settings.sizes.receivers (script_text (c ∷ behind) ++ bytes) other (Carried c) (Left []) (Left []) there record_there) last)
 
   no_end_there : (rest : List ℕ) → course.ahead ≡ end_word ++ rest → ⊥
   no_end_there rest word =
@@ -252,14 +253,14 @@ module _ (settings : Settings) (old new : Seen) (commands : List Command) (bytes
   reached_more = reached settings old new commands bytes longest.steady course theorem
 
   -- a record stands behind fewer of them
-  record_behind : (r : Reached settings old new commands bytes longest.steady course theorem) → length course.played < most_records → BeginsRecord settings.receivers (course.ahead ++ r.left)
+  record_behind : (r : Reached settings old new commands bytes longest.steady course theorem) → length course.played < most_records → BeginsRecord settings.sizes.receivers (course.ahead ++ r.left)
   record_behind r few =
       let counted = length-map course.played (λ (p : Played). p.command) in
-      elim (one_script settings.receivers commands (commands_of course.played) bytes (course.ahead ++ r.left) longest.steady.legal (all_legal settings.receivers course.played theorem.legal) r.same) [
+      elim (one_script settings.sizes.receivers commands (commands_of course.played) bytes (course.ahead ++ r.left) longest.steady.legal (all_legal settings.sizes.receivers course.played theorem.legal) r.same) [
         | inl h ↦ one_behind h.behind h.legal h.stands (omega (arith, few, longest.most, ap length h.whole, length-append (commands_of course.played) h.behind, counted))
         | inr h ↦ absurd (omega (arith, few, longest.most, h.0, counted))
       ] where
-        one_behind : (behind : List Command) → AllByRecursion (IsLegal settings.receivers) behind → course.ahead ++ r.left ≡ script_text behind ++ bytes → 0 < length behind → BeginsRecord settings.receivers (course.ahead ++ r.left)
+        one_behind : (behind : List Command) → AllByRecursion (IsLegal settings.sizes.receivers) behind → course.ahead ++ r.left ≡ script_text behind ++ bytes → 0 < length behind → BeginsRecord settings.sizes.receivers (course.ahead ++ r.left)
         one_behind [] all stands some = absurd (omega (arith, some))
         one_behind (c ∷ behind) all stands some = (c, script_text behind ++ bytes, all.0, stands ∙ append_assoc (spelled c) (script_text behind) bytes)
 
@@ -273,7 +274,7 @@ module _ (settings : Settings) (old new : Seen) (commands : List Command) (bytes
   no_stop_behind next at stop ends =
       let r = reached_more in
       let one = record_behind r ends.few in
-      not_stop settings.receivers (course.ahead ++ r.left) next (Carried one.0) (Left []) (Left []) stop (λ h. h)
+      not_stop settings.sizes.receivers (course.ahead ++ r.left) next (Carried one.0) (Left []) (Left []) stop (λ h. h)
       (stop_stands settings old new commands bytes longest.steady course theorem r next at ends) (one.2, (one.1, one.3))
 
   ends_worn : (end : End) → EndsAs settings end course old new → EndsSo (WornOut most_records) end
@@ -323,7 +324,7 @@ module _ (settings : Settings) where
 
   -- no packet was missed on the wire of a target
   abbrev AreAllSent : List Played → Type 0
-  AreAllSent played = (i : ℕ) → i < length settings.targets → missed_on i (sendings played) ≡ 0
+  AreAllSent played = (i : ℕ) → i < length (targets_of settings) → missed_on i (sendings played) ≡ 0
 
   -- a packet more, before others
   missed-packet : (packet : List ℕ) (failed : List Bool) (rest : List Sending) (i : ℕ) → missed_on i (record { packet = packet; failed = failed } ∷ rest) ≡ fault_of_send (get_or failed i false) + missed_on i rest
@@ -334,13 +335,13 @@ module _ (settings : Settings) where
       → (IsMet (play settings run (record { command = c; outcome = outcome })) played → AreAllSent played → played ≡ map (well settings) (commands_of played))
       → record { command = c; outcome = outcome } ∷ played ≡ well settings c ∷ map (well settings) (commands_of played)
   one_well run (Packet who moment datagram) outcome played is met sent others =
-      let failed = none_failed outcome.failed settings.targets is.1 (λ i below. omega (arith, sent i below, missed-packet datagram outcome.failed (sendings played) i)) in
+      let failed = none_failed outcome.failed (targets_of settings) is.1 (λ i below. omega (arith, sent i below, missed-packet datagram outcome.failed (sendings played) i)) in
       let marks = is.0 in
       ap (λ ps. record { command = Packet who moment datagram; outcome = outcome } ∷ ps) (others met (λ i below. omega (arith, sent i below, missed-packet datagram outcome.failed (sendings played) i)))
       ∙ (λ i. record { command = Packet who moment datagram; outcome = record { marks = marks i; failed = failed i } } ∷ map (well settings) (commands_of played))
   one_well run (Flush ts) outcome played is met sent others =
-      let graphite = written_or_unused settings.uses_graphite outcome.marks.graphite (is.1 Graphite) (λ on. omega (arith, met Graphite on, missed-flush run ts outcome played Graphite)) in
-      let console = written_or_unused settings.uses_console outcome.marks.console (is.1 Console) (λ on. omega (arith, met Console on, missed-flush run ts outcome played Console)) in
+      let graphite = written_or_unused (is_used settings Graphite) outcome.marks.graphite (is.1 Graphite) (λ on. omega (arith, met Graphite on, missed-flush run ts outcome played Graphite)) in
+      let console = written_or_unused (is_used settings Console) outcome.marks.console (is.1 Console) (λ on. omega (arith, met Console on, missed-flush run ts outcome played Console)) in
       let failed = is.0 in
       ap (λ ps. record { command = Flush ts; outcome = outcome } ∷ ps) (others (λ back on. omega (arith, met back on, missed-flush run ts outcome played back)) sent)
       ∙ (λ i. record { command = Flush ts; outcome = record { marks = record { graphite = graphite i; console = console i }; failed = failed i } } ∷ map (well settings) (commands_of played))

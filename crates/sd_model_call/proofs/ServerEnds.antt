@@ -6,48 +6,43 @@ use Rattle.std.proofs.lemmas.List.{length-map}
 use Rattle.std.proofs.lemmas.List.Folds.{list_any-append}
 use Rattle.sd_model_outside.specs.Outside.{File, Host, Object, Place, Rose, Told, last_count, opened, telling}
 use Rattle.sd_model_outside.specs.Turns.{IsSpent, with_interval}
-use Rattle.sd_model_settings.specs.Settings as file
-use Rattle.sd_model_settings.specs.Settings.{SettingsFlaw, settings}
-use Rattle.sd_model_replay.specs.Settings.{goes_by, targets_of}
+use Rattle.sd_model_settings.specs.Settings.{Settings, SettingsFlaw, settings}
+use Rattle.sd_model_replay.specs.Settings.{targets_of, is_used}
 use Rattle.sd_model_replay.specs.Totals.{totals_text}
 use Rattle.sd_model_serve.specs.Ends.{LoopEnd, Spent, Failed, Enough, WornOut, EndsReceiver, EndsFlusher, EndsKeeper, most_turns}
 use Rattle.sd_model_run.specs.Course.{Course, Reception}
 use Rattle.sd_model_run.specs.Run.{AreReceptions}
 use Rattle.sd_model_call.specs.Words.{Form, form}
-use Rattle.sd_model_call.specs.Opening.{World, Opening, Part, OfSettings, OfScript, OfSource, OfBeat, OfWire, OfGraphite, OfConsole, OfDoor, IsAccepted, source_at, target_place}
-use Rattle.sd_model_call.specs.Call.{Answer, Done, NoMemory, NoForm, Misset, BadScript, NotOpened, NotRead, NotWritten, Worn, HasFlaw}
+use Rattle.sd_model_call.specs.Opening.{World, Opening, Part, OfSettings, OfScript, OfSource, OfBeat, OfWire, OfGraphite, OfConsole, OfDoor, IsAccepted, IsFlawed, opening_where, repeated, settled, source_at, target_place, wire_openings}
+use Rattle.sd_model_call.specs.Call.{Answer, Done, NoMemory, NoForm, Misset, BadScript, NotOpened, NotRead, NotWritten, Worn, WritesTotals}
 use Rattle.sd_model_call.specs.Completeness.{IsWhole, IsBlocked}
-use Rattle.sd_model_call.specs.Server.{AnswersServer, HasServed, ServerAccounts, WritesTotals, by_beat, by_receivers, is_worn, run_answer, run_totals, turns_answer}
-use Rattle.sd_model_call.specs.ServerOpening.{NotBegun, StopsAmong, begun, opening_where, repeated, repeater_openings, server_openings, source_openings, settled}
+use Rattle.sd_model_call.specs.Server.{AnswersServer, HasServed, ServerAccounts, by_beat, by_receivers, is_worn, run_answer, run_totals, turns_answer}
+use Rattle.sd_model_call.specs.ServerOpening.{begun, server_openings, source_openings}
 use Rattle.sd_model_call.specs.ServerCompleteness.{AreAllSpent, AsksToServe, HasFaultOf, IsCauseOf, IsOpenedToServe, IsOutermost, IsServed, IsUnhinderedServer, NoneFailed, OneTookMost, SourceTookMost, TookFew, TookMost}
-use Rattle.sd_model_call.proofs.BegunLemmas.{Same, all_numbered, accepted_so, at_same, has_flaw, not_opened, same_all, same_next, same_settled, uncut}
-use Rattle.sd_model_call.proofs.Openings.{all_append}
+use Rattle.sd_model_call.proofs.BegunLemmas.{Same, all_numbered, accepted_so, at_same, has_flaw, not_begun, not_taken, same_all, same_next, same_settled, uncut}
+use Rattle.sd_model_call.proofs.Openings.{all_append, all_where}
+use Rattle.sd_model_record.specs.Backends.{Graphite, Console}
 
 -- a part that a server opens
 abbrev is_served : Opening → Type 0
 is_served o = IsOpenedToServe o.part
 
-all_where : (used : Bool) (o : Opening) → is_served o → AllByRecursion is_served (opening_where used o)
-all_where true o is = (is, tt)
-all_where false o is = tt
-
-all_served : (s : file.Settings) → AllByRecursion is_served (server_openings s)
+all_served : (s : Settings) → AllByRecursion is_served (server_openings s)
 all_served s =
-    let uses = goes_by s in
     let at_graphite : Opening = record { part = OfGraphite; place = Host s.addresses.graphite_host s.addresses.graphite_port } in
     let at_console : Opening = record { part = OfConsole; place = File [] } in
     let at_door : List Opening = record { part = OfDoor; place = Host s.addresses.mgmt_address s.server.mgmt_port } ∷ [] in
-    let graphite = opening_where uses.uses_graphite at_graphite in
-    let console = opening_where uses.uses_console at_console in
+    let graphite = opening_where (is_used s Graphite) at_graphite in
+    let console = opening_where (is_used s Console) at_console in
     let door : AllByRecursion is_served at_door = (tt, tt) in
-    all_append is_served (source_openings s) (repeater_openings s ++ (graphite ++ (console ++ at_door))) (all_numbered IsOpenedToServe OfSource (λ i. tt) 0 (repeated s.sizes.receivers (Host s.addresses.address s.server.port ∷ [])))
-    (all_append is_served (repeater_openings s) (graphite ++ (console ++ at_door)) (all_numbered IsOpenedToServe OfWire (λ i. tt) 0 (repeated s.sizes.receivers (map target_place (targets_of s))))
-    (all_append is_served graphite (console ++ at_door) (all_where uses.uses_graphite at_graphite tt)
-    (all_append is_served console at_door (all_where uses.uses_console at_console tt) door)))
+    all_append is_served (source_openings s) (wire_openings s.sizes.receivers s ++ (graphite ++ (console ++ at_door))) (all_numbered IsOpenedToServe OfSource (λ i. tt) 0 (repeated s.sizes.receivers (Host s.addresses.address s.server.port ∷ [])))
+    (all_append is_served (wire_openings s.sizes.receivers s) (graphite ++ (console ++ at_door)) (all_numbered IsOpenedToServe OfWire (λ i. tt) 0 (repeated s.sizes.receivers (map target_place (targets_of s))))
+    (all_append is_served graphite (console ++ at_door) (all_where is_served (is_used s Graphite) at_graphite (λ on. tt))
+    (all_append is_served console at_door (all_where is_served (is_used s Console) at_console (λ on. tt)) door)))
 
 -- what is seen where a server's workers begin has the counts of before
-module _ (f : Object → ℕ) (opens : (place : Place) (o : Object) → f (opened place o) ≡ f o) (tells : (told : Told) (o : Object) → f (telling told o) ≡ f o) (starts : (interval : ℕ) (o : Object) → f (with_interval interval o) ≡ f o) where
-  same_begun : (values : file.Settings) (w : World) → Same f (begun values w) w
+module _ {X : Type 0} (f : Object → X) (opens : (place : Place) (o : Object) → f (opened place o) ≡ f o) (tells : (told : Told) (o : Object) → f (telling told o) ≡ f o) (starts : (interval : ℕ) (o : Object) → f (with_interval interval o) ≡ f o) where
+  same_begun : (values : Settings) (w : World) → Same f (begun values w) w
   same_begun values w =
       let all = same_all f opens (server_openings values) w in
       record {
@@ -59,9 +54,10 @@ module _ (f : Object → ℕ) (opens : (place : Place) (o : Object) → f (opene
         graphite = all.graphite;
         console = all.console;
         door = all.door;
+        output = all.output;
       }
 
-  same_start : (values : file.Settings) (settings : Object) (name : List ℕ) (w : World) → IsAccepted values (File name) w.settings settings → Same f (begun values (settled values settings w)) w
+  same_start : (values : Settings) (settings : Object) (name : List ℕ) (w : World) → IsAccepted values (File name) w.settings settings → Same f (begun values (settled values settings w)) w
   same_start values settings name w taken = same_next f _ _ w (same_begun values (settled values settings w)) (same_settled f opens tells values settings name w taken)
 
 -- how a loop over a source ended
@@ -348,40 +344,23 @@ module _ (name : List ℕ) (says : ℕ → Type 0) (old new : World) (h : HasSer
       by_ends (inr is) =
           by_flush (by_flusher h.values.sizes.run_flushes (length h.course.ticked) Done (turns_answer (heard ++ rest)) h.course.flusher_ended begin.served.beat new.served.beat h.theorem.run.flushed.ends is) is
 
-module _ (name : List ℕ) (says : ℕ → Type 0) (old new : World) where
-  stopped_cause : (answer : Answer) (h : NotBegun name answer old new) → IsCauseOf name answer old new
-  stopped_cause answer h = by_stop h.stops where
-    by_stop : StopsAmong (server_openings h.values) answer (settled h.values h.settings old) new → IsCauseOf name answer old new
-    by_stop (inl (is, some)) = subst (λ (a : Answer). IsCauseOf name a old new) (sym is) tt
-    by_stop (inr (part, is, not)) =
-        subst (λ (a : Answer). IsCauseOf name a old new) (sym is)
-        (not_opened name old new h.values h.settings h.taken IsOpenedToServe (server_openings h.values) (all_served h.values) part not)
-
-  -- every answer has its cause
-  pub answer_cause : (answer : Answer) → ServerAccounts name says answer old new → IsCauseOf name answer old new
-  answer_cause answer (inl (inl (is, off))) = subst (λ (a : Answer). IsCauseOf name a old new) (sym is) tt
-  answer_cause answer (inl (inr (inl (is, fails)))) = subst (λ (a : Answer). IsCauseOf name a old new) (sym is) (tt, fails.failed.rose)
-  answer_cause answer (inl (inr (inr (inl (is, fails))))) =
-      let before = ap (λ (o : Object). o.faults) fails.failed.read in
-      subst (λ (a : Answer). IsCauseOf name a old new) (sym is) (tt, subst (λ (n : ℕ). Rose n new.settings.faults) (sym before) fails.failed.failed.rose)
-  answer_cause answer (inl (inr (inr (inr (flaw, is, has))))) = subst (λ (a : Answer). IsCauseOf name a old new) (sym is) has
-  answer_cause answer (inr (inl not)) = stopped_cause answer not
-  answer_cause answer (inr (inr served)) = served_cause name says answer old new served
+-- every answer has its cause
+pub answer_cause : (name : List ℕ) (says : ℕ → Type 0) (old new : World) (answer : Answer) → ServerAccounts name says answer old new → IsCauseOf name answer old new
+answer_cause name says old new answer (inl taken) = not_taken name old new (λ a. IsCauseOf name a old new) tt answer taken (λ rose. (tt, rose)) (λ rose. (tt, rose)) (λ flaw has. (has, taken.only))
+answer_cause name says old new answer (inr (inl not)) = not_begun name old new (λ a. IsCauseOf name a old new) tt server_openings IsOpenedToServe answer not (all_served not.values) (λ part closed. closed)
+answer_cause name says old new answer (inr (inr served)) = served_cause name says answer old new served
 
 -- a call whose words ask to serve, by settings with these bytes
 module _ (words : List (List ℕ)) (bytes : List ℕ) (says : ℕ → Type 0) (old new : World) (asks : AsksToServe words old bytes) where
   caused : (answer : Answer) → AnswersServer (form words) says answer old new → IsCauseOf asks.name answer old new
   caused answer h = answer_cause asks.name says old new answer (subst (λ (f : Option Form). AnswersServer f says answer old new) asks.form h)
 
-  read_so : (flaw : SettingsFlaw) → HasFlaw flaw asks.name old new → settings bytes ≡ Err flaw
-  read_so flaw has = has_flaw asks.name bytes old new asks.told flaw has
-
-  module _ (values : file.Settings) (accepted : settings bytes ≡ Ok values) (steady : IsUnhinderedServer old new) where
+  module _ (values : Settings) (accepted : settings bytes ≡ Ok values) (steady : IsUnhinderedServer old new) where
     by_cause : (answer : Answer) → IsCauseOf asks.name answer old new → IsServed answer
     by_cause Done h = inl (inl refl)
     by_cause NoMemory h = inl (inr refl)
     by_cause NoForm h = absurd h
-    by_cause (Misset flaw) h = let same : Err flaw ≡ Ok values = sym (read_so flaw h) ∙ accepted in absurd (cc)
+    by_cause (Misset flaw) h = let same : Err flaw ≡ Ok values = sym (has_flaw asks.name bytes old asks.told flaw new.settings h.0) ∙ accepted in absurd (cc)
     by_cause (BadScript at flaw) h = absurd h
     by_cause (NotOpened OfSettings) h = absurd (steady.settings h.1)
     by_cause (NotOpened OfScript) h = absurd h.0
@@ -429,19 +408,18 @@ module _ (words : List (List ℕ)) (bytes : List ℕ) (says : ℕ → Type 0) (o
       serves_whole answer h = is_whole answer (caused answer h) (serves answer h)
 
   module _ (flaw : SettingsFlaw) (refused : settings bytes ≡ Err flaw) where
-    not_accepted : (values : file.Settings) (now : Object) → IsAccepted values (File asks.name) old.settings now → ⊥
+    not_accepted : (values : Settings) (now : Object) → IsAccepted values (File asks.name) old.settings now → ⊥
     not_accepted values now taken =
         let same : Ok values ≡ Err flaw = sym (accepted_so asks.name bytes old asks.told values now taken) ∙ refused in
         absurd (cc)
 
     by_account : (answer : Answer) → ServerAccounts asks.name says answer old new → IsBlocked (Misset flaw) answer
-    by_account answer (inl (inl (is, off))) = inl (inr is)
-    by_account answer (inl (inr (inl (is, fails)))) = inr (inl is)
-    by_account answer (inl (inr (inr (inl (is, fails))))) = inr (inr is)
-    by_account answer (inl (inr (inr (inr (other, is, has))))) =
-        let same : Err other ≡ Err flaw = sym (read_so other has) ∙ refused in
-        let one : other ≡ flaw = cc in
-        inl (inl (is ∙ ap (λ f. Misset f) one))
+    by_account answer (inl taken) = not_taken asks.name old new (IsBlocked (Misset flaw)) (inl (inr refl)) answer taken (λ rose. inr (inl refl)) (λ rose. inr (inr refl)) same_flaw where
+      same_flaw : (other : SettingsFlaw) → IsFlawed other (File asks.name) old.settings new.settings → IsBlocked (Misset flaw) (Misset other)
+      same_flaw other has =
+          let same : Err other ≡ Err flaw = sym (has_flaw asks.name bytes old asks.told other new.settings has) ∙ refused in
+          let one : other ≡ flaw = cc in
+          inl (inl (ap (λ f. Misset f) one))
     by_account answer (inr (inl not)) = absurd (not_accepted not.values not.settings not.taken)
     by_account answer (inr (inr served)) = absurd (not_accepted served.values served.settings served.taken)
 

@@ -1,16 +1,14 @@
 -- What the program answers to its words, and what was done by then.
 use Rattle.std.specs.Prelude.{◌≡◌, ◌⊎◌, ℕ, List, [], Option, Some, None, ⊤}
-use Rattle.sd_model_outside.specs.Outside.{File, Number, Object, HasFailed, HasFailedBehind, given}
-use Rattle.sd_model_settings.specs.Settings as file
-use Rattle.sd_model_settings.specs.Settings.{SettingsFlaw}
-use Rattle.sd_model_replay.specs.Settings.{Settings, goes_by}
+use Rattle.sd_model_outside.specs.Outside.{File, Number, Object, Place, HasFailed, HasFailedBehind, given}
+use Rattle.sd_model_settings.specs.Settings.{SettingsFlaw, Settings}
 use Rattle.sd_model_replay.specs.Totals.{totals_after}
 use Rattle.sd_model_replay.specs.AccountingTheorem.{Seen, Course, AccountingTheorem}
 use Rattle.sd_model_replay.specs.Next.{ScriptFlaw}
 use Rattle.sd_model_replay.specs.Ends.{End, Complete, Faulted, ReadFailed, WriteFailed, WornOut, EndsAs}
 use Rattle.sd_model_call.specs.Drill.{bytes_counted, drill_settings, drill_start, drill_text, drilled}
 use Rattle.sd_model_call.specs.Words.{Form, Replay, Serve, Proxy, Drill, form}
-use Rattle.sd_model_call.specs.Opening.{Part, OfSettings, OfScript, OfSource, OfBeat, OfWire, OfGraphite, OfConsole, OfDoor, World, flags_of, IsFlawed, IsAccepted, FailsBehind, IsLeftOff, OnlySettings, openings, UnusedStay, OpensSome, FailsToOpen, started}
+use Rattle.sd_model_call.specs.Opening.{Part, OfSettings, OfScript, World, Opening, IsFlawed, IsAccepted, FailsBehind, IsLeftOff, IsNotOpenedAt, IsPartlyOpened, OnlySettings, replay_openings, settled, started}
 
 -- How the program answers: all was done; no memory was left; the words are of no form; the settings have this flaw; the
 -- script's record at this place has this one; an object couldn't be opened; a read failed; the output failed; as many records
@@ -34,45 +32,39 @@ ending ReadFailed = NotRead OfScript
 ending WriteFailed = NotWritten
 ending (WornOut turns) = Worn turns
 
--- The settings were read and accepted, with these values, and the flags say which backends they name.
-pub record TakesSettings (name : List ℕ) (values : file.Settings) (old new : World) : Type 0 where
-  pub file : IsAccepted values (File name) old.settings new.settings
-  pub flags : new.flags ≡ flags_of (goes_by values)
+-- what it answers where the totals couldn't be written, and else this
+abbrev pub cut_answer : Answer → Answer
+cut_answer Done = NotWritten
+cut_answer other = other
 
--- the settings were read and have this flaw, and nothing else was opened
-pub record HasFlaw (flaw : SettingsFlaw) (name : List ℕ) (old new : World) : Type 0 where
-  pub file : IsFlawed flaw (File name) old.settings new.settings
+-- A text was written at the end, or a front of it, since the output failed.
+abbrev pub WritesTotals : List ℕ → (whole answer : Answer) → Object → Object → Type 0
+WritesTotals text whole answer output output_now =
+    (answer ≡ whole) × (output_now ≡ given text output) ⊎ (answer ≡ cut_answer whole) × HasFailedBehind text output output_now
+
+-- a settings file wasn't taken: no memory was left; it wasn't opened; a read of it failed; it has a flaw
+abbrev pub IsNotTaken : Answer → Place → Object → Object → Type 0
+IsNotTaken answer place old new =
+    (answer ≡ NoMemory) × IsLeftOff place old new
+    ⊎ (answer ≡ NotOpened OfSettings) × HasFailed old new
+    ⊎ (answer ≡ NotRead OfSettings) × FailsBehind place old new
+    ⊎ ((flaw : SettingsFlaw) × (answer ≡ Misset flaw) × IsFlawed flaw place old new)
+
+-- The settings weren't taken, and nothing else was opened.
+pub record NotTaken (name : List ℕ) (answer : Answer) (old new : World) : Type 0 where
+  pub why : IsNotTaken answer (File name) old.settings new.settings
   pub only : OnlySettings old new
 
--- the settings were opened, and a read of them failed, behind bytes that don't decide yet what the file says; nothing else
--- was opened
-pub record FailsToRead (name : List ℕ) (old new : World) : Type 0 where
-  pub failed : FailsBehind (File name) old.settings new.settings
-  pub only : OnlySettings old new
+-- the opening of these parts stopped: no memory was left, or one failed
+abbrev pub StopsAmong : List Opening → Answer → World → World → Type 0
+StopsAmong parts answer old new = (answer ≡ NoMemory) × IsPartlyOpened parts old new ⊎ ((part : Part) × (answer ≡ NotOpened part) × IsNotOpenedAt parts part old new)
 
--- the settings couldn't be opened, and nothing else was
-pub record FailsToOpenSettings (old new : World) : Type 0 where
-  pub failed : HasFailed old.settings new.settings
-  pub only : OnlySettings old new
-
--- the settings weren't opened, or were and some of their bytes were read; nothing else was opened
-pub record LeavesOff (name : List ℕ) (old new : World) : Type 0 where
-  pub settings : IsLeftOff (File name) old.settings new.settings
-  pub only : OnlySettings old new
-
--- Settings were read and accepted, and then no memory was left, once some of the other parts were opened.
-pub record LacksMemory (name script : List ℕ) (old new : World) : Type 0 where
-  pub values : file.Settings
-  pub taken : TakesSettings name values old new
-  pub some : OpensSome (openings (goes_by values) script) old new
-  pub unused : UnusedStay (goes_by values) old new
-
--- Settings were read and accepted, and then a part couldn't be opened.
-pub record StopsAt (part : Part) (name script : List ℕ) (old new : World) : Type 0 where
-  pub values : file.Settings
-  pub taken : TakesSettings name values old new
-  pub fails : FailsToOpen part (openings (goes_by values) script) old new
-  pub unused : UnusedStay (goes_by values) old new
+-- Settings were read and accepted, and then the opening of the parts that they ask for stopped.
+pub record NotBegun (parts : Settings → List Opening) (name : List ℕ) (answer : Answer) (old new : World) : Type 0 where
+  pub values : Settings
+  pub settings : Object
+  pub taken : IsAccepted values (File name) old.settings settings
+  pub stops : StopsAmong (parts values) answer (settled values settings old) new
 
 -- The account of a call: the settings in force, what was carried out, and what was seen of the objects that were used when
 -- the records began and when they ended.
@@ -82,49 +74,32 @@ pub record Account : Type 0 where
   pub start : Seen
   pub end : Seen
 
--- No record was carried out, and the output is untouched.
-pub record NotBegun (a : Account) (old new : World) : Type 0 where
+-- no record was carried out
+pub record IsIdle (a : Account) (new : World) : Type 0 where
   pub played : a.course.played ≡ []
   pub ahead : a.course.ahead ≡ []
   pub since : a.start ≡ new.seen
   pub until : a.end ≡ new.seen
-  pub output : new.seen.output ≡ old.seen.output
 
--- A replay by settings that were read, of a script that was opened, as was a wire for each target and each backend that is
--- used, ended so.
-pub record Ran (end : End) (name script : List ℕ) (a : Account) (old new : World) : Type 0 where
-  pub values : file.Settings
-  pub taken : TakesSettings name values old new
-  pub force : a.force ≡ goes_by values
-  pub since : a.start ≡ started a.force script old.seen
+-- A replay by settings that were read and accepted, with what it uses opened, ended so, and the answer says how. Nothing else that
+-- is seen changed.
+pub record HasReplayed (name script : List ℕ) (answer : Answer) (a : Account) (old new : World) : Type 0 where
+  pub values : Settings
+  pub settings : Object
+  pub taken : IsAccepted values (File name) old.settings settings
+  pub force : a.force ≡ values
+  pub since : a.start ≡ started script values (settled values settings old)
   pub until : a.end ≡ new.seen
+  pub end : End
   pub ends : EndsAs a.force end a.course a.start a.end
+  pub answer_is : answer ≡ ending end
+  pub others : new ≡ record (settled values settings old) { seen = new.seen }
 
 -- Why the program answers so where it is asked for a replay, and what was done by then.
 abbrev pub AnswersReplay : List ℕ → List ℕ → Answer → Account → World → World → Type 0
-AnswersReplay name script Done a old new = Ran (Complete (totals_after a.force a.course.played)) name script a old new
-AnswersReplay name script NoMemory a old new = (LeavesOff name old new ⊎ LacksMemory name script old new) × NotBegun a old new
-AnswersReplay name script NoForm a old new = ⊥
-AnswersReplay name script (Misset flaw) a old new = HasFlaw flaw name old new × NotBegun a old new
-AnswersReplay name script (BadScript at flaw) a old new = Ran (Faulted at flaw) name script a old new
-AnswersReplay name script (NotOpened OfSettings) a old new = FailsToOpenSettings old new × NotBegun a old new
-AnswersReplay name script (NotOpened OfScript) a old new = StopsAt OfScript name script old new × NotBegun a old new
-AnswersReplay name script (NotOpened (OfSource i)) a old new = ⊥
-AnswersReplay name script (NotOpened OfBeat) a old new = ⊥
-AnswersReplay name script (NotOpened (OfWire i)) a old new = StopsAt (OfWire i) name script old new × NotBegun a old new
-AnswersReplay name script (NotOpened OfGraphite) a old new = StopsAt OfGraphite name script old new × NotBegun a old new
-AnswersReplay name script (NotOpened OfConsole) a old new = StopsAt OfConsole name script old new × NotBegun a old new
-AnswersReplay name script (NotOpened OfDoor) a old new = ⊥
-AnswersReplay name script (NotRead OfSettings) a old new = FailsToRead name old new × NotBegun a old new
-AnswersReplay name script (NotRead OfScript) a old new = Ran ReadFailed name script a old new
-AnswersReplay name script (NotRead (OfSource i)) a old new = ⊥
-AnswersReplay name script (NotRead OfBeat) a old new = ⊥
-AnswersReplay name script (NotRead (OfWire i)) a old new = ⊥
-AnswersReplay name script (NotRead OfGraphite) a old new = ⊥
-AnswersReplay name script (NotRead OfConsole) a old new = ⊥
-AnswersReplay name script (NotRead OfDoor) a old new = ⊥
-AnswersReplay name script NotWritten a old new = Ran WriteFailed name script a old new
-AnswersReplay name script (Worn turns) a old new = Ran (WornOut turns) name script a old new
+AnswersReplay name script answer a old new =
+    (NotTaken name answer old new ⊎ NotBegun (replay_openings script) name answer old new) × IsIdle a new
+    ⊎ HasReplayed name script answer a old new
 
 -- how the replay of a drill of n packets ends where its totals are written
 abbrev pub drill_end : ℕ → End
@@ -146,46 +121,32 @@ pub record Drilled (n : ℕ) (a : Account) (output : Object) : Type 0 where
 abbrev pub OnlyOutput : World → World → Type 0
 OnlyOutput old new = new ≡ record old { seen = record old.seen { output = new.seen.output } }
 
--- a drill was carried out, and of the world's objects the output alone was changed
-pub record RanDrill (n : ℕ) (a : Account) (old new : World) : Type 0 where
+-- A drill was carried out, and of the world's objects the output alone was changed. It was given the drill's text, or a front of it,
+-- since it failed; a drill has no other fault.
+pub record RanDrill (n : ℕ) (answer : Answer) (a : Account) (old new : World) : Type 0 where
   pub drilled : Drilled n a old.seen.output
+  pub complete : answer ≡ Done → drilled.end ≡ drill_end n
+  pub written : WritesTotals (drill_text n) Done answer old.seen.output new.seen.output
   pub only : OnlyOutput old new
 
--- Why the program answers so where it is asked for a drill of n packets, and what was done by then: a drill has no fault but
--- that of the output, which was given a front of the drill's text, and not all of it.
-abbrev pub AnswersDrill : ℕ → Answer → Account → World → World → Type 0
-AnswersDrill n Done a old new = (ran : RanDrill n a old new) × (ran.drilled.end ≡ drill_end n) × (new.seen.output ≡ given (drill_text n) old.seen.output)
-AnswersDrill n NoMemory a old new = (new ≡ old) × NotBegun a old new
-AnswersDrill n NoForm a old new = ⊥
-AnswersDrill n (Misset flaw) a old new = ⊥
-AnswersDrill n (BadScript at flaw) a old new = ⊥
-AnswersDrill n (NotOpened part) a old new = ⊥
-AnswersDrill n (NotRead part) a old new = ⊥
-AnswersDrill n NotWritten a old new = RanDrill n a old new × HasFailedBehind (drill_text n) old.seen.output new.seen.output
-AnswersDrill n (Worn turns) a old new = ⊥
-
--- words of no form are refused, and nothing is opened or used
-pub record Refuses (answer : Answer) (a : Account) (old new : World) : Type 0 where
-  pub refused : answer ≡ NoForm
-  pub unused : new ≡ old
-  pub not_begun : NotBegun a old new
+-- nothing was done
+abbrev pub DoesNothing : Account → World → World → Type 0
+DoesNothing a old new = (new ≡ old) × IsIdle a new
 
 -- Why the program answers so, by the form of its words. A server and a proxy carry out no record of a script; of each there is an
 -- account of its own.
 abbrev pub Answers : Option Form → Answer → Account → World → World → Type 0
-Answers None answer a old new = Refuses answer a old new
-Answers (Some (Replay name script)) answer a old new = AnswersReplay name script answer a old new × (new.served ≡ old.served)
+Answers None answer a old new = (answer ≡ NoForm) × DoesNothing a old new
+Answers (Some (Replay name script)) answer a old new = AnswersReplay name script answer a old new
 Answers (Some (Serve name)) answer a old new = (a.course.played ≡ []) × (a.course.ahead ≡ [])
 Answers (Some (Proxy name)) answer a old new = (a.course.played ≡ []) × (a.course.ahead ≡ [])
-Answers (Some (Drill n)) answer a old new = AnswersDrill n answer a old new
+Answers (Some (Drill n)) answer a old new = (answer ≡ NoMemory) × DoesNothing a old new ⊎ RanDrill n answer a old new
 
 -- the words are none that ask for the server or the proxy
 abbrev pub IsScripted : Option Form → Type 0
-IsScripted None = ⊤
-IsScripted (Some (Replay name script)) = ⊤
 IsScripted (Some (Serve name)) = ⊥
 IsScripted (Some (Proxy name)) = ⊥
-IsScripted (Some (Drill n)) = ⊤
+IsScripted asked = ⊤
 
 -- A call, by its words, what is seen of its objects before and after it, and its answer: whatever it answers, the
 -- accounting theorem holds of the records that it carried out under the settings in force, between what was seen when they

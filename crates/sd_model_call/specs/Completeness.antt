@@ -3,7 +3,7 @@ use Rattle.std.specs.Prelude.{◌≡◌, ◌⊎◌, ℕ, ◌<◌, IsTrue, ⊤, L
 use Rattle.std.specs.List.{AllByRecursion}
 use Rattle.sd_model_outside.specs.Outside.{Left, Rose, given}
 use Rattle.sd_model_outside.specs.Deliveries.{AfterDeliveries}
-use Rattle.sd_model_replay.specs.Settings.{Settings, is_used}
+use Rattle.sd_model_replay.specs.Settings.{is_used, targets_of}
 use Rattle.sd_model_record.specs.Backends.{Backend}
 use Rattle.sd_model_replay.specs.Script.{Command, end_word, script_text, IsLegal}
 use Rattle.sd_model_replay.specs.Next.{ScriptFlaw, Faulty, Begins}
@@ -15,15 +15,14 @@ use Rattle.sd_model_replay.specs.AccountingTheorem.{Seen, Course, AccountingTheo
 use Rattle.sd_model_replay.specs.Ends.{End, WriteFailed, most_records, behind}
 use Rattle.sd_model_call.specs.Faultless.{well}
 use Rattle.sd_model_call.specs.Words.{Replay, form}
-use Rattle.sd_model_settings.specs.Settings as file
-use Rattle.sd_model_settings.specs.Settings.{SettingsFlaw, settings}
-use Rattle.sd_model_call.specs.Opening.{World, Part, OfSettings, OfScript, OfSource, OfBeat, OfWire, OfGraphite, OfConsole, OfDoor}
+use Rattle.sd_model_settings.specs.Settings.{SettingsFlaw, settings, Settings}
+use Rattle.sd_model_call.specs.Opening.{World, Part, OfSettings, OfWire, OfGraphite, OfConsole, settled, started}
 use Rattle.sd_model_call.specs.Call.{Answer, NoMemory, Misset, NotOpened, NotRead, NotWritten}
 
 -- The script tells that it has these legal records and then these bytes, and no fault was counted of it.
 pub record IsSteady (settings : Settings) (old new : Seen) (commands : List Command) (bytes : List ℕ) : Type 0 where
   pub script : old.script.told ≡ Left (script_text commands ++ bytes)
-  pub legal : AllByRecursion (IsLegal settings.receivers) commands
+  pub legal : AllByRecursion (IsLegal settings.sizes.receivers) commands
   pub script_faults : ¬ Rose old.script.faults new.script.faults
 
 -- nothing hinders a replay of these records: they are fewer than there may be, behind them stands the word that ends the
@@ -37,7 +36,7 @@ pub record IsUnhindered (settings : Settings) (old new : Seen) (commands : List 
 pub record IsCutOff (settings : Settings) (old new : Seen) (commands : List Command) (flaw : ScriptFlaw) (bytes : List ℕ) : Type 0 where
   pub steady : IsSteady settings old new commands bytes
   pub few : length commands < most_records
-  pub begins : Begins settings.receivers (Faulty flaw) bytes (Left [])
+  pub begins : Begins settings.sizes.receivers (Faulty flaw) bytes (Left [])
 
 -- as many records as there may be
 pub record IsLongest (settings : Settings) (old new : Seen) (commands : List Command) (bytes : List ℕ) : Type 0 where
@@ -56,16 +55,20 @@ pub record Asks (words : List (List ℕ)) (old new : World) (bytes : List ℕ) :
   pub told : old.settings.told ≡ Left bytes
 
 -- such a call whose settings are accepted with these values, and no fault was counted of them
-pub record AsksPlainly (words : List (List ℕ)) (values : file.Settings) (old new : World) : Type 0 where
+pub record AsksPlainly (words : List (List ℕ)) (values : Settings) (old new : World) : Type 0 where
   pub bytes : List ℕ
   pub asks : Asks words old new bytes
   pub accepted : settings bytes ≡ Ok values
   pub settings_faults : ¬ Rose old.settings.faults new.settings.faults
 
+-- what is seen where a replay by settings that were accepted begins
+abbrev pub start_of : Settings → List ℕ → World → World → Seen
+start_of values script old new = started script values (settled values new.settings old)
+
 -- no fault was counted of a backend that is used, nor of the wire of a target
 pub record NoneMissed (settings : Settings) (old new : Seen) : Type 0 where
   pub backends : (back : Backend) → IsTrue (is_used settings back) → ¬ Rose (seen_at back old).faults (seen_at back new).faults
-  pub wires : (i : ℕ) → i < length settings.targets → ¬ Rose (wire_at i old.wires).faults (wire_at i new.wires).faults
+  pub wires : (i : ℕ) → i < length (targets_of settings) → ¬ Rose (wire_at i old.wires).faults (wire_at i new.wires).faults
 
 -- the answer that is expected, or that no memory was left
 abbrev pub IsWhole : Answer → Answer → Type 0
@@ -73,14 +76,10 @@ IsWhole ended answer = (answer ≡ ended) ⊎ (answer ≡ NoMemory)
 
 -- a wire or a backend, whose faults never end a replay that has begun
 abbrev pub IsOutward : Part → Type 0
-IsOutward OfSettings = ⊥
-IsOutward OfScript = ⊥
-IsOutward (OfSource i) = ⊥
-IsOutward OfBeat = ⊥
 IsOutward (OfWire i) = ⊤
 IsOutward OfGraphite = ⊤
 IsOutward OfConsole = ⊤
-IsOutward OfDoor = ⊥
+IsOutward part = ⊥
 
 -- besides, that a wire or a backend couldn't be opened
 abbrev pub IsFull : Answer → Answer → Type 0
@@ -91,7 +90,7 @@ abbrev pub IsTold : Answer → Answer → Type 0
 IsTold ended answer = IsFull ended answer ⊎ (answer ≡ NotWritten)
 
 -- what a call has to answer whose settings have a flaw; with nothing told, all else
-abbrev pub refusal : Result file.Settings SettingsFlaw → Option Answer
+abbrev pub refusal : Result Settings SettingsFlaw → Option Answer
 refusal (Err flaw) = Some (Misset flaw)
 refusal (Ok values) = None
 

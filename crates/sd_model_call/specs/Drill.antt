@@ -2,17 +2,17 @@
 use Rattle.std.specs.Prelude.{ℕ, min, List, [], ◌++◌, length, map, sum_by, codes}
 use Rattle.sd_model_outside.specs.Outside.{Left, Number, Object, fresh, last_count}
 use Rattle.sd_model_settings.specs.Defaults.{default_settings}
-use Rattle.sd_model_replay.specs.Settings.{Settings, goes_by}
 use Rattle.sd_model_record.specs.Backends.{Graphite}
 use Rattle.sd_model_replay.specs.MadeScript.{made_commands, made_script}
 use Rattle.sd_model_replay.specs.Replay.{Played, deliveries}
 use Rattle.sd_model_replay.specs.Totals.{total_line, totals_after, totals_text}
 use Rattle.sd_model_replay.specs.AccountingTheorem.{Seen}
 use Rattle.sd_model_call.specs.Faultless.{well}
+use Rattle.sd_model_settings.specs.Settings.{Settings}
 
 -- what a drill goes by
 unfoldable pub drill_settings : Settings
-drill_settings = goes_by default_settings
+drill_settings = default_settings
 
 -- the records of n packets, carried out with no fault
 unfoldable pub drilled : ℕ → List Played

@@ -1,14 +1,12 @@
--- The objects of a call, and how they are opened and read before a replay begins.
-use Rattle.std.specs.Prelude.{◌≡◌, ◌⊎◌, ℕ, ◌+◌, ◌<◌, Bool, false, List, [], ◌∷◌, ◌++◌, length, map, drop, get_or, if◌then◌else◌, Ok, Err}
-use Rattle.std.specs.List.{AllByRecursion}
+-- The objects of a call, and how they are opened and read before anything is carried out.
+use Rattle.std.specs.Prelude.{◌≡◌, ◌⊎◌, ℕ, zero, suc, ◌+◌, ◌<◌, Bool, List, [], ◌∷◌, ◌++◌, length, map, fold, set, get_or, if◌then◌else◌, Ok, Err}
 use Rattle.sd_model_outside.specs.Outside.{Place, File, Host, Object, Untold, fresh, HasFailed, HasRead, FailedBehind, IsAtEnd, opened}
-use Rattle.sd_model_settings.specs.Settings as file
-use Rattle.sd_model_settings.specs.Settings.{SettingsFlaw, settings}
+use Rattle.sd_model_settings.specs.Settings.{SettingsFlaw, settings, Settings}
 use Rattle.sd_model_settings.specs.Entries.{Target}
-use Rattle.sd_model_replay.specs.Settings.{Settings, is_used}
-use Rattle.sd_model_record.specs.Backends.{Backend}
+use Rattle.sd_model_replay.specs.Settings.{targets_of, is_used}
 use Rattle.sd_model_record.specs.Repeater.{wire_at}
-use Rattle.sd_model_replay.specs.AccountingTheorem.{Seen, seen_at}
+use Rattle.sd_model_replay.specs.AccountingTheorem.{Seen}
+use Rattle.sd_model_record.specs.Backends.{Graphite, Console}
 
 -- an object of a call; a receiver's source and a wire by their numbers
 pub data Part : Type 0 where
@@ -28,7 +26,7 @@ pub record Flags : Type 0 where
 
 -- the flags that settings ask for
 abbrev pub flags_of : Settings → Flags
-flags_of s = record { graphite = s.uses_graphite; console = s.uses_console }
+flags_of s = record { graphite = is_used s Graphite; console = is_used s Console }
 
 -- What is seen of the objects that a server alone uses: the sources of its receivers, the beat and the door.
 pub record Served : Type 0 where
@@ -61,7 +59,7 @@ pub record IsFlawed (flaw : SettingsFlaw) (place : Place) (old new : Object) : T
   pub refused : settings bytes ≡ Err flaw
 
 -- a settings file is accepted with these values
-pub record IsAccepted (values : file.Settings) (place : Place) (old new : Object) : Type 0 where
+pub record IsAccepted (values : Settings) (place : Place) (old new : Object) : Type 0 where
   pub bytes : List ℕ
   pub read : AreRead place bytes old new
   pub accepted : settings bytes ≡ Ok values
@@ -74,11 +72,9 @@ FailsBehind place old new = FailedBehind (longest_file + 1) (opened place old) n
 abbrev pub IsLeftOff : Place → Object → Object → Type 0
 IsLeftOff place old new = (new ≡ old) ⊎ ((bytes : List ℕ) × HasRead bytes (opened place old) new)
 
--- no part but the settings was opened, and the flags stayed
-pub record OnlySettings (old new : World) : Type 0 where
-  pub seen : new.seen ≡ old.seen
-  pub served : new.served ≡ old.served
-  pub flags : new.flags ≡ old.flags
+-- nothing but the settings changed
+abbrev pub OnlySettings : World → World → Type 0
+OnlySettings old new = new ≡ record old { settings = new.settings }
 
 -- what is seen of a source by its number, and of one that isn't there
 abbrev pub source_at : ℕ → List Object → Object
@@ -95,84 +91,81 @@ part_in world OfGraphite = world.seen.graphite
 part_in world OfConsole = world.seen.console
 part_in world OfDoor = world.served.door
 
+-- with this in the place of a part
+abbrev pub with_part : Part → Object → World → World
+with_part OfSettings o w = record w { settings = o }
+with_part OfScript o w = record w { seen = record w.seen { script = o } }
+with_part (OfSource i) o w = record w { served = record w.served { sources = set w.served.sources i o } }
+with_part OfBeat o w = record w { served = record w.served { beat = o } }
+with_part (OfWire i) o w = record w { seen = record w.seen { wires = set w.seen.wires i o } }
+with_part OfGraphite o w = record w { seen = record w.seen { graphite = o } }
+with_part OfConsole o w = record w { seen = record w.seen { console = o } }
+with_part OfDoor o w = record w { served = record w.served { door = o } }
+
 -- a part that is opened, and where
 pub record Opening : Type 0 where
   pub part : Part
   pub place : Place
 
+-- once a part was opened at its place
+abbrev pub opened_part : World → Opening → World
+opened_part w o = with_part o.part (opened o.place (part_in w o.part)) w
+
+-- once parts were, in their order
+abbrev pub opened_all : World → List Opening → World
+opened_all w os = fold opened_part w os
+
+-- parts of one kind, each at its place, with the numbers from this one on
+abbrev pub numbered : (ℕ → Part) → ℕ → List Place → List Opening
+numbered part i [] = []
+numbered part i (p ∷ places) = record { part = part i; place = p } ∷ numbered part (i + 1) places
+
+-- a part at this place, where it is used
+abbrev pub opening_where : Bool → Opening → List Opening
+opening_where used o = if used then o ∷ [] else []
+
 -- where the wire of a target is opened
 abbrev pub target_place : Target → Place
 target_place t = Host t.host t.port
 
--- the wires of targets, from this number on
-abbrev pub wire_openings : ℕ → List Target → List Opening
-wire_openings i [] = []
-wire_openings i (t ∷ targets) = record { part = OfWire i; place = target_place t } ∷ wire_openings (i + 1) targets
+-- places, so many times over
+abbrev pub repeated : ℕ → List Place → List Place
+repeated zero places = []
+repeated (suc n) places = places ++ repeated n places
 
--- a backend, where it is used, at the empty name
-abbrev pub backend_openings : Part → Bool → List Opening
-backend_openings part used = if used then record { part = part; place = File [] } ∷ [] else []
+-- so many runs of wires, each with a wire to each target of the repeater
+abbrev pub wire_openings : ℕ → Settings → List Opening
+wire_openings runs s = numbered OfWire 0 (repeated runs (map target_place (targets_of s)))
 
--- What a replay opens once the settings are read, in this order: the script, a wire for each target of the repeater, and
--- Graphite and the console, where they are used.
-abbrev pub openings : Settings → List ℕ → List Opening
-openings s script =
+-- What the replay of a script opens once the settings are read, in this order: the script; a wire for each target of the repeater;
+-- and Graphite and the console, where they are used, at the empty name.
+abbrev pub replay_openings : List ℕ → Settings → List Opening
+replay_openings script s =
     record { part = OfScript; place = File script }
-    ∷ (wire_openings 0 s.targets ++ (backend_openings OfGraphite s.uses_graphite ++ backend_openings OfConsole s.uses_console))
+    ∷ (wire_openings 1 s
+    ++ (opening_where (is_used s Graphite) (record { part = OfGraphite; place = File [] })
+    ++ opening_where (is_used s Console) (record { part = OfConsole; place = File [] })))
 
--- a part was opened at its place, and nothing else of it changed
-abbrev pub IsOpened : World → World → Opening → Type 0
-IsOpened old new o = part_in new o.part ≡ opened o.place (part_in old o.part)
+-- A world once settings were read and accepted with these values, and the flags say which backends they name.
+abbrev pub settled : Settings → Object → World → World
+settled values settings w = record w { settings = settings; flags = flags_of values }
 
--- a part is as it was
-abbrev pub IsUntouched : World → World → Opening → Type 0
-IsUntouched old new o = part_in new o.part ≡ part_in old o.part
+-- what is seen where the replay of a script begins, by settings that were read and accepted
+abbrev pub started : List ℕ → Settings → World → Seen
+started script s w = (opened_all w (replay_openings script s)).seen
 
--- A backend that the settings don't name is as it was, and so are wires without a target; and no wire comes or goes.
-pub record UnusedStay (s : Settings) (old new : World) : Type 0 where
-  pub backends : (back : Backend) → is_used s back ≡ false → seen_at back new.seen ≡ seen_at back old.seen
-  pub wires : drop (length s.targets) new.seen.wires ≡ drop (length s.targets) old.seen.wires
-  pub count : length new.seen.wires ≡ length old.seen.wires
-
--- Some parts were opened, in their order, and those behind them are untouched.
-pub record OpensSome (parts : List Opening) (old new : World) : Type 0 where
+-- Some of these parts were opened, in their order, and nothing else that is seen changed.
+pub record IsPartlyOpened (parts : List Opening) (old new : World) : Type 0 where
   pub before : List Opening
   pub behind : List Opening
   pub order : parts ≡ before ++ behind
-  pub opened : AllByRecursion (IsOpened old new) before
-  pub untouched : AllByRecursion (IsUntouched old new) behind
+  pub opened : new ≡ opened_all old before
 
--- The opening of a part failed: those before it were opened, in their order, and those behind it are untouched.
-pub record FailsToOpen (part : Part) (parts : List Opening) (old new : World) : Type 0 where
+-- The opening of a part failed, once those before it were opened, in their order; nothing else that is seen changed.
+pub record IsNotOpenedAt (parts : List Opening) (part : Part) (old new : World) : Type 0 where
   pub before : List Opening
   pub place : Place
   pub behind : List Opening
   pub order : parts ≡ before ++ record { part = part; place = place } ∷ behind
-  pub opened : AllByRecursion (IsOpened old new) before
-  pub failed : HasFailed (part_in old part) (part_in new part)
-  pub untouched : AllByRecursion (IsUntouched old new) behind
-
--- a backend that is opened at the empty name where it is used
-abbrev pub opened_where : Bool → Object → Object
-opened_where used o = if used then opened (File []) o else o
-
--- objects of which each place has one, which is opened there; those behind them are as they were
-abbrev pub opened_each : List Place → List Object → List Object
-opened_each [] objects = objects
-opened_each (p ∷ places) [] = []
-opened_each (p ∷ places) (o ∷ objects) = opened p o ∷ opened_each places objects
-
--- wires of which each target has one, and is opened there; those behind them are as they were
-abbrev pub opened_wires : List Target → List Object → List Object
-opened_wires targets wires = opened_each (map target_place targets) wires
-
--- what is seen where a replay begins: a script of this name was opened, a wire for each target, and each backend that is
--- used at the empty name
-abbrev pub started : Settings → List ℕ → Seen → Seen
-started s name seen =
-    record seen {
-      script = opened (File name) seen.script;
-      graphite = opened_where s.uses_graphite seen.graphite;
-      console = opened_where s.uses_console seen.console;
-      wires = opened_wires s.targets seen.wires;
-    }
+  pub failed : HasFailed (part_in (opened_all old before) part) (part_in new part)
+  pub others : new ≡ with_part part (part_in new part) (opened_all old before)

@@ -1,18 +1,15 @@
 -- What the program answers where it is asked for the proxy, and what was done by then.
-use Rattle.std.specs.Prelude.{◌≡◌, ◌⊎◌, ℕ, ◌<◌, List, [], ◌∷◌, length, map, codes, All, Option, Some, None, ⊤}
+use Rattle.std.specs.Prelude.{◌≡◌, ◌⊎◌, ℕ, ◌<◌, List, [], ◌∷◌, length, map, codes, All, Option, Some, ⊤}
 use Rattle.sd_model_outside.specs.Outside.{Object, Place, File, Host}
 use Rattle.sd_model_settings.specs.Entries.{Node}
-use Rattle.sd_model_settings.specs.Settings as file
-use Rattle.sd_model_settings.specs.Settings.{OutOfRange}
+use Rattle.sd_model_settings.specs.Settings.{Settings, OutOfRange}
 use Rattle.sd_model_serve.specs.Ends.{LoopEnd, Spent, Failed, Enough, WornOut}
 use Rattle.sd_model_proxy.specs.Routes.{AreAllUp}
 use Rattle.sd_model_proxy.specs.Relays.{Relay, AreRelays, relays_totals}
 use Rattle.sd_model_proxy.specs.Totals.{proxy_text}
-use Rattle.sd_model_call.specs.Words.{Form, Replay, Serve, Proxy, Drill}
-use Rattle.sd_model_call.specs.Opening.{Opening, OfSource, OfWire, World, IsAccepted}
-use Rattle.sd_model_call.specs.Call.{Answer, Done, Misset, NotRead, Worn}
-use Rattle.sd_model_call.specs.ServerOpening.{StopsAmong, numbered, opened_all, settled}
-use Rattle.sd_model_call.specs.Server.{NotTaken, WritesTotals}
+use Rattle.sd_model_call.specs.Words.{Form, Proxy}
+use Rattle.sd_model_call.specs.Opening.{Opening, OfSource, OfWire, World, IsAccepted, OnlySettings, numbered, opened_all, settled}
+use Rattle.sd_model_call.specs.Call.{Answer, Done, Misset, NotRead, Worn, NotBegun, NotTaken, WritesTotals}
 
 -- where the wire of a node is opened
 abbrev pub node_place : Node → Place
@@ -20,25 +17,22 @@ node_place n = Host n.host n.port
 
 -- What the proxy opens once the settings are read, in this order: the source of its receiver, at the address that the server listens
 -- at, and a wire for each node.
-abbrev pub proxy_openings : file.Settings → List Opening
+abbrev pub proxy_openings : Settings → List Opening
 proxy_openings s =
     record { part = OfSource 0; place = Host s.addresses.address s.server.port } ∷ numbered OfWire 0 (map node_place s.lists.nodes)
 
 -- Settings were read and accepted, but they name no node, which the proxy needs. Nothing else was opened.
 pub record HasNoNodes (name : List ℕ) (answer : Answer) (old new : World) : Type 0 where
-  pub values : file.Settings
+  pub values : Settings
   pub taken : IsAccepted values (File name) old.settings new.settings
   pub none : values.lists.nodes ≡ []
   pub answer_is : answer ≡ Misset (OutOfRange (codes "nodes"))
-  pub others : new ≡ record old { settings = new.settings }
+  pub only : OnlySettings old new
 
 -- Settings were read and accepted, and name some nodes, and then the proxy couldn't be begun.
 pub record ProxyNotBegun (name : List ℕ) (answer : Answer) (old new : World) : Type 0 where
-  pub values : file.Settings
-  pub settings : Object
-  pub taken : IsAccepted values (File name) old.settings settings
-  pub some : 0 < length values.lists.nodes
-  pub stops : StopsAmong (proxy_openings values) answer (settled values settings old) new
+  pub not_begun : NotBegun proxy_openings name answer old new
+  pub some : 0 < length not_begun.values.lists.nodes
 
 -- what is answered where the loop of the receiver ended so, and the totals could be written
 abbrev pub relay_answer : LoopEnd → Answer
@@ -51,7 +45,7 @@ relay_answer (WornOut turns) = Worn turns
 -- their owners, all nodes being up; its totals were written, and the answer says how its loop ended, or that the output failed.
 -- Nothing else that is seen changed.
 pub record HasProxied (name : List ℕ) (answer : Answer) (old new : World) : Type 0 where
-  pub values : file.Settings
+  pub values : Settings
   pub settings : Object
   pub taken : IsAccepted values (File name) old.settings settings
   pub some : 0 < length values.lists.nodes
@@ -71,8 +65,5 @@ ProxyAccounts name answer old new =
 
 -- where the words ask for the proxy, its account; nothing, where they don't
 abbrev pub AnswersProxy : Option Form → Answer → World → World → Type 0
-AnswersProxy None answer old new = ⊤
-AnswersProxy (Some (Replay name script)) answer old new = ⊤
-AnswersProxy (Some (Serve name)) answer old new = ⊤
 AnswersProxy (Some (Proxy name)) answer old new = ProxyAccounts name answer old new
-AnswersProxy (Some (Drill n)) answer old new = ⊤
+AnswersProxy asked answer old new = ⊤

@@ -1,13 +1,13 @@
 -- What a call that is asked for the proxy has to come to, by its words, what its objects tell, and where no fault was counted; and
 -- what its answers say of its objects.
 use Rattle.std.specs.Prelude.{◌≡◌, ◌⊎◌, ℕ, ◌<◌, ⊤, List, Some}
-use Rattle.sd_model_outside.specs.Outside.{Left, Object, Rose, last_count}
+use Rattle.sd_model_outside.specs.Outside.{File, Left, Object, Rose, last_count}
 use Rattle.sd_model_outside.specs.Turns.{IsSpent}
 use Rattle.sd_model_record.specs.Repeater.{wire_at}
 use Rattle.sd_model_serve.specs.Ends.{most_turns}
 use Rattle.sd_model_call.specs.Words.{Proxy, form}
-use Rattle.sd_model_call.specs.Opening.{Part, OfSettings, OfScript, OfSource, OfBeat, OfWire, OfGraphite, OfConsole, OfDoor, World, source_at}
-use Rattle.sd_model_call.specs.Call.{Answer, Done, NoMemory, NoForm, Misset, BadScript, NotOpened, NotRead, NotWritten, Worn, HasFlaw}
+use Rattle.sd_model_call.specs.Opening.{Part, OfSettings, OfSource, OfWire, World, IsFlawed, OnlySettings, source_at}
+use Rattle.sd_model_call.specs.Call.{Answer, Done, NoMemory, NoForm, Misset, BadScript, NotOpened, NotRead, NotWritten, Worn}
 use Rattle.sd_model_call.specs.Completeness.{IsWhole}
 use Rattle.sd_model_call.specs.ServerCompleteness.{HasFaultOf, SourceTookMost, TookFew}
 use Rattle.sd_model_call.specs.Proxy.{HasNoNodes}
@@ -42,24 +42,15 @@ IsRelayed answer = IsWhole Done answer ⊎ ((i : ℕ) × (answer ≡ NotOpened (
 -- a part that is opened for the proxy
 abbrev pub IsOpenedToRelay : Part → Type 0
 IsOpenedToRelay OfSettings = ⊤
-IsOpenedToRelay OfScript = ⊥
 IsOpenedToRelay (OfSource i) = i ≡ 0
-IsOpenedToRelay OfBeat = ⊥
 IsOpenedToRelay (OfWire i) = ⊤
-IsOpenedToRelay OfGraphite = ⊥
-IsOpenedToRelay OfConsole = ⊥
-IsOpenedToRelay OfDoor = ⊥
+IsOpenedToRelay part = ⊥
 
 -- a part whose read ends a call for the proxy, where it fails
 abbrev pub IsReadToRelay : Part → Type 0
 IsReadToRelay OfSettings = ⊤
-IsReadToRelay OfScript = ⊥
 IsReadToRelay (OfSource i) = i ≡ 0
-IsReadToRelay OfBeat = ⊥
-IsReadToRelay (OfWire i) = ⊥
-IsReadToRelay OfGraphite = ⊥
-IsReadToRelay OfConsole = ⊥
-IsReadToRelay OfDoor = ⊥
+IsReadToRelay part = ⊥
 
 -- What an answer to a call for the proxy by a settings file says of the objects: where all was done, the source has nothing left,
 -- if it tells what it has; the file has just that flaw, or names no node; of a part that couldn't be opened or read a fault was
@@ -69,7 +60,8 @@ abbrev pub IsProxyCauseOf : List ℕ → Answer → World → World → Type 0
 IsProxyCauseOf name Done old new = IsSpent (proxy_source new).told
 IsProxyCauseOf name NoMemory old new = ⊤
 IsProxyCauseOf name NoForm old new = ⊥
-IsProxyCauseOf name (Misset flaw) old new = HasFlaw flaw name old new ⊎ HasNoNodes name (Misset flaw) old new
+IsProxyCauseOf name (Misset flaw) old new =
+    IsFlawed flaw (File name) old.settings new.settings × OnlySettings old new ⊎ HasNoNodes name (Misset flaw) old new
 IsProxyCauseOf name (BadScript at flaw) old new = ⊥
 IsProxyCauseOf name (NotOpened part) old new = IsOpenedToRelay part × HasFaultOf part old new
 IsProxyCauseOf name (NotRead part) old new = IsReadToRelay part × HasFaultOf part old new

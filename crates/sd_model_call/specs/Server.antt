@@ -1,41 +1,34 @@
 -- What the program answers where it is asked to serve, and what was done by then.
-use Rattle.std.specs.Prelude.{◌≡◌, ◌⊎◌, ℕ, ◌+◌, Bool, true, false, List, [], ◌∷◌, ◌++◌, map, if◌then◌else◌, Option, Some, None, ⊤}
+use Rattle.std.specs.Prelude.{◌≡◌, ◌⊎◌, ℕ, ◌+◌, Bool, true, false, List, [], ◌∷◌, ◌++◌, map, if◌then◌else◌, Option, Some, ⊤}
 use Rattle.std.specs.List.{list_any}
-use Rattle.sd_model_outside.specs.Outside.{File, Object, HasFailedBehind, given}
-use Rattle.sd_model_settings.specs.Settings as file
-use Rattle.sd_model_settings.specs.Settings.{SettingsFlaw}
+use Rattle.sd_model_outside.specs.Outside.{File, Object}
 use Rattle.sd_model_shard.specs.History.{state_after}
-use Rattle.sd_model_serve.specs.Ends.{LoopEnd, Spent, Failed, Enough, WornOut, most_turns}
+use Rattle.sd_model_serve.specs.Ends.{LoopEnd, Failed, WornOut, most_turns}
 use Rattle.sd_model_run.specs.Course.{Course}
 use Rattle.sd_model_run.specs.Run.{ServerTheorem}
-use Rattle.sd_model_replay.specs.Settings.{goes_by, limits_of, policy_of}
+use Rattle.sd_model_replay.specs.Settings.{limits_of, policy_of}
 use Rattle.sd_model_replay.specs.Totals.{Totals, totals_of, totals_text}
-use Rattle.sd_model_call.specs.Words.{Form, Replay, Serve, Proxy, Drill}
-use Rattle.sd_model_call.specs.Opening.{OfSettings, OfSource, OfBeat, World, IsAccepted, flags_of}
-use Rattle.sd_model_call.specs.Call.{Answer, Done, NoMemory, Misset, NotOpened, NotRead, NotWritten, Worn, HasFlaw, FailsToRead, FailsToOpenSettings, LeavesOff}
-use Rattle.sd_model_call.specs.ServerOpening.{NotBegun, begun, objects_in, serves_by, settled}
+use Rattle.sd_model_call.specs.Words.{Form, Serve}
+use Rattle.sd_model_call.specs.Opening.{OfSource, OfBeat, World, IsAccepted, flags_of, settled}
+use Rattle.sd_model_call.specs.Call.{Answer, Done, NotRead, Worn, NotBegun, NotTaken, WritesTotals}
+use Rattle.sd_model_call.specs.ServerOpening.{begun, objects_in, serves_by, server_openings}
+use Rattle.sd_model_settings.specs.Settings.{Settings}
 
 -- a loop that took the most turns
 abbrev pub is_worn : LoopEnd → Bool
-is_worn Spent = false
-is_worn Failed = false
-is_worn (Enough flushes) = false
 is_worn (WornOut turns) = true
+is_worn ended = false
 
 -- what is answered by the receiver of least number that failed, the first of these having this number; where none did, this
 abbrev pub by_receivers : ℕ → List LoopEnd → Answer → Answer
 by_receivers i [] other = other
-by_receivers i (Spent ∷ ends) other = by_receivers (i + 1) ends other
 by_receivers i (Failed ∷ ends) other = NotRead (OfSource i)
-by_receivers i (Enough flushes ∷ ends) other = by_receivers (i + 1) ends other
-by_receivers i (WornOut turns ∷ ends) other = by_receivers (i + 1) ends other
+by_receivers i (ended ∷ ends) other = by_receivers (i + 1) ends other
 
 -- what is answered where the beat failed; where it didn't, this
 abbrev pub by_beat : LoopEnd → Answer → Answer
-by_beat Spent other = other
 by_beat Failed other = NotRead OfBeat
-by_beat (Enough flushes) other = other
-by_beat (WornOut turns) other = other
+by_beat ended other = other
 
 -- what is answered by the turns that loops took which ended so: one took the most, or all was done
 abbrev pub turns_answer : List LoopEnd → Answer
@@ -51,50 +44,30 @@ ends_answer receivers flusher keeper =
 abbrev pub run_answer : Course → Answer
 run_answer c = ends_answer (map (λ r. r.ended) c.receptions) c.flusher_ended c.keeper_ended
 
--- and where they couldn't
-abbrev pub cut_answer : Answer → Answer
-cut_answer Done = NotWritten
-cut_answer other = other
-
 -- the totals of a run
-abbrev pub run_totals : file.Settings → Course → Totals
-run_totals s c = totals_of (goes_by s) (record { shards = λ i. state_after (limits_of s) (policy_of s) (c.histories i); desk = c.desk })
-
--- The totals were written, or a front of them, since the output failed.
-abbrev pub WritesTotals : List ℕ → (whole answer : Answer) → Object → Object → Type 0
-WritesTotals text whole answer output output_now =
-    (answer ≡ whole) × (output_now ≡ given text output) ⊎ (answer ≡ cut_answer whole) × HasFailedBehind text output output_now
+abbrev pub run_totals : Settings → Course → Totals
+run_totals s c = totals_of s (record { shards = λ i. state_after (limits_of s) (policy_of s) (c.histories i); desk = c.desk })
 
 -- A server by settings that were read and accepted was begun; it ran between then and now, and the accounting theorem holds of its
 -- course; its totals were written, and the answer says how its workers ended, or that the output failed. Nothing else that is seen
 -- changed.
 pub record HasServed (name : List ℕ) (says : ℕ → Type 0) (answer : Answer) (old new : World) : Type 0 where
-  pub values : file.Settings
+  pub values : Settings
   pub settings : Object
   pub taken : IsAccepted values (File name) old.settings settings
   pub course : Course
   pub theorem : (let start = begun values (settled values settings old) in ServerTheorem (serves_by values) says course (objects_in start) (objects_in new))
   pub written : WritesTotals (totals_text (run_totals values course)) (run_answer course) answer old.seen.output new.seen.output
   pub script : new.seen.script ≡ old.seen.script
-  pub flags : new.flags ≡ flags_of (goes_by values)
+  pub flags : new.flags ≡ flags_of values
   pub kept : new.settings ≡ settings
-
--- The settings weren't taken: no memory was left; they couldn't be opened, or read; or they have a flaw.
-abbrev pub NotTaken : List ℕ → Answer → World → World → Type 0
-NotTaken name answer old new =
-    (answer ≡ NoMemory) × LeavesOff name old new
-    ⊎ (answer ≡ NotOpened OfSettings) × FailsToOpenSettings old new
-    ⊎ (answer ≡ NotRead OfSettings) × FailsToRead name old new
-    ⊎ ((flaw : SettingsFlaw) × (answer ≡ Misset flaw) × HasFlaw flaw name old new)
 
 -- The account of a call that is asked to serve by this settings file, over a clock that may say these moments.
 abbrev pub ServerAccounts : List ℕ → (ℕ → Type 0) → Answer → World → World → Type 0
-ServerAccounts name says answer old new = NotTaken name answer old new ⊎ NotBegun name answer old new ⊎ HasServed name says answer old new
+ServerAccounts name says answer old new =
+    NotTaken name answer old new ⊎ NotBegun server_openings name answer old new ⊎ HasServed name says answer old new
 
 -- where the words ask for the server, its account; nothing, where they don't
 abbrev pub AnswersServer : Option Form → (ℕ → Type 0) → Answer → World → World → Type 0
-AnswersServer None says answer old new = ⊤
-AnswersServer (Some (Replay name script)) says answer old new = ⊤
 AnswersServer (Some (Serve name)) says answer old new = ServerAccounts name says answer old new
-AnswersServer (Some (Proxy name)) says answer old new = ⊤
-AnswersServer (Some (Drill n)) says answer old new = ⊤
+AnswersServer asked says answer old new = ⊤

@@ -1,14 +1,14 @@
 -- What a call that is asked to serve has to come to, by its words, what its objects tell, and where no fault was counted; and what
 -- its answers say of its objects.
 use Rattle.std.specs.Prelude.{◌≡◌, ◌⊎◌, ℕ, ◌+◌, ◌<◌, min, ⊤, List, Some}
-use Rattle.sd_model_outside.specs.Outside.{Left, Object, Rose, last_count}
+use Rattle.sd_model_outside.specs.Outside.{File, Left, Object, Rose, last_count}
 use Rattle.sd_model_outside.specs.Turns.{IsSpent}
 use Rattle.sd_model_record.specs.Repeater.{wire_at}
 use Rattle.sd_model_serve.specs.Ends.{most_turns}
 use Rattle.sd_model_call.specs.Words.{Serve, form}
-use Rattle.sd_model_call.specs.Opening.{Part, OfSettings, OfScript, OfSource, OfBeat, OfWire, OfGraphite, OfConsole, OfDoor, World, part_in, source_at}
-use Rattle.sd_model_call.specs.Call.{Answer, Done, NoMemory, NoForm, Misset, BadScript, NotOpened, NotRead, NotWritten, Worn, HasFlaw}
-use Rattle.sd_model_call.specs.Completeness.{IsWhole}
+use Rattle.sd_model_call.specs.Opening.{Part, OfSettings, OfScript, OfSource, OfBeat, OfDoor, World, IsFlawed, OnlySettings, part_in, source_at}
+use Rattle.sd_model_call.specs.Call.{Answer, Done, NoMemory, NoForm, Misset, BadScript, NotOpened, NotRead, NotWritten, Worn}
+use Rattle.sd_model_call.specs.Completeness.{IsOutward, IsWhole}
 
 -- The words ask to serve, and the settings tell that they have these bytes.
 pub record AsksToServe (words : List (List ℕ)) (old : World) (bytes : List ℕ) : Type 0 where
@@ -34,14 +34,8 @@ pub record IsUnhinderedServer (old new : World) : Type 0 where
 
 -- a wire, a backend or the door, whose faults never end a server that has begun
 abbrev pub IsOutermost : Part → Type 0
-IsOutermost OfSettings = ⊥
-IsOutermost OfScript = ⊥
-IsOutermost (OfSource i) = ⊥
-IsOutermost OfBeat = ⊥
-IsOutermost (OfWire i) = ⊤
-IsOutermost OfGraphite = ⊤
-IsOutermost OfConsole = ⊤
 IsOutermost OfDoor = ⊤
+IsOutermost part = IsOutward part
 
 -- no fault was counted of one of them
 pub record NoneFailed (old new : World) : Type 0 where
@@ -77,25 +71,16 @@ OneTookMost old new =
 
 -- a part that is opened to serve
 abbrev pub IsOpenedToServe : Part → Type 0
-IsOpenedToServe OfSettings = ⊤
 IsOpenedToServe OfScript = ⊥
-IsOpenedToServe (OfSource i) = ⊤
 IsOpenedToServe OfBeat = ⊥
-IsOpenedToServe (OfWire i) = ⊤
-IsOpenedToServe OfGraphite = ⊤
-IsOpenedToServe OfConsole = ⊤
-IsOpenedToServe OfDoor = ⊤
+IsOpenedToServe part = ⊤
 
 -- a part whose read or tick ends a call that serves, where it fails
 abbrev pub IsReadToServe : Part → Type 0
 IsReadToServe OfSettings = ⊤
-IsReadToServe OfScript = ⊥
 IsReadToServe (OfSource i) = ⊤
 IsReadToServe OfBeat = ⊤
-IsReadToServe (OfWire i) = ⊥
-IsReadToServe OfGraphite = ⊥
-IsReadToServe OfConsole = ⊥
-IsReadToServe OfDoor = ⊥
+IsReadToServe part = ⊥
 
 -- a fault of a part was counted
 abbrev pub HasFaultOf : Part → World → World → Type 0
@@ -108,7 +93,7 @@ abbrev pub IsCauseOf : List ℕ → Answer → World → World → Type 0
 IsCauseOf name Done old new = ⊤
 IsCauseOf name NoMemory old new = ⊤
 IsCauseOf name NoForm old new = ⊥
-IsCauseOf name (Misset flaw) old new = HasFlaw flaw name old new
+IsCauseOf name (Misset flaw) old new = IsFlawed flaw (File name) old.settings new.settings × OnlySettings old new
 IsCauseOf name (BadScript at flaw) old new = ⊥
 IsCauseOf name (NotOpened part) old new = IsOpenedToServe part × HasFaultOf part old new
 IsCauseOf name (NotRead part) old new = IsReadToServe part × HasFaultOf part old new

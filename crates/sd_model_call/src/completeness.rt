@@ -1,19 +1,17 @@
 ghost use Rattle.std.specs.Prelude.{◌≡◌, ◌<◌, ◌≤◌, ℕ, List, [], ◌∷◌, length, min, codes, decimal, Some, Ok, Err};
 ghost use Rattle.sd_model_outside.specs.Outside.{Rose, Used, given, last_count};
-ghost use Rattle.sd_model_settings.specs.Settings as file;
-ghost use Rattle.sd_model_settings.specs.Settings.{OutOfRange, SettingsFlaw, settings};
-ghost use Rattle.sd_model_replay.specs.Settings.{Settings, goes_by};
+ghost use Rattle.sd_model_settings.specs.Settings.{OutOfRange, SettingsFlaw, settings, Settings};
 ghost use Rattle.sd_model_replay.specs.Script.{Command, script_text};
 ghost use Rattle.sd_model_replay.specs.Totals.{Totals};
 ghost use Rattle.sd_model_record.specs.Repeater.{wire_at};
 ghost use Rattle.sd_model_replay.specs.AccountingTheorem.{Seen};
 ghost use Rattle.sd_model_replay.specs.Next.{ScriptFlaw};
 ghost use Rattle.sd_model_replay.specs.Ends.{Complete, End, Faulted, Replayed, WornOut, most_records};
-ghost use Rattle.sd_model_call.specs.Opening.{World, started};
+ghost use Rattle.sd_model_call.specs.Opening.{World};
 ghost use Rattle.sd_model_call.specs.Words.{Drill, form};
 ghost use Rattle.sd_model_call.specs.Drill.{drill_text};
 ghost use Rattle.sd_model_call.specs.Call.{Accounts, Answer, BadScript, Done, IsScripted, Misset, OnlyOutput, Worn};
-ghost use Rattle.sd_model_call.specs.Completeness.{Asks, AsksPlainly, CarriedOut, CarriedOutWell, EndsSo, IsBlocked, IsCutOff, IsFull, IsLongest, IsTold, IsUnhindered, IsWhole, NoneMissed, refusal};
+ghost use Rattle.sd_model_call.specs.Completeness.{Asks, AsksPlainly, CarriedOut, CarriedOutWell, EndsSo, IsBlocked, IsCutOff, IsFull, IsLongest, IsTold, IsUnhindered, IsWhole, NoneMissed, refusal, start_of};
 ghost use Rattle.sd_model_call.specs.Proxy.{AnswersProxy, ProxyAccounts};
 ghost use Rattle.sd_model_call.specs.ProxyCompleteness.{AsksForProxy, IsProxyCauseOf, IsRelayed, IsUnhinderedProxy, NoWireFailed};
 
@@ -33,26 +31,26 @@ pub fn unhindered_replays_complete()
 /// A call that nothing hinders carries out the whole script, unless memory, a wire or a backend is lacking; and where it
 /// says that it did, it carried out just the script's records. So a script that is cut off, or too long, is told.
 pub fn unhindered_calls_complete()
-    ensures answer { (words : List (List ℕ)) (values : file.Settings) (old new : World) (commands : List Command) (rest : List ℕ) (answer : Answer)
-        → AsksPlainly words values old new → IsUnhindered (goes_by values) old.seen new.seen commands rest
+    ensures answer { (words : List (List ℕ)) (values : Settings) (old new : World) (commands : List Command) (rest : List ℕ) (answer : Answer)
+        → AsksPlainly words values old new → IsUnhindered values old.seen new.seen commands rest
         → Accounts words old new answer → IsFull Done answer }
-    ensures whole { (words : List (List ℕ)) (values : file.Settings) (old new : World) (commands : List Command) (rest : List ℕ) (answer : Answer)
-        → AsksPlainly words values old new → IsUnhindered (goes_by values) old.seen new.seen commands rest
-        → NoneMissed (goes_by values) old.seen new.seen → Accounts words old new answer → IsWhole Done answer }
-    ensures done { (words : List (List ℕ)) (values : file.Settings) (old new : World) (commands : List Command) (rest : List ℕ) (plainly : AsksPlainly words values old new)
-        → IsUnhindered (goes_by values) old.seen new.seen commands rest
-        → Accounts words old new Done → CarriedOut (goes_by values) (started (goes_by values) plainly.asks.script old.seen) new.seen commands rest }
-    ensures well { (words : List (List ℕ)) (values : file.Settings) (old new : World) (commands : List Command) (rest : List ℕ) (plainly : AsksPlainly words values old new)
-        → IsUnhindered (goes_by values) old.seen new.seen commands rest → NoneMissed (goes_by values) old.seen new.seen
-        → Accounts words old new Done → CarriedOutWell (goes_by values) (started (goes_by values) plainly.asks.script old.seen) new.seen commands }
-    ensures cut_off { (words : List (List ℕ)) (values : file.Settings) (old new : World) (commands : List Command) (flaw : ScriptFlaw) (bytes : List ℕ) (answer : Answer)
-        → AsksPlainly words values old new → IsCutOff (goes_by values) old.seen new.seen commands flaw bytes
+    ensures whole { (words : List (List ℕ)) (values : Settings) (old new : World) (commands : List Command) (rest : List ℕ) (answer : Answer)
+        → AsksPlainly words values old new → IsUnhindered values old.seen new.seen commands rest
+        → NoneMissed values old.seen new.seen → Accounts words old new answer → IsWhole Done answer }
+    ensures done { (words : List (List ℕ)) (values : Settings) (old new : World) (commands : List Command) (rest : List ℕ) (plainly : AsksPlainly words values old new)
+        → IsUnhindered values old.seen new.seen commands rest
+        → Accounts words old new Done → CarriedOut values (start_of values plainly.asks.script old new) new.seen commands rest }
+    ensures well { (words : List (List ℕ)) (values : Settings) (old new : World) (commands : List Command) (rest : List ℕ) (plainly : AsksPlainly words values old new)
+        → IsUnhindered values old.seen new.seen commands rest → NoneMissed values old.seen new.seen
+        → Accounts words old new Done → CarriedOutWell values (start_of values plainly.asks.script old new) new.seen commands }
+    ensures cut_off { (words : List (List ℕ)) (values : Settings) (old new : World) (commands : List Command) (flaw : ScriptFlaw) (bytes : List ℕ) (answer : Answer)
+        → AsksPlainly words values old new → IsCutOff values old.seen new.seen commands flaw bytes
         → Accounts words old new answer → IsTold (BadScript (min (length (script_text commands)) last_count) flaw) answer }
-    ensures longest { (words : List (List ℕ)) (values : file.Settings) (old new : World) (commands : List Command) (bytes : List ℕ) (answer : Answer)
-        → AsksPlainly words values old new → IsLongest (goes_by values) old.seen new.seen commands bytes
+    ensures longest { (words : List (List ℕ)) (values : Settings) (old new : World) (commands : List Command) (bytes : List ℕ) (answer : Answer)
+        → AsksPlainly words values old new → IsLongest values old.seen new.seen commands bytes
         → Accounts words old new answer → IsTold (Worn most_records) answer }
-    ensures outward { (words : List (List ℕ)) (values : file.Settings) (old new : World) (ended answer : Answer)
-        → AsksPlainly words values old new → NoneMissed (goes_by values) old.seen new.seen → Accounts words old new answer → IsFull ended answer → IsWhole ended answer }
+    ensures outward { (words : List (List ℕ)) (values : Settings) (old new : World) (ended answer : Answer)
+        → AsksPlainly words values old new → NoneMissed values old.seen new.seen → Accounts words old new answer → IsFull ended answer → IsWhole ended answer }
 {}
 
 /// A call whose settings have a flaw opens nothing else: it says so, unless memory is lacking, or the settings can't be
@@ -79,15 +77,15 @@ pub fn drills_complete()
 /// A proxy that nothing hinders sends on what its source gives, unless memory or the wire of a node is lacking; one whose settings
 /// have a flaw, or name no node, says so. Each answer has its cause: where all was done, the source has nothing left.
 pub fn unhindered_proxies_relay()
-    ensures relays { (words : List (List ℕ)) (values : file.Settings) (old new : World) (bytes : List ℕ) (answer : Answer)
+    ensures relays { (words : List (List ℕ)) (values : Settings) (old new : World) (bytes : List ℕ) (answer : Answer)
         → AsksForProxy words old bytes → settings bytes ≡ Ok values → 0 < length values.lists.nodes → IsUnhinderedProxy old new
         → AnswersProxy (form words) answer old new → IsRelayed answer }
-    ensures whole { (words : List (List ℕ)) (values : file.Settings) (old new : World) (bytes : List ℕ) (answer : Answer)
+    ensures whole { (words : List (List ℕ)) (values : Settings) (old new : World) (bytes : List ℕ) (answer : Answer)
         → AsksForProxy words old bytes → settings bytes ≡ Ok values → 0 < length values.lists.nodes → IsUnhinderedProxy old new
         → NoWireFailed old new → AnswersProxy (form words) answer old new → IsWhole Done answer }
     ensures blocked { (words : List (List ℕ)) (flaw : SettingsFlaw) (old new : World) (bytes : List ℕ) (answer : Answer)
         → AsksForProxy words old bytes → settings bytes ≡ Err flaw → AnswersProxy (form words) answer old new → IsBlocked (Misset flaw) answer }
-    ensures nodes { (words : List (List ℕ)) (values : file.Settings) (old new : World) (bytes : List ℕ) (answer : Answer)
+    ensures nodes { (words : List (List ℕ)) (values : Settings) (old new : World) (bytes : List ℕ) (answer : Answer)
         → AsksForProxy words old bytes → settings bytes ≡ Ok values → values.lists.nodes ≡ []
         → AnswersProxy (form words) answer old new → IsBlocked (Misset (OutOfRange (codes "nodes"))) answer }
     ensures causes { (name : List ℕ) (old new : World) (answer : Answer) → ProxyAccounts name answer old new → IsProxyCauseOf name answer old new }

@@ -12,11 +12,12 @@ use Rattle.sd_model_text.specs.Names.{Kind}
 use Rattle.sd_model_record.specs.Admin as admin
 use Rattle.sd_model_record.specs.Admin.{AdminFault}
 use Rattle.sd_model_serve.specs.Rounds.{Round}
-use Rattle.sd_model_replay.specs.Settings.{Settings}
+use Rattle.sd_model_replay.specs.Settings.{limits_of, policy_of}
 use Rattle.sd_model_replay.specs.Script.{Command, Packet, Flush, Admin}
 use Rattle.sd_model_record.specs.Callers.{administrator}
 use Rattle.sd_model_record.specs.Replying.{admin_events}
 use Rattle.sd_model_replay.specs.Replay.{Outcome, Played, home_of, events_in, events_at, history_at, samples_in, samples_at, Run, first_run, acts_in, play, run_of, Moment, moments, round_by, rounds_from, rounds}
+use Rattle.sd_model_settings.specs.Settings.{Settings}
 
 abbrev arrivals_asked : List Asked → List Arrival
 arrivals_asked asked = filter_map (λ q. arrival_in q.who q.event) asked
@@ -68,7 +69,7 @@ records_part settings i (p ∷ played) =
 
 -- the samples submitted to a shard are those of the records that belong there
 pub arrivals-history_at : (settings : Settings) (i : ℕ) (played : List Played) → arrivals (history_at settings i played) ≡ part_of (at_shard settings) i (samples_at played)
-arrivals-history_at settings i played = arrivals-answered settings.limits settings.policy empty_state (events_at settings i played) ∙ records_part settings i played
+arrivals-history_at settings i played = arrivals-answered (limits_of settings) (policy_of settings) empty_state (events_at settings i played) ∙ records_part settings i played
 
 -- samples are answered with no table
 no_table : (state : State) (who : ℕ) (s : Sample) (answer : Option Cause) (acts : History) → tables (record { who = who; event = Submit s; reply = (admitted state who s answer).reply } ∷ acts) ≡ tables acts
@@ -107,20 +108,20 @@ one_table : (settings : Settings) (i : ℕ) (run : Run) (c : Command) (outcome :
 unfolding rounds_of
 one_table settings i run (Packet who moment datagram) outcome ms =
     ap (λ (ts : List Table). ts ++ tables_at i (filter_map (λ (m : Moment). round_by m.before m.played.command m.played.outcome) ms))
-    (no_tables settings.limits settings.policy (run.shards i) who (part_of (home_of settings) i (samples_of datagram)))
+    (no_tables (limits_of settings) (policy_of settings) (run.shards i) who (part_of (home_of settings) i (samples_of datagram)))
 one_table settings i run (Flush ts) outcome ms = refl
 one_table settings i run (Admin moment line) outcome ms =
     ap (λ (ts : List Table). ts ++ tables_at i (filter_map (λ (m : Moment). round_by m.before m.played.command m.played.outcome) ms))
-    (no_line_tables settings.limits settings.policy (run.shards i) (admin.command line))
+    (no_line_tables (limits_of settings) (policy_of settings) (run.shards i) (admin.command line))
 
-tables_from : (settings : Settings) (i : ℕ) (run : Run) (played : List Played) → tables (answered settings.limits settings.policy (run.shards i) (events_at settings i played)) ≡ tables_at i (rounds_from settings run played)
+tables_from : (settings : Settings) (i : ℕ) (run : Run) (played : List Played) → tables (answered (limits_of settings) (policy_of settings) (run.shards i) (events_at settings i played)) ≡ tables_at i (rounds_from settings run played)
 unfolding rounds_of
 tables_from settings i run [] = refl
 tables_from settings i run (p ∷ played) =
     let acts = acts_in settings run i p.command in
     let next = play settings run p in
-    let rest = answered settings.limits settings.policy (next.shards i) (events_at settings i played) in
-    ap tables (answered-append settings.limits settings.policy (run.shards i) (events_in settings i p.command) (events_at settings i played))
+    let rest = answered (limits_of settings) (policy_of settings) (next.shards i) (events_at settings i played) in
+    ap tables (answered-append (limits_of settings) (policy_of settings) (run.shards i) (events_in settings i p.command) (events_at settings i played))
     ∙ filter_map-append (λ (a : Act). table_in a.reply) acts rest
     ∙ ap (λ (ts : List Table). tables acts ++ ts) (tables_from settings i next played)
     ∙ one_table settings i run p.command p.outcome (moments settings next played)
@@ -131,15 +132,15 @@ tables-history_at settings i played = tables_from settings i (first_run played) 
 
 -- the state of a shard after records, from a state on, is the one after the acts that they ask
 state_from : (settings : Settings) (i : ℕ) (run : Run) (played : List Played)
-    → (run_of settings run played).shards i ≡ after_all settings.limits settings.policy (run.shards i) (answered settings.limits settings.policy (run.shards i) (events_at settings i played))
+    → (run_of settings run played).shards i ≡ after_all (limits_of settings) (policy_of settings) (run.shards i) (answered (limits_of settings) (policy_of settings) (run.shards i) (events_at settings i played))
 state_from settings i run [] = refl
 state_from settings i run (p ∷ played) =
     let acts = acts_in settings run i p.command in
     let next = play settings run p in
-    let rest = answered settings.limits settings.policy (next.shards i) (events_at settings i played) in
+    let rest = answered (limits_of settings) (policy_of settings) (next.shards i) (events_at settings i played) in
     state_from settings i next played
-    ∙ sym (fold-append (after settings.limits settings.policy) (run.shards i) acts rest)
-    ∙ ap (after_all settings.limits settings.policy (run.shards i)) (sym (answered-append settings.limits settings.policy (run.shards i) (events_in settings i p.command) (events_at settings i played)))
+    ∙ sym (fold-append (after (limits_of settings) (policy_of settings)) (run.shards i) acts rest)
+    ∙ ap (after_all (limits_of settings) (policy_of settings) (run.shards i)) (sym (answered-append (limits_of settings) (policy_of settings) (run.shards i) (events_in settings i p.command) (events_at settings i played)))
 
-pub state-history_at : (settings : Settings) (i : ℕ) (played : List Played) → (run_of settings (first_run played) played).shards i ≡ state_after settings.limits settings.policy (history_at settings i played)
+pub state-history_at : (settings : Settings) (i : ℕ) (played : List Played) → (run_of settings (first_run played) played).shards i ≡ state_after (limits_of settings) (policy_of settings) (history_at settings i played)
 state-history_at settings i played = state_from settings i (first_run played) played

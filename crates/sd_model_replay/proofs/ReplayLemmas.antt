@@ -7,12 +7,12 @@ use Rattle.std.proofs.lemmas.List.{map-append}
 use Rattle.std.proofs.lemmas.List.Elements.{filter_map-append}
 use Rattle.std.proofs.lemmas.List.Sums.{fold_push}
 use Rattle.sd_model_serve.specs.Rounds.{Round, round_text}
-use Rattle.sd_model_replay.specs.Settings.{Settings}
 use Rattle.sd_model_outside.specs.Deliveries.{Delivery}
 use Rattle.sd_model_record.specs.Backends.{Backend, mark_of}
 use Rattle.sd_model_replay.specs.Script.{Command, spelled, script_text}
 use Rattle.sd_model_replay.specs.Replay.{Played, Run, first_run, play, run_of, Moment, moments, form_of, round_by, rounds, deliveries, sending_by, sendings}
 use Rattle.sd_model_replay.specs.Output.{output_in, output_of}
+use Rattle.sd_model_settings.specs.Settings.{Settings}
 
 -- The state before a record that comes behind others, whose first one, or else itself, tells the start.
 abbrev pub run_before : Settings → List Played → Played → Run

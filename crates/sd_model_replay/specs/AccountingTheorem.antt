@@ -6,11 +6,12 @@ use Rattle.sd_model_outside.specs.Deliveries.{AfterDeliveries}
 use Rattle.sd_model_shard.specs.History.{part_of, state_after}
 use Rattle.sd_model_shard.specs.Whereabouts.{arrivals}
 use Rattle.sd_model_serve.specs.Accounting.{AreAccounted}
-use Rattle.sd_model_replay.specs.Settings.{Settings}
+use Rattle.sd_model_replay.specs.Settings.{limits_of, policy_of}
 use Rattle.sd_model_record.specs.Backends.{Backend, Graphite, Console}
 use Rattle.sd_model_record.specs.Repeater.{AfterSendings}
 use Rattle.sd_model_replay.specs.Script.{script_text, IsLegal}
 use Rattle.sd_model_replay.specs.Replay.{Played, IsOutcome, home_of, first_run, form_of, run_of, history_at, samples_at, rounds, deliveries, sendings}
+use Rattle.sd_model_settings.specs.Settings.{Settings}
 
 -- What is seen of the objects that a replay uses.
 pub record Seen : Type 0 where
@@ -38,14 +39,14 @@ pub record AccountingTheorem (settings : Settings) (course : Course) (old new : 
   -- where the script tells its bytes, just these were read: the text of the records, and what was read behind them
   pub read : Reads old.script.told (script_text (map (λ p. p.command) course.played) ++ course.ahead) new.script.told
   -- each of the script's records is a legal one
-  pub legal : AllByRecursion (λ p. IsLegal settings.receivers p.command) course.played
+  pub legal : AllByRecursion (λ p. IsLegal settings.sizes.receivers p.command) course.played
   -- each good sample of their datagrams is in exactly one place, and each flush's record has the documented statistics of its own
   -- journals over the rows carried in
-  pub accounted : AreAccounted settings.limits settings.policy (form_of settings) (λ i. history_at settings i course.played) (rounds settings course.played)
+  pub accounted : AreAccounted (limits_of settings) (policy_of settings) (form_of settings) (λ i. history_at settings i course.played) (rounds settings course.played)
   -- the good samples whose keys belong to a shard were submitted there, in order
-  pub submitted : (i : ℕ) → i < settings.shards → arrivals (history_at settings i course.played) ≡ part_of (λ a. home_of settings a.sample) i (samples_at course.played)
+  pub submitted : (i : ℕ) → i < settings.sizes.shards → arrivals (history_at settings i course.played) ≡ part_of (λ a. home_of settings a.sample) i (samples_at course.played)
   -- the state that the totals count is the one after these histories
-  pub state : (i : ℕ) → i < settings.shards → (run_of settings (first_run course.played) course.played).shards i ≡ state_after settings.limits settings.policy (history_at settings i course.played)
+  pub state : (i : ℕ) → i < settings.sizes.shards → (run_of settings (first_run course.played) course.played).shards i ≡ state_after (limits_of settings) (policy_of settings) (history_at settings i course.played)
   -- each flush used just the backends that the settings name, and each packet had a send to each target of the repeater
   pub used : AllByRecursion (λ p. IsOutcome settings p.command p.outcome) course.played
   -- a backend was given just the text of each flush's record, in order, begun and ended, where the flush is marked as written

@@ -8,9 +8,10 @@ use Rattle.sd_model_record.specs.Admin as admin
 use Rattle.sd_model_record.specs.Callers.{administrator}
 use Rattle.sd_model_record.specs.Replying.{admin_events}
 use Rattle.sd_model_serve.specs.Sessions.{Broadcast}
-use Rattle.sd_model_replay.specs.Settings.{Settings}
+use Rattle.sd_model_replay.specs.Settings.{limits_of, policy_of}
 use Rattle.sd_model_replay.specs.Script.{Command, Packet, Flush, Admin}
 use Rattle.sd_model_replay.specs.Replay.{Played, Run, first_run, moments, samples_at}
+use Rattle.sd_model_settings.specs.Settings.{Settings}
 
 -- the good samples that a receiver brought, in order
 abbrev pub brought_by : ℕ → List Played → List Sample
@@ -31,7 +32,7 @@ broadcasts limits policy states (event ∷ events) =
 abbrev pub broadcasts_in : Settings → Run → Command → List Broadcast
 broadcasts_in settings run (Packet who moment datagram) = []
 broadcasts_in settings run (Flush ts) = []
-broadcasts_in settings run (Admin moment line) = broadcasts settings.limits settings.policy run.shards (admin_events (admin.command line))
+broadcasts_in settings run (Admin moment line) = broadcasts (limits_of settings) (policy_of settings) run.shards (admin_events (admin.command line))
 
 -- what records do, from a state on
 abbrev pub asked_from : Settings → Run → List Played → List Broadcast

@@ -1,13 +1,13 @@
 -- How a replay ends, and what was done by then.
 use Rattle.std.specs.Prelude.{◌≡◌, ◌⊎◌, ◌<◌, ◌^◌, ℕ, min, List, [], ◌∷◌, ◌++◌, length, map, ⊤}
 use Rattle.sd_model_outside.specs.Outside.{Told, Object, Used, HasFailedBehind, Rose, given, last_count, put_back}
-use Rattle.sd_model_replay.specs.Settings.{Settings}
 use Rattle.sd_model_replay.specs.Script.{script_text, BeginsEnd}
 use Rattle.sd_model_replay.specs.Next.{ScriptFlaw, Next, Faulty, Begins, IsUndecided}
 use Rattle.sd_model_replay.specs.Replay.{Played, first_run, run_of}
 use Rattle.sd_model_replay.specs.Output.{output_in, output_of}
 use Rattle.sd_model_replay.specs.Totals.{Totals, totals_after, totals_text}
 use Rattle.sd_model_replay.specs.AccountingTheorem.{Seen, Course, AccountingTheorem}
+use Rattle.sd_model_settings.specs.Settings.{Settings}
 
 -- Why a replay ends: it came to the word that ends the script and wrote these totals; the record at a place of the script
 -- has a flaw; a read of the script failed; a write of a reply or of the totals failed; it has carried out as many records
@@ -39,7 +39,7 @@ behind course now = put_back course.ahead now.script.told
 -- The bytes that were read behind the records, with what the script has left then, begin with this, at this place.
 pub record StopsFor (settings : Settings) (next : Next) (at : ℕ) (course : Course) (new : Seen) : Type 0 where
   pub few : AreFew course.played
-  pub begins : Begins settings.receivers next course.ahead new.script.told
+  pub begins : Begins settings.sizes.receivers next course.ahead new.script.told
   pub place : at ≡ text_length course.played
 
 -- what stands behind the records where a replay ends so: the word that ends the script, with the totals of the records
@@ -48,7 +48,7 @@ pub record StopsFor (settings : Settings) (next : Next) (at : ℕ) (course : Cou
 abbrev pub StandsBehind : Settings → End → Course → Seen → Type 0
 StandsBehind settings (Complete totals) course new = AreFew course.played × BeginsEnd course.ahead × (totals ≡ totals_after settings course.played)
 StandsBehind settings (Faulted at flaw) course new = StopsFor settings (Faulty flaw) at course new
-StandsBehind settings ReadFailed course new = AreFew course.played × IsUndecided settings.receivers course.ahead
+StandsBehind settings ReadFailed course new = AreFew course.played × IsUndecided settings.sizes.receivers course.ahead
 StandsBehind settings WriteFailed course new = ⊤
 StandsBehind settings (WornOut turns) course new = (turns ≡ most_records) × (length course.played ≡ most_records)
 

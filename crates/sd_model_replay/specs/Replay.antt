@@ -16,8 +16,10 @@ use Rattle.sd_model_record.specs.Repeater.{Sending, failures}
 use Rattle.sd_model_record.specs.Callers.{flusher, administrator}
 use Rattle.sd_model_record.specs.Replying.{admin_events, health_after}
 use Rattle.sd_model_serve.specs.Rounds.{Form, Round, round_deliveries, round_record}
-use Rattle.sd_model_replay.specs.Settings.{Settings, is_used}
+use Rattle.sd_model_replay.specs.Settings.{is_used, limits_of, policy_of, targets_of}
 use Rattle.sd_model_replay.specs.Script.{Command, Packet, Flush, Admin}
+use Rattle.sd_model_settings.specs.Settings.{Settings}
+use Rattle.sd_model_settings.specs.Defaults.{plan_of, names_of}
 
 -- What the outside did to a record: how each backend took part, which is told of a flush; and of each send of a packet
 -- whether it failed.
@@ -32,7 +34,7 @@ no_marks = record { graphite = NotUsed; console = NotUsed }
 -- what the outside may do to a record: at a packet there is a send to each target, and no backend takes part; at a flush
 -- just those backends take part that the settings name, and nothing is sent; an admin command is no matter of theirs
 abbrev pub IsOutcome : Settings → Command → Outcome → Type 0
-IsOutcome settings (Packet who moment datagram) outcome = (outcome.marks ≡ no_marks) × (length outcome.failed ≡ length settings.targets)
+IsOutcome settings (Packet who moment datagram) outcome = (outcome.marks ≡ no_marks) × (length outcome.failed ≡ length (targets_of settings))
 IsOutcome settings (Flush ts) outcome = (outcome.failed ≡ []) × ((back : Backend) → FitsUse (is_used settings back) (mark_of back outcome.marks))
 IsOutcome settings (Admin moment line) outcome = (outcome.marks ≡ no_marks) × (outcome.failed ≡ [])
 
@@ -43,7 +45,7 @@ pub record Played : Type 0 where
 
 -- the shard of a sample
 abbrev pub home_of : Settings → Sample → ℕ
-home_of settings s = shard s.key settings.shards
+home_of settings s = shard s.key settings.sizes.shards
 
 -- what a record asks of shard i: it is given the samples whose keys belong there, is swapped, or takes the events of an
 -- admin line
@@ -59,7 +61,7 @@ events_at settings i played = flat_map (λ p. events_in settings i p.command) pl
 
 -- the history of shard i: what the records ask of it, with the replies of the step
 abbrev pub history_at : Settings → ℕ → List Played → History
-history_at settings i played = answered settings.limits settings.policy empty_state (events_at settings i played)
+history_at settings i played = answered (limits_of settings) (policy_of settings) empty_state (events_at settings i played)
 
 -- the good samples of a record, and who brought each
 abbrev pub samples_in : Command → List Arrival
@@ -97,11 +99,11 @@ first_run played = begun_at (start_of played)
 
 -- what a record adds to the history of shard i
 abbrev pub acts_in : Settings → Run → ℕ → Command → History
-acts_in settings run i c = answered settings.limits settings.policy (run.shards i) (events_in settings i c)
+acts_in settings run i c = answered (limits_of settings) (policy_of settings) (run.shards i) (events_in settings i c)
 
 -- what all shards answer to a record, shard by shard
 abbrev pub replies_to : Settings → Run → Command → List Reply
-replies_to settings run c = flat_map (λ i. map (λ a. a.reply) (acts_in settings run i c)) (range_with_len 0 settings.shards)
+replies_to settings run c = flat_map (λ i. map (λ a. a.reply) (acts_in settings run i c)) (range_with_len 0 settings.sizes.shards)
 
 -- what a datagram adds to the tally
 abbrev pub packet_tally : List ℕ → ℕ → Tally
@@ -123,7 +125,7 @@ desk_after desk (Admin moment line) replies outcome = desk_after_line desk (admi
 abbrev pub play : Settings → Run → Played → Run
 play settings run p =
     record {
-      shards = λ i. after_all settings.limits settings.policy (run.shards i) (acts_in settings run i p.command);
+      shards = λ i. after_all (limits_of settings) (policy_of settings) (run.shards i) (acts_in settings run i p.command);
       desk = desk_after run.desk p.command (replies_to settings run p.command) p.outcome;
     }
 
@@ -143,7 +145,7 @@ moments settings run (p ∷ played) = record { before = run; played = p } ∷ mo
 
 -- how records are made and written by these settings
 abbrev pub form_of : Settings → Form
-form_of settings = record { shards = settings.shards; plan = settings.plan; names = settings.names }
+form_of settings = record { shards = settings.sizes.shards; plan = plan_of settings; names = names_of settings }
 
 -- the round that a record is in this state, if it is a flush: it takes the tally, and each shard hands out its table
 abbrev pub round_by : Run → Command → Outcome → Option Round

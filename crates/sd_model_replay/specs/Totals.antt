@@ -2,8 +2,8 @@
 use Rattle.std.specs.Prelude.{ℕ, List, [], ◌∷◌, ◌++◌, length, codes, decimal, sum_by}
 use Rattle.std.specs.List.{range_with_len}
 use Rattle.sd_model_shard.specs.Shard.{State}
-use Rattle.sd_model_replay.specs.Settings.{Settings}
 use Rattle.sd_model_replay.specs.Replay.{Run, Played, first_run, run_of}
+use Rattle.sd_model_settings.specs.Settings.{Settings}
 
 -- What a replay counted.
 pub record Totals : Type 0 where
@@ -23,7 +23,7 @@ pub record Totals : Type 0 where
 
 -- a number of all shards together
 abbrev pub summed : Settings → Run → (State → ℕ) → ℕ
-summed settings run number = sum_by (λ i. number (run.shards i)) (range_with_len 0 settings.shards)
+summed settings run number = sum_by (λ i. number (run.shards i)) (range_with_len 0 settings.sizes.shards)
 
 -- the totals in this state
 abbrev pub totals_of : Settings → Run → Totals

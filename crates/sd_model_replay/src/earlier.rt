@@ -1,7 +1,7 @@
 ghost use Rattle.std.specs.Prelude.{◌≡◌, ℕ, List, [], IfOk};
 ghost use Rattle.std.specs.List.{AllByRecursion};
 ghost use Rattle.sd_model_settings.specs.Earlier.{earlier_settings};
-ghost use Rattle.sd_model_replay.specs.Settings.{goes_by, policy_of};
+ghost use Rattle.sd_model_replay.specs.Settings.{policy_of};
 ghost use Rattle.sd_model_replay.specs.Replay.{Played, records};
 
 /// A file that was accepted before gauges could live longer and lines of timers were chosen has its scripts carried out as
@@ -10,5 +10,5 @@ ghost use Rattle.sd_model_replay.specs.Replay.{Played, records};
 pub fn earlier_files_play_as_before()
     ensures policy { (bytes : List ℕ) → IfOk (earlier_settings bytes) (λ v. (policy_of v).max_ttl ≡ 1) }
     ensures records { (bytes : List ℕ)
-        → IfOk (earlier_settings bytes) (λ v. (played : List Played) → AllByRecursion (λ r. r.calculated ≡ []) (records (goes_by v) played)) }
+        → IfOk (earlier_settings bytes) (λ v. (played : List Played) → AllByRecursion (λ r. r.calculated ≡ []) (records v played)) }
 {}

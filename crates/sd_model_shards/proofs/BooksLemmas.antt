@@ -16,7 +16,7 @@ use Rattle.sd_model_shard.specs.Whereabouts.{causes}
 use Rattle.sd_model_shard.proofs.OrderLemmas.{weighed_once}
 use Rattle.sd_model_record.specs.Admin as admin
 use Rattle.sd_model_record.specs.Admin.{AdminFault}
-use Rattle.sd_model_replay.specs.Settings.{Settings}
+use Rattle.sd_model_replay.specs.Settings.{limits_of, policy_of}
 use Rattle.sd_model_replay.specs.Script.{Command, Packet, Flush, Admin}
 use Rattle.sd_model_record.specs.Replying.{admin_events}
 use Rattle.sd_model_replay.specs.Replay.{Played, Run, first_run, home_of, events_in, play, run_of}
@@ -25,6 +25,7 @@ use Rattle.sd_model_shards.specs.Shards.{NoneDropped}
 use Rattle.sd_model_shards.proofs.ViewLemmas.{after_asked}
 use Rattle.sd_model_shards.proofs.EventsLemmas.{submits, asks, events_of}
 use Rattle.sd_model_shards.proofs.ShownLemmas.{NoneFrom, none_first, none_behind, none_summed}
+use Rattle.sd_model_settings.specs.Settings.{Settings}
 
 -- the samples that came, and where they are
 pub record Books : Type 0 where
@@ -180,7 +181,7 @@ module _ (settings : Settings) (i : ℕ) where
   part-command b (Admin moment line) = part-line b (admin.command line)
 
 abbrev Shares : Settings → Run → Books → Type 0
-Shares settings run b = (i : ℕ) → i < settings.shards → Tells (run.shards i) (part settings i b)
+Shares settings run b = (i : ℕ) → i < settings.sizes.shards → Tells (run.shards i) (part settings i b)
 
 -- the books of all after records
 abbrev pub books_of : Books → List Played → Books
@@ -190,8 +191,8 @@ shares_after : (settings : Settings) (run : Run) (b : Books) (played : List Play
 shares_after settings run b [] h none = h
 shares_after settings run b (p ∷ played) h none =
     shares_after settings (play settings run p) (fold books_step b (events_of p.command)) played
-    (λ i below. subst (Tells (after_asked settings.limits settings.policy (run.shards i) (events_in settings i p.command))) (part-command settings i b p.command)
-    (tells_asked settings.limits settings.policy (run.shards i) (part settings i b) (events_in settings i p.command) (h i below) (none_first settings run p played none i below)))
+    (λ i below. subst (Tells (after_asked (limits_of settings) (policy_of settings) (run.shards i) (events_in settings i p.command))) (part-command settings i b p.command)
+    (tells_asked (limits_of settings) (policy_of settings) (run.shards i) (part settings i b) (events_in settings i p.command) (h i below) (none_first settings run p played none i below)))
     (none_behind settings run p played none)
 
 -- sums over all shards
@@ -217,14 +218,14 @@ one_more home s xs (i ∷ is) =
       here false = omega arith
 
 -- the parts of a list together have all of it
-parts_summed : (settings : Settings) → 1 ≤ settings.shards → (xs : List Sample) → sum_by (λ i. length (part_of (home_of settings) i xs)) (range_with_len 0 settings.shards) ≡ length xs
-parts_summed settings some [] = none_summed (λ i. 0) settings.shards 0 settings.shards (omega arith) (λ i below. refl)
+parts_summed : (settings : Settings) → 1 ≤ settings.sizes.shards → (xs : List Sample) → sum_by (λ i. length (part_of (home_of settings) i xs)) (range_with_len 0 settings.sizes.shards) ≡ length xs
+parts_summed settings some [] = none_summed (λ i. 0) settings.sizes.shards 0 settings.sizes.shards (omega arith) (λ i below. refl)
 parts_summed settings some (s ∷ xs) =
-    let within : home_of settings s < settings.shards = mod-lt (fnv1a s.key) (omega arith) in
-    omega (arith, one_more (home_of settings) s xs (range_with_len 0 settings.shards), weighed_once (home_of settings s) 1 0 settings.shards (omega arith) (omega arith), parts_summed settings some xs)
+    let within : home_of settings s < settings.sizes.shards = mod-lt (fnv1a s.key) (omega arith) in
+    omega (arith, one_more (home_of settings) s xs (range_with_len 0 settings.sizes.shards), weighed_once (home_of settings s) 1 0 settings.sizes.shards (omega arith) (omega arith), parts_summed settings some xs)
 
-sum_of_parts : (settings : Settings) → 1 ≤ settings.shards → (f : ℕ → ℕ) (xs : List Sample) → ((i : ℕ) → i < settings.shards → f i ≡ length (part_of (home_of settings) i xs)) → sum_by f (range_with_len 0 settings.shards) ≡ length xs
-sum_of_parts settings some f xs h = sum_alike f (λ i. length (part_of (home_of settings) i xs)) settings.shards 0 settings.shards (omega arith) h ∙ parts_summed settings some xs
+sum_of_parts : (settings : Settings) → 1 ≤ settings.sizes.shards → (f : ℕ → ℕ) (xs : List Sample) → ((i : ℕ) → i < settings.sizes.shards → f i ≡ length (part_of (home_of settings) i xs)) → sum_by f (range_with_len 0 settings.sizes.shards) ≡ length xs
+sum_of_parts settings some f xs h = sum_alike f (λ i. length (part_of (home_of settings) i xs)) settings.sizes.shards 0 settings.sizes.shards (omega arith) h ∙ parts_summed settings some xs
 
 abbrev no_books : Books
 no_books = record { came = []; flushed = []; deleted = []; held = [] }
@@ -237,14 +238,14 @@ pub record AreSummed (settings : Settings) (run : Run) (b : Books) : Type 0 wher
   pub held : summed settings run (λ state. length state.held) ≡ length b.held
   pub deleted : summed settings run (λ state. state.deleted) ≡ length b.deleted
 
-pub books_summed : (settings : Settings) → 1 ≤ settings.shards → (played : List Played) → NoneDropped settings played → AreSummed settings (run_of settings (first_run played) played) (books_of no_books played)
+pub books_summed : (settings : Settings) → 1 ≤ settings.sizes.shards → (played : List Played) → NoneDropped settings played → AreSummed settings (run_of settings (first_run played) played) (books_of no_books played)
 books_summed settings some played none =
     let b = books_of no_books played in
     let last = (run_of settings (first_run played) played).shards in
     let h = shares_after settings (first_run played) no_books played (λ i below. record { taken = refl; dropped = refl; flushed = refl; deleted = refl; held = refl }) none in
     record {
       taken = sum_of_parts settings some (λ i. (last i).taken) b.came (λ i below. (h i below).taken);
-      dropped = none_summed (λ i. (last i).dropped) settings.shards 0 settings.shards (omega arith) (λ i below. (h i below).dropped);
+      dropped = none_summed (λ i. (last i).dropped) settings.sizes.shards 0 settings.sizes.shards (omega arith) (λ i below. (h i below).dropped);
       flushed = sum_of_parts settings some (λ i. (last i).flushed) b.flushed (λ i below. (h i below).flushed);
       held = sum_of_parts settings some (λ i. length (last i).held) b.held (λ i below. sym (length-map (last i).held sample_in) ∙ ap length (h i below).held);
       deleted = sum_of_parts settings some (λ i. (last i).deleted) b.deleted (λ i below. (h i below).deleted);

@@ -25,7 +25,7 @@ use Rattle.sd_model_record.specs.Admin as admin
 use Rattle.sd_model_record.specs.Admin.{AdminFault}
 use Rattle.sd_model_record.specs.Record.{Row, row_value, table_rows}
 use Rattle.sd_model_serve.specs.Rounds.{Round}
-use Rattle.sd_model_replay.specs.Settings.{Settings}
+use Rattle.sd_model_replay.specs.Settings.{limits_of, policy_of}
 use Rattle.sd_model_replay.specs.Script.{Command, Packet, Flush, Admin}
 use Rattle.sd_model_record.specs.Replying.{admin_events, keys_in, rows_in}
 use Rattle.sd_model_replay.specs.Replay.{Outcome, Played, Run, first_run, events_in, play, run_of, moments, rounds, rounds_from}
@@ -37,6 +37,7 @@ use Rattle.sd_model_shards.proofs.ViewLemmas.{after_asked}
 use Rattle.sd_model_shards.proofs.EventsLemmas.{asks, submits, other_row}
 use Rattle.sd_model_shards.proofs.ToldLemmas.{find_retained, find_value}
 use Rattle.sd_model_shards.proofs.ShownLemmas.{answers_at, told_by_all, none_there, rounds_with}
+use Rattle.sd_model_settings.specs.Settings.{Settings}
 
 -- an event that isn't a sample of this row
 abbrev pub IsForeign : RowId → Event → Type 0
@@ -78,7 +79,7 @@ foreign_samples shards i id away who (s ∷ samples) = by_test (eqb i (shard s.k
   by_test true here rest = (other_row shards i id s false away here, rest)
   by_test false here rest = rest
 
-module _ (settings : Settings) (i : ℕ) (id : RowId) (away : eqb i (shard id.key settings.shards) ≡ false) where
+module _ (settings : Settings) (i : ℕ) (id : RowId) (away : eqb i (shard id.key settings.sizes.shards) ≡ false) where
   foreign_names : (kind : Kind) (names : List (List ℕ)) → AreForeign id (asks (map (Delete kind) names))
   foreign_names kind [] = tt
   foreign_names kind (name ∷ names) = (tt, foreign_names kind names)
@@ -93,22 +94,22 @@ module _ (settings : Settings) (i : ℕ) (id : RowId) (away : eqb i (shard id.ke
   foreign_line (Err fault) = tt
 
   foreign_command : (c : Command) → AreForeign id (events_in settings i c)
-  foreign_command (Packet who moment datagram) = foreign_samples settings.shards i id away who (samples_of datagram)
+  foreign_command (Packet who moment datagram) = foreign_samples settings.sizes.shards i id away who (samples_of datagram)
   foreign_command (Flush ts) = (tt, tt)
   foreign_command (Admin moment line) = foreign_line (admin.command line)
 
-pub AtHome-play : (settings : Settings) (run : Run) (p : Played) → AtHome settings.shards run.shards → AtHome settings.shards (play settings run p).shards
-AtHome-play settings run p h i id away = absent_asked settings.limits settings.policy (run.shards i) (events_in settings i p.command) id (foreign_command settings i id away p.command) (h i id away)
+pub AtHome-play : (settings : Settings) (run : Run) (p : Played) → AtHome settings.sizes.shards run.shards → AtHome settings.sizes.shards (play settings run p).shards
+AtHome-play settings run p h i id away = absent_asked (limits_of settings) (policy_of settings) (run.shards i) (events_in settings i p.command) id (foreign_command settings i id away p.command) (h i id away)
 
 pub AtHome-first : (shards : ℕ) (played : List Played) → AtHome shards (first_run played).shards
 AtHome-first shards played i id away = get-empty row_cmp id
 
-at_home_from : (settings : Settings) (run : Run) (played : List Played) → AtHome settings.shards run.shards → AtHome settings.shards (run_of settings run played).shards
+at_home_from : (settings : Settings) (run : Run) (played : List Played) → AtHome settings.sizes.shards run.shards → AtHome settings.sizes.shards (run_of settings run played).shards
 at_home_from settings run [] h = h
 at_home_from settings run (p ∷ played) h = at_home_from settings (play settings run p) played (AtHome-play settings run p h)
 
-pub AtHome-run : (settings : Settings) (played : List Played) → AtHome settings.shards (run_of settings (first_run played) played).shards
-AtHome-run settings played = at_home_from settings (first_run played) played (AtHome-first settings.shards played)
+pub AtHome-run : (settings : Settings) (played : List Played) → AtHome settings.sizes.shards (run_of settings (first_run played) played).shards
+AtHome-run settings played = at_home_from settings (first_run played) played (AtHome-first settings.sizes.shards played)
 
 pub AtHome-delete : (kind : Kind) (name : List ℕ) (shards : ℕ) (states : ℕ → State) → AtHome shards states → AtHome shards (λ i. after_delete kind name (states i))
 AtHome-delete kind name shards states h i id away = absent_delete kind name (states i) id (h i id away)
@@ -242,28 +243,28 @@ module _ (limits : Limits) (policy : Policy) (shards : ℕ) where
   line_once states h (Err fault) k = names_once states h Counter [] k
 
 -- No key stands twice in the answers of all shards to an event of an admin line.
-pub keys_answered_once : (settings : Settings) (run : Run) → AtHome settings.shards run.shards → (moment : ℕ) (line : List ℕ) (k : ℕ) → StandOnce (λ key. key) (flat_map keys_in (answers_to settings run (Admin moment line) k))
-keys_answered_once settings run h moment line k = (line_once settings.limits settings.policy settings.shards run.shards h (admin.command line) k).0
+pub keys_answered_once : (settings : Settings) (run : Run) → AtHome settings.sizes.shards run.shards → (moment : ℕ) (line : List ℕ) (k : ℕ) → StandOnce (λ key. key) (flat_map keys_in (answers_to settings run (Admin moment line) k))
+keys_answered_once settings run h moment line k = (line_once (limits_of settings) (policy_of settings) settings.sizes.shards run.shards h (admin.command line) k).0
 
-pub rows_answered_once : (settings : Settings) (run : Run) → AtHome settings.shards run.shards → (moment : ℕ) (line : List ℕ) (k : ℕ) → StandOnce (λ (row : DumpRow). row.key) (flat_map rows_in (answers_to settings run (Admin moment line) k))
-rows_answered_once settings run h moment line k = (line_once settings.limits settings.policy settings.shards run.shards h (admin.command line) k).1
+pub rows_answered_once : (settings : Settings) (run : Run) → AtHome settings.sizes.shards run.shards → (moment : ℕ) (line : List ℕ) (k : ℕ) → StandOnce (λ (row : DumpRow). row.key) (flat_map rows_in (answers_to settings run (Admin moment line) k))
+rows_answered_once settings run h moment line k = (line_once (limits_of settings) (policy_of settings) settings.sizes.shards run.shards h (admin.command line) k).1
 
 -- the tables of a round are at home, as states are
 abbrev pub TablesAtHome : ℕ → (ℕ → Table) → Type 0
 TablesAtHome shards tables = AtHome shards (λ i. record empty_state { live = (tables i).live })
 
 -- in each round the rows are at home
-rounds_at_home : (settings : Settings) (run : Run) (played : List Played) → AtHome settings.shards run.shards → AllByRecursion (λ r. TablesAtHome settings.shards r.tables) (rounds_from settings run played)
+rounds_at_home : (settings : Settings) (run : Run) (played : List Played) → AtHome settings.sizes.shards run.shards → AllByRecursion (λ r. TablesAtHome settings.sizes.shards r.tables) (rounds_from settings run played)
 rounds_at_home settings run [] h = tt
 rounds_at_home settings run (p ∷ played) h = by_command p.command p.outcome (rounds_at_home settings (play settings run p) played (AtHome-play settings run p h)) where
-  by_command : (c : Command) (outcome : Outcome) → AllByRecursion (λ r. TablesAtHome settings.shards r.tables) (rounds_from settings (play settings run p) played)
-      → AllByRecursion (λ r. TablesAtHome settings.shards r.tables) (rounds_with run c outcome (moments settings (play settings run p) played))
+  by_command : (c : Command) (outcome : Outcome) → AllByRecursion (λ r. TablesAtHome settings.sizes.shards r.tables) (rounds_from settings (play settings run p) played)
+      → AllByRecursion (λ r. TablesAtHome settings.sizes.shards r.tables) (rounds_with run c outcome (moments settings (play settings run p) played))
   by_command (Packet who moment datagram) outcome rest = rest
   by_command (Flush ts) outcome rest = (h, rest)
   by_command (Admin moment line) outcome rest = rest
 
-pub AtHome-rounds : (settings : Settings) (played : List Played) → AllByRecursion (λ r. TablesAtHome settings.shards r.tables) (rounds settings played)
-AtHome-rounds settings played = rounds_at_home settings (first_run played) played (AtHome-first settings.shards played)
+pub AtHome-rounds : (settings : Settings) (played : List Played) → AllByRecursion (λ r. TablesAtHome settings.sizes.shards r.tables) (rounds settings played)
+AtHome-rounds settings played = rounds_at_home settings (first_run played) played (AtHome-first settings.sizes.shards played)
 
 -- ids of rows that stand apart
 distinct_ids : (es : List (RowId × Kept)) → StandApart row_cmp es → IsDistinct is_same_row (map (λ (e : RowId × Kept). e.0) es)
@@ -284,7 +285,7 @@ ids_listed : (g : ℕ → List (RowId × Kept)) (is : List ℕ) → map (λ (e :
 ids_listed g [] = refl
 ids_listed g (i ∷ is) = map-append (λ (e : RowId × Kept). e.0) (g i) (flat_map g is) ∙ ap (λ (rest : List RowId). map (λ (e : RowId × Kept). e.0) (g i) ++ rest) (ids_listed g is)
 
-pub rows_distinct : (settings : Settings) (r : Round) → TablesAtHome settings.shards r.tables → IsDistinct is_same_row (rows_taken settings r)
+pub rows_distinct : (settings : Settings) (r : Round) → TablesAtHome settings.sizes.shards r.tables → IsDistinct is_same_row (rows_taken settings r)
 rows_distinct settings r h =
-    subst (IsDistinct is_same_row) (ids_listed (λ i. entries (r.tables i).live) (range_with_len 0 settings.shards))
-    (distinct_ids (flat_map (λ i. entries (r.tables i).live) (range_with_len 0 settings.shards)) (rows_apart settings.shards (λ i. record empty_state { live = (r.tables i).live }) h))
+    subst (IsDistinct is_same_row) (ids_listed (λ i. entries (r.tables i).live) (range_with_len 0 settings.sizes.shards))
+    (distinct_ids (flat_map (λ i. entries (r.tables i).live) (range_with_len 0 settings.sizes.shards)) (rows_apart settings.sizes.shards (λ i. record empty_state { live = (r.tables i).live }) h))

@@ -6,12 +6,12 @@ use Rattle.std.specs.List.{range_with_len}
 use Rattle.std.proofs.lemmas.List.Sums.{sum_by-cons}
 use Rattle.sd_model_shard.specs.Shard.{State, Cause}
 use Rattle.sd_model_shard.specs.Whereabouts.{causes}
-use Rattle.sd_model_replay.specs.Settings.{Settings}
 use Rattle.sd_model_replay.specs.Replay.{Played, first_run, run_of, history_at}
 use Rattle.sd_model_replay.specs.Totals.{totals_after}
 use Rattle.sd_model_replay.proofs.AccountingLemmas.{are_accounted}
 use Rattle.sd_model_replay.proofs.HistoryLemmas.{state-history_at}
 use Rattle.sd_model_shards.specs.Shards.{NoneDropped}
+use Rattle.sd_model_settings.specs.Settings.{Settings}
 
 none_of_sum : (f : ℕ → ℕ) (i start count : ℕ) → sum_by f (range_with_len start count) ≡ 0 → start ≤ i → i < start + count → f i ≡ 0
 none_of_sum f i start zero none low high = absurd (omega arith)
@@ -26,6 +26,6 @@ no_causes (c ∷ cs) h = absurd (omega arith)
 pub none_told : (settings : Settings) (played : List Played) → (totals_after settings played).dropped ≡ 0 → NoneDropped settings played
 none_told settings played told i below =
     let places = (are_accounted settings played).places i below in
-    let zero_here = none_of_sum (λ j. ((run_of settings (first_run played) played).shards j).dropped) i 0 settings.shards told (omega arith) (omega arith) in
+    let zero_here = none_of_sum (λ j. ((run_of settings (first_run played) played).shards j).dropped) i 0 settings.sizes.shards told (omega arith) (omega arith) in
     let dropped = ap (λ (s : State). s.dropped) (state-history_at settings i played) in
     no_causes (causes (history_at settings i played)) (omega (arith, zero_here, dropped, places.dropped))

@@ -8,11 +8,10 @@ use Rattle.std.proofs.lemmas.List.Sums.{sum_by-cons}
 use Rattle.std.proofs.lemmas.Simd.{map-map}
 use Rattle.sd_model_text.specs.Names.{Kind, shard}
 use Rattle.sd_model_text.specs.Lines.{Sample}
-use Rattle.sd_model_settings.specs.Settings as file
 use Rattle.sd_model_shard.specs.Rows.{RowId, row_cmp}
 use Rattle.sd_model_shard.specs.Commands.{dump_of, in_key_order}
 use Rattle.sd_model_shard.specs.Shard as at_shard
-use Rattle.sd_model_shard.specs.Shard.{State, Cause, Limits, Policy, Event, Submit, Swap, Delete, Dump, Table, step, admitted, refusal, deletion_of, after_delete, table_of, Dumped}
+use Rattle.sd_model_shard.specs.Shard.{State, Cause, Limits, Policy, Event, Submit, Swap, Delete, Dump, step, admitted, refusal, deletion_of, after_delete, table_of, Dumped}
 use Rattle.sd_model_shard.specs.History.{Act, Asked, act_of, answered}
 use Rattle.sd_model_shard.specs.Whereabouts.{causes, dropped_in}
 use Rattle.sd_model_shard.proofs.OrderLemmas.{sum_by-flat_map}
@@ -21,7 +20,7 @@ use Rattle.sd_model_record.specs.Admin.{AdminFault}
 use Rattle.sd_model_record.specs.Desk.{Desk, Marks, facts_of, with_tally, with_repeater_faults, with_round}
 use Rattle.sd_model_record.specs.Record.{Record, record_rows, table_rows}
 use Rattle.sd_model_record.specs.Replies.{Stats, Rows, Gone, Finish, Health, reply_text}
-use Rattle.sd_model_replay.specs.Settings.{Settings}
+use Rattle.sd_model_replay.specs.Settings.{limits_of, policy_of}
 use Rattle.sd_model_replay.specs.Script.{Command, Packet, Flush, Admin}
 use Rattle.sd_model_outside.specs.Deliveries.{Delivery}
 use Rattle.sd_model_record.specs.Backends.{Backend, text_of, mark_of}
@@ -30,10 +29,12 @@ use Rattle.sd_model_record.specs.Replying.{admin_events, health_after, keys_in, 
 use Rattle.sd_model_serve.specs.Rounds.{Round, round_record}
 use Rattle.sd_model_replay.specs.Replay.{Outcome, Played, Run, first_run, events_in, events_at, acts_in, replies_to, packet_tally, desk_after, desk_after_line, play, run_of, Moment, moments, form_of, round_by, rounds, rounds_from, records, deliveries}
 use Rattle.sd_model_replay.specs.Output.{answers_to, replies_to_line, replies_in, output_in, output_of}
-use Rattle.sd_model_shards.specs.Shards.{over, NoneDropped, ShowsNone, ShowsNoSettings}
+use Rattle.sd_model_shards.specs.Shards.{NoneDropped, with_shards, ShowsNone, ShowsNoSettings}
 use Rattle.sd_model_shards.proofs.ViewLemmas.{View, nothing, view-empty}
 use Rattle.sd_model_shards.proofs.EventsLemmas.{asks, Reflects, Reflects-command, Reflects-delete, seen_after, seen_left, NoneIn, none_cut}
 use Rattle.sd_model_shards.proofs.ToldLemmas.{keys_alike, rows_alike, values_alike}
+use Rattle.sd_model_settings.specs.Settings.{Settings}
+use Rattle.sd_model_settings.specs.Defaults.{plan_of, names_of}
 
 -- events of which none is dropped are answered with no drop
 sample_answered : (limits : Limits) (policy : Policy) (state : State) (who : ℕ) (s : Sample) (answer : Option Cause) (asked : List Asked)
@@ -66,9 +67,9 @@ none_summed f shards start (suc count) within none =
 
 none_replied : (settings : Settings) (run : Run) (c : Command) → NoneIn settings run c → sum_by dropped_in (replies_to settings run c) ≡ 0
 none_replied settings run c none =
-    sum_by-flat_map dropped_in (λ i. map (λ (a : Act). a.reply) (acts_in settings run i c)) (range_with_len 0 settings.shards)
-    ∙ none_summed (λ i. sum_by dropped_in (map (λ (a : Act). a.reply) (acts_in settings run i c))) settings.shards 0 settings.shards (omega arith)
-    (λ i below. none_answered settings.limits settings.policy (run.shards i) (events_in settings i c) (none i below))
+    sum_by-flat_map dropped_in (λ i. map (λ (a : Act). a.reply) (acts_in settings run i c)) (range_with_len 0 settings.sizes.shards)
+    ∙ none_summed (λ i. sum_by dropped_in (map (λ (a : Act). a.reply) (acts_in settings run i c))) settings.sizes.shards 0 settings.sizes.shards (omega arith)
+    (λ i below. none_answered (limits_of settings) (policy_of settings) (run.shards i) (events_in settings i c) (none i below))
 
 -- what all shards tell in answers that each has
 pub told_by_all : {X : Type 0} (tell : at_shard.Reply → List X) (answer : ℕ → at_shard.Reply) (is : List ℕ) → flat_map tell (filter_map (λ i. Some (answer i)) is) ≡ flat_map (λ i. tell (answer i)) is
@@ -113,25 +114,25 @@ alike_first n m played = record { left = start n; right = start m; desk = refl }
 
 -- no shard drops a sample of records, from a state on
 abbrev pub NoneFrom : Settings → Run → List Played → Type 0
-NoneFrom settings run played = (i : ℕ) → i < settings.shards → causes (answered settings.limits settings.policy (run.shards i) (events_at settings i played)) ≡ []
+NoneFrom settings run played = (i : ℕ) → i < settings.sizes.shards → causes (answered (limits_of settings) (policy_of settings) (run.shards i) (events_at settings i played)) ≡ []
 
 -- no drop in a record and those behind it
 pub none_first : (settings : Settings) (run : Run) (p : Played) (played : List Played) → NoneFrom settings run (p ∷ played) → NoneIn settings run p.command
-none_first settings run p played none i below = (none_cut settings.limits settings.policy (run.shards i) (events_in settings i p.command) (events_at settings i played) (none i below)).0
+none_first settings run p played none i below = (none_cut (limits_of settings) (policy_of settings) (run.shards i) (events_in settings i p.command) (events_at settings i played) (none i below)).0
 
 pub none_behind : (settings : Settings) (run : Run) (p : Played) (played : List Played) → NoneFrom settings run (p ∷ played) → NoneFrom settings (play settings run p) played
-none_behind settings run p played none i below = (none_cut settings.limits settings.policy (run.shards i) (events_in settings i p.command) (events_at settings i played) (none i below)).1
+none_behind settings run p played none i below = (none_cut (limits_of settings) (policy_of settings) (run.shards i) (events_in settings i p.command) (events_at settings i played) (none i below)).1
 
 -- the rounds among a record and the moments behind it
 abbrev pub rounds_with : Run → Command → Outcome → List Moment → List Round
 rounds_with run c outcome ms = filter_map (λ (m : Moment). round_by m.before m.played.command m.played.outcome) (record { before = run; played = record { command = c; outcome = outcome } } ∷ ms)
 
-module _ (settings : Settings) (n m : ℕ) (told other : file.Settings) (some_n : 1 ≤ n) (some_m : 1 ≤ m) where
+module _ (settings : Settings) (n m : ℕ) (some_n : 1 ≤ n) (some_m : 1 ≤ m) where
   abbrev S : Settings
-  S = over n told settings
+  S = with_shards n settings
 
   abbrev T : Settings
-  T = over m other settings
+  T = with_shards m settings
 
   desk_alike : (one another : Run) (c : Command) (outcome : Outcome) → one.desk ≡ another.desk → NoneIn S one c → NoneIn T another c
       → desk_after one.desk c (replies_to S one c) outcome ≡ desk_after another.desk c (replies_to T another c) outcome
@@ -142,7 +143,7 @@ module _ (settings : Settings) (n m : ℕ) (told other : file.Settings) (some_n 
   desk_alike one another (Admin moment line) outcome same none_n none_m = ap (λ (desk : Desk). desk_after_line desk (admin.command line)) same
 
   alike_after : (one another : Run) (seen : RowId → View) (p : Played) → AreAlike n m one another seen → NoneIn S one p.command → NoneIn T another p.command
-      → AreAlike n m (play S one p) (play T another p) (seen_after settings.policy seen p.command)
+      → AreAlike n m (play S one p) (play T another p) (seen_after (policy_of settings) seen p.command)
   alike_after one another seen p h none_n none_m = record {
     left = Reflects-command S one seen p.command none_n h.left;
     right = Reflects-command T another seen p.command none_m h.right;
@@ -157,13 +158,13 @@ module _ (settings : Settings) (n m : ℕ) (told other : file.Settings) (some_n 
   record_alike : (one another : Run) (seen : RowId → View) (ts : ℕ) (marks : Marks) → AreAlike n m one another seen
       → round_record (form_of S) (round_in one ts marks) ≡ round_record (form_of T) (round_in another ts marks)
   record_alike one another seen ts marks h =
-      let listed : (shards : ℕ) (run : Run) → flat_map (table_rows settings.plan) (map (λ i. table_of (run.shards i)) (range_with_len 0 shards)) ≡ flat_map (λ i. table_rows settings.plan (table_of (run.shards i))) (range_with_len 0 shards) =
-      λ shards run. flat_map-map (table_rows settings.plan) (λ i. table_of (run.shards i)) (range_with_len 0 shards) in
-      let rows : record_rows settings.plan (map (λ i. table_of (one.shards i)) (range_with_len 0 n)) ≡ record_rows settings.plan (map (λ i. table_of (another.shards i)) (range_with_len 0 m)) =
+      let listed : (shards : ℕ) (run : Run) → flat_map (table_rows (plan_of settings)) (map (λ i. table_of (run.shards i)) (range_with_len 0 shards)) ≡ flat_map (λ i. table_rows (plan_of settings) (table_of (run.shards i))) (range_with_len 0 shards) =
+      λ shards run. flat_map-map (table_rows (plan_of settings)) (λ i. table_of (run.shards i)) (range_with_len 0 shards) in
+      let rows : record_rows (plan_of settings) (map (λ i. table_of (one.shards i)) (range_with_len 0 n)) ≡ record_rows (plan_of settings) (map (λ i. table_of (another.shards i)) (range_with_len 0 m)) =
       ap (λ es. map (λ e. e.1) (entries (from_entries {R = row_cmp} es))) (listed n one)
-      ∙ ap (λ rows. map (λ e. e.1) (entries rows)) (values_alike settings.plan n m some_n some_m one.shards another.shards seen h.left h.right)
+      ∙ ap (λ rows. map (λ e. e.1) (entries rows)) (values_alike (plan_of settings) n m some_n some_m one.shards another.shards seen h.left h.right)
       ∙ sym (ap (λ es. map (λ e. e.1) (entries (from_entries {R = row_cmp} es))) (listed m another)) in
-      λ k. record { rows = rows k; tally = (h.desk k).tally; ts = ts; interval_ms = settings.plan.interval_ms; calculated = settings.plan.calculated }
+      λ k. record { rows = rows k; tally = (h.desk k).tally; ts = ts; interval_ms = (plan_of settings).interval_ms; calculated = (plan_of settings).calculated }
 
   -- a round's record and its marks
   abbrev recorded : Settings → Round → Record × Marks
@@ -174,7 +175,7 @@ module _ (settings : Settings) (n m : ℕ) (told other : file.Settings) (some_n 
   rounds_alike one another seen [] h none_n none_m = refl
   rounds_alike one another seen (p ∷ played) h none_n none_m =
       by_command p.command p.outcome
-      (rounds_alike (play S one p) (play T another p) (seen_after settings.policy seen p.command) played (alike_after one another seen p h (none_first S one p played none_n) (none_first T another p played none_m))
+      (rounds_alike (play S one p) (play T another p) (seen_after (policy_of settings) seen p.command) played (alike_after one another seen p h (none_first S one p played none_n) (none_first T another p played none_m))
       (none_behind S one p played none_n) (none_behind T another p played none_m)) where
         by_command : (c : Command) (outcome : Outcome)
             → map (recorded S) (rounds_from S (play S one p) played) ≡ map (recorded T) (rounds_from T (play T another p) played)
@@ -191,7 +192,7 @@ module _ (settings : Settings) (n m : ℕ) (told other : file.Settings) (some_n 
 
   pub deliveries_alike : (played : List Played) → NoneDropped S played → NoneDropped T played → (back : Backend) → deliveries S back played ≡ deliveries T back played
   deliveries_alike played none_n none_m back =
-      let deliver : Settings → Record × Marks → Delivery = λ s r. record { text = text_of s.names back r.0; mark = mark_of back r.1 } in
+      let deliver : Settings → Record × Marks → Delivery = λ s r. record { text = text_of (names_of s) back r.0; mark = mark_of back r.1 } in
       sym (map-map (deliver S) (recorded S) (rounds S played))
       ∙ ap (map (deliver S)) (rounds_alike (first_run played) (first_run played) (λ id. nothing) played (alike_first n m played) none_n none_m)
       ∙ map-map (deliver T) (recorded T) (rounds T played)
@@ -207,16 +208,16 @@ module _ (settings : Settings) (n m : ℕ) (told other : file.Settings) (some_n 
   line_alike one another seen moment line (Ok admin.Config) is shows h = absurd (shows refl)
   line_alike one another seen moment line (Ok admin.Quit) is shows h = refl
   line_alike one another seen moment line (Ok (admin.Show kind)) is shows h = ap (λ rows. Rows kind rows ∷ []) (
-      ap (λ answer. rows_told (answers_at S.limits S.policy n one.shards (admin_events answer) 0)) is
+      ap (λ answer. rows_told (answers_at (limits_of S) (policy_of S) n one.shards (admin_events answer) 0)) is
       ∙ ap (in_key_order (λ row. row.key)) (told_by_all rows_in (λ i. Dumped (dump_of kind (one.shards i).live (one.shards i).held)) (range_with_len 0 n))
       ∙ rows_alike n m some_n some_m one.shards another.shards seen h.left h.right kind
       ∙ sym (ap (in_key_order (λ row. row.key)) (told_by_all rows_in (λ i. Dumped (dump_of kind (another.shards i).live (another.shards i).held)) (range_with_len 0 m)))
-      ∙ sym (ap (λ answer. rows_told (answers_at T.limits T.policy m another.shards (admin_events answer) 0)) is))
+      ∙ sym (ap (λ answer. rows_told (answers_at (limits_of T) (policy_of T) m another.shards (admin_events answer) 0)) is))
   line_alike one another seen moment line (Ok (admin.Delete kind names)) is shows h = ap (λ replies. replies ++ Finish ∷ []) (
       names_told names (answers_to S one (Admin moment line)) (answers_to T another (Admin moment line)) (λ k.
-      ap (λ answer. keys_told (answers_at S.limits S.policy n one.shards (admin_events answer) k)) is
-      ∙ names_alike settings.limits settings.policy n m some_n some_m one.shards another.shards seen h.left h.right kind names k
-      ∙ sym (ap (λ answer. keys_told (answers_at T.limits T.policy m another.shards (admin_events answer) k)) is)))
+      ap (λ answer. keys_told (answers_at (limits_of S) (policy_of S) n one.shards (admin_events answer) k)) is
+      ∙ names_alike (limits_of settings) (policy_of settings) n m some_n some_m one.shards another.shards seen h.left h.right kind names k
+      ∙ sym (ap (λ answer. keys_told (answers_at (limits_of T) (policy_of T) m another.shards (admin_events answer) k)) is)))
   line_alike one another seen moment line (Ok (admin.Health word)) is shows h = ap (λ (desk : Desk). Health (health_after word desk.up) ∷ []) h.desk
   line_alike one another seen moment line (Err fault) is shows h = refl
 
@@ -230,7 +231,7 @@ module _ (settings : Settings) (n m : ℕ) (told other : file.Settings) (some_n 
   outputs_alike one another seen [] h none_n none_m shows = refl
   outputs_alike one another seen (p ∷ played) h none_n none_m shows =
       let here = ap (flat_map reply_text) (replies_alike one another seen p.command shows.0 h) in
-      let rest = outputs_alike (play S one p) (play T another p) (seen_after settings.policy seen p.command) played (alike_after one another seen p h (none_first S one p played none_n) (none_first T another p played none_m))
+      let rest = outputs_alike (play S one p) (play T another p) (seen_after (policy_of settings) seen p.command) played (alike_after one another seen p h (none_first S one p played none_n) (none_first T another p played none_m))
       (none_behind S one p played none_n) (none_behind T another p played none_m) shows.1 in
       λ k. here k ++ rest k
 
@@ -240,7 +241,7 @@ module _ (settings : Settings) (n m : ℕ) (told other : file.Settings) (some_n 
   desks_alike : (one another : Run) (seen : RowId → View) (played : List Played) → AreAlike n m one another seen → NoneFrom S one played → NoneFrom T another played → (run_of S one played).desk ≡ (run_of T another played).desk
   desks_alike one another seen [] h none_n none_m = h.desk
   desks_alike one another seen (p ∷ played) h none_n none_m =
-      desks_alike (play S one p) (play T another p) (seen_after settings.policy seen p.command) played (alike_after one another seen p h (none_first S one p played none_n) (none_first T another p played none_m))
+      desks_alike (play S one p) (play T another p) (seen_after (policy_of settings) seen p.command) played (alike_after one another seen p h (none_first S one p played none_n) (none_first T another p played none_m))
       (none_behind S one p played none_n) (none_behind T another p played none_m)
 
   pub desk_at_end : (played : List Played) → NoneDropped S played → NoneDropped T played → (run_of S (first_run played) played).desk ≡ (run_of T (first_run played) played).desk

@@ -3,30 +3,25 @@ use Rattle.std.specs.Prelude.{◌≡◌, ◌≢◌, ⊤, ℕ, ◌<◌, ◌==◌,
 use Rattle.std.specs.FinMap.{entries, get}
 use Rattle.std.specs.List.{AllByRecursion, range_with_len}
 use Rattle.sd_model_text.specs.Names.{shard}
-use Rattle.sd_model_settings.specs.Settings as file
 use Rattle.sd_model_shard.specs.Rows.{RowId}
 use Rattle.sd_model_shard.specs.Shard.{State}
 use Rattle.sd_model_shard.specs.Whereabouts.{causes}
 use Rattle.sd_model_record.specs.Admin as admin
 use Rattle.sd_model_serve.specs.Rounds.{Round}
-use Rattle.sd_model_replay.specs.Settings.{Settings}
 use Rattle.sd_model_replay.specs.Script.{Command, Packet, Flush, Admin}
 use Rattle.sd_model_record.specs.Backends.{Backend}
 use Rattle.sd_model_replay.specs.Replay.{Played, history_at, records, deliveries}
 use Rattle.sd_model_replay.specs.Output.{output_of}
 use Rattle.sd_model_replay.specs.Totals.{totals_after}
+use Rattle.sd_model_settings.specs.Settings.{Settings}
 
--- these settings over so many shards, where `config` tells others
-abbrev pub over : ℕ → file.Settings → Settings → Settings
-over n told settings = record settings { shards = n; in_force = told }
-
--- the settings of a file with another number of shards
-abbrev pub with_shards : ℕ → file.Settings → file.Settings
-with_shards n values = record values { sizes = record values.sizes { shards = n } }
+-- settings with another number of shards
+abbrev pub with_shards : ℕ → Settings → Settings
+with_shards n settings = record settings { sizes = record settings.sizes { shards = n } }
 
 -- No shard drops a sample.
 abbrev pub NoneDropped : Settings → List Played → Type 0
-NoneDropped settings played = (i : ℕ) → i < settings.shards → causes (history_at settings i played) ≡ []
+NoneDropped settings played = (i : ℕ) → i < settings.sizes.shards → causes (history_at settings i played) ≡ []
 
 -- a record that doesn't ask for the settings
 abbrev pub ShowsNone : Command → Type 0
@@ -48,7 +43,7 @@ pub record ShowTheSame (one other : Settings) (played : List Played) : Type 0 wh
 
 -- the rows of the tables that a round took, shard by shard
 abbrev pub rows_taken : Settings → Round → List RowId
-rows_taken settings r = flat_map (λ i. map (λ row. row.0) (entries (r.tables i).live)) (range_with_len 0 settings.shards)
+rows_taken settings r = flat_map (λ i. map (λ row. row.0) (entries (r.tables i).live)) (range_with_len 0 settings.sizes.shards)
 
 -- No shard of so many has a row of another one's key.
 abbrev pub AtHome : ℕ → (ℕ → State) → Type 0

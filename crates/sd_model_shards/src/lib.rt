@@ -4,4 +4,4 @@
 
 mod shards;
 
-pub use shards::{files_differ_in_shards, no_drop_is_told, rows_are_at_home, shards_are_not_shown};
+pub use shards::{no_drop_is_told, rows_are_at_home, shards_are_not_shown};

@@ -24,9 +24,8 @@ use Rattle.sd_model_record.specs.Admin as admin
 use Rattle.sd_model_record.specs.Admin.{AdminFault}
 use Rattle.sd_command.specs.Commanded.{commanded, deleted, run_with}
 use Rattle.sd_command.proofs.CommandLemmas.{deleted-at, idle_delete, line_carried, state_past}
-use Rattle.sd_model_settings.specs.Settings as file
-use Rattle.sd_model_replay.specs.Settings as model
-use Rattle.sd_model_replay.specs.Settings.{goes_by, is_used}
+use Rattle.sd_model_settings.specs.Settings.{Settings}
+use Rattle.sd_model_replay.specs.Settings.{is_used, limits_of, policy_of, targets_of}
 use Rattle.sd_model_record.specs.Backends.{Backend, mark_of, text_of}
 use Rattle.sd_model_record.specs.Repeater.{AfterSendings, IsRepeated, failures}
 use Rattle.sd_model_replay.specs.Script.{Command, Packet, Flush, Admin, end_word, spelled, script_text, IsLegal}
@@ -45,16 +44,17 @@ use Rattle.sd_model_replay.proofs.ReplayLemmas.{run_before, run_of-push, output_
 use Rattle.sd_shards.specs.Shards.{Group, AreAlike, numbers, state_at}
 use Rattle.sd_shards.specs.Filed.{filed_of, filed_at, replies_of, replies_at}
 use Rattle.sd_replay.specs.Totals.{totals_of_group}
+use Rattle.sd_model_settings.specs.Defaults.{plan_of, names_of}
 
 -- the records that were carried out
 abbrev commands_of : List Played → List Command
 commands_of played = map (λ p. p.command) played
 
 -- what a replay has done since it began
-pub record Progress (settings : model.Settings) (script left : Told) (old new : Backend → Object) (had has : List Object) (states : ℕ → State) (desk : Desk) (at turn : ℕ) : Type 0 where
+pub record Progress (settings : Settings) (script left : Told) (old new : Backend → Object) (had has : List Object) (states : ℕ → State) (desk : Desk) (at turn : ℕ) : Type 0 where
   pub played : List Played
   pub read : Reads script (script_text (commands_of played)) left
-  pub legal : AllByRecursion (λ p. IsLegal settings.receivers p.command) played
+  pub legal : AllByRecursion (λ p. IsLegal settings.sizes.receivers p.command) played
   pub used : AllByRecursion (λ p. IsOutcome settings p.command p.outcome) played
   pub texts : (back : Backend) → AfterDeliveries (deliveries settings back played) (old back) (new back)
   pub sends : AfterSendings (sendings played) had has
@@ -64,7 +64,7 @@ pub record Progress (settings : model.Settings) (script left : Told) (old new : 
   pub turns : length played ≡ turn
 
 -- nothing was done yet
-unfoldable pub nothing_played : (settings : model.Settings) (script left : Told) (backs : Backend → Object) (wires : List Object) (states : ℕ → State) (desk : Desk) (at : ℕ) → Reads script [] left → states ≡ (first_run []).shards → desk ≡ (first_run []).desk → at ≡ 0
+unfoldable pub nothing_played : (settings : Settings) (script left : Told) (backs : Backend → Object) (wires : List Object) (states : ℕ → State) (desk : Desk) (at : ℕ) → Reads script [] left → states ≡ (first_run []).shards → desk ≡ (first_run []).desk → at ≡ 0
     → Progress settings script left backs backs wires wires states desk at 0
 nothing_played settings script left backs wires states desk at r s d a = record {
   played = [];
@@ -84,12 +84,12 @@ pub given-nil : (o : Object) → FitsLastCount o.told → given [] o ≡ o
 given-nil o fits = ap (λ told. telling told o) (appended-nil o.told fits)
 
 -- shards that go by the settings
-pub record GoBy (settings : model.Settings) (group : Group) : Type 0 where
-  pub count : length group.states ≡ settings.shards
-  pub limits : group.limits ≡ settings.limits
-  pub policy : group.policy ≡ settings.policy
+pub record GoBy (settings : Settings) (group : Group) : Type 0 where
+  pub count : length group.states ≡ settings.sizes.shards
+  pub limits : group.limits ≡ limits_of settings
+  pub policy : group.policy ≡ policy_of settings
 
-pub still_go : (settings : model.Settings) (old new : Group) → GoBy settings old → AreAlike old new → GoBy settings new
+pub still_go : (settings : Settings) (old new : Group) → GoBy settings old → AreAlike old new → GoBy settings new
 still_go settings old new by alike = record { count = alike.count ∙ by.count; limits = alike.limits ∙ by.limits; policy = alike.policy ∙ by.policy }
 
 none_there : (f : Kept → Option Kept) (found : Option Kept) → found ≡ None → option_and_then f found ≡ found
@@ -117,12 +117,12 @@ idle_line (Ok (admin.Health word)) i = refl
 idle_line (Err fault) i = refl
 
 -- What a record does to shards. Beyond the last of them it does nothing.
-module _ (settings : model.Settings) (some : 0 < settings.shards) where
-  not_there : (i : ℕ) (s : Sample) (b : Bool) → eqb i (home_of settings s) ≡ b → settings.shards ≤ i → b ≡ false
+module _ (settings : Settings) (some : 0 < settings.sizes.shards) where
+  not_there : (i : ℕ) (s : Sample) (b : Bool) → eqb i (home_of settings s) ≡ b → settings.sizes.shards ≤ i → b ≡ false
   not_there i s false is past = refl
-  not_there i s true is past = let same : i ≡ home_of settings s = eqb-true i (home_of settings s) is in let below : home_of settings s < settings.shards = mod-lt _ some in absurd (omega (arith, same, below, past))
+  not_there i s true is past = let same : i ≡ home_of settings s = eqb-true i (home_of settings s) is in let below : home_of settings s < settings.sizes.shards = mod-lt _ some in absurd (omega (arith, same, below, past))
 
-  none_of : (i : ℕ) (samples : List Sample) → settings.shards ≤ i → part_of (home_of settings) i samples ≡ []
+  none_of : (i : ℕ) (samples : List Sample) → settings.sizes.shards ≤ i → part_of (home_of settings) i samples ≡ []
   none_of i [] past = refl
   none_of i (s ∷ samples) past = kept (eqb i (home_of settings s)) (not_there i s (eqb i (home_of settings s)) refl past) (none_of i samples past) where
     kept : (b : Bool) → b ≡ false → part_of (home_of settings) i samples ≡ [] → cond b (s ∷ part_of (home_of settings) i samples) (part_of (home_of settings) i samples) ≡ []
@@ -131,38 +131,38 @@ module _ (settings : model.Settings) (some : 0 < settings.shards) where
 
   -- a shard's state after what a record asks of it
   abbrev asked_by : Command → ℕ → State → State
-  asked_by c i state = after_all settings.limits settings.policy state (answered settings.limits settings.policy state (events_in settings i c))
+  asked_by c i state = after_all (limits_of settings) (policy_of settings) state (answered (limits_of settings) (policy_of settings) state (events_in settings i c))
 
-  idle : (c : Command) (i : ℕ) → settings.shards ≤ i → asked_by c i empty_state ≡ empty_state
+  idle : (c : Command) (i : ℕ) → settings.sizes.shards ≤ i → asked_by c i empty_state ≡ empty_state
   idle (Packet who moment datagram) i past =
-      ap (λ (samples : List Sample). after_all settings.limits settings.policy empty_state (answered settings.limits settings.policy empty_state (map (λ s. record { who = who; event = Submit s }) samples))) (none_of i (samples_of datagram) past)
-  idle (Flush ts) i past = idle_swap settings.policy
+      ap (λ (samples : List Sample). after_all (limits_of settings) (policy_of settings) empty_state (answered (limits_of settings) (policy_of settings) empty_state (map (λ s. record { who = who; event = Submit s }) samples))) (none_of i (samples_of datagram) past)
+  idle (Flush ts) i past = idle_swap (policy_of settings)
   idle (Admin moment line) i past = line_carried settings (begun_at 0) moment line i ∙ idle_line (admin.command line) i
 
   -- the states after a record, by those of the shards that there are
-  pub stepped : (run : Run) (p : Played) (old new : Group) → length old.states ≡ settings.shards → length new.states ≡ length old.states → state_at old ≡ run.shards
-      → ((i : ℕ) → i < settings.shards → state_at new i ≡ asked_by p.command i (state_at old i)) → state_at new ≡ (play settings run p).shards
+  pub stepped : (run : Run) (p : Played) (old new : Group) → length old.states ≡ settings.sizes.shards → length new.states ≡ length old.states → state_at old ≡ run.shards
+      → ((i : ℕ) → i < settings.sizes.shards → state_at new i ≡ asked_by p.command i (state_at old i)) → state_at new ≡ (play settings run p).shards
   stepped run p old new count alike same each = λ t i. at i t where
     at : (i : ℕ) → state_at new i ≡ (play settings run p).shards i
-    at i = elim (cases_lt i settings.shards) [
+    at i = elim (cases_lt i settings.sizes.shards) [
       | inl below ↦ each i below ∙ ap (λ (states : ℕ → State). asked_by p.command i (states i)) same
       | inr past ↦ state_past new i (omega (arith, past, count, alike)) ∙ sym (idle p.command i past)
           ∙ ap (asked_by p.command i) (sym (state_past old i (omega (arith, past, count)))) ∙ ap (λ (states : ℕ → State). asked_by p.command i (states i)) same
     ]
 
 -- a datagram's samples in shards that go by the settings
-filed_by : (settings : model.Settings) (group : Group) (who moment : ℕ) (datagram : List ℕ) (i : ℕ) → GoBy settings group
-    → filed_at group who datagram i ≡ after_all settings.limits settings.policy (state_at group i) (answered settings.limits settings.policy (state_at group i) (events_in settings i (Packet who moment datagram)))
+filed_by : (settings : Settings) (group : Group) (who moment : ℕ) (datagram : List ℕ) (i : ℕ) → GoBy settings group
+    → filed_at group who datagram i ≡ after_all (limits_of settings) (policy_of settings) (state_at group i) (answered (limits_of settings) (policy_of settings) (state_at group i) (events_in settings i (Packet who moment datagram)))
 filed_by settings group who moment datagram i by =
     let filed : Limits → Policy → ℕ → State = λ limits policy n. filed_of limits policy who (samples_of datagram) n (state_at group) i in
-    ap (λ limits. filed limits group.policy (length group.states)) by.limits ∙ ap (λ policy. filed settings.limits policy (length group.states)) by.policy ∙ ap (filed settings.limits settings.policy) by.count
+    ap (λ limits. filed limits group.policy (length group.states)) by.limits ∙ ap (λ policy. filed (limits_of settings) policy (length group.states)) by.policy ∙ ap (filed (limits_of settings) (policy_of settings)) by.count
 
-replied_by : (settings : model.Settings) (run : Run) (group : Group) (who moment : ℕ) (datagram : List ℕ) → GoBy settings group → state_at group ≡ run.shards
+replied_by : (settings : Settings) (run : Run) (group : Group) (who moment : ℕ) (datagram : List ℕ) → GoBy settings group → state_at group ≡ run.shards
     → sum_by dropped_in (replies_at group who datagram) ≡ sum_by dropped_in (replies_to settings run (Packet who moment datagram))
 replied_by settings run group who moment datagram by same =
     let told : Limits → Policy → ℕ → (ℕ → State) → ℕ = λ limits policy n states. sum_by dropped_in (replies_of limits policy who (samples_of datagram) n states) in
-    ap (λ limits. told limits group.policy (length group.states) (state_at group)) by.limits ∙ ap (λ policy. told settings.limits policy (length group.states) (state_at group)) by.policy
-    ∙ ap (λ n. told settings.limits settings.policy n (state_at group)) by.count ∙ ap (told settings.limits settings.policy settings.shards) same
+    ap (λ limits. told limits group.policy (length group.states) (state_at group)) by.limits ∙ ap (λ policy. told (limits_of settings) policy (length group.states) (state_at group)) by.policy
+    ∙ ap (λ n. told (limits_of settings) (policy_of settings) n (state_at group)) by.count ∙ ap (told (limits_of settings) (policy_of settings) settings.sizes.shards) same
 
 longer : (commands : List Command) (c : Command) (at : ℕ) → at ≡ min (length (script_text commands)) last_count → min (at + length (spelled c)) last_count ≡ min (length (script_text (commands ++ c ∷ []))) last_count
 longer commands c at e =
@@ -174,43 +174,43 @@ abbrev pub line_played : ℕ → List ℕ → Played
 line_played moment line = record { command = Admin moment line; outcome = record { marks = no_marks; failed = [] } }
 
 -- where records stand before a record, it tells no start
-same_shards : (settings : model.Settings) (played : List Played) (p : Played) → (run_of settings (first_run played) played).shards ≡ (run_before settings played p).shards
+same_shards : (settings : Settings) (played : List Played) (p : Played) → (run_of settings (first_run played) played).shards ≡ (run_before settings played p).shards
 same_shards settings [] p = refl
 same_shards settings (q ∷ played) p = refl
 
 -- a record that replies nothing writes nothing
-pub quiet : (settings : model.Settings) (played : List Played) (p : Played) → output_in settings (run_before settings played p) p.command ≡ [] → output_of settings (played ++ p ∷ []) ≡ output_of settings played
+pub quiet : (settings : Settings) (played : List Played) (p : Played) → output_in settings (run_before settings played p) p.command ≡ [] → output_of settings (played ++ p ∷ []) ≡ output_of settings played
 quiet settings played p none = output_of-push settings played p ∙ ap (λ text. output_of settings played ++ text) none ∙ append-nil (output_of settings played)
 
 -- the desk before a record that stands next, which begins anew at the first
-pub desk_before : (settings : model.Settings) (played : List Played) (p : Played) (desk begun : Desk) → desk ≡ (run_of settings (first_run played) played).desk → (length played ≡ 0 → begun ≡ new_desk (moment_of p.command)) → (length played ≢ 0 → begun ≡ desk) → begun ≡ (run_before settings played p).desk
+pub desk_before : (settings : Settings) (played : List Played) (p : Played) (desk begun : Desk) → desk ≡ (run_of settings (first_run played) played).desk → (length played ≡ 0 → begun ≡ new_desk (moment_of p.command)) → (length played ≢ 0 → begun ≡ desk) → begun ≡ (run_before settings played p).desk
 desk_before settings [] p desk begun same first later = first refl
 desk_before settings (q ∷ played) p desk begun same first later = later (λ none. absurd (omega (arith, none))) ∙ same
 
 -- and the desk where the end stands next
-pub desk_at_end : (settings : model.Settings) (played : List Played) (desk begun : Desk) → desk ≡ (run_of settings (first_run played) played).desk → (length played ≡ 0 → begun ≡ new_desk 0) → (length played ≢ 0 → begun ≡ desk) → begun ≡ (run_of settings (first_run played) played).desk
+pub desk_at_end : (settings : Settings) (played : List Played) (desk begun : Desk) → desk ≡ (run_of settings (first_run played) played).desk → (length played ≡ 0 → begun ≡ new_desk 0) → (length played ≢ 0 → begun ≡ desk) → begun ≡ (run_of settings (first_run played) played).desk
 desk_at_end settings [] desk begun same first later = first refl
 desk_at_end settings (q ∷ played) desk begun same first later = later (λ none. absurd (omega (arith, none))) ∙ same
 
 -- One record more. The desk is the one before it.
-module _ (settings : file.Settings) (some : 0 < (goes_by settings).shards) (script left left' : Told) (old new new' : Backend → Object) (had has has' : List Object) (group group' : Group) (desk begun desk' : Desk) (at at' turn : ℕ)
-    (so_far : Progress (goes_by settings) script left old new had has (state_at group) desk at turn) (by : GoBy (goes_by settings) group) (alike : AreAlike group group') where
+module _ (settings : Settings) (some : 0 < settings.sizes.shards) (script left left' : Told) (old new new' : Backend → Object) (had has has' : List Object) (group group' : Group) (desk begun desk' : Desk) (at at' turn : ℕ)
+    (so_far : Progress settings script left old new had has (state_at group) desk at turn) (by : GoBy settings group) (alike : AreAlike group group') where
   -- what was done with it, whose records are those so far and it
   abbrev pub More : Played → Type 0
-  More p = (progress : Progress (goes_by settings) script left' old new' had has' (state_at group') desk' at' (turn + 1)) × (progress.played ≡ so_far.played ++ p ∷ [])
+  More p = (progress : Progress settings script left' old new' had has' (state_at group') desk' at' (turn + 1)) × (progress.played ≡ so_far.played ++ p ∷ [])
 
   abbrev pub before : Played → Run
-  before p = run_before (goes_by settings) so_far.played p
+  before p = run_before settings so_far.played p
 
   -- the shards before it
   states_before : (p : Played) → state_at group ≡ (before p).shards
-  states_before p = so_far.same_states ∙ same_shards (goes_by settings) so_far.played p
+  states_before p = so_far.same_states ∙ same_shards settings so_far.played p
 
   -- whose text was read, and which left what it leaves
-  one_more : (p : Played) → Reads left (spelled p.command) left' → IsLegal (goes_by settings).receivers p.command → IsOutcome (goes_by settings) p.command p.outcome
-      → ((back : Backend) → AfterDeliveries (deliveries (goes_by settings) back (so_far.played ++ p ∷ [])) (old back) (new' back))
+  one_more : (p : Played) → Reads left (spelled p.command) left' → IsLegal settings.sizes.receivers p.command → IsOutcome settings p.command p.outcome
+      → ((back : Backend) → AfterDeliveries (deliveries settings back (so_far.played ++ p ∷ [])) (old back) (new' back))
       → AfterSendings (sendings (so_far.played ++ p ∷ [])) had has'
-      → ((i : ℕ) → i < (goes_by settings).shards → state_at group' i ≡ asked_by (goes_by settings) some p.command i (state_at group i)) → desk' ≡ (play (goes_by settings) (before p) p).desk
+      → ((i : ℕ) → i < settings.sizes.shards → state_at group' i ≡ asked_by settings some p.command i (state_at group i)) → desk' ≡ (play settings (before p) p).desk
       → at' ≡ min (at + length (spelled p.command)) last_count → More p
   one_more p text legal used after sent each d a =
       let ps = so_far.played in
@@ -220,12 +220,12 @@ module _ (settings : file.Settings) (some : 0 < (goes_by settings).shards) (scri
           read = so_far.read ∙ ap (put_back (script_text (commands_of ps))) text ∙ put_back-append (script_text (commands_of ps)) (spelled p.command) left'
               ∙ ap (λ (bytes : List ℕ). put_back bytes left') (sym (script_text-end (commands_of ps) p.command))
               ∙ ap (λ cs. put_back (script_text cs) left') (sym commands);
-          legal = AllByRecursion-push (λ (q : Played). IsLegal (goes_by settings).receivers q.command) ps p so_far.legal legal;
-          used = AllByRecursion-push (λ (q : Played). IsOutcome (goes_by settings) q.command q.outcome) ps p so_far.used used;
+          legal = AllByRecursion-push (λ (q : Played). IsLegal settings.sizes.receivers q.command) ps p so_far.legal legal;
+          used = AllByRecursion-push (λ (q : Played). IsOutcome settings q.command q.outcome) ps p so_far.used used;
           texts = after;
           sends = sent;
-          same_states = stepped (goes_by settings) some (before p) p group group' by.count alike.count (states_before p) each ∙ ap (λ (r : Run). r.shards) (sym (run_of-push (goes_by settings) ps p));
-          same_desk = d ∙ ap (λ (r : Run). r.desk) (sym (run_of-push (goes_by settings) ps p));
+          same_states = stepped settings some (before p) p group group' by.count alike.count (states_before p) each ∙ ap (λ (r : Run). r.shards) (sym (run_of-push settings ps p));
+          same_desk = d ∙ ap (λ (r : Run). r.desk) (sym (run_of-push settings ps p));
           same_place = a ∙ longer (commands_of ps) p.command at so_far.same_place ∙ ap (λ cs. min (length (script_text cs)) last_count) (sym commands);
           turns = omega (arith, so_far.turns, length-append ps (p ∷ []));
         },
@@ -233,20 +233,20 @@ module _ (settings : file.Settings) (some : 0 < (goes_by settings).shards) (scri
       )
 
   -- a record that is no flush gives the backends nothing
-  no_delivery : (p : Played) → ((back : Backend) → deliveries (goes_by settings) back (so_far.played ++ p ∷ []) ≡ deliveries (goes_by settings) back so_far.played) → new' ≡ new
-      → (back : Backend) → AfterDeliveries (deliveries (goes_by settings) back (so_far.played ++ p ∷ [])) (old back) (new' back)
+  no_delivery : (p : Played) → ((back : Backend) → deliveries settings back (so_far.played ++ p ∷ []) ≡ deliveries settings back so_far.played) → new' ≡ new
+      → (back : Backend) → AfterDeliveries (deliveries settings back (so_far.played ++ p ∷ [])) (old back) (new' back)
   no_delivery p same kept back =
       subst (λ ds. AfterDeliveries ds (old back) (new' back)) (sym (same back))
-      (subst (λ (f : Backend → Object). AfterDeliveries (deliveries (goes_by settings) back so_far.played) (old back) (f back)) (sym kept) (so_far.texts back))
+      (subst (λ (f : Backend → Object). AfterDeliveries (deliveries settings back so_far.played) (old back) (f back)) (sym kept) (so_far.texts back))
 
   -- and one that is no packet is sent on no wire
   no_sending : (p : Played) → sendings (so_far.played ++ p ∷ []) ≡ sendings so_far.played → has' ≡ has → AfterSendings (sendings (so_far.played ++ p ∷ [])) had has'
   no_sending p same kept = subst (λ ss. AfterSendings ss had has') (sym same) (subst (λ ws. AfterSendings (sendings so_far.played) had ws) (sym kept) so_far.sends)
 
   -- a packet more: it is sent on, its samples are filed, and it is counted
-  pub packet_more : (who moment : ℕ) (datagram : List ℕ) (failed : List Bool) → Reads left (spelled (Packet who moment datagram)) left' → IsLegal (goes_by settings).receivers (Packet who moment datagram)
+  pub packet_more : (who moment : ℕ) (datagram : List ℕ) (failed : List Bool) → Reads left (spelled (Packet who moment datagram)) left' → IsLegal settings.sizes.receivers (Packet who moment datagram)
       → begun ≡ (before (record { command = Packet who moment datagram; outcome = record { marks = no_marks; failed = failed } })).desk
-      → length failed ≡ length (goes_by settings).targets → IsRepeated datagram failed has has'
+      → length failed ≡ length (targets_of settings) → IsRepeated datagram failed has has'
       → ((i : ℕ) → i < length group.states → state_at group' i ≡ filed_at group who datagram i)
       → desk' ≡ with_repeater_faults (with_tally begun (packet_tally datagram (sum_by dropped_in (replies_at group who datagram))) moment) (failures failed)
       → at' ≡ min (at + length (spelled (Packet who moment datagram))) last_count → new' ≡ new
@@ -255,92 +255,92 @@ module _ (settings : file.Settings) (some : 0 < (goes_by settings).shards) (scri
       let p : Played = record { command = Packet who moment datagram; outcome = record { marks = no_marks; failed = failed } } in
       let counted_by : Desk → ℕ → Desk = λ e n. with_repeater_faults (with_tally e (packet_tally datagram n) moment) (failures failed) in
       one_more p text legal (refl, count)
-      (no_delivery p (λ back. deliveries-push (goes_by settings) back so_far.played p ∙ append-nil (deliveries (goes_by settings) back so_far.played)) kept)
+      (no_delivery p (λ back. deliveries-push settings back so_far.played p ∙ append-nil (deliveries settings back so_far.played)) kept)
       (subst (λ ss. AfterSendings ss had has') (sym (sendings-push so_far.played p)) (AfterSendings-push (sendings so_far.played) (record { packet = datagram; failed = failed }) had has has' so_far.sends sent))
-      (λ i below. each i (omega (arith, below, by.count)) ∙ filed_by (goes_by settings) group who moment datagram i by)
-      (d ∙ ap (counted_by begun) (replied_by (goes_by settings) (before p) group who moment datagram by (states_before p)) ∙ ap (λ e. counted_by e (sum_by dropped_in (replies_to (goes_by settings) (before p) p.command))) same_desk)
+      (λ i below. each i (omega (arith, below, by.count)) ∙ filed_by settings group who moment datagram i by)
+      (d ∙ ap (counted_by begun) (replied_by settings (before p) group who moment datagram by (states_before p)) ∙ ap (λ e. counted_by e (sum_by dropped_in (replies_to settings (before p) p.command))) same_desk)
       a
 
   -- a flush more: the shards are swapped, the tally is taken, and each backend was given the text, as its mark says
-  pub flush_more : (ts : ℕ) (marks : Marks) → Reads left (spelled (Flush ts)) left' → IsLegal (goes_by settings).receivers (Flush ts)
+  pub flush_more : (ts : ℕ) (marks : Marks) → Reads left (spelled (Flush ts)) left' → IsLegal settings.sizes.receivers (Flush ts)
       → begun ≡ (before (record { command = Flush ts; outcome = record { marks = marks; failed = [] } })).desk
-      → ((back : Backend) → FitsUse (is_used (goes_by settings) back) (mark_of back marks))
-      → ((back : Backend) → AfterMark (mark_of back marks) (text_of (goes_by settings).names back (record_of (goes_by settings).plan (map (λ i. table_of (state_at group i)) (numbers group)) begun.tally ts)) (new back) (new' back))
+      → ((back : Backend) → FitsUse (is_used settings back) (mark_of back marks))
+      → ((back : Backend) → AfterMark (mark_of back marks) (text_of (names_of settings) back (record_of (plan_of settings) (map (λ i. table_of (state_at group i)) (numbers group)) begun.tally ts)) (new back) (new' back))
       → ((i : ℕ) → i < length group.states → state_at group' i ≡ after_swap group.policy (state_at group i)) → desk' ≡ with_round begun marks
       → at' ≡ min (at + length (spelled (Flush ts))) last_count → has' ≡ has → More (record { command = Flush ts; outcome = record { marks = marks; failed = [] } })
   flush_more ts marks text legal same_desk uses after each d a kept =
       let p : Played = record { command = Flush ts; outcome = record { marks = marks; failed = [] } } in
       let run = before p in
       let r : Round = record { ts = ts; tally = run.desk.tally; tables = λ i. table_of (run.shards i); marks = marks } in
-      let record_in : ℕ → (ℕ → State) → Desk → Record = λ n states e. record_of (goes_by settings).plan (map (λ i. table_of (states i)) (range_with_len 0 n)) e.tally ts in
-      let same_record : record_in (length group.states) (state_at group) begun ≡ record_in (goes_by settings).shards run.shards run.desk =
-      ap (λ n. record_in n (state_at group) begun) by.count ∙ ap (λ states. record_in (goes_by settings).shards states begun) (states_before p) ∙ ap (record_in (goes_by settings).shards run.shards) same_desk in
-      let delivered : (back : Backend) → AfterMark (mark_of back marks) (round_text (form_of (goes_by settings)) back r) (new back) (new' back) =
-      λ back. subst (λ x. AfterMark (mark_of back marks) (text_of (goes_by settings).names back x) (new back) (new' back)) same_record (after back) in
+      let record_in : ℕ → (ℕ → State) → Desk → Record = λ n states e. record_of (plan_of settings) (map (λ i. table_of (states i)) (range_with_len 0 n)) e.tally ts in
+      let same_record : record_in (length group.states) (state_at group) begun ≡ record_in settings.sizes.shards run.shards run.desk =
+      ap (λ n. record_in n (state_at group) begun) by.count ∙ ap (λ states. record_in settings.sizes.shards states begun) (states_before p) ∙ ap (record_in settings.sizes.shards run.shards) same_desk in
+      let delivered : (back : Backend) → AfterMark (mark_of back marks) (round_text (form_of settings) back r) (new back) (new' back) =
+      λ back. subst (λ x. AfterMark (mark_of back marks) (text_of (names_of settings) back x) (new back) (new' back)) same_record (after back) in
       one_more p text legal (refl, uses)
-      (λ back. subst (λ ds. AfterDeliveries ds (old back) (new' back)) (sym (deliveries-push (goes_by settings) back so_far.played p))
-      (AfterDeliveries-push (deliveries (goes_by settings) back so_far.played) (delivery_of (goes_by settings) back r) (old back) (new back) (new' back) (so_far.texts back) (delivered back)))
+      (λ back. subst (λ ds. AfterDeliveries ds (old back) (new' back)) (sym (deliveries-push settings back so_far.played p))
+      (AfterDeliveries-push (deliveries settings back so_far.played) (delivery_of settings back r) (old back) (new back) (new' back) (so_far.texts back) (delivered back)))
       (no_sending p (sendings-push so_far.played p ∙ append-nil (sendings so_far.played)) kept)
       (λ i below. each i (omega (arith, below, by.count)) ∙ ap (λ policy. after_swap policy (state_at group i)) by.policy)
       (d ∙ ap (λ (e : Desk). with_round e marks) same_desk)
       a
 
   -- an admin line more: its command is carried out
-  pub line_more : (moment : ℕ) (line : List ℕ) → Reads left (spelled (Admin moment line)) left' → IsLegal (goes_by settings).receivers (Admin moment line)
+  pub line_more : (moment : ℕ) (line : List ℕ) → Reads left (spelled (Admin moment line)) left' → IsLegal settings.sizes.receivers (Admin moment line)
       → begun ≡ (before (line_played moment line)).desk
       → ((i : ℕ) → state_at group' i ≡ commanded (admin.command line) (state_at group) i) → desk' ≡ desk_after_line begun (admin.command line)
       → at' ≡ min (at + length (spelled (Admin moment line))) last_count → new' ≡ new → has' ≡ has → More (line_played moment line)
   line_more moment line text legal same_desk each d a kept_backs kept_wires =
       let p = line_played moment line in
       one_more p text legal (refl, refl)
-      (no_delivery p (λ back. deliveries-push (goes_by settings) back so_far.played p ∙ append-nil (deliveries (goes_by settings) back so_far.played)) kept_backs)
+      (no_delivery p (λ back. deliveries-push settings back so_far.played p ∙ append-nil (deliveries settings back so_far.played)) kept_backs)
       (no_sending p (sendings-push so_far.played p ∙ append-nil (sendings so_far.played)) kept_wires)
-      (λ i below. each i ∙ sym (line_carried (goes_by settings) (run_with (state_at group) begun) moment line i))
+      (λ i below. each i ∙ sym (line_carried settings (run_with (state_at group) begun) moment line i))
       (d ∙ ap (λ (e : Desk). desk_after_line e (admin.command line)) same_desk)
       a
 
   -- the text of what is replied to it
   pub line_replied : (moment : ℕ) (line : List ℕ) → begun ≡ (before (line_played moment line)).desk
-      → output_in (goes_by settings) (run_with (state_at group) begun) (Admin moment line) ≡ output_in (goes_by settings) (before (line_played moment line)) (Admin moment line)
+      → output_in settings (run_with (state_at group) begun) (Admin moment line) ≡ output_in settings (before (line_played moment line)) (Admin moment line)
   line_replied moment line same_desk =
-      ap (λ (states : ℕ → State). output_in (goes_by settings) (run_with states begun) (Admin moment line)) (states_before (line_played moment line))
-      ∙ ap (λ (e : Desk). output_in (goes_by settings) (run_with (before (line_played moment line)).shards e) (Admin moment line)) same_desk
+      ap (λ (states : ℕ → State). output_in settings (run_with states begun) (Admin moment line)) (states_before (line_played moment line))
+      ∙ ap (λ (e : Desk). output_in settings (run_with (before (line_played moment line)).shards e) (Admin moment line)) same_desk
 
 -- How a replay ends, where these bytes were read behind what it has carried out.
-module _ (settings : file.Settings) (old new : Seen) (left : Told) (group : Group) (desk : Desk) (at turn : ℕ) (had has : Backend → Object) (before : (back : Backend) → had back ≡ seen_at back old) (now : (back : Backend) → has back ≡ seen_at back new)
-    (so_far : Progress (goes_by settings) old.script.told left had has old.wires new.wires (state_at group) desk at turn) (ahead : List ℕ) (behind : Reads left ahead new.script.told) (used : Used old.script new.script) where
+module _ (settings : Settings) (old new : Seen) (left : Told) (group : Group) (desk : Desk) (at turn : ℕ) (had has : Backend → Object) (before : (back : Backend) → had back ≡ seen_at back old) (now : (back : Backend) → has back ≡ seen_at back new)
+    (so_far : Progress settings old.script.told left had has old.wires new.wires (state_at group) desk at turn) (ahead : List ℕ) (behind : Reads left ahead new.script.told) (used : Used old.script new.script) where
   abbrev course : Course
   course = record { played = so_far.played; ahead = ahead }
 
   -- what these records write was written
   abbrev HasWritten : List Played → Object → Type 0
-  HasWritten played output = output ≡ given (output_of (goes_by settings) played) old.output
+  HasWritten played output = output ≡ given (output_of settings played) old.output
 
-  theorem : AccountingTheorem (goes_by settings) course old new
+  theorem : AccountingTheorem settings course old new
   theorem = record {
     read = Reads-append old.script.told left new.script.told (script_text (commands_of so_far.played)) ahead so_far.read behind;
     legal = so_far.legal;
-    accounted = are_accounted (goes_by settings) so_far.played;
-    submitted = λ i below. arrivals-history_at (goes_by settings) i so_far.played;
-    state = λ i below. state-history_at (goes_by settings) i so_far.played;
+    accounted = are_accounted settings so_far.played;
+    submitted = λ i below. arrivals-history_at settings i so_far.played;
+    state = λ i below. state-history_at settings i so_far.played;
     used = so_far.used;
-    texts = λ back. subst (λ o. AfterDeliveries (deliveries (goes_by settings) back so_far.played) (seen_at back old) o) (now back)
-        (subst (λ o. AfterDeliveries (deliveries (goes_by settings) back so_far.played) o (has back)) (before back) (so_far.texts back));
+    texts = λ back. subst (λ o. AfterDeliveries (deliveries settings back so_far.played) (seen_at back old) o) (now back)
+        (subst (λ o. AfterDeliveries (deliveries settings back so_far.played) o (has back)) (before back) (so_far.texts back));
     sends = so_far.sends;
   }
 
-  same_totals : (begun : Desk) → length group.states ≡ (goes_by settings).shards → begun ≡ (run_of (goes_by settings) (first_run so_far.played) so_far.played).desk → totals_of_group group begun ≡ totals_after (goes_by settings) so_far.played
+  same_totals : (begun : Desk) → length group.states ≡ settings.sizes.shards → begun ≡ (run_of settings (first_run so_far.played) so_far.played).desk → totals_of_group group begun ≡ totals_after settings so_far.played
   same_totals begun count same_desk =
-      let run = run_of (goes_by settings) (first_run so_far.played) so_far.played in
-      ap (λ n. totals_of (record (goes_by settings) { shards = n }) (run_with (state_at group) begun)) count
-      ∙ ap (λ (states : ℕ → State). totals_of (goes_by settings) (run_with states begun)) so_far.same_states
-      ∙ ap (λ (e : Desk). totals_of (goes_by settings) (run_with run.shards e)) same_desk
+      let run = run_of settings (first_run so_far.played) so_far.played in
+      ap (λ n. totals_of (record settings { sizes = record settings.sizes { shards = n } }) (run_with (state_at group) begun)) count
+      ∙ ap (λ (states : ℕ → State). totals_of settings (run_with states begun)) so_far.same_states
+      ∙ ap (λ (e : Desk). totals_of settings (run_with run.shards e)) same_desk
 
   -- the script counted no fault
   module _ (script_faults : new.script.faults ≡ old.script.faults) where
     -- the word was read, and these totals were written
-    pub completes : length group.states ≡ (goes_by settings).shards → (begun : Desk) (totals : Totals) (rest : List ℕ) (output : Object) → begun ≡ (run_of (goes_by settings) (first_run so_far.played) so_far.played).desk → turn < 2 ^ 62 → ahead ≡ end_word ++ rest → totals ≡ totals_of_group group begun
-        → HasWritten so_far.played output → new.output ≡ given (totals_text totals) output → Replayed (goes_by settings) (Complete totals) old new
+    pub completes : length group.states ≡ settings.sizes.shards → (begun : Desk) (totals : Totals) (rest : List ℕ) (output : Object) → begun ≡ (run_of settings (first_run so_far.played) so_far.played).desk → turn < 2 ^ 62 → ahead ≡ end_word ++ rest → totals ≡ totals_of_group group begun
+        → HasWritten so_far.played output → new.output ≡ given (totals_text totals) output → Replayed settings (Complete totals) old new
     completes group_count begun totals rest output same_desk few word counts front written = record {
       course = course;
       theorem = theorem;
@@ -348,13 +348,13 @@ module _ (settings : file.Settings) (old new : Seen) (left : Told) (group : Grou
         read = (omega (arith, few, so_far.turns), (rest, word), counts ∙ same_totals begun group_count same_desk);
         script = used;
         script_faults = script_faults;
-        output = written ∙ ap (given (totals_text totals)) front ∙ given-given (output_of (goes_by settings) so_far.played) (totals_text totals) old.output;
+        output = written ∙ ap (given (totals_text totals)) front ∙ given-given (output_of settings so_far.played) (totals_text totals) old.output;
       };
     }
 
     -- the word was read, and a write of the totals failed
-    pub writes_part : length group.states ≡ (goes_by settings).shards → (begun : Desk) (rest : List ℕ) (output : Object) → begun ≡ (run_of (goes_by settings) (first_run so_far.played) so_far.played).desk → turn < 2 ^ 62 → ahead ≡ end_word ++ rest
-        → HasWritten so_far.played output → HasFailedBehind (totals_text (totals_of_group group begun)) output new.output → Replayed (goes_by settings) WriteFailed old new
+    pub writes_part : length group.states ≡ settings.sizes.shards → (begun : Desk) (rest : List ℕ) (output : Object) → begun ≡ (run_of settings (first_run so_far.played) so_far.played).desk → turn < 2 ^ 62 → ahead ≡ end_word ++ rest
+        → HasWritten so_far.played output → HasFailedBehind (totals_text (totals_of_group group begun)) output new.output → Replayed settings WriteFailed old new
     writes_part group_count begun rest output same_desk few word front failed = record {
       course = course;
       theorem = theorem;
@@ -364,10 +364,10 @@ module _ (settings : file.Settings) (old new : Seen) (left : Told) (group : Grou
         script_faults = script_faults;
         output = record {
           before = so_far.played;
-          text = totals_text (totals_after (goes_by settings) so_far.played);
+          text = totals_text (totals_after settings so_far.played);
           few = omega (arith, few, so_far.turns);
           writing = inl (record { all = refl; ends = (rest, word); totals = refl });
-          failed = subst (λ totals. HasFailedBehind (totals_text totals) (given (output_of (goes_by settings) so_far.played) old.output) new.output) (same_totals begun group_count same_desk)
+          failed = subst (λ totals. HasFailedBehind (totals_text totals) (given (output_of settings so_far.played) old.output) new.output) (same_totals begun group_count same_desk)
               (subst (λ (o : Object). HasFailedBehind (totals_text (totals_of_group group begun)) o new.output) front failed);
         };
       };
@@ -375,9 +375,9 @@ module _ (settings : file.Settings) (old new : Seen) (left : Told) (group : Grou
 
     -- a write of a reply to the last record failed
     pub replies_part : (front : List Played) (p : Played) (output : Object) → so_far.played ≡ front ++ p ∷ [] → length front < 2 ^ 62
-        → HasWritten front output → HasFailedBehind (output_in (goes_by settings) (run_before (goes_by settings) front p) p.command) output new.output → Replayed (goes_by settings) WriteFailed old new
+        → HasWritten front output → HasFailedBehind (output_in settings (run_before settings front p) p.command) output new.output → Replayed settings WriteFailed old new
     replies_part front p output order few written failed =
-        let text = output_in (goes_by settings) (run_before (goes_by settings) front p) p.command in
+        let text = output_in settings (run_before settings front p) p.command in
         record {
           course = course;
           theorem = theorem;
@@ -389,15 +389,15 @@ module _ (settings : file.Settings) (old new : Seen) (left : Told) (group : Grou
               before = front;
               text = text;
               few = few;
-              writing = inr (record { last = p; order = order; replies = ap (λ ps. output_in (goes_by settings) (run_of (goes_by settings) (first_run ps) front) p.command) (sym order) });
+              writing = inr (record { last = p; order = order; replies = ap (λ ps. output_in settings (run_of settings (first_run ps) front) p.command) (sym order) });
               failed = subst (λ (o : Object). HasFailedBehind text o new.output) written failed;
             };
           };
         }
 
     -- a record with a flaw stands next
-    pub finds_flaw : (flaw : ScriptFlaw) (place : ℕ) → place ≡ at → turn < 2 ^ 62 → Begins (goes_by settings).receivers (Faulty flaw) ahead new.script.told
-        → HasWritten so_far.played new.output → Replayed (goes_by settings) (Faulted place flaw) old new
+    pub finds_flaw : (flaw : ScriptFlaw) (place : ℕ) → place ≡ at → turn < 2 ^ 62 → Begins settings.sizes.receivers (Faulty flaw) ahead new.script.told
+        → HasWritten so_far.played new.output → Replayed settings (Faulted place flaw) old new
     finds_flaw flaw place here few begins written = record {
       course = course;
       theorem = theorem;
@@ -410,7 +410,7 @@ module _ (settings : file.Settings) (old new : Seen) (left : Told) (group : Grou
     }
 
     -- as many records were carried out as there may be
-    pub wears_out : (turns : ℕ) → turns ≡ 2 ^ 62 → turn ≡ 2 ^ 62 → HasWritten so_far.played new.output → Replayed (goes_by settings) (WornOut turns) old new
+    pub wears_out : (turns : ℕ) → turns ≡ 2 ^ 62 → turn ≡ 2 ^ 62 → HasWritten so_far.played new.output → Replayed settings (WornOut turns) old new
     wears_out turns most full written = record {
       course = course;
       theorem = theorem;
@@ -418,7 +418,7 @@ module _ (settings : file.Settings) (old new : Seen) (left : Told) (group : Grou
     }
 
   -- a read failed while the bytes at hand didn't decide what stands next
-  pub fails_to_read : turn < 2 ^ 62 → IsUndecided (goes_by settings).receivers ahead → Rose old.script.faults new.script.faults → HasWritten so_far.played new.output → Replayed (goes_by settings) ReadFailed old new
+  pub fails_to_read : turn < 2 ^ 62 → IsUndecided settings.sizes.receivers ahead → Rose old.script.faults new.script.faults → HasWritten so_far.played new.output → Replayed settings ReadFailed old new
   fails_to_read few undecided rose written = record {
     course = course;
     theorem = theorem;

@@ -32,7 +32,7 @@ impl Model for ReplayRoom {
 }
 
 impl ReplayRoom {
-    ghost use Rattle.sd_model_replay.specs.Settings.{goes_by};
+    ghost use Rattle.sd_model_replay.specs.Settings.{limits_of, policy_of};
     ghost use Rattle.sd_replay.specs.Room.{sizing_of};
 
     /// Takes the room.
@@ -41,7 +41,7 @@ impl ReplayRoom {
     ///
     /// Where no memory is left for it.
     pub fn open(alloc: Global, settings: &Settings) -> Result<ReplayRoom, AllocError>
-        ensures { IfOk result (λ room. room ≡ sizing_of (goes_by settings.now)) }
+        ensures { IfOk result (λ room. room ≡ sizing_of settings.now) }
     {
         let limits = limits_of(settings);
         let shards = settings.shards() as u16;

@@ -2,7 +2,7 @@ ghost use Rattle.std.specs.Prelude.{◌≡◌, ◌≢◌, ◌≤◌, ◌<◌, �
 ghost use Rattle.sd_model_outside.specs.Outside.{HasFailedBehind, given};
 ghost use Rattle.sd_model_shard.specs.Whereabouts.{dropped_in};
 ghost use Rattle.sd_model_record.specs.Desk.{new_desk};
-ghost use Rattle.sd_model_replay.specs.Settings.{goes_by};
+ghost use Rattle.sd_model_replay.specs.Settings.{targets_of, is_used};
 ghost use Rattle.sd_model_replay.specs.Replay.{packet_tally};
 ghost use Rattle.sd_model_replay.specs.Totals.{totals_text};
 ghost use Rattle.sd_model_replay.specs.Ends.{Replayed};
@@ -14,6 +14,7 @@ ghost use Rattle.sd_replay.specs.Seen.{seen_of};
 ghost use Rattle.sd_replay.specs.Start.{start_in};
 ghost use Rattle.sd_replay.specs.Sent.{IsPlayed};
 ghost use Rattle.sd_replay.specs.Totals.{totals_of_group, totals_view};
+ghost use Rattle.sd_model_record.specs.Backends.{Graphite, Console};
 
 use crate::fault::{ScriptFault, fault_at};
 use crate::flush::flush;
@@ -130,11 +131,11 @@ pub fn replay<R: Source, O: Sink, B: Backend, L: Wire>(
     backs: &mut Backs<B>,
     wires: &mut [L],
 ) -> ReplayEnd
-    requires room { room ≡ sizing_of (goes_by settings.now) }
-    requires graphite_used { backs.old.graphite_used ≡ (goes_by settings.now).uses_graphite }
-    requires console_used { backs.old.console_used ≡ (goes_by settings.now).uses_console }
-    requires wires { length (goes_by settings.now).targets ≤ length wires.old }
-    ensures end { Replayed (goes_by settings.now) (end_of result)
+    requires room { room ≡ sizing_of settings.now }
+    requires graphite_used { backs.old.graphite_used ≡ is_used settings.now Graphite }
+    requires console_used { backs.old.console_used ≡ is_used settings.now Console }
+    requires wires { length (targets_of settings.now) ≤ length wires.old }
+    ensures end { Replayed settings.now (end_of result)
         (seen_of R.seen O.seen B.seen L.seen script.old output.old backs.old wires.old)
         (seen_of R.seen O.seen B.seen L.seen script.new output.new backs.new wires.new) }
     ensures graphite_flag { backs.new.graphite_used ≡ backs.old.graphite_used }

@@ -1,17 +1,16 @@
 -- What a drill answers, by how its replay ended.
-use Rattle.std.proofs.Common.{◌≡◌, ◌⊎◌, ℕ, ◌≤◌, List, [], ◌++◌, Ok, codes, refl, sym, ap, subst, ◌∙◌, inl, inr}
+use Rattle.std.proofs.Common.{◌≡◌, ℕ, ◌≤◌, List, [], ◌++◌, Ok, codes, refl, sym, ap, subst, ◌∙◌, inl, inr}
 use Rattle.sd_model_outside.specs.Outside.{Object, Number, HasFailedBehind, given}
 use Rattle.sd_model_outside.proofs.WriteLemmas.{behind-later, behind-longer, given-given}
 use Rattle.sd_model_settings.specs.Settings as file
 use Rattle.sd_model_settings.specs.Defaults.{default_settings}
 use Rattle.sd_model_settings.proofs.OnLiterals.{settings_on_literals}
-use Rattle.sd_model_replay.specs.Settings.{goes_by}
 use Rattle.sd_model_replay.specs.Totals.{Totals, total_line}
 use Rattle.sd_model_replay.specs.AccountingTheorem.{Seen}
 use Rattle.sd_model_replay.specs.Ends.{End, Complete, WriteFailed, Replayed}
 use Rattle.sd_model_call.specs.Words.{most_packets}
 use Rattle.sd_model_call.specs.Drill.{bytes_counted, drill_settings, drill_start, drill_text, drilled}
-use Rattle.sd_model_call.specs.Call.{Account, Answer, Done, Drilled, drill_end, NotWritten, ending}
+use Rattle.sd_model_call.specs.Call.{Account, Answer, Done, Drilled, WritesTotals, drill_end, NotWritten, ending}
 use Rattle.sd_model_call.proofs.DrillEnds.{DrillEnd, drill_ends, drill_totals}
 use Rattle.sd_replay.specs.Ends.{end_of}
 use Rattle.sd_replay.specs.declared.fault.ScriptFault.TheVariants.{Word, Length, Truncated}
@@ -39,10 +38,10 @@ not_complete code.WriteFault other totals is = absurd (cc)
 not_complete (code.Worn turns) other totals is = absurd (cc)
 
 module _ (n : ℕ) (few : n ≤ most_packets) (values : file.Settings) (is : values ≡ default_settings) (output : Object) (start end : Seen) (began : start ≡ drill_start n output)
-    (script_faults : end.script.faults ≡ 0) (graphite_faults : end.graphite.faults ≡ 0) (e : End) (replayed : Replayed (goes_by values) e start end) where
+    (script_faults : end.script.faults ≡ 0) (graphite_faults : end.graphite.faults ≡ 0) (e : End) (replayed : Replayed values e start end) where
   ran : Replayed drill_settings e (drill_start n output) end
   unfolding drill_settings
-  ran = subst (λ (from : Seen). Replayed drill_settings e from end) began (subst (λ (v : file.Settings). Replayed (goes_by v) e start end) is replayed)
+  ran = subst (λ (from : Seen). Replayed drill_settings e from end) began (subst (λ (v : file.Settings). Replayed v e start end) is replayed)
 
   abbrev account : Account
   account = record { force = drill_settings; course = ran.course; start = drill_start n output; end = end }
@@ -65,15 +64,19 @@ module _ (n : ℕ) (few : n ≤ most_packets) (values : file.Settings) (is : val
         ];
       }
 
-  has_drilled : (answer : Answer) (new : Object) → (answer ≡ Done) × (e ≡ drill_end n) × (new ≡ given (drill_text n) output) ⊎ (answer ≡ NotWritten) × HasFailedBehind (drill_text n) output new → IsDrill n answer output new
+  has_drilled : (answer : Answer) (new : Object) → (answer ≡ Done → e ≡ drill_end n) → WritesTotals (drill_text n) Done answer output new → IsDrill n answer output new
   unfolding all_drilled
-  has_drilled answer new wrote = inr (record { account = account; theorem = ran.theorem; drilled = all_drilled; output = wrote })
+  has_drilled answer new complete written = inr (record { account = account; theorem = ran.theorem; drilled = all_drilled; complete = complete; written = written })
+
+  -- where the output failed
+  has_failed : (new : Object) → HasFailedBehind (drill_text n) output new → IsDrill n NotWritten output new
+  has_failed new failed = has_drilled NotWritten new (λ is. absurd (cc)) (inr (refl, failed))
 
   -- a replay that isn't complete failed to write the totals
   pub by_failure : (answer : Answer) → answer ≡ ending e → ((totals : Totals) → e ≡ Complete totals → ⊥) → IsDrill n answer output end.output
   by_failure answer is other = elim ended.ends [
     | inl complete ↦ absurd (other _ complete.0)
-    | inr failed ↦ has_drilled answer end.output (inr (is ∙ ap ending failed.0, behind-longer (drill_totals n) _ output end.output failed.1))
+    | inr failed ↦ subst (λ (a : Answer). IsDrill n a output end.output) (sym (is ∙ ap ending failed.0)) (has_failed end.output (behind-longer (drill_totals n) _ output end.output failed.1))
   ]
 
   -- the totals were written, and then the number of Graphite's bytes was
@@ -92,8 +95,8 @@ module _ (n : ℕ) (few : n ≤ most_packets) (values : file.Settings) (is : val
         let same : count ≡ bytes_counted drill_settings (drilled n) = cc in ap (λ m. drill_totals n ++ total_line (codes "bytes") m) same
 
     pub by_bytes : (new : Object) → new ≡ given bytes_line end.output → IsDrill n Done output new
-    by_bytes new written = has_drilled Done new (inl (refl, totals_written.0, written ∙ ap (given bytes_line) totals_written.1 ∙ given-given (drill_totals n) bytes_line output ∙ ap (λ t. given t output) text))
+    by_bytes new written = has_drilled Done new (λ is. totals_written.0) (inl (refl, written ∙ ap (given bytes_line) totals_written.1 ∙ given-given (drill_totals n) bytes_line output ∙ ap (λ t. given t output) text))
 
     pub by_bytes_failed : (new : Object) → HasFailedBehind bytes_line end.output new → IsDrill n NotWritten output new
     by_bytes_failed new failed =
-        has_drilled NotWritten new (inr (refl, subst (λ t. HasFailedBehind t output new) text (behind-later (drill_totals n) bytes_line output end.output new totals_written.1 failed)))
+        has_failed new (subst (λ t. HasFailedBehind t output new) text (behind-later (drill_totals n) bytes_line output end.output new totals_written.1 failed))

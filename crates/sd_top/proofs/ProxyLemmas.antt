@@ -1,25 +1,24 @@
 -- The proxy: what its one receiver did, the parts that it opens, and its account.
-use Rattle.std.proofs.Common.{◌≡◌, ◌⊎◌, ℕ, ◌-◌, ◌^◌, ◌<◌, ◌≤◌, List, [], ◌∷◌, ◌++◌, length, map, take, drop, inl, inr, refl, sym, ap, subst, ◌∙◌, arith, length-append}
+use Rattle.std.proofs.Common.{◌≡◌, ℕ, ◌-◌, ◌^◌, ◌<◌, ◌≤◌, List, [], ◌∷◌, ◌++◌, length, map, take, drop, inl, inr, refl, sym, ap, subst, ◌∙◌}
 use Rattle.std.proofs.Math.Seq.{take-append_seam, drop-append_seam}
 use Rattle.sd_model_outside.specs.Outside.{File, Host, Object, Place}
 use Rattle.sd_model_settings.specs.Entries.{Node}
 use Rattle.sd_model_settings.specs.Settings as file
-use Rattle.sd_model_proxy.specs.Relays.{Relay, AreRelays, IsRelay, relay_totals, relays_totals}
+use Rattle.sd_model_proxy.specs.Relays.{Relay, AreRelays, IsRelay, relay_totals}
 use Rattle.sd_model_proxy.specs.Routes.{AreAllUp}
 use Rattle.sd_model_proxy.proofs.RouteLemmas.{bits-all_up}
 use Rattle.sd_model_proxy.proofs.TotalLemmas.{sums_of_totals-one}
 use Rattle.sd_proxy.specs.Proxying.{Proxies}
 use Rattle.std.proofs.lemmas.List.Elements.{All-weaker}
 use Rattle.sd_model_proxy.specs.Totals.{proxy_text}
-use Rattle.sd_model_call.specs.Opening.{IsAccepted, Opening, OfSource, OfWire, World, opened_each}
-use Rattle.sd_model_call.specs.Call.{Answer}
-use Rattle.sd_model_call.specs.Proxy.{HasProxied, ProxyAccounts, ProxyNotBegun, node_place, proxy_openings, relay_answer}
-use Rattle.sd_model_call.specs.Server.{WritesTotals}
-use Rattle.sd_model_call.specs.ServerOpening.{StopsAmong, numbered, opened_all, settled}
+use Rattle.sd_model_call.specs.Opening.{IsAccepted, OfSource, OfWire, World, numbered, opened_all, settled}
+use Rattle.sd_model_call.specs.Call.{Answer, StopsAmong, WritesTotals}
+use Rattle.sd_model_call.specs.Proxy.{ProxyAccounts, node_place, proxy_openings, relay_answer}
 use Rattle.sd_proxy.specs.Views.{end_view, totals_view}
 use Rattle.sd_proxy.specs.declared.proxied.Proxied.{Proxied}
 use Rattle.sd_top.specs.Relaying.{HasRelayed, Relays}
-use Rattle.sd_top.proofs.ServerLemmas.{all_opened}
+use Rattle.sd_top.specs.Causes.{opened_each}
+use Rattle.sd_top.proofs.OpeningLemmas.{all_opened}
 
 -- what holds of two values holds of what is equal to them
 pub both : {X Y : Type 0} (P : X → Y → Type 0) (a a_now : X) (b b_now : Y) → a ≡ a_now → b ≡ b_now → P a_now b_now → P a b
@@ -75,7 +74,7 @@ module _ (values : file.Settings) (old : World) where
 module _ (name : List ℕ) (values : file.Settings) (settings : Object) (old new : World) (taken : IsAccepted values (File name) old.settings settings) (some : 0 < length values.lists.nodes) where
   -- the proxy couldn't be begun
   pub proxy_stopped : (answer : Answer) → StopsAmong (proxy_openings values) answer (settled values settings old) new → ProxyAccounts name answer old new
-  proxy_stopped answer stops = inr (inr (inl (record { values = values; settings = settings; taken = taken; some = some; stops = stops })))
+  proxy_stopped answer stops = inr (inr (inl (record { not_begun = record { values = values; settings = settings; taken = taken; stops = stops }; some = some })))
 
   -- it ran, and its totals were written
   pub proxy_ran : (p : Proxied) (answer : Answer) (mid : World) (output : Object) → HasRelayed values (settled values settings old) mid p → new ≡ record mid { seen = record mid.seen { output = output } }

@@ -2,14 +2,14 @@
 use Rattle.std.proofs.Common.{ℕ, List, inl, inr, refl}
 use Rattle.sd_model_outside.specs.Outside.{Object, Place}
 use Rattle.sd_model_settings.specs.Settings as file
-use Rattle.sd_model_settings.specs.Settings.{SettingsFlaw, settings}
+use Rattle.sd_model_settings.specs.Settings.{settings}
 use Rattle.sd_model_call.specs.Opening.{AreRead}
-use Rattle.sd_model_call.specs.Call.{Answer}
+use Rattle.sd_model_call.specs.Call.{Answer, IsNotTaken}
 use Rattle.sd_config.specs.Answers.{Fails}
 use Rattle.sd_config.specs.declared.fault.ConfigFault.{ConfigFault}
 use Rattle.sd_config.specs.declared.fault.ConfigFault.TheVariants.{OutOfMemory, NotToml, Unknown, WrongKind, OutOfRange}
 use Rattle.sd_top.specs.Answers.{config_answer}
-use Rattle.sd_top.specs.Causes.{IsNotTaken, IsRefused}
+use Rattle.sd_top.specs.Causes.{IsRefused}
 
 -- a fault that the definitions give
 pub refused_by : (fault : ConfigFault) (bytes : List ℕ) → Fails fault (settings bytes) → IsRefused (config_answer fault) bytes

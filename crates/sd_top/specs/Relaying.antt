@@ -5,8 +5,7 @@ use Rattle.sd_model_settings.specs.Entries.{Node}
 use Rattle.sd_model_settings.specs.Settings as file
 use Rattle.sd_model_proxy.specs.Routes.{AreAllUp}
 use Rattle.sd_model_proxy.specs.Relays.{Relay, AreRelays, relays_totals}
-use Rattle.sd_model_call.specs.Opening.{World}
-use Rattle.sd_model_call.specs.ServerOpening.{opened_all}
+use Rattle.sd_model_call.specs.Opening.{World, opened_all}
 use Rattle.sd_model_call.specs.Proxy.{proxy_openings}
 use Rattle.sd_proxy.specs.Views.{end_view, totals_view}
 use Rattle.sd_proxy.specs.declared.proxied.Proxied.{Proxied}

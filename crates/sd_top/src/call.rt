@@ -1,18 +1,17 @@
 ghost use Rattle.std.specs.Prelude.{◌≡◌, ◌<◌, ◌≤◌, ◌^◌, false, length, map, string_bytes, IfOk, IfErr};
-ghost use Rattle.sd_model_replay.specs.Settings.{goes_by};
 ghost use Rattle.sd_model_replay.specs.Ends.{Replayed};
-ghost use Rattle.sd_model_call.specs.Opening.{flags_of, started};
-ghost use Rattle.sd_model_call.specs.Call.{Accounts};
+ghost use Rattle.sd_model_call.specs.Opening.{flags_of, replay_openings, started};
+ghost use Rattle.sd_model_call.specs.Call.{Accounts, StopsAmong};
 ghost use Rattle.sd_model_call.specs.Server.{AnswersServer};
 ghost use Rattle.sd_model_call.specs.Proxy.{AnswersProxy};
 ghost use Rattle.sd_model_call.specs.Words.{form};
 ghost use Rattle.sd_replay.specs.Ends.{end_of};
 ghost use Rattle.sd_top.specs.Answers.{answer_of};
-ghost use Rattle.sd_top.specs.Causes.{IsNotStarted, IsReplay};
+ghost use Rattle.sd_top.specs.Causes.{IsReplay};
 ghost use Rattle.sd_top.specs.World.{world_of};
 
 use crate::drill::drill;
-use crate::opening::open_parts;
+use crate::opening::open_replay;
 use crate::proxy::proxy_files;
 use crate::server::serve_files;
 use crate::settings::read_settings;
@@ -53,22 +52,24 @@ fn carry_out<R: Source, O: Sink, B: Backend, D: Datagrams, L: Wire, E: Door, P: 
     script: Name,
     world: &mut World<R, O, B, D, L, E, P, G, T>,
 ) -> Result<ReplayEnd, Status>
-    requires flags { (world_of R.seen O.seen B.seen D.seen L.seen E.seen P.seen world.old).flags ≡ flags_of (goes_by settings.now) }
-    requires wires { 16 ≤ length (world.old).wires.items }
-    ensures end { IfOk result (λ end. Replayed (goes_by settings.now) (end_of end)
-        (started (goes_by settings.now) script.items (world_of R.seen O.seen B.seen D.seen L.seen E.seen P.seen world.old).seen)
+    requires flags { (world_of R.seen O.seen B.seen D.seen L.seen E.seen P.seen world.old).flags ≡ flags_of settings.now }
+    requires wires { 256 ≤ length (world.old).wires.items }
+    ensures end { IfOk result (λ end. Replayed settings.now (end_of end)
+        (started script.items settings.now (world_of R.seen O.seen B.seen D.seen L.seen E.seen P.seen world.old))
         (world_of R.seen O.seen B.seen D.seen L.seen E.seen P.seen world.new).seen) }
-    ensures refused { IfErr result (λ status. IsNotStarted (goes_by settings.now) script.items (answer_of status)
+    ensures refused { IfErr result (λ status. StopsAmong (replay_openings script.items settings.now) (answer_of status)
         (world_of R.seen O.seen B.seen D.seen L.seen E.seen P.seen world.old)
         (world_of R.seen O.seen B.seen D.seen L.seen E.seen P.seen world.new)) }
-    ensures settings { world.new.settings ≡ world.old.settings }
-    ensures served { (world_of R.seen O.seen B.seen D.seen L.seen E.seen P.seen world.new).served ≡ (world_of R.seen O.seen B.seen D.seen L.seen E.seen P.seen world.old).served }
+    ensures settings { (world.new).settings ≡ (world.old).settings }
+    ensures packets { (world.new).packets ≡ (world.old).packets }
+    ensures door { (world.new).door ≡ (world.old).door }
+    ensures beat { (world.new).beat ≡ (world.old).beat }
     ensures flags { (world_of R.seen O.seen B.seen D.seen L.seen E.seen P.seen world.new).flags ≡ (world_of R.seen O.seen B.seen D.seen L.seen E.seen P.seen world.old).flags }
 {
     let Ok(room) = ReplayRoom::open(alloc, settings) else {
         return Err(Status::OutOfMemory);
     };
-    open_parts(settings, script, world)?;
+    open_replay(settings, script, world)?;
     Ok(replay(
         settings,
         room,
@@ -87,10 +88,9 @@ fn replay_files<R: Source, O: Sink, B: Backend, D: Datagrams, L: Wire, E: Door, 
     world: &mut World<R, O, B, D, L, E, P, G, T>,
 ) -> Status
     requires wires { 256 ≤ length (world.old).wires.items }
-    ensures replay { IsReplay settings.items script.items (answer_of result)
+    ensures { IsReplay settings.items script.items (answer_of result)
         (world_of R.seen O.seen B.seen D.seen L.seen E.seen P.seen world.old)
         (world_of R.seen O.seen B.seen D.seen L.seen E.seen P.seen world.new) }
-    ensures served { (world_of R.seen O.seen B.seen D.seen L.seen E.seen P.seen world.new).served ≡ (world_of R.seen O.seen B.seen D.seen L.seen E.seen P.seen world.old).served }
 {
     let settings = match read_settings(alloc, &mut world.settings, &Address::File(settings)) {
         Ok(settings) => settings,

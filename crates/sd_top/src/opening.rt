@@ -1,11 +1,12 @@
-ghost use Rattle.std.specs.Prelude.{◌≡◌, ◌+◌, ◌<◌, ◌≤◌, ◌^◌, true, length, map, OnOk, IfErr};
+ghost use Rattle.std.specs.Prelude.{◌≡◌, ◌+◌, ◌*◌, ◌<◌, ◌≤◌, ◌^◌, true, length, map, if◌then◌else◌, OnOk, IfErr};
 ghost use Rattle.sd_model_outside.specs.Outside.{opened};
-ghost use Rattle.sd_model_replay.specs.Settings.{goes_by};
-ghost use Rattle.sd_model_call.specs.Opening.{flags_of, opened_where, opened_wires, started, target_place};
+ghost use Rattle.sd_model_replay.specs.Settings.{targets_of};
+ghost use Rattle.sd_model_call.specs.Call.{StopsAmong};
+ghost use Rattle.sd_model_call.specs.Opening.{OfWire, flags_of, opened_all, repeated, replay_openings, target_place, wire_openings};
 ghost use Rattle.sd_plan.specs.Entries.{target_view};
 ghost use Rattle.sd_outside.specs.Places.{place_of};
 ghost use Rattle.sd_top.specs.Answers.{answer_of, part_of};
-ghost use Rattle.sd_top.specs.Causes.{IsNotOpened, IsNotStarted, WiresStop};
+ghost use Rattle.sd_top.specs.Causes.{EachStops, IsNotOpened, opened_each};
 ghost use Rattle.sd_top.specs.World.{world_of};
 
 use crate::call::World;
@@ -54,8 +55,8 @@ pub(crate) fn open_wires<L: Wire>(
     wires: &mut [L],
 ) -> Result<(), Status>
     requires { first + length targets.now < 2 ^ 16 }
-    ensures ok { OnOk result (map L.seen wires.new ≡ opened_wires (map target_view targets.now) (map L.seen wires.old)) }
-    ensures refused { IfErr result (λ status. WiresStop first (map target_view targets.now) (answer_of status) (map L.seen wires.old) (map L.seen wires.new)) }
+    ensures ok { OnOk result (map L.seen wires.new ≡ opened_each (map target_place (map target_view targets.now)) (map L.seen wires.old)) }
+    ensures refused { IfErr result (λ status. EachStops OfWire first (map target_place (map target_view targets.now)) (answer_of status) (map L.seen wires.old) (map L.seen wires.new)) }
     ensures count { length wires.new ≡ length wires.old }
 {
     let Some((target, targets)) = targets.split_first() else {
@@ -68,28 +69,96 @@ pub(crate) fn open_wires<L: Wire>(
     open_wires(first + 1, targets, wires)
 }
 
-/// Opens a backend at the empty name, where it is used.
+/// Opens so many runs of wires, each with a wire for each target, in order; the first wire has this number.
+///
+/// # Errors
+///
+/// `OpenFault` where one failed, and `OutOfMemory`.
+fn open_runs<L: Wire>(
+    first: u16,
+    runs: u16,
+    targets: &[Target],
+    wires: &mut [L],
+) -> Result<(), Status>
+    requires fits { first + runs * length targets.now < 2 ^ 16 }
+    requires some { runs * length targets.now ≤ length wires.old }
+    ensures ok { OnOk result (map L.seen wires.new ≡ opened_each (repeated runs (map target_place (map target_view targets.now))) (map L.seen wires.old)) }
+    ensures refused { IfErr result (λ status. EachStops OfWire first (repeated runs (map target_place (map target_view targets.now))) (answer_of status) (map L.seen wires.old) (map L.seen wires.new)) }
+    ensures count { length wires.new ≡ length wires.old }
+{
+    if runs == 0 {
+        return Ok(());
+    }
+    let (run, wires) = wires.split_at_mut(targets.len());
+    open_wires(first, targets, run)?;
+    let used = u16::try_from(targets.len()).unwrap();
+    open_runs(first + used, runs - 1, targets, wires)
+}
+
+/// Opens so many runs of wires, each with a wire to each target of the repeater.
+///
+/// # Errors
+///
+/// `OpenFault` where one failed, and `OutOfMemory`.
+pub(crate) fn open_repeater<
+    R: Source,
+    O: Sink,
+    B: Backend,
+    D: Datagrams,
+    L: Wire,
+    E: Door,
+    P: Beat,
+    G,
+    T,
+>(
+    runs: u16,
+    settings: &Settings,
+    world: &mut World<R, O, B, D, L, E, P, G, T>,
+) -> Result<(), Status>
+    requires runs { runs ≤ 16 }
+    requires wires { 256 ≤ length (world.old).wires.items }
+    ensures opened { OnOk result (world_of R.seen O.seen B.seen D.seen L.seen E.seen P.seen world.new
+        ≡ opened_all (world_of R.seen O.seen B.seen D.seen L.seen E.seen P.seen world.old) (wire_openings runs settings.now)) }
+    ensures refused { IfErr result (λ status. StopsAmong (wire_openings runs settings.now) (answer_of status)
+        (world_of R.seen O.seen B.seen D.seen L.seen E.seen P.seen world.old)
+        (world_of R.seen O.seen B.seen D.seen L.seen E.seen P.seen world.new)) }
+    ensures count { length (world.new).wires.items ≡ length (world.old).wires.items }
+    ensures packets { (world.new).packets ≡ (world.old).packets }
+    ensures door { (world.new).door ≡ (world.old).door }
+    ensures beat { (world.new).beat ≡ (world.old).beat }
+    ensures settings { (world.new).settings ≡ (world.old).settings }
+    ensures script { (world.new).script ≡ (world.old).script }
+    ensures output { (world.new).output ≡ (world.old).output }
+    ensures clock { (world.new).clock ≡ (world.old).clock }
+    ensures flags { (world_of R.seen O.seen B.seen D.seen L.seen E.seen P.seen world.new).flags ≡ (world_of R.seen O.seen B.seen D.seen L.seen E.seen P.seen world.old).flags }
+    ensures few { length (targets_of settings.now) ≤ 16 }
+{
+    open_runs(0, runs, targets_of(settings), &mut world.wires)
+}
+
+/// Opens a backend, where it is used.
 ///
 /// # Errors
 ///
 /// `OpenFault` where it failed, and `OutOfMemory`.
-fn open_backend<B: Backend>(used: bool, back: &mut B, part: Part) -> Result<(), Status>
-    ensures ok { OnOk result (B.seen back.new ≡ opened_where used (B.seen back.old)) }
+pub(crate) fn open_where<B: Backend>(
+    used: bool,
+    back: &mut B,
+    at: &Address,
+    part: Part,
+) -> Result<(), Status>
+    ensures ok { OnOk result (B.seen back.new ≡ (if used then opened (place_of at.now) (B.seen back.old) else B.seen back.old)) }
     ensures refused { IfErr result (λ status. (used ≡ true) × IsNotOpened (part_of part) (answer_of status) (B.seen back.old) (B.seen back.new)) }
 {
-    if used {
-        open(back, &Address::File(Name::new()), part)
-    } else {
-        Ok(())
-    }
+    if used { open(back, at, part) } else { Ok(()) }
 }
 
-/// Opens what a replay by these settings uses: the script, a wire for each target of the repeater, and each backend.
+/// Opens what a replay by these settings uses: the script, a wire for each target of the repeater, and each backend that is used.
 ///
 /// # Errors
 ///
 /// `OpenFault` where an object failed, and `OutOfMemory`.
-pub(crate) fn open_parts<
+pub(crate) fn open_replay<
     R: Source,
     O: Sink,
     B: Backend,
@@ -104,23 +173,34 @@ pub(crate) fn open_parts<
     script: Name,
     world: &mut World<R, O, B, D, L, E, P, G, T>,
 ) -> Result<(), Status>
-    requires flags { (world_of R.seen O.seen B.seen D.seen L.seen E.seen P.seen world.old).flags ≡ flags_of (goes_by settings.now) }
-    requires wires { 16 ≤ length (world.old).wires.items }
-    ensures started { OnOk result ((world_of R.seen O.seen B.seen D.seen L.seen E.seen P.seen world.new).seen
-        ≡ started (goes_by settings.now) script.items (world_of R.seen O.seen B.seen D.seen L.seen E.seen P.seen world.old).seen) }
-    ensures refused { IfErr result (λ status. IsNotStarted (goes_by settings.now) script.items (answer_of status)
+    requires flags { (world_of R.seen O.seen B.seen D.seen L.seen E.seen P.seen world.old).flags ≡ flags_of settings.now }
+    requires wires { 256 ≤ length (world.old).wires.items }
+    ensures opened { OnOk result (world_of R.seen O.seen B.seen D.seen L.seen E.seen P.seen world.new
+        ≡ opened_all (world_of R.seen O.seen B.seen D.seen L.seen E.seen P.seen world.old) (replay_openings script.items settings.now)) }
+    ensures refused { IfErr result (λ status. StopsAmong (replay_openings script.items settings.now) (answer_of status)
         (world_of R.seen O.seen B.seen D.seen L.seen E.seen P.seen world.old)
         (world_of R.seen O.seen B.seen D.seen L.seen E.seen P.seen world.new)) }
-    ensures settings { world.new.settings ≡ world.old.settings }
-    ensures served { (world_of R.seen O.seen B.seen D.seen L.seen E.seen P.seen world.new).served ≡ (world_of R.seen O.seen B.seen D.seen L.seen E.seen P.seen world.old).served }
+    ensures settings { (world.new).settings ≡ (world.old).settings }
+    ensures packets { (world.new).packets ≡ (world.old).packets }
+    ensures door { (world.new).door ≡ (world.old).door }
+    ensures beat { (world.new).beat ≡ (world.old).beat }
     ensures flags { (world_of R.seen O.seen B.seen D.seen L.seen E.seen P.seen world.new).flags ≡ (world_of R.seen O.seen B.seen D.seen L.seen E.seen P.seen world.old).flags }
     ensures count { length (world.new).wires.items ≡ length (world.old).wires.items }
-    ensures few { length (goes_by settings.now).targets ≤ 16 }
+    ensures few { OnOk result (length (targets_of settings.now) ≤ 16) }
 {
-    let targets = targets_of(settings);
     open(&mut world.script, &Address::File(script), Part::Script)?;
-    open_wires(0, targets, &mut world.wires)?;
+    open_repeater(1, settings, world)?;
     let backs = &mut world.backs;
-    open_backend(backs.graphite_used, &mut backs.graphite, Part::Graphite)?;
-    open_backend(backs.console_used, &mut backs.console, Part::Console)
+    open_where(
+        backs.graphite_used,
+        &mut backs.graphite,
+        &Address::File(Name::new()),
+        Part::Graphite,
+    )?;
+    open_where(
+        backs.console_used,
+        &mut backs.console,
+        &Address::File(Name::new()),
+        Part::Console,
+    )
 }

@@ -3,16 +3,14 @@ ghost use Rattle.std.specs.Prelude.{◌≡◌, ◌+◌, ◌<◌, ◌≤◌, ◌^
 ghost use Rattle.sd_model_settings.specs.Settings.{OutOfRange};
 ghost use Rattle.sd_model_outside.specs.Turns.{most_datagram};
 ghost use Rattle.sd_model_proxy.specs.Totals.{proxy_text};
-ghost use Rattle.sd_model_call.specs.Call.{Misset};
-ghost use Rattle.sd_model_call.specs.Opening.{OfWire, opened_each};
+ghost use Rattle.sd_model_call.specs.Call.{Misset, StopsAmong, WritesTotals};
+ghost use Rattle.sd_model_call.specs.Opening.{OfWire, opened_all};
 ghost use Rattle.sd_model_call.specs.Proxy.{ProxyAccounts, node_place, proxy_openings, relay_answer};
-ghost use Rattle.sd_model_call.specs.Server.{WritesTotals};
-ghost use Rattle.sd_model_call.specs.ServerOpening.{StopsAmong, opened_all};
 ghost use Rattle.sd_plan.specs.Entries.{node_view};
 ghost use Rattle.sd_proxy.specs.Views.{end_view, totals_view};
 ghost use Rattle.sd_outside.specs.Places.{place_of};
 ghost use Rattle.sd_top.specs.Answers.{answer_of};
-ghost use Rattle.sd_top.specs.Causes.{EachStops};
+ghost use Rattle.sd_top.specs.Causes.{EachStops, opened_each};
 ghost use Rattle.sd_top.specs.Relaying.{HasRelayed, Relays};
 ghost use Rattle.sd_top.specs.World.{world_of};
 

@@ -1,9 +1,10 @@
 //! A server, from its settings to its answer.
-ghost use Rattle.std.specs.Prelude.{◌≡◌, ◌<◌, ◌≤◌, ◌^◌, false, length, map, IfOk, IfErr};
-ghost use Rattle.sd_model_replay.specs.Settings.{goes_by};
+ghost use Rattle.std.specs.Prelude.{◌≡◌, ◌<◌, ◌≤◌, ◌^◌, false, length, IfOk, IfErr};
+ghost use Rattle.sd_model_replay.specs.Settings.{limits_of, policy_of, targets_of};
 ghost use Rattle.sd_model_call.specs.Opening.{flags_of};
 ghost use Rattle.sd_model_call.specs.Server.{ServerAccounts};
-ghost use Rattle.sd_model_call.specs.ServerOpening.{StopsAmong, begun, objects_in, server_openings, serves_by};
+ghost use Rattle.sd_model_call.specs.Call.{StopsAmong};
+ghost use Rattle.sd_model_call.specs.ServerOpening.{begun, objects_in, server_openings, serves_by};
 ghost use Rattle.sd_serve.specs.Room.{AreSizes, sizing_of};
 ghost use Rattle.sd_serve.specs.Serving.{HasServed};
 ghost use Rattle.sd_top.specs.Answers.{answer_of};
@@ -61,7 +62,7 @@ pub(crate) fn run_server<
     settings: &Settings,
     world: &mut World<R, O, B, D, L, E, P, G, T>,
 ) -> Result<Served, Status>
-    requires flags { (world_of R.seen O.seen B.seen D.seen L.seen E.seen P.seen world.old).flags ≡ flags_of (goes_by settings.now) }
+    requires flags { (world_of R.seen O.seen B.seen D.seen L.seen E.seen P.seen world.old).flags ≡ flags_of settings.now }
     requires packets { 16 ≤ length (world.old).packets.items }
     requires wires { 256 ≤ length (world.old).wires.items }
     requires beat { (P.seen (world.old).beat).turns < 2 ^ 62 }

@@ -1,7 +1,8 @@
 //! What a server tells once its run has ended: the totals, and the status.
 ghost use Rattle.std.specs.Prelude.{◌≡◌, ◌+◌, ◌<◌, ◌≤◌, ◌^◌, ◌++◌, [], ◌∷◌, length, map, sum_by};
 ghost use Rattle.std.specs.List.{list_any};
-ghost use Rattle.sd_model_call.specs.Server.{WritesTotals, by_receivers as first_failed, cut_answer, is_worn, turns_answer};
+ghost use Rattle.sd_model_call.specs.Call.{WritesTotals, cut_answer};
+ghost use Rattle.sd_model_call.specs.Server.{by_receivers as first_failed, is_worn, turns_answer};
 ghost use Rattle.sd_model_replay.specs.Totals.{totals_text};
 ghost use Rattle.sd_replay.specs.Totals.{totals_view};
 ghost use Rattle.sd_serve.specs.Serving.{door_end_of, end_of};

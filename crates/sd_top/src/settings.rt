@@ -1,9 +1,10 @@
 ghost use Rattle.std.specs.Prelude.{◌≡◌, ◌≤◌, length, take, Ok, IfOk, IfErr};
 ghost use Rattle.sd_model_settings.specs.Settings.{settings};
+ghost use Rattle.sd_model_call.specs.Call.{IsNotTaken};
 ghost use Rattle.sd_model_call.specs.Opening.{AreRead, IsAccepted};
 ghost use Rattle.sd_outside.specs.Places.{place_of};
 ghost use Rattle.sd_top.specs.Answers.{answer_of};
-ghost use Rattle.sd_top.specs.Causes.{HoldsDeciding, IsNotTaken, IsRefused};
+ghost use Rattle.sd_top.specs.Causes.{HoldsDeciding, IsRefused};
 
 use crate::opening::open;
 use crate::status::{Part, Status};

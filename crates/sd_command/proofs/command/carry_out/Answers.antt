@@ -3,7 +3,6 @@ use Rattle.sd_model_record.specs.Admin.{words, command}
 use Rattle.sd_model_record.specs.Admin as model
 use Rattle.sd_model_record.specs.Replies.{Reply, Stats, Finish, reply_text}
 use Rattle.sd_model_record.specs.Desk.{facts_of}
-use Rattle.sd_model_replay.specs.Settings.{goes_by}
 use Rattle.sd_model_replay.specs.Output.{replies_to_line}
 use Rattle.sd_model_replay.specs.Script.{Admin}
 use Rattle.sd_key.specs.Kind.{kind_of}
@@ -19,7 +18,7 @@ delete-requires-clause-few g c = omega (arith, few_names c.args.line.now (kind_o
 
 pub returns-in-Stats-clause-written : goal.returns-in-Stats-clause-written
 returns-in-Stats-clause-written g c =
-    let settings = goes_by c.args.settings.now in
+    let settings = c.args.settings.now in
     let run = run_with (state_at c.args.shards.now) c.args.desk.now in
     let now = c.args.now in
     let line = c.args.line.now in
@@ -40,16 +39,16 @@ returns-in-Delete-clause-written g c =
     let kind = kind_of c.in-Delete.kind in
     let read : command c.args.line.now ≡ Ok (model.Delete kind names) = sym c.read.ensures ∙ ap answer_view (c.in-Ok.is ∙ ap Ok c.in-Delete.is) in
     subst (λ (replies : List Reply). IsWritten (flat_map reply_text replies) c.delete.result (g.O.Faulty.seen c.args.output.now) (g.O.Faulty.seen c.delete.new.output))
-    (ap (λ n. replied n kind (state_at c.args.shards.now) names ++ Finish ∷ []) c.requires.count ∙ sym (deletion_replied (goes_by c.args.settings.now) run c.args.now c.args.line.now kind names read)) c.delete.ensures.written
+    (ap (λ n. replied n kind (state_at c.args.shards.now) names ++ Finish ∷ []) c.requires.count ∙ sym (deletion_replied c.args.settings.now run c.args.now c.args.line.now kind names read)) c.delete.ensures.written
 
 pub returns-in-Show-clause-written : goal.returns-in-Show-clause-written
 returns-in-Show-clause-written g c =
-    let settings = goes_by c.args.settings.now in
+    let settings = c.args.settings.now in
     let run = run_with (state_at c.args.shards.now) c.args.desk.now in
     let kind = kind_of c.in-Show.kind in
     let read : command c.args.line.now ≡ Ok (model.Show kind) = sym c.read.ensures ∙ ap answer_view (c.in-Ok.is ∙ ap Ok c.in-Show.is) in
     let reply : ℕ → Reply = λ n. shown n kind (state_at c.args.shards.now) in
     subst (λ text. IsWritten text c.show.result (g.O.Faulty.seen c.args.output.now) (g.O.Faulty.seen c.show.new.output)) (
     ap (λ n. reply_text (reply n)) c.requires.count
-    ∙ sym (append-nil (reply_text (reply settings.shards)))
+    ∙ sym (append-nil (reply_text (reply settings.sizes.shards)))
     ∙ ap (flat_map reply_text) (sym (dump_replied settings run c.args.now c.args.line.now kind read))) c.show.ensures.written

@@ -2,7 +2,6 @@
 use Rattle.std.proofs.Common.{◌≡◌, ◌⊎◌, length, ap, subst, inl, inr}
 use Rattle.std.specs.Prelude.{min}
 use Rattle.sd_model_outside.specs.Outside.{last_count}
-use Rattle.sd_model_replay.specs.Settings.{goes_by}
 use Rattle.sd_model_replay.specs.Script.{script_text}
 use Rattle.sd_model_replay.specs.Ends.{End, Faulted, WornOut, most_records}
 use Rattle.sd_model_call.specs.Opening.{Part}
@@ -28,7 +27,7 @@ told ended answer (inr closed) = inl (inr closed)
 
 pub returns-clause-answer : goal.returns-clause-answer
 returns-clause-answer c words values old new commands rest answer plainly free h =
-    full_answer words values old new plainly (λ a. a ≡ Done) (λ end r. ap ending (replay_completes _ _ _ _ _ end (unhindered_started (goes_by values) plainly.asks.script old.seen new.seen commands rest free) r).1) free.steady.script_faults answer h
+    full_answer words values old new plainly (λ a. a ≡ Done) (λ end r. ap ending (replay_completes _ _ _ _ _ end (unhindered_started plainly.asks.script values new.settings old new.seen commands rest free) r).1) free.steady.script_faults answer h
 
 pub returns-clause-outward : goal.returns-clause-outward
 returns-clause-outward c words values old new ended answer plainly none h full = elim full [
@@ -45,16 +44,16 @@ returns-clause-done c words values old new commands rest plainly free h = done_c
 
 pub returns-clause-well : goal.returns-clause-well
 returns-clause-well c words values old new commands rest plainly free none h =
-    carries_out_well _ _ _ commands rest (none_missed_started (goes_by values) plainly.asks.script old.seen new.seen none) (done_carries_out words values old new plainly commands rest free h)
+    carries_out_well _ _ _ commands rest (none_missed_started plainly.asks.script values new.settings old new.seen none) (done_carries_out words values old new plainly commands rest free h)
 
 pub returns-clause-cut_off : goal.returns-clause-cut_off
 returns-clause-cut_off c words values old new commands flaw bytes answer plainly cut h =
     let ended = Faulted (min (length (script_text commands)) last_count) flaw in
     told ended answer
-    (full_answer words values old new plainly (TellsSo ended) (λ end r. tells ended end (replay_stops _ _ _ _ flaw _ end (cut_started (goes_by values) plainly.asks.script old.seen new.seen commands flaw bytes cut) r)) cut.steady.script_faults answer h)
+    (full_answer words values old new plainly (TellsSo ended) (λ end r. tells ended end (replay_stops _ _ _ _ flaw _ end (cut_started plainly.asks.script values new.settings old new.seen commands flaw bytes cut) r)) cut.steady.script_faults answer h)
 
 pub returns-clause-longest : goal.returns-clause-longest
 returns-clause-longest c words values old new commands bytes answer plainly longest h =
     let ended = WornOut most_records in
     told ended answer
-    (full_answer words values old new plainly (TellsSo ended) (λ end r. tells ended end (replay_wears_out _ _ _ _ _ end (longest_started (goes_by values) plainly.asks.script old.seen new.seen commands bytes longest) r)) longest.steady.script_faults answer h)
+    (full_answer words values old new plainly (TellsSo ended) (λ end r. tells ended end (replay_wears_out _ _ _ _ _ end (longest_started plainly.asks.script values new.settings old new.seen commands bytes longest) r)) longest.steady.script_faults answer h)

@@ -1,23 +1,23 @@
 use Rattle.std.proofs.Common.{sym, ◌∙◌}
-use Rattle.sd_model_shards.specs.Shards.{over}
+use Rattle.sd_model_shards.specs.Shards.{with_shards}
 use Rattle.sd_model_shards.proofs.BooksLemmas.{books_summed}
 use Rattle.sd_model_shards.proofs.ShownLemmas.{deliveries_alike, desk_at_end, output_alike, records_alike}
 use Rattle.sd_model_shards.proofs.shards.shards_are_not_shown.Goals as goal
 
 pub returns : goal.returns
-returns c settings n m told other played some_n some_m none_n none_m =
-    let a = books_summed (over n told settings) some_n played none_n in
-    let b = books_summed (over m other settings) some_m played none_m in
-    let desk = desk_at_end settings n m told other some_n some_m played none_n none_m in
+returns c settings n m played some_n some_m none_n none_m =
+    let a = books_summed (with_shards n settings) some_n played none_n in
+    let b = books_summed (with_shards m settings) some_m played none_m in
+    let desk = desk_at_end settings n m some_n some_m played none_n none_m in
     let taken = a.taken ∙ sym b.taken in
     let dropped = a.dropped ∙ sym b.dropped in
     let flushed = a.flushed ∙ sym b.flushed in
     let held = a.held ∙ sym b.held in
     let deleted = a.deleted ∙ sym b.deleted in
     record {
-      deliveries = λ back. deliveries_alike settings n m told other some_n some_m played none_n none_m back;
-      records = records_alike settings n m told other some_n some_m played none_n none_m;
-      output = λ shows. output_alike settings n m told other some_n some_m played none_n none_m shows;
+      deliveries = λ back. deliveries_alike settings n m some_n some_m played none_n none_m back;
+      records = records_alike settings n m some_n some_m played none_n none_m;
+      output = λ shows. output_alike settings n m some_n some_m played none_n none_m shows;
       totals = λ k. record {
         packets = (desk k).totals.packets;
         lines = (desk k).totals.lines;

@@ -9,8 +9,8 @@ use Rattle.sd_model_shard.specs.Shard.{table_of}
 use Rattle.sd_model_record.specs.Console.{console_text}
 use Rattle.sd_model_record.specs.Desk.{Desk, Marks, new_desk, with_tally, with_repeater_faults}
 use Rattle.sd_model_record.specs.Admin as admin
-use Rattle.sd_model_settings.specs.Defaults.{Plan, plan_of}
-use Rattle.sd_model_replay.specs.Settings.{Settings, goes_by, is_used}
+use Rattle.sd_model_settings.specs.Defaults.{Plan, plan_of, names_of}
+use Rattle.sd_model_replay.specs.Settings.{is_used, limits_of, targets_of}
 use Rattle.sd_model_record.specs.Graphite.{graphite_text}
 use Rattle.sd_model_record.specs.Record.{Record, record_of}
 use Rattle.sd_model_record.specs.Backends.{Backend, Graphite, Console, text_of, mark_of as mark_at}
@@ -47,6 +47,7 @@ use Rattle.sd_replay.specs.Start.{start_in}
 use Rattle.sd_replay.proofs.PlayLemmas.{still_go, given-nil, nothing_played, completes, writes_part, replies_part, finds_flaw, fails_to_read, wears_out, desk_before, desk_at_end, packet_more, flush_more, line_more, line_played, line_replied, quiet}
 use Rattle.sd_replay.proofs.run.replay.Goals as goal
 use Rattle.sd_replay.proofs.run.replay.Goals.{in-Ok-finish, in-Err, in-Packet, in-Flush, in-Admin+else-is_err}
+use Rattle.sd_model_settings.specs.Settings.{Settings}
 
 -- a backend is seen as the one of its name
 back_seen : {R O B L : Type 0} (of_script : R → Object) (of_output : O → Object) (of_back : B → Object) (of_wire : L → Object) (script : R) (output : O) (backs : Backs B) (wires : List L) (back : Backend)
@@ -55,12 +56,12 @@ back_seen of_script of_output of_back of_wire script output backs wires Graphite
 back_seen of_script of_output of_back of_wire script output backs wires Console = refl
 
 -- what holds of Graphite and of the console holds of each backend
-both_fit : (s : Settings) (marks : Marks) → FitsUse s.uses_graphite marks.graphite → FitsUse s.uses_console marks.console → (back : Backend) → FitsUse (is_used s back) (mark_at back marks)
+both_fit : (s : Settings) (marks : Marks) → FitsUse (is_used s Graphite) marks.graphite → FitsUse (is_used s Console) marks.console → (back : Backend) → FitsUse (is_used s back) (mark_at back marks)
 both_fit s marks graphite console Graphite = graphite
 both_fit s marks graphite console Console = console
 
-both_given : (s : Settings) (marks : Marks) (rec : Record) (old new : Backend → Object) → AfterMark marks.graphite (graphite_text s.names rec) (old Graphite) (new Graphite) → AfterMark marks.console (console_text rec) (old Console) (new Console)
-    → (back : Backend) → AfterMark (mark_at back marks) (text_of s.names back rec) (old back) (new back)
+both_given : (s : Settings) (marks : Marks) (rec : Record) (old new : Backend → Object) → AfterMark marks.graphite (graphite_text (names_of s) rec) (old Graphite) (new Graphite) → AfterMark marks.console (console_text rec) (old Console) (new Console)
+    → (back : Backend) → AfterMark (mark_at back marks) (text_of (names_of s) back rec) (old back) (new back)
 both_given s marks rec old new graphite console Graphite = graphite
 both_given s marks rec old new graphite console Console = console
 
@@ -109,17 +110,17 @@ returns-in-End-clause-end g c =
     let told = new.script.told in
     let desk = c.begin.new.desk in
     let b = subst (λ item. IsBegun c.loop-turn.turn item c.loop-turn.desk desk) c.in-End.is (record { first = c.begin.ensures.first; later = c.begin.ensures.later }) in
-    let same_desk = desk_at_end (goes_by settings) stands.progress.played c.loop-turn.desk desk stands.progress.same_desk (λ none. b.first (sym stands.progress.turns ∙ none)) (λ some. b.later (λ none. some (stands.progress.turns ∙ none))) in
+    let same_desk = desk_at_end settings stands.progress.played c.loop-turn.desk desk stands.progress.same_desk (λ none. b.first (sym stands.progress.turns ∙ none)) (λ some. b.later (λ none. some (stands.progress.turns ∙ none))) in
     let reads = subst (λ item. ReadsItem item c.loop-turn.reader (g.R.Faulty.seen c.loop-turn.script).told c.next.new.self told) c.in-End.is c.in-Ok.ensures.item in
     let behind = Reads-append _ (put_back pending told) told end_word pending reads.stands.reads refl in
     let used = used_since old.script (g.R.Faulty.seen c.loop-turn.script) new.script stands.faults stands.place c.in-Ok.ensures.used in
     let faults : new.script.faults ≡ old.script.faults = c.in-Ok.ensures.steady ∙ stands.faults in
     let output = g.O.Faulty.seen c.loop-turn.output in
     elim c.match-finish.branch [
-      | in-Ok-finish w ↦ subst (λ r. Replayed (goes_by settings) (end_of r) old new) (sym w.result-is)
+      | in-Ok-finish w ↦ subst (λ r. Replayed settings (end_of r) old new) (sym w.result-is)
           (completes settings old new _ c.loop-turn.shards _ _ _ _ _ before now stands.progress (end_word ++ pending) behind used faults stands.by.count desk (totals_view w.in-Ok-finish.totals) pending output same_desk c.loop-turn-test.true refl
           w.in-Ok-finish.ensures.totals stands.written w.in-Ok-finish.ensures.written)
-      | in-Err w ↦ subst (λ r. Replayed (goes_by settings) (end_of r) old new) (sym w.result-is)
+      | in-Err w ↦ subst (λ r. Replayed settings (end_of r) old new) (sym w.result-is)
           (writes_part settings old new _ c.loop-turn.shards _ _ _ _ _ before now stands.progress (end_word ++ pending) behind used faults stands.by.count desk pending output same_desk c.loop-turn-test.true refl
           stands.written w.in-Err.ensures.failed)
     ]
@@ -142,7 +143,7 @@ returns-then-is_err-clause-end g c =
     let p = line_played moment line in
     let read = subst (λ item. ReadsItem item c.loop-turn.reader had c.next.new.self has) c.in-Admin.is c.in-Ok.ensures.item in
     let desk = c.begin.new.desk in
-    let same_desk = before_record (goes_by settings) stands.progress.played p c.loop-turn.turn c.in-Ok.item c.loop-turn.desk desk stands.progress.turns (ap start_in c.in-Admin.is) (record { first = c.begin.ensures.first; later = c.begin.ensures.later }) stands.progress.same_desk in
+    let same_desk = before_record settings stands.progress.played p c.loop-turn.turn c.in-Ok.item c.loop-turn.desk desk stands.progress.turns (ap start_in c.in-Admin.is) (record { first = c.begin.ensures.first; later = c.begin.ensures.later }) stands.progress.same_desk in
     let group = c.loop-turn.shards in
     let more = line_more settings stands.some _ _ (left c.next.new.self has) _ _ (back_of g.B.Faulty.seen c.loop-turn.backs) _ _ (map g.L.Faulty.seen c.loop-turn.wires) group c.carry_out-told.new.shards _ desk c.carry_out-told.new.desk _ c.next.new.self.at _ stands.progress stands.by c.carry_out-told.ensures.alike
     moment line read.stands.reads (subst (λ k. IsLegal k (Admin moment line)) stands.receivers read.stands.begins.0) same_desk
@@ -154,7 +155,7 @@ returns-then-is_err-clause-end g c =
     replies_part settings old new _ c.carry_out-told.new.shards _ _ _ _ _ before now more.0 pending refl
     (used_since old.script (g.R.Faulty.seen c.loop-turn.script) new.script stands.faults stands.place c.in-Ok.ensures.used)
     (c.in-Ok.ensures.steady ∙ stands.faults) stands.progress.played p (g.O.Faulty.seen c.loop-turn.output) more.1 (omega (arith, c.loop-turn-test.true, stands.progress.turns)) stands.written
-    (subst (λ text. HasFailedBehind text (g.O.Faulty.seen c.loop-turn.output) new.output) (ap (λ bytes. output_in (goes_by settings) (run_with (state_at group) desk) (Admin moment bytes)) c.body-in-Admin.ensures ∙ replied) failed)
+    (subst (λ text. HasFailedBehind text (g.O.Faulty.seen c.loop-turn.output) new.output) (ap (λ bytes. output_in settings (run_with (state_at group) desk) (Admin moment bytes)) c.body-in-Admin.ensures ∙ replied) failed)
 
 pub returns-in-Fault-clause-end : goal.returns-in-Fault-clause-end
 returns-in-Fault-clause-end g c =
@@ -171,7 +172,7 @@ returns-in-Fault-clause-end g c =
     let read = subst (λ item. ReadsItem item c.loop-turn.reader (g.R.Faulty.seen c.loop-turn.script).told c.next.new.self told) c.in-Fault.is c.in-Ok.ensures.item in
     let behind = read.stands.reads ∙ sym (Reads-nil (put_back pending told)) in
     let flaw = flaw_of c.in-Fault.flaw in
-    subst (λ end. Replayed (goes_by settings) end old new) (sym c.fault_at.ensures)
+    subst (λ end. Replayed settings end old new) (sym c.fault_at.ensures)
     (finds_flaw settings old new _ c.loop-turn.shards _ _ _ _ _ before now stands.progress pending behind
     (used_since old.script (g.R.Faulty.seen c.loop-turn.script) new.script stands.faults stands.place c.in-Ok.ensures.used)
     (c.in-Ok.ensures.steady ∙ stands.faults) flaw c.at.result (c.at.ensures ∙ read.at) c.loop-turn-test.true
@@ -194,7 +195,7 @@ pub loop-turn-init : goal.loop-turn-init
 unfolding nothing_played
 loop-turn-init g c =
     let fresh = c.room.invariant in
-    let settings = goes_by c.args.settings.now in
+    let settings = c.args.settings.now in
     let opened : sizing_in c.room.inside ≡ sizing_of settings = c.room.view_is ∙ c.requires.room in
     let limits = ap (λ (s : Sizing). s.limits) opened in
     let shards = ap (λ (s : Sizing). s.shards) opened in
@@ -208,9 +209,9 @@ loop-turn-init g c =
         written = sym (given-nil (g.O.Faulty.seen c.args.output.now) (g.met.O.Sink.number_fits c.args.output.now));
         some = subst (λ n. 0 < n) shards fresh.some;
         by = record { count = shards; limits = limits; policy = ap (λ (s : Sizing). s.policy) opened };
-        room = subst (λ n. HasRoom n settings.limits c.room.inside.scratch.room) shards (subst (λ most. HasRoom (length group.states) most c.room.inside.scratch.room) limits fresh.scratch);
-        keys = subst (λ n. HoldsRows n settings.limits c.room.inside.keys.room) shards (subst (λ most. HoldsRows (length group.states) most c.room.inside.keys.room) limits fresh.keys);
-        dump = subst (λ n. HoldsRows n settings.limits c.room.inside.dump.room) shards (subst (λ most. HoldsRows (length group.states) most c.room.inside.dump.room) limits fresh.dump);
+        room = subst (λ n. HasRoom n (limits_of settings) c.room.inside.scratch.room) shards (subst (λ most. HasRoom (length group.states) most c.room.inside.scratch.room) limits fresh.scratch);
+        keys = subst (λ n. HoldsRows n (limits_of settings) c.room.inside.keys.room) shards (subst (λ most. HoldsRows (length group.states) most c.room.inside.keys.room) limits fresh.keys);
+        dump = subst (λ n. HoldsRows n (limits_of settings) c.room.inside.dump.room) shards (subst (λ most. HoldsRows (length group.states) most c.room.inside.dump.room) limits fresh.dump);
         receivers = ap (λ (s : Sizing). s.receivers) opened;
         faults = refl;
         place = refl;
@@ -255,23 +256,23 @@ loop-turn-preserved g c =
           subst (λ ws. IsRepeated datagram failed ws (map g.L.Faulty.seen c.match-item.wires)) (sym (map-append g.L.Faulty.seen (take n wires) (drop n wires)) ∙ ap (map g.L.Faulty.seen) (take-append-drop n wires))
           (subst (λ ws. IsRepeated datagram failed (map g.L.Faulty.seen (take n wires) ++ behind) ws) (sym (ap (map g.L.Faulty.seen) after ∙ map-append g.L.Faulty.seen sent_on (drop n wires)))
           (repeated_from datagram failed _ _ behind sends)) in
-          let count : length failed ≡ length (goes_by settings).targets =
+          let count : length failed ≡ length (targets_of settings) =
           omega (arith, length-sent datagram failed _ _ sends, length-map (take n wires) g.L.Faulty.seen, length-take n wires, length-map c.targets_of-targets.result.now target_view, ap length c.targets_of-targets.ensures.targets, c.requires.wires, c.loop-turn.invariant.3) in
           let alike = subst (AreAlike group) (sym w.shards-is) w.play_packet.ensures.alike in
           let more = packet_more settings stands.some _ _ (left c.next.new.self has) _ _ (back_of g.B.Faulty.seen c.match-item.backs) _ _ (map g.L.Faulty.seen c.match-item.wires) group c.match-item.shards _ begun_desk c.match-item.desk _ c.next.new.self.at _ stands.progress stands.by alike
           who moment datagram failed read.stands.reads (subst (λ k. IsLegal k (Packet who moment datagram)) stands.receivers read.stands.begins.0)
-          (before_record (goes_by settings) played _ c.loop-turn.turn c.in-Ok.item c.loop-turn.desk begun_desk stands.progress.turns (ap start_in w.in-Packet.is) b stands.progress.same_desk) count repeated
+          (before_record settings played _ c.loop-turn.turn c.in-Ok.item c.loop-turn.desk begun_desk stands.progress.turns (ap start_in w.in-Packet.is) b stands.progress.same_desk) count repeated
           (λ i below. ap (λ (gr : Group). state_at gr i) w.shards-is ∙ w.play_packet.ensures.states i below ∙ ap (λ bytes. filed_at group who bytes i) w.body.ensures)
           (w.desk-is ∙ w.play_packet.ensures.played.counted ∙ ap (λ bytes. with_repeater_faults (with_tally begun_desk (packet_tally bytes (sum_by dropped_in (replies_at group who bytes))) moment) (failures failed)) w.body.ensures)
           read.at (ap (back_of g.B.Faulty.seen) w.backs-is) in (
             record {
               progress = more.0;
-              written = ap g.O.Faulty.seen w.output-is ∙ stands.written ∙ ap (λ text. given text first) (sym (ap (output_of (goes_by settings)) more.1 ∙ quiet (goes_by settings) played _ refl));
+              written = ap g.O.Faulty.seen w.output-is ∙ stands.written ∙ ap (λ text. given text first) (sym (ap (output_of settings) more.1 ∙ quiet settings played _ refl));
               some = stands.some;
-              by = still_go (goes_by settings) group c.match-item.shards stands.by alike;
-              room = subst (λ s. HasRoom (goes_by settings).shards (goes_by settings).limits s.room) (sym w.scratch-is) stands.room;
-              keys = subst (λ (s : KeyList). HoldsRows (goes_by settings).shards (goes_by settings).limits s.room) (sym w.keys-is) stands.keys;
-              dump = subst (λ (s : DumpList). HoldsRows (goes_by settings).shards (goes_by settings).limits s.room) (sym w.dump-is) stands.dump;
+              by = still_go settings group c.match-item.shards stands.by alike;
+              room = subst (λ s. HasRoom settings.sizes.shards (limits_of settings) s.room) (sym w.scratch-is) stands.room;
+              keys = subst (λ (s : KeyList). HoldsRows settings.sizes.shards (limits_of settings) s.room) (sym w.keys-is) stands.keys;
+              dump = subst (λ (s : DumpList). HoldsRows settings.sizes.shards (limits_of settings) s.room) (sym w.dump-is) stands.dump;
               receivers = read.receivers ∙ stands.receivers;
               faults = faults;
               place = place;
@@ -290,25 +291,25 @@ loop-turn-preserved g c =
           let graphite = subst (λ names. AfterMark marks.graphite (graphite_text names (rec (plan_of settings))) (g.B.Faulty.seen old.graphite) (g.B.Faulty.seen new.graphite)) c.of-names.ensures
           (subst (λ plan. AfterMark marks.graphite (graphite_text c.of-names.result (rec plan)) (g.B.Faulty.seen old.graphite) (g.B.Faulty.seen new.graphite)) w.plan.ensures w.flush.ensures.graphite) in
           let console = subst (λ plan. AfterMark marks.console (console_text (rec plan)) (g.B.Faulty.seen old.console) (g.B.Faulty.seen new.console)) w.plan.ensures w.flush.ensures.console in
-          let uses = both_fit (goes_by settings) marks
+          let uses = both_fit settings marks
           (subst (λ used. FitsUse used marks.graphite) (c.loop-turn.invariant.1 ∙ c.requires.graphite_used) w.flush.ensures.graphite_used)
           (subst (λ used. FitsUse used marks.console) (c.loop-turn.invariant.2 ∙ c.requires.console_used) w.flush.ensures.console_used) in
-          let after = both_given (goes_by settings) marks (rec (plan_of settings)) (back_of g.B.Faulty.seen old) (back_of g.B.Faulty.seen new) graphite console in
+          let after = both_given settings marks (rec (plan_of settings)) (back_of g.B.Faulty.seen old) (back_of g.B.Faulty.seen new) graphite console in
           let alike = subst (AreAlike group) (sym w.shards-is) w.flush.ensures.alike in
           let more = flush_more settings stands.some _ _ (left c.next.new.self has) _ _ (back_of g.B.Faulty.seen c.match-item.backs) _ _ (map g.L.Faulty.seen c.match-item.wires) group c.match-item.shards _ begun_desk c.match-item.desk _ c.next.new.self.at _ stands.progress stands.by alike
           ts marks read.stands.reads (subst (λ k. IsLegal k (Flush ts)) stands.receivers read.stands.begins.0)
-          (before_record (goes_by settings) played _ c.loop-turn.turn c.in-Ok.item c.loop-turn.desk begun_desk stands.progress.turns (ap start_in w.in-Flush.is) b stands.progress.same_desk) uses
-          (subst (λ (f : Backend → Object). (back : Backend) → AfterMark (mark_at back marks) (text_of (goes_by settings).names back (rec (plan_of settings))) (back_of g.B.Faulty.seen old back) (f back)) (ap (back_of g.B.Faulty.seen) (sym w.backs-is)) after)
+          (before_record settings played _ c.loop-turn.turn c.in-Ok.item c.loop-turn.desk begun_desk stands.progress.turns (ap start_in w.in-Flush.is) b stands.progress.same_desk) uses
+          (subst (λ (f : Backend → Object). (back : Backend) → AfterMark (mark_at back marks) (text_of (names_of settings) back (rec (plan_of settings))) (back_of g.B.Faulty.seen old back) (f back)) (ap (back_of g.B.Faulty.seen) (sym w.backs-is)) after)
           (λ i below. ap (λ (gr : Group). state_at gr i) w.shards-is ∙ w.flush.ensures.states i below)
           (w.desk-is ∙ w.flush.ensures.desk) read.at (ap (map g.L.Faulty.seen) w.wires-is) in (
             record {
               progress = more.0;
-              written = ap g.O.Faulty.seen w.output-is ∙ stands.written ∙ ap (λ text. given text first) (sym (ap (output_of (goes_by settings)) more.1 ∙ quiet (goes_by settings) played _ refl));
+              written = ap g.O.Faulty.seen w.output-is ∙ stands.written ∙ ap (λ text. given text first) (sym (ap (output_of settings) more.1 ∙ quiet settings played _ refl));
               some = stands.some;
-              by = still_go (goes_by settings) group c.match-item.shards stands.by alike;
-              room = subst (λ s. HasRoom (goes_by settings).shards (goes_by settings).limits s.room) (sym w.scratch-is) (subst (HasRoom (goes_by settings).shards (goes_by settings).limits) (sym w.flush.ensures.room) stands.room);
-              keys = subst (λ (s : KeyList). HoldsRows (goes_by settings).shards (goes_by settings).limits s.room) (sym w.keys-is) stands.keys;
-              dump = subst (λ (s : DumpList). HoldsRows (goes_by settings).shards (goes_by settings).limits s.room) (sym w.dump-is) stands.dump;
+              by = still_go settings group c.match-item.shards stands.by alike;
+              room = subst (λ s. HasRoom settings.sizes.shards (limits_of settings) s.room) (sym w.scratch-is) (subst (HasRoom settings.sizes.shards (limits_of settings)) (sym w.flush.ensures.room) stands.room);
+              keys = subst (λ (s : KeyList). HoldsRows settings.sizes.shards (limits_of settings) s.room) (sym w.keys-is) stands.keys;
+              dump = subst (λ (s : DumpList). HoldsRows settings.sizes.shards (limits_of settings) s.room) (sym w.dump-is) stands.dump;
               receivers = read.receivers ∙ stands.receivers;
               faults = faults;
               place = place;
@@ -322,7 +323,7 @@ loop-turn-preserved g c =
           let moment = w.in-Admin.moment in
           let line = c.next.new.self.body in
           let p = line_played moment line in
-          let same_desk = before_record (goes_by settings) played p c.loop-turn.turn c.in-Ok.item c.loop-turn.desk begun_desk stands.progress.turns (ap start_in w.in-Admin.is) b stands.progress.same_desk in
+          let same_desk = before_record settings played p c.loop-turn.turn c.in-Ok.item c.loop-turn.desk begun_desk stands.progress.turns (ap start_in w.in-Admin.is) b stands.progress.same_desk in
           let alike = subst (AreAlike group) (sym w.shards-is) w.carry_out-told.ensures.alike in
           let more = line_more settings stands.some _ _ (left c.next.new.self has) _ _ (back_of g.B.Faulty.seen c.match-item.backs) _ _ (map g.L.Faulty.seen c.match-item.wires) group c.match-item.shards _ begun_desk c.match-item.desk _ c.next.new.self.at _ stands.progress stands.by alike
           moment line read.stands.reads (subst (λ k. IsLegal k (Admin moment line)) stands.receivers read.stands.begins.0) same_desk
@@ -332,18 +333,18 @@ loop-turn-preserved g c =
           let replied = line_replied settings stands.some _ _ (left c.next.new.self has) _ _ (back_of g.B.Faulty.seen c.match-item.backs) _ _ (map g.L.Faulty.seen c.match-item.wires) group c.match-item.shards _ begun_desk c.match-item.desk _ c.next.new.self.at _ stands.progress stands.by alike moment line same_desk in
           let told = written_of _ w.carry_out-told.result _ _ (sym w.is_err.ensures.value ∙ w.if-is_err.false) w.carry_out-told.ensures.written in
           let output = g.O.Faulty.seen c.loop-turn.output in
-          let text = output_in (goes_by settings) (run_before (goes_by settings) played p) (Admin moment line) in (
+          let text = output_in settings (run_before settings played p) (Admin moment line) in (
             record {
               progress = more.0;
               written = ap g.O.Faulty.seen w.output-is ∙ told
-                  ∙ ap (λ bytes. given (output_in (goes_by settings) (run_with (state_at group) begun_desk) (Admin moment bytes)) output) w.body-in-Admin.ensures
-                  ∙ ap (λ t. given t output) replied ∙ ap (given text) stands.written ∙ given-given (output_of (goes_by settings) played) text first
-                  ∙ ap (λ t. given t first) (sym (ap (output_of (goes_by settings)) more.1 ∙ output_of-push (goes_by settings) played p));
+                  ∙ ap (λ bytes. given (output_in settings (run_with (state_at group) begun_desk) (Admin moment bytes)) output) w.body-in-Admin.ensures
+                  ∙ ap (λ t. given t output) replied ∙ ap (given text) stands.written ∙ given-given (output_of settings played) text first
+                  ∙ ap (λ t. given t first) (sym (ap (output_of settings) more.1 ∙ output_of-push settings played p));
               some = stands.some;
-              by = still_go (goes_by settings) group c.match-item.shards stands.by alike;
-              room = subst (λ s. HasRoom (goes_by settings).shards (goes_by settings).limits s.room) (sym w.scratch-is) stands.room;
-              keys = subst (HoldsRows (goes_by settings).shards (goes_by settings).limits) (sym (ap (λ (s : KeyList). s.room) w.keys-is ∙ w.carry_out-told.ensures.keys)) stands.keys;
-              dump = subst (HoldsRows (goes_by settings).shards (goes_by settings).limits) (sym (ap (λ (s : DumpList). s.room) w.dump-is ∙ w.carry_out-told.ensures.dump)) stands.dump;
+              by = still_go settings group c.match-item.shards stands.by alike;
+              room = subst (λ s. HasRoom settings.sizes.shards (limits_of settings) s.room) (sym w.scratch-is) stands.room;
+              keys = subst (HoldsRows settings.sizes.shards (limits_of settings)) (sym (ap (λ (s : KeyList). s.room) w.keys-is ∙ w.carry_out-told.ensures.keys)) stands.keys;
+              dump = subst (HoldsRows settings.sizes.shards (limits_of settings)) (sym (ap (λ (s : DumpList). s.room) w.dump-is ∙ w.carry_out-told.ensures.dump)) stands.dump;
               receivers = read.receivers ∙ stands.receivers;
               faults = faults;
               place = place;

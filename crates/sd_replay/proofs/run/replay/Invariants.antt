@@ -2,7 +2,7 @@ use Rattle.std.proofs.Common.{◌≡◌, ◌<◌, ℕ, List, length, map}
 use Rattle.sd_model_outside.specs.Outside.{Object, given}
 use Rattle.sd_model_settings.specs.Settings as file
 use Rattle.sd_model_record.specs.Desk.{Desk}
-use Rattle.sd_model_replay.specs.Settings.{goes_by}
+use Rattle.sd_model_replay.specs.Settings.{limits_of}
 use Rattle.sd_model_record.specs.Backends.{Backend}
 use Rattle.sd_model_replay.specs.Output.{output_of}
 use Rattle.sd_shards.specs.Shards.{Group, state_at}
@@ -15,14 +15,14 @@ use Rattle.sd_replay.proofs.run.replay.Given as goal
 
 -- what stands after so many turns
 pub record Stands (settings : file.Settings) (script now : Object) (old new : Backend → Object) (had has : List Object) (given_first given_now : Object) (group : Group) (desk : Desk) (scratch_room : Room) (keys_room dump_room : ℕ) (reader : Reading) (turn : ℕ) : Type 0 where
-  pub progress : Progress (goes_by settings) script.told (left reader now.told) old new had has (state_at group) desk reader.at turn
-  pub written : given_now ≡ given (output_of (goes_by settings) progress.played) given_first
-  pub some : 0 < (goes_by settings).shards
-  pub by : GoBy (goes_by settings) group
-  pub room : HasRoom (goes_by settings).shards (goes_by settings).limits scratch_room
-  pub keys : HoldsRows (goes_by settings).shards (goes_by settings).limits keys_room
-  pub dump : HoldsRows (goes_by settings).shards (goes_by settings).limits dump_room
-  pub receivers : reader.receivers ≡ (goes_by settings).receivers
+  pub progress : Progress settings script.told (left reader now.told) old new had has (state_at group) desk reader.at turn
+  pub written : given_now ≡ given (output_of settings progress.played) given_first
+  pub some : 0 < settings.sizes.shards
+  pub by : GoBy settings group
+  pub room : HasRoom settings.sizes.shards (limits_of settings) scratch_room
+  pub keys : HoldsRows settings.sizes.shards (limits_of settings) keys_room
+  pub dump : HoldsRows settings.sizes.shards (limits_of settings) dump_room
+  pub receivers : reader.receivers ≡ settings.sizes.receivers
   pub faults : now.faults ≡ script.faults
   pub place : now.opened_at ≡ script.opened_at
 

@@ -18,7 +18,7 @@ returns-in-None g c =
 pub returns-in-Some-Replay : goal.returns-in-Some-Replay
 returns-in-Some-Replay g c =
     let asks = asked _ _ _ _ c.form_of.ensures c.in-Some-Replay.is c.in-Some-Replay.field-0-is in
-    record { accounting = by_files _ _ _ _ _ _ asks c.replay_files.ensures.replay c.replay_files.ensures.served; serving = rw asks tt; proxying = rw asks tt }
+    record { accounting = by_files _ _ _ _ _ _ asks c.replay_files.ensures; serving = rw asks tt; proxying = rw asks tt }
 
 pub returns-in-Some-Serve : goal.returns-in-Some-Serve
 returns-in-Some-Serve g c =

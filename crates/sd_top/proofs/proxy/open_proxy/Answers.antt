@@ -1,16 +1,16 @@
-use Rattle.std.proofs.Common.{◌≡◌, ◌≤◌, ◌∷◌, ◌++◌, [], List, length, map, refl, sym, ap, subst, ◌∙◌, arith, rules}
+use Rattle.std.proofs.Common.{◌≡◌, ◌≤◌, ◌∷◌, [], List, length, map, refl, sym, ap, subst, ◌∙◌, arith, rules}
 use Rattle.std.proofs.lemmas.List.{length-map, with_items_is}
 use Rattle.std.proofs.lemmas.Result.{err_from_is_err_and, IfErr-weaker, on_ok_weaker}
 use Rattle.sd_model_outside.specs.Outside.{Host, Object, Place}
-use Rattle.sd_model_call.specs.Opening.{World, OfSource, OfWire, opened_each}
-use Rattle.sd_model_call.specs.ServerOpening.{StopsAmong, numbered, opened_all}
+use Rattle.sd_model_call.specs.Call.{StopsAmong}
+use Rattle.sd_model_call.specs.Opening.{World, OfSource, OfWire, numbered}
 use Rattle.sd_model_call.specs.Proxy.{node_place, proxy_openings}
 use Rattle.sd_plan.specs.Entries.{node_view}
 use Rattle.sd_outside.specs.Places.{place_of}
 use Rattle.sd_top.specs.Answers.{answer_of}
-use Rattle.sd_top.specs.Causes.{EachStops}
+use Rattle.sd_top.specs.Causes.{EachStops, opened_each}
 use Rattle.sd_top.specs.World.{world_of}
-use Rattle.sd_top.proofs.ServerLemmas.{each_stops, stops_behind, stops_in_front}
+use Rattle.sd_top.proofs.OpeningLemmas.{each_stops, stops_behind, stops_in_front}
 use Rattle.sd_top.proofs.ProxyLemmas.{all_parts, both, source_opened, with_source}
 use Rattle.sd_top.proofs.proxy.open_proxy.Goals as goal
 

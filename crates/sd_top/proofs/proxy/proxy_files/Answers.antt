@@ -1,11 +1,9 @@
-use Rattle.std.proofs.Common.{◌≡◌, ◌<◌, length, map, refl, sym, ap, subst, ◌∙◌, arith, rules}
+use Rattle.std.proofs.Common.{◌≡◌, ◌<◌, length, refl, ap, subst, arith, rules}
 use Rattle.std.proofs.lemmas.List.{length-map}
-use Rattle.sd_model_replay.specs.Settings.{goes_by}
 use Rattle.sd_model_proxy.specs.Totals.{proxy_text}
-use Rattle.sd_model_call.specs.Opening.{World, flags_of}
+use Rattle.sd_model_call.specs.Opening.{World, flags_of, settled}
 use Rattle.sd_model_call.specs.Proxy.{proxy_openings, relay_answer}
-use Rattle.sd_model_call.specs.Server.{WritesTotals}
-use Rattle.sd_model_call.specs.ServerOpening.{StopsAmong, settled}
+use Rattle.sd_model_call.specs.Call.{StopsAmong, WritesTotals}
 use Rattle.sd_plan.specs.Entries.{node_view}
 use Rattle.sd_proxy.specs.Views.{end_view, totals_view}
 use Rattle.sd_top.specs.Answers.{answer_of}
@@ -20,7 +18,7 @@ returns-in-Ok-relay g c =
     let old = world_of g.R.Faulty.seen g.O.Faulty.seen g.B.Faulty.seen g.D.Faulty.seen g.L.Faulty.seen g.E.Faulty.seen g.P.Faulty.seen c.args.world.now in
     let settings = g.R.Faulty.seen c.read_settings.new.source in
     let begun : World = record old { settings = settings; flags = record { graphite = c.names_backend-world.result; console = c.names_backend-world-2.result } } in
-    let flags : begun.flags ≡ flags_of (goes_by values) = λ i. record { graphite = c.names_backend-world.ensures i; console = c.names_backend-world-2.ensures i } in
+    let flags : begun.flags ≡ flags_of values = λ i. record { graphite = c.names_backend-world.ensures i; console = c.names_backend-world-2.ensures i } in
     let is : begun ≡ settled values settings old = λ i. record old { settings = settings; flags = flags i } in
     let mid = world_of g.R.Faulty.seen g.O.Faulty.seen g.B.Faulty.seen g.D.Faulty.seen g.L.Faulty.seen g.E.Faulty.seen g.P.Faulty.seen c.relay.new.world in
     let p = c.in-Ok-relay.proxied in
@@ -40,7 +38,7 @@ returns-in-Err-relay g c =
     let old = world_of g.R.Faulty.seen g.O.Faulty.seen g.B.Faulty.seen g.D.Faulty.seen g.L.Faulty.seen g.E.Faulty.seen g.P.Faulty.seen c.args.world.now in
     let settings = g.R.Faulty.seen c.read_settings.new.source in
     let begun : World = record old { settings = settings; flags = record { graphite = c.names_backend-world.result; console = c.names_backend-world-2.result } } in
-    let flags : begun.flags ≡ flags_of (goes_by values) = λ i. record { graphite = c.names_backend-world.ensures i; console = c.names_backend-world-2.ensures i } in
+    let flags : begun.flags ≡ flags_of values = λ i. record { graphite = c.names_backend-world.ensures i; console = c.names_backend-world-2.ensures i } in
     let is : begun ≡ settled values settings old = λ i. record old { settings = settings; flags = flags i } in
     let new = world_of g.R.Faulty.seen g.O.Faulty.seen g.B.Faulty.seen g.D.Faulty.seen g.L.Faulty.seen g.E.Faulty.seen g.P.Faulty.seen c.relay.new.world in
     let n = length-map c.nodes-nodes.result.now node_view in

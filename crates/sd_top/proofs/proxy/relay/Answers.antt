@@ -1,9 +1,8 @@
-use Rattle.std.proofs.Common.{◌≡◌, ◌≤◌, List, length, map, sym, ap, subst, ◌∙◌, arith}
+use Rattle.std.proofs.Common.{◌≤◌, length, map, ap, subst, ◌∙◌, arith}
 use Rattle.std.proofs.lemmas.List.{length-map, with_items_is}
 use Rattle.std.specs.Vec.{with_items}
-use Rattle.sd_model_call.specs.Opening.{World}
+use Rattle.sd_model_call.specs.Opening.{World, opened_all}
 use Rattle.sd_model_call.specs.Proxy.{node_place, proxy_openings}
-use Rattle.sd_model_call.specs.ServerOpening.{opened_all}
 use Rattle.sd_plan.specs.Entries.{node_view}
 use Rattle.sd_top.specs.Relaying.{Relays}
 use Rattle.sd_top.specs.World.{world_of}

@@ -1,20 +1,17 @@
-use Rattle.std.proofs.Common.{◌≡◌, [], List, length, map, refl, sym, ap, subst, ◌∙◌, arith, inl}
+use Rattle.std.proofs.Common.{◌≡◌, [], length, map, refl, sym, ap, subst, ◌∙◌, arith, inl}
 use Rattle.std.proofs.lemmas.List.{length-map}
 use Rattle.sd_model_outside.specs.Outside.{Object}
 use Rattle.sd_model_outside.specs.Turns.{with_interval}
-use Rattle.sd_model_settings.specs.Defaults.{plan_of, names_of}
-use Rattle.sd_model_replay.specs.Settings.{goes_by, is_used}
+use Rattle.sd_model_replay.specs.Settings.{is_used}
 use Rattle.sd_model_record.specs.Backends.{Backend, Graphite, Console}
 use Rattle.sd_model_run.specs.Course.{Terms}
 use Rattle.sd_model_run.specs.Run.{Objects}
-use Rattle.sd_model_call.specs.Opening.{Flags, World, flags_of}
-use Rattle.sd_model_call.specs.ServerOpening.{back_in, begun, objects_in, opened_all, server_openings, serves_by}
+use Rattle.sd_model_call.specs.Opening.{Flags, World}
+use Rattle.sd_model_call.specs.ServerOpening.{back_in, begun, objects_in, server_openings, serves_by}
 use Rattle.sd_flush.specs.Flushing.{back_of, uses, uses_by}
 use Rattle.sd_outside.specs.declared.backend.Backs.{Backs}
-use Rattle.sd_plan.specs.Plan.{plan_view}
 use Rattle.sd_serve.specs.Room.{sizing_in, start_in}
 use Rattle.sd_serve.specs.Serving.{HasServed, end_of, objects_of, terms_of}
-use Rattle.sd_top.specs.Serving.{sizing_by}
 use Rattle.sd_top.specs.World.{world_of}
 use Rattle.sd_top.proofs.server.run_server.Goals as goal
 
@@ -38,7 +35,7 @@ serve-requires-clause-door g c κs within =
     (ap (λ (o : Object). o.is_out) opened_there ∙ c.requires.door.0, let turns = ap (λ (o : Object). o.turns) opened_there in let few = c.requires.door.1 in omega (arith, turns, few))
 
 -- the backends that the flags say are used are those that the settings name
-used_as : (s : _) (graphite console : _) → graphite ≡ (goes_by s).uses_graphite → console ≡ (goes_by s).uses_console → (b : Backend) → uses_by graphite console b ≡ is_used (goes_by s) b
+used_as : (s : _) (graphite console : _) → graphite ≡ (is_used s Graphite) → console ≡ (is_used s Console) → (b : Backend) → uses_by graphite console b ≡ is_used s b
 used_as s graphite console g c Graphite = g
 used_as s graphite console g c Console = c
 

@@ -1,12 +1,11 @@
-use Rattle.std.proofs.Common.{◌≡◌, ◌-◌, ◌∷◌, [], List, map, refl, sym, ap, subst, ◌∙◌, inl, inr, rules}
+use Rattle.std.proofs.Common.{◌-◌, ◌∷◌, [], List, map, refl, sym, ap, subst, ◌∙◌, inl, inr, rules}
 use Rattle.std.proofs.lemmas.Result.{err_from_is_err_and, IfErr-weaker, on_ok_weaker}
-use Rattle.sd_model_outside.specs.Outside.{Object, Place, opened}
-use Rattle.sd_model_call.specs.Opening.{OfSource, opened_each}
-use Rattle.sd_model_call.specs.ServerOpening.{repeated}
+use Rattle.sd_model_outside.specs.Outside.{Place}
+use Rattle.sd_model_call.specs.Opening.{OfSource, repeated}
 use Rattle.sd_outside.specs.Places.{place_of}
 use Rattle.sd_top.specs.Answers.{answer_of}
-use Rattle.sd_top.specs.Causes.{EachStops}
-use Rattle.sd_top.proofs.ServerLemmas.{repeated_more}
+use Rattle.sd_top.specs.Causes.{EachStops, opened_each}
+use Rattle.sd_top.proofs.OpeningLemmas.{repeated_more}
 use Rattle.sd_top.proofs.server_opening.+open_sources.Goals as goal
 
 pub returns-in_err-open-clause-refused : goal.returns-in_err-open-clause-refused

@@ -1,15 +1,15 @@
-use Rattle.std.proofs.Common.{◌≡◌, ◌≤◌, ◌*◌, ◌∷◌, [], List, length, map, refl, sym, ap, subst, ◌∙◌, arith, rules}
+use Rattle.std.proofs.Common.{◌≡◌, ◌≤◌, ◌∷◌, [], List, length, map, refl, sym, ap, subst, ◌∙◌, arith, rules}
 use Rattle.std.proofs.lemmas.List.{length-map, with_items_is}
 use Rattle.std.proofs.lemmas.Result.{IfErr-weaker, on_ok_weaker}
-use Rattle.sd_model_outside.specs.Outside.{Object, Place}
-use Rattle.sd_model_call.specs.Opening.{World, OfSource, opened_each}
-use Rattle.sd_model_call.specs.ServerOpening.{StopsAmong, numbered, opened_all, repeated}
+use Rattle.sd_model_outside.specs.Outside.{Object}
+use Rattle.sd_model_call.specs.Call.{StopsAmong}
+use Rattle.sd_model_call.specs.Opening.{World, OfSource, numbered, repeated}
 use Rattle.sd_model_outside.specs.Outside.{Host}
 use Rattle.sd_outside.specs.Places.{place_of}
 use Rattle.sd_top.specs.Answers.{answer_of}
-use Rattle.sd_top.specs.Causes.{EachStops}
+use Rattle.sd_top.specs.Causes.{EachStops, opened_each}
 use Rattle.sd_top.specs.World.{world_of}
-use Rattle.sd_top.proofs.ServerLemmas.{all_opened, each_stops, repeated_count}
+use Rattle.sd_top.proofs.OpeningLemmas.{all_opened, each_stops, repeated_count}
 use Rattle.sd_top.proofs.server_opening.open_packets.Goals as goal
 
 pub returns-clause-opened : goal.returns-clause-opened

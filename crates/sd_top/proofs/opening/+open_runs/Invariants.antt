@@ -1,4 +1,4 @@
-use Rattle.sd_top.proofs.server_opening.+open_runs.Given as goal
+use Rattle.sd_top.proofs.opening.+open_runs.Given as goal
 
 abbrev pub decreases-open_runs : goal.decreases-open_runs
 decreases-open_runs g l = l.runs

@@ -1,15 +1,14 @@
-use Rattle.std.proofs.Common.{◌≡◌, ◌+◌, ◌-◌, ◌∷◌, ◌++◌, List, length, map, refl, sym, ap, subst, ◌∙◌, arith, rules}
+use Rattle.std.proofs.Common.{◌+◌, ◌-◌, ◌++◌, List, map, sym, ap, subst, ◌∙◌, rules}
 use Rattle.std.proofs.lemmas.List.{length-map, map-append}
 use Rattle.std.proofs.lemmas.Result.{err_from_is_err_and, IfErr-weaker, on_ok_weaker}
-use Rattle.sd_model_outside.specs.Outside.{Object, Place}
+use Rattle.sd_model_outside.specs.Outside.{Place}
 use Rattle.sd_model_settings.specs.Entries as model
-use Rattle.sd_model_call.specs.Opening.{OfWire, opened_each, target_place}
-use Rattle.sd_model_call.specs.ServerOpening.{repeated}
+use Rattle.sd_model_call.specs.Opening.{OfWire, repeated, target_place}
 use Rattle.sd_plan.specs.Entries.{target_view}
 use Rattle.sd_top.specs.Answers.{answer_of}
-use Rattle.sd_top.specs.Causes.{EachStops}
-use Rattle.sd_top.proofs.ServerLemmas.{first_stops, opened_both, repeated_more, second_stops}
-use Rattle.sd_top.proofs.server_opening.+open_runs.Goals as goal
+use Rattle.sd_top.specs.Causes.{EachStops, opened_each}
+use Rattle.sd_top.proofs.OpeningLemmas.{first_stops, opened_both, repeated_more, second_stops}
+use Rattle.sd_top.proofs.opening.+open_runs.Goals as goal
 
 pub returns-in_err-open_wires-clause-refused : goal.returns-in_err-open_wires-clause-refused
 returns-in_err-open_wires-clause-refused g t c =
