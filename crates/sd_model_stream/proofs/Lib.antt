@@ -1,0 +1,4 @@
+pub mod SplitLemmas
+pub mod CutLemmas
+pub mod StreamLemmas
+pub mod PartLemmas
