@@ -1,0 +1,2 @@
+pub mod Lookers
+pub mod Steps

@@ -1,0 +1,39 @@
+//! Cases of the health checks of a proxy: each line of the input says what is done with the set of nodes that are up, by one thread
+//! or by several side by side, and is printed with what comes of it, which is the same whatever the order of the threads.
+#![tactic(auto)]
+
+mod looker;
+mod lookers;
+mod looks;
+mod steps;
+
+use sd_case::{Answer, Refusal, answer_cases};
+use std::alloc::Global;
+use std::io;
+use std::sync::Wait;
+use std::thread::Threads;
+
+fn call<R: Threads + Wait + Sync>(
+    rt: &R,
+    alloc: Global,
+    words: &[&str],
+    out: &mut Answer,
+) -> Result<(), Refusal> {
+    match words {
+        ["cell", nodes, receivers, steps @ ..] => {
+            steps::steps_on_cell(rt, alloc, nodes, receivers, steps, out)
+        }
+        ["looks", sets, receivers, looks] => {
+            looks::looks_beside(rt, alloc, sets, receivers, looks, out)
+        }
+        _ => Err(Refusal::UnknownCall),
+    }
+}
+
+fn main(rt: HostRuntime) -> io::Result<()> {
+    answer_cases(
+        &rt,
+        rt.alloc(),
+        |alloc: Global, words: &[&str], out: &mut Answer| { call(&rt, alloc, words, out) },
+    )
+}

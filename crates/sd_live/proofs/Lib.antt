@@ -1,0 +1,3 @@
+pub mod AllNodes
+pub mod Steps
+pub mod Closing

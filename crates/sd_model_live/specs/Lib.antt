@@ -1,0 +1,4 @@
+pub mod Looks
+pub mod Checks
+pub mod Checker
+pub mod Proxy
