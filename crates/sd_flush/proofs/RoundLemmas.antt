@@ -12,6 +12,7 @@ use Rattle.sd_model_record.specs.Desk.{Marks}
 use Rattle.sd_model_record.specs.Counts.{Count, Amounts, Part, HasCounted, nothing, plus}
 use Rattle.sd_model_record.specs.Backends.{Backend, Graphite, Console, mark_of}
 use Rattle.sd_model_record.proofs.CountLemmas.{counted_none, counted_next}
+use Rattle.sd_model_serve.specs.Acts.{Adds}
 use Rattle.sd_model_serve.specs.Rounds.{Round, Form, MakesRound, MakesRounds, MarksFit, round_deliveries, round_text, swap_of, swaps_at, of_round, of_rounds}
 use Rattle.sd_model_serve.proofs.ActsLemmas.{Adds-none, Adds-next}
 use Rattle.sd_rows.specs.declared.row.Row.{Row}
@@ -40,7 +41,7 @@ round_by form graphite console graphite_is console_is ts marks own own_now part 
     (subst (λ (x : Bool). MakesRoundAt form (uses_by graphite x) ts marks own own_now part part_now back back_now waiting) c h)
 
 -- no ticks before those that are left
-ticks_none : (told : Told) → told ≡ with_ticks [] told
+pub ticks_none : (told : Told) → told ≡ with_ticks [] told
 ticks_none (Ticks left) = refl
 ticks_none told = refl
 
@@ -52,19 +53,60 @@ pub record SoFar (form : Form) (used : Backend → Bool) (own own_now : ℕ → 
   pub given : beat.told ≡ with_ticks (map (λ r. r.ts) rounds) beat_now.told
   pub same : beat_now ≡ record beat { told = beat_now.told; turns = beat.turns + made }
 
+-- swaps of a round behind those of rounds
+pub swapped_next : (shards : ℕ) (own mid own_now : ℕ → History) (rounds : List Round) (r : Round) → Adds shards (swaps_at rounds) own mid → Adds shards (swaps_at (r ∷ [])) mid own_now
+    → Adds shards (swaps_at (rounds ++ r ∷ [])) own own_now
+swapped_next shards own mid own_now rounds r first second i below =
+    Adds-next shards (swaps_at rounds) (swaps_at (r ∷ [])) own mid own_now first second i below
+    ∙ ap (λ (acts : History). own i ++ acts) (sym (map-append (λ (q : Round). swap_of (q.tables i)) rounds (r ∷ [])))
+
+-- what no round counts
+pub none_counted : (part : Part) → HasCounted (of_rounds []) part part
+none_counted part = counted_as nothing (of_rounds []) part part (λ c. refl) (counted_none part)
+
+-- what a round counts behind rounds
+pub round_counted : (part part_mid part_now : Part) (rounds : List Round) (r : Round) → HasCounted (of_rounds rounds) part part_mid → HasCounted (of_round r) part_mid part_now
+    → HasCounted (of_rounds (rounds ++ r ∷ [])) part part_now
+round_counted part part_mid part_now rounds r first second =
+    counted_as (plus (of_rounds rounds) (of_round r)) (of_rounds (rounds ++ r ∷ [])) part part_now
+    (λ c. sym (sum_by-append (λ (q : Round). of_round q c) rounds (r ∷ []) ∙ ap (λ n. of_rounds rounds c + n) (sum_by-cons (λ (q : Round). of_round q c) r [] ∙ omega arith)))
+    (counted_next (of_rounds rounds) (of_round r) part part_mid part_now first second)
+
+-- a beat of which no tick was read
+pub none_read : (beat : Object) → beat ≡ record beat { told = beat.told; turns = beat.turns + 0 }
+none_read beat = ap (λ (n : ℕ). record beat { turns = n }) (let none : beat.turns ≡ beat.turns + 0 = omega arith in none)
+
+-- ticks that a beat gave, and one more
+pub given_next : (beat beat_mid beat_now : Object) (rounds : List Round) (r : Round) (ts : ℕ) → r.ts ≡ ts → beat.told ≡ with_ticks (map (λ q. q.ts) rounds) beat_mid.told → GivesTick ts beat_mid beat_now
+    → beat.told ≡ with_ticks (map (λ q. q.ts) (rounds ++ r ∷ [])) beat_now.told
+given_next beat beat_mid beat_now rounds r ts second first tick =
+    first ∙ ap (with_ticks (map (λ (q : Round). q.ts) rounds)) told
+    ∙ with_ticks-append beat_now.told (map (λ (q : Round). q.ts) rounds) (ts ∷ [])
+    ∙ ap (λ (ticks : List ℕ). with_ticks ticks beat_now.told) (sym times) where
+      told : beat_mid.told ≡ with_ticks (ts ∷ []) beat_now.told
+      told = ap (λ (o : Object). o.told) tick
+
+      times : map (λ (q : Round). q.ts) (rounds ++ r ∷ []) ≡ map (λ (q : Round). q.ts) rounds ++ ts ∷ []
+      times = map-append (λ (q : Round). q.ts) rounds (r ∷ []) ∙ ap (λ (t : ℕ). map (λ (q : Round). q.ts) rounds ++ t ∷ []) second
+
+-- nothing else of the beat changes
+pub read_next : (beat beat_mid beat_now : Object) (made ts : ℕ) → beat.turns + made < 2 ^ 63 → beat_mid ≡ record beat { told = beat_mid.told; turns = beat.turns + made } → GivesTick ts beat_mid beat_now
+    → beat_now ≡ record beat { told = beat_now.told; turns = beat.turns + (made + 1) }
+read_next beat beat_mid beat_now made ts few first tick =
+    sym (ap (λ (o : Object). record o { told = beat_now.told }) tick)
+    ∙ ap (λ (o : Object). record (turned o) { told = beat_now.told }) first
+    ∙ ap (λ (n : ℕ). record beat { told = beat_now.told; turns = n }) once where
+      once : raised (beat.turns + made) ≡ beat.turns + (made + 1)
+      once = omega (arith, few)
+
 module _ (form : Form) (used : Backend → Bool) where
   pub no_rounds : (own : ℕ → History) (part : Part) (back : Backend → Object) (beat : Object) → SoFar form used own own part part back back beat beat 0
   no_rounds own part back beat = record {
     rounds = [];
-    are_made = record {
-      swapped = Adds-none form.shards own;
-      used = tt;
-      delivered = λ b. refl;
-      counted = counted_as nothing (of_rounds []) part part (λ c. refl) (counted_none part);
-    };
+    are_made = record { swapped = Adds-none form.shards own; used = tt; delivered = λ b. refl; counted = none_counted part };
     count = refl;
     given = ticks_none beat.told;
-    same = ap (λ (n : ℕ). record beat { turns = n }) (let none : beat.turns ≡ beat.turns + 0 = omega arith in none);
+    same = none_read beat;
   }
 
   module _ (own mid own_now : ℕ → History) (part part_mid part_now : Part) (back back_mid back_now : Backend → Object) where
@@ -72,17 +114,13 @@ module _ (form : Form) (used : Backend → Bool) where
     pub rounds_next : (rounds : List Round) (r : Round) → MakesRounds form used rounds own mid part part_mid back back_mid → MakesRound form used r mid own_now part_mid part_now back_mid back_now
         → MakesRounds form used (rounds ++ r ∷ []) own own_now part part_now back back_now
     rounds_next rounds r first second = record {
-      swapped = λ i below.
-          Adds-next form.shards (swaps_at rounds) (swaps_at (r ∷ [])) own mid own_now first.swapped second.swapped i below
-          ∙ ap (λ (acts : History). own i ++ acts) (sym (map-append (λ (q : Round). swap_of (q.tables i)) rounds (r ∷ [])));
+      swapped = swapped_next form.shards own mid own_now rounds r first.swapped second.swapped;
       used = AllByRecursion-append (MarksFit used) rounds (r ∷ []) first.used (second.used, tt);
       delivered = λ b.
           let delivery : Round → Delivery = λ q. record { text = round_text form b q; mark = mark_of b q.marks } in
           subst (λ (ds : List Delivery). AfterDeliveries ds (back b) (back_now b)) (sym (map-append delivery rounds (r ∷ [])))
           (AfterDeliveries-push (round_deliveries form b rounds) (delivery r) (back b) (back_mid b) (back_now b) (first.delivered b) (second.delivered b));
-      counted = counted_as (plus (of_rounds rounds) (of_round r)) (of_rounds (rounds ++ r ∷ [])) part part_now
-          (λ c. sym (sum_by-append (λ (q : Round). of_round q c) rounds (r ∷ []) ∙ ap (λ n. of_rounds rounds c + n) (sum_by-cons (λ (q : Round). of_round q c) r [] ∙ omega arith)))
-          (counted_next (of_rounds rounds) (of_round r) part part_mid part_now first.counted second.counted);
+      counted = round_counted part part_mid part_now rounds r first.counted second.counted;
     }
 
     -- a tick, and its round
@@ -94,18 +132,6 @@ module _ (form : Form) (used : Backend → Bool) where
       rounds = first.rounds ++ second.round ∷ [];
       are_made = rounds_next first.rounds second.round first.are_made second.made;
       count = length_push first.rounds second.round ∙ ap (λ n. n + 1) first.count;
-      given = first.given ∙ ap (with_ticks (map (λ (r : Round). r.ts) first.rounds)) told
-          ∙ with_ticks-append beat_now.told (map (λ (r : Round). r.ts) first.rounds) (ts ∷ [])
-          ∙ ap (λ (ticks : List ℕ). with_ticks ticks beat_now.told) (sym times);
-      same = sym (ap (λ (o : Object). record o { told = beat_now.told }) tick)
-          ∙ ap (λ (o : Object). record (turned o) { told = beat_now.told }) first.same
-          ∙ ap (λ (n : ℕ). record beat { told = beat_now.told; turns = n }) once;
-    } where
-      once : raised (beat.turns + made) ≡ beat.turns + (made + 1)
-      once = omega (arith, few)
-
-      told : beat_mid.told ≡ with_ticks (ts ∷ []) beat_now.told
-      told = ap (λ (o : Object). o.told) tick
-
-      times : map (λ (r : Round). r.ts) (first.rounds ++ second.round ∷ []) ≡ map (λ (r : Round). r.ts) first.rounds ++ ts ∷ []
-      times = map-append (λ (r : Round). r.ts) first.rounds (second.round ∷ []) ∙ ap (λ (t : ℕ). map (λ (r : Round). r.ts) first.rounds ++ t ∷ []) second.second
+      given = given_next beat beat_mid beat_now first.rounds second.round ts second.second first.given tick;
+      same = read_next beat beat_mid beat_now made ts few first.same tick;
+    }

@@ -1,5 +1,5 @@
 -- Shards that are swapped one after another.
-use Rattle.std.proofs.Common.{◌≡◌, ◌≢◌, ℕ, zero, suc, ◌+◌, ◌<◌, ◌≤◌, List, [], ◌∷◌, ◌++◌, length, map, refl, sym, ap, ◌∙◌, ◌⊎◌, inl, inr, arith}
+use Rattle.std.proofs.Common.{◌≡◌, ◌≢◌, ℕ, zero, suc, ◌+◌, ◌<◌, ◌≤◌, List, [], ◌∷◌, ◌++◌, length, map, refl, sym, ap, ◌∙◌, ◌⊎◌, inl, inr, append-nil, arith}
 use Rattle.std.specs.Prelude.{get_or}
 use Rattle.std.specs.FinMap.{empty}
 use Rattle.std.specs.List.{range_with_len}
@@ -10,6 +10,7 @@ use Rattle.sd_model_shard.specs.Shard.{Table}
 use Rattle.sd_model_shard.specs.History.{History}
 use Rattle.sd_model_serve.specs.Rounds.{swap_of, table_at}
 use Rattle.sd_epoch.specs.Table.{Listing, table_of}
+use Rattle.sd_spares.specs.Spares.{Stock}
 use Rattle.sd_flush.specs.Swapping.{swap_at}
 
 -- a table behind tables
@@ -57,3 +58,11 @@ tables_all ts n same =
       by_default [] k d h = absurd (omega (arith, h))
       by_default (t ∷ ts) zero d h = refl
       by_default (t ∷ ts) (suc k) d h = by_default ts k d (omega (arith, h))
+
+-- the tables that were swapped out are the next spares
+pub turned_out : (stock swapped new : Stock) → swapped ≡ record stock { waiting = []; swapped = swapped.swapped }
+    → new ≡ record swapped { waiting = map (λ (t : Listing). t.places) swapped.swapped ++ swapped.waiting; swapped = [] }
+    → new.waiting ≡ map (λ (t : Listing). t.places) swapped.swapped
+turned_out stock swapped new kept reclaimed =
+    let places = map (λ (t : Listing). t.places) swapped.swapped in
+    ap (λ (s : Stock). s.waiting) reclaimed ∙ ap (λ (w : _). places ++ w) (ap (λ (s : Stock). s.waiting) kept) ∙ append-nil places

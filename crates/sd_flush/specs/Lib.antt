@@ -1,3 +1,6 @@
 pub mod Flushing
+pub mod FlushingOut
+pub mod Offers
+pub mod Outs
 pub mod Swapping
 pub mod Tables

@@ -1,12 +1,20 @@
-//! The flusher: at each tick of a beat it makes a round, which swaps the shards and writes the record of their tables.
+//! The flusher: at each tick of a beat it makes a round, which swaps the shards and writes the record of their tables, to the
+//! backends themselves or to their outlets.
 #![tactic(auto)]
 
 mod flusher;
+mod flusher_out;
+mod outs;
+mod queueing;
 mod rounds;
+mod rounds_out;
 mod swapping;
 mod tables;
 mod writing;
 
 pub use flusher::flush_all;
+pub use flusher_out::{FlushedOut, flush_all_out};
+pub use outs::{Lead, OutMark, OutMarks, Outs, Skip, Skips};
 pub use rounds::round;
+pub use rounds_out::round_out;
 pub use tables::Tables;

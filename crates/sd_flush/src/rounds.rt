@@ -1,19 +1,23 @@
-ghost use Rattle.std.specs.Prelude.{◌≡◌};
+ghost use Rattle.std.specs.Prelude.{◌≡◌, ◌++◌, [], length, map};
 ghost use Rattle.sd_model_record.specs.Callers.{flusher};
+ghost use Rattle.sd_model_record.specs.Counts.{HasCounted, of_marks, of_taken};
 ghost use Rattle.sd_desk.specs.Marks.{marks_of};
+ghost use Rattle.sd_desk.specs.Tally.{tally_of};
 ghost use Rattle.sd_pool.specs.Pool.{IsSeatOf, limits_of, own_at, shards_of, who_is};
 ghost use Rattle.sd_shared_desk.specs.Shared.{IsSeatOf as IsDeskSeatOf, number_of_seat, part_of};
 ghost use Rattle.sd_flush.specs.Tables.{AreTablesFor, waiting_in};
 ghost use Rattle.sd_flush.specs.Flushing.{MakesRoundAt, back_of, form_of, uses};
+ghost use Rattle.sd_flush.specs.Swapping.{SwapsAll};
 
 use crate::swapping::swap_all;
 use crate::tables::Tables;
 use crate::writing::write_record;
-use sd_desk::RoundMarks;
+use sd_desk::{RoundMarks, Tally};
 use sd_outside::{Backend, Backs, Gate};
 use sd_plan::{Names, Reckoning};
 use sd_pool::{Pool, Seat};
 use sd_shared_desk::{DeskSeat, SharedDesk};
+use sd_spares::Spares;
 use std::sync::Wait;
 
 /// The place of a gate behind the last swap of a round.
@@ -21,6 +25,53 @@ const SWAPPED: u8 = 2;
 
 /// The place of a gate behind a round's marks.
 const MARKED: u8 = 3;
+
+/// Begins a round: swaps the shards, in order, and then takes the desk's tally.
+pub(crate) fn begin_round<G: Gate, R: Wait>(
+    rt: &R,
+    pool: &Pool,
+    desk: &SharedDesk,
+    own: &mut DeskSeat,
+    seat: &mut Seat,
+    spares: &mut Spares,
+    gate: &G,
+) -> Tally
+    requires own { IsDeskSeatOf desk.now own.old }
+    requires seat { IsSeatOf pool.now seat.old }
+    requires flusher { who_is seat.old ≡ flusher }
+    requires limits { spares.old.limits ≡ limits_of pool.now }
+    requires room { spares.old.room ≡ shards_of pool.now }
+    requires spares { length spares.old.waiting ≡ shards_of pool.now }
+    requires none_out { spares.old.swapped ≡ [] }
+    ensures own { IsDeskSeatOf desk.now own.new × (number_of_seat own.new ≡ number_of_seat own.old) }
+    ensures seat { IsSeatOf pool.now seat.new }
+    ensures who { who_is seat.new ≡ who_is seat.old }
+    ensures swaps { SwapsAll pool.now seat.old seat.new spares.old spares.new }
+    ensures counted { HasCounted (of_taken (tally_of result)) (part_of own.old) (part_of own.new) }
+{
+    swap_all(rt, pool, seat, spares);
+    gate.pass(SWAPPED);
+    desk.take(rt, own)
+}
+
+/// Ends a round: gives the desk the marks, and makes the tables that were swapped out spare again.
+pub(crate) fn end_round<G: Gate, R: Wait>(
+    rt: &R,
+    desk: &SharedDesk,
+    own: &mut DeskSeat,
+    spares: &mut Spares,
+    marks: RoundMarks,
+    gate: &G,
+)
+    requires own { IsDeskSeatOf desk.now own.old }
+    ensures own { IsDeskSeatOf desk.now own.new × (number_of_seat own.new ≡ number_of_seat own.old) }
+    ensures counted { HasCounted (of_marks (marks_of marks)) (part_of own.old) (part_of own.new) }
+    ensures spares { spares.new ≡ record spares.old { waiting = map (λ table. table.places) spares.old.swapped ++ spares.old.waiting; swapped = [] } }
+{
+    desk.mark(rt, marks, own);
+    gate.pass(MARKED);
+    spares.reclaim();
+}
 
 /// Makes a round: swaps the shards, in order, takes the desk's tally, gives the backends that are used the record of the tables and
 /// the tally, Graphite first, and gives the desk the marks. The tables are then spare again. It has no turn while it writes, and
@@ -52,9 +103,7 @@ pub fn round<B: Backend, G: Gate, R: Wait>(
     ensures graphite_flag { backs.new.graphite_used ≡ backs.old.graphite_used }
     ensures console_flag { backs.new.console_used ≡ backs.old.console_used }
 {
-    swap_all(rt, pool, seat, &mut tables.spares);
-    gate.pass(SWAPPED);
-    let tally = desk.take(rt, own);
+    let tally = begin_round(rt, pool, desk, own, seat, &mut tables.spares, gate);
     let marks = write_record(
         &tables.spares,
         &mut tables.scratch,
@@ -64,8 +113,6 @@ pub fn round<B: Backend, G: Gate, R: Wait>(
         ts,
         backs,
     );
-    desk.mark(rt, marks, own);
-    gate.pass(MARKED);
-    tables.spares.reclaim();
+    end_round(rt, desk, own, &mut tables.spares, marks, gate);
     marks
 }

@@ -1,0 +1,23 @@
+use Rattle.std.proofs.Common.{◌≡◌, ◌≤◌}
+use Rattle.sd_pool.specs.Pool.{IsSeatOf, limits_of, own_at, shards_of, who_is}
+use Rattle.sd_shared_desk.specs.Shared.{IsSeatOf as IsDeskSeatOf, number_of_seat, part_of}
+use Rattle.sd_flush.specs.Tables.{AreTablesFor}
+use Rattle.sd_flush.specs.Flushing.{form_of}
+use Rattle.sd_flush.specs.Outs.{AreOutsReady, offered_by}
+use Rattle.sd_flush.proofs.RoundOutLemmas.{SoFarOut}
+use Rattle.sd_flush.proofs.flusher_out.make_rounds.Given as goal
+
+-- as many rounds as ticks were read
+abbrev pub invariant-loop-made : goal.invariant-loop-made
+invariant-loop-made g l = record {
+  own : IsDeskSeatOf l.desk l.own;
+  number : number_of_seat l.own ≡ number_of_seat l.initial.own;
+  seat : IsSeatOf l.pool l.seat;
+  who : who_is l.seat ≡ who_is l.initial.seat;
+  tables : AreTablesFor (limits_of l.pool) (shards_of l.pool) l.tables;
+  outs : AreOutsReady l.outs;
+  graphite : l.skips.graphite ≤ l.made;
+  console : l.skips.console ≤ l.made;
+  so_far : SoFarOut (form_of l.pool l.plan l.names) (offered_by l.skips l.initial.outs l.outs) (own_at l.initial.seat) (own_at l.seat) (part_of l.initial.own) (part_of l.own)
+      (g.E.Faulty.seen l.initial.beat) (g.E.Faulty.seen l.beat) l.made;
+}

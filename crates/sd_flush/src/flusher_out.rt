@@ -1,0 +1,166 @@
+ghost use Rattle.std.specs.Prelude.{◌≡◌, ◌<◌, ◌^◌, IfSome, ⊤};
+ghost use Rattle.sd_model_record.specs.Callers.{flusher};
+ghost use Rattle.sd_pool.specs.Pool.{IsSeatOf, limits_of, own_at, shards_of, who_is};
+ghost use Rattle.sd_shared_desk.specs.Shared.{IsSeatOf as IsDeskSeatOf, number_of_seat, part_of};
+ghost use Rattle.sd_flush.specs.Tables.{AreTablesFor};
+ghost use Rattle.sd_flush.specs.Flushing.{form_of};
+ghost use Rattle.sd_flush.specs.FlushingOut.{FlushesOut};
+ghost use Rattle.sd_flush.specs.Outs.{AreOutsReady, IsLeadReady, StopsOne, WhereUsed, fed_by, offered_by};
+
+use crate::outs::{Lead, Outs, Skips};
+use crate::rounds_out::round_out;
+use crate::tables::Tables;
+use sd_outside::{Beat, Ended, Gate, Tick};
+use sd_plan::{Names, Reckoning};
+use sd_pool::{Pool, Seat};
+use sd_shared_desk::{DeskSeat, SharedDesk};
+use std::sync::Wait;
+
+/// How many rounds a flusher makes at most.
+const MOST_TURNS: u64 = 1 << 62;
+
+/// How a flusher with outlets ended, and how many texts it skipped.
+#[derive(Clone, Copy, Debug, PartialEq, Eq)]
+pub struct FlushedOut {
+    pub ended: Ended,
+    pub skips: Skips,
+}
+
+// Makes a round at each tick of a beat, until it has none left or fails, or as many rounds were made as are asked for; 0 asks for
+// none.
+fn make_rounds<E: Beat, G: Gate, R: Wait>(
+    rt: &R,
+    pool: &Pool,
+    desk: &SharedDesk,
+    own: &mut DeskSeat,
+    seat: &mut Seat,
+    tables: &mut Tables,
+    plan: &Reckoning,
+    names: &Names,
+    beat: &mut E,
+    outs: &mut Outs<'_>,
+    gate: &G,
+    run_flushes: u64,
+) -> FlushedOut
+    requires own { IsDeskSeatOf desk.now own.old }
+    requires seat { IsSeatOf pool.now seat.old }
+    requires flusher { who_is seat.old ≡ flusher }
+    requires tables { AreTablesFor (limits_of pool.now) (shards_of pool.now) tables.old }
+    requires outs { AreOutsReady outs.old }
+    requires turns { (E.seen beat.old).turns < 2 ^ 62 }
+    ensures own { IsDeskSeatOf desk.now own.new × (number_of_seat own.new ≡ number_of_seat own.old) }
+    ensures seat { IsSeatOf pool.now seat.new }
+    ensures who { who_is seat.new ≡ who_is seat.old }
+    ensures tables { AreTablesFor (limits_of pool.now) (shards_of pool.now) tables.new }
+    ensures outs { AreOutsReady outs.new }
+    ensures flushes { FlushesOut (form_of pool.now plan.now names.now) (offered_by result.skips outs.old outs.new) run_flushes
+        (own_at seat.old) (own_at seat.new) (part_of own.old) (part_of own.new) (E.seen beat.old) (E.seen beat.new) result.ended }
+{
+    let mut skips = Skips {
+        graphite: 0,
+        console: 0,
+    };
+    for made in 0..MOST_TURNS {
+        if run_flushes > 0 && made == run_flushes {
+            return FlushedOut {
+                ended: Ended::Stopped { rounds: made },
+                skips,
+            };
+        }
+        match beat.next() {
+            Tick::At(ts) => {
+                let marks = round_out(
+                    rt, pool, desk, own, seat, tables, plan, names, ts, outs, gate,
+                );
+                skips.count(marks);
+            }
+            Tick::End => {
+                return FlushedOut {
+                    ended: Ended::End,
+                    skips,
+                };
+            }
+            Tick::Failed => {
+                return FlushedOut {
+                    ended: Ended::Failed,
+                    skips,
+                };
+            }
+        }
+    }
+    FlushedOut {
+        ended: Ended::Worn { turns: MOST_TURNS },
+        skips,
+    }
+}
+
+// Stops a feed.
+fn stop_feed(lead: &mut Lead<'_>)
+    requires ready { IsLeadReady lead.old }
+    ensures ready { IsLeadReady lead.new }
+    ensures stops { StopsOne lead.old lead.new }
+{
+    lead.outlet.stop(&mut lead.feed);
+}
+
+// Stops the feed of a backend where it is used.
+fn stop_if_used(lead: &mut Option<Lead<'_>>)
+    requires ready { IfSome lead.old IsLeadReady }
+    ensures ready { IfSome lead.new IsLeadReady }
+    ensures stops { WhereUsed StopsOne ⊤ lead.old lead.new }
+{
+    match lead {
+        Some(lead) => stop_feed(lead),
+        None => {}
+    }
+}
+
+/// Makes a round at each tick of a beat as `flush_all` does, but sends the texts to the outlets of the backends that are used, and
+/// then stops their feeds, however it ended. It waits for the beat, and for the turns of the shards and of the desk, but for no
+/// backend, and takes no memory.
+pub fn flush_all_out<E: Beat, G: Gate, R: Wait>(
+    rt: &R,
+    pool: &Pool,
+    desk: &SharedDesk,
+    own: &mut DeskSeat,
+    seat: &mut Seat,
+    tables: &mut Tables,
+    plan: &Reckoning,
+    names: &Names,
+    beat: &mut E,
+    outs: &mut Outs<'_>,
+    gate: &G,
+    run_flushes: u64,
+) -> FlushedOut
+    requires own { IsDeskSeatOf desk.now own.old }
+    requires seat { IsSeatOf pool.now seat.old }
+    requires flusher { who_is seat.old ≡ flusher }
+    requires tables { AreTablesFor (limits_of pool.now) (shards_of pool.now) tables.old }
+    requires outs { AreOutsReady outs.old }
+    requires turns { (E.seen beat.old).turns < 2 ^ 62 }
+    ensures own { IsDeskSeatOf desk.now own.new × (number_of_seat own.new ≡ number_of_seat own.old) }
+    ensures seat { IsSeatOf pool.now seat.new }
+    ensures who { who_is seat.new ≡ who_is seat.old }
+    ensures tables { AreTablesFor (limits_of pool.now) (shards_of pool.now) tables.new }
+    ensures outs { AreOutsReady outs.new }
+    ensures flushes { FlushesOut (form_of pool.now plan.now names.now) (fed_by result.skips outs.old outs.new) run_flushes
+        (own_at seat.old) (own_at seat.new) (part_of own.old) (part_of own.new) (E.seen beat.old) (E.seen beat.new) result.ended }
+{
+    let flushed = make_rounds(
+        rt,
+        pool,
+        desk,
+        own,
+        seat,
+        tables,
+        plan,
+        names,
+        beat,
+        outs,
+        gate,
+        run_flushes,
+    );
+    stop_if_used(&mut outs.graphite);
+    stop_if_used(&mut outs.console);
+    flushed
+}
