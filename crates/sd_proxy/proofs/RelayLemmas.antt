@@ -1,6 +1,7 @@
 -- What a receiver of a proxy did, one turn of its source after another.
 use Rattle.std.proofs.Common.{◌≡◌, ◌∙◌, ℕ, ◌+◌, ◌<◌, ◌≤◌, min, List, [], ◌∷◌, ◌++◌, length, length-append, append-nil, map, refl, sym, ap, subst, arith}
-use Rattle.std.specs.Prelude.{All, flat_map}
+use Rattle.std.specs.Prelude.{All, None, Some, flat_map}
+use Rattle.std.specs.List.{last_or}
 use Rattle.std.proofs.lemmas.List.{map-append}
 use Rattle.std.proofs.lemmas.List.Concat.{flat_map-append, flat_map-cons}
 use Rattle.std.proofs.lemmas.List.Elements.{All-nil, All-cons, All-append}
@@ -10,9 +11,12 @@ use Rattle.sd_model_outside.proofs.TurnLemmas.{with_datagrams-append}
 use Rattle.sd_model_settings.specs.Entries.{Node}
 use Rattle.sd_model_serve.specs.Ends.{EndsReceiver, most_turns}
 use Rattle.sd_model_proxy.specs.Routes.{Read, lines_of_read}
+use Rattle.sd_model_proxy.specs.Relays.{IsRelay, Relay, relay_totals}
 use Rattle.sd_model_proxy.specs.Totals.{ProxyTotals, no_totals}
+use Rattle.sd_model_live.specs.Looks.{Begins, HaveAnswered}
+use Rattle.sd_model_live.proofs.LookLemmas.{answered_more, one_answered}
 use Rattle.sd_proxy.specs.Forwarding.{Forwards}
-use Rattle.sd_proxy.specs.Proxying.{Proxies}
+use Rattle.sd_proxy.specs.Proxying.{Proxies, ProxiesByLooks}
 use Rattle.sd_proxy.specs.Views.{end_view, totals_view}
 use Rattle.sd_outside.specs.declared.datagrams.Ended.{Ended}
 use Rattle.sd_proxy.specs.declared.proxied.Proxied.{Proxied}
@@ -24,10 +28,34 @@ with_datagrams-nil : (told : Told) → told ≡ with_datagrams [] told
 with_datagrams-nil (Datagrams left) = refl
 with_datagrams-nil told = refl
 
--- what a receiver did in so many turns of its source, in which the source didn't fail
-pub record Ran (nodes : List Node) (up : ℕ) (source source_now : Object) (took : ℕ) (wires wires_now : List Object) (totals : ProxyTotals) : Type 0 where
+-- a datagram, with the nodes that were up
+abbrev pub read_of : List ℕ → ℕ → Read
+read_of datagram up = record { datagram = datagram; up = up }
+
+-- the same nodes were up for each datagram
+abbrev pub under : ℕ → List Read → Type 0
+under up reads = All (λ (r : Read). r.up ≡ up) reads
+
+-- the nodes that were up for datagrams are what looks answered, one each
+abbrev pub looked : (history now : List ℕ) → List Read → Type 0
+looked history now reads = HaveAnswered history now (map (λ (r : Read). r.up) reads)
+
+-- one datagram more
+pub under-next : (up : ℕ) (datagram : List ℕ) (reads : List Read) → under up reads → under up (reads ++ read_of datagram up ∷ [])
+under-next up datagram reads all =
+    let P : Read → Type 0 = λ r. r.up ≡ up in
+    All-append P reads (read_of datagram up ∷ []) all (All-cons P (read_of datagram up) [] refl (All-nil P))
+
+-- one datagram more, and its look
+pub looked-next : (history mid now : List ℕ) (up : ℕ) (datagram : List ℕ) → Begins mid now → last_or None now ≡ Some up → (reads : List Read) → looked history mid reads → looked history now (reads ++ read_of datagram up ∷ [])
+looked-next history mid now up datagram goes_on last reads looks =
+    subst (HaveAnswered history now) (sym (map-append (λ (r : Read). r.up) reads (read_of datagram up ∷ [])))
+    (answered_more history mid now (map (λ (r : Read). r.up) reads) (up ∷ []) looks (one_answered mid now up goes_on last))
+
+-- What a receiver did in so many turns of its source, in which the source didn't fail, and what is known of its datagrams.
+pub record Ran (nodes : List Node) (known : List Read → Type 0) (source source_now : Object) (took : ℕ) (wires wires_now : List Object) (totals : ProxyTotals) : Type 0 where
   pub reads : List Read
-  pub under : All (λ r. r.up ≡ up) reads
+  pub are : known reads
   pub forwards : Forwards nodes (length reads) (flat_map lines_of_read reads) wires wires_now no_totals totals
   pub given : source.told ≡ with_datagrams (map (λ x. x.datagram) reads) source_now.told
   pub turns : source_now.turns ≡ min (source.turns + took) last_count
@@ -35,10 +63,10 @@ pub record Ran (nodes : List Node) (up : ℕ) (source source_now : Object) (took
   pub faults : source_now.faults ≡ source.faults
   pub same : source_now ≡ record source { told = source_now.told; faults = source_now.faults; turns = source_now.turns }
 
-pub ran_first : (nodes : List Node) (up : ℕ) (source : Object) (wires : List Object) (t : ProxyTotals) → source.turns ≤ last_count → t ≡ no_totals → Ran nodes up source source 0 wires wires t
-ran_first nodes up source wires t fits none = record {
+pub ran_first : (nodes : List Node) (known : List Read → Type 0) (source : Object) (wires : List Object) (t : ProxyTotals) → known [] → source.turns ≤ last_count → t ≡ no_totals → Ran nodes known source source 0 wires wires t
+ran_first nodes known source wires t are fits none = record {
   reads = [];
-  under = All-nil (λ (r : Read). r.up ≡ up);
+  are = are;
   forwards = Forwards-none nodes 0 wires no_totals t none;
   given = with_datagrams-nil source.told;
   turns = omega (arith, fits);
@@ -51,7 +79,15 @@ ran_first nodes up source wires t fits none = record {
 pub same_faults : (old new : Object) → new ≡ old → new ≡ record old { faults = new.faults }
 same_faults old new last = last ∙ ap (λ (o : Object). record old { faults = o.faults }) (sym last)
 
-module _ (nodes : List Node) (up : ℕ) (source mid now : Object) (took : ℕ) where
+-- What a receiver did, what is known of its datagrams, what it counted, and how it ended.
+pub record Out (nodes : List Node) (known : List Read → Type 0) (source now : Object) (wires wires_now : List Object) (p : Proxied) : Type 0 where
+  pub relay : Relay
+  pub are : known relay.reads
+  pub relays : IsRelay nodes relay source now wires wires_now
+  pub totals : totals_view p.totals ≡ relay_totals nodes relay
+  pub ended : end_view p.ended ≡ relay.ended
+
+module _ (nodes : List Node) (known : List Read → Type 0) (source mid now : Object) (took : ℕ) where
   -- nothing else of a source changed
   abbrev Same : Object → Object → Type 0
   Same old new = new ≡ record old { told = new.told; faults = new.faults; turns = new.turns }
@@ -63,10 +99,11 @@ module _ (nodes : List Node) (up : ℕ) (source mid now : Object) (took : ℕ) w
   same_given datagram gives = ap (λ (o : Object). record o { told = now.told; faults = now.faults; turns = now.turns }) (sym gives)
 
   -- a turn that gave a datagram, whose lines were sent
-  pub ran_read : (datagram : List ℕ) (wires wires_mid wires_now : List Object) (t t_now : ProxyTotals) → Ran nodes up source mid took wires wires_mid t → GivesDatagram datagram mid now
-      → Forwards nodes 1 (lines_of_read (record { datagram = datagram; up = up })) wires_mid wires_now t t_now → Ran nodes up source now (took + 1) wires wires_now t_now
-  ran_read datagram wires wires_mid wires_now t t_now ran gives forwards =
-      let read : Read = record { datagram = datagram; up = up } in
+  pub ran_read : (known_now : List Read → Type 0) (datagram : List ℕ) (up : ℕ) (wires wires_mid wires_now : List Object) (t t_now : ProxyTotals) → ((reads : List Read) → known reads → known_now (reads ++ read_of datagram up ∷ []))
+      → Ran nodes known source mid took wires wires_mid t → GivesDatagram datagram mid now
+      → Forwards nodes 1 (lines_of_read (read_of datagram up)) wires_mid wires_now t t_now → Ran nodes known_now source now (took + 1) wires wires_now t_now
+  ran_read known_now datagram up wires wires_mid wires_now t t_now next ran gives forwards =
+      let read : Read = read_of datagram up in
       let told : mid.told ≡ with_datagrams (datagram ∷ []) now.told = ap (λ (o : Object). o.told) gives in
       let datagrams : List Read → List (List ℕ) = map (λ (x : Read). x.datagram) in
       let one : flat_map lines_of_read (read ∷ []) ≡ lines_of_read read = flat_map-cons lines_of_read read [] ∙ append-nil (lines_of_read read) in
@@ -74,7 +111,7 @@ module _ (nodes : List Node) (up : ℕ) (source mid now : Object) (took : ℕ) w
       let turn : raised mid.turns ≡ now.turns = ap (λ (o : Object). o.turns) gives in
       record {
         reads = ran.reads ++ read ∷ [];
-        under = All-append (λ (r : Read). r.up ≡ up) ran.reads (read ∷ []) ran.under (All-cons (λ (r : Read). r.up ≡ up) read [] refl (All-nil (λ (r : Read). r.up ≡ up)));
+        are = next ran.reads ran.are;
         forwards = subst (λ (z : ℕ × List (List ℕ × ℕ)). Forwards nodes z.0 z.1 wires wires_now no_totals t_now)
             (λ i. (sym count i, (ap (λ ls. flat_map lines_of_read ran.reads ++ ls) (sym one) ∙ sym (flat_map-append lines_of_read ran.reads (read ∷ []))) i))
             (Forwards-next nodes (length ran.reads) 1 (flat_map lines_of_read ran.reads) (lines_of_read read) wires wires_mid wires_now no_totals t t_now ran.forwards forwards);
@@ -87,12 +124,12 @@ module _ (nodes : List Node) (up : ℕ) (source mid now : Object) (took : ℕ) w
       }
 
   -- a turn that gave nothing
-  pub ran_idle : (wires wires_now : List Object) (t : ProxyTotals) → Ran nodes up source mid took wires wires_now t → now ≡ turned mid → Ran nodes up source now (took + 1) wires wires_now t
+  pub ran_idle : (wires wires_now : List Object) (t : ProxyTotals) → Ran nodes known source mid took wires wires_now t → now ≡ turned mid → Ran nodes known source now (took + 1) wires wires_now t
   ran_idle wires wires_now t ran idle =
       let turn : now.turns ≡ raised mid.turns = ap (λ (o : Object). o.turns) idle in
       record {
         reads = ran.reads;
-        under = ran.under;
+        are = ran.are;
         forwards = ran.forwards;
         given = ran.given ∙ ap (λ (o : Object). with_datagrams (map (λ (x : Read). x.datagram) ran.reads) o.told) (sym idle);
         turns = omega (arith, turn, ran.turns);
@@ -102,11 +139,11 @@ module _ (nodes : List Node) (up : ℕ) (source mid now : Object) (took : ℕ) w
       }
 
   -- how it ended: at most the count of the source's faults changed
-  pub ran_out : (wires wires_now : List Object) (ended : Ended) (t : code.ProxyTotals) (p : Proxied) → p.ended ≡ ended → p.totals ≡ t → Ran nodes up source mid took wires wires_now (totals_view t) → length wires ≡ length nodes
-      → now ≡ record mid { faults = now.faults } → EndsReceiver 0 (end_view ended) source now 0 took → Proxies nodes up source now wires wires_now p
+  pub ran_out : (wires wires_now : List Object) (ended : Ended) (t : code.ProxyTotals) (p : Proxied) → p.ended ≡ ended → p.totals ≡ t → Ran nodes known source mid took wires wires_now (totals_view t) → length wires ≡ length nodes
+      → now ≡ record mid { faults = now.faults } → EndsReceiver 0 (end_view ended) source now 0 took → Out nodes known source now wires wires_now p
   ran_out wires wires_now ended t p so counts ran each last ends = record {
     relay = record { reads = ran.reads; routed = ran.forwards.routed; ended = end_view ended };
-    under = ran.under;
+    are = ran.are;
     relays = record {
       given = ran.given ∙ ap (λ (o : Object). with_datagrams (map (λ (x : Read). x.datagram) ran.reads) o.told) (sym last);
       lines = ran.forwards.lines_are;
@@ -123,9 +160,17 @@ module _ (nodes : List Node) (up : ℕ) (source mid now : Object) (took : ℕ) w
   }
 
   -- the source had nothing left
-  pub ends_spent : (wires wires_now : List Object) (t : ProxyTotals) → Ran nodes up source mid took wires wires_now t → now ≡ mid → IsSpent mid.told → took < most_turns → IsSpent now.told × (now.faults ≡ source.faults) × (0 < 0 → 0 < 0) × (took < most_turns)
+  pub ends_spent : (wires wires_now : List Object) (t : ProxyTotals) → Ran nodes known source mid took wires wires_now t → now ≡ mid → IsSpent mid.told → took < most_turns → IsSpent now.told × (now.faults ≡ source.faults) × (0 < 0 → 0 < 0) × (took < most_turns)
   ends_spent wires wires_now t ran last spent few = (subst (λ (o : Object). IsSpent o.told) (sym last) spent, ap (λ (o : Object). o.faults) last ∙ ran.faults, λ none. none, few)
 
   -- the source failed
-  pub ends_failed : (wires wires_now : List Object) (t : ProxyTotals) → Ran nodes up source mid took wires wires_now t → HasFailed mid now → took < most_turns → Rose source.faults now.faults × (0 < 0 → 0 < 0) × (took < most_turns)
+  pub ends_failed : (wires wires_now : List Object) (t : ProxyTotals) → Ran nodes known source mid took wires wires_now t → HasFailed mid now → took < most_turns → Rose source.faults now.faults × (0 < 0 → 0 < 0) × (took < most_turns)
   ends_failed wires wires_now t ran failed few = (subst (λ n. Rose n now.faults) ran.faults failed.rose, λ none. none, few)
+
+-- what a receiver did under one set
+pub out_under : (nodes : List Node) (up : ℕ) (source now : Object) (wires wires_now : List Object) (p : Proxied) → Out nodes (under up) source now wires wires_now p → Proxies nodes up source now wires wires_now p
+out_under nodes up source now wires wires_now p out = record { relay = out.relay; under = out.are; relays = out.relays; totals = out.totals; ended = out.ended }
+
+-- what a receiver did by looks
+pub out_looked : (nodes : List Node) (history history_now : List ℕ) (source now : Object) (wires wires_now : List Object) (p : Proxied) → Out nodes (looked history history_now) source now wires wires_now p → ProxiesByLooks nodes history history_now source now wires wires_now p
+out_looked nodes history history_now source now wires wires_now p out = record { relay = out.relay; looks = out.are; relays = out.relays; totals = out.totals; ended = out.ended }

@@ -1,8 +1,9 @@
 -- What a proxy did.
-use Rattle.std.specs.Prelude.{◌≡◌, ℕ, List, All}
+use Rattle.std.specs.Prelude.{◌≡◌, ℕ, List, All, map}
 use Rattle.sd_model_outside.specs.Outside.{Object}
 use Rattle.sd_model_settings.specs.Entries.{Node}
 use Rattle.sd_model_proxy.specs.Relays.{IsRelay, Relay, relay_totals}
+use Rattle.sd_model_live.specs.Looks.{HaveAnswered}
 use Rattle.sd_proxy.specs.Views.{end_view, totals_view}
 use Rattle.sd_proxy.specs.declared.proxied.Proxied.{Proxied}
 
@@ -11,6 +12,15 @@ use Rattle.sd_proxy.specs.declared.proxied.Proxied.{Proxied}
 pub record Proxies (nodes : List Node) (up : ℕ) (source source_now : Object) (wires wires_now : List Object) (p : Proxied) : Type 0 where
   pub relay : Relay
   pub under : All (λ r. r.up ≡ up) relay.reads
+  pub relays : IsRelay nodes relay source source_now wires wires_now
+  pub totals : totals_view p.totals ≡ relay_totals nodes relay
+  pub ended : end_view p.ended ≡ relay.ended
+
+-- A receiver sent the lines of its datagrams on the wires of their owners, with the nodes up for each datagram that one look
+-- answered at the history of the sets, which went on meanwhile; and it left what it counted, and how it ended.
+pub record ProxiesByLooks (nodes : List Node) (history history_now : List ℕ) (source source_now : Object) (wires wires_now : List Object) (p : Proxied) : Type 0 where
+  pub relay : Relay
+  pub looks : HaveAnswered history history_now (map (λ r. r.up) relay.reads)
   pub relays : IsRelay nodes relay source source_now wires wires_now
   pub totals : totals_view p.totals ≡ relay_totals nodes relay
   pub ended : end_view p.ended ≡ relay.ended

@@ -1,18 +1,24 @@
 //! The proxy: each line of a datagram goes to the node that owns the key of its name.
 //!
 //! `route` says where a line goes; `proxy` takes the datagrams of a source and sends each line, as a datagram of its own, on the
-//! wire of its owner. No memory is taken but what the ring's cache asks for, and a refusal there changes nothing else.
+//! wire of its owner. `proxy_part` does the same among the nodes that were last found up: `check` asks the nodes how they are, and
+//! publishes the set of those that are up in an `UpCell`, where each receiver looks at it. No memory is taken but when a cell is
+//! opened, and what the ring's cache asks for, where a refusal changes nothing else.
 #![tactic(auto)]
 
 mod destination;
 mod forwarding;
+mod looking;
 mod proxied;
 mod proxying;
 mod routing;
 mod totals;
 
 pub use destination::Route;
+pub use looking::proxy_part;
 pub use proxied::Proxied;
 pub use proxying::proxy;
 pub use routing::route;
+pub use sd_check::{CheckEnd, Checked, check, says_up};
+pub use sd_live::{UpCell, UpPass, UpPasses};
 pub use totals::ProxyTotals;

@@ -9,7 +9,7 @@ use sd_outside::{Datagrams, Ended, Next, Wire};
 use sd_ring::Ring;
 
 /// The most turns of a source.
-const MOST_TURNS: u64 = 1 << 62;
+pub(crate) const MOST_TURNS: u64 = 1 << 62;
 
 /// Takes the datagrams of a source, until none is left, it fails, or it took 2^62 turns. Each line of each datagram goes on the
 /// wire of its owner among the nodes of the set `up`, in order, as a packet of its own, without its newline. A send that fails is
@@ -41,7 +41,7 @@ pub fn proxy<D: Datagrams, L: Wire>(
 }
 
 /// What a proxy did that ended so.
-fn proxied(ended: Ended, totals: ProxyTotals) -> Proxied
+pub(crate) fn proxied(ended: Ended, totals: ProxyTotals) -> Proxied
     ensures ended { result.ended ≡ ended }
     ensures totals { result.totals ≡ totals }
 {

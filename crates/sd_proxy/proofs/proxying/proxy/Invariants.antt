@@ -1,6 +1,6 @@
 use Rattle.std.proofs.Common.{◌≡◌, length, map}
 use Rattle.sd_proxy.specs.Views.{totals_view}
-use Rattle.sd_proxy.proofs.RelayLemmas.{Ran}
+use Rattle.sd_proxy.proofs.RelayLemmas.{Ran, under}
 use Rattle.sd_proxy.proofs.proxying.proxy.Given as goal
 
 abbrev pub invariant-loop-turn : goal.invariant-loop-turn
@@ -10,5 +10,5 @@ invariant-loop-turn g l =
       ring : l.ring ≡ l.fn.ring;
       wires : length l.wires ≡ length l.fn.wires;
       room : length l.buf ≡ length l.fn.buf;
-      ran : Ran l.fn.ring l.up (g.D.Faulty.seen l.fn.packets) (g.D.Faulty.seen l.packets) l._turn (map seen l.fn.wires) (map seen l.wires) (totals_view l.totals);
+      ran : Ran l.fn.ring (under l.up) (g.D.Faulty.seen l.fn.packets) (g.D.Faulty.seen l.packets) l._turn (map seen l.fn.wires) (map seen l.wires) (totals_view l.totals);
     }

@@ -1,0 +1,78 @@
+//! The questions of one check.
+ghost use Rattle.std.specs.Prelude.{◌≡◌, ℕ, ◌<◌, ◌≤◌, ◌^◌, List, length, map, Option, option_map};
+ghost use Rattle.sd_model_outside.specs.Probes.{HasAsked};
+ghost use Rattle.sd_model_live.specs.Checks.{admin_place, says_up as reply_says_up};
+ghost use Rattle.sd_plan.specs.Entries.{node_view};
+ghost use Rattle.sd_outside.specs.Places.{place_of};
+ghost use Rattle.sd_check.specs.Questions.{AddsAnswer, HasAskedAll};
+
+use crate::reply::says_up;
+use sd_decimal::Line;
+use sd_outside::{Address, Probe};
+use sd_plan::Node;
+
+/// Where a node is asked how it is.
+fn admin_address(node: &Node) -> Address
+    ensures { place_of result ≡ admin_place (node_view node.now) }
+{
+    Address::Host {
+        host: node.host.clone().unwrap(),
+        port: node.adminport,
+    }
+}
+
+/// Whether a node says that it is up; none where the question failed.
+fn ask<Q: Probe>(node: &Node, probe: &mut Q, line: &mut Line) -> Option<bool>
+    ensures { (answer : Option (List ℕ)) × HasAsked (admin_place (node_view node.now)) answer (Q.seen probe.old) (Q.seen probe.new)
+        × (result ≡ option_map reply_says_up answer) }
+{
+    match probe.ask(&admin_address(node), line) {
+        Ok(()) => Some(says_up(line.as_slice())),
+        Err(_) => None,
+    }
+}
+
+/// What questions found: the set of the nodes that say that they are up, and how many failed.
+#[derive(Clone, Copy, Debug)]
+pub(crate) struct Found {
+    pub up: u64,
+    pub failed: u64,
+}
+
+/// Asks the node in a place, and adds what came of it to what was found of the nodes before it.
+fn ask_next<Q: Probe>(
+    node: &Node,
+    place: usize,
+    probe: &mut Q,
+    line: &mut Line,
+    found: Found,
+) -> Found
+    requires place { (place < 64) × (found.up < 2 ^ place) }
+    requires failed { found.failed ≤ place }
+    ensures { (answer : Option (List ℕ)) × HasAsked (admin_place (node_view node.now)) answer (Q.seen probe.old) (Q.seen probe.new)
+        × AddsAnswer place answer found result }
+{
+    match ask(node, probe, line) {
+        Some(true) => Found {
+            up: found.up + (1 << place),
+            failed: found.failed,
+        },
+        Some(false) => found,
+        None => Found {
+            up: found.up,
+            failed: found.failed + 1,
+        },
+    }
+}
+
+/// Asks each node, in order.
+pub(crate) fn ask_all<Q: Probe>(nodes: &[Node], probe: &mut Q, line: &mut Line) -> Found
+    requires { length nodes.now ≤ 64 }
+    ensures { HasAskedAll (map node_view nodes.now) (Q.seen probe.old) (Q.seen probe.new) result.up result.failed }
+{
+    let mut found = Found { up: 0, failed: 0 };
+    for (place, node) in nodes.iter().enumerate() {
+        found = ask_next(node, place, probe, line, found);
+    }
+    found
+}

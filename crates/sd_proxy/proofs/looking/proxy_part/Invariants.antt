@@ -1,0 +1,16 @@
+use Rattle.std.proofs.Common.{◌≡◌, length, map}
+use Rattle.sd_live.specs.Live.{IsPassOf, publishes, seen}
+use Rattle.sd_proxy.specs.Views.{totals_view}
+use Rattle.sd_proxy.proofs.RelayLemmas.{Ran, looked}
+use Rattle.sd_proxy.proofs.looking.proxy_part.Given as goal
+
+abbrev pub invariant-loop-turn : goal.invariant-loop-turn
+invariant-loop-turn g l =
+    let wire = g.L.Faulty.seen in
+    record {
+      ring : l.ring ≡ l.fn.ring;
+      pass : IsPassOf l.cell l.pass × (publishes l.pass ≡ publishes l.fn.pass);
+      wires : length l.wires ≡ length l.fn.wires;
+      room : length l.buf ≡ length l.fn.buf;
+      ran : Ran l.fn.ring (looked (seen l.fn.pass) (seen l.pass)) (g.D.Faulty.seen l.fn.packets) (g.D.Faulty.seen l.packets) l._turn (map wire l.fn.wires) (map wire l.wires) (totals_view l.totals);
+    }
