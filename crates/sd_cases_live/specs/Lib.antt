@@ -1,2 +1,3 @@
+pub mod Bench
 pub mod Lookers
 pub mod Steps

@@ -5,7 +5,7 @@ ghost use Rattle.sd_live.specs.Live.{nodes_of, seen, IsPassOf, IsCheckerOf, IsRe
 ghost use Rattle.sd_cases_live.specs.Lookers.{HasLooked, IsNew, HasSeen};
 
 use crate::looker::Looker;
-use sd_live::{UpCell, UpPass, UpPasses};
+use sd_proxy::{UpCell, UpPass, UpPasses};
 use std::alloc::{AllocError, Global};
 use std::sync::Wait;
 use std::thread::{Threads, for_each_mut, join};

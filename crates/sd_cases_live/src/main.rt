@@ -2,9 +2,14 @@
 //! or by several side by side, and is printed with what comes of it, which is the same whatever the order of the threads.
 #![tactic(auto)]
 
+mod checks;
 mod looker;
 mod lookers;
 mod looks;
+mod nodes;
+mod packing;
+mod parts;
+mod place_gate;
 mod steps;
 
 use sd_case::{Answer, Refusal, answer_cases};
@@ -26,6 +31,9 @@ fn call<R: Threads + Wait + Sync>(
         ["looks", sets, receivers, looks] => {
             looks::looks_beside(rt, alloc, sets, receivers, looks, out)
         }
+        ["says", replies @ ..] => checks::replies(alloc, replies, out),
+        ["check", nodes, steps @ ..] => checks::check_nodes(rt, alloc, nodes, steps, out),
+        ["part", nodes, cache, steps @ ..] => parts::part(rt, alloc, nodes, cache, steps, out),
         _ => Err(Refusal::UnknownCall),
     }
 }

@@ -3,7 +3,7 @@ ghost use Rattle.std.specs.Prelude.{◌≡◌, OnOk};
 ghost use Rattle.sd_live.specs.Live.{IsPassOf};
 
 use sd_case::{Answer, Refusal, number};
-use sd_live::{UpCell, UpPasses};
+use sd_proxy::{UpCell, UpPasses};
 use std::alloc::Global;
 use std::sync::Wait;
 

@@ -1,0 +1,24 @@
+use Rattle.std.proofs.Common.{◌≡◌, ◌+◌, ◌*◌, ◌≤◌, ◌++◌, All, flat_map, length, map, vec_capacity}
+use Rattle.sd_plan.specs.Entries.{node_view}
+use Rattle.sd_relay.specs.Parts.{HasPlace, IsFitted, pass_in, source_in, wires_in}
+use Rattle.sd_relay.proofs.parts.gather.Given as goal
+
+abbrev pub invariant-loop-room : goal.invariant-loop-room
+invariant-loop-room g l = record {
+  len : length l.posts.items + length l.rooms.items ≡ length l.initial.rooms.items;
+  room : length l.posts.items + length l.rooms.items ≤ vec_capacity l.posts;
+  rooms : All (HasPlace (map node_view l.nodes)) l.rooms.items;
+  fitted : All (IsFitted (map node_view l.nodes)) l.posts.items;
+  packets : l.initial.packets.items ≡ map source_in l.posts.items ++ l.packets.items;
+  wires : l.initial.wires.items ≡ flat_map wires_in l.posts.items ++ l.wires.items;
+  passes : l.initial.passes.items ≡ map pass_in l.posts.items ++ l.passes.items;
+  sources : length l.rooms.items ≤ length l.packets.items;
+  runs : length l.rooms.items * length l.nodes ≤ length l.wires.items;
+  passes_left : length l.rooms.items ≤ length l.passes.items;
+  packets_room : vec_capacity l.packets ≡ vec_capacity l.initial.packets;
+  wires_room : vec_capacity l.wires ≡ vec_capacity l.initial.wires;
+  passes_room : vec_capacity l.passes ≡ vec_capacity l.initial.passes;
+}
+
+abbrev pub decreases-loop-room : goal.decreases-loop-room
+decreases-loop-room g l = length l.rooms.items

@@ -1,0 +1,18 @@
+use Rattle.std.proofs.Common.{refl, ◌∙◌}
+use Rattle.std.proofs.lemmas.List.{with_items_is}
+use Rattle.sd_relay.proofs.post.Post.run.Goals as goal
+
+pub returns : goal.returns
+returns g c =
+    let ensures = c.proxy_part-got.ensures in
+    let wires = with_items_is c.args.self.now.wires c.proxy_part-got.new.wires (ensures.wires ∙ c.as_mut_slice.ensures.len) in
+    record {
+      got = c.proxy_part-got.result;
+      got_is = refl;
+      ring = ensures.ring;
+      pass = ensures.pass.0;
+      publishes_same = ensures.pass.1;
+      wires = refl;
+      room = refl;
+      proxies = rw (wires, ← c.as_mut_slice.ensures.value) ensures.proxies;
+    }

@@ -1,0 +1,28 @@
+-- What stands in posts.
+use Rattle.std.specs.Prelude.{◌≡◌, ◌≤◌, List, [], length, vec_capacity}
+use Rattle.sd_model_outside.specs.Turns.{most_datagram}
+use Rattle.sd_model_settings.specs.Entries.{Node}
+use Rattle.sd_live.specs.declared.pass.UpPass.{UpPass}
+use Rattle.sd_relay.specs.declared.parts.PostRoom.{PostRoom}
+use Rattle.sd_relay.specs.declared.post.Post.{Post}
+
+module _ {D L : Type 0} where
+  -- the source of a post
+  abbrev pub source_in : Post D L → D
+  source_in post = post.packets
+
+  -- its wires
+  abbrev pub wires_in : Post D L → List L
+  wires_in post = post.wires.items
+
+  -- its pass
+  abbrev pub pass_in : Post D L → UpPass
+  pass_in post = post.pass
+
+  -- its ring is one of these nodes, each of them has a wire, and there is room for a datagram
+  abbrev pub IsFitted : List Node → Post D L → Type 0
+  IsFitted nodes post = (post.ring ≡ nodes) × (length post.wires.items ≡ length nodes) × (most_datagram ≤ length post.buf.items)
+
+-- there is a ring of these nodes, and room for a wire to each, of which none is there, and for a datagram
+abbrev pub HasPlace : {L : Type 0} → List Node → PostRoom L → Type 0
+HasPlace nodes room = (room.ring ≡ nodes) × (room.wires.items ≡ []) × (length nodes ≤ vec_capacity room.wires) × (most_datagram ≤ length room.buf.items)

@@ -1,0 +1,42 @@
+-- What a run of a proxy leaves.
+use Rattle.std.specs.Prelude.{◌≡◌, ℕ, ◌^◌, min, List, length, map, Option, Some, None}
+use Rattle.sd_model_outside.specs.Outside.{Object}
+use Rattle.sd_model_settings.specs.Entries.{Node}
+use Rattle.sd_model_proxy.specs.Relays.{Relay, relays_totals}
+use Rattle.sd_model_live.specs.Checks.{Check, failed_in}
+use Rattle.sd_model_live.specs.Proxy.{ProxyTheorem}
+use Rattle.sd_outside.specs.declared.datagrams.Ended.{Ended}
+use Rattle.sd_outside.specs.declared.datagrams.Ended.TheVariants.{End}
+use Rattle.sd_check.specs.Checking as checking
+use Rattle.sd_proxy.specs.Views.{end_view}
+use Rattle.sd_proxy.specs.declared.proxied.Proxied.{Proxied}
+use Rattle.sd_relay.specs.Sums.{sums_view}
+use Rattle.sd_relay.specs.declared.post.Post.{Post}
+use Rattle.sd_relay.specs.declared.relaying.Relayed.{Relayed}
+use Rattle.sd_relay.specs.declared.room.RelayRoom.{RelayRoom}
+
+-- how a receiver ended, if there was one
+abbrev pub ended_by : Option Proxied → Ended
+ended_by None = End
+ended_by (Some got) = got.ended
+
+module _ {D L : Type 0} where
+  -- how the receiver of a post ended, where it was run
+  abbrev pub ended_in : Post D L → Ended
+  ended_in post = ended_by post.got
+
+  -- for how many receivers a room is
+  abbrev pub receivers_in : RelayRoom D L → ℕ
+  receivers_in room = length room.rooms.items
+
+-- A proxy was run, its theorem holds of what was done, and it left how its receivers and its checker ended, what these counted, the
+-- receivers added up, and how many checks were made.
+pub record HasRelayed (nodes : List Node) (receivers : ℕ) (sources sources_now wires wires_now : List Object) (beat beat_now probe probe_now : Object) (r : Relayed) : Type 0 where
+  pub relays : List Relay
+  pub checks : List Check
+  pub theorem : ProxyTheorem nodes relays checks (checking.end_view r.checked.ended) sources sources_now wires wires_now beat beat_now probe probe_now
+  pub count : length relays ≡ receivers
+  pub received : map end_view r.received.items ≡ map (λ x. x.ended) relays
+  pub sums : sums_view r.sums ≡ relays_totals nodes relays
+  pub checked : r.checked.checks ≡ length checks
+  pub faults : r.checked.probe_faults ≡ min (failed_in checks) (2 ^ 63)

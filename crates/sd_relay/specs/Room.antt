@@ -1,0 +1,29 @@
+-- What a proxy's room was opened for.
+use Rattle.std.specs.Prelude.{◌≡◌, ℕ, ◌<◌, ◌≤◌, ◌^◌, List, [], All, length, vec_capacity}
+use Rattle.sd_model_settings.specs.Entries.{Node}
+use Rattle.sd_model_live.specs.Proxy.{first_history}
+use Rattle.sd_live.specs.Live.{IsCheckerOf, IsPassOf, nodes_of, seen}
+use Rattle.sd_live.specs.declared.pass.UpPass.{UpPass}
+use Rattle.sd_live.specs.declared.up_cell.UpCell.{UpCell}
+use Rattle.sd_relay.specs.Parts.{HasPlace}
+use Rattle.sd_relay.specs.declared.room.RelayRoom.{RelayRoom}
+
+-- a receiver's pass of a cell of these nodes, which has seen nothing published
+abbrev pub IsFreshPass : UpCell → List Node → UpPass → Type 0
+IsFreshPass cell nodes p = IsPassOf cell p × (seen p ≡ first_history nodes)
+
+-- The room is that of a proxy of these nodes with so many receivers, which has done nothing: it has a cell and its passes, and the
+-- room of each receiver.
+pub record IsRoomFor {D L : Type 0} (nodes : List Node) (receivers : ℕ) (room : RelayRoom D L) : Type 0 where
+  pub cell : nodes_of room.cell ≡ length nodes
+  pub checker : IsCheckerOf room.cell room.passes.checker
+  pub first : seen room.passes.checker ≡ first_history nodes
+  pub passes : All (IsFreshPass room.cell nodes) room.passes.receivers.items
+  pub pass_count : length room.passes.receivers.items ≡ receivers
+  pub few : receivers < 2 ^ 16
+  pub places : length room.rooms.items ≡ receivers
+  pub place_each : All (HasPlace nodes) room.rooms.items
+  pub no_post : room.posts.items ≡ []
+  pub post_room : receivers ≤ vec_capacity room.posts
+  pub no_end : room.ends.items ≡ []
+  pub end_room : receivers ≤ vec_capacity room.ends

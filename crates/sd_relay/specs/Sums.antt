@@ -1,0 +1,52 @@
+-- What the receivers of posts counted, added up.
+use Rattle.std.specs.Prelude.{◌≡◌, ◌+◌, ◌≤◌, ◌^◌, Option, Some, None}
+use Rattle.sd_model_proxy.specs.Totals.{ProxyTotals, no_totals}
+use Rattle.sd_proxy.specs.Views.{totals_view}
+use Rattle.sd_proxy.specs.declared.proxied.Proxied.{Proxied}
+use Rattle.sd_relay.specs.declared.post.Post.{Post}
+use Rattle.sd_relay.specs.declared.sums.ProxySums.{ProxySums}
+
+-- what a receiver counted, if there was one
+abbrev pub totals_by : Option Proxied → ProxyTotals
+totals_by None = no_totals
+totals_by (Some got) = totals_view got.totals
+
+module _ {D L : Type 0} where
+  -- a post was run
+  abbrev pub WasRun : Post D L → Type 0
+  WasRun post = (got : Proxied) × (post.got ≡ Some got)
+
+  -- what its receiver counted, where it was run
+  abbrev pub totals_in : Post D L → ProxyTotals
+  totals_in post = totals_by post.got
+
+-- sums, as the definitions have them
+abbrev pub sums_view : ProxySums → ProxyTotals
+sums_view s = record { packets = s.packets; lines = s.lines; bad = s.bad; sent = s.sent; unowned = s.unowned; send_faults = s.send_faults }
+
+-- Each sum has room for one count more.
+pub record HasRoom (s : ProxySums) : Type 0 where
+  pub packets : s.packets ≤ 2 ^ 127
+  pub lines : s.lines ≤ 2 ^ 127
+  pub bad : s.bad ≤ 2 ^ 127
+  pub sent : s.sent ≤ 2 ^ 127
+  pub unowned : s.unowned ≤ 2 ^ 127
+  pub send_faults : s.send_faults ≤ 2 ^ 127
+
+-- The totals of one receiver were added.
+pub record AddsTotals (t : ProxyTotals) (old new : ProxySums) : Type 0 where
+  pub packets : new.packets ≡ old.packets + t.packets
+  pub lines : new.lines ≡ old.lines + t.lines
+  pub bad : new.bad ≡ old.bad + t.bad
+  pub sent : new.sent ≡ old.sent + t.sent
+  pub unowned : new.unowned ≡ old.unowned + t.unowned
+  pub send_faults : new.send_faults ≡ old.send_faults + t.send_faults
+
+-- Each sum grew by no more than a count can have.
+pub record GrowsLittle (old new : ProxySums) : Type 0 where
+  pub packets : new.packets ≤ old.packets + 2 ^ 64
+  pub lines : new.lines ≤ old.lines + 2 ^ 64
+  pub bad : new.bad ≤ old.bad + 2 ^ 64
+  pub sent : new.sent ≤ old.sent + 2 ^ 64
+  pub unowned : new.unowned ≤ old.unowned + 2 ^ 64
+  pub send_faults : new.send_faults ≤ old.send_faults + 2 ^ 64

@@ -1,0 +1,20 @@
+//! The receivers of a proxy beside its checker, each in a thread of its own: the checker asks the nodes how they are, and each receiver
+//! sends the lines of its datagrams to the nodes that it finds up. What all receivers counted is added up in 128 bits.
+#![tactic(auto)]
+
+mod checking;
+mod live;
+mod nobody;
+mod parts;
+mod post;
+mod relaying;
+mod room;
+mod sums;
+mod workers;
+
+pub use live::Live;
+pub use post::Post;
+pub use relaying::{Relayed, relay};
+pub use room::RelayRoom;
+pub use sums::{ProxySums, add_up};
+pub use workers::run_relays;

@@ -1,0 +1,161 @@
+//! The parts of receivers are moved into posts, and back to where they stood.
+ghost use Rattle.std.specs.Prelude.{◌≡◌, ◌+◌, ◌*◌, ◌<◌, ◌≤◌, [], ◌∷◌, ◌++◌, All, IfOk, flat_map, length, map, vec_capacity, vec_len};
+ghost use Rattle.sd_plan.specs.Entries.{node_view};
+ghost use Rattle.sd_relay.specs.Parts.{HasPlace, IsFitted, pass_in, source_in, wires_in};
+
+use crate::post::Post;
+use sd_outside::{Datagrams, Wire};
+use sd_plan::Node;
+use sd_proxy::UpPass;
+use sd_ring::Ring;
+use std::alloc::{AllocError, Global};
+
+// The most bytes of a datagram.
+const LONGEST_DATAGRAM: usize = 65_507;
+
+/// The room of a receiver: its ring, and room for its wires and for a datagram.
+#[derive(Drop)]
+pub(crate) struct PostRoom<L> {
+    pub ring: Ring,
+    pub wires: Vec<L>,
+    pub buf: Vec<u8>,
+}
+
+// A buffer of so many bytes.
+fn buffer(alloc: Global, size: usize) -> Result<Vec<u8>, AllocError>
+    ensures { IfOk result (λ v. vec_len v ≡ size) }
+{
+    Ok(vec![in alloc; 0; size]?)
+}
+
+/// Room for so many receivers, each with a ring of these nodes, which remembers so many keys, and a wire for each.
+///
+/// # Errors
+///
+/// Where no memory is left for it.
+pub(crate) fn open_rooms<L: Drop>(
+    alloc: Global,
+    nodes: &[Node],
+    count: usize,
+    cache: u32,
+) -> Result<Vec<PostRoom<L>>, AllocError>
+    requires nodes { length nodes.now ≤ 64 }
+    requires cache { 0 < cache }
+    ensures count { IfOk result (λ rooms. length rooms.items ≡ count) }
+    ensures each { IfOk result (λ rooms. All (HasPlace (map node_view nodes.now)) rooms.items) }
+{
+    let mut rooms = Vec::with_capacity(alloc, count)?;
+    for _ in 0..count {
+        rooms.push_reserved(PostRoom {
+            ring: Ring::open(alloc, nodes, cache)?,
+            wires: Vec::with_capacity(alloc, nodes.len())?,
+            buf: buffer(alloc, LONGEST_DATAGRAM)?,
+        });
+    }
+    Ok(rooms)
+}
+
+/// Takes the first away, and the others keep their order.
+fn take_first<T>(items: &mut Vec<T>) -> T
+    requires { 0 < length items.old.items }
+    ensures items { items.old.items ≡ result ∷ items.new.items }
+    ensures capacity { vec_capacity items.new ≡ vec_capacity items.old }
+{
+    items.remove(0)
+}
+
+/// Puts it before the others, within the room that there is.
+fn put_first<T: Drop>(items: &mut Vec<T>, item: T)
+    requires { length items.old.items < vec_capacity items.old }
+    ensures items { items.new.items ≡ item ∷ items.old.items }
+    ensures capacity { vec_capacity items.new ≡ vec_capacity items.old }
+{
+    items.insert(0, item).unwrap();
+}
+
+// The first so many wires, in order, in room for them.
+fn take_run<L>(wires: &mut Vec<L>, mut room: Vec<L>, run: usize) -> Vec<L>
+    requires few { run ≤ length wires.old.items }
+    requires room { run ≤ vec_capacity room }
+    requires none { room.items ≡ [] }
+    ensures items { wires.old.items ≡ result.items ++ wires.new.items }
+    ensures len { length result.items ≡ run }
+    ensures capacity { vec_capacity wires.new ≡ vec_capacity wires.old }
+{
+    for _wire in 0..run {
+        room.push_reserved(take_first(wires));
+    }
+    room
+}
+
+// They stand before the others again.
+fn put_run<L: Drop>(wires: &mut Vec<L>, mut run: Vec<L>)
+    requires { length run.items + length wires.old.items ≤ vec_capacity wires.old }
+    ensures items { wires.new.items ≡ run.items ++ wires.old.items }
+    ensures capacity { vec_capacity wires.new ≡ vec_capacity wires.old }
+{
+    while let Some(wire) = run.pop() {
+        put_first(wires, wire);
+    }
+}
+
+/// Moves the first of the sources, each with a run of wires, one for each of so many nodes, and the first of the passes into posts:
+/// one for each room.
+pub(crate) fn gather<D: Datagrams + Drop, L: Wire + Drop>(
+    packets: &mut Vec<D>,
+    wires: &mut Vec<L>,
+    nodes: &[Node],
+    passes: &mut Vec<UpPass>,
+    mut rooms: Vec<PostRoom<L>>,
+    posts: &mut Vec<Post<D, L>>,
+)
+    requires none { posts.old.items ≡ [] }
+    requires room { length rooms.items ≤ vec_capacity posts.old }
+    requires rooms { All (HasPlace (map node_view nodes.now)) rooms.items }
+    requires packets { length rooms.items ≤ length packets.old.items }
+    requires wires { length rooms.items * length nodes.now ≤ length wires.old.items }
+    requires passes { length rooms.items ≤ length passes.old.items }
+    ensures len { length posts.new.items ≡ length rooms.items }
+    ensures fitted { All (IsFitted (map node_view nodes.now)) posts.new.items }
+    ensures packets { packets.old.items ≡ map source_in posts.new.items ++ packets.new.items }
+    ensures wires { wires.old.items ≡ flat_map wires_in posts.new.items ++ wires.new.items }
+    ensures passes { passes.old.items ≡ map pass_in posts.new.items ++ passes.new.items }
+    ensures packets_room { vec_capacity packets.new ≡ vec_capacity packets.old }
+    ensures wires_room { vec_capacity wires.new ≡ vec_capacity wires.old }
+    ensures passes_room { vec_capacity passes.new ≡ vec_capacity passes.old }
+{
+    while let Some(room) = rooms.pop() {
+        posts.push_reserved(Post {
+            ring: room.ring,
+            pass: take_first(passes),
+            packets: take_first(packets),
+            wires: take_run(wires, room.wires, nodes.len()),
+            buf: room.buf,
+            got: None,
+        });
+    }
+}
+
+/// Moves the parts of posts back before what is left of each list, in order.
+pub(crate) fn give_back<D: Datagrams + Drop, L: Wire + Drop>(
+    mut posts: Vec<Post<D, L>>,
+    packets: &mut Vec<D>,
+    wires: &mut Vec<L>,
+    passes: &mut Vec<UpPass>,
+)
+    requires packets { length posts.items + length packets.old.items ≤ vec_capacity packets.old }
+    requires wires { length (flat_map wires_in posts.items) + length wires.old.items ≤ vec_capacity wires.old }
+    requires passes { length posts.items + length passes.old.items ≤ vec_capacity passes.old }
+    ensures packets { packets.new.items ≡ map source_in posts.items ++ packets.old.items }
+    ensures wires { wires.new.items ≡ flat_map wires_in posts.items ++ wires.old.items }
+    ensures passes { passes.new.items ≡ map pass_in posts.items ++ passes.old.items }
+    ensures packets_room { vec_capacity packets.new ≡ vec_capacity packets.old }
+    ensures wires_room { vec_capacity wires.new ≡ vec_capacity wires.old }
+    ensures passes_room { vec_capacity passes.new ≡ vec_capacity passes.old }
+{
+    while let Some(post) = posts.pop() {
+        put_first(packets, post.packets);
+        put_run(wires, post.wires);
+        put_first(passes, post.pass);
+    }
+}

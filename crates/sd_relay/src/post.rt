@@ -1,0 +1,51 @@
+use crate::live::Live;
+use sd_outside::{Datagrams, Wire};
+use sd_proxy::{Proxied, UpCell, UpPass, proxy_part};
+use sd_ring::Ring;
+use sd_workers::Worker;
+use std::sync::Wait;
+
+/// The work of one receiver of a proxy in one value, and what it did, once it was run.
+#[derive(Drop)]
+pub struct Post<D, L> {
+    pub ring: Ring,
+    pub pass: UpPass,
+    pub packets: D,
+    pub wires: Vec<L>,
+    pub buf: Vec<u8>,
+    pub got: Option<Proxied>,
+}
+
+impl<D: Datagrams, L: Wire> Post<D, L> {
+    ghost use Rattle.sd_relay.specs.Posts.{IsReady, HasRun};
+
+    /// Takes the datagrams of the post's source, each under the set that a look answers, and keeps what that did. It takes no
+    /// memory but what the ring's cache asks for.
+    pub fn run<R: Wait>(&mut self, rt: &R, cell: &UpCell)
+        requires { IsReady cell.now self.old }
+        ensures { HasRun D.seen L.seen cell.now self.old self.new }
+    {
+        let got = proxy_part(
+            rt,
+            &mut self.ring,
+            cell,
+            &mut self.pass,
+            &mut self.packets,
+            self.wires.as_mut_slice(),
+            &mut self.buf,
+        );
+        self.got = Some(got);
+    }
+}
+
+impl<'a, D: Datagrams, L: Wire, G> Worker<Live<'a, G>> for Post<D, L> {
+    ghost use Rattle.sd_relay.specs.Posts.{IsReady, HasRun};
+
+    ghost can_run = { λ live post. IsReady live.cell.now post };
+
+    ghost has_run = { λ live old new. HasRun D.seen L.seen live.cell.now old new };
+
+    fn run<R: Wait>(&mut self, rt: &R, live: &Live<'a, G>) {
+        self.run(rt, live.cell);
+    }
+}

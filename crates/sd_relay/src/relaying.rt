@@ -1,0 +1,134 @@
+//! A proxy from its room to its totals.
+ghost use Rattle.std.specs.Prelude.{◌≡◌, ◌+◌, ◌*◌, ◌≤◌, ℕ, [], ◌++◌, All, flat_map, length, map, vec_capacity};
+ghost use Rattle.sd_model_live.specs.Looks.{Begins};
+ghost use Rattle.sd_plan.specs.Entries.{node_view};
+ghost use Rattle.sd_live.specs.Live.{IsCheckerOf, IsPassOf, seen};
+ghost use Rattle.sd_relay.specs.Parts.{pass_in, source_in, wires_in};
+ghost use Rattle.sd_relay.specs.Relaying.{HasRelayed, ended_in, receivers_in};
+ghost use Rattle.sd_relay.specs.Room.{IsRoomFor};
+ghost use Rattle.sd_relay.specs.Sums.{WasRun};
+
+use crate::live::Live;
+use crate::parts::{gather, give_back};
+use crate::post::Post;
+use crate::room::RelayRoom;
+use crate::sums::{ProxySums, add_up};
+use crate::workers::run_relays;
+use sd_outside::{Beat, Datagrams, Ended, Gate, Probe, Wire};
+use sd_plan::Node;
+use sd_proxy::{Checked, UpCell, UpPass, UpPasses};
+use std::sync::Wait;
+use std::thread::Threads;
+
+/// What a run of a proxy left: how each receiver ended, in order, what the checker did, and what all receivers counted.
+#[derive(Drop)]
+pub struct Relayed {
+    pub received: Vec<Ended>,
+    pub checked: Checked,
+    pub sums: ProxySums,
+}
+
+// How the receiver of a post that was run ended.
+fn end_of_post<D, L>(post: &Post<D, L>) -> Ended
+    requires { WasRun post.now }
+    ensures { result ≡ ended_in post.now }
+{
+    match &post.got {
+        Some(got) => got.ended,
+        None => unreachable!(),
+    }
+}
+
+// How each receiver ended, in order, in room for that.
+fn ends_in<D, L>(posts: &[Post<D, L>], mut room: Vec<Ended>) -> Vec<Ended>
+    requires run { All WasRun posts.now }
+    requires room { length posts.now ≤ vec_capacity room }
+    requires none { room.items ≡ [] }
+    ensures { result.items ≡ map ended_in posts.now }
+{
+    for post in posts {
+        room.push_reserved(end_of_post(post));
+    }
+    room
+}
+
+// Puts sources and wires back to where they stood, and closes the cell over all passes.
+fn close<D: Datagrams + Drop, L: Wire + Drop, R: Wait>(
+    rt: &R,
+    cell: UpCell,
+    checker: UpPass,
+    mut receivers: Vec<UpPass>,
+    posts: Vec<Post<D, L>>,
+    packets: &mut Vec<D>,
+    wires: &mut Vec<L>,
+)
+    requires packets { length posts.items + length packets.old.items ≤ vec_capacity packets.old }
+    requires wires { length (flat_map wires_in posts.items) + length wires.old.items ≤ vec_capacity wires.old }
+    requires none { receivers.items ≡ [] }
+    requires places { length posts.items ≤ vec_capacity receivers }
+    requires checker { IsCheckerOf cell checker }
+    requires passes { All (IsPassOf cell) (map pass_in posts.items) }
+    ensures packets { packets.new.items ≡ map source_in posts.items ++ packets.old.items }
+    ensures wires { wires.new.items ≡ flat_map wires_in posts.items ++ wires.old.items }
+    ensures begins { All (λ p. Begins (seen p) (seen checker)) (map pass_in posts.items) }
+{
+    give_back(posts, packets, wires, &mut receivers);
+    cell.close(rt, UpPasses { checker, receivers });
+}
+
+/// Runs a proxy's checker, and its receivers over the first of the sources, each with its run of wires, until all have ended; then
+/// closes the cell. Sources and wires then stand where they stood. It takes no memory but what the rings' caches ask for.
+pub fn relay<
+    D: Datagrams + Send + Drop,
+    L: Wire + Send + Drop,
+    P: Beat + Send,
+    Q: Probe + Send,
+    G: Gate + Sync,
+    R: Threads + Wait + Sync,
+>(
+    rt: &R,
+    room: RelayRoom<D, L>,
+    nodes: &[Node],
+    packets: &mut Vec<D>,
+    wires: &mut Vec<L>,
+    beat: &mut P,
+    probe: &mut Q,
+    gate: &G,
+) -> Relayed
+    requires room { IsRoomFor (map node_view nodes.now) (receivers_in room) room }
+    requires packets { receivers_in room ≤ length packets.old.items }
+    requires wires { receivers_in room * length nodes.now ≤ length wires.old.items }
+    ensures { HasRelayed (map node_view nodes.now) (receivers_in room) (map D.seen packets.old.items) (map D.seen packets.new.items) (map L.seen wires.old.items) (map L.seen wires.new.items)
+        (P.seen beat.old) (P.seen beat.new) (Q.seen probe.old) (Q.seen probe.new) result }
+{
+    let RelayRoom {
+        cell,
+        passes,
+        rooms,
+        mut posts,
+        ends,
+    } = room;
+    let UpPasses {
+        mut checker,
+        mut receivers,
+    } = passes;
+    gather(packets, wires, nodes, &mut receivers, rooms, &mut posts);
+    let live = Live { cell: &cell, gate };
+    let checked = run_relays(
+        rt,
+        &live,
+        &mut checker,
+        nodes,
+        beat,
+        probe,
+        posts.as_mut_slice(),
+    );
+    let received = ends_in(&posts, ends);
+    let sums = add_up(&posts);
+    close(rt, cell, checker, receivers, posts, packets, wires);
+    Relayed {
+        received,
+        checked,
+        sums,
+    }
+}

@@ -1,0 +1,50 @@
+ghost use Rattle.std.specs.Prelude.{◌<◌, ◌≤◌, IfOk, length, map};
+ghost use Rattle.sd_plan.specs.Entries.{node_view};
+
+use crate::parts::{PostRoom, open_rooms};
+use crate::post::Post;
+use sd_outside::Ended;
+use sd_plan::Node;
+use sd_proxy::{UpCell, UpPasses};
+use std::alloc::{AllocError, Global};
+
+/// All that a proxy works on, in room that is taken before its workers start. Nothing was done yet.
+#[derive(Drop)]
+pub struct RelayRoom<D, L> {
+    pub(crate) cell: UpCell,
+    pub(crate) passes: UpPasses,
+    pub(crate) rooms: Vec<PostRoom<L>>,
+    pub(crate) posts: Vec<Post<D, L>>,
+    pub(crate) ends: Vec<Ended>,
+}
+
+impl<D: Drop, L: Drop> RelayRoom<D, L> {
+    ghost use Rattle.sd_relay.specs.Room.{IsRoomFor};
+
+    /// Takes the room of a proxy of these nodes with so many receivers, each with a ring that remembers so many keys.
+    ///
+    /// # Errors
+    ///
+    /// Where no memory is left for it.
+    pub fn open(
+        alloc: Global,
+        nodes: &[Node],
+        receivers: u16,
+        cache: u32,
+    ) -> Result<RelayRoom<D, L>, AllocError>
+        requires nodes { (0 < length nodes.now) × (length nodes.now ≤ 64) }
+        requires receivers { 0 < receivers }
+        requires cache { 0 < cache }
+        ensures { IfOk result (IsRoomFor (map node_view nodes.now) receivers) }
+    {
+        let count = usize::from(receivers);
+        let (cell, passes) = UpCell::open(alloc, nodes.len() as u8, receivers)?;
+        Ok(RelayRoom {
+            cell,
+            passes,
+            rooms: open_rooms(alloc, nodes, count, cache)?,
+            posts: Vec::with_capacity(alloc, count)?,
+            ends: Vec::with_capacity(alloc, count)?,
+        })
+    }
+}
