@@ -1,5 +1,6 @@
 //! Shards and a desk with their callers, and two backends.
 ghost use Rattle.std.specs.Prelude.{◌≤◌, IfOk};
+ghost use Rattle.sd_epoch.specs.Limits.{AreLimits, limits_of};
 ghost use Rattle.sd_cases_flush.specs.Bench.{IsReady};
 
 use sd_case::Refusal;
@@ -12,12 +13,6 @@ use sd_shard::Policy;
 use sd_shared_desk::{DeskSeat, SharedDesk};
 use sd_spares::Spares;
 use std::alloc::Global;
-
-// What each shard has room for.
-const LIMITS: Limits = Limits {
-    rows: 8,
-    entries: 16,
-};
 
 // No kind is deleted when idle.
 const POLICY: Policy = Policy {
@@ -51,12 +46,13 @@ pub struct Bench {
     pub backs: Backs<MemBackend>,
 }
 
-/// A bench with so many shards, whose backends are used.
-pub fn open(alloc: Global, shards: u16) -> Result<Bench, Refusal>
-    requires { (1 ≤ shards) × (shards ≤ 16) }
+/// A bench with so many shards with these limits, whose backends are used.
+pub fn open(alloc: Global, shards: u16, limits: Limits) -> Result<Bench, Refusal>
+    requires shards { (1 ≤ shards) × (shards ≤ 16) }
+    requires limits { AreLimits (limits_of limits) }
     ensures { IfOk result IsReady }
 {
-    let (pool, seats) = Pool::open(alloc, LIMITS, POLICY, shards, 1)?;
+    let (pool, seats) = Pool::open(alloc, limits, POLICY, shards, 1)?;
     let Seats {
         mut receivers,
         flusher,
@@ -82,8 +78,8 @@ pub fn open(alloc: Global, shards: u16) -> Result<Bench, Refusal>
         adder,
         own,
         watcher,
-        tables: Tables::open(alloc, LIMITS, shards)?,
-        spares: Spares::open(alloc, shards, LIMITS)?,
+        tables: Tables::open(alloc, limits, shards)?,
+        spares: Spares::open(alloc, shards, limits)?,
         plan: Reckoning::plain(),
         names: Names::plain(),
         backs: Backs {

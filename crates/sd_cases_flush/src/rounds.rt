@@ -38,8 +38,8 @@ pub fn make_round<R: Wait>(rt: &R, bench: &mut Bench, ts: u64, out: &mut Answer)
     show_since(before, &bench.backs, out);
 }
 
-// A beat that a text writes as `TICK+TICK..`, or `none`, of which a call is to fail.
-fn beat_of(alloc: Global, text: &str, failing: u64) -> Result<MemBeat, Refusal>
+/// A beat that a text writes as `TICK+TICK..`, or `none`, of which a call is to fail.
+pub fn beat_of(alloc: Global, text: &str, failing: u64) -> Result<MemBeat, Refusal>
     ensures { IfOk result (λ beat. (⟦<MemBeat as Faulty>⟧.seen beat).turns ≡ 0) }
 {
     let mut ticks = Vec::new(alloc);

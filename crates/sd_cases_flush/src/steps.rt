@@ -1,13 +1,17 @@
 //! Steps on a bench.
+ghost use Rattle.sd_epoch.specs.Limits.{AreLimits, limits_of};
 ghost use Rattle.sd_pool.specs.Pool.{IsSeatOf};
 ghost use Rattle.sd_cases_flush.specs.Bench.{IsReady};
 
 use crate::bench::{Bench, open};
+use crate::datagrams::receive_lines;
 use crate::gated::pass_gate;
+use crate::outlets::{Deed, use_outlets};
 use crate::rounds::{flush, make_round};
 use crate::turns::swap_all;
 use sd_case::{Answer, Refusal, number};
 use sd_desk::Tally;
+use sd_epoch::Limits;
 use sd_line::Lines;
 use sd_outside::MemBackend;
 use sd_pool::{Pool, Seat};
@@ -101,6 +105,10 @@ fn step<R: Wait>(
         ("round", ts) => make_round(rt, bench, number::<u64>(ts)?, out),
         ("gated", text) => pass_gate(rt, bench, tally_from(text)?, out),
         ("flush", text) => flush(rt, alloc, bench, text, out)?,
+        ("offer", text) => use_outlets(rt, alloc, bench, Deed::Offer, text, out)?,
+        ("out", text) => use_outlets(rt, alloc, bench, Deed::Write, text, out)?,
+        ("flush_out", text) => use_outlets(rt, alloc, bench, Deed::Flush, text, out)?,
+        ("lines", count) => receive_lines(rt, alloc, bench, number::<u16>(count)?, out)?,
         ("turn", _) => swap_all(rt, &bench.pool, &mut bench.flusher, &mut bench.spares, out),
         ("desk", _) => show_desk(rt, bench, out),
         _ => submit(rt, &bench.pool, &mut bench.receiver, word, out)?,
@@ -108,19 +116,22 @@ fn step<R: Wait>(
     Ok(())
 }
 
-/// `rounds SHARDS STEP..`: steps on a bench with so many shards.
+/// `SHARDS STEP..`: steps on a bench with so many shards with these limits.
 pub fn steps_on_bench<R: Wait>(
     rt: &R,
     alloc: Global,
+    limits: Limits,
     shards: &str,
     steps: &[&str],
     out: &mut Answer,
-) -> Result<(), Refusal> {
+) -> Result<(), Refusal>
+    requires { AreLimits (limits_of limits) }
+{
     let shards = number::<u16>(shards)?;
     if shards == 0 || shards > 16 {
         return Err(Refusal::Condition);
     }
-    let mut bench = open(alloc, shards)?;
+    let mut bench = open(alloc, shards, limits)?;
     for word in steps {
         out.step(word);
         step(rt, alloc, &mut bench, word, out)?;

@@ -3,6 +3,7 @@ use Rattle.std.specs.Prelude.{IfSome}
 use Rattle.std.specs.List.{AllByRecursion}
 use Rattle.std.proofs.lemmas.List.Elements.{All-pop}
 use Rattle.sd_model_shard.specs.Shard.{Limits}
+use Rattle.sd_epoch.specs.Limits.{limits_of}
 use Rattle.sd_shared_desk.specs.Shared.{IsNewSeatOf as IsNewDeskSeatOf}
 use Rattle.sd_pool.specs.Pool.{IsSeatOf, seats_in, shards_of}
 use Rattle.sd_pool.proofs.AlongLemmas.{AllByRecursion-front, AllByRecursion-back}
@@ -30,7 +31,7 @@ returns c =
       adder_is = (subst (λ (o : _). IfSome o Own) c.in-Some-pop-2.is next.1).own;
       watcher_is = λ x is. (subst (λ (o : _). IfSome o Own) is top.1).own;
       tables_are = subst (λ (l : Limits). AreTablesFor l (shards_of pool) c.in_ok-open.field-0) (sym c.in_ok-pool.ensures.limits)
-          (subst (λ (n : ℕ). AreTablesFor (record { rows = 8; entries = 16 }) n c.in_ok-open.field-0) (sym c.in_ok-pool.ensures.shards) c.in_ok-open.ensures);
+          (subst (λ (n : ℕ). AreTablesFor (limits_of c.args.limits) n c.in_ok-open.field-0) (sym c.in_ok-pool.ensures.shards) c.in_ok-open.ensures);
       spares_are = record {
         limits_are = c.in_ok-open-2.ensures.limits ∙ sym c.in_ok-pool.ensures.limits;
         room_is = c.in_ok-open-2.ensures.room ∙ sym c.in_ok-pool.ensures.shards;
