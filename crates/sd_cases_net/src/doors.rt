@@ -3,7 +3,7 @@ ghost use Rattle.std.specs.Prelude.{◌≡◌, ◌≤◌, false, length};
 use crate::clients::{client_of, show_next};
 use crate::common::{here, room, step, stuck};
 use sd_case::Answer;
-use sd_net::{Stop, TcpDoor};
+use sd_net::{DoorSizes, LongLines, Stop, TcpDoor};
 use sd_outside::{Address, Door, Entry, Faulty, Name, OpenRefusal, Opens, read_full, write_all};
 use std::io::{self, Write};
 use std::thread::sleep;
@@ -12,11 +12,21 @@ use std::time::Duration;
 /// How many bytes of a client a door has room for.
 const ROOM: usize = 1_024;
 
+/// A door for 64 clients that gives long lines in pieces.
+pub(crate) const SIZES: DoorSizes = DoorSizes {
+    clients: 64,
+    line: ROOM,
+    long_lines: LongLines::Split,
+};
+
+/// What sessions are told.
+const YES: &[u8] = b"yes\n";
+
 /// How often a door is asked before it is taken for one that has no session.
 const MOST_TURNS: u32 = 500;
 
 /// Opens a door, and answers how that ended.
-fn open<'a>(door: &mut TcpDoor<'a, HostRuntime>, at: &Address) -> &'static str
+pub(crate) fn open<'a>(door: &mut TcpDoor<'a, HostRuntime>, at: &Address) -> &'static str
     requires { (⟦<TcpDoor<'a, HostRuntime> as Faulty>⟧.seen door.old).is_out ≡ false }
     ensures { (⟦<TcpDoor<'a, HostRuntime> as Faulty>⟧.seen door.new).is_out ≡ false }
 {
@@ -35,8 +45,13 @@ enum Asked {
     Failed,
 }
 
-/// Asks a door once. Of a session as many bytes are read as the buffer has room for, and it is told `yes`.
-fn ask<'a>(door: &mut TcpDoor<'a, HostRuntime>, buf: &mut [u8], out: &mut Answer) -> Asked
+/// Asks a door once. Of a session as many bytes are read as the buffer has room for, and it is told something.
+fn ask<'a>(
+    door: &mut TcpDoor<'a, HostRuntime>,
+    buf: &mut [u8],
+    told: &[u8],
+    out: &mut Answer,
+) -> Asked
     requires { (⟦<TcpDoor<'a, HostRuntime> as Faulty>⟧.seen door.old).is_out ≡ false }
     ensures { (⟦<TcpDoor<'a, HostRuntime> as Faulty>⟧.seen door.new).is_out ≡ false }
 {
@@ -46,7 +61,7 @@ fn ask<'a>(door: &mut TcpDoor<'a, HostRuntime>, buf: &mut [u8], out: &mut Answer
                 Ok(len) => out.bytes(&buf[..len]),
                 Err(_) => out.text("failed"),
             }
-            if write_all(&mut telling, b"yes\n").is_err() {
+            if write_all(&mut telling, told).is_err() {
                 out.text(" cut off");
             }
             door.leave(asking, telling);
@@ -59,13 +74,18 @@ fn ask<'a>(door: &mut TcpDoor<'a, HostRuntime>, buf: &mut [u8], out: &mut Answer
 }
 
 /// Asks a door until it has a session, which is served, or ends.
-fn serve<'a>(door: &mut TcpDoor<'a, HostRuntime>, buf: &mut [u8], out: &mut Answer)
+pub(crate) fn serve<'a>(
+    door: &mut TcpDoor<'a, HostRuntime>,
+    buf: &mut [u8],
+    told: &[u8],
+    out: &mut Answer,
+)
     requires { (⟦<TcpDoor<'a, HostRuntime> as Faulty>⟧.seen door.old).is_out ≡ false }
     ensures { (⟦<TcpDoor<'a, HostRuntime> as Faulty>⟧.seen door.new).is_out ≡ false }
 {
     out.text(" ");
     for _ in 0..MOST_TURNS {
-        match ask(door, buf, out) {
+        match ask(door, buf, told, out) {
             Asked::Served => return,
             Asked::End => {
                 out.text("end");
@@ -82,11 +102,16 @@ fn serve<'a>(door: &mut TcpDoor<'a, HostRuntime>, buf: &mut [u8], out: &mut Answ
 }
 
 /// Asks a door once, where it is to have no session.
-fn rest<'a>(door: &mut TcpDoor<'a, HostRuntime>, buf: &mut [u8], out: &mut Answer)
+pub(crate) fn rest<'a>(
+    door: &mut TcpDoor<'a, HostRuntime>,
+    buf: &mut [u8],
+    told: &[u8],
+    out: &mut Answer,
+)
     requires { (⟦<TcpDoor<'a, HostRuntime> as Faulty>⟧.seen door.old).is_out ≡ false }
     ensures { (⟦<TcpDoor<'a, HostRuntime> as Faulty>⟧.seen door.new).is_out ≡ false }
 {
-    match ask(door, buf, out) {
+    match ask(door, buf, told, out) {
         Asked::Served => out.text(" served"),
         Asked::End => out.text(" end"),
         Asked::Idle => out.text(" nothing"),
@@ -97,15 +122,15 @@ fn rest<'a>(door: &mut TcpDoor<'a, HostRuntime>, buf: &mut [u8], out: &mut Answe
 /// Clients of a door, one that says nothing among them.
 pub(crate) fn run(rt: &HostRuntime, out: &mut Answer) -> io::Result<()> {
     let stop = Stop::new(None);
-    let mut door = TcpDoor::new(rt, rt.alloc(), &stop, ROOM);
+    let mut door = TcpDoor::new(rt, rt.alloc(), &stop, SIZES);
     let mut buf = room(rt.alloc(), 2 * ROOM)?;
     out.text("\ndoors");
     step(out, "one that isn't open");
-    rest(&mut door, buf.as_mut_slice(), out);
+    rest(&mut door, buf.as_mut_slice(), YES, out);
     step(out, "a file, this machine, and then nobody");
     out.text(open(&mut door, &Address::File(Name::new())));
     out.text(open(&mut door, &here(0)));
-    rest(&mut door, buf.as_mut_slice(), out);
+    rest(&mut door, buf.as_mut_slice(), YES, out);
     let port = door.port().ok_or_else(stuck)?;
     visits(rt, &mut door, port, buf.as_mut_slice(), out)?;
     crowd(rt, &mut door, port, buf.as_mut_slice(), out)?;
@@ -119,11 +144,11 @@ pub(crate) fn run(rt: &HostRuntime, out: &mut Answer) -> io::Result<()> {
     second.write_all(b"hea")?;
     sleep(rt, Duration::from_millis(50));
     stop.set();
-    serve(&mut door, buf.as_mut_slice(), out);
+    serve(&mut door, buf.as_mut_slice(), YES, out);
     show_next(&mut first, buf.as_mut_slice(), out);
     first.write_all(b"lth\n")?;
-    serve(&mut door, buf.as_mut_slice(), out);
-    rest(&mut door, buf.as_mut_slice(), out);
+    serve(&mut door, buf.as_mut_slice(), YES, out);
+    rest(&mut door, buf.as_mut_slice(), YES, out);
     out.count("; faults ", door.faults());
     Ok(())
 }
@@ -148,24 +173,24 @@ fn visits<'a>(
         "a line that is cut in two by a pause, with the start of another behind it",
     );
     first.write_all(b"sta")?;
-    rest(door, buf, out);
+    rest(door, buf, YES, out);
     first.write_all(b"ts\nqu")?;
-    serve(door, buf, out);
+    serve(door, buf, YES, out);
     show_next(&mut first, buf, out);
     step(
         out,
         "the rest of that line, and one more, of which the session reads the first",
     );
     first.write_all(b"it\nstats\n")?;
-    serve(door, &mut buf[..5], out);
+    serve(door, &mut buf[..5], YES, out);
     show_next(&mut first, buf, out);
     show_next(&mut first, buf, out);
     step(out, "two lines of a client and one of another");
     let mut third = client_of(rt, port)?;
     second.write_all(b"a\nb\n")?;
     third.write_all(b"c\n")?;
-    serve(door, buf, out);
-    serve(door, buf, out);
+    serve(door, buf, YES, out);
+    serve(door, buf, YES, out);
     show_next(&mut second, buf, out);
     show_next(&mut third, buf, out);
     step(
@@ -176,14 +201,14 @@ fn visits<'a>(
     line.as_mut_slice().fill(b'x');
     third.write_all(line.as_slice())?;
     third.write_all(b"xxxxxxxxxx")?;
-    serve(door, line.as_mut_slice(), out);
+    serve(door, line.as_mut_slice(), YES, out);
     show_next(&mut third, buf, out);
     show_next(&mut third, buf, out);
     step(out, "a client that leaves behind a line");
     second.write_all(b"d\n")?;
     drop(second);
-    serve(door, buf, out);
-    rest(door, buf, out);
+    serve(door, buf, YES, out);
+    rest(door, buf, YES, out);
     Ok(())
 }
 
@@ -208,10 +233,10 @@ fn crowd<'a>(
     }
     let mut last = client_of(rt, port)?;
     last.write_all(b"last\n")?;
-    rest(door, buf, out);
-    rest(door, buf, out);
+    rest(door, buf, YES, out);
+    rest(door, buf, YES, out);
     silent.clear();
-    serve(door, buf, out);
+    serve(door, buf, YES, out);
     show_next(&mut last, buf, out);
     Ok(())
 }

@@ -6,8 +6,10 @@ mod clients;
 mod common;
 mod doors;
 mod links;
+mod probes;
 mod receivers;
 mod stalls;
+mod streams;
 
 use sd_case::Answer;
 use std::io;
@@ -17,7 +19,9 @@ fn main(rt: HostRuntime) -> io::Result<()> {
     receivers::run(&rt, &mut out)?;
     beats::run(&rt, &rt, &mut out)?;
     links::run(&rt, &mut out)?;
+    probes::run(&rt, &rt, &mut out)?;
     doors::run(&rt, &mut out)?;
+    streams::run(&rt, &mut out)?;
     stalls::run(&rt, &rt, &mut out)?;
     match out.finish() {
         Ok(text) => println!(rt; "{text}"),

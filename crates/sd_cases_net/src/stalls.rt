@@ -2,6 +2,7 @@ ghost use Rattle.std.specs.Prelude.{◌≡◌, false};
 
 use crate::clients::client_of;
 use crate::common::{here, room, socket_here, step, stuck};
+use crate::doors::SIZES;
 use sd_case::Answer;
 use sd_net::{GraphiteLink, Stop, TcpDoor};
 use sd_outside::{Backend, Door, Entry, Faulty, Opens, Sink};
@@ -62,7 +63,7 @@ fn flood<'a>(door: &mut TcpDoor<'a, HostRuntime>, piece: &[u8]) -> Option<bool>
 fn door_gives_up(rt: &HostRuntime) -> io::Result<bool> {
     let piece = room(rt.alloc(), PIECE)?;
     let stop = Stop::new(None);
-    let mut door = TcpDoor::new(rt, rt.alloc(), &stop, 1_024);
+    let mut door = TcpDoor::new(rt, rt.alloc(), &stop, SIZES);
     if door.open_at(&here(0)).is_err() {
         return Err(stuck());
     }

@@ -1,4 +1,6 @@
+use crate::door_sizes::DoorSizes;
 use crate::line_buffer::LineBuffer;
+use crate::look::Look;
 use std::alloc::{AllocError, Global};
 use std::io::{self, ErrorKind};
 use std::mem;
@@ -25,12 +27,11 @@ struct Place {
     client: Option<Client>,
 }
 
-/// A client whose turn it is: its place, what it has sent, and how much of that is whole lines.
+/// A client whose turn it is: its place, and what it has sent.
 #[derive(Drop)]
 pub(crate) struct Visit {
     pub place: usize,
     pub lines: LineBuffer,
-    pub ready: usize,
     pub client: Client,
 }
 
@@ -55,37 +56,63 @@ fn hang_up(client: Client, lines: &mut LineBuffer) {
     lines.clear();
 }
 
+/// The next connection that waits, if one does. It doesn't block.
+///
+/// # Errors
+///
+/// Those of the listener and of the connection.
+fn next_connection(listener: &TcpListener) -> io::Result<Option<TcpStream>> {
+    match listener.accept() {
+        Ok((stream, _)) => {
+            stream.set_nonblocking(true)?;
+            stream.set_nodelay(true)?;
+            Ok(Some(stream))
+        }
+        Err(e) if e.kind() == ErrorKind::WouldBlock => Ok(None),
+        Err(e) => Err(e),
+    }
+}
+
 impl Place {
-    /// Whether a client has sent whole lines, or as much as there is room for.
+    /// Whether a client has sent what a session has.
     fn is_ready(&self) -> bool {
-        self.client.is_some() && self.lines.ready() > 0
+        self.client.is_some() && self.lines.is_ready()
     }
 
-    /// Reads what its client has sent, unless that waits already. A client that has left, or said nothing for too long, is
-    /// let go.
-    ///
-    /// # Errors
-    ///
-    /// Where the connection failed. It is closed then.
-    fn listen(&mut self, now: Duration) -> io::Result<()> {
-        if self.lines.ready() > 0 {
-            return Ok(());
+    /// Takes a client, of whom nothing has come yet.
+    fn welcome(&mut self, stream: TcpStream, now: Duration) {
+        self.lines.clear();
+        self.client = Some(Client {
+            stream,
+            heard_at: now,
+        });
+    }
+
+    /// Reads what its client has sent, unless that waits already. A client that has left, whose connection failed, or who said
+    /// nothing for too long, is let go.
+    fn listen(&mut self, now: Duration) -> Look {
+        if self.lines.is_ready() {
+            return Look::NOTHING;
         }
         let Some(mut client) = self.client.take() else {
-            return Ok(());
+            return Look::NOTHING;
         };
         match self.lines.read_from(&mut client.stream) {
-            Ok(0) => return Ok(()),
-            Ok(_) => client.heard_at = now,
+            Ok(0) => Look::NEWS,
+            Ok(_) => {
+                client.heard_at = now;
+                self.client = Some(client);
+                Look::NEWS
+            }
             Err(e) if e.kind() == ErrorKind::WouldBlock || e.kind() == ErrorKind::Interrupted => {
                 if now.saturating_sub(client.heard_at) >= Duration::from_secs(SILENCE) {
-                    return Ok(());
+                    return Look::NEWS;
                 }
+                self.client = Some(client);
+                Look::NOTHING
             }
-            Err(e) => return Err(e),
+            Err(_) => Look::NEWS.and(Look::FAULT),
         }
-        self.client = Some(client);
-        Ok(())
     }
 }
 
@@ -98,65 +125,51 @@ impl Clients {
         }
     }
 
-    /// So many places, each with room for so many bytes.
+    /// Places for so many clients, each with its room.
     ///
     /// # Errors
     ///
     /// Where no memory is left for them.
-    pub(crate) fn open(alloc: Global, count: usize, room: usize) -> Result<Clients, AllocError> {
-        let mut places = Vec::with_capacity(alloc, count)?;
-        for _ in 0..count {
+    pub(crate) fn open(alloc: Global, sizes: DoorSizes) -> Result<Clients, AllocError> {
+        let mut places = Vec::with_capacity(alloc, sizes.clients)?;
+        for _ in 0..sizes.clients {
             places.push(Place {
-                lines: LineBuffer::open(alloc, room)?,
+                lines: LineBuffer::open(alloc, sizes.line, sizes.long_lines)?,
                 client: None,
             })?;
         }
         Ok(Clients { places, turn: 0 })
     }
 
-    /// Takes the connections that wait, as long as a place is free.
-    ///
-    /// # Errors
-    ///
-    /// Those of the listener and of the connections.
-    pub(crate) fn accept(&mut self, listener: &TcpListener, now: Duration) -> io::Result<()> {
+    /// Takes the connections that wait, as long as a place is free and none fails.
+    pub(crate) fn accept(&mut self, listener: &TcpListener, now: Duration) -> Look {
+        let mut look = Look::NOTHING;
         for place in self.places.iter_mut() {
             if place.client.is_some() {
                 continue;
             }
-            match listener.accept() {
-                Ok((stream, _)) => {
-                    stream.set_nonblocking(true)?;
-                    stream.set_nodelay(true)?;
-                    place.lines.clear();
-                    place.client = Some(Client {
-                        stream,
-                        heard_at: now,
-                    });
+            match next_connection(listener) {
+                Ok(Some(stream)) => {
+                    place.welcome(stream, now);
+                    look = Look::NEWS;
                 }
-                Err(e) if e.kind() == ErrorKind::WouldBlock => return Ok(()),
-                Err(e) => return Err(e),
+                Ok(None) => break,
+                Err(_) => return look.and(Look::FAULT),
             }
         }
-        Ok(())
+        look
     }
 
     /// Reads what all clients have sent.
-    ///
-    /// # Errors
-    ///
-    /// Where a connection failed, once all were read.
-    pub(crate) fn listen(&mut self, now: Duration) -> io::Result<()> {
-        let mut heard = Ok(());
+    pub(crate) fn listen(&mut self, now: Duration) -> Look {
+        let mut look = Look::NOTHING;
         for place in self.places.iter_mut() {
-            if let Err(e) = place.listen(now) {
-                heard = Err(e);
-            }
+            look = look.and(place.listen(now));
         }
-        heard
+        look
     }
 
-    /// The first place from this one on whose client has sent whole lines.
+    /// The first place from this one on whose client has sent what a session has.
     fn ready_from(&self, first: usize) -> Option<usize> {
         for (number, place) in self.places.iter().enumerate() {
             if number >= first && place.is_ready() {
@@ -166,12 +179,12 @@ impl Clients {
         None
     }
 
-    /// Whether a client has sent whole lines.
+    /// Whether a client has sent what a session has.
     pub(crate) fn is_one_ready(&self) -> bool {
         self.ready_from(0).is_some()
     }
 
-    /// The next client that has sent whole lines, which leaves its place until it is given back. They come in turns.
+    /// The next client that has sent what a session has, which leaves its place until it is given back. They come in turns.
     pub(crate) fn next_visit(&mut self, alloc: Global) -> Option<Visit> {
         let number = match self.ready_from(self.turn) {
             Some(number) => number,
@@ -183,7 +196,6 @@ impl Clients {
         let lines = mem::replace(&mut place.lines, LineBuffer::none(alloc));
         Some(Visit {
             place: number,
-            ready: lines.ready(),
             lines,
             client,
         })

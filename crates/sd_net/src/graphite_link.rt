@@ -1,3 +1,4 @@
+use crate::connection::{connect, time_left};
 use crate::place::{host_of, refusal};
 use sd_outside::{
     Address, Backend, Failed, Faulty, OpenRefusal, Opens, Sink, fault, opening_fault,
@@ -55,26 +56,6 @@ impl<'a, R> GraphiteLink<'a, R> {
     }
 }
 
-/// A connection to the first address of a place that takes one, all of them within a time limit.
-fn connect<R: Net<Stream = TcpStream> + Clock>(
-    host: &R,
-    place: (&str, u16),
-    began: Duration,
-) -> io::Result<TcpStream> {
-    for addr in place.to_socket_addrs(host)? {
-        let left = Duration::from_secs(CONNECT_LIMIT).saturating_sub(
-            host.monotonic()?.saturating_sub(began),
-        );
-        if left.is_zero() {
-            break;
-        }
-        if let Ok(stream) = TcpStream::connect_timeout(host, &addr, left) {
-            return Ok(stream);
-        }
-    }
-    Err(io::Error::from(ErrorKind::NotConnected))
-}
-
 impl<'a, R: Net<Stream = TcpStream> + Clock> GraphiteLink<'a, R> {
     /// Connects for a round.
     fn begun(&self) -> io::Result<Round> {
@@ -82,17 +63,9 @@ impl<'a, R: Net<Stream = TcpStream> + Clock> GraphiteLink<'a, R> {
             return Err(io::Error::from(ErrorKind::InvalidInput));
         };
         let began = self.host.monotonic()?;
-        let stream = connect(self.host, place, began)?;
+        let stream = connect(self.host, place, began, CONNECT_LIMIT)?;
         stream.set_write_timeout(Some(Duration::from_secs(WRITE_LIMIT)))?;
         Ok(Round { stream, began })
-    }
-}
-
-/// Whether a round has taken too long.
-fn is_late(host: &impl Clock, began: Duration) -> bool {
-    match host.monotonic() {
-        Ok(now) => now.saturating_sub(began) >= Duration::from_secs(ROUND_LIMIT),
-        Err(_) => true,
     }
 }
 
@@ -128,7 +101,7 @@ impl<'a, R: Net<Stream = TcpStream> + Clock> Sink for GraphiteLink<'a, R> {
         let Some(mut round) = self.round.take() else {
             return Err(fault(&mut self.faults));
         };
-        if is_late(self.host, round.began) {
+        if time_left(self.host, round.began, ROUND_LIMIT).is_err() {
             return Err(fault(&mut self.faults));
         }
         match round.stream.write(bytes) {

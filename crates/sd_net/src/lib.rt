@@ -1,26 +1,33 @@
-//! The real objects of the server: receivers of datagrams, a beat, a clock, a link to Graphite and a door for clients over
-//! TCP. They tell nothing of their content.
+//! The real objects of the server: receivers of datagrams, a beat, a clock, a link to Graphite, a door for clients over
+//! TCP and a probe. They tell nothing of their content.
 #![tactic(auto)]
 
 mod clients;
+mod connection;
+mod door_sizes;
+mod draining;
 mod graphite_link;
 mod line_buffer;
+mod look;
 mod place;
 mod session_sink;
 mod session_source;
 mod stop;
 mod system_clock;
 mod tcp_door;
+mod tcp_probe;
 mod threads;
 mod tick_beat;
 mod turns;
 mod udp_receiver;
 
+pub use door_sizes::{DoorSizes, LongLines};
 pub use graphite_link::GraphiteLink;
 pub use session_sink::SessionSink;
 pub use session_source::SessionSource;
 pub use stop::Stop;
 pub use system_clock::SystemClock;
 pub use tcp_door::TcpDoor;
+pub use tcp_probe::TcpProbe;
 pub use tick_beat::TickBeat;
 pub use udp_receiver::UdpReceiver;

@@ -1,12 +1,12 @@
 use crate::line_buffer::LineBuffer;
 use sd_outside::{Address, Failed, Faulty, OpenRefusal, Opens, Source, opening_fault};
 
-/// What a client of a door asks in one session: the whole lines that it had sent. It doesn't tell what it has left.
+/// What a client of a door asks in one session: the whole lines that it had sent, or a piece of a line that is split. It
+/// doesn't tell what it has left.
 #[derive(Drop)]
 pub struct SessionSource {
     pub(crate) place: usize,
     pub(crate) lines: LineBuffer,
-    left: usize,
     pub(crate) is_read: bool,
     faults: u64,
 }
@@ -15,14 +15,13 @@ impl SessionSource {
     ghost use Rattle.std.specs.Prelude.{◌≡◌, ◌<◌, ◌↔◌, IsTrue};
     ghost use Rattle.sd_model_outside.specs.Outside.{Untold, fresh};
 
-    /// The first bytes, so many, of what the client at a place has sent.
-    pub(crate) fn new(place: usize, lines: LineBuffer, left: usize) -> SessionSource
+    /// What the client at a place has sent.
+    pub(crate) fn new(place: usize, lines: LineBuffer) -> SessionSource
         ensures { ⟦<SessionSource as Faulty>⟧.seen result ≡ fresh Untold }
     {
         SessionSource {
             place,
             lines,
-            left,
             is_read: false,
             faults: 0,
         }
@@ -55,9 +54,7 @@ impl Opens for SessionSource {
 
 impl Source for SessionSource {
     fn read(&mut self, buf: &mut [u8]) -> Result<usize, Failed> {
-        let most = self.left.min(buf.len());
-        let count = self.lines.take(&mut buf[..most]);
-        self.left = self.left.saturating_sub(count);
+        let count = self.lines.take(buf);
         self.is_read = count == 0;
         Ok(count)
     }

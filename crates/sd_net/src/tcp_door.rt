@@ -1,4 +1,7 @@
 use crate::clients::Clients;
+use crate::door_sizes::DoorSizes;
+use crate::draining::has_drained;
+use crate::look::Look;
 use crate::place::{host_of, refusal};
 use crate::session_sink::SessionSink;
 use crate::session_source::SessionSource;
@@ -6,29 +9,31 @@ use crate::stop::Stop;
 use crate::turns::take_turn;
 use sd_outside::{Address, Door, Entry, Faulty, OpenRefusal, Opens, fault, opening_fault};
 use std::alloc::Global;
-use std::io::{self, ErrorKind};
+use std::io;
 use std::net::{Net, TcpListener, TcpStream};
 use std::thread::sleep;
 use std::time::{Clock, Duration};
 
-/// How many connections a door holds at once.
-const MOST_CLIENTS: usize = 64;
-
 /// How long a nap is while no client has sent a line, in milliseconds.
 const NAP_MS: u64 = 20;
 
+/// How long a door looks on once it has seen that it is to stop, where something new comes at each look, in seconds.
+const DRAIN: u64 = 1;
+
 /// A door over TCP, which holds all open connections and gives as a session what one of them has sent up to and with its last
-/// newline, or as much as there is room for without one. A session that was read to its end leaves its connection open, any
-/// other closes it. A client that says nothing for an hour is let go. Once `stop` is set, the door gives the whole lines that
-/// it has, and then ends.
+/// newline. What becomes of a line that is too long, its sizes say. What a client has sent behind its last newline is lost
+/// where it leaves. A session that was read to its end leaves its connection open, any other closes it. A client that says
+/// nothing for an hour is let go. Once `stop` is set, the door looks on until a look brought nothing new, or for a second,
+/// gives the sessions that it has, and then ends.
 #[derive(Drop)]
 pub struct TcpDoor<'a, R> {
     host: &'a R,
     alloc: Global,
     stop: &'a Stop,
-    room: usize,
+    sizes: DoorSizes,
     listener: Option<TcpListener>,
     clients: Clients,
+    saw_stop: Option<Duration>,
     looked_last: bool,
     is_out: bool,
     opened_at: Option<Address>,
@@ -40,17 +45,18 @@ impl<'a, R> TcpDoor<'a, R> {
     ghost use Rattle.std.specs.Prelude.{◌≡◌};
     ghost use Rattle.sd_model_outside.specs.Outside.{Untold, fresh};
 
-    /// A door that is opened later, with room for so many bytes of each client. It is to stop once `stop` is set.
-    pub fn new(host: &'a R, alloc: Global, stop: &'a Stop, room: usize) -> TcpDoor<'a, R>
+    /// A door that is opened later, and takes its room then. It is to stop once `stop` is set.
+    pub fn new(host: &'a R, alloc: Global, stop: &'a Stop, sizes: DoorSizes) -> TcpDoor<'a, R>
         ensures { ⟦<TcpDoor<'a, R> as Faulty>⟧.seen result ≡ fresh Untold }
     {
         TcpDoor {
             host,
             alloc,
             stop,
-            room,
+            sizes,
             listener: None,
             clients: Clients::none(alloc),
+            saw_stop: None,
             looked_last: false,
             is_out: false,
             opened_at: None,
@@ -86,22 +92,16 @@ fn listener_at<R: Net<Listener = TcpListener, Stream = TcpStream>>(
 }
 
 /// Takes the connections that wait, and reads what all clients have sent.
-///
-/// # Errors
-///
-/// Those of the listener and of the connections.
-fn look(
-    host: &impl Clock,
-    listener: &Option<TcpListener>,
-    clients: &mut Clients,
-) -> io::Result<()> {
-    let Some(listener) = listener else {
-        return Err(io::Error::from(ErrorKind::NotConnected));
+fn look_at(host: &impl Clock, listener: &Option<TcpListener>, clients: &mut Clients) -> Look {
+    let (Some(listener), Ok(now)) = (listener, host.monotonic()) else {
+        return Look::FAULT;
     };
-    let now = host.monotonic()?;
     let accepted = clients.accept(listener, now);
-    clients.listen(now)?;
-    accepted
+    accepted.and(clients.listen(now))
+}
+
+fn nap(host: &impl Clock) {
+    sleep(host, Duration::from_millis(NAP_MS));
 }
 
 impl<'a, R> Faulty for TcpDoor<'a, R> {
@@ -128,7 +128,7 @@ impl<'a, R: Net<Listener = TcpListener, Stream = TcpStream> + Clock> Opens for T
         let Some(place) = host_of(at) else {
             return Err(opening_fault(&mut self.faults));
         };
-        let Ok(clients) = Clients::open(self.alloc, MOST_CLIENTS, self.room) else {
+        let Ok(clients) = Clients::open(self.alloc, self.sizes) else {
             return Err(OpenRefusal::OutOfMemory);
         };
         match listener_at(self.host, place) {
@@ -151,11 +151,13 @@ impl<'a, R: Net<Listener = TcpListener, Stream = TcpStream> + Clock> Door for Tc
     ghost use Rattle.std.proofs.Common.{arith};
 
     fn next_session(&mut self) -> Entry<SessionSource, SessionSink<'a, R>> {
-        let is_stopped = self.stop.is_set();
         if !self.looked_last && !self.clients.is_one_ready() {
-            self.looked_last = is_stopped;
-            if look(self.host, &self.listener, &mut self.clients).is_err() {
-                sleep(self.host, Duration::from_millis(NAP_MS));
+            let is_stopped = self.stop.is_set();
+            let is_over = has_drained(self.host, self.stop, &mut self.saw_stop, DRAIN);
+            let look = look_at(self.host, &self.listener, &mut self.clients);
+            self.looked_last = is_over || (is_stopped && !look.is_new);
+            if look.has_failed {
+                nap(self.host);
                 fault(&mut self.faults);
                 take_turn(&mut self.turns);
                 return Entry::Failed;
@@ -165,14 +167,16 @@ impl<'a, R: Net<Listener = TcpListener, Stream = TcpStream> + Clock> Door for Tc
             self.is_out = true;
             take_turn(&mut self.turns);
             return Entry::Session(
-                SessionSource::new(visit.place, visit.lines, visit.ready),
+                SessionSource::new(visit.place, visit.lines),
                 SessionSink::new(self.host, visit.client),
             );
         }
         if self.looked_last {
             return Entry::End;
         }
-        sleep(self.host, Duration::from_millis(NAP_MS));
+        if self.saw_stop.is_none() {
+            nap(self.host);
+        }
         take_turn(&mut self.turns);
         Entry::Idle
     }

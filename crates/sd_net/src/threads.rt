@@ -3,9 +3,10 @@
 use crate::graphite_link::GraphiteLink;
 use crate::system_clock::SystemClock;
 use crate::tcp_door::TcpDoor;
+use crate::tcp_probe::TcpProbe;
 use crate::tick_beat::TickBeat;
 use crate::udp_receiver::UdpReceiver;
-use sd_outside::{Backend, Beat, Clock, Datagrams, Door, Gate, NoGate};
+use sd_outside::{Backend, Beat, Clock, Datagrams, Door, Gate, NoGate, Probe};
 
 fn is_receiver<D: Datagrams + Send>(_receiver: &D) {}
 
@@ -14,6 +15,8 @@ fn is_beat<P: Beat + Send>(_beat: &P) {}
 fn is_backend<B: Backend + Send>(_backend: &B) {}
 
 fn is_door<E: Door<Asking: Send, Telling: Send> + Send>(_door: &E) {}
+
+fn is_probe<Q: Probe + Send>(_probe: &Q) {}
 
 fn is_gate<G: Gate + Sync>(_gate: &G) {}
 
@@ -25,6 +28,7 @@ pub(crate) fn are_for_workers(
     beat: &TickBeat<'_, HostRuntime>,
     link: &GraphiteLink<'_, HostRuntime>,
     door: &TcpDoor<'_, HostRuntime>,
+    probe: &TcpProbe<'_, HostRuntime>,
     gate: &NoGate,
     clock: &SystemClock<'_, HostRuntime>,
 ) {
@@ -32,6 +36,7 @@ pub(crate) fn are_for_workers(
     is_beat(beat);
     is_backend(link);
     is_door(door);
+    is_probe(probe);
     is_gate(gate);
     is_clock(clock);
 }

@@ -1,5 +1,6 @@
 ghost use Rattle.std.specs.Prelude.{◌≤◌, length, IfOk};
 
+use crate::draining::has_drained;
 use crate::place::{host_of, refusal};
 use crate::stop::Stop;
 use crate::turns::take_turn;
@@ -90,23 +91,6 @@ fn receive(socket: &UdpSocket, buf: &mut [u8], most: usize) -> io::Result<usize>
     socket.recv(&mut buf[..most])
 }
 
-/// Whether it is to stop, and has gone on long enough since it first saw that.
-fn has_drained(host: &impl Clock, stop: &Stop, saw_stop: &mut Option<Duration>) -> bool {
-    if !stop.is_set() {
-        return false;
-    }
-    let Ok(now) = host.monotonic() else {
-        return false;
-    };
-    match *saw_stop {
-        Some(since) => now.saturating_sub(since) >= Duration::from_secs(DRAIN),
-        None => {
-            *saw_stop = Some(now);
-            false
-        }
-    }
-}
-
 impl<'a, R> Faulty for UdpReceiver<'a, R> {
     ghost use Rattle.std.specs.Prelude.{min, false, None};
     ghost use Rattle.std.proofs.Common.{arith};
@@ -148,7 +132,7 @@ impl<'a, R: Net + Clock + Files> Datagrams for UdpReceiver<'a, R> {
         if self.turns % TURNS_TO_LOOK == 0 {
             self.stop.look(self.host);
         }
-        if has_drained(self.host, self.stop, &mut self.saw_stop) {
+        if has_drained(self.host, self.stop, &mut self.saw_stop, DRAIN) {
             return Next::End;
         }
         let Some(socket) = &self.socket else {
