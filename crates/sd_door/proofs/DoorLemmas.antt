@@ -3,7 +3,7 @@ use Rattle.std.proofs.Common.{◌≡◌, ℕ, ◌+◌, ◌⊎◌, inl, inr, List
 use Rattle.sd_model_outside.specs.Outside.{Told, Untold, Left, Number, Bytes, Buffer, Rounds, Packets, Datagrams, Ticks, Sessions, Replies, Session}
 use Rattle.sd_model_outside.specs.Turns.{with_sessions, with_back}
 use Rattle.sd_model_outside.proofs.TurnLemmas.{with_sessions-append, with_back-append}
-use Rattle.sd_model_record.specs.Counts.{Count, TotalPackets, TotalLines, TotalBad, TotalDropped, TakenPackets, TakenLines, TakenBad, TakenDropped, RoundsMade, GraphiteFaults, ConsoleFaults, RepeaterFaults, AdminFaults, Part, HasCounted, nothing, of_sessions}
+use Rattle.sd_model_record.specs.Counts.{Count, TotalPackets, TotalLines, TotalBad, TotalDropped, TakenPackets, TakenLines, TakenBad, TakenDropped, RoundsMade, GraphiteFaults, ConsoleFaults, RepeaterFaults, AdminFaults, Amounts, Part, HasCounted, nothing, of_sessions, plus}
 
 -- sessions were taken and given back so
 abbrev pub Serves : (taken back : List Session) → Told → Told → Type 0
@@ -70,16 +70,41 @@ zero_of c = elim (is_of_sessions c) [
   | inr none ↦ none 0
 ]
 
-pub none_counted : (old new : Part) → HasCounted nothing old new → HasCounted (of_sessions 0) old new
-none_counted old new h = record {
+-- amounts and no more, in other words
+pub plus-nothing : (a : Amounts) → a ≡ plus a nothing
+plus-nothing a i c = same c i where
+  same : (d : Count) → a d ≡ plus a nothing d
+  same d = omega arith
+
+pub plus-assoc : (a b c : Amounts) → plus (plus a b) c ≡ plus a (plus b c)
+plus-assoc a b c i d = same d i where
+  same : (e : Count) → plus (plus a b) c e ≡ plus a (plus b c) e
+  same e = omega arith
+
+pub nothing-plus : (a : Amounts) → a ≡ plus nothing a
+nothing-plus a i c = same c i where
+  same : (d : Count) → a d ≡ plus nothing a d
+  same d = omega arith
+
+-- nothing was counted, and then so much
+pub counted_behind : (a : Amounts) (old mid new : Part) → HasCounted nothing old mid → HasCounted a mid new → HasCounted a old new
+counted_behind a old mid new first second = record {
+  rises = λ c. omega (arith, first.rises c, second.rises c);
+  grows = λ c few. omega (arith, first.rises c, second.grows c few);
+  adds = λ c few. omega (arith, first.adds c (omega (arith, second.rises c, few)), second.adds c few);
+}
+
+-- amounts were counted without a fault
+pub none_counted : (a : Amounts) (old new : Part) → HasCounted a old new → HasCounted (plus a (of_sessions 0)) old new
+none_counted a old new h = record {
   rises = h.rises;
   grows = λ c few. omega (arith, zero_of c, h.grows c few);
   adds = λ c few. omega (arith, zero_of c, h.adds c few);
 }
 
-pub counted_more : (a b : ℕ) (old mid new : Part) → HasCounted (of_sessions a) old mid → HasCounted (of_sessions b) mid new → HasCounted (of_sessions (a + b)) old new
-counted_more a b old mid new first second = record {
+pub counted_more : (a b : Amounts) (m n : ℕ) (old mid new : Part) → HasCounted (plus a (of_sessions m)) old mid → HasCounted (plus b (of_sessions n)) mid new → HasCounted (plus (plus a b) (of_sessions (m + n))) old new
+counted_more a b m n old mid new first second = record {
   rises = λ c. omega (arith, first.rises c, second.rises c);
-  grows = λ c few. omega (arith, sums a b c, first.grows c (omega (arith, second.rises c, few)), second.grows c few);
-  adds = λ c few. omega (arith, sums a b c, first.adds c (omega (arith, second.rises c, few)), second.adds c few);
+  grows = λ c few. omega (arith, sums m n c, first.grows c (omega (arith, second.rises c, few)), second.grows c few);
+  adds = λ c few. omega (arith, sums m n c, first.adds c (omega (arith, second.rises c, few)), second.adds c few);
 }

@@ -5,10 +5,10 @@ use Rattle.std.proofs.lemmas.List.{map-append}
 use Rattle.std.proofs.lemmas.List.Sums.{sum_by-append, sum_by-cons}
 use Rattle.sd_model_outside.specs.Outside.{Object, Session, Told, HasFailed, Rose, RoseBy, raised}
 use Rattle.sd_model_outside.specs.Turns.{GivesSession, HasLeft, session_of, turned}
-use Rattle.sd_model_record.specs.Counts.{Part, HasCounted, nothing, of_sessions}
+use Rattle.sd_model_record.specs.Counts.{Amounts, Part, HasCounted, nothing, of_sessions, plus}
 use Rattle.sd_model_serve.specs.Doors.{Visit, IsFresh, IsFaultOf, faults_among}
 use Rattle.sd_door.specs.Keeping.{HasKept, Visited}
-use Rattle.sd_door.proofs.DoorLemmas.{Serves, Serves-none, Serves-next, Serves-one, none_counted, counted_more}
+use Rattle.sd_door.proofs.DoorLemmas.{Serves, Serves-none, Serves-next, Serves-one, counted_behind, counted_more, none_counted, nothing-plus, plus-assoc, plus-nothing}
 
 all-append : {X : Type 0} (P : X → Type 0) (xs ys : List X) → AllByRecursion P xs → AllByRecursion P ys → AllByRecursion P (xs ++ ys)
 all-append P [] ys a b = b
@@ -26,10 +26,12 @@ either_rose : (a b before now : ℕ) → (0 < a → Rose before now) → (0 < b 
 either_rose zero b before now first second some = second (omega (arith, some))
 either_rose (suc a) b before now first second some = first (omega arith)
 
-module _ {V : Type 0} (leads : V → V → Visit → Type 0) where
-  Visited-append : (xs ys : List Visit) (old mid new : V) → Visited leads xs old mid → Visited leads ys mid new → Visited leads (xs ++ ys) old new
-  Visited-append [] ys old mid new first second = subst (λ m. Visited leads ys m new) first second
-  Visited-append (x ∷ xs) ys old mid new first second = (first.0, first.1, Visited-append xs ys first.0 mid new first.2 second)
+module _ {V : Type 0} (leads : V → V → Visit → Amounts → Type 0) where
+  Visited-append : (xs ys : List Visit) (old mid new : V) (a b : Amounts) → Visited leads xs old mid a → Visited leads ys mid new b → Visited leads (xs ++ ys) old new (plus a b)
+  Visited-append [] ys old mid new a b first second =
+      subst (λ (m : V). Visited leads ys m new (plus a b)) first.0 (subst (λ (c : Amounts). Visited leads ys mid new c) (nothing-plus b ∙ ap (λ (c : Amounts). plus c b) (sym first.1)) second)
+  Visited-append (x ∷ xs) ys old mid new a b first second =
+      (first.0, first.1, plus first.2 b, first.3, Visited-append xs ys first.0 mid new first.2 b first.4 second, ap (λ (c : Amounts). plus c b) first.5 ∙ plus-assoc first.1 first.2 b)
 
   -- no session was visited
   pub HasKept-none : (old : V) (door door_now : Object) (part part_now : Part) → door.is_out ≡ false → door_now.told ≡ door.told → door_now.opened_at ≡ door.opened_at → door_now.is_out ≡ door.is_out → door_now.faults ≡ door.faults → HasCounted nothing part part_now
@@ -37,19 +39,18 @@ module _ {V : Type 0} (leads : V → V → Visit → Type 0) where
   HasKept-none old door door_now part part_now none told place out same counted = record {
     visits = [];
     failures = 0;
-    keeps = record {
-      served = record {
-        fresh = tt;
-        causes = tt;
-        sessions = subst (λ (t : Told). Serves [] [] door.told t) (sym told) (Serves-none door.told);
-        place = place;
-        none_out = out ∙ none;
-        rises = omega (arith, same);
-        faults = omega (arith, same);
-      };
-      counted = none_counted part part_now counted;
+    amounts = nothing;
+    served = record {
+      fresh = tt;
+      causes = tt;
+      sessions = subst (λ (t : Told). Serves [] [] door.told t) (sym told) (Serves-none door.told);
+      place = place;
+      none_out = out ∙ none;
+      rises = omega (arith, same);
+      faults = omega (arith, same);
     };
-    visited = refl;
+    counted = none_counted nothing part part_now counted;
+    visited = (refl, refl);
   }
 
   -- the door failed, and that was counted
@@ -57,40 +58,38 @@ module _ {V : Type 0} (leads : V → V → Visit → Type 0) where
   HasKept-failed old door door_now part part_now none failed counted = record {
     visits = [];
     failures = 1;
-    keeps = record {
-      served = record {
-        fresh = tt;
-        causes = tt;
-        sessions = subst (λ (t : Told). Serves [] [] door.told t) (sym (ap (λ (o : Object). o.told) failed.same)) (Serves-none door.told);
-        place = ap (λ (o : Object). o.opened_at) failed.same;
-        none_out = ap (λ (o : Object). o.is_out) failed.same ∙ none;
-        rises = failed.used.faults;
-        faults = failed.rose;
-      };
-      counted = counted;
+    amounts = nothing;
+    served = record {
+      fresh = tt;
+      causes = tt;
+      sessions = subst (λ (t : Told). Serves [] [] door.told t) (sym (ap (λ (o : Object). o.told) failed.same)) (Serves-none door.told);
+      place = ap (λ (o : Object). o.opened_at) failed.same;
+      none_out = ap (λ (o : Object). o.is_out) failed.same ∙ none;
+      rises = failed.used.faults;
+      faults = failed.rose;
     };
-    visited = refl;
+    counted = subst (λ (a : Amounts). HasCounted a part part_now) (nothing-plus (of_sessions 1)) counted;
+    visited = (refl, refl);
   }
 
   -- a session was visited, and given back
-  pub HasKept-one : (v : Visit) (old new : V) (door door_mid door_now : Object) (part part_now : Part) → GivesSession v.asking v.told door door_mid → HasLeft v.asking_now v.told_now door_mid door_now → leads old new v → IsFaultOf v
-      → HasCounted (of_sessions (fault_in v)) part part_now → HasKept leads old new door door_now part part_now
-  HasKept-one v old new door door_mid door_now part part_now gives left led cause counted = record {
+  pub HasKept-one : (v : Visit) (old new : V) (door door_mid door_now : Object) (part part_now : Part) (amounts : Amounts) → GivesSession v.asking v.told door door_mid → HasLeft v.asking_now v.told_now door_mid door_now → leads old new v amounts → IsFaultOf v
+      → HasCounted (plus amounts (of_sessions (fault_in v))) part part_now → HasKept leads old new door door_now part part_now
+  HasKept-one v old new door door_mid door_now part part_now amounts gives left led cause counted = record {
     visits = v ∷ [];
     failures = 0;
-    keeps = record {
-      served = record {
-        fresh = ((gives.asking_fresh, gives.answered_fresh), tt);
-        causes = (cause, tt);
-        sessions = Serves-one (session_of v.asking v.told) (session_of v.asking_now v.told_now) door.told door_mid.told door_now.told (ap (λ (o : Object). o.told) gives.given) (ap (λ (o : Object). o.told) left.given_back);
-        place = ap (λ (o : Object). o.opened_at) left.given_back ∙ sym (ap (λ (o : Object). o.opened_at) gives.given);
-        none_out = ap (λ (o : Object). o.is_out) left.given_back;
-        rises = omega (arith, same, left.rises);
-        faults = by_fault v.is_fault cause (one_fault v);
-      };
-      counted = subst (λ n. HasCounted (of_sessions n) part part_now) (let one = one_fault v in let none : fault_in v ≡ 0 + faults_among (v ∷ []) = omega (arith, one) in none) counted;
+    amounts = amounts;
+    served = record {
+      fresh = ((gives.asking_fresh, gives.answered_fresh), tt);
+      causes = (cause, tt);
+      sessions = Serves-one (session_of v.asking v.told) (session_of v.asking_now v.told_now) door.told door_mid.told door_now.told (ap (λ (o : Object). o.told) gives.given) (ap (λ (o : Object). o.told) left.given_back);
+      place = ap (λ (o : Object). o.opened_at) left.given_back ∙ sym (ap (λ (o : Object). o.opened_at) gives.given);
+      none_out = ap (λ (o : Object). o.is_out) left.given_back;
+      rises = omega (arith, same, left.rises);
+      faults = by_fault v.is_fault cause (one_fault v);
     };
-    visited = (new, led, refl);
+    counted = subst (λ n. HasCounted (plus amounts (of_sessions n)) part part_now) (let one = one_fault v in let none : fault_in v ≡ 0 + faults_among (v ∷ []) = omega (arith, one) in none) counted;
+    visited = (new, amounts, nothing, led, (refl, refl), plus-nothing amounts);
   } where
     same : door.faults ≡ door_mid.faults
     same = ap (λ (o : Object). o.faults) gives.given
@@ -103,22 +102,21 @@ module _ {V : Type 0} (leads : V → V → Visit → Type 0) where
   HasKept-next old mid new door door_mid door_now part part_mid part_now a b = record {
     visits = xs ++ ys;
     failures = a.failures + b.failures;
-    keeps = record {
-      served = record {
-        fresh = all-append IsFresh xs ys a.keeps.served.fresh b.keeps.served.fresh;
-        causes = all-append IsFaultOf xs ys a.keeps.served.causes b.keeps.served.causes;
-        sessions =
-            subst (λ (ss : List Session). Serves ss (map back (xs ++ ys)) door.told door_now.told) (sym (map-append taken xs ys))
-            (subst (λ (bs : List Session). Serves (map taken xs ++ map taken ys) bs door.told door_now.told) (sym (map-append back xs ys))
-            (Serves-next (map taken xs) (map back xs) (map taken ys) (map back ys) door.told door_mid.told door_now.told a.keeps.served.sessions b.keeps.served.sessions));
-        place = b.keeps.served.place ∙ a.keeps.served.place;
-        none_out = b.keeps.served.none_out;
-        rises = omega (arith, a.keeps.served.rises, b.keeps.served.rises);
-        faults = let first = a.keeps.served.faults in let second = b.keeps.served.faults in omega (arith, count, first, second);
-      };
-      counted = subst (λ n. HasCounted (of_sessions n) part part_now) (sym count) (counted_more _ _ part part_mid part_now a.keeps.counted b.keeps.counted);
+    amounts = plus a.amounts b.amounts;
+    served = record {
+      fresh = all-append IsFresh xs ys a.served.fresh b.served.fresh;
+      causes = all-append IsFaultOf xs ys a.served.causes b.served.causes;
+      sessions =
+          subst (λ (ss : List Session). Serves ss (map back (xs ++ ys)) door.told door_now.told) (sym (map-append taken xs ys))
+          (subst (λ (bs : List Session). Serves (map taken xs ++ map taken ys) bs door.told door_now.told) (sym (map-append back xs ys))
+          (Serves-next (map taken xs) (map back xs) (map taken ys) (map back ys) door.told door_mid.told door_now.told a.served.sessions b.served.sessions));
+      place = b.served.place ∙ a.served.place;
+      none_out = b.served.none_out;
+      rises = omega (arith, a.served.rises, b.served.rises);
+      faults = let first = a.served.faults in let second = b.served.faults in omega (arith, count, first, second);
     };
-    visited = Visited-append xs ys old mid new a.visited b.visited;
+    counted = subst (λ n. HasCounted (plus (plus a.amounts b.amounts) (of_sessions n)) part part_now) (sym count) (counted_more a.amounts b.amounts _ _ part part_mid part_now a.counted b.counted);
+    visited = Visited-append xs ys old mid new a.amounts b.amounts a.visited b.visited;
   } where
     xs : List Visit
     xs = a.visits
@@ -140,18 +138,11 @@ module _ {V : Type 0} (leads : V → V → Visit → Type 0) where
   HasKept-from old new door door_now {part_was} part part_now first h = record {
     visits = h.visits;
     failures = h.failures;
-    keeps = record {
-      served = h.keeps.served;
-      counted = subst (λ n. HasCounted (of_sessions n) part_was part_now) (let n = h.failures + faults_among h.visits in let none : 0 + n ≡ n = omega arith in none) (counted_more 0 (h.failures + faults_among h.visits) part_was part part_now (none_counted part_was part first) h.keeps.counted);
-    };
+    amounts = h.amounts;
+    served = h.served;
+    counted = counted_behind _ part_was part part_now first h.counted;
     visited = h.visited;
   }
-
--- what was counted in a visit and behind it
-pub after_visit : (n : ℕ) (old mid new : Part) → HasCounted nothing old mid → HasCounted (of_sessions n) mid new → HasCounted (of_sessions n) old new
-after_visit n old mid new first second =
-    let none : 0 + n ≡ n = omega arith in
-    subst (λ m. HasCounted (of_sessions m) old new) none (counted_more 0 n old mid new (none_counted old mid first) second)
 
 -- a turn of a door that had taken few
 pub one_turn : (old new first n : ℕ) → new ≡ raised old → old ≡ first + n → first < 2 ^ 62 → n < 2 ^ 62 → new ≡ first + (n + 1)

@@ -1,8 +1,8 @@
 ghost use Rattle.std.specs.Prelude.{◌≡◌, ◌+◌, ◌<◌, true};
-ghost use Rattle.sd_model_record.specs.Counts.{HasCounted, nothing};
+ghost use Rattle.sd_model_record.specs.Counts.{Amounts};
 ghost use Rattle.sd_model_serve.specs.Doors.{Visit};
 ghost use Rattle.sd_shared_desk.specs.Shared.{IsSeatOf, number_of_seat, part_of};
-ghost use Rattle.sd_door.specs.Keeping.{visit_of};
+ghost use Rattle.sd_door.specs.Keeping.{Counts, visit_of};
 
 use sd_outside::{Sink, Source};
 use sd_shared_desk::{DeskSeat, SharedDesk};
@@ -13,11 +13,11 @@ pub trait Visitor {
     /// It may visit a session.
     ghost can_visit: { Self → Type 0 };
 
-    /// By what it was and what it is, it has visited a session of which this is seen.
-    ghost has_visited: { Self → Self → Visit → Type 0 };
+    /// By what it was and what it is, it has visited a session of which this is seen, and counts so much for it at the desk.
+    ghost has_visited: { Self → Self → Visit → Amounts → Type 0 };
 
-    /// Visits a session by its two ends, and answers whether that is counted as a fault, which it is only where an end failed.
-    /// It may ask the desk, and counts nothing there by this seat.
+    /// Visits a session by its two ends, and answers whether that is a fault, which it is only where an end failed. A fault isn't
+    /// counted by the visitor.
     fn visit<A: Source, T: Sink, R: Wait>(
         &mut self,
         rt: &R,
@@ -30,7 +30,6 @@ pub trait Visitor {
         requires own { IsSeatOf desk.now own.old }
         ensures ready { can_visit self.new }
         ensures own { IsSeatOf desk.now own.new × (number_of_seat own.new ≡ number_of_seat own.old) }
-        ensures counted { HasCounted nothing (part_of own.old) (part_of own.new) }
-        ensures visited { has_visited self.old self.new (visit_of (A.seen asking.old) (A.seen asking.new) (T.seen telling.old) (T.seen telling.new) result) }
+        ensures visited { Counts (has_visited self.old self.new (visit_of (A.seen asking.old) (A.seen asking.new) (T.seen telling.old) (T.seen telling.new) result)) (part_of own.old) (part_of own.new) }
         ensures cause { result ≡ true → 0 < (A.seen asking.new).faults + (T.seen telling.new).faults };
 }

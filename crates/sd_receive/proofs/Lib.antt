@@ -1,3 +1,6 @@
 pub mod FiledLemmas
 pub mod CountedLemmas
 pub mod ReadLemmas
+pub mod LineLemmas
+pub mod StreamLemmas
+pub mod DoorLemmas

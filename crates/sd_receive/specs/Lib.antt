@@ -1,2 +1,4 @@
 pub mod Receiving
 pub mod Posts
+pub mod Streaming
+pub mod Lining

@@ -1,15 +1,24 @@
 //! Receivers: each takes datagrams of a source, repeats them on wires, submits their samples to a pool, and counts them at a
-//! desk.
+//! desk. Streams of lines are read, submitted and counted too.
 #![tactic(auto)]
 
+mod account;
+mod line_visitor;
+mod lines;
+mod lining;
 mod post;
 mod received;
 mod receiving;
 mod shared;
+mod streamed;
+mod streaming;
 mod submitting;
 mod turn;
 
+pub use lining::{Lined, linekeep};
 pub use post::Post;
 pub use received::Received;
 pub use receiving::receive;
 pub use shared::Shared;
+pub use streamed::{StreamEnd, Streamed};
+pub use streaming::stream;

@@ -20,8 +20,8 @@ const MOST_TURNS: u64 = 1 << 62;
 // Where counts stop.
 const LAST_COUNT: u64 = 1 << 63;
 
-// A count with more, up to its end.
-fn counted(n: u64, more: u64) -> u64
+/// A count with more, up to its end.
+pub(crate) fn counted(n: u64, more: u64) -> u64
     ensures { result ≡ counted_up n more }
 {
     n.saturating_add(more).min(LAST_COUNT)

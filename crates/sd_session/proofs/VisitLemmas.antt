@@ -1,6 +1,7 @@
 -- The visits of admin sessions, one after another.
-use Rattle.std.proofs.Common.{ℕ, List, [], ◌∷◌, ap, subst, sym, ◌∙◌}
+use Rattle.std.proofs.Common.{◌≡◌, ℕ, ◌+◌, List, [], ◌∷◌, ap, subst, sym, ◌∙◌, arith}
 use Rattle.sd_model_settings.specs.Settings as file
+use Rattle.sd_model_record.specs.Counts.{Amounts, Count, HasCounted, Part, nothing, plus}
 use Rattle.sd_model_serve.specs.Doors.{Visit}
 use Rattle.sd_model_serve.specs.Sessions.{Broadcasts, Dialogue, asked_in, lines_in}
 use Rattle.sd_pool.specs.Pool.{own_at, shards_of}
@@ -11,10 +12,17 @@ use Rattle.sd_session.specs.Visiting.{HasVisited, WorksOn}
 use Rattle.sd_session.specs.declared.visiting.AdminVisitor.{AdminVisitor}
 use Rattle.sd_session.proofs.CarryLemmas.{Broadcasts-none, Broadcasts-next}
 
+-- two that are nothing are nothing together
+none_and_none : (a b : Amounts) → a ≡ nothing → b ≡ nothing → plus a b ≡ nothing
+none_and_none a b first second = (λ i. plus (first i) (second i)) ∙ (λ i c. same c i) where
+  same : (c : Count) → plus nothing nothing c ≡ nothing c
+  same c = omega arith
+
 module _ {C : Type 0} (may_say : C → ℕ → Type 0) where
   -- all visits, and the sessions that they held
-  pub record HasVisitedAll (visits : List Visit) (old new : AdminVisitor C) : Type 0 where
+  pub record HasVisitedAll (visits : List Visit) (old new : AdminVisitor C) (amounts : Amounts) : Type 0 where
     pub works : WorksOn old new
+    pub none : amounts ≡ nothing
     pub dialogues : List Dialogue
     pub went : AreVisitsOf (shards_of old.pool.now) old.settings.now (may_say old.clock.now) visits dialogues
     pub asked : Broadcasts (shards_of old.pool.now) (asked_by dialogues) (own_at old.seat.now) (own_at new.seat.now)
@@ -28,8 +36,8 @@ module _ {C : Type 0} (may_say : C → ℕ → Type 0) where
     space = b.space ∙ a.space;
   }
 
-  pub visited_all : (visits : List Visit) (old new : AdminVisitor C) → Visited (HasVisited may_say) visits old new → HasVisitedAll visits old new
-  visited_all [] old new same = record {
+  pub visited_all : (visits : List Visit) (old new : AdminVisitor C) (amounts : Amounts) → Visited (HasVisited may_say) visits old new amounts → HasVisitedAll visits old new amounts
+  visited_all [] old new amounts h = let same = h.0 in record {
     works = record {
       pool = ap (λ (v : AdminVisitor C). v.pool.now) same;
       settings = ap (λ (v : AdminVisitor C). v.settings.now) same;
@@ -37,16 +45,18 @@ module _ {C : Type 0} (may_say : C → ℕ → Type 0) where
       seat = ap (λ (v : AdminVisitor C). v.seat.ghost_name) same;
       space = ap (λ (v : AdminVisitor C). v.space.ghost_name) same;
     };
+    none = h.1;
     dialogues = [];
     went = tt;
     asked = subst (λ (v : AdminVisitor C). Broadcasts (shards_of old.pool.now) [] (own_at old.seat.now) (own_at v.seat.now)) (sym same) (Broadcasts-none (shards_of old.pool.now) (own_at old.seat.now));
   }
-  visited_all (v ∷ visits) old new h =
+  visited_all (v ∷ visits) old new amounts h =
       let mid = h.0 in
-      let first = h.1 in
-      let rest = visited_all visits mid new h.2 in
+      let first = h.3 in
+      let rest = visited_all visits mid new h.2 h.4 in
       record {
         works = on_the_same old mid new first.works rest.works;
+        none = h.5 ∙ none_and_none h.1 h.2 first.none rest.none;
         dialogues = first.dialogue ∷ rest.dialogues;
         went = (
           first.went,
@@ -58,3 +68,10 @@ module _ {C : Type 0} (may_say : C → ℕ → Type 0) where
             Broadcasts-next (shards_of old.pool.now) (asked_in (lines_in first.dialogue)) (asked_by rest.dialogues) (own_at old.seat.now) (own_at mid.seat.now) (own_at new.seat.now) first.asked
             (subst (λ (p : Pool). Broadcasts (shards_of p) (asked_by rest.dialogues) (own_at mid.seat.now) (own_at new.seat.now)) first.works.pool rest.asked);
       }
+
+-- where the visits counted nothing, the faults alone were counted
+pub faults_alone : (amounts : Amounts) (faults : Amounts) (old new : Part) → amounts ≡ nothing → HasCounted (plus amounts faults) old new → HasCounted faults old new
+faults_alone amounts faults old new none h =
+    subst (λ (a : Amounts). HasCounted a old new) ((λ i. plus (none i) faults) ∙ (λ i c. same c i)) h where
+      same : (c : Count) → plus nothing faults c ≡ faults c
+      same c = omega arith

@@ -1,8 +1,9 @@
-use Rattle.std.proofs.Common.{ap, cond}
+use Rattle.std.proofs.Common.{Bool, cond, sym, ap, subst}
 use Rattle.sd_model_outside.specs.Outside.{Object}
-use Rattle.sd_model_record.proofs.CountLemmas.{counted_none}
+use Rattle.sd_model_record.specs.Counts.{Amounts, Part, HasCounted, of_sessions, plus}
+use Rattle.sd_model_record.proofs.CountLemmas.{counted_next, counted_none}
 use Rattle.sd_door.proofs.DoorLemmas.{none_counted}
-use Rattle.sd_door.proofs.KeepLemmas.{HasKept-none, HasKept-failed, HasKept-one, after_visit}
+use Rattle.sd_door.proofs.KeepLemmas.{HasKept-none, HasKept-failed, HasKept-one}
 use Rattle.sd_door.proofs.keeping.serve_next.Goals as goal
 
 pub returns-in-Idle-clause-kept : goal.returns-in-Idle-clause-kept
@@ -18,12 +19,18 @@ returns-in-End-clause-kept g c =
 pub returns-in-Failed-clause-kept : goal.returns-in-Failed-clause-kept
 returns-in-Failed-clause-kept g c = HasKept-failed g.V.Visitor.has_visited c.args.visitor.now _ _ _ _ c.requires.none_out c.in-Failed.ensures c.admin_fault-in-Failed.ensures.counted
 
+-- a visit that is a fault, or isn't
+abbrev fault_counted : Amounts → Part → Part → Bool → Type 0
+fault_counted amounts part part_now is_fault = HasCounted (plus amounts (of_sessions (cond is_fault 1 0))) part part_now
+
 pub returns-then-is_fault-clause-kept : goal.returns-then-is_fault-clause-kept
 returns-then-is_fault-clause-kept g c =
-    HasKept-one g.V.Visitor.has_visited _ c.args.visitor.now c.visit-is_fault.new.self _ _ _ _ _ c.in-Session.ensures c.leave.ensures c.visit-is_fault.ensures.visited c.visit-is_fault.ensures.cause
-    (after_visit (cond c.visit-is_fault.result 1 0) _ _ _ c.visit-is_fault.ensures.counted (rw c.if-is_fault.true c.admin_fault.ensures.counted))
+    let counts = c.visit-is_fault.ensures.visited in
+    HasKept-one g.V.Visitor.has_visited _ c.args.visitor.now c.visit-is_fault.new.self _ _ _ _ _ counts.amounts c.in-Session.ensures c.leave.ensures counts.holds c.visit-is_fault.ensures.cause
+    (subst (fault_counted counts.amounts _ _) (sym c.if-is_fault.true) (counted_next counts.amounts (of_sessions 1) _ _ _ counts.counted c.admin_fault.ensures.counted))
 
 pub returns-else-is_fault-clause-kept : goal.returns-else-is_fault-clause-kept
 returns-else-is_fault-clause-kept g c =
-    HasKept-one g.V.Visitor.has_visited _ c.args.visitor.now c.visit-is_fault.new.self _ _ _ _ _ c.in-Session.ensures c.leave.ensures c.visit-is_fault.ensures.visited c.visit-is_fault.ensures.cause
-    (rw c.if-is_fault.false (none_counted _ _ c.visit-is_fault.ensures.counted))
+    let counts = c.visit-is_fault.ensures.visited in
+    HasKept-one g.V.Visitor.has_visited _ c.args.visitor.now c.visit-is_fault.new.self _ _ _ _ _ counts.amounts c.in-Session.ensures c.leave.ensures counts.holds c.visit-is_fault.ensures.cause
+    (subst (fault_counted counts.amounts _ _) (sym c.if-is_fault.false) (none_counted counts.amounts _ _ counts.counted))

@@ -1,21 +1,21 @@
 use Rattle.sd_session.proofs.CommandLemmas.{visits_commands}
-use Rattle.sd_session.proofs.VisitLemmas.{visited_all}
+use Rattle.sd_session.proofs.VisitLemmas.{faults_alone, visited_all}
 use Rattle.sd_session.proofs.keeping.visit_all.Goals as goal
 
 pub returns-clause-works : goal.returns-clause-works
 returns-clause-works g c =
     let k = c.keep_door.ensures.kept in
-    (visited_all g.C.Clock.may_say k.visits c.args.visitor.now c.keep_door.new.visitor k.visited).works
+    (visited_all g.C.Clock.may_say k.visits c.args.visitor.now c.keep_door.new.visitor k.amounts k.visited).works
 
 pub returns-clause-serves : goal.returns-clause-serves
 returns-clause-serves g c =
     let k = c.keep_door.ensures.kept in
-    let all = visited_all g.C.Clock.may_say k.visits c.args.visitor.now c.keep_door.new.visitor k.visited in
+    let all = visited_all g.C.Clock.may_say k.visits c.args.visitor.now c.keep_door.new.visitor k.amounts k.visited in
     record {
       visits = k.visits;
       failures = k.failures;
       dialogues = all.dialogues;
-      keeps = k.keeps;
+      keeps = record { served = k.served; counted = faults_alone k.amounts _ _ _ all.none k.counted };
       went = all.went;
       asked = all.asked;
       commands = visits_commands _ _ _ k.visits all.dialogues all.went;

@@ -1,0 +1,11 @@
+-- A house of the cases.
+use Rattle.std.specs.Prelude.{◌≡◌, ◌<◌, vec_len}
+use Rattle.sd_pool.specs.Pool.{IsSeatOf, limits_of}
+use Rattle.sd_cases_stream.specs.declared.house.House.{House}
+
+-- its seats are those of its pool, and there is room to read into
+pub record IsReady (house : House) : Type 0 where
+  pub seat : IsSeatOf house.pool house.seat
+  pub flusher : IsSeatOf house.pool house.flusher
+  pub limits : limits_of house.pool ≡ record { rows = 8; entries = 8 }
+  pub room : 0 < vec_len house.buf

@@ -1,0 +1,165 @@
+//! A pool, a cutter, and room to read into.
+ghost use Rattle.std.specs.Prelude.{◌≡◌, ◌<◌, ◌^◌, false, IfOk};
+ghost use Rattle.sd_shared_desk.specs.Shared.{IsSeatOf as IsDeskSeatOf};
+
+use crate::plan::Plan;
+use sd_case::Refusal;
+use sd_desk::{Mark, RoundMarks};
+use sd_epoch::{Limits, Table};
+use sd_outside::{Door, MemClock, NoGate, Source};
+use sd_pool::{Pool, Seat, Seats};
+use sd_receive::{Lined, Streamed, linekeep, stream};
+use sd_shard::Policy;
+use sd_shared_desk::{DeskSeat, SharedDesk};
+use sd_tcp::Cutter;
+use std::alloc::Global;
+use std::sync::Wait;
+
+const LIMITS: Limits = Limits {
+    rows: 8,
+    entries: 8,
+};
+
+const KEEPS_ALL: Policy = Policy {
+    counters: false,
+    timers: false,
+    gauges: false,
+    sets: false,
+    max_ttl: 1,
+};
+
+/// A desk, and two seats of it.
+pub(crate) fn open_desk(alloc: Global) -> Result<(SharedDesk, DeskSeat, DeskSeat), Refusal>
+    ensures first { IfOk result (λ r. IsDeskSeatOf r.0 r.1) }
+    ensures second { IfOk result (λ r. IsDeskSeatOf r.0 r.2) }
+{
+    let (desk, mut seats) = SharedDesk::open(alloc, 0, 2)?;
+    let Some(own) = seats.pop() else {
+        return Err(Refusal::Condition);
+    };
+    let Some(other) = seats.pop() else {
+        return Err(Refusal::Condition);
+    };
+    Ok((desk, own, other))
+}
+
+/// Counts the flushes of a plan.
+pub(crate) fn mark_often<R: Wait>(rt: &R, desk: &SharedDesk, own: &mut DeskSeat, times: u16)
+    requires { IsDeskSeatOf desk.now own.old }
+    ensures { IsDeskSeatOf desk.now own.new }
+{
+    let marks = RoundMarks {
+        graphite: Mark::NotUsed,
+        console: Mark::NotUsed,
+    };
+    for _ in 0..times {
+        desk.mark(rt, marks, own);
+    }
+}
+
+/// What streams are read with.
+#[derive(Drop)]
+pub(crate) struct House {
+    pool: Pool,
+    seat: Seat,
+    flusher: Seat,
+    cutter: Cutter,
+    buf: Vec<u8>,
+}
+
+impl House {
+    ghost use Rattle.sd_cases_stream.specs.House.{IsReady};
+
+    /// The house of a plan.
+    pub fn open(alloc: Global, plan: &Plan) -> Result<House, Refusal>
+        ensures { IfOk result IsReady }
+    {
+        let (pool, seats) = Pool::open(alloc, LIMITS, KEEPS_ALL, plan.shards, 1)?;
+        let Seats {
+            mut receivers,
+            flusher,
+            admin: _admin,
+            room: _room,
+        } = seats;
+        let Some(seat) = receivers.pop() else {
+            return Err(Refusal::Condition);
+        };
+        Ok(House {
+            pool,
+            seat,
+            flusher,
+            cutter: Cutter::open(alloc)?,
+            buf: vec![in alloc; 0; plan.room]?,
+        })
+    }
+
+    /// Reads a stream.
+    pub fn read<A: Source, R: Wait>(
+        &mut self,
+        rt: &R,
+        desk: &SharedDesk,
+        own: &mut DeskSeat,
+        source: &mut A,
+    ) -> Streamed
+        requires ready { IsReady self.old }
+        requires own { IsDeskSeatOf desk.now own.old }
+        ensures ready { IsReady self.new }
+        ensures own { IsDeskSeatOf desk.now own.new }
+    {
+        stream(
+            rt,
+            &self.pool,
+            desk,
+            own,
+            &mut self.seat,
+            &mut self.cutter,
+            source,
+            &MemClock::of(1000),
+            &mut self.buf,
+        )
+    }
+
+    /// Reads the streams of a door.
+    pub fn keep<E: Door, R: Wait>(
+        &mut self,
+        rt: &R,
+        desk: &SharedDesk,
+        own: &mut DeskSeat,
+        door: &mut E,
+        flushes: u64,
+    ) -> Lined
+        requires ready { IsReady self.old }
+        requires own { IsDeskSeatOf desk.now own.old }
+        requires none_out { (E.seen door.old).is_out ≡ false }
+        requires turns { (E.seen door.old).turns < 2 ^ 62 }
+        ensures ready { IsReady self.new }
+        ensures own { IsDeskSeatOf desk.now own.new }
+    {
+        linekeep(
+            rt,
+            &self.pool,
+            desk,
+            own,
+            &mut self.seat,
+            &mut self.cutter,
+            door,
+            &MemClock::of(1000),
+            &NoGate,
+            &mut self.buf,
+            flushes,
+        )
+    }
+
+    /// The tables of all shards, which get empty ones for them.
+    pub fn tables<R: Wait>(&mut self, rt: &R, alloc: Global) -> Result<Vec<Table>, Refusal>
+        requires { IsReady self.old }
+    {
+        let (pool, flusher) = (&self.pool, &mut self.flusher);
+        let mut tables = Vec::new(alloc);
+        for i in 0..pool.shards() {
+            let spare = Table::open(alloc, LIMITS)?;
+            tables.push(pool.swap(rt, i, flusher, spare))?;
+        }
+        Ok(tables)
+    }
+}

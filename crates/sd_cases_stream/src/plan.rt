@@ -1,0 +1,96 @@
+//! What the words of a case say.
+ghost use Rattle.std.specs.Prelude.{◌<◌, ◌≤◌};
+
+use crate::pieces::Step;
+use sd_case::{Refusal, bytes_of, number};
+use std::alloc::Global;
+
+// How many shards there may be.
+const MOST_SHARDS: u16 = 16;
+
+/// What a case goes by: the shards, the desk's flushes, the room that is read into, and which calls of a door fail.
+#[derive(Drop)]
+pub(crate) struct Plan {
+    pub shards: u16,
+    /// How many flushes the desk has counted, and how many are enough for a door.
+    pub rounds: u16,
+    pub flushes: u64,
+    /// How many bytes a read is given room for.
+    pub room: usize,
+    /// The calls of a door that fail.
+    pub fail_next: Vec<u64>,
+    ghost some_shards: { 0 < shards },
+    ghost few_shards: { shards ≤ 16 },
+    ghost some_room: { 0 < room },
+}
+
+impl Plan {
+    /// One shard, no flush, and room for 100 bytes.
+    fn new(alloc: Global) -> Plan {
+        Plan {
+            shards: 1,
+            rounds: 0,
+            flushes: 0,
+            room: 100,
+            fail_next: Vec::new(alloc),
+        }
+    }
+
+    /// The plan that words write.
+    pub fn of(alloc: Global, words: &[&str]) -> Result<Plan, Refusal> {
+        let mut plan = Plan::new(alloc);
+        for word in words {
+            match word.split_once('=') {
+                Some((name, value)) => plan.set(name, value)?,
+                None if *word == "fail" => {}
+                None => return Err(Refusal::Malformed),
+            }
+        }
+        Ok(plan)
+    }
+
+    /// Sets what a word names, unless that is a read.
+    fn set(&mut self, name: &str, value: &str) -> Result<(), Refusal> {
+        match name {
+            "get" => {}
+            "shards" => self.set_shards(number(value)?)?,
+            "rounds" => self.rounds = number(value)?,
+            "flushes" => self.flushes = number(value)?,
+            "room" => self.set_room(number(value)?)?,
+            "fail_next" => self.fail_next.push(number(value)?)?,
+            _ => return Err(Refusal::Malformed),
+        }
+        Ok(())
+    }
+
+    /// Sets how many shards there are.
+    fn set_shards(&mut self, shards: u16) -> Result<(), Refusal> {
+        if shards == 0 || shards > MOST_SHARDS {
+            return Err(Refusal::Condition);
+        }
+        self.shards = shards;
+        Ok(())
+    }
+
+    /// Sets how many bytes a read is given room for.
+    fn set_room(&mut self, room: u32) -> Result<(), Refusal> {
+        if room == 0 {
+            return Err(Refusal::Condition);
+        }
+        self.room = room as usize;
+        Ok(())
+    }
+}
+
+/// What the reads of a stream answer, by the words of a case.
+pub(crate) fn steps_of(alloc: Global, words: &[&str]) -> Result<Vec<Step>, Refusal> {
+    let mut steps = Vec::new(alloc);
+    for word in words {
+        match word.split_once('=') {
+            Some(("get", piece)) => steps.push(Step::Bytes(bytes_of(alloc, piece)?))?,
+            Some(_) => {}
+            None => steps.push(Step::Failed)?,
+        }
+    }
+    Ok(steps)
+}

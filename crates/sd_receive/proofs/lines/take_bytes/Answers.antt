@@ -1,0 +1,36 @@
+use Rattle.std.proofs.Common.{◌≡◌, ℕ, eqb-true, length, List, [], ◌++◌, take, drop, refl, sym, ap, ◌∙◌, append-nil, append_assoc}
+use Rattle.std.proofs.lemmas.List.{nil_from_length, take-append-drop, take_rest}
+use Rattle.sd_receive.proofs.LineLemmas.{TakesBytes-none, TakesBytes-next, TakesBytes-whole}
+use Rattle.sd_receive.proofs.lines.take_bytes.Goals as goal
+
+pub loop-rest-init : goal.loop-rest-init
+loop-rest-init g c = record {
+  seat = c.requires.seat;
+  who = refl;
+  none_ready = c.requires.none_ready;
+  front = [];
+  cut = refl;
+  takes = rw (c.none-account.ensures.tally, c.none-account.ensures.taken) (TakesBytes-none _ _);
+}
+
+pub loop-rest-preserved : goal.loop-rest-preserved
+loop-rest-preserved g c =
+    let inv = c.loop-rest.invariant in
+    let line = c.take_line-taken.ensures in
+    let rest = c.loop-rest.rest.now in
+    let n = c.take_line-taken.result.len in
+    record {
+      seat = line.seat.0;
+      who = line.seat.1 ∙ inv.who;
+      none_ready = line.none_ready;
+      front = inv.front ++ take n rest;
+      cut = inv.cut ∙ ap (λ (bytes : List ℕ). inv.front ++ bytes) (sym (take-append-drop n rest)) ∙ sym (append_assoc inv.front (take n rest) (drop n rest)) ∙ ap (λ (bytes : List ℕ). (inv.front ++ take n rest) ++ bytes) (sym (take_rest rest n));
+      takes = rw (c.and-account.ensures.tally, c.and-account.ensures.taken) (TakesBytes-next _ _ _ _ _ _ _ _ _ _ _ _ inv.takes line.takes);
+    }
+
+pub returns-clause-takes : goal.returns-clause-takes
+returns-clause-takes g c =
+    let inv = c.loop-rest.invariant in
+    let rest = c.loop-rest.rest.now in
+    let none : rest ≡ [] = nil_from_length rest (eqb-true (length rest) 0 (sym c.is_empty.ensures ∙ c.loop-rest-test.false)) in
+    TakesBytes-whole _ _ _ _ _ _ _ _ (inv.cut ∙ ap (λ (bytes : List ℕ). inv.front ++ bytes) none ∙ append-nil inv.front) inv.takes

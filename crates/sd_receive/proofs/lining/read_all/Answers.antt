@@ -1,0 +1,31 @@
+use Rattle.std.proofs.Common.{◌≡◌, Bool, ◌||◌, sym, ap, subst, ◌∙◌}
+use Rattle.sd_model_stream.specs.Streams.{any_worn}
+use Rattle.sd_outside.specs.declared.door.DoorEnd.{DoorEnd}
+use Rattle.sd_shared_desk.specs.Shared.{part_of}
+use Rattle.sd_door.specs.Keeping.{EndsKeeping}
+use Rattle.sd_receive.proofs.DoorLemmas.{counted_whole, read_by}
+use Rattle.sd_receive.proofs.lining.read_all.Goals as goal
+
+pub returns-clause-works : goal.returns-clause-works
+returns-clause-works g c =
+    let k = c.keep_door-kept.ensures.kept in
+    (read_by k.visits c.args.visitor.now c.keep_door-kept.new.visitor k.amounts c.requires.new k.visited).works
+
+pub returns-clause-keeps : goal.returns-clause-keeps
+returns-clause-keeps g c =
+    let k = c.keep_door-kept.ensures.kept in
+    let all = read_by k.visits c.args.visitor.now c.keep_door-kept.new.visitor k.amounts c.requires.new k.visited in
+    let worn : c.keep_door-kept.new.visitor.is_worn ≡ any_worn all.streams = all.worn_is ∙ ap (λ (b : Bool). b || any_worn all.streams) c.requires.new.whole in
+    record {
+      streams = all.streams;
+      serves = record {
+        visits = k.visits;
+        failures = k.failures;
+        served = k.served;
+        went = all.went;
+        filed = all.filed;
+        counted = counted_whole k.amounts _ _ _ _ all.has k.counted;
+      };
+      worn = λ is. c.ended_by.ensures.worn (worn ∙ is);
+      ends = λ is. subst (λ (ended : DoorEnd). EndsKeeping c.args.run_flushes ended (g.E.Faulty.seen c.args.door.now) (g.E.Faulty.seen c.keep_door-kept.new.door) (part_of c.keep_door-kept.new.own)) (sym (c.ended_by.ensures.kept (worn ∙ is))) c.keep_door-kept.ensures.ends;
+    }

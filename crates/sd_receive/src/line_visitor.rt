@@ -1,0 +1,84 @@
+ghost use Rattle.std.specs.Prelude.{◌≡◌};
+ghost use Rattle.sd_model_stream.specs.Streams.{ends_by_failure, is_worn};
+ghost use Rattle.sd_receive.specs.Streaming.{end_of};
+
+use crate::account::Account;
+use crate::streamed::StreamEnd;
+use crate::streaming::stream;
+use sd_door::Visitor;
+use sd_outside::{Clock, Sink, Source};
+use sd_pool::{Pool, Seat};
+use sd_shared_desk::{DeskSeat, SharedDesk};
+use sd_tcp::Cutter;
+use std::sync::Wait;
+
+/// Reads the sessions of a door as streams. What is told is left as it is.
+#[derive(Drop)]
+pub(crate) struct LineVisitor<'p, 's, 'k, 'c, 'b, C> {
+    pub pool: &'p Pool,
+    pub seat: &'s mut Seat,
+    pub cutter: &'k mut Cutter,
+    pub clock: &'c C,
+    pub buf: &'b mut [u8],
+    /// What the streams so far came to.
+    pub account: Account,
+    /// Whether one of them was worn.
+    pub is_worn: bool,
+}
+
+/// Whether a stream ended since its source failed.
+fn is_failure(ended: StreamEnd) -> bool
+    ensures { result ≡ ends_by_failure (end_of ended) }
+{
+    match ended {
+        StreamEnd::Failed => true,
+        StreamEnd::End | StreamEnd::Worn { .. } => false,
+    }
+}
+
+/// Whether a stream was worn.
+fn is_worn_out(ended: StreamEnd) -> bool
+    ensures { result ≡ is_worn (end_of ended) }
+{
+    match ended {
+        StreamEnd::Worn { .. } => true,
+        StreamEnd::End | StreamEnd::Failed => false,
+    }
+}
+
+impl<C: Clock> Visitor for LineVisitor<'_, '_, '_, '_, '_, C> {
+    ghost use Rattle.sd_receive.specs.Lining.{CanVisit, HasVisited};
+
+    ghost can_visit = { CanVisit };
+
+    ghost has_visited = { HasVisited };
+
+    fn visit<A: Source, T: Sink, R: Wait>(
+        &mut self,
+        rt: &R,
+        desk: &SharedDesk,
+        own: &mut DeskSeat,
+        asking: &mut A,
+        telling: &mut T,
+    ) -> bool {
+        let _ = telling;
+        let streamed = stream(
+            rt,
+            self.pool,
+            desk,
+            own,
+            self.seat,
+            self.cutter,
+            asking,
+            self.clock,
+            self.buf,
+        );
+        self.account = self.account.and(Account {
+            tally: streamed.tally,
+            taken: streamed.taken,
+        });
+        let is_worn = is_worn_out(streamed.ended);
+        self.is_worn = self.is_worn || is_worn;
+        is_failure(streamed.ended)
+    }
+}

@@ -1,0 +1,106 @@
+ghost use Rattle.std.specs.Prelude.{◌≡◌, ◌<◌, ◌^◌, true, false, length};
+ghost use Rattle.sd_model_serve.specs.Ends.{most_turns};
+ghost use Rattle.sd_outside.specs.declared.door.DoorEnd.TheVariants.{Worn};
+ghost use Rattle.sd_pool.specs.Pool.{IsSeatOf, own_at, shards_of, who_is};
+ghost use Rattle.sd_shared_desk.specs.Shared.{IsSeatOf as IsDeskSeatOf, number_of_seat, part_of};
+ghost use Rattle.sd_receive.specs.Lining.{CanVisit, IsNew, KeepsLines, WorksOn};
+
+use crate::account::Account;
+use crate::line_visitor::LineVisitor;
+use sd_desk::Tally;
+use sd_door::keep_door;
+use sd_outside::{Clock, Door, DoorEnd, Gate};
+use sd_pool::{Pool, Seat};
+use sd_shared_desk::{DeskSeat, SharedDesk};
+use sd_tcp::Cutter;
+use std::sync::Wait;
+
+// The most reads of a stream.
+const MOST_READS: u64 = 1 << 62;
+
+/// What the reading of a door's streams did: how it ended, what their lines count for, and how many of their samples were taken.
+/// Each number stops at 2^63.
+#[derive(Clone, Copy, Debug, PartialEq, Eq)]
+pub struct Lined {
+    pub ended: DoorEnd,
+    pub tally: Tally,
+    pub taken: u64,
+}
+
+/// How the reading of a door's streams ended, by whether one was worn and by how the keeping of the door ended.
+fn ended_by(is_worn: bool, kept: DoorEnd) -> DoorEnd
+    ensures worn { is_worn ≡ true → result ≡ Worn most_turns }
+    ensures kept { is_worn ≡ false → result ≡ kept }
+{
+    if is_worn {
+        DoorEnd::Worn { turns: MOST_READS }
+    } else {
+        kept
+    }
+}
+
+/// Reads the streams of a door.
+fn read_all<E: Door, C: Clock, G: Gate, R: Wait>(
+    rt: &R,
+    desk: &SharedDesk,
+    own: &mut DeskSeat,
+    visitor: &mut LineVisitor<'_, '_, '_, '_, '_, C>,
+    door: &mut E,
+    gate: &G,
+    run_flushes: u64,
+) -> Lined
+    requires ready { CanVisit visitor.old }
+    requires new { IsNew visitor.old }
+    requires own { IsDeskSeatOf desk.now own.old }
+    requires none_out { (E.seen door.old).is_out ≡ false }
+    requires turns { (E.seen door.old).turns < 2 ^ 62 }
+    ensures ready { CanVisit visitor.new }
+    ensures works { WorksOn visitor.old visitor.new }
+    ensures own { IsDeskSeatOf desk.now own.new × (number_of_seat own.new ≡ number_of_seat own.old) }
+    ensures keeps { KeepsLines (shards_of visitor.old.pool.now) run_flushes (own_at visitor.old.seat.now) (own_at visitor.new.seat.now) (E.seen door.old) (E.seen door.new) (part_of own.old) (part_of own.new) result }
+{
+    let kept = keep_door(rt, desk, own, visitor, door, gate, run_flushes);
+    Lined {
+        ended: ended_by(visitor.is_worn, kept),
+        tally: visitor.account.tally,
+        taken: visitor.account.taken,
+    }
+}
+
+/// Reads the sessions of a door as streams, one after another, and gives each back, until the door has none left, so many flushes
+/// have come as are enough, where that isn't 0, or the door took 2^62 turns. A failure of the door and a stream that failed are
+/// counted at the desk, and the door is asked again. It takes no memory.
+pub fn linekeep<E: Door, C: Clock, G: Gate, R: Wait>(
+    rt: &R,
+    pool: &Pool,
+    desk: &SharedDesk,
+    own: &mut DeskSeat,
+    seat: &mut Seat,
+    cutter: &mut Cutter,
+    door: &mut E,
+    clock: &C,
+    gate: &G,
+    buf: &mut [u8],
+    run_flushes: u64,
+) -> Lined
+    requires own { IsDeskSeatOf desk.now own.old }
+    requires seat { IsSeatOf pool.now seat.old }
+    requires room { 0 < length buf.old }
+    requires none_out { (E.seen door.old).is_out ≡ false }
+    requires turns { (E.seen door.old).turns < 2 ^ 62 }
+    ensures own { IsDeskSeatOf desk.now own.new × (number_of_seat own.new ≡ number_of_seat own.old) }
+    ensures seat { IsSeatOf pool.now seat.new × (who_is seat.new ≡ who_is seat.old) }
+    ensures room { length buf.new ≡ length buf.old }
+    ensures keeps { KeepsLines (shards_of pool.now) run_flushes (own_at seat.old) (own_at seat.new) (E.seen door.old) (E.seen door.new) (part_of own.old) (part_of own.new) result }
+{
+    let mut visitor = LineVisitor {
+        pool,
+        seat,
+        cutter,
+        clock,
+        buf,
+        account: Account::none(),
+        is_worn: false,
+    };
+    read_all(rt, desk, own, &mut visitor, door, gate, run_flushes)
+}

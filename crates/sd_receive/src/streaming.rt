@@ -1,0 +1,87 @@
+ghost use Rattle.std.specs.Prelude.{◌≡◌, ◌<◌, false, length, IfErr, IfOk, OnErr};
+ghost use Rattle.sd_desk.specs.Tally.{tally_of};
+ghost use Rattle.sd_pool.specs.Pool.{IsSeatOf, own_at, shards_of, who_is};
+ghost use Rattle.sd_shared_desk.specs.Shared.{IsSeatOf as IsDeskSeatOf, number_of_seat, part_of};
+ghost use Rattle.sd_receive.specs.Streaming.{CannotRead, Streams, TakesRead};
+
+use crate::account::Account;
+use crate::lines::take_bytes;
+use crate::streamed::{StreamEnd, Streamed};
+use crate::submitting::Submitting;
+use sd_outside::{Clock, NoGate, Source};
+use sd_pool::{Pool, Seat};
+use sd_shared_desk::{DeskSeat, SharedDesk};
+use sd_tcp::Cutter;
+use std::sync::Wait;
+
+// The most reads of a stream.
+const MOST_READS: u64 = 1 << 62;
+
+/// Reads once. The lines that the bytes end are filed, and counted at the desk. Where no byte came, the stream has ended.
+fn take_read<A: Source, C: Clock, R: Wait>(
+    rt: &R,
+    pool: &Pool,
+    desk: &SharedDesk,
+    own: &mut DeskSeat,
+    seat: &mut Seat,
+    cutter: &mut Cutter,
+    source: &mut A,
+    clock: &C,
+    buf: &mut [u8],
+) -> Result<Account, StreamEnd>
+    requires own { IsDeskSeatOf desk.now own.old }
+    requires seat { IsSeatOf pool.now seat.old }
+    requires none_ready { cutter.old.is_ready ≡ false }
+    requires room { 0 < length buf.old }
+    ensures own { IsDeskSeatOf desk.now own.new × (number_of_seat own.new ≡ number_of_seat own.old) }
+    ensures seat { IsSeatOf pool.now seat.new × (who_is seat.new ≡ who_is seat.old) }
+    ensures none_ready { cutter.new.is_ready ≡ false }
+    ensures room { length buf.new ≡ length buf.old }
+    ensures takes { IfOk result (λ account. TakesRead (shards_of pool.now) (A.seen source.old) (A.seen source.new) cutter.old cutter.new (own_at seat.old) (own_at seat.new) (part_of own.old) (part_of own.new) (tally_of account.tally) account.taken) }
+    ensures ends { IfErr result (λ ended. CannotRead ended (A.seen source.old) (A.seen source.new)) }
+    ensures unchanged { OnErr result ((own.new ≡ own.old) × (seat.new ≡ seat.old)) }
+{
+    match source.read(buf) {
+        Ok(0) => Err(StreamEnd::End),
+        Ok(len) => {
+            let gate = &NoGate;
+            let group = Submitting { rt, pool, gate };
+            let account = take_bytes(&group, seat, cutter, &buf[..len]);
+            desk.add(rt, account.tally, clock.now(), own);
+            Ok(account)
+        }
+        Err(_) => Err(StreamEnd::Failed),
+    }
+}
+
+/// Reads a stream to its end, until it fails, or 2^62 reads were made. The good samples of its lines are submitted in order, and
+/// after each read what its lines count for is added at the desk. What follows the last newline is no line. It takes no memory.
+pub fn stream<A: Source, C: Clock, R: Wait>(
+    rt: &R,
+    pool: &Pool,
+    desk: &SharedDesk,
+    own: &mut DeskSeat,
+    seat: &mut Seat,
+    cutter: &mut Cutter,
+    source: &mut A,
+    clock: &C,
+    buf: &mut [u8],
+) -> Streamed
+    requires own { IsDeskSeatOf desk.now own.old }
+    requires seat { IsSeatOf pool.now seat.old }
+    requires room { 0 < length buf.old }
+    ensures own { IsDeskSeatOf desk.now own.new × (number_of_seat own.new ≡ number_of_seat own.old) }
+    ensures seat { IsSeatOf pool.now seat.new × (who_is seat.new ≡ who_is seat.old) }
+    ensures room { length buf.new ≡ length buf.old }
+    ensures streams { Streams (shards_of pool.now) (A.seen source.old) (A.seen source.new) (own_at seat.old) (own_at seat.new) (part_of own.old) (part_of own.new) result }
+{
+    cutter.reset();
+    let mut account = Account::none();
+    for _read in 0..MOST_READS {
+        match take_read(rt, pool, desk, own, seat, cutter, source, clock, buf) {
+            Ok(more) => account = account.and(more),
+            Err(ended) => return Streamed::of(ended, account),
+        }
+    }
+    Streamed::of(StreamEnd::Worn { turns: MOST_READS }, account)
+}
