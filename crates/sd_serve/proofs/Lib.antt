@@ -3,3 +3,4 @@ mod PostLemmas
 mod RoomLemmas
 mod ServeLemmas
 mod ServedLemmas
+mod WrittenLemmas

@@ -1,0 +1,99 @@
+-- What an outlet's worker and the close of the outlet wrote of the texts that were offered.
+use Rattle.std.proofs.Common.{◌≡◌, ◌⊎◌, ℕ, Bool, true, false, List, [], ◌∷◌, ◌++◌, length, map, min, inl, inr, refl, sym, ap, subst, ◌∙◌, arith}
+use Rattle.std.specs.Prelude.{Option, Some, None, IfSome, IsNone, IsSome}
+use Rattle.sd_model_outside.specs.Deliveries.{Delivery, AfterDeliveries, missed, texts_written}
+use Rattle.sd_model_outside.specs.Outside.{Object, last_count}
+use Rattle.sd_outlet.specs.declared.feed.Feed.{Feed}
+use Rattle.sd_outlet.specs.declared.outlet.Outlet.{Outlet}
+use Rattle.sd_outlet.specs.declared.worked.Worked.{Worked}
+use Rattle.sd_outlet.specs.Feed.{IsFeedOf, is_out, sent}
+use Rattle.sd_outlet.specs.Worked.{HasWorked}
+use Rattle.sd_flush.specs.declared.outs.Lead.{Lead}
+use Rattle.sd_flush.specs.Offers.{HasOffered, texts_queued}
+use Rattle.sd_flush.specs.Outs.{IsLeadReady, OffersAndStops, WhereUsed}
+use Rattle.sd_serve.specs.declared.out_room.OutRoom.{OutRoom}
+use Rattle.sd_serve.specs.OutRoom.{IsIdle, IsLent, IsLentOrIdle, IsOutRoom}
+use Rattle.sd_serve.specs.Written.{HasWritten}
+
+-- there is one behind one, and none behind none
+there_after : {X : Type 0} (related : X → X → Type 0) (unused : Type 0) (x : X) (o : Option X) → WhereUsed related unused (Some x) o → (y : X) × (o ≡ Some y) × related x y
+there_after related unused x None h = absurd h
+there_after related unused x (Some y) h = (y, refl, h)
+
+none_after : {X : Type 0} (related : X → X → Type 0) (unused : Type 0) (o : Option X) → WhereUsed related unused None o → (o ≡ None) × unused
+none_after related unused None h = (refl, h)
+none_after related unused (Some y) h = absurd h
+
+-- no text, no delivery
+no_delivery : (deliveries : List Delivery) (w : Worked) (old new : Object) → map (λ (d : Delivery). d.text) deliveries ≡ [] → AfterDeliveries deliveries old new
+    → w.written ≡ min (length (texts_written deliveries)) last_count → w.faults ≡ min (missed deliveries) last_count → (new ≡ old) × (w.written ≡ 0) × (w.faults ≡ 0)
+no_delivery [] w old new none after written faults = (after, omega (arith, written), omega (arith, faults))
+no_delivery (d ∷ deliveries) w old new none after written faults = absurd (let long : length (map (λ (e : Delivery). e.text) (d ∷ deliveries)) ≡ 0 = ap length none in omega (arith, long))
+
+no_text : (texts : List (List ℕ)) → length texts ≡ 0 → texts ≡ []
+no_text [] h = refl
+no_text (t ∷ texts) h = absurd (omega (arith, h))
+
+module _ (room : OutRoom) (is_room : IsOutRoom room) (texts : List (List ℕ)) (skipped : ℕ) (lead lead_now : Option Lead) (idle : Option Feed) where
+  -- Where the backend is used, its lead is that of the room, and its feed was stopped behind the texts.
+  pub record Fed : Type 0 where
+    pub lent : Lead
+    pub now : Lead
+    pub there : lead_now ≡ Some now
+    pub outlet_is : lent.outlet.now ≡ room.outlet
+    pub feed_is : lent.feed ≡ room.feed
+    pub offers : OffersAndStops texts skipped lent now
+
+  fed : IsLent room.outlet room.feed lead → WhereUsed (OffersAndStops texts skipped) (skipped ≡ 0) lead lead_now → Fed
+  fed is h =
+      let after = there_after (OffersAndStops texts skipped) (skipped ≡ 0) is.lent lead_now (subst (λ (o : Option Lead). WhereUsed (OffersAndStops texts skipped) (skipped ≡ 0) o lead_now) is.there h) in
+      record { lent = is.lent; now = after.0; there = after.1; outlet_is = is.outlet_is; feed_is = is.feed_is; offers = after.2 }
+
+  unfed : IsIdle room.outlet lead idle → WhereUsed (OffersAndStops texts skipped) (skipped ≡ 0) lead lead_now → (lead_now ≡ None) × (skipped ≡ 0)
+  unfed is h = none_after (OffersAndStops texts skipped) (skipped ≡ 0) lead_now (subst (λ (o : Option Lead). WhereUsed (OffersAndStops texts skipped) (skipped ≡ 0) o lead_now) is.none h)
+
+  -- there is a feed to come back
+  pub has_feed : (used : Bool) → IsLentOrIdle used room.outlet room.feed lead idle → WhereUsed (OffersAndStops texts skipped) (skipped ≡ 0) lead lead_now → IsSome lead_now ⊎ IsSome idle
+  has_feed true is h = inl (subst (λ (o : Option Lead). IsSome o) (sym (fed is h).there) refl)
+  has_feed false is h = inr (subst (λ (o : Option Feed). IsSome o) (sym is.there) refl)
+
+  module _ (feed : Feed) (lent : IfSome lead_now (λ l. feed ≡ l.feed)) (kept : IsNone lead_now → IfSome idle (λ f. feed ≡ f)) where
+    back_fed : (f : Fed) → feed ≡ f.now.feed
+    back_fed f = subst (λ (o : Option Lead). IfSome o (λ l. feed ≡ l.feed)) f.there lent
+
+    back_idle : (i : IsIdle room.outlet lead idle) → lead_now ≡ None → feed ≡ i.feed
+    back_idle i none = subst (λ (o : Option Feed). IfSome o (λ f. feed ≡ f)) i.there (kept (subst (λ (o : Option Lead). IsNone o) (sym none) refl))
+
+    -- the feed that comes back is the outlet's
+    pub feed_is : (used : Bool) → IsLentOrIdle used room.outlet room.feed lead idle → WhereUsed (OffersAndStops texts skipped) (skipped ≡ 0) lead lead_now → IfSome lead_now IsLeadReady → IsFeedOf room.outlet feed
+    feed_is true is h ready =
+        let f = fed is h in
+        let at : IsLeadReady f.now = subst (λ (o : Option Lead). IfSome o IsLeadReady) f.there ready in
+        subst (λ (x : Feed). IsFeedOf room.outlet x) (sym (back_fed f)) (subst (λ (o : Outlet). IsFeedOf o f.now.feed) (ap (λ r. r.now) f.offers.stays ∙ f.outlet_is) at.feed_is)
+    feed_is false is h ready = subst (λ (x : Feed). IsFeedOf room.outlet x) (sym (back_idle is (unfed is h).0)) is.feed_is
+
+    -- and all that was queued was written
+    pub written : (used : Bool) (w : Worked) (old new : Object) → IsLentOrIdle used room.outlet room.feed lead idle → WhereUsed (OffersAndStops texts skipped) (skipped ≡ 0) lead lead_now → HasWorked (sent feed) w old new
+        → HasWritten used room texts skipped w old new
+    written true w old new is h worked =
+        let f = fed is h in
+        let offered : HasOffered texts skipped room.outlet room.feed f.offers.last =
+        subst (λ (x : Feed). HasOffered texts skipped room.outlet x f.offers.last) f.feed_is (subst (λ (o : Outlet). HasOffered texts skipped o f.lent.feed f.offers.last) f.outlet_is f.offers.offered) in
+        let none : sent room.feed ≡ [] = no_text (sent room.feed) (sym is_room.feed_is.counted ∙ is_room.is_new.sends) in
+        let all : sent feed ≡ texts_queued offered.offers = ap sent (back_fed f) ∙ f.offers.stopped.same ∙ offered.queued ∙ ap (λ (l : List (List ℕ)). l ++ texts_queued offered.offers) none in
+        record { last = f.offers.last; offered = offered; worked = subst (λ (l : List (List ℕ)). HasWorked l w old new) all worked }
+    written false w old new is h worked =
+        let none : lead_now ≡ None = (unfed is h).0 in
+        let empty : sent feed ≡ [] = ap sent (back_idle is none) ∙ is.no_text in
+        let h0 : HasWorked [] w old new = subst (λ (l : List (List ℕ)). HasWorked l w old new) empty worked in
+        let no = no_delivery h0.deliveries w old new h0.of_texts h0.after h0.written h0.faults in
+        ((unfed is h).1, no.0, no.1, no.2)
+
+-- a lead of a room's feed is ready, if there is one
+pub lead_ready : (used : Bool) (room : OutRoom) → IsOutRoom room → (lead : Option Lead) (idle : Option Feed) → IsLentOrIdle used room.outlet room.feed lead idle → IfSome lead IsLeadReady
+lead_ready true room h lead idle is =
+    subst (λ (o : Option Lead). IfSome o IsLeadReady) (sym is.there) (record {
+      feed_is = subst (λ (o : Outlet). IsFeedOf o is.lent.feed) (sym is.outlet_is) (subst (λ (f : Feed). IsFeedOf room.outlet f) (sym is.feed_is) h.feed_is);
+      none_out = ap is_out is.feed_is ∙ h.is_new.out;
+    })
+lead_ready false room h lead idle is = subst (λ (o : Option Lead). IfSome o IsLeadReady) (sym is.none) tt

@@ -1,0 +1,44 @@
+-- What an outlet's room was opened for, and what is done with its ends.
+use Rattle.std.specs.Prelude.{◌≡◌, Bool, true, false, [], Option, Some, None}
+use Rattle.sd_outlet.specs.declared.feed.Feed.{Feed}
+use Rattle.sd_outlet.specs.declared.outlet.Outlet.{Outlet}
+use Rattle.sd_outlet.specs.Drain.{IsDrainOf, got}
+use Rattle.sd_outlet.specs.Feed.{IsFeedOf, IsNew, sends_of, sent, stopped_at}
+use Rattle.sd_flush.specs.declared.outs.Lead.{Lead}
+use Rattle.sd_serve.specs.declared.out_room.OutRoom.{OutRoom}
+
+-- the outlet
+abbrev pub outlet_in : OutRoom → Outlet
+outlet_in room = room.outlet
+
+-- its feed
+abbrev pub feed_in : OutRoom → Feed
+feed_in room = room.feed
+
+-- the ends are the outlet's, and nothing was sent or got
+pub record IsOutRoom (room : OutRoom) : Type 0 where
+  pub feed_is : IsFeedOf room.outlet room.feed
+  pub is_new : IsNew room.feed
+  pub drain_is : IsDrainOf room.outlet room.drain
+  pub none_got : got room.drain ≡ []
+
+-- The feed is in a lead, where the backend is used.
+pub record IsLent (o : Outlet) (f : Feed) (lead : Option Lead) : Type 0 where
+  pub lent : Lead
+  pub there : lead ≡ Some lent
+  pub outlet_is : lent.outlet.now ≡ o
+  pub feed_is : lent.feed ≡ f
+
+-- It is idle where the backend isn't used: nothing was sent on it, and it was stopped.
+pub record IsIdle (o : Outlet) (lead : Option Lead) (idle : Option Feed) : Type 0 where
+  pub none : lead ≡ None
+  pub feed : Feed
+  pub there : idle ≡ Some feed
+  pub feed_is : IsFeedOf o feed
+  pub no_text : sent feed ≡ []
+  pub stopped : stopped_at feed ≡ Some (sends_of feed)
+
+-- by whether the backend is used
+abbrev pub IsLentOrIdle : Bool → Outlet → Feed → Option Lead → Option Feed → Type 0
+IsLentOrIdle true o f lead idle = IsLent o f lead
+IsLentOrIdle false o f lead idle = IsIdle o lead idle

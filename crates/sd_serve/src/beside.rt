@@ -1,0 +1,58 @@
+ghost use Rattle.std.specs.Prelude.{◌≡◌, ℕ, ◌<◌, All, length, slice_index_or};
+ghost use denote.Param.Send.{IsSync, IsSend};
+
+use sd_workers::{Worker, run_pair, run_workers};
+use std::sync::Wait;
+use std::thread::{Threads, join_mut};
+
+/// Runs two workers and so many others side by side, and two further ones beside them.
+pub(crate) fn run_with_pair<
+    C: Sync,
+    F: Worker<C> + Send,
+    G: Worker<C> + Send,
+    H: Worker<C> + Send,
+    K: Worker<C> + Send,
+    W: Worker<C> + Send,
+    R: Threads + Wait + Sync,
+>(
+    rt: &R,
+    shared: &C,
+    first: &mut F,
+    second: &mut G,
+    third: &mut H,
+    fourth: &mut K,
+    others: &mut [W],
+)
+    requires first { F.can_run shared.now first.old }
+    requires second { G.can_run shared.now second.old }
+    requires third { H.can_run shared.now third.old }
+    requires fourth { K.can_run shared.now fourth.old }
+    requires others { All (W.can_run shared.now) others.old }
+    ensures first { F.has_run shared.now first.old first.new }
+    ensures second { G.has_run shared.now second.old second.new }
+    ensures third { H.has_run shared.now third.old third.new }
+    ensures fourth { K.has_run shared.now fourth.old fourth.new }
+    ensures len { length others.new ≡ length others.old }
+    ensures each { (i : ℕ) (d : _) → i < length others.old → W.has_run shared.now (slice_index_or others.old i d) (slice_index_or others.new i d) }
+{
+    join_mut(
+        rt,
+        &mut ||
+            requires sends { IsSync R.row × IsSync C.row × IsSend H.row × IsSend K.row }
+            requires third { H.can_run shared.now third.now }
+            requires fourth { K.can_run shared.now fourth.now }
+            ensures third { H.has_run shared.entry.now third.entry.now third.exit.now }
+            ensures fourth { K.has_run shared.entry.now fourth.entry.now fourth.exit.now }
+        { run_pair(rt, shared, third, fourth) },
+        &mut ||
+            requires sends { IsSync R.row × IsSync C.row × IsSend F.row × IsSend G.row × IsSend W.row }
+            requires first { F.can_run shared.now first.now }
+            requires second { G.can_run shared.now second.now }
+            requires others { All (W.can_run shared.now) others.now }
+            ensures first { F.has_run shared.entry.now first.entry.now first.exit.now }
+            ensures second { G.has_run shared.entry.now second.entry.now second.exit.now }
+            ensures len { length others.exit.now ≡ length others.entry.now }
+            ensures each { (i : ℕ) (d : _) → i < length others.entry.now → W.has_run shared.entry.now (slice_index_or others.entry.now i d) (slice_index_or others.exit.now i d) }
+        { run_workers(rt, shared, first, second, others) },
+    );
+}

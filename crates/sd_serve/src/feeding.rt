@@ -1,0 +1,47 @@
+use sd_flush::{FlushedOut, Outs, Tables, flush_all_out};
+use sd_outside::{Beat, Clock, Gate};
+use sd_plan::{Names, Reckoning};
+use sd_pool::Seat;
+use sd_receive::Shared;
+use sd_shared_desk::DeskSeat;
+use sd_workers::Worker;
+use std::sync::Wait;
+
+/// The work of a flusher over outlets, and how it ended, once it was run.
+#[derive(Drop)]
+pub(crate) struct Feeding<'s, 'o, 't, 'p, 'n, 'u, 'l, 'e, E> {
+    pub seat: &'s mut Seat,
+    pub own: &'o mut DeskSeat,
+    pub tables: &'t mut Tables,
+    pub plan: &'p Reckoning,
+    pub names: &'n Names,
+    pub outs: &'u mut Outs<'l>,
+    pub beat: &'e mut E,
+    pub flushed: FlushedOut,
+}
+
+impl<'a, E: Beat, G: Gate, C: Clock> Worker<Shared<'a, G, C>>
+    for Feeding<'_, '_, '_, '_, '_, '_, '_, '_, E> {
+    ghost use Rattle.sd_serve.specs.Feeding.{CanFeed, HasFed};
+
+    ghost can_run = { λ shared feeding. CanFeed E.seen shared.pool.now shared.desk.now feeding };
+
+    ghost has_run = { λ shared old new. HasFed E.seen shared.pool.now shared.desk.now shared.run_flushes old new };
+
+    fn run<R: Wait>(&mut self, rt: &R, shared: &Shared<'a, G, C>) {
+        self.flushed = flush_all_out(
+            rt,
+            shared.pool,
+            shared.desk,
+            self.own,
+            self.seat,
+            self.tables,
+            self.plan,
+            self.names,
+            self.beat,
+            self.outs,
+            shared.gate,
+            shared.run_flushes,
+        );
+    }
+}

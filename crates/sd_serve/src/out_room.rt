@@ -1,0 +1,34 @@
+use sd_outlet::{Drain, Feed, Outlet};
+use std::alloc::{AllocError, Global};
+
+/// An outlet with its two ends, in room that is taken before the server's workers start. Nothing was sent.
+#[derive(Drop)]
+pub struct OutRoom {
+    pub(crate) outlet: Outlet,
+    pub(crate) feed: Feed,
+    pub(crate) drain: Drain,
+}
+
+impl OutRoom {
+    ghost use Rattle.std.specs.Prelude.{◌≡◌, ◌<◌, IfOk};
+    ghost use Rattle.sd_outlet.specs.Feed.{buffers, bytes_of};
+    ghost use Rattle.sd_serve.specs.OutRoom.{IsOutRoom, outlet_in};
+
+    /// Takes the room of an outlet of `n` buffers of so many bytes.
+    ///
+    /// # Errors
+    ///
+    /// Where no memory is left for it.
+    pub fn open(alloc: Global, n: u32, bytes: u32) -> Result<OutRoom, AllocError>
+        requires some { (0 < n) × (0 < bytes) }
+        ensures room { IfOk result IsOutRoom }
+        ensures sizes { IfOk result (λ room. (buffers (outlet_in room) ≡ n) × (bytes_of (outlet_in room) ≡ bytes)) }
+    {
+        let (outlet, feed, drain) = Outlet::open(alloc, n, bytes)?;
+        Ok(OutRoom {
+            outlet,
+            feed,
+            drain,
+        })
+    }
+}
