@@ -4,7 +4,7 @@ use Rattle.sd_model_outside.specs.Outside.{Object}
 use Rattle.sd_top.specs.declared.call.World.{World}
 
 -- there are enough sources and wires, the beat and the door have turns left, and no session is out
-pub record IsReady {R O B D L E P G T : Type 0} (door_seen : E → Object) (beat_seen : P → Object) (world : World R O B D L E P G T) : Type 0 where
+pub record IsReady {R O B D L E P G T Q : Type 0} (door_seen : E → Object) (beat_seen : P → Object) (world : World R O B D L E P G T Q) : Type 0 where
   pub packets : 16 ≤ length world.packets.items
   pub wires : 256 ≤ length world.wires.items
   pub beat : (beat_seen world.beat).turns < 2 ^ 62

@@ -29,6 +29,7 @@ enum Call {
     OpenDoor,
     NextSession,
     NextTick,
+    Ask,
     WriteOutput,
 }
 
@@ -82,6 +83,7 @@ fn call_of(word: &str) -> Result<Call, Refusal> {
         "open_door" => Ok(Call::OpenDoor),
         "next_session" => Ok(Call::NextSession),
         "next_tick" => Ok(Call::NextTick),
+        "ask" => Ok(Call::Ask),
         "write_output" => Ok(Call::WriteOutput),
         _ => Err(Refusal::Malformed),
     }
@@ -131,6 +133,7 @@ pub(crate) fn fail(world: &mut MemWorld, failing: Failing) -> Result<(), Refusal
         Call::OpenDoor => world.door.fail_open.push(number)?,
         Call::NextSession => world.door.fail_call.push(number)?,
         Call::NextTick => world.beat.fail_call.push(number)?,
+        Call::Ask => world.probe.fail_call.push(number)?,
         Call::WriteOutput => world.output.fail_call.push(number)?,
     }
     Ok(())

@@ -9,8 +9,8 @@ use crate::traffic::Traffic;
 use sd_case::{Refusal, bytes_of, number};
 use sd_drill::{Drill, MOST_PACKETS};
 use sd_outside::{
-    Backs, MemBackend, MemBeat, MemClock, MemDatagrams, MemDoor, MemSink, MemSource, MemWire,
-    NoGate, read_full,
+    Backs, MemBackend, MemBeat, MemClock, MemDatagrams, MemDoor, MemProbe, MemSink, MemSource,
+    MemWire, NoGate, read_full,
 };
 use sd_top::World;
 use std::alloc::Global;
@@ -28,6 +28,7 @@ pub(crate) type MemWorld = World<
     MemBeat,
     NoGate,
     MemClock,
+    MemProbe,
 >;
 
 /// How many wires a run has.
@@ -89,7 +90,7 @@ impl Case {
 
     /// Takes a part: `settings=TEXT`, `script=TEXT`, `made=PACKETS` for the made script, `output=BYTES`,
     /// `graphite=BYTES/LISTS`, `console=BYTES/LISTS`, `wires=BYTES/PACKETS`, `most=BYTES` or `most=BYTES/OBJECT` for what reads and
-    /// writes take, `fail=CALL:NUMBER`, or what a server is given.
+    /// writes take, `fail=CALL:NUMBER`, or what a server or a proxy is given.
     fn set(&mut self, alloc: Global, part: &str) -> Result<(), Refusal> {
         match part.split_once('=') {
             Some(("settings", text)) => self.settings = bytes_of(alloc, text)?,
@@ -122,6 +123,15 @@ impl Case {
         Ok(wires)
     }
 
+    /// The first datagram that the run is given.
+    ///
+    /// # Errors
+    ///
+    /// `Condition` where it is given none, and `OutOfMemory`.
+    pub(crate) fn first_datagram(&self) -> Result<Vec<u8>, Refusal> {
+        self.traffic.first_datagram()
+    }
+
     /// The objects of the run.
     pub(crate) fn world(&self, alloc: Global) -> Result<MemWorld, Refusal>
         ensures { IfOk result (IsReady door_seen beat_seen) }
@@ -142,6 +152,7 @@ impl Case {
             beat: self.traffic.beat()?,
             gate: NoGate,
             clock: self.traffic.clock(),
+            probe: self.traffic.probe()?,
         };
         world.settings.most = self.most.settings.get();
         world.script.most = self.most.script.get();

@@ -4,6 +4,7 @@
 
 mod calls;
 mod case;
+mod late;
 mod most;
 mod report;
 mod run;
@@ -28,6 +29,7 @@ fn run_case<R: Threads + Wait + Sync>(
         ["cut", record, parts @ ..] => run::each_truncation(rt, alloc, record, parts, out),
         ["both", first, second, parts @ ..] => run::by_both(rt, alloc, first, second, parts, out),
         ["slow", most, parts @ ..] => run::by_slow(rt, alloc, most, parts, out),
+        ["late", count, parts @ ..] => late::run_late(rt, alloc, count, parts, out),
         ["status", fields @ ..] => status::texts_of(alloc, fields, out),
         _ => Err(Refusal::UnknownCall),
     }

@@ -1,11 +1,11 @@
 use crate::case::MemWorld;
 use crate::status::show_status;
 use sd_case::Answer;
-use sd_outside::{Address, MemBackend, MemBeat, MemDatagrams, MemDoor, MemWire};
+use sd_outside::{Address, MemBackend, MemBeat, MemDatagrams, MemDoor, MemProbe, MemWire};
 use sd_top::Status;
 
-/// Appends all that came of a run: its status, exit and explanation, Graphite's lists, what came of the objects of a server, the
-/// output, the counts of faults, where each object was opened, and which backends are used.
+/// Appends all that came of a run: its status, exit and explanation, Graphite's lists, what came of the objects of a server or a
+/// proxy, the output, the counts of faults, where each object was opened, and which backends are used.
 pub(crate) fn report(status: &Status, world: &MemWorld, out: &mut Answer) {
     out.text("\n  ");
     show_status(status, out);
@@ -15,6 +15,7 @@ pub(crate) fn report(status: &Status, world: &MemWorld, out: &mut Answer) {
     show_wires(&world.wires, out);
     show_beat(&world.beat, out);
     show_door(&world.door, out);
+    show_probe(&world.probe, out);
     out.text("\n  output:");
     out.lines(world.output.bytes());
     show_faults(world, out);
@@ -41,7 +42,7 @@ fn show_lists(backend: &MemBackend, name: &str, out: &mut Answer) {
 
 /// Appends the wires that were opened or failed: where they were opened, how often they failed, and the packets that were
 /// sent.
-fn show_wires(wires: &[MemWire], out: &mut Answer) {
+pub(crate) fn show_wires(wires: &[MemWire], out: &mut Answer) {
     for (place, wire) in wires.iter().enumerate() {
         if wire.opened_at().is_some() || wire.faults() > 0 {
             out.count("\n  wire ", place as u64);
@@ -69,7 +70,7 @@ fn show_sources(sources: &[MemDatagrams], out: &mut Answer) {
 }
 
 /// Appends what came of the beat, where it was started.
-fn show_beat(beat: &MemBeat, out: &mut Answer) {
+pub(crate) fn show_beat(beat: &MemBeat, out: &mut Answer) {
     if let Some(interval) = beat.interval() {
         out.count("\n  beat: every ", u64::from(interval));
         out.count(" ms, faults ", beat.faults());
@@ -89,6 +90,23 @@ fn show_door(door: &MemDoor, out: &mut Answer) {
             out.bytes(asking.remaining());
             out.text(":");
             out.lines(telling.bytes());
+        }
+    }
+}
+
+/// Appends what came of the probe, where it was asked: how often it failed, how many replies it has left, and where it was asked.
+pub(crate) fn show_probe(probe: &MemProbe, out: &mut Answer) {
+    if !probe.questions().is_empty() || probe.faults() > 0 {
+        out.count("\n  probe: faults ", probe.faults());
+        out.count(", left ", probe.remaining().len() as u64);
+        for question in probe.questions() {
+            out.text("\n    ");
+            show_address(Some(&question.at), out);
+            out.text(if question.is_answered {
+                ", answered"
+            } else {
+                ", failed"
+            });
         }
     }
 }

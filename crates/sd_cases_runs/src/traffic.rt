@@ -1,4 +1,4 @@
-//! What a server of a case is given.
+//! What a server or a proxy of a case is given.
 ghost use Rattle.std.specs.Prelude.{◌≡◌, ◌≤◌, All, IfOk, false, length, vec_len};
 ghost use Rattle.sd_model_outside.specs.Turns.{most_datagram};
 ghost use Rattle.sd_outside.specs.MemBeat.{seen_of as beat_seen};
@@ -6,7 +6,7 @@ ghost use Rattle.sd_outside.specs.MemDoor.{seen_of as door_seen};
 ghost use Rattle.sd_outside.specs.MemSessions.{HasNoFaults};
 
 use sd_case::{Refusal, bytes_of, number};
-use sd_outside::{MemBeat, MemClock, MemDatagrams, MemDoor, MemSink, MemSource};
+use sd_outside::{MemBeat, MemClock, MemDatagrams, MemDoor, MemProbe, MemSink, MemSource};
 use std::alloc::Global;
 use std::num::NonZeroUsize;
 
@@ -18,6 +18,9 @@ const MOST_DATAGRAM: usize = 65_507;
 
 /// For how many bytes of replies each session has room.
 const ROOM: usize = 1 << 16;
+
+/// For how many questions the probe has room.
+const QUESTIONS: usize = 64;
 
 /// A datagram that a source gives.
 #[derive(Debug, Drop)]
@@ -33,13 +36,14 @@ struct Unread {
     read: u64,
 }
 
-/// Datagrams, ticks and sessions, and the moment of the clock.
+/// Datagrams, ticks, sessions and replies of nodes, and the moment of the clock.
 #[derive(Debug, Drop)]
 pub(crate) struct Traffic {
     sent: Vec<Sent>,
     ticks: Vec<u64>,
     sessions: Vec<Vec<u8>>,
     unread: Vec<Unread>,
+    replies: Vec<Vec<u8>>,
     now: u64,
 }
 
@@ -61,12 +65,14 @@ impl Traffic {
             ticks: Vec::new(alloc),
             sessions: Vec::new(alloc),
             unread: Vec::new(alloc),
+            replies: Vec::new(alloc),
             now: 1000,
         }
     }
 
     /// Takes a part: a datagram `packet=SOURCE/TEXT`, `counted=SOURCE/COUNT/NAME` for the datagrams `NAME:I|c` with I from 1 on,
-    /// `tick=SECOND`, `session=TEXT`, `unread=SESSION/READ` for a read that is to fail, or the moment `clock=SECOND`.
+    /// `tick=SECOND`, `session=TEXT`, `unread=SESSION/READ` for a read that is to fail, `reply=TEXT` of a node, or the moment
+    /// `clock=SECOND`.
     ///
     /// # Errors
     ///
@@ -87,6 +93,7 @@ impl Traffic {
                 let (session, read) = (number(session)?, number(read)?);
                 self.unread.push(Unread { session, read })?;
             }
+            "reply" => self.replies.push(bytes_of(alloc, value)?)?,
             "clock" => self.now = number(value)?,
             _ => return Err(Refusal::Malformed),
         }
@@ -103,6 +110,16 @@ impl Traffic {
             self.sent.push(Sent { source, datagram })?;
         }
         Ok(())
+    }
+
+    /// The first datagram of all.
+    ///
+    /// # Errors
+    ///
+    /// `Condition` where there is none, and `OutOfMemory`.
+    pub(crate) fn first_datagram(&self) -> Result<Vec<u8>, Refusal> {
+        let first = self.sent.first().ok_or(Refusal::Condition)?;
+        Ok(first.datagram.clone()?)
     }
 
     /// The datagrams of the source of a number.
@@ -179,6 +196,11 @@ impl Traffic {
             given.push(self.ends(alloc, session, most)?)?;
         }
         Ok(MemDoor::open(given)?)
+    }
+
+    /// The probe of the run.
+    pub(crate) fn probe(&self) -> Result<MemProbe, Refusal> {
+        Ok(MemProbe::open(self.replies.clone()?, QUESTIONS)?)
     }
 
     /// The clock of the run.

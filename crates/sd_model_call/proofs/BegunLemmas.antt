@@ -8,9 +8,11 @@ use Rattle.std.proofs.lemmas.Bool.Decides.{nat_tests}
 use Rattle.std.proofs.Math.ListN.{get_or-map}
 use Rattle.std.proofs.Math.Seq.{map-set_same}
 use Rattle.sd_model_outside.specs.Outside.{File, HasRead, IsAtEnd, Left, Object, Place, Rose, Told, Untold, fresh, left_in, opened, put_back, telling}
+use Rattle.sd_model_outside.specs.Turns.{with_interval}
 use Rattle.sd_model_settings.specs.Settings.{Settings, OutOfRange, SettingsFlaw, settings}
 use Rattle.sd_model_call.specs.Opening.{World, Opening, Part, OfSettings, OfScript, OfSource, OfBeat, OfWire, OfGraphite, OfConsole, OfDoor, AreRead, IsAccepted, IsFlawed, IsNotOpenedAt, longest_file, numbered, opened_all, opened_part, part_in, settled, with_part}
 use Rattle.sd_model_call.specs.Call.{Answer, Done, NoMemory, NoForm, Misset, BadScript, NotOpened, NotRead, NotWritten, Worn, IsNotTaken, NotBegun, NotTaken, StopsAmong, cut_answer}
+use Rattle.sd_model_call.specs.ServerOpening.{begun_with}
 use Rattle.sd_model_call.specs.ServerCompleteness.{HasFaultOf}
 use Rattle.sd_model_call.proofs.Openings.{all_behind}
 use Rattle.sd_model_call.proofs.ReplayEnds.{LeftBehind, left_behind}
@@ -120,6 +122,26 @@ module _ {X : Type 0} (f : Object → X) (opens : (place : Place) (o : Object) �
     door = refl;
     output = refl;
   }
+
+-- so does what comes before workers begin, where starting the beat keeps it too
+module _ {X : Type 0} (f : Object → X) (opens : (place : Place) (o : Object) → f (opened place o) ≡ f o) (tells : (told : Told) (o : Object) → f (telling told o) ≡ f o) (starts : (interval : ℕ) (o : Object) → f (with_interval interval o) ≡ f o) where
+  same_begun : (parts : List Opening) (interval : ℕ) (w : World) → Same f (begun_with parts interval w) w
+  same_begun parts interval w =
+      let all = same_all f opens parts w in
+      record {
+        settings = all.settings;
+        script = all.script;
+        sources = all.sources;
+        beat = starts interval _ ∙ all.beat;
+        wires = all.wires;
+        graphite = all.graphite;
+        console = all.console;
+        door = all.door;
+        output = all.output;
+      }
+
+  pub same_start : (parts : List Opening) (interval : ℕ) (values : Settings) (settings : Object) (name : List ℕ) (w : World) → IsAccepted values (File name) w.settings settings → Same f (begun_with parts interval (settled values settings w)) w
+  same_start parts interval values settings name w taken = same_next f _ _ w (same_begun parts interval (settled values settings w)) (same_settled f opens tells values settings name w taken)
 
 module _ (name : List ℕ) (old new : World) (values : Settings) (settings : Object) (taken : IsAccepted values (File name) old.settings settings) where
   -- the count of faults of a part is that before settings were read

@@ -5,5 +5,6 @@ pub mod DrillEnds
 pub mod KeptFaults
 pub mod WordsLemmas
 pub mod BegunLemmas
+pub mod LoopEnds
 pub mod ServerEnds
 pub mod ProxyEnds

@@ -19,7 +19,8 @@ use Rattle.sd_model_call.specs.Completeness.{IsWhole, IsBlocked}
 use Rattle.sd_model_call.specs.Server.{AnswersServer, HasServed, ServerAccounts, by_beat, by_receivers, is_worn, run_answer, run_totals, turns_answer}
 use Rattle.sd_model_call.specs.ServerOpening.{begun, server_openings, source_openings}
 use Rattle.sd_model_call.specs.ServerCompleteness.{AreAllSpent, AsksToServe, HasFaultOf, IsCauseOf, IsOpenedToServe, IsOutermost, IsServed, IsUnhinderedServer, NoneFailed, OneTookMost, SourceTookMost, TookFew, TookMost}
-use Rattle.sd_model_call.proofs.BegunLemmas.{Same, all_numbered, accepted_so, at_same, has_flaw, not_begun, not_taken, same_all, same_next, same_settled, uncut}
+use Rattle.sd_model_call.proofs.BegunLemmas.{Same, all_numbered, accepted_so, at_same, has_flaw, not_begun, not_taken, same_start, uncut}
+use Rattle.sd_model_call.proofs.LoopEnds.{AreEnded, ComesFrom, EndedSo, OneSourceTookMost, all_done, both_false, comes_from, whole_done, worn_one}
 use Rattle.sd_model_call.proofs.Openings.{all_append, all_where}
 use Rattle.sd_model_record.specs.Backends.{Graphite, Console}
 
@@ -40,39 +41,6 @@ all_served s =
     (all_append is_served graphite (console ++ at_door) (all_where is_served (is_used s Graphite) at_graphite (λ on. tt))
     (all_append is_served console at_door (all_where is_served (is_used s Console) at_console (λ on. tt)) door)))
 
--- what is seen where a server's workers begin has the counts of before
-module _ {X : Type 0} (f : Object → X) (opens : (place : Place) (o : Object) → f (opened place o) ≡ f o) (tells : (told : Told) (o : Object) → f (telling told o) ≡ f o) (starts : (interval : ℕ) (o : Object) → f (with_interval interval o) ≡ f o) where
-  same_begun : (values : Settings) (w : World) → Same f (begun values w) w
-  same_begun values w =
-      let all = same_all f opens (server_openings values) w in
-      record {
-        settings = all.settings;
-        script = all.script;
-        sources = all.sources;
-        beat = starts values.server.flush_interval _ ∙ all.beat;
-        wires = all.wires;
-        graphite = all.graphite;
-        console = all.console;
-        door = all.door;
-        output = all.output;
-      }
-
-  same_start : (values : Settings) (settings : Object) (name : List ℕ) (w : World) → IsAccepted values (File name) w.settings settings → Same f (begun values (settled values settings w)) w
-  same_start values settings name w taken = same_next f _ _ w (same_begun values (settled values settings w)) (same_settled f opens tells values settings name w taken)
-
--- how a loop over a source ended
-pub record EndedSo (asked : ℕ) (ended : LoopEnd) (source source_now : Object) : Type 0 where
-  pub turned : ℕ
-  pub turns : source_now.turns ≡ min (source.turns + turned) last_count
-  pub seen : ℕ
-  pub ends : EndsReceiver asked ended source source_now seen turned
-
-abbrev AreEnded : ℕ → List LoopEnd → List Object → List Object → Type 0
-AreEnded asked [] sources sources_now = ⊤
-AreEnded asked (e ∷ es) [] sources_now = ⊥
-AreEnded asked (e ∷ es) (s ∷ sources) [] = ⊥
-AreEnded asked (e ∷ es) (s ∷ sources) (n ∷ sources_now) = EndedSo asked e s n × AreEnded asked es sources sources_now
-
 are_ended : (asked made run : ℕ) (rs : List Reception) (ss ns ws wn : List Object) → AreReceptions asked made run rs ss ns ws wn → AreEnded asked (map (λ r. r.ended) rs) ss ns
 are_ended asked made run [] ss ns ws wn h = tt
 are_ended asked made run (r ∷ rs) [] ns ws wn h = h
@@ -81,106 +49,6 @@ are_ended asked made run (r ∷ rs) (s ∷ ss) (n ∷ ns) ws wn h = (
   record { turned = h.0.turned; turns = h.0.turns; seen = h.0.seen; ends = h.0.ends },
   are_ended asked made run rs ss ns (drop run ws) (drop run wn) h.1,
 )
-
--- a loop that ended since all was read or enough flushes were seen
-abbrev GoesWell : LoopEnd → Type 0
-GoesWell Spent = ⊤
-GoesWell Failed = ⊥
-GoesWell (Enough flushes) = ⊤
-GoesWell (WornOut turns) = ⊥
-
-module _ (asked : ℕ) where
-  goes_well : (e : LoopEnd) (o n : Object) → ¬ Rose o.faults n.faults → TookFew o n → n.turns < last_count → EndedSo asked e o n → GoesWell e
-  goes_well Spent o n steady few low h = tt
-  goes_well Failed o n steady few low h = absurd (steady h.ends.0)
-  goes_well (Enough flushes) o n steady few low h = tt
-  goes_well (WornOut turns) o n steady few low h =
-      let turns = h.turns in let most = h.ends.1 in
-      absurd (omega (arith, turns, most, few, low))
-
-  all_well : (es : List LoopEnd) (ss ns : List Object)
-      → ((i : ℕ) → ¬ Rose (source_at i ss).faults (source_at i ns).faults) → ((i : ℕ) → TookFew (source_at i ss) (source_at i ns)) → ((i : ℕ) → (source_at i ns).turns < last_count)
-      → AreEnded asked es ss ns → AllByRecursion GoesWell es
-  all_well [] ss ns steady few low h = tt
-  all_well (e ∷ es) [] ns steady few low h = absurd h
-  all_well (e ∷ es) (s ∷ ss) [] steady few low h = absurd h
-  all_well (e ∷ es) (s ∷ ss) (n ∷ ns) steady few low h =
-      (goes_well e s n (steady 0) (few 0) (low 0) h.0, all_well es ss ns (λ i. steady (suc i)) (λ i. few (suc i)) (λ i. low (suc i)) h.1)
-
-by_none : (i : ℕ) (es : List LoopEnd) (other : Answer) → AllByRecursion GoesWell es → by_receivers i es other ≡ other
-by_none i [] other h = refl
-by_none i (Spent ∷ es) other h = by_none (i + 1) es other h.1
-by_none i (Failed ∷ es) other h = absurd h.0
-by_none i (Enough flushes ∷ es) other h = by_none (i + 1) es other h.1
-by_none i (WornOut turns ∷ es) other h = absurd h.0
-
-none_worn : (es : List LoopEnd) → AllByRecursion GoesWell es → list_any is_worn es ≡ false
-none_worn [] h = refl
-none_worn (Spent ∷ es) h = none_worn es h.1
-none_worn (Failed ∷ es) h = absurd h.0
-none_worn (Enough flushes ∷ es) h = none_worn es h.1
-none_worn (WornOut turns ∷ es) h = absurd h.0
-
--- a receiver that failed, or the answer is another's
-abbrev ByReceiver : ℕ → Answer → List Object → List Object → Type 0
-ByReceiver k answer ss ns = (i : ℕ) × (answer ≡ NotRead (OfSource (k + i))) × Rose (source_at i ss).faults (source_at i ns).faults
-
-module _ (asked : ℕ) (answer other : Answer) where
-  behind_one : (k : ℕ) (s n : Object) (ss ns : List Object) → ByReceiver (k + 1) answer ss ns ⊎ (other ≡ answer) → ByReceiver k answer (s ∷ ss) (n ∷ ns) ⊎ (other ≡ answer)
-  behind_one k s n ss ns (inl (i, is, rose)) = inl (suc i, is ∙ ap (λ j. NotRead (OfSource j)) (omega arith), rose)
-  behind_one k s n ss ns (inr same) = inr same
-
-  by_one : (k : ℕ) (es : List LoopEnd) (ss ns : List Object) → AreEnded asked es ss ns → by_receivers k es other ≡ answer → ByReceiver k answer ss ns ⊎ (other ≡ answer)
-  by_one k [] ss ns h is = inr is
-  by_one k (e ∷ es) [] ns h is = absurd h
-  by_one k (e ∷ es) (s ∷ ss) [] h is = absurd h
-  by_one k (Spent ∷ es) (s ∷ ss) (n ∷ ns) h is = behind_one k s n ss ns (by_one (k + 1) es ss ns h.1 is)
-  by_one k (Failed ∷ es) (s ∷ ss) (n ∷ ns) h is = inl (0, sym is ∙ ap (λ j. NotRead (OfSource j)) (omega arith), h.0.ends.0)
-  by_one k (Enough flushes ∷ es) (s ∷ ss) (n ∷ ns) h is = behind_one k s n ss ns (by_one (k + 1) es ss ns h.1 is)
-  by_one k (WornOut turns ∷ es) (s ∷ ss) (n ∷ ns) h is = behind_one k s n ss ns (by_one (k + 1) es ss ns h.1 is)
-
-by_flusher : (asked made : ℕ) (answer other : Answer) (ended : LoopEnd) (beat beat_now : Object) → EndsFlusher asked ended beat beat_now made → by_beat ended other ≡ answer
-    → (answer ≡ NotRead OfBeat) × Rose beat.faults beat_now.faults ⊎ (other ≡ answer)
-by_flusher asked made answer other Spent beat beat_now h is = inr is
-by_flusher asked made answer other Failed beat beat_now h is = inl (sym is, h)
-by_flusher asked made answer other (Enough flushes) beat beat_now h is = inr is
-by_flusher asked made answer other (WornOut turns) beat beat_now h is = inr is
-
-by_turns : (es : List LoopEnd) (answer : Answer) → turns_answer es ≡ answer → (answer ≡ Worn most_turns) × (list_any is_worn es ≡ true) ⊎ (answer ≡ Done) × (list_any is_worn es ≡ false)
-by_turns es answer is = by_test (list_any is_worn es) refl where
-  by_test : (worn : Bool) → list_any is_worn es ≡ worn → (answer ≡ Worn most_turns) × (list_any is_worn es ≡ true) ⊎ (answer ≡ Done) × (list_any is_worn es ≡ false)
-  by_test true found = inl (sym is ∙ ap (λ (b : Bool). if b then Worn most_turns else Done) found, found)
-  by_test false found = inr (sym is ∙ ap (λ (b : Bool). if b then Worn most_turns else Done) found, found)
-
--- which loop took the most turns
-abbrev OneSourceTookMost : List Object → List Object → Type 0
-OneSourceTookMost ss ns = (i : ℕ) × SourceTookMost (source_at i ss) (source_at i ns)
-
-module _ (rest : List LoopEnd) where
-  worn_behind : (s n : Object) (ss ns : List Object) → OneSourceTookMost ss ns ⊎ (list_any is_worn rest ≡ true) → OneSourceTookMost (s ∷ ss) (n ∷ ns) ⊎ (list_any is_worn rest ≡ true)
-  worn_behind s n ss ns (inl (i, most)) = inl (suc i, most)
-  worn_behind s n ss ns (inr is) = inr is
-
-  worn_one : (asked : ℕ) (es : List LoopEnd) (ss ns : List Object) → AreEnded asked es ss ns → list_any is_worn (es ++ rest) ≡ true → OneSourceTookMost ss ns ⊎ (list_any is_worn rest ≡ true)
-  worn_one asked [] ss ns h is = inr is
-  worn_one asked (e ∷ es) [] ns h is = absurd h
-  worn_one asked (e ∷ es) (s ∷ ss) [] h is = absurd h
-  worn_one asked (Spent ∷ es) (s ∷ ss) (n ∷ ns) h is = worn_behind s n ss ns (worn_one asked es ss ns h.1 is)
-  worn_one asked (Failed ∷ es) (s ∷ ss) (n ∷ ns) h is = worn_behind s n ss ns (worn_one asked es ss ns h.1 is)
-  worn_one asked (Enough flushes ∷ es) (s ∷ ss) (n ∷ ns) h is = worn_behind s n ss ns (worn_one asked es ss ns h.1 is)
-  worn_one asked (WornOut turns ∷ es) (s ∷ ss) (n ∷ ns) h is = inl (0, h.0.turns ∙ ap (λ k. min (s.turns + k) last_count) h.0.ends.1)
-
--- where no flushes were asked for and no loop failed or took the most turns, all sources are spent
-spent_all : (k : ℕ) (es : List LoopEnd) (other : Answer) (ss ns : List Object) → by_receivers k es other ≡ Done → list_any is_worn es ≡ false → AreEnded 0 es ss ns
-    → (i : ℕ) → i < length es → IsSpent (source_at i ns).told
-spent_all k [] other ss ns done none h i below = absurd (omega (arith, below))
-spent_all k (e ∷ es) other [] ns done none h i below = absurd h
-spent_all k (e ∷ es) other (s ∷ ss) [] done none h i below = absurd h
-spent_all k (Spent ∷ es) other (s ∷ ss) (n ∷ ns) done none h zero below = h.0.ends.0
-spent_all k (Spent ∷ es) other (s ∷ ss) (n ∷ ns) done none h (suc i) below = spent_all (k + 1) es other ss ns done none h.1 i (omega (arith, below))
-spent_all k (Failed ∷ es) other (s ∷ ss) (n ∷ ns) done none h i below = absurd (cc)
-spent_all k (Enough flushes ∷ es) other (s ∷ ss) (n ∷ ns) done none h i below = let asked = h.0.ends.0 in absurd (omega (arith, asked))
-spent_all k (WornOut turns ∷ es) other (s ∷ ss) (n ∷ ns) done none h i below = absurd (cc)
 
 -- a call that served
 module _ (name : List ℕ) (says : ℕ → Type 0) (answer : Answer) (old new : World) (h : HasServed name says answer old new) where
@@ -200,33 +68,17 @@ module _ (name : List ℕ) (says : ℕ → Type 0) (answer : Answer) (old new : 
   others = course.flusher_ended ∷ course.keeper_ended ∷ []
 
   faults : Same (λ o. o.faults) start old
-  faults = same_start (λ o. o.faults) (λ place o. refl) (λ told o. refl) (λ interval o. refl) h.values h.settings name old h.taken
+  faults = same_start (λ o. o.faults) (λ place o. refl) (λ told o. refl) (λ interval o. refl) (server_openings h.values) h.values.server.flush_interval h.values h.settings name old h.taken
 
   turns : Same (λ o. o.turns) start old
-  turns = same_start (λ o. o.turns) (λ place o. refl) (λ told o. refl) (λ interval o. refl) h.values h.settings name old h.taken
+  turns = same_start (λ o. o.turns) (λ place o. refl) (λ told o. refl) (λ interval o. refl) (server_openings h.values) h.values.server.flush_interval h.values h.settings name old h.taken
 
   loops : AreEnded asked received start.served.sources new.served.sources
   loops = are_ended asked course.desk.rounds _ course.receptions start.served.sources new.served.sources start.seen.wires new.seen.wires h.theorem.run.received
 
   -- what the answer of a run comes from
-  abbrev Ends : Answer → Type 0
-  Ends a =
-      ByReceiver 0 a start.served.sources new.served.sources
-      ⊎ (a ≡ NotRead OfBeat) × Rose start.served.beat.faults new.served.beat.faults
-      ⊎ (a ≡ Worn most_turns) × (list_any is_worn (received ++ others) ≡ true)
-      ⊎ (a ≡ Done) × (list_any is_worn (received ++ others) ≡ false)
-
-  by_rest : (a : Answer) → (a ≡ NotRead OfBeat) × Rose start.served.beat.faults new.served.beat.faults ⊎ (turns_answer (received ++ others) ≡ a) → Ends a
-  by_rest a (inl beat) = inr (inl beat)
-  by_rest a (inr is) = inr (inr (by_turns (received ++ others) a is))
-
-  by_others : (a : Answer) → ByReceiver 0 a start.served.sources new.served.sources ⊎ (by_beat course.flusher_ended (turns_answer (received ++ others)) ≡ a) → Ends a
-  by_others a (inl receiver) = inl receiver
-  by_others a (inr is) =
-      by_rest a (by_flusher asked (length course.ticked) a (turns_answer (received ++ others)) course.flusher_ended start.served.beat new.served.beat h.theorem.run.flushed.ends is)
-
-  ends : (a : Answer) → run_answer course ≡ a → Ends a
-  ends a is = by_others a (by_one asked a (by_beat course.flusher_ended (turns_answer (received ++ others))) 0 received start.served.sources new.served.sources loops is)
+  ends : (a : Answer) → run_answer course ≡ a → ComesFrom received course.flusher_ended (course.keeper_ended ∷ []) start.served.sources new.served.sources start.served.beat new.served.beat a
+  ends a is = comes_from asked (length course.ticked) received course.flusher_ended (course.keeper_ended ∷ []) start.served.sources new.served.sources start.served.beat new.served.beat loops h.theorem.run.flushed.ends a is
 
   other_worn : (f k : LoopEnd) (made seen turned : ℕ) → EndsFlusher asked f start.served.beat new.served.beat made → new.served.beat.turns ≡ start.served.beat.turns + made
       → EndsKeeper asked k new.served.door seen turned → new.served.door.turns ≡ start.served.door.turns + turned
@@ -256,7 +108,7 @@ module _ (name : List ℕ) (says : ℕ → Type 0) (answer : Answer) (old new : 
       by_other (inl most) = inl (most ∙ ap (λ n. n + most_turns) turns.beat)
       by_other (inr most) = inr (most ∙ ap (λ n. n + most_turns) turns.door)
 
-  cause : (a : Answer) → Ends a → IsCauseOf name a old new
+  cause : (a : Answer) → ComesFrom received course.flusher_ended (course.keeper_ended ∷ []) start.served.sources new.served.sources start.served.beat new.served.beat a → IsCauseOf name a old new
   cause a (inl (i, is, rose)) =
       let from = subst (λ (n : ℕ). Rose n (source_at i new.served.sources).faults) (at_same (λ o. o.faults) i start.served.sources old.served.sources faults.sources) rose in
       subst (λ (a : Answer). IsCauseOf name a old new) (sym (is ∙ ap (λ j. NotRead (OfSource j)) (omega arith))) (tt, from)
@@ -276,22 +128,11 @@ module _ (name : List ℕ) (says : ℕ → Type 0) (answer : Answer) (old new : 
     by_written (inl (is, text)) = cause answer (ends answer (sym is))
     by_written (inr (is, failed)) = by_uncut failed.rose (uncut (run_answer course) answer is)
 
--- what nothing is asked of ended since nothing was left, where it did no more than that
-flusher_spent : (made : ℕ) (f : LoopEnd) (other : Answer) (beat beat_now : Object) → EndsFlusher 0 f beat beat_now made → by_beat f other ≡ Done → is_worn f ≡ false → IsSpent beat_now.told
-flusher_spent made Spent other beat beat_now h done none = h.0
-flusher_spent made Failed other beat beat_now h done none = absurd (cc)
-flusher_spent made (Enough n) other beat beat_now h done none = let asked = h.0 in absurd (omega (arith, asked))
-flusher_spent made (WornOut n) other beat beat_now h done none = absurd (cc)
-
 keeper_spent : (k : LoopEnd) (seen turned : ℕ) (door_now : Object) → EndsKeeper 0 k door_now seen turned → is_worn k ≡ false → IsSpent door_now.told
 keeper_spent Spent seen turned door_now h none = h.0
 keeper_spent Failed seen turned door_now h none = absurd h
 keeper_spent (Enough n) seen turned door_now h none = let asked = h.0 in absurd (omega (arith, asked))
 keeper_spent (WornOut n) seen turned door_now h none = absurd (cc)
-
-both_false : (a b : Bool) → (a || b) ≡ false → (a ≡ false) × (b ≡ false)
-both_false true b h = absurd (cc)
-both_false false b h = (refl, h)
 
 module _ (name : List ℕ) (says : ℕ → Type 0) (old new : World) (h : HasServed name says Done old new) where
   abbrev begin : World
@@ -300,49 +141,24 @@ module _ (name : List ℕ) (says : ℕ → Type 0) (old new : World) (h : HasSer
   abbrev heard : List LoopEnd
   heard = map (λ r. r.ended) h.course.receptions
 
-  abbrev rest : List LoopEnd
-  rest = h.course.flusher_ended ∷ h.course.keeper_ended ∷ []
-
   done : run_answer h.course ≡ Done
   done = by_written h.written where
-    by_uncut : (Done ≡ NotWritten) ⊎ (run_answer h.course ≡ Done) → run_answer h.course ≡ Done
-    by_uncut (inl is) = absurd (cc)
-    by_uncut (inr is) = is
-
     by_written : WritesTotals (totals_text (run_totals h.values h.course)) (run_answer h.course) Done old.seen.output new.seen.output → run_answer h.course ≡ Done
     by_written (inl (is, text)) = sym is
-    by_written (inr (is, failed)) = by_uncut (uncut (run_answer h.course) Done is)
+    by_written (inr (is, failed)) = whole_done (run_answer h.course) (uncut (run_answer h.course) Done is)
 
   module _ (asked : h.values.sizes.run_flushes ≡ 0) where
     pub all_spent : AreAllSpent h.values.sizes.receivers new
-    all_spent = by_ends (by_one 0 Done (by_beat h.course.flusher_ended (turns_answer (heard ++ rest))) 0 heard begin.served.sources new.served.sources loops_of done) where
-      loops_of : AreEnded 0 heard begin.served.sources new.served.sources
-      loops_of = subst (λ (n : ℕ). AreEnded n heard begin.served.sources new.served.sources) asked (loops name says Done old new h)
-
-      by_tests : (list_any is_worn heard ≡ false) × (list_any is_worn rest ≡ false) → by_beat h.course.flusher_ended (turns_answer (heard ++ rest)) ≡ Done → AreAllSpent h.values.sizes.receivers new
-      by_tests none beat =
-          let two = both_false (is_worn h.course.flusher_ended) _ none.1 in
-          let one = both_false (is_worn h.course.keeper_ended) false two.1 in
-          let flushed = h.theorem.run.flushed in
-          let kept = h.theorem.run.kept in
-          record {
-            sources = λ i below. spent_all 0 heard _ begin.served.sources new.served.sources done none.0 loops_of i (omega (arith, below, length-map h.course.receptions (λ (r : Reception). r.ended), h.theorem.run.count));
-            beat = flusher_spent (length h.course.ticked) h.course.flusher_ended _ begin.served.beat new.served.beat (subst (λ (n : ℕ). EndsFlusher n h.course.flusher_ended begin.served.beat new.served.beat (length h.course.ticked)) asked flushed.ends) beat two.0;
-            door = keeper_spent h.course.keeper_ended kept.seen kept.turned new.served.door (subst (λ (n : ℕ). EndsKeeper n h.course.keeper_ended new.served.door kept.seen kept.turned) asked kept.ends) one.0;
-          }
-
-      by_end : (Done ≡ Worn most_turns) × (list_any is_worn (heard ++ rest) ≡ true) ⊎ (Done ≡ Done) × (list_any is_worn (heard ++ rest) ≡ false) → by_beat h.course.flusher_ended (turns_answer (heard ++ rest)) ≡ Done → AreAllSpent h.values.sizes.receivers new
-      by_end (inl (is, worn)) beat = absurd (cc)
-      by_end (inr (is, none)) beat = by_tests (both_false (list_any is_worn heard) _ (sym (list_any-append is_worn heard rest) ∙ none)) beat
-
-      by_flush : (Done ≡ NotRead OfBeat) × Rose begin.served.beat.faults new.served.beat.faults ⊎ (turns_answer (heard ++ rest) ≡ Done) → by_beat h.course.flusher_ended (turns_answer (heard ++ rest)) ≡ Done → AreAllSpent h.values.sizes.receivers new
-      by_flush (inl (is, rose)) beat = absurd (cc)
-      by_flush (inr is) beat = by_end (by_turns (heard ++ rest) Done is) beat
-
-      by_ends : ByReceiver 0 Done begin.served.sources new.served.sources ⊎ (by_beat h.course.flusher_ended (turns_answer (heard ++ rest)) ≡ Done) → AreAllSpent h.values.sizes.receivers new
-      by_ends (inl (i, is, rose)) = absurd (cc)
-      by_ends (inr is) =
-          by_flush (by_flusher h.values.sizes.run_flushes (length h.course.ticked) Done (turns_answer (heard ++ rest)) h.course.flusher_ended begin.served.beat new.served.beat h.theorem.run.flushed.ends is) is
+    all_spent =
+        let all = all_done (length h.course.ticked) heard h.course.flusher_ended (h.course.keeper_ended ∷ []) begin.served.sources new.served.sources begin.served.beat new.served.beat
+        (subst (λ (n : ℕ). AreEnded n heard begin.served.sources new.served.sources) asked (loops name says Done old new h))
+        (subst (λ (n : ℕ). EndsFlusher n h.course.flusher_ended begin.served.beat new.served.beat (length h.course.ticked)) asked h.theorem.run.flushed.ends) done in
+        let kept = h.theorem.run.kept in
+        record {
+          sources = λ i below. all.sources i (omega (arith, below, length-map h.course.receptions (λ (r : Reception). r.ended), h.theorem.run.count));
+          beat = all.beat;
+          door = keeper_spent h.course.keeper_ended kept.seen kept.turned new.served.door (subst (λ (n : ℕ). EndsKeeper n h.course.keeper_ended new.served.door kept.seen kept.turned) asked kept.ends) (both_false (is_worn h.course.keeper_ended) false all.none_worn).0;
+        }
 
 -- every answer has its cause
 pub answer_cause : (name : List ℕ) (says : ℕ → Type 0) (old new : World) (answer : Answer) → ServerAccounts name says answer old new → IsCauseOf name answer old new

@@ -28,18 +28,19 @@ pub record Flags : Type 0 where
 abbrev pub flags_of : Settings → Flags
 flags_of s = record { graphite = is_used s Graphite; console = is_used s Console }
 
--- What is seen of the objects that a server alone uses: the sources of its receivers, the beat and the door.
+-- What is seen of the sources of receivers, the beat and the door, which no replay uses.
 pub record Served : Type 0 where
   pub sources : List Object
   pub beat : Object
   pub door : Object
 
--- What is seen of a call's objects: the settings, what a replay uses, and a server alone; and which backends are flagged as
--- used.
+-- What is seen of a call's objects: the settings, what a replay uses, what a server alone or the proxy uses, and the probe, which is
+-- the proxy's alone; and which backends are flagged as used.
 pub record World : Type 0 where
   pub settings : Object
   pub seen : Seen
   pub served : Served
+  pub probe : Object
   pub flags : Flags
 
 -- how many bytes a settings file has at most

@@ -1,67 +1,93 @@
 -- What the program answers where it is asked for the proxy, and what was done by then.
-use Rattle.std.specs.Prelude.{◌≡◌, ◌⊎◌, ℕ, ◌<◌, List, [], ◌∷◌, length, map, codes, All, Option, Some, ⊤}
+use Rattle.std.specs.Prelude.{◌≡◌, ◌⊎◌, ℕ, ◌*◌, ◌^◌, ◌==◌, nat_lt, min, if◌then◌else◌, List, [], ◌++◌, length, map, codes, Option, Some, None, ⊤}
 use Rattle.sd_model_outside.specs.Outside.{Object, Place, File, Host}
 use Rattle.sd_model_settings.specs.Entries.{Node}
-use Rattle.sd_model_settings.specs.Settings.{Settings, OutOfRange}
-use Rattle.sd_model_serve.specs.Ends.{LoopEnd, Spent, Failed, Enough, WornOut}
-use Rattle.sd_model_proxy.specs.Routes.{AreAllUp}
-use Rattle.sd_model_proxy.specs.Relays.{Relay, AreRelays, relays_totals}
+use Rattle.sd_model_settings.specs.Settings.{Settings, SettingsFlaw, OutOfRange}
+use Rattle.sd_model_serve.specs.Ends.{LoopEnd}
+use Rattle.sd_model_replay.specs.Totals.{total_line}
+use Rattle.sd_model_proxy.specs.Relays.{Relay, relays_totals}
 use Rattle.sd_model_proxy.specs.Totals.{proxy_text}
+use Rattle.sd_model_live.specs.Checks.{Check, failed_in}
+use Rattle.sd_model_live.specs.Proxy.{ProxyTheorem}
 use Rattle.sd_model_call.specs.Words.{Form, Proxy}
-use Rattle.sd_model_call.specs.Opening.{Opening, OfSource, OfWire, World, IsAccepted, OnlySettings, numbered, opened_all, settled}
-use Rattle.sd_model_call.specs.Call.{Answer, Done, Misset, NotRead, Worn, NotBegun, NotTaken, WritesTotals}
+use Rattle.sd_model_call.specs.Opening.{Opening, OfWire, World, IsAccepted, OnlySettings, numbered, repeated, settled}
+use Rattle.sd_model_call.specs.Call.{Answer, Misset, NotBegun, NotTaken, WritesTotals}
+use Rattle.sd_model_call.specs.Server.{ends_answer}
+use Rattle.sd_model_call.specs.ServerOpening.{begun_with, source_openings}
 
 -- where the wire of a node is opened
 abbrev pub node_place : Node → Place
 node_place n = Host n.host n.port
 
--- What the proxy opens once the settings are read, in this order: the source of its receiver, at the address that the server listens
--- at, and a wire for each node.
+-- What the proxy opens once the settings are read, in this order: a source for each receiver, at the address that the server listens
+-- at, and a run of wires for each receiver, with a wire to each node.
 abbrev pub proxy_openings : Settings → List Opening
-proxy_openings s =
-    record { part = OfSource 0; place = Host s.addresses.address s.server.port } ∷ numbered OfWire 0 (map node_place s.lists.nodes)
+proxy_openings s = source_openings s ++ numbered OfWire 0 (repeated s.sizes.receivers (map node_place s.lists.nodes))
 
--- Settings were read and accepted, but they name no node, which the proxy needs. Nothing else was opened.
-pub record HasNoNodes (name : List ℕ) (answer : Answer) (old new : World) : Type 0 where
+-- once all parts of the proxy were opened, and the beat was started with the interval of its checks
+abbrev pub proxy_begun : Settings → World → World
+proxy_begun s w = begun_with (proxy_openings s) s.sizes.check_interval w
+
+-- how many wires the proxy has at most
+abbrev pub most_wires : ℕ
+most_wires = 256
+
+-- what keeps the proxy from values that were accepted: they name no node, or their receivers have more wires to the nodes than there
+-- may be
+abbrev pub proxy_flaw : Settings → Option SettingsFlaw
+proxy_flaw s =
+    if length s.lists.nodes == 0 then Some (OutOfRange (codes "nodes"))
+    else (if nat_lt most_wires (s.sizes.receivers * length s.lists.nodes) then Some (OutOfRange (codes "receivers")) else None)
+
+-- Settings were read and accepted, but this keeps the proxy from them. Nothing else was opened.
+pub record IsUnfit (name : List ℕ) (flaw : SettingsFlaw) (old new : World) : Type 0 where
   pub values : Settings
   pub taken : IsAccepted values (File name) old.settings new.settings
-  pub none : values.lists.nodes ≡ []
-  pub answer_is : answer ≡ Misset (OutOfRange (codes "nodes"))
+  pub flaw_is : proxy_flaw values ≡ Some flaw
   pub only : OnlySettings old new
 
--- Settings were read and accepted, and name some nodes, and then the proxy couldn't be begun.
+-- Settings were read and accepted, nothing keeps the proxy from them, and then it couldn't be begun.
 pub record ProxyNotBegun (name : List ℕ) (answer : Answer) (old new : World) : Type 0 where
   pub not_begun : NotBegun proxy_openings name answer old new
-  pub some : 0 < length not_begun.values.lists.nodes
+  pub fits : proxy_flaw not_begun.values ≡ None
 
--- what is answered where the loop of the receiver ended so, and the totals could be written
-abbrev pub relay_answer : LoopEnd → Answer
-relay_answer Spent = Done
-relay_answer Failed = NotRead (OfSource 0)
-relay_answer (Enough flushes) = Done
-relay_answer (WornOut turns) = Worn turns
+-- how a proxy is answered whose receivers and whose checker ended so, and whose totals could be written
+abbrev pub proxy_answer : List Relay → LoopEnd → Answer
+proxy_answer relays checker_ended = ends_answer (map (λ r. r.ended) relays) checker_ended []
 
--- The proxy of settings that were read and accepted was begun: the lines of each datagram that its source gave went on the wires of
--- their owners, all nodes being up; its totals were written, and the answer says how its loop ended, or that the output failed.
--- Nothing else that is seen changed.
+-- the lines of its totals: those of its receivers, added up, the number of checks, and that of the questions that failed, up to 2^63
+abbrev pub relay_text : List Node → List Relay → List Check → List ℕ
+relay_text nodes relays checks =
+    proxy_text (relays_totals nodes relays)
+    ++ total_line (codes "checks") (length checks)
+    ++ total_line (codes "probe_faults") (min (failed_in checks) (2 ^ 63))
+
+-- The proxy of settings that were read and accepted was begun, and its theorem holds of what its receivers and its checker did; its
+-- totals were written, and the answer says how these ended, or that the output failed. Nothing else that is seen changed.
 pub record HasProxied (name : List ℕ) (answer : Answer) (old new : World) : Type 0 where
   pub values : Settings
   pub settings : Object
   pub taken : IsAccepted values (File name) old.settings settings
-  pub some : 0 < length values.lists.nodes
-  pub relay : Relay
-  pub all_up : All (λ r. AreAllUp values.lists.nodes r.up) relay.reads
-  pub relays : (let start = opened_all (settled values settings old) (proxy_openings values) in AreRelays values.lists.nodes (relay ∷ []) start.served.sources new.served.sources start.seen.wires new.seen.wires)
-  pub written : WritesTotals (proxy_text (relays_totals values.lists.nodes (relay ∷ []))) (relay_answer relay.ended) answer old.seen.output new.seen.output
+  pub fits : proxy_flaw values ≡ None
+  pub relays : List Relay
+  pub count : length relays ≡ values.sizes.receivers
+  pub checks : List Check
+  pub checker_ended : LoopEnd
+  pub theorem : (let start = proxy_begun values (settled values settings old) in ProxyTheorem values.lists.nodes relays checks checker_ended start.served.sources new.served.sources start.seen.wires new.seen.wires start.served.beat new.served.beat old.probe new.probe)
+  pub written : WritesTotals (relay_text values.lists.nodes relays checks) (proxy_answer relays checker_ended) answer old.seen.output new.seen.output
   pub others : new ≡ record (settled values settings old) {
     seen = record old.seen { wires = new.seen.wires; output = new.seen.output };
-    served = record old.served { sources = new.served.sources };
+    served = record old.served { sources = new.served.sources; beat = new.served.beat };
+    probe = new.probe;
   }
 
 -- The account of a call that is asked for the proxy by this settings file.
 abbrev pub ProxyAccounts : List ℕ → Answer → World → World → Type 0
 ProxyAccounts name answer old new =
-    NotTaken name answer old new ⊎ HasNoNodes name answer old new ⊎ ProxyNotBegun name answer old new ⊎ HasProxied name answer old new
+    NotTaken name answer old new
+    ⊎ ((flaw : SettingsFlaw) × (answer ≡ Misset flaw) × IsUnfit name flaw old new)
+    ⊎ ProxyNotBegun name answer old new
+    ⊎ HasProxied name answer old new
 
 -- where the words ask for the proxy, its account; nothing, where they don't
 abbrev pub AnswersProxy : Option Form → Answer → World → World → Type 0

@@ -34,15 +34,14 @@ by_beat ended other = other
 abbrev pub turns_answer : List LoopEnd → Answer
 turns_answer ends = if list_any is_worn ends then Worn most_turns else Done
 
--- What is answered after a run whose receivers, flusher and keeper of the door ended so, and whose totals could be written: the
--- receiver of least number that failed, then the beat, then a loop that took the most turns, and else that all was done.
-abbrev pub ends_answer : (receivers : List LoopEnd) → (flusher keeper : LoopEnd) → Answer
-ends_answer receivers flusher keeper =
-    by_receivers 0 receivers (by_beat flusher (turns_answer (receivers ++ flusher ∷ keeper ∷ [])))
+-- What is answered after a run whose receivers ended so, and the worker of the beat, and the others, and whose totals could be
+-- written: the receiver of least number that failed, then the beat, then a loop that took the most turns, and else that all was done.
+abbrev pub ends_answer : (receivers : List LoopEnd) → (ticker : LoopEnd) → (others : List LoopEnd) → Answer
+ends_answer receivers ticker others = by_receivers 0 receivers (by_beat ticker (turns_answer (receivers ++ ticker ∷ others)))
 
 -- what is answered after this run
 abbrev pub run_answer : Course → Answer
-run_answer c = ends_answer (map (λ r. r.ended) c.receptions) c.flusher_ended c.keeper_ended
+run_answer c = ends_answer (map (λ r. r.ended) c.receptions) c.flusher_ended (c.keeper_ended ∷ [])
 
 -- the totals of a run
 abbrev pub run_totals : Settings → Course → Totals
@@ -59,6 +58,7 @@ pub record HasServed (name : List ℕ) (says : ℕ → Type 0) (answer : Answer)
   pub theorem : (let start = begun values (settled values settings old) in ServerTheorem (serves_by values) says course (objects_in start) (objects_in new))
   pub written : WritesTotals (totals_text (run_totals values course)) (run_answer course) answer old.seen.output new.seen.output
   pub script : new.seen.script ≡ old.seen.script
+  pub probe : new.probe ≡ old.probe
   pub flags : new.flags ≡ flags_of values
   pub kept : new.settings ≡ settings
 

@@ -1,5 +1,5 @@
 -- What a server opens, and what it begins with.
-use Rattle.std.specs.Prelude.{List, [], ◌∷◌, ◌++◌, length}
+use Rattle.std.specs.Prelude.{ℕ, List, [], ◌∷◌, ◌++◌, length}
 use Rattle.sd_model_outside.specs.Outside.{File, Host, Object}
 use Rattle.sd_model_outside.specs.Turns.{with_interval}
 use Rattle.sd_model_settings.specs.Defaults.{plan_of, names_of}
@@ -47,6 +47,10 @@ back_in w Console = w.seen.console
 abbrev pub objects_in : World → Objects
 objects_in w = record { sources = w.served.sources; wires = w.seen.wires; beat = w.served.beat; backs = back_in w; door = w.served.door }
 
--- once all parts of a server were opened, and the beat was started, once, with the interval of the settings
+-- once these parts were opened, in their order, and then the beat was started, once, with this interval
+abbrev pub begun_with : List Opening → ℕ → World → World
+begun_with parts interval w = let all = opened_all w parts in record all { served = record all.served { beat = with_interval interval all.served.beat } }
+
+-- once all parts of a server were opened, and the beat was started with the interval of the settings
 abbrev pub begun : Settings → World → World
-begun s w = let all = opened_all w (server_openings s) in record all { served = record all.served { beat = with_interval s.server.flush_interval all.served.beat } }
+begun s w = begun_with (server_openings s) s.server.flush_interval w

@@ -1,6 +1,6 @@
-ghost use Rattle.std.specs.Prelude.{◌≡◌, ◌<◌, ◌≤◌, ℕ, List, [], ◌∷◌, length, min, codes, decimal, Some, Ok, Err};
+ghost use Rattle.std.specs.Prelude.{◌≡◌, ◌<◌, ◌≤◌, ℕ, List, [], ◌∷◌, length, min, codes, decimal, Some, None, Ok, Err};
 ghost use Rattle.sd_model_outside.specs.Outside.{Rose, Used, given, last_count};
-ghost use Rattle.sd_model_settings.specs.Settings.{OutOfRange, SettingsFlaw, settings, Settings};
+ghost use Rattle.sd_model_settings.specs.Settings.{SettingsFlaw, settings, Settings};
 ghost use Rattle.sd_model_replay.specs.Script.{Command, script_text};
 ghost use Rattle.sd_model_replay.specs.Totals.{Totals};
 ghost use Rattle.sd_model_record.specs.Repeater.{wire_at};
@@ -12,7 +12,7 @@ ghost use Rattle.sd_model_call.specs.Words.{Drill, form};
 ghost use Rattle.sd_model_call.specs.Drill.{drill_text};
 ghost use Rattle.sd_model_call.specs.Call.{Accounts, Answer, BadScript, Done, IsScripted, Misset, OnlyOutput, Worn};
 ghost use Rattle.sd_model_call.specs.Completeness.{Asks, AsksPlainly, CarriedOut, CarriedOutWell, EndsSo, IsBlocked, IsCutOff, IsFull, IsLongest, IsTold, IsUnhindered, IsWhole, NoneMissed, refusal, start_of};
-ghost use Rattle.sd_model_call.specs.Proxy.{AnswersProxy, ProxyAccounts};
+ghost use Rattle.sd_model_call.specs.Proxy.{AnswersProxy, ProxyAccounts, proxy_flaw};
 ghost use Rattle.sd_model_call.specs.ProxyCompleteness.{AsksForProxy, IsProxyCauseOf, IsRelayed, IsUnhinderedProxy, NoWireFailed};
 
 /// A replay that nothing hinders comes to the word that ends the script. One whose script is cut off behind some records, by a
@@ -74,20 +74,21 @@ pub fn drills_complete()
         → form words ≡ Some (Drill n) → Accounts words old new answer → OnlyOutput old new }
 {}
 
-/// A proxy that nothing hinders sends on what its source gives, unless memory or the wire of a node is lacking; one whose settings
-/// have a flaw, or name no node, says so. Each answer has its cause: where all was done, the source has nothing left.
+/// A proxy that nothing hinders sends on what its sources give, unless memory or the wire of a node is lacking; one whose settings
+/// have a flaw, or something that keeps it from them, says so. Each answer has its cause: where all was done, the sources and the
+/// beat have nothing left.
 pub fn unhindered_proxies_relay()
     ensures relays { (words : List (List ℕ)) (values : Settings) (old new : World) (bytes : List ℕ) (answer : Answer)
-        → AsksForProxy words old bytes → settings bytes ≡ Ok values → 0 < length values.lists.nodes → IsUnhinderedProxy old new
+        → AsksForProxy words old bytes → settings bytes ≡ Ok values → proxy_flaw values ≡ None → IsUnhinderedProxy old new
         → AnswersProxy (form words) answer old new → IsRelayed answer }
     ensures whole { (words : List (List ℕ)) (values : Settings) (old new : World) (bytes : List ℕ) (answer : Answer)
-        → AsksForProxy words old bytes → settings bytes ≡ Ok values → 0 < length values.lists.nodes → IsUnhinderedProxy old new
+        → AsksForProxy words old bytes → settings bytes ≡ Ok values → proxy_flaw values ≡ None → IsUnhinderedProxy old new
         → NoWireFailed old new → AnswersProxy (form words) answer old new → IsWhole Done answer }
     ensures blocked { (words : List (List ℕ)) (flaw : SettingsFlaw) (old new : World) (bytes : List ℕ) (answer : Answer)
         → AsksForProxy words old bytes → settings bytes ≡ Err flaw → AnswersProxy (form words) answer old new → IsBlocked (Misset flaw) answer }
-    ensures nodes { (words : List (List ℕ)) (values : Settings) (old new : World) (bytes : List ℕ) (answer : Answer)
-        → AsksForProxy words old bytes → settings bytes ≡ Ok values → values.lists.nodes ≡ []
-        → AnswersProxy (form words) answer old new → IsBlocked (Misset (OutOfRange (codes "nodes"))) answer }
+    ensures unfit { (words : List (List ℕ)) (values : Settings) (flaw : SettingsFlaw) (old new : World) (bytes : List ℕ) (answer : Answer)
+        → AsksForProxy words old bytes → settings bytes ≡ Ok values → proxy_flaw values ≡ Some flaw
+        → AnswersProxy (form words) answer old new → IsBlocked (Misset flaw) answer }
     ensures causes { (name : List ℕ) (old new : World) (answer : Answer) → ProxyAccounts name answer old new → IsProxyCauseOf name answer old new }
 {}
 

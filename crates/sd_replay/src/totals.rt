@@ -52,7 +52,7 @@ impl Totals {
 }
 
 /// Appends a line: the name, a space, the number and a newline.
-fn push_total(name: &[u8], n: u128, line: &mut Line)
+pub fn push_total(name: &[u8], n: u128, line: &mut Line)
     requires { length line.old.items + length name.now + 41 ≤ 1024 }
     ensures text { line.new.items ≡ line.old.items ++ total_line name.now n }
     ensures len { length line.new.items ≤ length line.old.items + length name.now + 41 }

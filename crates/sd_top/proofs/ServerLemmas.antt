@@ -1,7 +1,7 @@
 -- The end of a server.
-use Rattle.std.proofs.Common.{◌≡◌, ℕ, ◌+◌, ◌<◌, List, [], ◌∷◌, ◌++◌, length, map, get_or, sym, ap, subst, ◌∙◌, arith}
+use Rattle.std.proofs.Common.{◌≡◌, ℕ, ◌<◌, List, [], ◌∷◌, ◌++◌, length, map, get_or, refl, sym, ap, subst, ◌∙◌, arith}
 use Rattle.std.specs.Prelude.{◌||◌, sum_by}
-use Rattle.std.proofs.Math.Bool.{or-false, or_assoc}
+use Rattle.std.proofs.Math.Bool.{or_assoc}
 use Rattle.std.proofs.lemmas.List.{length-map, get_or-map}
 use Rattle.std.proofs.lemmas.List.FromFn.{fill_by_all}
 use Rattle.std.proofs.lemmas.List.Sums.{sum-map}
@@ -27,10 +27,10 @@ use Rattle.sd_serve.specs.declared.serving.Served.{Served}
 use Rattle.sd_shard.specs.declared.shard.ShardBook.{ShardBook}
 use Rattle.sd_top.specs.Serving.{ends_of, totals_in}
 
--- whether a worker took the most turns: a receiver, or one of two others
-pub worn_among : (received : List Ended) (f k : LoopEnd) → list_any is_worn (map end_of received ++ f ∷ k ∷ []) ≡ (list_any (λ e. is_worn (end_of e)) received || (is_worn f || is_worn k))
-worn_among [] f k = ap (λ b. is_worn f || b) (or-false (is_worn k))
-worn_among (e ∷ received) f k = ap (λ b. is_worn (end_of e) || b) (worn_among received f k) ∙ sym (or_assoc (is_worn (end_of e)) (list_any (λ e. is_worn (end_of e)) received) (is_worn f || is_worn k))
+-- whether a loop took the most turns: a receiver's, or another
+pub worn_among : (received : List Ended) (others : List LoopEnd) → list_any is_worn (map end_of received ++ others) ≡ (list_any (λ e. is_worn (end_of e)) received || list_any is_worn others)
+worn_among [] others = refl
+worn_among (e ∷ received) others = ap (λ b. is_worn (end_of e) || b) (worn_among received others) ∙ sym (or_assoc (is_worn (end_of e)) (list_any (λ e. is_worn (end_of e)) received) (list_any is_worn others))
 
 -- a number of each book, summed, where it is that of a shard by its number
 summed_books : (f : ShardBook → ℕ) (g : ℕ → ℕ) (books : List ShardBook) (n : ℕ) → length books ≡ n → ((i : ℕ) → i < n → f (get_or books i no_book) ≡ g i) → sum_by f books ≡ sum_by g (range_with_len 0 n)
@@ -71,9 +71,9 @@ pub has_served : (name : List ℕ) (says : ℕ → Type 0) (answer : Answer) (ol
     → IsAccepted values (File name) old.settings settings → mid ≡ settled values settings old
     → Ran (serves_by values) says (objects_in (begun values mid)) (objects_in new) served
     → WritesTotals (totals_text (totals_in served.books.items served.desk)) (ends_of served.received.items served.ends) answer old.seen.output new.seen.output
-    → new.seen.script ≡ old.seen.script → new.flags ≡ flags_of values → new.settings ≡ settings
+    → new.seen.script ≡ old.seen.script → new.probe ≡ old.probe → new.flags ≡ flags_of values → new.settings ≡ settings
     → HasServed name says answer old new
-has_served name says answer old mid new values settings served accepted is ran written script flags kept =
+has_served name says answer old mid new values settings served accepted is ran written script probe flags kept =
     record {
       values = values;
       settings = settings;
@@ -81,8 +81,9 @@ has_served name says answer old mid new values settings served accepted is ran w
       course = ran.course;
       theorem = subst (λ w. ServerTheorem (serves_by values) says ran.course (objects_in (begun values w)) (objects_in new)) is ran.theorem;
       written = subst (λ t. WritesTotals (totals_text t) (run_answer ran.course) answer old.seen.output new.seen.output) (totals_are values ran.course served.books.items served.desk ran.desk ran.shards ran.books)
-          (subst (λ whole. WritesTotals (totals_text (totals_in served.books.items served.desk)) whole answer old.seen.output new.seen.output) (λ i. ends_answer (ran.received i) (ran.flusher i) (ran.keeper i)) written);
+          (subst (λ whole. WritesTotals (totals_text (totals_in served.books.items served.desk)) whole answer old.seen.output new.seen.output) (λ i. ends_answer (ran.received i) (ran.flusher i) (ran.keeper i ∷ [])) written);
       script = script;
+      probe = probe;
       flags = flags;
       kept = kept;
     }

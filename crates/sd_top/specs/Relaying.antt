@@ -1,25 +1,35 @@
--- What the proxy of a settings file did.
-use Rattle.std.specs.Prelude.{◌≡◌, List, [], ◌∷◌, All}
-use Rattle.sd_model_outside.specs.Outside.{Object}
-use Rattle.sd_model_settings.specs.Entries.{Node}
+-- What the proxy of a settings file did, and what it tells once its run has ended.
+use Rattle.std.specs.Prelude.{◌≡◌, ◌++◌, ℕ, List, [], codes, map}
 use Rattle.sd_model_settings.specs.Settings as file
-use Rattle.sd_model_proxy.specs.Routes.{AreAllUp}
-use Rattle.sd_model_proxy.specs.Relays.{Relay, AreRelays, relays_totals}
-use Rattle.sd_model_call.specs.Opening.{World, opened_all}
-use Rattle.sd_model_call.specs.Proxy.{proxy_openings}
-use Rattle.sd_proxy.specs.Views.{end_view, totals_view}
-use Rattle.sd_proxy.specs.declared.proxied.Proxied.{Proxied}
+use Rattle.sd_model_replay.specs.Totals.{total_line}
+use Rattle.sd_model_proxy.specs.Totals.{proxy_text}
+use Rattle.sd_model_call.specs.Call.{Answer}
+use Rattle.sd_model_call.specs.Opening.{World}
+use Rattle.sd_model_call.specs.Proxy.{proxy_begun}
+use Rattle.sd_model_call.specs.Server.{ends_answer}
+use Rattle.sd_check.specs.Checking as checking
+use Rattle.sd_check.specs.declared.checked.Checked.{Checked}
+use Rattle.sd_outside.specs.declared.datagrams.Ended.{Ended}
+use Rattle.sd_relay.specs.Relaying as relaying
+use Rattle.sd_relay.specs.Sums.{sums_view}
+use Rattle.sd_relay.specs.declared.relaying.Relayed.{Relayed}
+use Rattle.sd_relay.specs.declared.sums.ProxySums.{ProxySums}
+use Rattle.sd_serve.specs.Serving.{end_of}
 
--- A receiver sent the lines of its datagrams on the wires of their owners, all nodes being up, and left what it counted, and how it
--- ended.
-pub record Relays (nodes : List Node) (sources sources_now wires wires_now : List Object) (p : Proxied) : Type 0 where
-  pub relay : Relay
-  pub all_up : All (λ r. AreAllUp nodes r.up) relay.reads
-  pub relays : AreRelays nodes (relay ∷ []) sources sources_now wires wires_now
-  pub totals : totals_view p.totals ≡ relays_totals nodes (relay ∷ [])
-  pub ended : end_view p.ended ≡ relay.ended
+-- The parts of the proxy were opened, the beat was started, and then it ran. Nothing else that is seen changed.
+pub record HasRelayed (values : file.Settings) (old new : World) (r : Relayed) : Type 0 where
+  pub relayed : (let start = proxy_begun values old in relaying.HasRelayed values.lists.nodes values.sizes.receivers start.served.sources new.served.sources start.seen.wires new.seen.wires start.served.beat new.served.beat old.probe new.probe r)
+  pub others : new ≡ record old {
+    seen = record old.seen { wires = new.seen.wires };
+    served = record old.served { sources = new.served.sources; beat = new.served.beat };
+    probe = new.probe;
+  }
 
--- The parts of the proxy were opened, and then it did so. Nothing else that is seen changed.
-pub record HasRelayed (values : file.Settings) (old new : World) (p : Proxied) : Type 0 where
-  pub relayed : (let start = opened_all old (proxy_openings values) in Relays values.lists.nodes start.served.sources new.served.sources start.seen.wires new.seen.wires p)
-  pub others : new ≡ record old { seen = record old.seen { wires = new.seen.wires }; served = record old.served { sources = new.served.sources } }
+-- how a proxy is answered whose receivers and whose checker ended so
+abbrev pub relay_answer : List Ended → Checked → Answer
+relay_answer received checked = ends_answer (map end_of received) (checking.end_view checked.ended) []
+
+-- the lines of a proxy's totals
+abbrev pub relay_lines : ProxySums → Checked → List ℕ
+relay_lines sums checked =
+    proxy_text (sums_view sums) ++ total_line (codes "checks") checked.checks ++ total_line (codes "probe_faults") checked.probe_faults

@@ -1,5 +1,5 @@
 -- What a server of a settings file is opened for, and what it tells once its run has ended.
-use Rattle.std.specs.Prelude.{List, length, map, sum_by}
+use Rattle.std.specs.Prelude.{List, [], ◌∷◌, length, map, sum_by}
 use Rattle.sd_model_record.specs.Desk.{Desk}
 use Rattle.sd_model_settings.specs.Settings as file
 use Rattle.sd_model_replay.specs.Settings.{limits_of, policy_of, targets_of}
@@ -20,7 +20,7 @@ sizing_by s = record { limits = limits_of s; policy = policy_of s; shards = s.si
 
 -- how a run is answered whose workers ended so
 abbrev pub ends_of : List Ended → Ends → Answer
-ends_of received ends = ends_answer (map end_of received) (end_of ends.flusher) (door_end_of ends.keeper)
+ends_of received ends = ends_answer (map end_of received) (end_of ends.flusher) (door_end_of ends.keeper ∷ [])
 
 -- the numbers of all shards together
 abbrev pub sums_of : List ShardBook → ShardsBook

@@ -19,7 +19,7 @@ use crate::status::{Status, status_of};
 use crate::words::{Form, form_of};
 use sd_config::Settings;
 use sd_outside::{
-    Address, Backend, Backs, Beat, Clock, Datagrams, Door, Gate, Name, Sink, Source, Wire,
+    Address, Backend, Backs, Beat, Clock, Datagrams, Door, Gate, Name, Probe, Sink, Source, Wire,
 };
 use sd_replay::{ReplayEnd, ReplayRoom, names_backend, replay};
 use std::alloc::Global;
@@ -28,7 +28,7 @@ use std::thread::Threads;
 
 /// The objects that the program uses. None is opened yet.
 #[derive(Drop)]
-pub struct World<R, O, B, D, L, E, P, G, T> {
+pub struct World<R, O, B, D, L, E, P, G, T, Q> {
     pub settings: R,
     pub script: R,
     pub output: O,
@@ -39,6 +39,7 @@ pub struct World<R, O, B, D, L, E, P, G, T> {
     pub beat: P,
     pub gate: G,
     pub clock: T,
+    pub probe: Q,
 }
 
 /// Opens what a replay by these settings uses, and carries out the script.
@@ -46,25 +47,37 @@ pub struct World<R, O, B, D, L, E, P, G, T> {
 /// # Errors
 ///
 /// `OpenFault` where an object failed, and `OutOfMemory`.
-fn carry_out<R: Source, O: Sink, B: Backend, D: Datagrams, L: Wire, E: Door, P: Beat, G, T>(
+fn carry_out<
+    R: Source,
+    O: Sink,
+    B: Backend,
+    D: Datagrams,
+    L: Wire,
+    E: Door,
+    P: Beat,
+    G,
+    T,
+    Q: Probe,
+>(
     alloc: Global,
     settings: &Settings,
     script: Name,
-    world: &mut World<R, O, B, D, L, E, P, G, T>,
+    world: &mut World<R, O, B, D, L, E, P, G, T, Q>,
 ) -> Result<ReplayEnd, Status>
-    requires flags { (world_of R.seen O.seen B.seen D.seen L.seen E.seen P.seen world.old).flags ≡ flags_of settings.now }
+    requires flags { (world_of R.seen O.seen B.seen D.seen L.seen E.seen P.seen Q.seen world.old).flags ≡ flags_of settings.now }
     requires wires { 256 ≤ length (world.old).wires.items }
     ensures end { IfOk result (λ end. Replayed settings.now (end_of end)
-        (started script.items settings.now (world_of R.seen O.seen B.seen D.seen L.seen E.seen P.seen world.old))
-        (world_of R.seen O.seen B.seen D.seen L.seen E.seen P.seen world.new).seen) }
+        (started script.items settings.now (world_of R.seen O.seen B.seen D.seen L.seen E.seen P.seen Q.seen world.old))
+        (world_of R.seen O.seen B.seen D.seen L.seen E.seen P.seen Q.seen world.new).seen) }
     ensures refused { IfErr result (λ status. StopsAmong (replay_openings script.items settings.now) (answer_of status)
-        (world_of R.seen O.seen B.seen D.seen L.seen E.seen P.seen world.old)
-        (world_of R.seen O.seen B.seen D.seen L.seen E.seen P.seen world.new)) }
+        (world_of R.seen O.seen B.seen D.seen L.seen E.seen P.seen Q.seen world.old)
+        (world_of R.seen O.seen B.seen D.seen L.seen E.seen P.seen Q.seen world.new)) }
     ensures settings { (world.new).settings ≡ (world.old).settings }
     ensures packets { (world.new).packets ≡ (world.old).packets }
     ensures door { (world.new).door ≡ (world.old).door }
     ensures beat { (world.new).beat ≡ (world.old).beat }
-    ensures flags { (world_of R.seen O.seen B.seen D.seen L.seen E.seen P.seen world.new).flags ≡ (world_of R.seen O.seen B.seen D.seen L.seen E.seen P.seen world.old).flags }
+    ensures probe { (world.new).probe ≡ (world.old).probe }
+    ensures flags { (world_of R.seen O.seen B.seen D.seen L.seen E.seen P.seen Q.seen world.new).flags ≡ (world_of R.seen O.seen B.seen D.seen L.seen E.seen P.seen Q.seen world.old).flags }
 {
     let Ok(room) = ReplayRoom::open(alloc, settings) else {
         return Err(Status::OutOfMemory);
@@ -81,16 +94,27 @@ fn carry_out<R: Source, O: Sink, B: Backend, D: Datagrams, L: Wire, E: Door, P: 
 }
 
 /// Reads a settings file, and carries out a script by the settings.
-fn replay_files<R: Source, O: Sink, B: Backend, D: Datagrams, L: Wire, E: Door, P: Beat, G, T>(
+fn replay_files<
+    R: Source,
+    O: Sink,
+    B: Backend,
+    D: Datagrams,
+    L: Wire,
+    E: Door,
+    P: Beat,
+    G,
+    T,
+    Q: Probe,
+>(
     alloc: Global,
     settings: Name,
     script: Name,
-    world: &mut World<R, O, B, D, L, E, P, G, T>,
+    world: &mut World<R, O, B, D, L, E, P, G, T, Q>,
 ) -> Status
     requires wires { 256 ≤ length (world.old).wires.items }
     ensures { IsReplay settings.items script.items (answer_of result)
-        (world_of R.seen O.seen B.seen D.seen L.seen E.seen P.seen world.old)
-        (world_of R.seen O.seen B.seen D.seen L.seen E.seen P.seen world.new) }
+        (world_of R.seen O.seen B.seen D.seen L.seen E.seen P.seen Q.seen world.old)
+        (world_of R.seen O.seen B.seen D.seen L.seen E.seen P.seen Q.seen world.new) }
 {
     let settings = match read_settings(alloc, &mut world.settings, &Address::File(settings)) {
         Ok(settings) => settings,
@@ -123,27 +147,33 @@ pub fn statsd<
     P: Beat + Send,
     G: Gate + Sync,
     T: Clock + Sync,
+    Q: Probe + Send,
     X: Threads + Wait + Sync,
->(rt: &X, alloc: Global, words: &[String], world: &mut World<R, O, B, D, L, E, P, G, T>) -> Status
+>(
+    rt: &X,
+    alloc: Global,
+    words: &[String],
+    world: &mut World<R, O, B, D, L, E, P, G, T, Q>,
+) -> Status
     requires packets { 16 ≤ length (world.old).packets.items }
     requires wires { 256 ≤ length (world.old).wires.items }
     requires beat { (P.seen (world.old).beat).turns < 2 ^ 62 }
     requires door { ((E.seen (world.old).door).is_out ≡ false) × ((E.seen (world.old).door).turns < 2 ^ 62) }
     ensures accounting { Accounts (map (λ w. string_bytes w) words.now)
-        (world_of R.seen O.seen B.seen D.seen L.seen E.seen P.seen world.old)
-        (world_of R.seen O.seen B.seen D.seen L.seen E.seen P.seen world.new)
+        (world_of R.seen O.seen B.seen D.seen L.seen E.seen P.seen Q.seen world.old)
+        (world_of R.seen O.seen B.seen D.seen L.seen E.seen P.seen Q.seen world.new)
         (answer_of result) }
     ensures serving { AnswersServer (form (map (λ w. string_bytes w) words.now)) (T.may_say (world.old).clock) (answer_of result)
-        (world_of R.seen O.seen B.seen D.seen L.seen E.seen P.seen world.old)
-        (world_of R.seen O.seen B.seen D.seen L.seen E.seen P.seen world.new) }
+        (world_of R.seen O.seen B.seen D.seen L.seen E.seen P.seen Q.seen world.old)
+        (world_of R.seen O.seen B.seen D.seen L.seen E.seen P.seen Q.seen world.new) }
     ensures proxying { AnswersProxy (form (map (λ w. string_bytes w) words.now)) (answer_of result)
-        (world_of R.seen O.seen B.seen D.seen L.seen E.seen P.seen world.old)
-        (world_of R.seen O.seen B.seen D.seen L.seen E.seen P.seen world.new) }
+        (world_of R.seen O.seen B.seen D.seen L.seen E.seen P.seen Q.seen world.old)
+        (world_of R.seen O.seen B.seen D.seen L.seen E.seen P.seen Q.seen world.new) }
 {
     match form_of(words) {
         Some(Form::Replay { settings, script }) => replay_files(alloc, settings, script, world),
         Some(Form::Serve { settings }) => serve_files(rt, alloc, settings, world),
-        Some(Form::Proxy { settings }) => proxy_files(alloc, settings, world),
+        Some(Form::Proxy { settings }) => proxy_files(rt, alloc, settings, world),
         Some(Form::Drill { packets }) => drill(alloc, packets, &mut world.output),
         None => Status::Usage,
     }

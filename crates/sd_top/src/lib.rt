@@ -4,6 +4,7 @@
 mod call;
 mod completeness;
 mod drill;
+mod ends;
 mod opening;
 mod proxy;
 mod server;

@@ -1,9 +1,10 @@
 ghost use Rattle.std.specs.Prelude.{◌≡◌, ◌+◌, ◌*◌, ◌<◌, ◌≤◌, ◌^◌, true, length, map, if◌then◌else◌, OnOk, IfErr};
-ghost use Rattle.sd_model_outside.specs.Outside.{opened};
+ghost use Rattle.sd_model_outside.specs.Outside.{Place, opened};
 ghost use Rattle.sd_model_replay.specs.Settings.{targets_of};
 ghost use Rattle.sd_model_call.specs.Call.{StopsAmong};
-ghost use Rattle.sd_model_call.specs.Opening.{OfWire, flags_of, opened_all, repeated, replay_openings, target_place, wire_openings};
-ghost use Rattle.sd_plan.specs.Entries.{target_view};
+ghost use Rattle.sd_model_call.specs.Opening.{OfWire, flags_of, numbered, opened_all, repeated, replay_openings, target_place, wire_openings};
+ghost use Rattle.sd_model_call.specs.Proxy.{node_place};
+ghost use Rattle.sd_plan.specs.Entries.{node_view, target_view};
 ghost use Rattle.sd_outside.specs.Places.{place_of};
 ghost use Rattle.sd_top.specs.Answers.{answer_of, part_of};
 ghost use Rattle.sd_top.specs.Causes.{EachStops, IsNotOpened, opened_each};
@@ -13,9 +14,9 @@ use crate::call::World;
 use crate::status::{Part, Status};
 use sd_config::Settings;
 use sd_outside::{
-    Address, Backend, Beat, Datagrams, Door, Name, OpenRefusal, Opens, Sink, Source, Wire,
+    Address, Backend, Beat, Datagrams, Door, Name, OpenRefusal, Opens, Probe, Sink, Source, Wire,
 };
-use sd_plan::Target;
+use sd_plan::{Node, Target};
 use sd_replay::targets_of;
 
 /// Opens an object.
@@ -34,65 +35,123 @@ pub(crate) fn open<T: Opens>(object: &mut T, at: &Address, part: Part) -> Result
     }
 }
 
-/// Where the wire of a target is opened.
-fn address_of(target: &Target) -> Address
-    ensures { place_of result ≡ target_place (target_view target.now) }
-{
-    Address::Host {
-        host: target.host.clone().unwrap(),
-        port: target.port,
+/// What a wire is opened to.
+pub(crate) trait Peer {
+    // Where it is.
+    ghost place: { Self → Place };
+
+    /// The address at which a wire to it is opened.
+    fn address(&self) -> Address
+        ensures { place_of result ≡ place self.now };
+}
+
+impl Peer for Target {
+    ghost place = { λ target. target_place (target_view target) };
+
+    fn address(&self) -> Address {
+        Address::Host {
+            host: self.host.clone().unwrap(),
+            port: self.port,
+        }
     }
 }
 
-/// Opens a wire for each target, in order; the first has this number.
+impl Peer for Node {
+    ghost place = { λ node. node_place (node_view node) };
+
+    fn address(&self) -> Address {
+        Address::Host {
+            host: self.host.clone().unwrap(),
+            port: self.port,
+        }
+    }
+}
+
+/// Opens a wire to each peer, in order; the first has this number.
 ///
 /// # Errors
 ///
 /// `OpenFault` where one failed, and `OutOfMemory`.
-pub(crate) fn open_wires<L: Wire>(
-    first: u16,
-    targets: &[Target],
-    wires: &mut [L],
-) -> Result<(), Status>
-    requires { first + length targets.now < 2 ^ 16 }
-    ensures ok { OnOk result (map L.seen wires.new ≡ opened_each (map target_place (map target_view targets.now)) (map L.seen wires.old)) }
-    ensures refused { IfErr result (λ status. EachStops OfWire first (map target_place (map target_view targets.now)) (answer_of status) (map L.seen wires.old) (map L.seen wires.new)) }
+fn open_wires<K: Peer, L: Wire>(first: u16, peers: &[K], wires: &mut [L]) -> Result<(), Status>
+    requires { first + length peers.now < 2 ^ 16 }
+    ensures ok { OnOk result (map L.seen wires.new ≡ opened_each (map K.place peers.now) (map L.seen wires.old)) }
+    ensures refused { IfErr result (λ status. EachStops OfWire first (map K.place peers.now) (answer_of status) (map L.seen wires.old) (map L.seen wires.new)) }
     ensures count { length wires.new ≡ length wires.old }
 {
-    let Some((target, targets)) = targets.split_first() else {
+    let Some((peer, peers)) = peers.split_first() else {
         return Ok(());
     };
     let Some((wire, wires)) = wires.split_first_mut() else {
         return Ok(());
     };
-    open(wire, &address_of(target), Part::Wire(first))?;
-    open_wires(first + 1, targets, wires)
+    open(wire, &peer.address(), Part::Wire(first))?;
+    open_wires(first + 1, peers, wires)
 }
 
-/// Opens so many runs of wires, each with a wire for each target, in order; the first wire has this number.
+/// Opens so many runs of wires, each with a wire to each peer, in order; the first wire has this number.
 ///
 /// # Errors
 ///
 /// `OpenFault` where one failed, and `OutOfMemory`.
-fn open_runs<L: Wire>(
+fn open_runs<K: Peer, L: Wire>(
     first: u16,
     runs: u16,
-    targets: &[Target],
+    peers: &[K],
     wires: &mut [L],
 ) -> Result<(), Status>
-    requires fits { first + runs * length targets.now < 2 ^ 16 }
-    requires some { runs * length targets.now ≤ length wires.old }
-    ensures ok { OnOk result (map L.seen wires.new ≡ opened_each (repeated runs (map target_place (map target_view targets.now))) (map L.seen wires.old)) }
-    ensures refused { IfErr result (λ status. EachStops OfWire first (repeated runs (map target_place (map target_view targets.now))) (answer_of status) (map L.seen wires.old) (map L.seen wires.new)) }
+    requires fits { first + runs * length peers.now < 2 ^ 16 }
+    requires some { runs * length peers.now ≤ length wires.old }
+    ensures ok { OnOk result (map L.seen wires.new ≡ opened_each (repeated runs (map K.place peers.now)) (map L.seen wires.old)) }
+    ensures refused { IfErr result (λ status. EachStops OfWire first (repeated runs (map K.place peers.now)) (answer_of status) (map L.seen wires.old) (map L.seen wires.new)) }
     ensures count { length wires.new ≡ length wires.old }
 {
     if runs == 0 {
         return Ok(());
     }
-    let (run, wires) = wires.split_at_mut(targets.len());
-    open_wires(first, targets, run)?;
-    let used = u16::try_from(targets.len()).unwrap();
-    open_runs(first + used, runs - 1, targets, wires)
+    let (run, wires) = wires.split_at_mut(peers.len());
+    open_wires(first, peers, run)?;
+    let used = u16::try_from(peers.len()).unwrap();
+    open_runs(first + used, runs - 1, peers, wires)
+}
+
+/// Opens so many runs of a world's wires, each with a wire to each peer, in order.
+///
+/// # Errors
+///
+/// `OpenFault` where one failed, and `OutOfMemory`.
+pub(crate) fn open_peers<
+    K: Peer,
+    R: Source,
+    O: Sink,
+    B: Backend,
+    D: Datagrams,
+    L: Wire,
+    E: Door,
+    P: Beat,
+    G,
+    T,
+    Q: Probe,
+>(runs: u16, peers: &[K], world: &mut World<R, O, B, D, L, E, P, G, T, Q>) -> Result<(), Status>
+    requires few { runs * length peers.now ≤ 256 }
+    requires wires { 256 ≤ length (world.old).wires.items }
+    ensures opened { OnOk result (world_of R.seen O.seen B.seen D.seen L.seen E.seen P.seen Q.seen world.new
+        ≡ opened_all (world_of R.seen O.seen B.seen D.seen L.seen E.seen P.seen Q.seen world.old) (numbered OfWire 0 (repeated runs (map K.place peers.now)))) }
+    ensures refused { IfErr result (λ status. StopsAmong (numbered OfWire 0 (repeated runs (map K.place peers.now))) (answer_of status)
+        (world_of R.seen O.seen B.seen D.seen L.seen E.seen P.seen Q.seen world.old)
+        (world_of R.seen O.seen B.seen D.seen L.seen E.seen P.seen Q.seen world.new)) }
+    ensures count { length (world.new).wires.items ≡ length (world.old).wires.items }
+    ensures packets { (world.new).packets ≡ (world.old).packets }
+    ensures door { (world.new).door ≡ (world.old).door }
+    ensures beat { (world.new).beat ≡ (world.old).beat }
+    ensures probe { (world.new).probe ≡ (world.old).probe }
+    ensures backs { (world.new).backs ≡ (world.old).backs }
+    ensures settings { (world.new).settings ≡ (world.old).settings }
+    ensures script { (world.new).script ≡ (world.old).script }
+    ensures output { (world.new).output ≡ (world.old).output }
+    ensures clock { (world.new).clock ≡ (world.old).clock }
+    ensures flags { (world_of R.seen O.seen B.seen D.seen L.seen E.seen P.seen Q.seen world.new).flags ≡ (world_of R.seen O.seen B.seen D.seen L.seen E.seen P.seen Q.seen world.old).flags }
+{
+    open_runs(0, runs, peers, &mut world.wires)
 }
 
 /// Opens so many runs of wires, each with a wire to each target of the repeater.
@@ -110,30 +169,32 @@ pub(crate) fn open_repeater<
     P: Beat,
     G,
     T,
+    Q: Probe,
 >(
     runs: u16,
     settings: &Settings,
-    world: &mut World<R, O, B, D, L, E, P, G, T>,
+    world: &mut World<R, O, B, D, L, E, P, G, T, Q>,
 ) -> Result<(), Status>
     requires runs { runs ≤ 16 }
     requires wires { 256 ≤ length (world.old).wires.items }
-    ensures opened { OnOk result (world_of R.seen O.seen B.seen D.seen L.seen E.seen P.seen world.new
-        ≡ opened_all (world_of R.seen O.seen B.seen D.seen L.seen E.seen P.seen world.old) (wire_openings runs settings.now)) }
+    ensures opened { OnOk result (world_of R.seen O.seen B.seen D.seen L.seen E.seen P.seen Q.seen world.new
+        ≡ opened_all (world_of R.seen O.seen B.seen D.seen L.seen E.seen P.seen Q.seen world.old) (wire_openings runs settings.now)) }
     ensures refused { IfErr result (λ status. StopsAmong (wire_openings runs settings.now) (answer_of status)
-        (world_of R.seen O.seen B.seen D.seen L.seen E.seen P.seen world.old)
-        (world_of R.seen O.seen B.seen D.seen L.seen E.seen P.seen world.new)) }
+        (world_of R.seen O.seen B.seen D.seen L.seen E.seen P.seen Q.seen world.old)
+        (world_of R.seen O.seen B.seen D.seen L.seen E.seen P.seen Q.seen world.new)) }
     ensures count { length (world.new).wires.items ≡ length (world.old).wires.items }
     ensures packets { (world.new).packets ≡ (world.old).packets }
     ensures door { (world.new).door ≡ (world.old).door }
     ensures beat { (world.new).beat ≡ (world.old).beat }
+    ensures probe { (world.new).probe ≡ (world.old).probe }
     ensures settings { (world.new).settings ≡ (world.old).settings }
     ensures script { (world.new).script ≡ (world.old).script }
     ensures output { (world.new).output ≡ (world.old).output }
     ensures clock { (world.new).clock ≡ (world.old).clock }
-    ensures flags { (world_of R.seen O.seen B.seen D.seen L.seen E.seen P.seen world.new).flags ≡ (world_of R.seen O.seen B.seen D.seen L.seen E.seen P.seen world.old).flags }
+    ensures flags { (world_of R.seen O.seen B.seen D.seen L.seen E.seen P.seen Q.seen world.new).flags ≡ (world_of R.seen O.seen B.seen D.seen L.seen E.seen P.seen Q.seen world.old).flags }
     ensures few { length (targets_of settings.now) ≤ 16 }
 {
-    open_runs(0, runs, targets_of(settings), &mut world.wires)
+    open_peers(runs, targets_of(settings), world)
 }
 
 /// Opens a backend, where it is used.
@@ -168,23 +229,25 @@ pub(crate) fn open_replay<
     P: Beat,
     G,
     T,
+    Q: Probe,
 >(
     settings: &Settings,
     script: Name,
-    world: &mut World<R, O, B, D, L, E, P, G, T>,
+    world: &mut World<R, O, B, D, L, E, P, G, T, Q>,
 ) -> Result<(), Status>
-    requires flags { (world_of R.seen O.seen B.seen D.seen L.seen E.seen P.seen world.old).flags ≡ flags_of settings.now }
+    requires flags { (world_of R.seen O.seen B.seen D.seen L.seen E.seen P.seen Q.seen world.old).flags ≡ flags_of settings.now }
     requires wires { 256 ≤ length (world.old).wires.items }
-    ensures opened { OnOk result (world_of R.seen O.seen B.seen D.seen L.seen E.seen P.seen world.new
-        ≡ opened_all (world_of R.seen O.seen B.seen D.seen L.seen E.seen P.seen world.old) (replay_openings script.items settings.now)) }
+    ensures opened { OnOk result (world_of R.seen O.seen B.seen D.seen L.seen E.seen P.seen Q.seen world.new
+        ≡ opened_all (world_of R.seen O.seen B.seen D.seen L.seen E.seen P.seen Q.seen world.old) (replay_openings script.items settings.now)) }
     ensures refused { IfErr result (λ status. StopsAmong (replay_openings script.items settings.now) (answer_of status)
-        (world_of R.seen O.seen B.seen D.seen L.seen E.seen P.seen world.old)
-        (world_of R.seen O.seen B.seen D.seen L.seen E.seen P.seen world.new)) }
+        (world_of R.seen O.seen B.seen D.seen L.seen E.seen P.seen Q.seen world.old)
+        (world_of R.seen O.seen B.seen D.seen L.seen E.seen P.seen Q.seen world.new)) }
     ensures settings { (world.new).settings ≡ (world.old).settings }
     ensures packets { (world.new).packets ≡ (world.old).packets }
     ensures door { (world.new).door ≡ (world.old).door }
     ensures beat { (world.new).beat ≡ (world.old).beat }
-    ensures flags { (world_of R.seen O.seen B.seen D.seen L.seen E.seen P.seen world.new).flags ≡ (world_of R.seen O.seen B.seen D.seen L.seen E.seen P.seen world.old).flags }
+    ensures probe { (world.new).probe ≡ (world.old).probe }
+    ensures flags { (world_of R.seen O.seen B.seen D.seen L.seen E.seen P.seen Q.seen world.new).flags ≡ (world_of R.seen O.seen B.seen D.seen L.seen E.seen P.seen Q.seen world.old).flags }
     ensures count { length (world.new).wires.items ≡ length (world.old).wires.items }
     ensures few { OnOk result (length (targets_of settings.now) ≤ 16) }
 {

@@ -17,7 +17,9 @@ use crate::server_opening::open_server;
 use crate::settings::read_settings;
 use crate::status::Status;
 use sd_config::{NamesOf, Settings};
-use sd_outside::{Address, Backend, Beat, Clock, Datagrams, Door, Gate, Name, Sink, Source, Wire};
+use sd_outside::{
+    Address, Backend, Beat, Clock, Datagrams, Door, Gate, Name, Probe, Sink, Source, Wire,
+};
 use sd_plan::Names;
 use sd_replay::{limits_of, names_backend, policy_of, targets_of};
 use sd_serve::{Served, ServerRoom, Sizes, serve};
@@ -55,29 +57,31 @@ pub(crate) fn run_server<
     P: Beat + Send,
     G: Gate + Sync,
     T: Clock + Sync,
+    Q: Probe + Send,
     X: Threads + Wait + Sync,
 >(
     rt: &X,
     alloc: Global,
     settings: &Settings,
-    world: &mut World<R, O, B, D, L, E, P, G, T>,
+    world: &mut World<R, O, B, D, L, E, P, G, T, Q>,
 ) -> Result<Served, Status>
-    requires flags { (world_of R.seen O.seen B.seen D.seen L.seen E.seen P.seen world.old).flags ≡ flags_of settings.now }
+    requires flags { (world_of R.seen O.seen B.seen D.seen L.seen E.seen P.seen Q.seen world.old).flags ≡ flags_of settings.now }
     requires packets { 16 ≤ length (world.old).packets.items }
     requires wires { 256 ≤ length (world.old).wires.items }
     requires beat { (P.seen (world.old).beat).turns < 2 ^ 62 }
     requires door { ((E.seen (world.old).door).is_out ≡ false) × ((E.seen (world.old).door).turns < 2 ^ 62) }
     ensures served { IfOk result (HasServed (serves_by settings.now) (T.may_say (world.old).clock)
-        (objects_in (begun settings.now (world_of R.seen O.seen B.seen D.seen L.seen E.seen P.seen world.old)))
-        (objects_in (world_of R.seen O.seen B.seen D.seen L.seen E.seen P.seen world.new))) }
+        (objects_in (begun settings.now (world_of R.seen O.seen B.seen D.seen L.seen E.seen P.seen Q.seen world.old)))
+        (objects_in (world_of R.seen O.seen B.seen D.seen L.seen E.seen P.seen Q.seen world.new))) }
     ensures few { IfOk result (λ served. length served.received.items ≤ 16) }
     ensures settings { (world.new).settings ≡ (world.old).settings }
     ensures script { (world.new).script ≡ (world.old).script }
     ensures output { (world.new).output ≡ (world.old).output }
-    ensures flags { (world_of R.seen O.seen B.seen D.seen L.seen E.seen P.seen world.new).flags ≡ (world_of R.seen O.seen B.seen D.seen L.seen E.seen P.seen world.old).flags }
+    ensures probe { (world.new).probe ≡ (world.old).probe }
+    ensures flags { (world_of R.seen O.seen B.seen D.seen L.seen E.seen P.seen Q.seen world.new).flags ≡ (world_of R.seen O.seen B.seen D.seen L.seen E.seen P.seen Q.seen world.old).flags }
     ensures refused { IfErr result (λ status. StopsAmong (server_openings settings.now) (answer_of status)
-        (world_of R.seen O.seen B.seen D.seen L.seen E.seen P.seen world.old)
-        (world_of R.seen O.seen B.seen D.seen L.seen E.seen P.seen world.new)) }
+        (world_of R.seen O.seen B.seen D.seen L.seen E.seen P.seen Q.seen world.old)
+        (world_of R.seen O.seen B.seen D.seen L.seen E.seen P.seen Q.seen world.new)) }
 {
     let start = world.clock.now();
     let Ok(room) = ServerRoom::open(alloc, sizes_of(settings), start) else {
@@ -114,15 +118,16 @@ pub(crate) fn serve_files<
     P: Beat + Send,
     G: Gate + Sync,
     T: Clock + Sync,
+    Q: Probe + Send,
     X: Threads + Wait + Sync,
->(rt: &X, alloc: Global, settings: Name, world: &mut World<R, O, B, D, L, E, P, G, T>) -> Status
+>(rt: &X, alloc: Global, settings: Name, world: &mut World<R, O, B, D, L, E, P, G, T, Q>) -> Status
     requires packets { 16 ≤ length (world.old).packets.items }
     requires wires { 256 ≤ length (world.old).wires.items }
     requires beat { (P.seen (world.old).beat).turns < 2 ^ 62 }
     requires door { ((E.seen (world.old).door).is_out ≡ false) × ((E.seen (world.old).door).turns < 2 ^ 62) }
     ensures { ServerAccounts settings.items (T.may_say (world.old).clock) (answer_of result)
-        (world_of R.seen O.seen B.seen D.seen L.seen E.seen P.seen world.old)
-        (world_of R.seen O.seen B.seen D.seen L.seen E.seen P.seen world.new) }
+        (world_of R.seen O.seen B.seen D.seen L.seen E.seen P.seen Q.seen world.old)
+        (world_of R.seen O.seen B.seen D.seen L.seen E.seen P.seen Q.seen world.new) }
 {
     let settings = match read_settings(alloc, &mut world.settings, &Address::File(settings)) {
         Ok(settings) => settings,

@@ -1,14 +1,15 @@
 //! What a server tells once its run has ended: the totals, and the status.
-ghost use Rattle.std.specs.Prelude.{◌≡◌, ◌+◌, ◌<◌, ◌≤◌, ◌^◌, ◌++◌, [], ◌∷◌, length, map, sum_by};
+ghost use Rattle.std.specs.Prelude.{◌≡◌, ◌≤◌, ◌++◌, [], ◌∷◌, length, map, sum_by};
 ghost use Rattle.std.specs.List.{list_any};
-ghost use Rattle.sd_model_call.specs.Call.{WritesTotals, cut_answer};
-ghost use Rattle.sd_model_call.specs.Server.{by_receivers as first_failed, is_worn, turns_answer};
+ghost use Rattle.sd_model_call.specs.Call.{WritesTotals};
+ghost use Rattle.sd_model_call.specs.Server.{is_worn};
 ghost use Rattle.sd_model_replay.specs.Totals.{totals_text};
 ghost use Rattle.sd_replay.specs.Totals.{totals_view};
 ghost use Rattle.sd_serve.specs.Serving.{door_end_of, end_of};
 ghost use Rattle.sd_top.specs.Answers.{answer_of};
 ghost use Rattle.sd_top.specs.Serving.{ends_of, totals_in};
 
+use crate::ends::{any_worn, by_receivers, by_turns, cut, took_most_turns};
 use crate::status::{Part, Status};
 use sd_desk::Desk;
 use sd_outside::{DoorEnd, Ended, Sink, WriteFault};
@@ -16,9 +17,6 @@ use sd_replay::{Totals, write_totals};
 use sd_serve::{Ends, Served};
 use sd_shard::ShardBook;
 use sd_shards::ShardsBook;
-
-/// How many turns a loop takes at most.
-const MOST_TURNS: u64 = 1 << 62;
 
 /// The numbers of all shards together.
 fn add_up(books: &[ShardBook]) -> ShardsBook
@@ -61,58 +59,18 @@ fn totals_of(books: &[ShardBook], desk: &Desk) -> Totals
     Totals::new(&add_up(books), desk)
 }
 
-/// The status by the receiver of least number that failed, of receivers of which the first has this number; where none failed,
-/// the other status.
-fn by_receivers(first: u16, received: &[Ended], other: Status) -> Status
-    requires { first + length received.now < 2 ^ 16 }
-    ensures { answer_of result ≡ first_failed first (map end_of received.now) (answer_of other) }
-{
-    match received {
-        [] => other,
-        [Ended::Failed, ..] => Status::ReadFault {
-            part: Part::Packets(first),
-        },
-        [_, rest @ ..] => by_receivers(first + 1, rest, other),
-    }
-}
-
-/// Whether a loop ended since it took the most turns.
-fn took_most_turns(ended: &Ended) -> bool
-    ensures { result ≡ is_worn (end_of ended.now) }
-{
-    matches!(ended, Ended::Worn { .. })
-}
-
-/// Whether a receiver did.
-fn any_worn(received: &[Ended]) -> bool
-    ensures { result ≡ list_any (λ ended. is_worn (end_of ended)) received.now }
-{
-    received.iter().any(took_most_turns)
-}
-
-/// Whether the keeper of the door did.
+/// Whether the keeper of the door ended since it took the most turns.
 fn keeper_worn(ended: &DoorEnd) -> bool
     ensures { result ≡ is_worn (door_end_of ended.now) }
 {
     matches!(ended, DoorEnd::Worn { .. })
 }
 
-/// Whether any worker did.
+/// Whether any worker ended so.
 fn some_worn(received: &[Ended], ends: &Ends) -> bool
     ensures { result ≡ list_any is_worn (map end_of received.now ++ end_of (ends.now).flusher ∷ door_end_of (ends.now).keeper ∷ []) }
 {
     any_worn(received) || took_most_turns(&ends.flusher) || keeper_worn(&ends.keeper)
-}
-
-/// How a run is answered whose workers ended so, by the turns that they took.
-fn by_turns(received: &[Ended], ends: &Ends) -> Status
-    ensures { answer_of result ≡ turns_answer (map end_of received.now ++ end_of (ends.now).flusher ∷ door_end_of (ends.now).keeper ∷ []) }
-{
-    if some_worn(received, ends) {
-        Status::Worn { turns: MOST_TURNS }
-    } else {
-        Status::Ok
-    }
 }
 
 /// How a run is answered whose workers ended so, where its totals are written.
@@ -122,19 +80,9 @@ fn status_after(received: &[Ended], ends: &Ends) -> Status
 {
     let by_beat = match ends.flusher {
         Ended::Failed => Status::ReadFault { part: Part::Beat },
-        _ => by_turns(received, ends),
+        _ => by_turns(some_worn(received, ends)),
     };
     by_receivers(0, received, by_beat)
-}
-
-/// The status of a run whose totals couldn't be written.
-pub(crate) fn cut(whole: Status) -> Status
-    ensures { answer_of result ≡ cut_answer (answer_of whole) }
-{
-    match whole {
-        Status::Ok => Status::WriteFault,
-        other => other,
-    }
 }
 
 /// Writes the totals of a run, and answers how it ended.

@@ -13,7 +13,7 @@ use crate::call::World;
 use crate::opening::{open, open_repeater, open_where};
 use crate::status::{Part, Status};
 use sd_config::Settings;
-use sd_outside::{Address, Backend, Beat, Datagrams, Door, Name, Sink, Source, Wire};
+use sd_outside::{Address, Backend, Beat, Datagrams, Door, Name, Probe, Sink, Source, Wire};
 
 /// An address on the network.
 pub(crate) fn host_address(host: &Name, port: u32) -> Address
@@ -53,30 +53,40 @@ pub(crate) fn open_sources<D: Datagrams>(
     open_sources(first + 1, count - 1, at, sources)
 }
 
-/// Opens the sources of a server.
+/// Opens a source for each receiver, in order.
 ///
 /// # Errors
 ///
 /// `OpenFault` where one failed, and `OutOfMemory`.
-fn open_packets<R: Source, O: Sink, B: Backend, D: Datagrams, L: Wire, E: Door, P: Beat, G, T>(
-    settings: &Settings,
-    world: &mut World<R, O, B, D, L, E, P, G, T>,
-) -> Result<(), Status>
+pub(crate) fn open_packets<
+    R: Source,
+    O: Sink,
+    B: Backend,
+    D: Datagrams,
+    L: Wire,
+    E: Door,
+    P: Beat,
+    G,
+    T,
+    Q: Probe,
+>(settings: &Settings, world: &mut World<R, O, B, D, L, E, P, G, T, Q>) -> Result<(), Status>
     requires { 16 ≤ length (world.old).packets.items }
-    ensures opened { OnOk result (world_of R.seen O.seen B.seen D.seen L.seen E.seen P.seen world.new
-        ≡ opened_all (world_of R.seen O.seen B.seen D.seen L.seen E.seen P.seen world.old) (source_openings settings.now)) }
+    ensures opened { OnOk result (world_of R.seen O.seen B.seen D.seen L.seen E.seen P.seen Q.seen world.new
+        ≡ opened_all (world_of R.seen O.seen B.seen D.seen L.seen E.seen P.seen Q.seen world.old) (source_openings settings.now)) }
     ensures refused { IfErr result (λ status. StopsAmong (source_openings settings.now) (answer_of status)
-        (world_of R.seen O.seen B.seen D.seen L.seen E.seen P.seen world.old)
-        (world_of R.seen O.seen B.seen D.seen L.seen E.seen P.seen world.new)) }
+        (world_of R.seen O.seen B.seen D.seen L.seen E.seen P.seen Q.seen world.old)
+        (world_of R.seen O.seen B.seen D.seen L.seen E.seen P.seen Q.seen world.new)) }
     ensures count { length (world.new).packets.items ≡ length (world.old).packets.items }
     ensures wires { (world.new).wires ≡ (world.old).wires }
     ensures door { (world.new).door ≡ (world.old).door }
     ensures beat { (world.new).beat ≡ (world.old).beat }
+    ensures probe { (world.new).probe ≡ (world.old).probe }
+    ensures backs { (world.new).backs ≡ (world.old).backs }
     ensures settings { (world.new).settings ≡ (world.old).settings }
     ensures script { (world.new).script ≡ (world.old).script }
     ensures output { (world.new).output ≡ (world.old).output }
     ensures clock { (world.new).clock ≡ (world.old).clock }
-    ensures flags { (world_of R.seen O.seen B.seen D.seen L.seen E.seen P.seen world.new).flags ≡ (world_of R.seen O.seen B.seen D.seen L.seen E.seen P.seen world.old).flags }
+    ensures flags { (world_of R.seen O.seen B.seen D.seen L.seen E.seen P.seen Q.seen world.new).flags ≡ (world_of R.seen O.seen B.seen D.seen L.seen E.seen P.seen Q.seen world.old).flags }
 {
     let receivers = u16::try_from(settings.receivers()).unwrap();
     let at = host_address(settings.address(), settings.port());
@@ -98,24 +108,26 @@ pub(crate) fn open_server<
     P: Beat,
     G,
     T,
->(settings: &Settings, world: &mut World<R, O, B, D, L, E, P, G, T>) -> Result<(), Status>
-    requires flags { (world_of R.seen O.seen B.seen D.seen L.seen E.seen P.seen world.old).flags ≡ flags_of settings.now }
+    Q: Probe,
+>(settings: &Settings, world: &mut World<R, O, B, D, L, E, P, G, T, Q>) -> Result<(), Status>
+    requires flags { (world_of R.seen O.seen B.seen D.seen L.seen E.seen P.seen Q.seen world.old).flags ≡ flags_of settings.now }
     requires packets { 16 ≤ length (world.old).packets.items }
     requires wires { 256 ≤ length (world.old).wires.items }
-    ensures opened { OnOk result (world_of R.seen O.seen B.seen D.seen L.seen E.seen P.seen world.new
-        ≡ opened_all (world_of R.seen O.seen B.seen D.seen L.seen E.seen P.seen world.old) (server_openings settings.now)) }
+    ensures opened { OnOk result (world_of R.seen O.seen B.seen D.seen L.seen E.seen P.seen Q.seen world.new
+        ≡ opened_all (world_of R.seen O.seen B.seen D.seen L.seen E.seen P.seen Q.seen world.old) (server_openings settings.now)) }
     ensures refused { IfErr result (λ status. StopsAmong (server_openings settings.now) (answer_of status)
-        (world_of R.seen O.seen B.seen D.seen L.seen E.seen P.seen world.old)
-        (world_of R.seen O.seen B.seen D.seen L.seen E.seen P.seen world.new)) }
+        (world_of R.seen O.seen B.seen D.seen L.seen E.seen P.seen Q.seen world.old)
+        (world_of R.seen O.seen B.seen D.seen L.seen E.seen P.seen Q.seen world.new)) }
     ensures packets { length (world.new).packets.items ≡ length (world.old).packets.items }
     ensures wires { length (world.new).wires.items ≡ length (world.old).wires.items }
     ensures door { OnOk result (E.seen (world.new).door ≡ opened (Host (settings.now).addresses.mgmt_address (settings.now).server.mgmt_port) (E.seen (world.old).door)) }
     ensures beat { (world.new).beat ≡ (world.old).beat }
+    ensures probe { (world.new).probe ≡ (world.old).probe }
     ensures settings { (world.new).settings ≡ (world.old).settings }
     ensures script { (world.new).script ≡ (world.old).script }
     ensures output { (world.new).output ≡ (world.old).output }
     ensures clock { (world.new).clock ≡ (world.old).clock }
-    ensures flags { (world_of R.seen O.seen B.seen D.seen L.seen E.seen P.seen world.new).flags ≡ (world_of R.seen O.seen B.seen D.seen L.seen E.seen P.seen world.old).flags }
+    ensures flags { (world_of R.seen O.seen B.seen D.seen L.seen E.seen P.seen Q.seen world.new).flags ≡ (world_of R.seen O.seen B.seen D.seen L.seen E.seen P.seen Q.seen world.old).flags }
 {
     let receivers = u16::try_from(settings.receivers()).unwrap();
     open_packets(settings, world)?;

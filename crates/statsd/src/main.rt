@@ -13,7 +13,7 @@ mod udp_wire;
 use backend_out::BackendOut;
 use file_source::FileSource;
 use sd_decimal::Line;
-use sd_net::{Stop, SystemClock, TcpDoor, TickBeat, UdpReceiver};
+use sd_net::{DoorSizes, LongLines, Stop, SystemClock, TcpDoor, TcpProbe, TickBeat, UdpReceiver};
 use sd_outside::{Backs, NoGate};
 use sd_top::{Status, World, explain, statsd};
 use standard_out::StandardOut;
@@ -68,8 +68,12 @@ const RECEIVERS: usize = 16;
 /// How many wires a world has.
 const WIRES: usize = 256;
 
-/// How many bytes the admin port holds of each client, the longest line with its newline.
-const CLIENT_ROOM: usize = 1_024;
+/// What the admin port holds of its clients. The longest question has 1,024 bytes with its newline.
+const ADMIN_SIZES: DoorSizes = DoorSizes {
+    clients: 64,
+    line: 1_024,
+    long_lines: LongLines::Split,
+};
 
 /// The variable of the environment that names the file whose being there stops a server or a proxy.
 const STOP_FILE: &str = "STATSD_STOP";
@@ -161,10 +165,11 @@ fn run<'a>(
         },
         packets,
         wires,
-        door: TcpDoor::new(rt, alloc, &shared.stop, CLIENT_ROOM),
+        door: TcpDoor::new(rt, alloc, &shared.stop, ADMIN_SIZES),
         beat: TickBeat::new(rt, &shared.stop),
         gate: NoGate,
         clock: SystemClock::new(rt),
+        probe: TcpProbe::new(rt),
     };
     statsd(threads, alloc, behind_name(words.as_slice()), &mut world)
 }

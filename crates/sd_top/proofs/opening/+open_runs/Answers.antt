@@ -1,10 +1,8 @@
-use Rattle.std.proofs.Common.{◌+◌, ◌-◌, ◌++◌, List, map, sym, ap, subst, ◌∙◌, rules}
+use Rattle.std.proofs.Common.{◌-◌, ◌++◌, List, map, sym, ap, subst, ◌∙◌, rules}
 use Rattle.std.proofs.lemmas.List.{length-map, map-append}
 use Rattle.std.proofs.lemmas.Result.{err_from_is_err_and, IfErr-weaker, on_ok_weaker}
 use Rattle.sd_model_outside.specs.Outside.{Place}
-use Rattle.sd_model_settings.specs.Entries as model
-use Rattle.sd_model_call.specs.Opening.{OfWire, repeated, target_place}
-use Rattle.sd_plan.specs.Entries.{target_view}
+use Rattle.sd_model_call.specs.Opening.{OfWire, repeated}
 use Rattle.sd_top.specs.Answers.{answer_of}
 use Rattle.sd_top.specs.Causes.{EachStops, opened_each}
 use Rattle.sd_top.proofs.OpeningLemmas.{first_stops, opened_both, repeated_more, second_stops}
@@ -12,7 +10,7 @@ use Rattle.sd_top.proofs.opening.+open_runs.Goals as goal
 
 pub returns-in_err-open_wires-clause-refused : goal.returns-in_err-open_wires-clause-refused
 returns-in_err-open_wires-clause-refused g t c =
-    let ps = map target_place (map target_view c.args.targets.now) in
+    let ps = map g.K.Peer.place c.args.peers.now in
     let see = g.L.Faulty.seen in
     let front = c.split_at_mut-run.result.0.now in
     let back = c.split_at_mut-run.result.1.now in
@@ -28,11 +26,11 @@ returns-in_err-open_wires-clause-refused g t c =
 
 pub returns-clause-ok : goal.returns-clause-ok
 returns-clause-ok g t c =
-    let ps = map target_place (map target_view c.args.targets.now) in
+    let ps = map g.K.Peer.place c.args.peers.now in
     let see = g.L.Faulty.seen in
     let front = c.split_at_mut-run.result.0.now in
     let back = c.split_at_mut-run.result.1.now in
-    let same = length-map front see ∙ c.split_at_mut-run.ensures.front_len ∙ sym (length-map (map target_view c.args.targets.now) target_place ∙ length-map c.args.targets.now target_view) in
+    let same = length-map front see ∙ c.split_at_mut-run.ensures.front_len ∙ sym (length-map c.args.peers.now g.K.Peer.place) in
     on_ok_weaker c.open_runs.result
     (λ rest. map-append see c.open_wires.new.wires c.open_runs.new.wires
     ∙ (λ i. c.in_ok-open_wires.ensures.ok i ++ rest i)
@@ -44,11 +42,11 @@ returns-clause-ok g t c =
 
 pub returns-clause-refused : goal.returns-clause-refused
 returns-clause-refused g t c =
-    let ps = map target_place (map target_view c.args.targets.now) in
+    let ps = map g.K.Peer.place c.args.peers.now in
     let see = g.L.Faulty.seen in
     let front = c.split_at_mut-run.result.0.now in
     let back = c.split_at_mut-run.result.1.now in
-    let count = length-map (map target_view c.args.targets.now) target_place ∙ length-map c.args.targets.now target_view in
+    let count = length-map c.args.peers.now g.K.Peer.place in
     let same = length-map front see ∙ c.split_at_mut-run.ensures.front_len ∙ sym count in
     let now = map see (c.open_wires.new.wires ++ c.open_runs.new.wires) in
     IfErr-weaker c.open_runs.result _ _

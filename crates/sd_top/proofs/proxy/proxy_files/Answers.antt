@@ -1,49 +1,42 @@
-use Rattle.std.proofs.Common.{◌≡◌, ◌<◌, length, refl, ap, subst, arith, rules}
-use Rattle.std.proofs.lemmas.List.{length-map}
-use Rattle.sd_model_proxy.specs.Totals.{proxy_text}
+use Rattle.std.proofs.Common.{◌≡◌, None, inl, refl, ap, subst, rules}
 use Rattle.sd_model_call.specs.Opening.{World, flags_of, settled}
-use Rattle.sd_model_call.specs.Proxy.{proxy_openings, relay_answer}
+use Rattle.sd_model_call.specs.Proxy.{proxy_flaw, proxy_openings}
 use Rattle.sd_model_call.specs.Call.{StopsAmong, WritesTotals}
-use Rattle.sd_plan.specs.Entries.{node_view}
-use Rattle.sd_proxy.specs.Views.{end_view, totals_view}
 use Rattle.sd_top.specs.Answers.{answer_of}
-use Rattle.sd_top.specs.Relaying.{HasRelayed}
+use Rattle.sd_top.specs.Relaying.{HasRelayed, relay_answer, relay_lines}
 use Rattle.sd_top.specs.World.{world_of}
 use Rattle.sd_top.proofs.ProxyLemmas.{proxy_ran, proxy_stopped}
 use Rattle.sd_top.proofs.proxy.proxy_files.Goals as goal
 
-pub returns-in-Ok-relay : goal.returns-in-Ok-relay
-returns-in-Ok-relay g c =
-    let values = c.in-Ok.settings in
-    let old = world_of g.R.Faulty.seen g.O.Faulty.seen g.B.Faulty.seen g.D.Faulty.seen g.L.Faulty.seen g.E.Faulty.seen g.P.Faulty.seen c.args.world.now in
-    let settings = g.R.Faulty.seen c.read_settings.new.source in
-    let begun : World = record old { settings = settings; flags = record { graphite = c.names_backend-world.result; console = c.names_backend-world-2.result } } in
-    let flags : begun.flags ≡ flags_of values = λ i. record { graphite = c.names_backend-world.ensures i; console = c.names_backend-world-2.ensures i } in
-    let is : begun ≡ settled values settings old = λ i. record old { settings = settings; flags = flags i } in
-    let mid = world_of g.R.Faulty.seen g.O.Faulty.seen g.B.Faulty.seen g.D.Faulty.seen g.L.Faulty.seen g.E.Faulty.seen g.P.Faulty.seen c.relay.new.world in
-    let p = c.in-Ok-relay.proxied in
-    let n = length-map c.nodes-nodes.result.now node_view in
-    let same = ap length c.nodes-nodes.ensures.value in
-    let listed : 0 < length c.nodes-nodes.result.now = search rules in
-    let some : 0 < length values.lists.nodes = omega (arith, n, same, listed) in
-    let relayed = c.in-Ok-relay.ensures.relayed in
-    let output = ap (λ (w : World). w.seen.output) relayed.others in
-    proxy_ran c.args.settings.items values settings old _ c.in-Ok.ensures.accepted some p (answer_of c.finish.result) mid (g.O.Faulty.seen c.finish.new.output)
-    (subst (λ w. HasRelayed values w mid p) is relayed) refl
-    (subst (λ o. WritesTotals (proxy_text (totals_view p.totals)) (relay_answer (end_view p.ended)) (answer_of c.finish.result) o (g.O.Faulty.seen c.finish.new.output)) output c.finish.ensures)
+pub returns-in-Err : goal.returns-in-Err
+returns-in-Err g c = inl (record { why = c.in-Err.ensures.refused; only = refl })
 
-pub returns-in-Err-relay : goal.returns-in-Err-relay
-returns-in-Err-relay g c =
+pub returns-in-Ok-run_proxy : goal.returns-in-Ok-run_proxy
+returns-in-Ok-run_proxy g c =
     let values = c.in-Ok.settings in
-    let old = world_of g.R.Faulty.seen g.O.Faulty.seen g.B.Faulty.seen g.D.Faulty.seen g.L.Faulty.seen g.E.Faulty.seen g.P.Faulty.seen c.args.world.now in
+    let fit : proxy_flaw values ≡ None = search rules in
+    let old = world_of g.R.Faulty.seen g.O.Faulty.seen g.B.Faulty.seen g.D.Faulty.seen g.L.Faulty.seen g.E.Faulty.seen g.P.Faulty.seen g.Q.Faulty.seen c.args.world.now in
     let settings = g.R.Faulty.seen c.read_settings.new.source in
     let begun : World = record old { settings = settings; flags = record { graphite = c.names_backend-world.result; console = c.names_backend-world-2.result } } in
     let flags : begun.flags ≡ flags_of values = λ i. record { graphite = c.names_backend-world.ensures i; console = c.names_backend-world-2.ensures i } in
     let is : begun ≡ settled values settings old = λ i. record old { settings = settings; flags = flags i } in
-    let new = world_of g.R.Faulty.seen g.O.Faulty.seen g.B.Faulty.seen g.D.Faulty.seen g.L.Faulty.seen g.E.Faulty.seen g.P.Faulty.seen c.relay.new.world in
-    let n = length-map c.nodes-nodes.result.now node_view in
-    let same = ap length c.nodes-nodes.ensures.value in
-    let listed : 0 < length c.nodes-nodes.result.now = search rules in
-    let some : 0 < length values.lists.nodes = omega (arith, n, same, listed) in
-    proxy_stopped c.args.settings.items values settings old new c.in-Ok.ensures.accepted some (answer_of c.in-Err-relay.status)
-    (subst (λ w. StopsAmong (proxy_openings values) (answer_of c.in-Err-relay.status) w new) is c.in-Err-relay.ensures.refused)
+    let mid = world_of g.R.Faulty.seen g.O.Faulty.seen g.B.Faulty.seen g.D.Faulty.seen g.L.Faulty.seen g.E.Faulty.seen g.P.Faulty.seen g.Q.Faulty.seen c.run_proxy.new.world in
+    let r = c.in-Ok-run_proxy.relayed in
+    let relayed = c.in-Ok-run_proxy.ensures.relayed in
+    let output = ap (λ (w : World). w.seen.output) relayed.others in
+    proxy_ran c.args.settings.items values settings old _ c.in-Ok.ensures.accepted fit r (answer_of c.finish.result) mid (g.O.Faulty.seen c.finish.new.output)
+    (subst (λ w. HasRelayed values w mid r) is relayed) refl
+    (subst (λ o. WritesTotals (relay_lines r.sums r.checked) (relay_answer r.received.items r.checked) (answer_of c.finish.result) o (g.O.Faulty.seen c.finish.new.output)) output c.finish.ensures)
+
+pub returns-in-Err-run_proxy : goal.returns-in-Err-run_proxy
+returns-in-Err-run_proxy g c =
+    let values = c.in-Ok.settings in
+    let fit : proxy_flaw values ≡ None = search rules in
+    let old = world_of g.R.Faulty.seen g.O.Faulty.seen g.B.Faulty.seen g.D.Faulty.seen g.L.Faulty.seen g.E.Faulty.seen g.P.Faulty.seen g.Q.Faulty.seen c.args.world.now in
+    let settings = g.R.Faulty.seen c.read_settings.new.source in
+    let begun : World = record old { settings = settings; flags = record { graphite = c.names_backend-world.result; console = c.names_backend-world-2.result } } in
+    let flags : begun.flags ≡ flags_of values = λ i. record { graphite = c.names_backend-world.ensures i; console = c.names_backend-world-2.ensures i } in
+    let is : begun ≡ settled values settings old = λ i. record old { settings = settings; flags = flags i } in
+    let new = world_of g.R.Faulty.seen g.O.Faulty.seen g.B.Faulty.seen g.D.Faulty.seen g.L.Faulty.seen g.E.Faulty.seen g.P.Faulty.seen g.Q.Faulty.seen c.run_proxy.new.world in
+    proxy_stopped c.args.settings.items values settings old new c.in-Ok.ensures.accepted fit (answer_of c.in-Err-run_proxy.status)
+    (subst (λ (w : World). StopsAmong (proxy_openings values) (answer_of c.in-Err-run_proxy.status) w new) is c.in-Err-run_proxy.ensures.refused)

@@ -8,7 +8,7 @@ use Rattle.sd_model_run.specs.Course.{Terms}
 use Rattle.sd_model_run.specs.Run.{Objects}
 use Rattle.sd_model_call.specs.Opening.{Flags, World}
 use Rattle.sd_model_call.specs.ServerOpening.{back_in, begun, objects_in, server_openings, serves_by}
-use Rattle.sd_flush.specs.Flushing.{back_of, uses, uses_by}
+use Rattle.sd_flush.specs.Flushing.{back_of, uses_by}
 use Rattle.sd_outside.specs.declared.backend.Backs.{Backs}
 use Rattle.sd_serve.specs.Room.{sizing_in, start_in}
 use Rattle.sd_serve.specs.Serving.{HasServed, end_of, objects_of, terms_of}
@@ -57,9 +57,9 @@ returns-clause-few g c =
 pub returns-clause-served : goal.returns-clause-served
 returns-clause-served g c =
     let s = c.args.settings.now in
-    let old = world_of g.R.Faulty.seen g.O.Faulty.seen g.B.Faulty.seen g.D.Faulty.seen g.L.Faulty.seen g.E.Faulty.seen g.P.Faulty.seen c.args.world.now in
+    let old = world_of g.R.Faulty.seen g.O.Faulty.seen g.B.Faulty.seen g.D.Faulty.seen g.L.Faulty.seen g.E.Faulty.seen g.P.Faulty.seen g.Q.Faulty.seen c.args.world.now in
     let mid = c.open_server.new.world in
-    let seen_mid = world_of g.R.Faulty.seen g.O.Faulty.seen g.B.Faulty.seen g.D.Faulty.seen g.L.Faulty.seen g.E.Faulty.seen g.P.Faulty.seen mid in
+    let seen_mid = world_of g.R.Faulty.seen g.O.Faulty.seen g.B.Faulty.seen g.D.Faulty.seen g.L.Faulty.seen g.E.Faulty.seen g.P.Faulty.seen g.Q.Faulty.seen mid in
     let opened = c.in_ok-open_server.ensures.opened in
     let sizes = c.in-Ok.ensures.sizes ∙ c.sizes_of.ensures.sizes in
     let flags = c.in_ok-open_server.ensures.flags ∙ c.requires.flags in
@@ -87,7 +87,7 @@ returns-clause-served g c =
       backs = λ b. seen_as g.B.Faulty.seen mid.backs seen_mid refl refl b i;
       door = g.E.Faulty.seen mid.door;
     }) in
-    let new = world_of g.R.Faulty.seen g.O.Faulty.seen g.B.Faulty.seen g.D.Faulty.seen g.L.Faulty.seen g.E.Faulty.seen g.P.Faulty.seen (record mid { backs = c.serve.new.backs; packets = c.serve.new.packets; wires = c.serve.new.wires; door = c.serve.new.door; beat = c.serve.new.beat }) in
+    let new = world_of g.R.Faulty.seen g.O.Faulty.seen g.B.Faulty.seen g.D.Faulty.seen g.L.Faulty.seen g.E.Faulty.seen g.P.Faulty.seen g.Q.Faulty.seen (record mid { backs = c.serve.new.backs; packets = c.serve.new.packets; wires = c.serve.new.wires; door = c.serve.new.door; beat = c.serve.new.beat }) in
     let after : objects_of g.D.Faulty.seen g.L.Faulty.seen g.P.Faulty.seen g.B.Faulty.seen g.E.Faulty.seen c.serve.new.packets.items c.serve.new.wires.items c.serve.new.beat c.serve.new.backs c.serve.new.door ≡ objects_in new =
     (λ i. record {
       sources = map g.D.Faulty.seen c.serve.new.packets.items;

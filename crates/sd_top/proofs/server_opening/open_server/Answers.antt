@@ -16,8 +16,8 @@ use Rattle.sd_model_record.specs.Backends.{Graphite, Console}
 pub returns-in_err-open_packets-clause-refused : goal.returns-in_err-open_packets-clause-refused
 returns-in_err-open_packets-clause-refused g c =
     let s = c.args.settings.now in
-    let old = world_of g.R.Faulty.seen g.O.Faulty.seen g.B.Faulty.seen g.D.Faulty.seen g.L.Faulty.seen g.E.Faulty.seen g.P.Faulty.seen c.args.world.now in
-    let first = world_of g.R.Faulty.seen g.O.Faulty.seen g.B.Faulty.seen g.D.Faulty.seen g.L.Faulty.seen g.E.Faulty.seen g.P.Faulty.seen c.open_packets.new.world in
+    let old = world_of g.R.Faulty.seen g.O.Faulty.seen g.B.Faulty.seen g.D.Faulty.seen g.L.Faulty.seen g.E.Faulty.seen g.P.Faulty.seen g.Q.Faulty.seen c.args.world.now in
+    let first = world_of g.R.Faulty.seen g.O.Faulty.seen g.B.Faulty.seen g.D.Faulty.seen g.L.Faulty.seen g.E.Faulty.seen g.P.Faulty.seen g.Q.Faulty.seen c.open_packets.new.world in
     let graphite : List Opening = opening_where (is_used s Graphite) (record { part = OfGraphite; place = Host s.addresses.graphite_host s.addresses.graphite_port }) in
     let console : List Opening = opening_where (is_used s Console) (record { part = OfConsole; place = File [] }) in
     let door : List Opening = record { part = OfDoor; place = Host s.addresses.mgmt_address s.server.mgmt_port } ∷ [] in
@@ -27,9 +27,9 @@ returns-in_err-open_packets-clause-refused g c =
 pub returns-in_err-open_repeater-clause-refused : goal.returns-in_err-open_repeater-clause-refused
 returns-in_err-open_repeater-clause-refused g c =
     let s = c.args.settings.now in
-    let old = world_of g.R.Faulty.seen g.O.Faulty.seen g.B.Faulty.seen g.D.Faulty.seen g.L.Faulty.seen g.E.Faulty.seen g.P.Faulty.seen c.args.world.now in
-    let first = world_of g.R.Faulty.seen g.O.Faulty.seen g.B.Faulty.seen g.D.Faulty.seen g.L.Faulty.seen g.E.Faulty.seen g.P.Faulty.seen c.open_packets.new.world in
-    let second = world_of g.R.Faulty.seen g.O.Faulty.seen g.B.Faulty.seen g.D.Faulty.seen g.L.Faulty.seen g.E.Faulty.seen g.P.Faulty.seen c.open_repeater.new.world in
+    let old = world_of g.R.Faulty.seen g.O.Faulty.seen g.B.Faulty.seen g.D.Faulty.seen g.L.Faulty.seen g.E.Faulty.seen g.P.Faulty.seen g.Q.Faulty.seen c.args.world.now in
+    let first = world_of g.R.Faulty.seen g.O.Faulty.seen g.B.Faulty.seen g.D.Faulty.seen g.L.Faulty.seen g.E.Faulty.seen g.P.Faulty.seen g.Q.Faulty.seen c.open_packets.new.world in
+    let second = world_of g.R.Faulty.seen g.O.Faulty.seen g.B.Faulty.seen g.D.Faulty.seen g.L.Faulty.seen g.E.Faulty.seen g.P.Faulty.seen g.Q.Faulty.seen c.open_repeater.new.world in
     let receivers : c.unwrap-receivers.result ≡ s.sizes.receivers = search rules in
     let graphite : List Opening = opening_where (is_used s Graphite) (record { part = OfGraphite; place = Host s.addresses.graphite_host s.addresses.graphite_port }) in
     let console : List Opening = opening_where (is_used s Console) (record { part = OfConsole; place = File [] }) in
@@ -42,9 +42,9 @@ returns-in_err-open_repeater-clause-refused g c =
 pub returns-in_err-open_where-clause-refused : goal.returns-in_err-open_where-clause-refused
 returns-in_err-open_where-clause-refused g c =
     let s = c.args.settings.now in
-    let old = world_of g.R.Faulty.seen g.O.Faulty.seen g.B.Faulty.seen g.D.Faulty.seen g.L.Faulty.seen g.E.Faulty.seen g.P.Faulty.seen c.args.world.now in
-    let first = world_of g.R.Faulty.seen g.O.Faulty.seen g.B.Faulty.seen g.D.Faulty.seen g.L.Faulty.seen g.E.Faulty.seen g.P.Faulty.seen c.open_packets.new.world in
-    let second = world_of g.R.Faulty.seen g.O.Faulty.seen g.B.Faulty.seen g.D.Faulty.seen g.L.Faulty.seen g.E.Faulty.seen g.P.Faulty.seen c.open_repeater.new.world in
+    let old = world_of g.R.Faulty.seen g.O.Faulty.seen g.B.Faulty.seen g.D.Faulty.seen g.L.Faulty.seen g.E.Faulty.seen g.P.Faulty.seen g.Q.Faulty.seen c.args.world.now in
+    let first = world_of g.R.Faulty.seen g.O.Faulty.seen g.B.Faulty.seen g.D.Faulty.seen g.L.Faulty.seen g.E.Faulty.seen g.P.Faulty.seen g.Q.Faulty.seen c.open_packets.new.world in
+    let second = world_of g.R.Faulty.seen g.O.Faulty.seen g.B.Faulty.seen g.D.Faulty.seen g.L.Faulty.seen g.E.Faulty.seen g.P.Faulty.seen g.Q.Faulty.seen c.open_repeater.new.world in
     let receivers : c.unwrap-receivers.result ≡ s.sizes.receivers = search rules in
     let is_second : second ≡ opened_all first (wire_openings s.sizes.receivers s) = c.in_ok-open_repeater.ensures.opened ∙ ap (λ n. opened_all first (wire_openings n s)) receivers in
     let graphite : List Opening = opening_where (is_used s Graphite) (record { part = OfGraphite; place = Host s.addresses.graphite_host s.addresses.graphite_port }) in
@@ -62,9 +62,9 @@ returns-in_err-open_where-clause-refused g c =
 pub returns-in_err-open_where-2-clause-refused : goal.returns-in_err-open_where-2-clause-refused
 returns-in_err-open_where-2-clause-refused g c =
     let s = c.args.settings.now in
-    let old = world_of g.R.Faulty.seen g.O.Faulty.seen g.B.Faulty.seen g.D.Faulty.seen g.L.Faulty.seen g.E.Faulty.seen g.P.Faulty.seen c.args.world.now in
-    let first = world_of g.R.Faulty.seen g.O.Faulty.seen g.B.Faulty.seen g.D.Faulty.seen g.L.Faulty.seen g.E.Faulty.seen g.P.Faulty.seen c.open_packets.new.world in
-    let second = world_of g.R.Faulty.seen g.O.Faulty.seen g.B.Faulty.seen g.D.Faulty.seen g.L.Faulty.seen g.E.Faulty.seen g.P.Faulty.seen c.open_repeater.new.world in
+    let old = world_of g.R.Faulty.seen g.O.Faulty.seen g.B.Faulty.seen g.D.Faulty.seen g.L.Faulty.seen g.E.Faulty.seen g.P.Faulty.seen g.Q.Faulty.seen c.args.world.now in
+    let first = world_of g.R.Faulty.seen g.O.Faulty.seen g.B.Faulty.seen g.D.Faulty.seen g.L.Faulty.seen g.E.Faulty.seen g.P.Faulty.seen g.Q.Faulty.seen c.open_packets.new.world in
+    let second = world_of g.R.Faulty.seen g.O.Faulty.seen g.B.Faulty.seen g.D.Faulty.seen g.L.Faulty.seen g.E.Faulty.seen g.P.Faulty.seen g.Q.Faulty.seen c.open_repeater.new.world in
     let receivers : c.unwrap-receivers.result ≡ s.sizes.receivers = search rules in
     let is_second : second ≡ opened_all first (wire_openings s.sizes.receivers s) = c.in_ok-open_repeater.ensures.opened ∙ ap (λ n. opened_all first (wire_openings n s)) receivers in
     let graphite : List Opening = opening_where (is_used s Graphite) (record { part = OfGraphite; place = Host s.addresses.graphite_host s.addresses.graphite_port }) in
@@ -88,9 +88,9 @@ returns-in_err-open_where-2-clause-refused g c =
 pub returns-clause-refused : goal.returns-clause-refused
 returns-clause-refused g c =
     let s = c.args.settings.now in
-    let old = world_of g.R.Faulty.seen g.O.Faulty.seen g.B.Faulty.seen g.D.Faulty.seen g.L.Faulty.seen g.E.Faulty.seen g.P.Faulty.seen c.args.world.now in
-    let first = world_of g.R.Faulty.seen g.O.Faulty.seen g.B.Faulty.seen g.D.Faulty.seen g.L.Faulty.seen g.E.Faulty.seen g.P.Faulty.seen c.open_packets.new.world in
-    let second = world_of g.R.Faulty.seen g.O.Faulty.seen g.B.Faulty.seen g.D.Faulty.seen g.L.Faulty.seen g.E.Faulty.seen g.P.Faulty.seen c.open_repeater.new.world in
+    let old = world_of g.R.Faulty.seen g.O.Faulty.seen g.B.Faulty.seen g.D.Faulty.seen g.L.Faulty.seen g.E.Faulty.seen g.P.Faulty.seen g.Q.Faulty.seen c.args.world.now in
+    let first = world_of g.R.Faulty.seen g.O.Faulty.seen g.B.Faulty.seen g.D.Faulty.seen g.L.Faulty.seen g.E.Faulty.seen g.P.Faulty.seen g.Q.Faulty.seen c.open_packets.new.world in
+    let second = world_of g.R.Faulty.seen g.O.Faulty.seen g.B.Faulty.seen g.D.Faulty.seen g.L.Faulty.seen g.E.Faulty.seen g.P.Faulty.seen g.Q.Faulty.seen c.open_repeater.new.world in
     let receivers : c.unwrap-receivers.result ≡ s.sizes.receivers = search rules in
     let is_second : second ≡ opened_all first (wire_openings s.sizes.receivers s) = c.in_ok-open_repeater.ensures.opened ∙ ap (λ n. opened_all first (wire_openings n s)) receivers in
     let graphite : List Opening = opening_where (is_used s Graphite) (record { part = OfGraphite; place = Host s.addresses.graphite_host s.addresses.graphite_port }) in

@@ -1,0 +1,64 @@
+//! How a run of loops is answered: those of receivers, and others.
+ghost use Rattle.std.specs.Prelude.{◌≡◌, ◌+◌, ◌<◌, ◌^◌, length, map, if◌then◌else◌};
+ghost use Rattle.std.specs.List.{list_any};
+ghost use Rattle.sd_model_serve.specs.Ends.{most_turns};
+ghost use Rattle.sd_model_call.specs.Call.{Done, Worn, cut_answer};
+ghost use Rattle.sd_model_call.specs.Server.{by_receivers as first_failed, is_worn};
+ghost use Rattle.sd_serve.specs.Serving.{end_of};
+ghost use Rattle.sd_top.specs.Answers.{answer_of};
+
+use crate::status::{Part, Status};
+use sd_outside::Ended;
+
+/// How many turns a loop takes at most.
+const MOST_TURNS: u64 = 1 << 62;
+
+/// The status by the receiver of least number that failed, of receivers of which the first has this number; where none failed,
+/// the other status.
+pub(crate) fn by_receivers(first: u16, received: &[Ended], other: Status) -> Status
+    requires { first + length received.now < 2 ^ 16 }
+    ensures { answer_of result ≡ first_failed first (map end_of received.now) (answer_of other) }
+{
+    match received {
+        [] => other,
+        [Ended::Failed, ..] => Status::ReadFault {
+            part: Part::Packets(first),
+        },
+        [_, rest @ ..] => by_receivers(first + 1, rest, other),
+    }
+}
+
+/// Whether a loop ended since it took the most turns.
+pub(crate) fn took_most_turns(ended: &Ended) -> bool
+    ensures { result ≡ is_worn (end_of ended.now) }
+{
+    matches!(ended, Ended::Worn { .. })
+}
+
+/// Whether a receiver ended so.
+pub(crate) fn any_worn(received: &[Ended]) -> bool
+    ensures { result ≡ list_any (λ ended. is_worn (end_of ended)) received.now }
+{
+    received.iter().any(took_most_turns)
+}
+
+/// How a run is answered by whether a loop of it took the most turns.
+pub(crate) fn by_turns(is_worn: bool) -> Status
+    ensures { answer_of result ≡ (if is_worn then Worn most_turns else Done) }
+{
+    if is_worn {
+        Status::Worn { turns: MOST_TURNS }
+    } else {
+        Status::Ok
+    }
+}
+
+/// The status of a run whose totals couldn't be written.
+pub(crate) fn cut(whole: Status) -> Status
+    ensures { answer_of result ≡ cut_answer (answer_of whole) }
+{
+    match whole {
+        Status::Ok => Status::WriteFault,
+        other => other,
+    }
+}
