@@ -1,4 +1,3 @@
-use Rattle.std.proofs.Common.{◌≡◌}
 use Rattle.sd_outside.specs.MemBeat as beat
 use Rattle.sd_outside.specs.MemDoor as door
 use Rattle.sd_cases_runs.specs.Ready.{IsReady}
