@@ -28,6 +28,8 @@ enum Call {
     FinishConsole,
     OpenDoor,
     NextSession,
+    OpenStreams,
+    NextStream,
     NextTick,
     Ask,
     WriteOutput,
@@ -82,6 +84,8 @@ fn call_of(word: &str) -> Result<Call, Refusal> {
         "finish_console" => Ok(Call::FinishConsole),
         "open_door" => Ok(Call::OpenDoor),
         "next_session" => Ok(Call::NextSession),
+        "open_streams" => Ok(Call::OpenStreams),
+        "next_stream" => Ok(Call::NextStream),
         "next_tick" => Ok(Call::NextTick),
         "ask" => Ok(Call::Ask),
         "write_output" => Ok(Call::WriteOutput),
@@ -105,6 +109,7 @@ pub(crate) fn fail(world: &mut MemWorld, failing: Failing) -> Result<(), Refusal
     ensures wires { length (world.new).wires.items ≡ length (world.old).wires.items }
     ensures beat { beat_seen (world.new).beat ≡ beat_seen (world.old).beat }
     ensures door { door_seen (world.new).door ≡ door_seen (world.old).door }
+    ensures streams { door_seen (world.new).streams ≡ door_seen (world.old).streams }
 {
     let number = failing.number;
     match failing.call {
@@ -132,6 +137,8 @@ pub(crate) fn fail(world: &mut MemWorld, failing: Failing) -> Result<(), Refusal
         Call::FinishConsole => world.backs.console.fail_finish.push(number)?,
         Call::OpenDoor => world.door.fail_open.push(number)?,
         Call::NextSession => world.door.fail_call.push(number)?,
+        Call::OpenStreams => world.streams.fail_open.push(number)?,
+        Call::NextStream => world.streams.fail_call.push(number)?,
         Call::NextTick => world.beat.fail_call.push(number)?,
         Call::Ask => world.probe.fail_call.push(number)?,
         Call::WriteOutput => world.output.fail_call.push(number)?,

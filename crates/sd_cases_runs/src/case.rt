@@ -29,6 +29,7 @@ pub(crate) type MemWorld = World<
     NoGate,
     MemClock,
     MemProbe,
+    MemDoor,
 >;
 
 /// How many wires a run has.
@@ -134,7 +135,7 @@ impl Case {
 
     /// The objects of the run.
     pub(crate) fn world(&self, alloc: Global) -> Result<MemWorld, Refusal>
-        ensures { IfOk result (IsReady door_seen beat_seen) }
+        ensures { IfOk result (IsReady door_seen beat_seen door_seen) }
     {
         let mut world = World {
             settings: MemSource::of(self.settings.clone()?),
@@ -153,6 +154,7 @@ impl Case {
             gate: NoGate,
             clock: self.traffic.clock(),
             probe: self.traffic.probe()?,
+            streams: self.traffic.streams(alloc, self.most.sessions)?,
         };
         world.settings.most = self.most.settings.get();
         world.script.most = self.most.script.get();

@@ -130,6 +130,7 @@ type LateWorld<'a> = World<
     CountingGate<'a>,
     MemClock,
     MemProbe,
+    MemDoor,
 >;
 
 /// The sources of a run, of which the first gives this datagram.
@@ -184,6 +185,7 @@ pub(crate) fn run_late<R: Threads + Wait + Sync>(
         gate: _,
         clock,
         probe,
+        streams,
     } = case.world(alloc)?;
     let mut world = World {
         settings,
@@ -197,6 +199,7 @@ pub(crate) fn run_late<R: Threads + Wait + Sync>(
         gate: CountingGate { passed: &passed },
         clock,
         probe,
+        streams,
     };
     let status = statsd(rt, alloc, &case.words, &mut world);
     report(&status, &world, out);

@@ -14,7 +14,8 @@ pub(crate) fn report(status: &Status, world: &MemWorld, out: &mut Answer) {
     show_sources(&world.packets, out);
     show_wires(&world.wires, out);
     show_beat(&world.beat, out);
-    show_door(&world.door, out);
+    show_door("door", &world.door, out);
+    show_door("streams", &world.streams, out);
     show_probe(&world.probe, out);
     out.text("\n  output:");
     out.lines(world.output.bytes());
@@ -78,10 +79,12 @@ pub(crate) fn show_beat(beat: &MemBeat, out: &mut Answer) {
     }
 }
 
-/// Appends what came of the door, where it was opened or failed, and the replies of the sessions that were given back.
-fn show_door(door: &MemDoor, out: &mut Answer) {
+/// Appends what came of a door under its name, where it was opened or failed, and the replies of the sessions that were given back.
+fn show_door(name: &str, door: &MemDoor, out: &mut Answer) {
     if door.opened_at().is_some() || door.faults() > 0 {
-        out.text("\n  door: opened ");
+        out.text("\n  ");
+        out.text(name);
+        out.text(": opened ");
         show_address(door.opened_at(), out);
         out.count(", faults ", door.faults());
         out.count(", left ", door.remaining().len() as u64);

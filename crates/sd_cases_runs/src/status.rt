@@ -27,6 +27,7 @@ fn part_of(word: &str) -> Result<Part, Refusal> {
         "console" => Ok(Part::Console),
         "beat" => Ok(Part::Beat),
         "door" => Ok(Part::Door),
+        "streams" => Ok(Part::Streams),
         _ => Err(Refusal::Malformed),
     }
 }

@@ -36,13 +36,14 @@ struct Unread {
     read: u64,
 }
 
-/// Datagrams, ticks, sessions and replies of nodes, and the moment of the clock.
+/// Datagrams, ticks, sessions, streams of lines and replies of nodes, and the moment of the clock.
 #[derive(Debug, Drop)]
 pub(crate) struct Traffic {
     sent: Vec<Sent>,
     ticks: Vec<u64>,
     sessions: Vec<Vec<u8>>,
     unread: Vec<Unread>,
+    streams: Vec<Vec<u8>>,
     replies: Vec<Vec<u8>>,
     now: u64,
 }
@@ -57,6 +58,24 @@ fn source_of(word: &str) -> Result<usize, Refusal> {
     }
 }
 
+/// The two ends of a session that has these bytes, of whose reads these are to fail, and whose reads and writes take so many bytes at
+/// most.
+fn ends_of(
+    alloc: Global,
+    asked: Vec<u8>,
+    unread: Vec<u64>,
+    most: NonZeroUsize,
+) -> Result<(MemSource, MemSink), Refusal>
+    ensures { IfOk result HasNoFaults }
+{
+    let mut source = MemSource::of(asked);
+    source.fail_call = unread;
+    source.most = most.get();
+    let mut replies = MemSink::open(alloc, ROOM)?;
+    replies.most = most.get();
+    Ok((source, replies))
+}
+
 impl Traffic {
     /// None, at the moment 1000.
     pub(crate) fn none(alloc: Global) -> Traffic {
@@ -65,14 +84,15 @@ impl Traffic {
             ticks: Vec::new(alloc),
             sessions: Vec::new(alloc),
             unread: Vec::new(alloc),
+            streams: Vec::new(alloc),
             replies: Vec::new(alloc),
             now: 1000,
         }
     }
 
     /// Takes a part: a datagram `packet=SOURCE/TEXT`, `counted=SOURCE/COUNT/NAME` for the datagrams `NAME:I|c` with I from 1 on,
-    /// `tick=SECOND`, `session=TEXT`, `unread=SESSION/READ` for a read that is to fail, `reply=TEXT` of a node, or the moment
-    /// `clock=SECOND`.
+    /// `tick=SECOND`, `session=TEXT`, `unread=SESSION/READ` for a read that is to fail, `stream=TEXT` of lines, `reply=TEXT` of a
+    /// node, or the moment `clock=SECOND`.
     ///
     /// # Errors
     ///
@@ -93,6 +113,7 @@ impl Traffic {
                 let (session, read) = (number(session)?, number(read)?);
                 self.unread.push(Unread { session, read })?;
             }
+            "stream" => self.streams.push(bytes_of(alloc, value)?)?,
             "reply" => self.replies.push(bytes_of(alloc, value)?)?,
             "clock" => self.now = number(value)?,
             _ => return Err(Refusal::Malformed),
@@ -178,12 +199,7 @@ impl Traffic {
         ensures { IfOk result HasNoFaults }
     {
         let asked = self.sessions.get(session).ok_or(Refusal::Malformed)?;
-        let mut source = MemSource::of(asked.clone()?);
-        source.fail_call = self.unread_of(alloc, session)?;
-        source.most = most.get();
-        let mut replies = MemSink::open(alloc, ROOM)?;
-        replies.most = most.get();
-        Ok((source, replies))
+        ends_of(alloc, asked.clone()?, self.unread_of(alloc, session)?, most)
     }
 
     /// The door of the run, the reads and writes of whose sessions take so many bytes at most.
@@ -201,6 +217,18 @@ impl Traffic {
     /// The probe of the run.
     pub(crate) fn probe(&self) -> Result<MemProbe, Refusal> {
         Ok(MemProbe::open(self.replies.clone()?, QUESTIONS)?)
+    }
+
+    /// The door of streams of the run, whose reads take so many bytes at most.
+    pub(crate) fn streams(&self, alloc: Global, most: NonZeroUsize) -> Result<MemDoor, Refusal>
+        ensures none_out { IfOk result (λ door. (door_seen door).is_out ≡ false) }
+        ensures turns { IfOk result (λ door. (door_seen door).turns ≡ 0) }
+    {
+        let mut given = Vec::new(alloc);
+        for stream in &self.streams {
+            given.push(ends_of(alloc, stream.clone()?, Vec::new(alloc), most)?)?;
+        }
+        Ok(MemDoor::open(given)?)
     }
 
     /// The clock of the run.

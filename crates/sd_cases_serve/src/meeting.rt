@@ -1,4 +1,4 @@
-//! Workers of a server that meet: each source before its last datagram, the first write to Graphite, and the door's first call.
+//! Workers of a server that meet: each source before its last datagram, the first write to Graphite, and each door's first call.
 //! A source has nothing for now until all have come, and the others wait.
 ghost use Rattle.std.specs.Prelude.{IfOk};
 ghost use Rattle.sd_outside.specs.MemBeat.{seen_of as beat_seen};
@@ -6,7 +6,7 @@ ghost use Rattle.sd_cases_serve.specs.Meeting.{door_seen};
 ghost use Rattle.sd_cases_serve.specs.Serving.{IsFresh};
 
 use crate::backing::backs_of;
-use crate::entering::{beat_of, door_of};
+use crate::entering::{beat_of, door_of, streams_of};
 use crate::order::{MEETING, Order};
 use crate::packing::{source_of, wires_of};
 use crate::serving::{World, serve_over};
@@ -231,7 +231,14 @@ fn meeting_backs<'a>(
     })
 }
 
-type MeetWorld<'a> = World<MeetSource<'a>, MemWire, MeetBack<'a>, MemBeat, MeetDoor<'a>>;
+type MeetWorld<'a> = World<
+    MeetSource<'a>,
+    MemWire,
+    MeetBack<'a>,
+    MemBeat,
+    MeetDoor<'a>,
+    MeetDoor<'a>,
+>;
 
 // The objects of workers that meet.
 fn world_of<'a>(
@@ -240,7 +247,7 @@ fn world_of<'a>(
     setup: &Setup,
     plan: Plan<'a>,
 ) -> Result<MeetWorld<'a>, Refusal>
-    ensures { IfOk result (IsFresh beat_seen door_seen) }
+    ensures { IfOk result (IsFresh beat_seen door_seen door_seen) }
 {
     Ok(World {
         packets: sources_of(alloc, words, setup, plan)?,
@@ -249,6 +256,11 @@ fn world_of<'a>(
         backs: meeting_backs(alloc, words, plan)?,
         door: MeetDoor {
             door: door_of(alloc, words)?,
+            plan,
+            has_come: false,
+        },
+        streams: MeetDoor {
+            door: streams_of(alloc, words, setup)?,
             plan,
             has_come: false,
         },

@@ -8,10 +8,10 @@ use std::sync::atomic::Ordering::SeqCst;
 use std::thread;
 
 /// How many places it has. The last is no place of a server: parties come to it that meet.
-const PLACES: usize = 6;
+const PLACES: usize = 8;
 
 /// The place at which parties meet.
-pub const MEETING: u8 = 5;
+pub const MEETING: u8 = 7;
 
 // How often someone who waits looks.
 const MOST_WAITS: u64 = 100_000_000;
@@ -63,6 +63,8 @@ impl Order {
         }
         Ok(Order {
             passes: [
+                AtomicU64::new(0),
+                AtomicU64::new(0),
                 AtomicU64::new(0),
                 AtomicU64::new(0),
                 AtomicU64::new(0),

@@ -26,12 +26,13 @@ const POLICY: Policy = Policy {
 
 /// What a server works with.
 #[derive(Drop)]
-pub struct World<D, L, B, P, E> {
+pub struct World<D, L, B, P, E, S> {
     pub packets: Vec<D>,
     pub wires: Vec<L>,
     pub beat: P,
     pub backs: Backs<B>,
     pub door: E,
+    pub streams: S,
 }
 
 // The sizes that a case sets, which have to be those that a server can have.
@@ -51,6 +52,9 @@ fn sizes_of(setup: &Setup) -> Result<Sizes, Refusal>
         shards: setup.shards.clamp(1, 16),
         receivers: setup.receivers.clamp(1, 16),
         wires: setup.wires,
+        streams: setup.streams,
+        outlets: setup.outlets.min(64),
+        outlet_bytes: setup.outlet_bytes.clamp(1, 1 << 24),
     })
 }
 
@@ -61,16 +65,17 @@ pub fn serve_over<
     B: Backend + Send,
     P: Beat + Send,
     E: Door<Asking: Send, Telling: Send> + Send,
+    S: Door<Asking: Send, Telling: Send> + Send,
     G: Gate + Sync,
     R: Threads + Wait + Sync,
 >(
     rt: &R,
     alloc: Global,
     setup: &Setup,
-    world: &mut World<D, L, B, P, E>,
+    world: &mut World<D, L, B, P, E, S>,
     gate: &G,
 ) -> Result<Served, Refusal>
-    requires { IsFresh P.seen E.seen world.old }
+    requires { IsFresh P.seen E.seen S.seen world.old }
 {
     let sizes = sizes_of(setup)?;
     let receivers = usize::from(sizes.receivers);
@@ -93,6 +98,7 @@ pub fn serve_over<
         &mut world.beat,
         &mut world.backs,
         &mut world.door,
+        &mut world.streams,
         gate,
         &clock,
     ))

@@ -11,6 +11,13 @@ pub struct Setup {
     pub receivers: u16,
     /// How many wires each receiver has.
     pub wires: u16,
+    /// Whether lines of streams are read.
+    pub streams: bool,
+    /// How many bytes a read of a stream gives at most.
+    pub cut: u32,
+    /// How many buffers each outlet has, none where there are no outlets, and how many bytes each buffer.
+    pub outlets: u32,
+    pub outlet_bytes: u32,
     /// How many sources and wires stand behind those of the receivers.
     pub spare: u16,
     /// How often each source gives the datagrams that words write.
@@ -24,6 +31,15 @@ pub struct Setup {
     pub clock: u64,
 }
 
+// Whether a word says so.
+fn yes_or_no(word: &str) -> Result<bool, Refusal> {
+    match word {
+        "yes" => Ok(true),
+        "no" => Ok(false),
+        _ => Err(Refusal::Malformed),
+    }
+}
+
 impl Setup {
     // Takes in what a word sets, if it sets anything here.
     fn set(&mut self, name: &str, value: &str) -> Result<(), Refusal> {
@@ -33,6 +49,10 @@ impl Setup {
             "entries" => self.entries = number(value)?,
             "receivers" => self.receivers = number(value)?,
             "wires" => self.wires = number(value)?,
+            "streams" => self.streams = yes_or_no(value)?,
+            "cut" => self.cut = number(value)?,
+            "outlets" => self.outlets = number(value)?,
+            "outlet_bytes" => self.outlet_bytes = number(value)?,
             "spare" => self.spare = number(value)?,
             "times" => self.times = number(value)?,
             "own" => self.own = number(value)?,
@@ -54,6 +74,10 @@ pub fn setup_of(words: &[&str]) -> Result<Setup, Refusal> {
         entries: 4096,
         receivers: 1,
         wires: 0,
+        streams: false,
+        cut: u32::MAX,
+        outlets: 0,
+        outlet_bytes: 1 << 16,
         spare: 0,
         times: 1,
         own: 0,

@@ -1,6 +1,7 @@
 //! How what a server left is printed.
 use sd_case::Answer;
 use sd_desk::DeskFacts;
+use sd_outlet::Worked;
 use sd_outside::{DoorEnd, Ended, MemBeat, MemDatagrams, MemDoor, MemWire};
 use sd_serve::Served;
 use sd_shard::ShardBook;
@@ -22,7 +23,15 @@ fn show_door_end(ended: DoorEnd, out: &mut Answer) {
     }
 }
 
-/// Appends how the workers ended.
+// What came of the texts of a backend's outlet.
+fn show_outlet(title: &str, skipped: u64, worked: Worked, out: &mut Answer) {
+    out.text(title);
+    out.count(" written ", worked.written);
+    out.count(" faults ", worked.faults);
+    out.count(" skipped ", skipped);
+}
+
+/// Appends how the workers ended, and what outlets counted, if there were any.
 pub fn show_ends(served: &Served, out: &mut Answer) {
     out.step("ends");
     out.text("receivers");
@@ -34,6 +43,15 @@ pub fn show_ends(served: &Served, out: &mut Answer) {
     show_end(served.ends.flusher, out);
     out.text(", keeper ");
     show_door_end(served.ends.keeper, out);
+    if let Some(ended) = served.ends.liner {
+        out.text(", keeper of lines ");
+        show_door_end(ended, out);
+    }
+    if let Some(outs) = served.outs {
+        out.step("outlets");
+        show_outlet("graphite", outs.skips.graphite, outs.graphite, out);
+        show_outlet(", console", outs.skips.console, outs.console, out);
+    }
 }
 
 /// Appends the facts of the desk.
@@ -126,6 +144,18 @@ pub fn show_turns(beat: &MemBeat, door: &MemDoor, out: &mut Answer) {
     out.count(" door ", door.turns());
     out.count("/", door.faults());
     out.count("/", door.remaining().len() as u64);
+}
+
+/// Appends the turns, the faults and the number of streams left of a door, and what is left of the streams that were given back.
+pub fn show_streams(door: &MemDoor, out: &mut Answer) {
+    out.step("streams");
+    out.count("turns/faults/left ", door.turns());
+    out.count("/", door.faults());
+    out.count("/", door.remaining().len() as u64);
+    for (asking, _telling) in door.back() {
+        out.text(", left ");
+        out.bytes(asking.remaining());
+    }
 }
 
 /// Appends the replies of the sessions that were given back.

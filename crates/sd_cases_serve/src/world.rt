@@ -5,13 +5,14 @@ ghost use Rattle.sd_outside.specs.MemDoor.{seen_of as door_seen};
 ghost use Rattle.sd_cases_serve.specs.Serving.{IsFresh};
 
 use crate::backing::backs_of;
-use crate::entering::{beat_of, door_of};
+use crate::entering::{beat_of, door_of, streams_of};
 use crate::order::Order;
 use crate::packing::{sources_of, wires_of};
 use crate::serving::{World, serve_over};
 use crate::setup::{Setup, setup_of};
 use crate::shown::{
-    show_books, show_desk, show_ends, show_sessions, show_sources, show_turns, show_wires, sums_of,
+    show_books, show_desk, show_ends, show_sessions, show_sources, show_streams, show_turns,
+    show_wires, sums_of,
 };
 use crate::texts::show_backs;
 use sd_case::{Answer, Refusal};
@@ -21,11 +22,11 @@ use std::alloc::Global;
 use std::sync::Wait;
 use std::thread::Threads;
 
-type MemWorld = World<MemDatagrams, MemWire, MemBackend, MemBeat, MemDoor>;
+type MemWorld = World<MemDatagrams, MemWire, MemBackend, MemBeat, MemDoor, MemDoor>;
 
 // The objects that the words of a case write.
 fn world_of(alloc: Global, words: &[&str], setup: &Setup) -> Result<MemWorld, Refusal>
-    ensures { IfOk result (IsFresh beat_seen door_seen) }
+    ensures { IfOk result (IsFresh beat_seen door_seen door_seen) }
 {
     Ok(World {
         packets: sources_of(alloc, words, setup)?,
@@ -33,11 +34,18 @@ fn world_of(alloc: Global, words: &[&str], setup: &Setup) -> Result<MemWorld, Re
         beat: beat_of(alloc, words)?,
         backs: backs_of(alloc, words)?,
         door: door_of(alloc, words)?,
+        streams: streams_of(alloc, words, setup)?,
     })
 }
 
 // Appends what a server left, and its objects.
-fn show(alloc: Global, served: &Served, world: &MemWorld, out: &mut Answer) -> Result<(), Refusal> {
+fn show(
+    alloc: Global,
+    setup: &Setup,
+    served: &Served,
+    world: &MemWorld,
+    out: &mut Answer,
+) -> Result<(), Refusal> {
     show_ends(served, out);
     show_desk(&served.desk.facts(), out);
     show_books(served.books.as_slice(), out);
@@ -45,6 +53,9 @@ fn show(alloc: Global, served: &Served, world: &MemWorld, out: &mut Answer) -> R
     show_wires(&world.wires, out);
     show_turns(&world.beat, &world.door, out);
     show_sessions(&world.door, out);
+    if setup.streams {
+        show_streams(&world.streams, out);
+    }
     show_backs(alloc, &world.backs, out)
 }
 
@@ -59,7 +70,7 @@ pub fn serve_case<R: Threads + Wait + Sync>(
     let gate = Order::of(alloc, words)?;
     let mut world = world_of(alloc, words, &setup)?;
     let served = serve_over(rt, alloc, &setup, &mut world, &gate)?;
-    show(alloc, &served, &world, out)?;
+    show(alloc, &setup, &served, &world, out)?;
     gate.show(out);
     Ok(())
 }

@@ -5,7 +5,7 @@ use sd_outside::Name;
 use sd_plan::{Classes, Names, Node, Target};
 
 /// The read calls in the order of the settings.
-pub(crate) const CALLS: [&str; 34] = [
+pub(crate) const CALLS: [&str; 37] = [
     "port",
     "mgmt_port",
     "flush_interval",
@@ -40,6 +40,9 @@ pub(crate) const CALLS: [&str; 34] = [
     "run_flushes",
     "gauges_max_ttl",
     "calculated_timer_metrics",
+    "outlets",
+    "outlet_bytes",
+    "tcp_port",
 ];
 
 /// Appends what a read call answers.
@@ -71,6 +74,9 @@ fn number_of(settings: &Settings, call: &str) -> Option<u32> {
         "receivers" => Some(settings.receivers()),
         "run_flushes" => Some(settings.run_flushes()),
         "gauges_max_ttl" => Some(settings.gauges_max_ttl()),
+        "outlets" => Some(settings.outlets()),
+        "outlet_bytes" => Some(settings.outlet_bytes()),
+        "tcp_port" => Some(settings.tcp_port()),
         _ => None,
     }
 }

@@ -9,6 +9,7 @@ use Rattle.sd_config.specs.declared.groups.Addresses.{Addresses}
 use Rattle.sd_config.specs.declared.groups.EntryLists.{EntryLists}
 use Rattle.sd_config.specs.declared.groups.Sizes.{Sizes}
 use Rattle.sd_config.specs.declared.groups.FlushRules.{FlushRules}
+use Rattle.sd_config.specs.declared.groups.Transport.{Transport}
 
 abbrev pub server_view : Server → model.Server
 server_view s =
@@ -63,3 +64,6 @@ sizes_view s =
 abbrev pub flush_rules_view : FlushRules → model.FlushRules
 flush_rules_view s =
     record { gauges_max_ttl = s.gauges_max_ttl; calculated_timer_metrics = name_bytes s.calculated_timer_metrics.items }
+
+abbrev pub transport_view : Transport → model.Transport
+transport_view s = record { outlets = s.outlets; outlet_bytes = s.outlet_bytes; tcp_port = s.tcp_port }

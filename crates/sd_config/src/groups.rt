@@ -1,7 +1,7 @@
-ghost use Rattle.sd_model_settings.specs.Settings.{server, deletions, addresses, namespace, entry_lists, sizes, flush_rules};
+ghost use Rattle.sd_model_settings.specs.Settings.{server, deletions, addresses, namespace, entry_lists, sizes, flush_rules, transport};
 ghost use Rattle.sd_config.specs.Answers.{Gives};
 ghost use Rattle.sd_config.specs.Values.{section_of};
-ghost use Rattle.sd_config.specs.Groups.{server_view, deletions_view, addresses_view, entry_lists_view, sizes_view, flush_rules_view};
+ghost use Rattle.sd_config.specs.Groups.{server_view, deletions_view, addresses_view, entry_lists_view, sizes_view, flush_rules_view, transport_view};
 ghost use Rattle.sd_plan.specs.Names.{namespace_view};
 
 use crate::fault::ConfigFault;
@@ -196,5 +196,28 @@ pub(crate) fn flush_rules_in(top: &Section) -> Result<FlushRules, ConfigFault>
     Ok(FlushRules {
         gauges_max_ttl,
         calculated_timer_metrics,
+    })
+}
+
+/// How many texts may wait for each backend and of how many bytes each may be, and the port of streams of lines; 0 is none.
+#[derive(Debug, Drop)]
+pub(crate) struct Transport {
+    pub(crate) outlets: u32,
+    pub(crate) outlet_bytes: u32,
+    pub(crate) tcp_port: u32,
+}
+
+#[tactic(auto, unfolding(sd_model_settings::specs::Settings::transport))]
+pub(crate) fn transport_in(top: &Section) -> Result<Transport, ConfigFault>
+    ensures { Gives transport_view result (transport (section_of top.now)) }
+{
+    let outlets = top.whole("outlets", 0, 64, 0)?;
+    let per_outlet = top.whole("outletBytes", 65_536, 16_777_216, 4_194_304)?;
+    let outlet_bytes = top.within_product("outletBytes", 268_435_456, outlets, per_outlet)?;
+    let tcp_port = top.whole("tcp_port", 0, 65_535, 0)?;
+    Ok(Transport {
+        outlets,
+        outlet_bytes,
+        tcp_port,
     })
 }

@@ -15,7 +15,7 @@ use crate::fields::found;
 use sd_outside::Name;
 use toml::{Table, Value};
 
-const TOP: [&str; 28] = [
+const TOP: [&str; 31] = [
     "port",
     "mgmt_port",
     "flushInterval",
@@ -44,6 +44,9 @@ const TOP: [&str; 28] = [
     "runFlushes",
     "gaugesMaxTTL",
     "calculatedTimerMetrics",
+    "outlets",
+    "outletBytes",
+    "tcp_port",
 ];
 
 const GRAPHITE: [&str; 7] = [

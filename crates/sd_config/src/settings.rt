@@ -10,8 +10,8 @@ ghost use Rattle.sd_plan.specs.Plan.{plan_view};
 
 use crate::fault::{ConfigFault, shown};
 use crate::groups::{
-    Addresses, Deletions, EntryLists, FlushRules, Server, Sizes, addresses_in, deletions_in,
-    entry_lists_in, flush_rules_in, namespace_in, server_in, sizes_in,
+    Addresses, Deletions, EntryLists, FlushRules, Server, Sizes, Transport, addresses_in,
+    deletions_in, entry_lists_in, flush_rules_in, namespace_in, server_in, sizes_in, transport_in,
 };
 use crate::known_names::unknown;
 use crate::section::Section;
@@ -39,14 +39,15 @@ pub struct Settings {
     nodes: ArrayVec<Node, 64>,
     sizes: Sizes,
     gauges_max_ttl: u32,
+    transport: Transport,
 }
 
 impl Model for Settings {
     ghost use Rattle.std.specs.Prelude.{map};
     ghost use Rattle.sd_model_settings.specs.Settings.{Settings as ModelSettings};
-    ghost use Rattle.sd_model_settings.specs.Ranges.{IsWithin, AddressesInRange, NamespaceInRange, AreTargets, AreNodes, SizesInRange};
+    ghost use Rattle.sd_model_settings.specs.Ranges.{IsWithin, AddressesInRange, NamespaceInRange, AreTargets, AreNodes, SizesInRange, TransportInRange};
     ghost use Rattle.sd_plan.specs.Entries.{target_view, node_view};
-    ghost use Rattle.sd_config.specs.Groups.{deletions_view, addresses_view, sizes_view};
+    ghost use Rattle.sd_config.specs.Groups.{deletions_view, addresses_view, sizes_view, transport_view};
     ghost use Rattle.sd_plan.specs.Names.{namespace_view};
 
     ghost Value = { ModelSettings };
@@ -71,6 +72,7 @@ impl Model for Settings {
         gauges_max_ttl = s.gauges_max_ttl;
         calculated_timer_metrics = s.plan.calculated;
       };
+      transport = transport_view s.transport;
     } };
 
     // the ranges of what the plan has are kept by its own fields
@@ -80,7 +82,8 @@ impl Model for Settings {
         × AreTargets (map target_view s.repeater.items)
         × AreNodes (map node_view s.nodes.items)
         × SizesInRange (sizes_view s.sizes)
-        × IsWithin 1 1000000000 s.gauges_max_ttl };
+        × IsWithin 1 1000000000 s.gauges_max_ttl
+        × TransportInRange (transport_view s.transport) };
 }
 
 #[tactic(auto, unfolding(sd_model_settings::specs::Settings::settings_in))]
@@ -110,6 +113,7 @@ fn settings_in(table: &Table) -> Result<Settings, ConfigFault>
         gauges_max_ttl,
         calculated_timer_metrics,
     } = flush_rules_in(&top)?;
+    let transport = transport_in(&top)?;
     let plan = Reckoning {
         interval_ms: flush_interval,
         thresholds: Thresholds::of(percent_threshold),
@@ -127,6 +131,7 @@ fn settings_in(table: &Table) -> Result<Settings, ConfigFault>
         nodes,
         sizes,
         gauges_max_ttl,
+        transport,
     })
 }
 
@@ -266,6 +271,31 @@ impl Settings {
         ensures range { IsWithin 1 1000000000 result }
     {
         self.gauges_max_ttl
+    }
+
+    /// How many texts may wait for each backend; with 0 the flusher writes them itself.
+    pub fn outlets(&self) -> u32
+        ensures value { result ≡ self.now.transport.outlets }
+        ensures range { result ≤ 64 }
+    {
+        self.transport.outlets
+    }
+
+    /// How many bytes a text that waits may have. The texts of a backend have at most 268,435,456 together.
+    pub fn outlet_bytes(&self) -> u32
+        ensures value { result ≡ self.now.transport.outlet_bytes }
+        ensures range { IsWithin 65536 16777216 result }
+        ensures all { self.now.transport.outlets * result ≤ 268435456 }
+    {
+        self.transport.outlet_bytes
+    }
+
+    /// The port of streams of lines; 0 is none.
+    pub fn tcp_port(&self) -> u32
+        ensures value { result ≡ self.now.transport.tcp_port }
+        ensures range { result ≤ 65535 }
+    {
+        self.transport.tcp_port
     }
 
     /// Whether idle rows are deleted, unless their kind has a setting of its own.

@@ -3,7 +3,7 @@ ghost use Rattle.std.specs.Option.{option_map};
 ghost use Rattle.arrayvec.specs.ArrayVec.{array_vec_len};
 ghost use Rattle.sd_model_text.specs.Numbers.{number_text};
 ghost use Rattle.sd_model_settings.specs.Ranges.{IsClasses, AreThresholds, AreBackends, AreClassNames, AreLimits, AreHistograms};
-ghost use Rattle.sd_model_settings.specs.ConfigText.{line, flag_text, limit_text, joined, server_lines, deletion_lines, address_lines, namespace_lines, front_lines, entry_lines, histogram_line, repeater_line, node_line, size_lines, rule_lines, back_lines, config_lines};
+ghost use Rattle.sd_model_settings.specs.ConfigText.{line, flag_text, limit_text, joined, server_lines, deletion_lines, address_lines, namespace_lines, front_lines, entry_lines, histogram_line, repeater_line, node_line, size_lines, rule_lines, transport_lines, back_lines, config_lines};
 ghost use Rattle.sd_plan.specs.Values.{micros, name_bytes};
 ghost use Rattle.sd_plan.specs.Entries.{limits_of, classes_view, target_view, node_view};
 
@@ -17,7 +17,7 @@ use sd_plan::{Classes, Node, Target};
 // how many lines stand before those of entries, and behind them
 const FRONT_LINES: usize = 22;
 
-const BACK_LINES: usize = 9;
+const BACK_LINES: usize = 12;
 
 /// The line of a name and a value.
 pub fn line_of(name: &[u8], value: &[u8]) -> ReplyLine
@@ -188,6 +188,18 @@ fn rule_line(settings: &Settings, place: usize) -> Option<ReplyLine>
     }
 }
 
+/// The line of outlets or of the port of streams, at a place.
+fn transport_line(settings: &Settings, place: usize) -> Option<ReplyLine>
+    ensures { option_map (λ l. l.items) result ≡ slice_get (transport_lines settings.now.transport) place }
+{
+    match place {
+        0 => Some(setting_line("outlets", settings.outlets())),
+        1 => Some(setting_line("outletBytes", settings.outlet_bytes())),
+        2 => Some(setting_line("tcp_port", settings.tcp_port())),
+        _ => None,
+    }
+}
+
 /// Appends limits joined by commas.
 fn push_limits(limits: &[Limit], value: &mut ReplyLine)
     requires range { AreLimits (limits_of limits.now) }
@@ -269,8 +281,10 @@ fn back_line(settings: &Settings, place: usize) -> Option<ReplyLine>
 {
     if place < 7 {
         size_line(settings, place)
-    } else {
+    } else if place < 9 {
         rule_line(settings, place - 7)
+    } else {
+        transport_line(settings, place - 9)
     }
 }
 
@@ -311,7 +325,7 @@ fn node_at(nodes: &[Node], place: usize) -> Option<ReplyLine>
 /// How many lines the reply to `config` has.
 pub fn config_line_count(settings: &Settings) -> usize
     ensures len { result ≡ length (config_lines settings.now) }
-    ensures short { result ≤ 127 }
+    ensures short { result ≤ 130 }
 {
     let entries = settings.histogram().len() + settings.repeater().len() + settings.nodes().len();
     FRONT_LINES + entries + BACK_LINES

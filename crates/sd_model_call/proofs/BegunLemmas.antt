@@ -10,7 +10,7 @@ use Rattle.std.proofs.Math.Seq.{map-set_same}
 use Rattle.sd_model_outside.specs.Outside.{File, HasRead, IsAtEnd, Left, Object, Place, Rose, Told, Untold, fresh, left_in, opened, put_back, telling}
 use Rattle.sd_model_outside.specs.Turns.{with_interval}
 use Rattle.sd_model_settings.specs.Settings.{Settings, OutOfRange, SettingsFlaw, settings}
-use Rattle.sd_model_call.specs.Opening.{World, Opening, Part, OfSettings, OfScript, OfSource, OfBeat, OfWire, OfGraphite, OfConsole, OfDoor, AreRead, IsAccepted, IsFlawed, IsNotOpenedAt, longest_file, numbered, opened_all, opened_part, part_in, settled, with_part}
+use Rattle.sd_model_call.specs.Opening.{World, Opening, Part, OfSettings, OfScript, OfSource, OfBeat, OfWire, OfGraphite, OfConsole, OfDoor, OfStreams, AreRead, IsAccepted, IsFlawed, IsNotOpenedAt, longest_file, numbered, opened_all, opened_part, part_in, settled, with_part}
 use Rattle.sd_model_call.specs.Call.{Answer, Done, NoMemory, NoForm, Misset, BadScript, NotOpened, NotRead, NotWritten, Worn, IsNotTaken, NotBegun, NotTaken, StopsAmong, cut_answer}
 use Rattle.sd_model_call.specs.ServerOpening.{begun_with}
 use Rattle.sd_model_call.specs.ServerCompleteness.{HasFaultOf}
@@ -45,6 +45,7 @@ pub record Same {X : Type 0} (f : Object → X) (a b : World) : Type 0 where
   pub graphite : f a.seen.graphite ≡ f b.seen.graphite
   pub console : f a.seen.console ≡ f b.seen.console
   pub door : f a.served.door ≡ f b.served.door
+  pub streams : f a.served.streams ≡ f b.served.streams
   pub output : a.seen.output ≡ b.seen.output
 
 module _ {X : Type 0} (f : Object → X) where
@@ -61,6 +62,7 @@ module _ {X : Type 0} (f : Object → X) where
   same_part a b h OfGraphite = h.graphite
   same_part a b h OfConsole = h.console
   same_part a b h OfDoor = h.door
+  same_part a b h OfStreams = h.streams
 
   pub same_next : (a b c : World) → Same f a b → Same f b c → Same f a c
   same_next a b c g h = record {
@@ -72,22 +74,24 @@ module _ {X : Type 0} (f : Object → X) where
     graphite = g.graphite ∙ h.graphite;
     console = g.console ∙ h.console;
     door = g.door ∙ h.door;
+    streams = g.streams ∙ h.streams;
     output = g.output ∙ h.output;
   }
 
   same_self : (a : World) → Same f a a
-  same_self a = record { settings = refl; script = refl; sources = refl; beat = refl; wires = refl; graphite = refl; console = refl; door = refl; output = refl }
+  same_self a = record { settings = refl; script = refl; sources = refl; beat = refl; wires = refl; graphite = refl; console = refl; door = refl; streams = refl; output = refl }
 
   module _ (keeps : (place : Place) (o : Object) → f (opened place o) ≡ f o) where
     same_opened : (w : World) (place : Place) (part : Part) → Same f (with_part part (opened place (part_in w part)) w) w
-    same_opened w place OfSettings = record { settings = keeps place w.settings; script = refl; sources = refl; beat = refl; wires = refl; graphite = refl; console = refl; door = refl; output = refl }
-    same_opened w place OfScript = record { settings = refl; script = keeps place w.seen.script; sources = refl; beat = refl; wires = refl; graphite = refl; console = refl; door = refl; output = refl }
-    same_opened w place (OfSource i) = record { settings = refl; script = refl; sources = map-set_same f w.served.sources i _ (fresh Untold) (keeps place _); beat = refl; wires = refl; graphite = refl; console = refl; door = refl; output = refl }
-    same_opened w place OfBeat = record { settings = refl; script = refl; sources = refl; beat = keeps place w.served.beat; wires = refl; graphite = refl; console = refl; door = refl; output = refl }
-    same_opened w place (OfWire i) = record { settings = refl; script = refl; sources = refl; beat = refl; wires = map-set_same f w.seen.wires i _ (fresh Untold) (keeps place _); graphite = refl; console = refl; door = refl; output = refl }
-    same_opened w place OfGraphite = record { settings = refl; script = refl; sources = refl; beat = refl; wires = refl; graphite = keeps place w.seen.graphite; console = refl; door = refl; output = refl }
-    same_opened w place OfConsole = record { settings = refl; script = refl; sources = refl; beat = refl; wires = refl; graphite = refl; console = keeps place w.seen.console; door = refl; output = refl }
-    same_opened w place OfDoor = record { settings = refl; script = refl; sources = refl; beat = refl; wires = refl; graphite = refl; console = refl; door = keeps place w.served.door; output = refl }
+    same_opened w place OfSettings = record { settings = keeps place w.settings; script = refl; sources = refl; beat = refl; wires = refl; graphite = refl; console = refl; door = refl; streams = refl; output = refl }
+    same_opened w place OfScript = record { settings = refl; script = keeps place w.seen.script; sources = refl; beat = refl; wires = refl; graphite = refl; console = refl; door = refl; streams = refl; output = refl }
+    same_opened w place (OfSource i) = record { settings = refl; script = refl; sources = map-set_same f w.served.sources i _ (fresh Untold) (keeps place _); beat = refl; wires = refl; graphite = refl; console = refl; door = refl; streams = refl; output = refl }
+    same_opened w place OfBeat = record { settings = refl; script = refl; sources = refl; beat = keeps place w.served.beat; wires = refl; graphite = refl; console = refl; door = refl; streams = refl; output = refl }
+    same_opened w place (OfWire i) = record { settings = refl; script = refl; sources = refl; beat = refl; wires = map-set_same f w.seen.wires i _ (fresh Untold) (keeps place _); graphite = refl; console = refl; door = refl; streams = refl; output = refl }
+    same_opened w place OfGraphite = record { settings = refl; script = refl; sources = refl; beat = refl; wires = refl; graphite = keeps place w.seen.graphite; console = refl; door = refl; streams = refl; output = refl }
+    same_opened w place OfConsole = record { settings = refl; script = refl; sources = refl; beat = refl; wires = refl; graphite = refl; console = keeps place w.seen.console; door = refl; streams = refl; output = refl }
+    same_opened w place OfDoor = record { settings = refl; script = refl; sources = refl; beat = refl; wires = refl; graphite = refl; console = refl; door = keeps place w.served.door; streams = refl; output = refl }
+    same_opened w place OfStreams = record { settings = refl; script = refl; sources = refl; beat = refl; wires = refl; graphite = refl; console = refl; door = refl; streams = keeps place w.served.streams; output = refl }
 
     pub same_all : (os : List Opening) (w : World) → Same f (opened_all w os) w
     same_all [] w = same_self w
@@ -120,6 +124,7 @@ module _ {X : Type 0} (f : Object → X) (opens : (place : Place) (o : Object) �
     graphite = refl;
     console = refl;
     door = refl;
+    streams = refl;
     output = refl;
   }
 
@@ -137,6 +142,7 @@ module _ {X : Type 0} (f : Object → X) (opens : (place : Place) (o : Object) �
         graphite = all.graphite;
         console = all.console;
         door = all.door;
+        streams = all.streams;
         output = all.output;
       }
 

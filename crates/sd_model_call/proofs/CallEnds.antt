@@ -11,7 +11,7 @@ use Rattle.sd_model_replay.specs.Totals.{totals_after}
 use Rattle.sd_model_replay.specs.AccountingTheorem.{Seen, Course, AccountingTheorem, seen_at}
 use Rattle.sd_model_replay.specs.Ends.{End, Complete, Faulted, ReadFailed, WriteFailed, WornOut, EndsAs, Replayed}
 use Rattle.sd_model_call.specs.Words.{Form}
-use Rattle.sd_model_call.specs.Opening.{World, Part, OfSettings, OfScript, OfSource, OfBeat, OfWire, OfGraphite, OfConsole, OfDoor, IsAccepted, IsFlawed, opened_all, replay_openings, settled, started}
+use Rattle.sd_model_call.specs.Opening.{World, Part, OfSettings, OfScript, OfSource, OfBeat, OfWire, OfGraphite, OfConsole, OfDoor, OfStreams, IsAccepted, IsFlawed, opened_all, replay_openings, settled, started}
 use Rattle.sd_model_call.specs.Call.{Account, Answer, Done, NoMemory, Misset, NotOpened, NotRead, Answers, AnswersReplay, Accounts, HasReplayed, ending}
 use Rattle.sd_model_call.specs.Completeness.{Asks, AsksPlainly, IsSteady, IsUnhindered, IsCutOff, IsLongest, IsWhole, IsBlocked, IsOutward, CarriedOut, NoneMissed, refusal, start_of}
 use Rattle.sd_model_call.specs.ServerCompleteness.{HasFaultOf}
@@ -107,6 +107,7 @@ module _ (words : List (List ℕ)) (values : Settings) (old new : World) (plainl
     by_part s OfGraphite h = inr (OfGraphite, tt, refl)
     by_part s OfConsole h = inr (OfConsole, tt, refl)
     by_part s OfDoor h = absurd h.0
+    by_part s OfStreams h = absurd h.0
 
     by_flaw : (flaw : SettingsFlaw) → IsFlawed flaw (File name) old.settings new.settings → IsAmong Expected (Misset flaw)
     by_flaw flaw has = let same : Err flaw ≡ Ok values = sym (has_flaw name plainly.bytes old plainly.asks.told flaw new.settings has) ∙ plainly.accepted in absurd (cc)
@@ -159,6 +160,7 @@ module _ (words : List (List ℕ)) (values : Settings) (old new : World) (plainl
     none_rose OfGraphite out at = none.backends Graphite at.0 at.1
     none_rose OfConsole out at = none.backends Console at.0 at.1
     none_rose OfDoor out at = out
+    none_rose OfStreams out at = out
 
   -- a call that says that it did what a script asks carried out its records
   pub done_carries_out : (commands : List Command) (rest : List ℕ) → IsUnhindered values old.seen new.seen commands rest

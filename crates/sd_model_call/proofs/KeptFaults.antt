@@ -8,7 +8,7 @@ use Rattle.sd_model_replay.specs.AccountingTheorem.{Course, AccountingTheorem}
 use Rattle.sd_model_replay.specs.Ends.{End, Complete, Faulted, ReadFailed, WriteFailed, WornOut, OutputAfter}
 use Rattle.sd_model_call.specs.Drill.{drill_text}
 use Rattle.sd_model_call.specs.Words.{Form, Replay, Serve, Proxy, Drill, form}
-use Rattle.sd_model_call.specs.Opening.{World, Opening, Part, OfSettings, OfScript, OfSource, OfBeat, OfWire, OfGraphite, OfConsole, OfDoor, IsAccepted, IsLeftOff, OnlySettings, opened_all, part_in, replay_openings, settled, with_part}
+use Rattle.sd_model_call.specs.Opening.{World, Opening, Part, OfSettings, OfScript, OfSource, OfBeat, OfWire, OfGraphite, OfConsole, OfDoor, OfStreams, IsAccepted, IsLeftOff, OnlySettings, opened_all, part_in, replay_openings, settled, with_part}
 use Rattle.sd_model_call.specs.Call.{Account, Answer, Done, Answers, AnswersReplay, Accounts, HasReplayed, IsNotTaken, IsScripted, NotBegun, NotTaken, OnlyOutput, StopsAmong, WritesTotals}
 use Rattle.sd_model_call.specs.Completeness.{start_of}
 use Rattle.sd_model_outside.proofs.DeliveryLemmas.{all_counts}
@@ -71,6 +71,7 @@ kept_part (OfWire j) o w rises =
 kept_part OfGraphite o w rises = record { settings = omega arith; script = omega arith; graphite = rises; console = omega arith; output = used_same w.seen.output w.seen.output refl; wires = λ i. omega arith }
 kept_part OfConsole o w rises = record { settings = omega arith; script = omega arith; graphite = omega arith; console = rises; output = used_same w.seen.output w.seen.output refl; wires = λ i. omega arith }
 kept_part OfDoor o w rises = record { settings = omega arith; script = omega arith; graphite = omega arith; console = omega arith; output = used_same w.seen.output w.seen.output refl; wires = λ i. omega arith }
+kept_part OfStreams o w rises = record { settings = omega arith; script = omega arith; graphite = omega arith; console = omega arith; output = used_same w.seen.output w.seen.output refl; wires = λ i. omega arith }
 
 -- of a world with the same counts and the same output
 kept_same : (a b : World) → Same (λ o. o.faults) b a → Kept a b

@@ -10,7 +10,7 @@ use Rattle.sd_model_serve.specs.Ends.{LoopEnd, Spent, Failed, Enough, WornOut, E
 use Rattle.sd_model_proxy.specs.Relays.{Relay, AreRelays}
 use Rattle.sd_model_live.specs.Checker.{EndsChecker}
 use Rattle.sd_model_call.specs.Words.{Form, form}
-use Rattle.sd_model_call.specs.Opening.{World, Opening, OfSettings, OfScript, OfSource, OfBeat, OfWire, OfGraphite, OfConsole, OfDoor, IsAccepted, IsFlawed, numbered, repeated, settled, source_at}
+use Rattle.sd_model_call.specs.Opening.{World, Opening, OfSettings, OfScript, OfSource, OfBeat, OfWire, OfGraphite, OfConsole, OfDoor, OfStreams, IsAccepted, IsFlawed, numbered, repeated, settled, source_at}
 use Rattle.sd_model_call.specs.Call.{Answer, Done, NoMemory, NoForm, Misset, BadScript, NotOpened, NotRead, NotWritten, Worn, WritesTotals}
 use Rattle.sd_model_call.specs.Completeness.{IsBlocked, IsWhole}
 use Rattle.sd_model_call.specs.Server.{is_worn}
@@ -160,6 +160,7 @@ module _ (words : List (List ℕ)) (bytes : List ℕ) (old new : World) (asks : 
       by_cause (NotOpened OfGraphite) h = absurd h.0
       by_cause (NotOpened OfConsole) h = absurd h.0
       by_cause (NotOpened OfDoor) h = absurd h.0
+      by_cause (NotOpened OfStreams) h = absurd h.0
       by_cause (NotRead OfSettings) h = absurd (steady.settings h.1)
       by_cause (NotRead OfScript) h = absurd h.0
       by_cause (NotRead (OfSource i)) h = absurd (steady.sources i h.1)
@@ -168,6 +169,7 @@ module _ (words : List (List ℕ)) (bytes : List ℕ) (old new : World) (asks : 
       by_cause (NotRead OfGraphite) h = absurd h.0
       by_cause (NotRead OfConsole) h = absurd h.0
       by_cause (NotRead OfDoor) h = absurd h.0
+      by_cause (NotRead OfStreams) h = absurd h.0
       by_cause NotWritten h = absurd (steady.output h)
       by_cause (Worn turns) h = by_loop h.1 where
         by_loop : OneLoopTookMost old new → IsRelayed (Worn turns)

@@ -2,24 +2,26 @@
 use Rattle.std.proofs.Common.{◌≡◌, ◌⊎◌, ℕ, zero, suc, ◌+◌, ◌<◌, Bool, true, false, List, [], ◌∷◌, ◌++◌, length, map, drop, refl, sym, ap, subst, ◌∙◌, Option, Ok, Err, inl, inr, arith}
 use Rattle.std.specs.Prelude.{◌||◌, min, if◌then◌else◌, ⊤}
 use Rattle.std.specs.List.{AllByRecursion, list_any}
+use Rattle.std.proofs.Math.Bool.{or-false}
 use Rattle.std.proofs.lemmas.List.{length-map}
 use Rattle.std.proofs.lemmas.List.Folds.{list_any-append}
 use Rattle.sd_model_outside.specs.Outside.{File, Host, Object, Place, Rose, Told, last_count, opened, telling}
 use Rattle.sd_model_outside.specs.Turns.{IsSpent, with_interval}
 use Rattle.sd_model_settings.specs.Settings.{Settings, SettingsFlaw, settings}
 use Rattle.sd_model_replay.specs.Settings.{targets_of, is_used}
-use Rattle.sd_model_replay.specs.Totals.{totals_text}
 use Rattle.sd_model_serve.specs.Ends.{LoopEnd, Spent, Failed, Enough, WornOut, EndsReceiver, EndsFlusher, EndsKeeper, most_turns}
-use Rattle.sd_model_run.specs.Course.{Course, Reception}
-use Rattle.sd_model_run.specs.Run.{AreReceptions}
+use Rattle.sd_model_serve.specs.Doors.{ServesDoor}
+use Rattle.sd_model_stream.specs.Streams.{AreStreamsOf, any_worn}
+use Rattle.sd_model_run.specs.Course.{Course, Lining, Reception}
+use Rattle.sd_model_run.specs.Run.{AreLined, AreReceptions}
 use Rattle.sd_model_call.specs.Words.{Form, form}
-use Rattle.sd_model_call.specs.Opening.{World, Opening, Part, OfSettings, OfScript, OfSource, OfBeat, OfWire, OfGraphite, OfConsole, OfDoor, IsAccepted, IsFlawed, opening_where, repeated, settled, source_at, target_place, wire_openings}
+use Rattle.sd_model_call.specs.Opening.{World, Opening, Part, OfSettings, OfScript, OfSource, OfBeat, OfWire, OfGraphite, OfConsole, OfDoor, OfStreams, IsAccepted, IsFlawed, opening_where, repeated, settled, source_at, target_place, wire_openings}
 use Rattle.sd_model_call.specs.Call.{Answer, Done, NoMemory, NoForm, Misset, BadScript, NotOpened, NotRead, NotWritten, Worn, WritesTotals}
 use Rattle.sd_model_call.specs.Completeness.{IsWhole, IsBlocked}
-use Rattle.sd_model_call.specs.Server.{AnswersServer, HasServed, ServerAccounts, by_beat, by_receivers, is_worn, run_answer, run_totals, turns_answer}
-use Rattle.sd_model_call.specs.ServerOpening.{begun, server_openings, source_openings}
-use Rattle.sd_model_call.specs.ServerCompleteness.{AreAllSpent, AsksToServe, HasFaultOf, IsCauseOf, IsOpenedToServe, IsOutermost, IsServed, IsUnhinderedServer, NoneFailed, OneTookMost, SourceTookMost, TookFew, TookMost}
-use Rattle.sd_model_call.proofs.BegunLemmas.{Same, all_numbered, accepted_so, at_same, has_flaw, not_begun, not_taken, same_start, uncut}
+use Rattle.sd_model_call.specs.Server.{AnswersServer, HasServed, ServerAccounts, by_beat, by_receivers, is_worn, run_answer, run_text, turns_answer}
+use Rattle.sd_model_call.specs.ServerOpening.{begun, door_openings, has_streams, server_openings, source_openings}
+use Rattle.sd_model_call.specs.ServerCompleteness.{AStreamTookMost, AreAllSpent, AsksToServe, HasFaultOf, IsCauseOf, IsOpenedToServe, IsOutermost, IsServed, IsUnhinderedServer, NoneFailed, OneTookMost, SourceTookMost, TookFew, TookMost}
+use Rattle.sd_model_call.proofs.BegunLemmas.{Same, all_numbered, accepted_so, at_same, has_flaw, not_begun, not_taken, same_all, same_start, uncut}
 use Rattle.sd_model_call.proofs.LoopEnds.{AreEnded, ComesFrom, EndedSo, OneSourceTookMost, all_done, both_false, comes_from, whole_done, worn_one}
 use Rattle.sd_model_call.proofs.Openings.{all_append, all_where}
 use Rattle.sd_model_record.specs.Backends.{Graphite, Console}
@@ -32,10 +34,11 @@ all_served : (s : Settings) → AllByRecursion is_served (server_openings s)
 all_served s =
     let at_graphite : Opening = record { part = OfGraphite; place = Host s.addresses.graphite_host s.addresses.graphite_port } in
     let at_console : Opening = record { part = OfConsole; place = File [] } in
-    let at_door : List Opening = record { part = OfDoor; place = Host s.addresses.mgmt_address s.server.mgmt_port } ∷ [] in
+    let at_streams : Opening = record { part = OfStreams; place = Host s.addresses.address s.transport.tcp_port } in
+    let at_door = door_openings s in
     let graphite = opening_where (is_used s Graphite) at_graphite in
     let console = opening_where (is_used s Console) at_console in
-    let door : AllByRecursion is_served at_door = (tt, tt) in
+    let door : AllByRecursion is_served at_door = (tt, all_where is_served (has_streams s) at_streams (λ on. tt)) in
     all_append is_served (source_openings s) (wire_openings s.sizes.receivers s ++ (graphite ++ (console ++ at_door))) (all_numbered IsOpenedToServe OfSource (λ i. tt) 0 (repeated s.sizes.receivers (Host s.addresses.address s.server.port ∷ [])))
     (all_append is_served (wire_openings s.sizes.receivers s) (graphite ++ (console ++ at_door)) (all_numbered IsOpenedToServe OfWire (λ i. tt) 0 (repeated s.sizes.receivers (map target_place (targets_of s))))
     (all_append is_served graphite (console ++ at_door) (all_where is_served (is_used s Graphite) at_graphite (λ on. tt))
@@ -49,6 +52,37 @@ are_ended asked made run (r ∷ rs) (s ∷ ss) (n ∷ ns) ws wn h = (
   record { turned = h.0.turned; turns = h.0.turns; seen = h.0.seen; ends = h.0.ends },
   are_ended asked made run rs ss ns (drop run ws) (drop run wn) h.1,
 )
+
+either_true : (a b : Bool) → (a || b) ≡ true → (a ≡ true) ⊎ (b ≡ true)
+either_true true b h = inl refl
+either_true false b h = inr h
+
+-- loops that took the most turns
+flusher_worn : (asked : ℕ) (f : LoopEnd) (made : ℕ) (beat beat_now : Object) → EndsFlusher asked f beat beat_now made → beat_now.turns ≡ beat.turns + made → is_worn f ≡ true → TookMost beat beat_now
+flusher_worn asked Spent made beat beat_now ends ticks is = absurd (cc)
+flusher_worn asked Failed made beat beat_now ends ticks is = absurd (cc)
+flusher_worn asked (Enough n) made beat beat_now ends ticks is = absurd (cc)
+flusher_worn asked (WornOut n) made beat beat_now ends ticks is = ticks ∙ ap (λ j. beat.turns + j) (ends.1 ∙ ends.0)
+
+keeper_worn : (asked : ℕ) (k : LoopEnd) (seen turned : ℕ) (door door_now : Object) → EndsKeeper asked k door_now seen turned → door_now.turns ≡ door.turns + turned → is_worn k ≡ true → TookMost door door_now
+keeper_worn asked Spent seen turned door door_now ends visits is = absurd (cc)
+keeper_worn asked Failed seen turned door door_now ends visits is = absurd ends
+keeper_worn asked (Enough n) seen turned door door_now ends visits is = absurd (cc)
+keeper_worn asked (WornOut n) seen turned door door_now ends visits is = visits ∙ ap (λ j. door.turns + j) ends.1
+
+-- streams were read of a door, one of which took the most reads
+abbrev WornStreams : Object → Object → Type 0
+WornStreams door door_now = (l : Lining) × ServesDoor l.visits l.failures door door_now × AreStreamsOf l.visits l.streams × (any_worn l.streams ≡ true)
+
+lined_worn : (asked made : ℕ) (streams : Bool) (ls : List Lining) (door door_now : Object) → AreLined asked made streams ls door door_now → list_any is_worn (map (λ l. l.ended) ls) ≡ true → TookMost door door_now ⊎ WornStreams door door_now
+lined_worn asked made false [] door door_now h is = absurd (cc)
+lined_worn asked made false (l ∷ ls) door door_now h is = absurd h
+lined_worn asked made true [] door door_now h is = absurd h
+lined_worn asked made true (l ∷ k ∷ ls) door door_now h is = absurd h
+lined_worn asked made true (l ∷ []) door door_now h is = by_test (any_worn l.streams) refl where
+  by_test : (b : Bool) → any_worn l.streams ≡ b → TookMost door door_now ⊎ WornStreams door door_now
+  by_test true worn = inr (l, h.served, h.went, worn)
+  by_test false none = inl (keeper_worn asked l.ended h.seen h.turned door door_now (h.ends none) h.turns (sym (or-false (is_worn l.ended)) ∙ is))
 
 -- a call that served
 module _ (name : List ℕ) (says : ℕ → Type 0) (answer : Answer) (old new : World) (h : HasServed name says answer old new) where
@@ -64,8 +98,8 @@ module _ (name : List ℕ) (says : ℕ → Type 0) (answer : Answer) (old new : 
   abbrev received : List LoopEnd
   received = map (λ r. r.ended) course.receptions
 
-  abbrev others : List LoopEnd
-  others = course.flusher_ended ∷ course.keeper_ended ∷ []
+  abbrev keepers : List LoopEnd
+  keepers = course.keeper_ended ∷ map (λ l. l.ended) course.linings
 
   faults : Same (λ o. o.faults) start old
   faults = same_start (λ o. o.faults) (λ place o. refl) (λ told o. refl) (λ interval o. refl) (server_openings h.values) h.values.server.flush_interval h.values h.settings name old h.taken
@@ -77,44 +111,53 @@ module _ (name : List ℕ) (says : ℕ → Type 0) (answer : Answer) (old new : 
   loops = are_ended asked course.desk.rounds _ course.receptions start.served.sources new.served.sources start.seen.wires new.seen.wires h.theorem.run.received
 
   -- what the answer of a run comes from
-  ends : (a : Answer) → run_answer course ≡ a → ComesFrom received course.flusher_ended (course.keeper_ended ∷ []) start.served.sources new.served.sources start.served.beat new.served.beat a
-  ends a is = comes_from asked (length course.ticked) received course.flusher_ended (course.keeper_ended ∷ []) start.served.sources new.served.sources start.served.beat new.served.beat loops h.theorem.run.flushed.ends a is
+  ends : (a : Answer) → run_answer course ≡ a → ComesFrom received course.flusher_ended keepers start.served.sources new.served.sources start.served.beat new.served.beat a
+  ends a is = comes_from asked (length course.ticked) received course.flusher_ended keepers start.served.sources new.served.sources start.served.beat new.served.beat loops h.theorem.run.flushed.ends a is
 
-  other_worn : (f k : LoopEnd) (made seen turned : ℕ) → EndsFlusher asked f start.served.beat new.served.beat made → new.served.beat.turns ≡ start.served.beat.turns + made
-      → EndsKeeper asked k new.served.door seen turned → new.served.door.turns ≡ start.served.door.turns + turned
-      → list_any is_worn (f ∷ k ∷ []) ≡ true → TookMost start.served.beat new.served.beat ⊎ TookMost start.served.door new.served.door
-  other_worn Spent Spent made seen turned flushed ticks kept visits is = absurd (cc)
-  other_worn Spent Failed made seen turned flushed ticks kept visits is = absurd kept
-  other_worn Spent (Enough n) made seen turned flushed ticks kept visits is = absurd (cc)
-  other_worn Spent (WornOut n) made seen turned flushed ticks kept visits is = inr (visits ∙ ap (λ j. start.served.door.turns + j) kept.1)
-  other_worn Failed Spent made seen turned flushed ticks kept visits is = absurd (cc)
-  other_worn Failed Failed made seen turned flushed ticks kept visits is = absurd kept
-  other_worn Failed (Enough n) made seen turned flushed ticks kept visits is = absurd (cc)
-  other_worn Failed (WornOut n) made seen turned flushed ticks kept visits is = inr (visits ∙ ap (λ j. start.served.door.turns + j) kept.1)
-  other_worn (Enough m) Spent made seen turned flushed ticks kept visits is = absurd (cc)
-  other_worn (Enough m) Failed made seen turned flushed ticks kept visits is = absurd kept
-  other_worn (Enough m) (Enough n) made seen turned flushed ticks kept visits is = absurd (cc)
-  other_worn (Enough m) (WornOut n) made seen turned flushed ticks kept visits is = inr (visits ∙ ap (λ j. start.served.door.turns + j) kept.1)
-  other_worn (WornOut m) k made seen turned flushed ticks kept visits is = inl (ticks ∙ ap (λ j. start.served.beat.turns + j) (flushed.1 ∙ flushed.0))
+  -- which loop beside the receivers took the most turns
+  abbrev OtherTookMost : (beat beat_now door door_now streams streams_now : Object) → Type 0
+  OtherTookMost beat beat_now door door_now streams streams_now = TookMost beat beat_now ⊎ TookMost door door_now ⊎ TookMost streams streams_now ⊎ WornStreams streams streams_now
 
-  one_worn : OneSourceTookMost start.served.sources new.served.sources ⊎ (list_any is_worn others ≡ true) → OneTookMost old new
+  other_worn : list_any is_worn (course.flusher_ended ∷ keepers) ≡ true → OtherTookMost start.served.beat new.served.beat start.served.door new.served.door start.served.streams new.served.streams
+  other_worn is = by_flusher (either_true (is_worn course.flusher_ended) _ is) where
+    by_lining : TookMost start.served.streams new.served.streams ⊎ WornStreams start.served.streams new.served.streams → OtherTookMost start.served.beat new.served.beat start.served.door new.served.door start.served.streams new.served.streams
+    by_lining (inl most) = inr (inr (inl most))
+    by_lining (inr worn) = inr (inr (inr worn))
+
+    by_keeper : (is_worn course.keeper_ended ≡ true) ⊎ (list_any is_worn (map (λ l. l.ended) course.linings) ≡ true) → OtherTookMost start.served.beat new.served.beat start.served.door new.served.door start.served.streams new.served.streams
+    by_keeper (inl worn) = inr (inl (keeper_worn asked course.keeper_ended h.theorem.run.kept.seen h.theorem.run.kept.turned start.served.door new.served.door h.theorem.run.kept.ends h.theorem.run.kept.turns worn))
+    by_keeper (inr worn) = by_lining (lined_worn asked course.desk.rounds (has_streams h.values) course.linings start.served.streams new.served.streams h.theorem.run.lined worn)
+
+    by_flusher : (is_worn course.flusher_ended ≡ true) ⊎ (list_any is_worn keepers ≡ true) → OtherTookMost start.served.beat new.served.beat start.served.door new.served.door start.served.streams new.served.streams
+    by_flusher (inl worn) = inl (flusher_worn asked course.flusher_ended (length course.ticked) start.served.beat new.served.beat h.theorem.run.flushed.ends h.theorem.run.flushed.turns worn)
+    by_flusher (inr worn) = by_keeper (either_true (is_worn course.keeper_ended) _ worn)
+
+  one_worn : OneSourceTookMost start.served.sources new.served.sources ⊎ (list_any is_worn (course.flusher_ended ∷ keepers) ≡ true) → OneTookMost old new
   one_worn (inl (i, most)) = inl (i, most ∙ ap (λ n. min (n + most_turns) last_count) (at_same (λ o. o.turns) i start.served.sources old.served.sources turns.sources))
-  one_worn (inr is) =
-      let flushed = h.theorem.run.flushed in
-      let kept = h.theorem.run.kept in
-      inr (by_other (other_worn course.flusher_ended course.keeper_ended (length course.ticked) kept.seen kept.turned flushed.ends flushed.turns kept.ends kept.turns is))
-    where
-      by_other : TookMost start.served.beat new.served.beat ⊎ TookMost start.served.door new.served.door → TookMost old.served.beat new.served.beat ⊎ TookMost old.served.door new.served.door
-      by_other (inl most) = inl (most ∙ ap (λ n. n + most_turns) turns.beat)
-      by_other (inr most) = inr (most ∙ ap (λ n. n + most_turns) turns.door)
+  one_worn (inr is) = inr (by_other (other_worn is)) where
+    by_other : OtherTookMost start.served.beat new.served.beat start.served.door new.served.door start.served.streams new.served.streams → TookMost old.served.beat new.served.beat ⊎ TookMost old.served.door new.served.door ⊎ TookMost old.served.streams new.served.streams ⊎ AStreamTookMost old new
+    by_other (inl most) = inl (most ∙ ap (λ n. n + most_turns) turns.beat)
+    by_other (inr (inl most)) = inr (inl (most ∙ ap (λ n. n + most_turns) turns.door))
+    by_other (inr (inr (inl most))) = inr (inr (inl (most ∙ ap (λ n. n + most_turns) turns.streams)))
+    by_other (inr (inr (inr (l, served, went, worn)))) = inr (inr (inr (record {
+      visits = l.visits;
+      failures = l.failures;
+      streams = l.streams;
+      door = start.served.streams;
+      told = (same_all (λ o. o.told) (λ place o. refl) (server_openings h.values) (settled h.values h.settings old)).streams;
+      faults = faults.streams;
+      served = served;
+      went = went;
+      worn = worn;
+    })))
 
-  cause : (a : Answer) → ComesFrom received course.flusher_ended (course.keeper_ended ∷ []) start.served.sources new.served.sources start.served.beat new.served.beat a → IsCauseOf name a old new
+  cause : (a : Answer) → ComesFrom received course.flusher_ended keepers start.served.sources new.served.sources start.served.beat new.served.beat a → IsCauseOf name a old new
   cause a (inl (i, is, rose)) =
       let from = subst (λ (n : ℕ). Rose n (source_at i new.served.sources).faults) (at_same (λ o. o.faults) i start.served.sources old.served.sources faults.sources) rose in
       subst (λ (a : Answer). IsCauseOf name a old new) (sym (is ∙ ap (λ j. NotRead (OfSource j)) (omega arith))) (tt, from)
   cause a (inr (inl (is, rose))) = subst (λ (a : Answer). IsCauseOf name a old new) (sym is) (tt, subst (λ (n : ℕ). Rose n new.served.beat.faults) faults.beat rose)
   cause a (inr (inr (inl (is, worn)))) =
-      subst (λ (a : Answer). IsCauseOf name a old new) (sym is) (refl, one_worn (worn_one others asked received start.served.sources new.served.sources loops worn))
+      subst (λ (a : Answer). IsCauseOf name a old new) (sym is) (refl, one_worn (worn_one (course.flusher_ended ∷ keepers) asked received start.served.sources new.served.sources loops worn))
   cause a (inr (inr (inr (is, none)))) = subst (λ (a : Answer). IsCauseOf name a old new) (sym is) tt
 
   -- a run's answer has its cause
@@ -124,7 +167,7 @@ module _ (name : List ℕ) (says : ℕ → Type 0) (answer : Answer) (old new : 
     by_uncut rose (inl is) = subst (λ (a : Answer). IsCauseOf name a old new) (sym is) rose
     by_uncut rose (inr is) = cause answer (ends answer is)
 
-    by_written : WritesTotals (totals_text (run_totals h.values course)) (run_answer course) answer old.seen.output new.seen.output → IsCauseOf name answer old new
+    by_written : WritesTotals (run_text h.values course) (run_answer course) answer old.seen.output new.seen.output → IsCauseOf name answer old new
     by_written (inl (is, text)) = cause answer (ends answer (sym is))
     by_written (inr (is, failed)) = by_uncut failed.rose (uncut (run_answer course) answer is)
 
@@ -133,6 +176,18 @@ keeper_spent Spent seen turned door_now h none = h.0
 keeper_spent Failed seen turned door_now h none = absurd h
 keeper_spent (Enough n) seen turned door_now h none = let asked = h.0 in absurd (omega (arith, asked))
 keeper_spent (WornOut n) seen turned door_now h none = absurd (cc)
+
+lined_spent : (made : ℕ) (streams : Bool) (ls : List Lining) (door door_now : Object) → AreLined 0 made streams ls door door_now → list_any is_worn (map (λ l. l.ended) ls) ≡ false → streams ≡ true → IsSpent door_now.told
+lined_spent made false ls door door_now h none on = absurd (cc)
+lined_spent made true [] door door_now h none on = absurd h
+lined_spent made true (l ∷ k ∷ ls) door door_now h none on = absurd h
+lined_spent made true (l ∷ []) door door_now h none on = by_test (any_worn l.streams) refl where
+  ended : is_worn l.ended ≡ false
+  ended = sym (or-false (is_worn l.ended)) ∙ none
+
+  by_test : (b : Bool) → any_worn l.streams ≡ b → IsSpent door_now.told
+  by_test true worn = let is = ap is_worn (h.worn worn) in absurd (cc)
+  by_test false fresh = keeper_spent l.ended h.seen h.turned door_now (h.ends fresh) ended
 
 module _ (name : List ℕ) (says : ℕ → Type 0) (old new : World) (h : HasServed name says Done old new) where
   abbrev begin : World
@@ -143,21 +198,23 @@ module _ (name : List ℕ) (says : ℕ → Type 0) (old new : World) (h : HasSer
 
   done : run_answer h.course ≡ Done
   done = by_written h.written where
-    by_written : WritesTotals (totals_text (run_totals h.values h.course)) (run_answer h.course) Done old.seen.output new.seen.output → run_answer h.course ≡ Done
+    by_written : WritesTotals (run_text h.values h.course) (run_answer h.course) Done old.seen.output new.seen.output → run_answer h.course ≡ Done
     by_written (inl (is, text)) = sym is
     by_written (inr (is, failed)) = whole_done (run_answer h.course) (uncut (run_answer h.course) Done is)
 
   module _ (asked : h.values.sizes.run_flushes ≡ 0) where
-    pub all_spent : AreAllSpent h.values.sizes.receivers new
+    pub all_spent : AreAllSpent h.values.sizes.receivers (has_streams h.values) new
     all_spent =
-        let all = all_done (length h.course.ticked) heard h.course.flusher_ended (h.course.keeper_ended ∷ []) begin.served.sources new.served.sources begin.served.beat new.served.beat
+        let all = all_done (length h.course.ticked) heard h.course.flusher_ended (h.course.keeper_ended ∷ map (λ l. l.ended) h.course.linings) begin.served.sources new.served.sources begin.served.beat new.served.beat
         (subst (λ (n : ℕ). AreEnded n heard begin.served.sources new.served.sources) asked (loops name says Done old new h))
         (subst (λ (n : ℕ). EndsFlusher n h.course.flusher_ended begin.served.beat new.served.beat (length h.course.ticked)) asked h.theorem.run.flushed.ends) done in
         let kept = h.theorem.run.kept in
+        let two = both_false (is_worn h.course.keeper_ended) _ all.none_worn in
         record {
           sources = λ i below. all.sources i (omega (arith, below, length-map h.course.receptions (λ (r : Reception). r.ended), h.theorem.run.count));
           beat = all.beat;
-          door = keeper_spent h.course.keeper_ended kept.seen kept.turned new.served.door (subst (λ (n : ℕ). EndsKeeper n h.course.keeper_ended new.served.door kept.seen kept.turned) asked kept.ends) (both_false (is_worn h.course.keeper_ended) false all.none_worn).0;
+          door = keeper_spent h.course.keeper_ended kept.seen kept.turned new.served.door (subst (λ (n : ℕ). EndsKeeper n h.course.keeper_ended new.served.door kept.seen kept.turned) asked kept.ends) two.0;
+          streams = lined_spent h.course.desk.rounds (has_streams h.values) h.course.linings begin.served.streams new.served.streams (subst (λ (n : ℕ). AreLined n h.course.desk.rounds (has_streams h.values) h.course.linings begin.served.streams new.served.streams) asked h.theorem.run.lined) two.1;
         }
 
 -- every answer has its cause
@@ -186,6 +243,7 @@ module _ (words : List (List ℕ)) (bytes : List ℕ) (says : ℕ → Type 0) (o
     by_cause (NotOpened OfGraphite) h = inr (OfGraphite, tt, refl)
     by_cause (NotOpened OfConsole) h = inr (OfConsole, tt, refl)
     by_cause (NotOpened OfDoor) h = inr (OfDoor, tt, refl)
+    by_cause (NotOpened OfStreams) h = inr (OfStreams, tt, refl)
     by_cause (NotRead OfSettings) h = absurd (steady.settings h.1)
     by_cause (NotRead OfScript) h = absurd h.0
     by_cause (NotRead (OfSource i)) h = absurd (steady.sources i h.1)
@@ -194,12 +252,15 @@ module _ (words : List (List ℕ)) (bytes : List ℕ) (says : ℕ → Type 0) (o
     by_cause (NotRead OfGraphite) h = absurd h.0
     by_cause (NotRead OfConsole) h = absurd h.0
     by_cause (NotRead OfDoor) h = absurd h.0
+    by_cause (NotRead OfStreams) h = absurd h.0
     by_cause NotWritten h = absurd (steady.output h)
     by_cause (Worn turns) h = by_loop h.1 where
       by_loop : OneTookMost old new → IsServed (Worn turns)
       by_loop (inl (i, most)) = let few = steady.source_turns i in let low = steady.uncapped i in absurd (omega (arith, most, few, low))
       by_loop (inr (inl most)) = let few = steady.beat_turns in absurd (omega (arith, most, few))
-      by_loop (inr (inr most)) = let few = steady.door_turns in absurd (omega (arith, most, few))
+      by_loop (inr (inr (inl most))) = let few = steady.door_turns in absurd (omega (arith, most, few))
+      by_loop (inr (inr (inr (inl most)))) = let few = steady.stream_turns in absurd (omega (arith, most, few))
+      by_loop (inr (inr (inr (inr worn)))) = absurd (steady.streams worn)
 
     pub serves : (answer : Answer) → AnswersServer (form words) says answer old new → IsServed answer
     serves answer h = by_cause answer (caused answer h)
@@ -215,6 +276,7 @@ module _ (words : List (List ℕ)) (bytes : List ℕ) (says : ℕ → Type 0) (o
       not_failed OfGraphite outer = none.graphite
       not_failed OfConsole outer = none.console
       not_failed OfDoor outer = none.door
+      not_failed OfStreams outer = none.streams
 
       is_whole : (answer : Answer) → IsCauseOf asks.name answer old new → IsServed answer → IsWhole Done answer
       is_whole answer h (inl whole) = whole

@@ -18,6 +18,7 @@ pub data Part : Type 0 where
   OfGraphite : Part
   OfConsole : Part
   OfDoor : Part
+  OfStreams : Part
 
 -- Which backends are flagged as used.
 pub record Flags : Type 0 where
@@ -28,11 +29,12 @@ pub record Flags : Type 0 where
 abbrev pub flags_of : Settings → Flags
 flags_of s = record { graphite = is_used s Graphite; console = is_used s Console }
 
--- What is seen of the sources of receivers, the beat and the door, which no replay uses.
+-- What is seen of the sources of receivers, the beat, the admin door and the door of streams, which no replay uses.
 pub record Served : Type 0 where
   pub sources : List Object
   pub beat : Object
   pub door : Object
+  pub streams : Object
 
 -- What is seen of a call's objects: the settings, what a replay uses, what a server alone or the proxy uses, and the probe, which is
 -- the proxy's alone; and which backends are flagged as used.
@@ -91,6 +93,7 @@ part_in world (OfWire i) = wire_at i world.seen.wires
 part_in world OfGraphite = world.seen.graphite
 part_in world OfConsole = world.seen.console
 part_in world OfDoor = world.served.door
+part_in world OfStreams = world.served.streams
 
 -- with this in the place of a part
 abbrev pub with_part : Part → Object → World → World
@@ -102,6 +105,7 @@ with_part (OfWire i) o w = record w { seen = record w.seen { wires = set w.seen.
 with_part OfGraphite o w = record w { seen = record w.seen { graphite = o } }
 with_part OfConsole o w = record w { seen = record w.seen { console = o } }
 with_part OfDoor o w = record w { served = record w.served { door = o } }
+with_part OfStreams o w = record w { served = record w.served { streams = o } }
 
 -- a part that is opened, and where
 pub record Opening : Type 0 where

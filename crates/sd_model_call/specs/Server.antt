@@ -1,17 +1,19 @@
 -- What the program answers where it is asked to serve, and what was done by then.
-use Rattle.std.specs.Prelude.{◌≡◌, ◌⊎◌, ℕ, ◌+◌, Bool, true, false, List, [], ◌∷◌, ◌++◌, map, if◌then◌else◌, Option, Some, ⊤}
+use Rattle.std.specs.Prelude.{◌≡◌, ◌⊎◌, ℕ, ◌+◌, Bool, true, false, List, [], ◌∷◌, ◌++◌, codes, map, min, if◌then◌else◌, Option, Some, ⊤}
 use Rattle.std.specs.List.{list_any}
-use Rattle.sd_model_outside.specs.Outside.{File, Object}
+use Rattle.sd_model_outside.specs.Outside.{File, Object, last_count}
+use Rattle.sd_model_outside.specs.Deliveries.{missed}
 use Rattle.sd_model_shard.specs.History.{state_after}
+use Rattle.sd_model_record.specs.Backends.{Backend, Graphite, Console}
 use Rattle.sd_model_serve.specs.Ends.{LoopEnd, Failed, WornOut, most_turns}
 use Rattle.sd_model_run.specs.Course.{Course}
 use Rattle.sd_model_run.specs.Run.{ServerTheorem}
 use Rattle.sd_model_replay.specs.Settings.{limits_of, policy_of}
-use Rattle.sd_model_replay.specs.Totals.{Totals, totals_of, totals_text}
+use Rattle.sd_model_replay.specs.Totals.{Totals, total_line, totals_of, totals_text}
 use Rattle.sd_model_call.specs.Words.{Form, Serve}
 use Rattle.sd_model_call.specs.Opening.{OfSource, OfBeat, World, IsAccepted, flags_of, settled}
 use Rattle.sd_model_call.specs.Call.{Answer, Done, NotRead, Worn, NotBegun, NotTaken, WritesTotals}
-use Rattle.sd_model_call.specs.ServerOpening.{begun, objects_in, serves_by, server_openings}
+use Rattle.sd_model_call.specs.ServerOpening.{begun, has_outlets, objects_in, serves_by, server_openings}
 use Rattle.sd_model_settings.specs.Settings.{Settings}
 
 -- a loop that took the most turns
@@ -41,11 +43,27 @@ ends_answer receivers ticker others = by_receivers 0 receivers (by_beat ticker (
 
 -- what is answered after this run
 abbrev pub run_answer : Course → Answer
-run_answer c = ends_answer (map (λ r. r.ended) c.receptions) c.flusher_ended (c.keeper_ended ∷ [])
+run_answer c = ends_answer (map (λ r. r.ended) c.receptions) c.flusher_ended (c.keeper_ended ∷ map (λ l. l.ended) c.linings)
 
--- the totals of a run
+-- how many of the texts that went through a backend's outlet were missed, up to the last count
+abbrev pub outlet_faults : Backend → Course → ℕ
+outlet_faults back c = min (missed (c.outflows back).queued) last_count
+
+-- the totals of a run: of its shards and its desk, with what was missed of texts that went through outlets
 abbrev pub run_totals : Settings → Course → Totals
-run_totals s c = totals_of s (record { shards = λ i. state_after (limits_of s) (policy_of s) (c.histories i); desk = c.desk })
+run_totals s c =
+    record (totals_of s (record { shards = λ i. state_after (limits_of s) (policy_of s) (c.histories i); desk = c.desk })) {
+      graphite_faults = c.desk.graphite_faults + outlet_faults Graphite c;
+      console_faults = c.desk.console_faults + outlet_faults Console c;
+    }
+
+-- the lines that are told of outlets: how many texts each of them skipped
+abbrev pub skipped_lines : Course → List ℕ
+skipped_lines c = total_line (codes "graphite_skipped") (c.outflows Graphite).skipped ++ total_line (codes "console_skipped") (c.outflows Console).skipped
+
+-- what is told of a run: its totals, and behind them those lines, where there are outlets
+abbrev pub run_text : Settings → Course → List ℕ
+run_text s c = if has_outlets s then totals_text (run_totals s c) ++ skipped_lines c else totals_text (run_totals s c)
 
 -- A server by settings that were read and accepted was begun; it ran between then and now, and the accounting theorem holds of its
 -- course; its totals were written, and the answer says how its workers ended, or that the output failed. Nothing else that is seen
@@ -56,7 +74,7 @@ pub record HasServed (name : List ℕ) (says : ℕ → Type 0) (answer : Answer)
   pub taken : IsAccepted values (File name) old.settings settings
   pub course : Course
   pub theorem : (let start = begun values (settled values settings old) in ServerTheorem (serves_by values) says course (objects_in start) (objects_in new))
-  pub written : WritesTotals (totals_text (run_totals values course)) (run_answer course) answer old.seen.output new.seen.output
+  pub written : WritesTotals (run_text values course) (run_answer course) answer old.seen.output new.seen.output
   pub script : new.seen.script ≡ old.seen.script
   pub probe : new.probe ≡ old.probe
   pub flags : new.flags ≡ flags_of values

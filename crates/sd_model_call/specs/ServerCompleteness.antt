@@ -1,12 +1,14 @@
 -- What a call that is asked to serve has to come to, by its words, what its objects tell, and where no fault was counted; and what
 -- its answers say of its objects.
-use Rattle.std.specs.Prelude.{◌≡◌, ◌⊎◌, ℕ, ◌+◌, ◌<◌, min, ⊤, List, Some}
+use Rattle.std.specs.Prelude.{◌≡◌, ◌⊎◌, ℕ, ◌+◌, ◌<◌, min, Bool, true, ⊤, List, Some}
 use Rattle.sd_model_outside.specs.Outside.{File, Left, Object, Rose, last_count}
 use Rattle.sd_model_outside.specs.Turns.{IsSpent}
 use Rattle.sd_model_record.specs.Repeater.{wire_at}
+use Rattle.sd_model_serve.specs.Doors.{Visit, ServesDoor}
 use Rattle.sd_model_serve.specs.Ends.{most_turns}
+use Rattle.sd_model_stream.specs.Streams.{AreStreamsOf, Stream, any_worn}
 use Rattle.sd_model_call.specs.Words.{Serve, form}
-use Rattle.sd_model_call.specs.Opening.{Part, OfSettings, OfScript, OfSource, OfBeat, OfDoor, World, IsFlawed, OnlySettings, part_in, source_at}
+use Rattle.sd_model_call.specs.Opening.{Part, OfSettings, OfScript, OfSource, OfBeat, OfDoor, OfStreams, World, IsFlawed, OnlySettings, part_in, source_at}
 use Rattle.sd_model_call.specs.Call.{Answer, Done, NoMemory, NoForm, Misset, BadScript, NotOpened, NotRead, NotWritten, Worn}
 use Rattle.sd_model_call.specs.Completeness.{IsOutward, IsWhole}
 
@@ -20,6 +22,19 @@ pub record AsksToServe (words : List (List ℕ)) (old : World) (bytes : List ℕ
 abbrev pub TookFew : Object → Object → Type 0
 TookFew old new = new.turns < old.turns + most_turns
 
+-- The sessions that the door of streams gave since it was opened were read as streams, one of which took as many reads as there may
+-- be.
+pub record AStreamTookMost (old new : World) : Type 0 where
+  pub visits : List Visit
+  pub failures : ℕ
+  pub streams : List Stream
+  pub door : Object
+  pub told : door.told ≡ old.served.streams.told
+  pub faults : door.faults ≡ old.served.streams.faults
+  pub served : ServesDoor visits failures door new.served.streams
+  pub went : AreStreamsOf visits streams
+  pub worn : any_worn streams ≡ true
+
 -- Nothing hinders a server: no fault was counted of the settings, a source, the beat and the output, and no loop took as many turns
 -- as there may be.
 pub record IsUnhinderedServer (old new : World) : Type 0 where
@@ -31,10 +46,13 @@ pub record IsUnhinderedServer (old new : World) : Type 0 where
   pub uncapped : (i : ℕ) → (source_at i new.served.sources).turns < last_count
   pub beat_turns : TookFew old.served.beat new.served.beat
   pub door_turns : TookFew old.served.door new.served.door
+  pub stream_turns : TookFew old.served.streams new.served.streams
+  pub streams : ¬ AStreamTookMost old new
 
--- a wire, a backend or the door, whose faults never end a server that has begun
+-- a wire, a backend or a door, whose faults never end a server that has begun
 abbrev pub IsOutermost : Part → Type 0
 IsOutermost OfDoor = ⊤
+IsOutermost OfStreams = ⊤
 IsOutermost part = IsOutward part
 
 -- no fault was counted of one of them
@@ -43,16 +61,19 @@ pub record NoneFailed (old new : World) : Type 0 where
   pub graphite : ¬ Rose old.seen.graphite.faults new.seen.graphite.faults
   pub console : ¬ Rose old.seen.console.faults new.seen.console.faults
   pub door : ¬ Rose old.served.door.faults new.served.door.faults
+  pub streams : ¬ Rose old.served.streams.faults new.served.streams.faults
 
 -- all was done, or no memory was left, or one of them couldn't be opened
 abbrev pub IsServed : Answer → Type 0
 IsServed answer = IsWhole Done answer ⊎ ((part : Part) × IsOutermost part × (answer ≡ NotOpened part))
 
--- The source of each receiver, the beat and the door have nothing left, where they tell what they have.
-pub record AreAllSpent (receivers : ℕ) (world : World) : Type 0 where
+-- The source of each receiver, the beat, the admin door and, where it is used, the door of streams have nothing left, where they tell
+-- what they have.
+pub record AreAllSpent (receivers : ℕ) (with_streams : Bool) (world : World) : Type 0 where
   pub sources : (i : ℕ) → i < receivers → IsSpent (source_at i world.served.sources).told
   pub beat : IsSpent world.served.beat.told
   pub door : IsSpent world.served.door.told
+  pub streams : with_streams ≡ true → IsSpent world.served.streams.told
 
 -- an object took as many turns as a loop takes at most
 abbrev pub TookMost : Object → Object → Type 0
@@ -62,12 +83,14 @@ TookMost old new = new.turns ≡ old.turns + most_turns
 abbrev pub SourceTookMost : Object → Object → Type 0
 SourceTookMost old new = new.turns ≡ min (old.turns + most_turns) last_count
 
--- a source, the beat or the door did
+-- a source, the beat, a door or a stream did
 abbrev pub OneTookMost : World → World → Type 0
 OneTookMost old new =
     ((i : ℕ) × SourceTookMost (source_at i old.served.sources) (source_at i new.served.sources))
     ⊎ TookMost old.served.beat new.served.beat
     ⊎ TookMost old.served.door new.served.door
+    ⊎ TookMost old.served.streams new.served.streams
+    ⊎ AStreamTookMost old new
 
 -- a part that is opened to serve
 abbrev pub IsOpenedToServe : Part → Type 0

@@ -4,20 +4,21 @@ use Rattle.std.specs.Prelude.{sum_by, ◌==◌, if◌then◌else◌}
 use Rattle.std.specs.List.{range_with_len}
 use Rattle.std.proofs.lemmas.List.Sums.{sum_by-cons, sum_by-append}
 use Rattle.sd_model_text.specs.Lines.{pieces, bad_of}
-use Rattle.sd_model_outside.specs.Deliveries.{Delivery, fault_of, missed}
+use Rattle.sd_model_outside.specs.Deliveries.{fault_of}
 use Rattle.sd_model_shard.specs.Shard.{Limits, Policy, State, Event, Submit, Swap, Delete, Dump, step}
 use Rattle.sd_model_shard.specs.History.{Act, History, LegalFrom, after}
 use Rattle.sd_model_shard.specs.Whereabouts.{dropped_in, told_by}
-use Rattle.sd_model_shard.proofs.OrderLemmas.{sum_by-map}
-use Rattle.sd_model_record.specs.Backends.{Backend, Graphite, Console, mark_of}
+use Rattle.sd_model_record.specs.Backends.{Graphite, Console, mark_of}
 use Rattle.sd_model_record.specs.Counts.{Count, TotalPackets, TotalLines, TotalBad, TotalDropped, TakenPackets, TakenLines, TakenBad, TakenDropped, RoundsMade, GraphiteFaults, ConsoleFaults, RepeaterFaults, AdminFaults, Amounts, Part, HasCounted, plus, of_tally, of_sends, of_sessions}
 use Rattle.sd_model_record.specs.Desk.{last_counted}
 use Rattle.sd_model_serve.specs.Acts.{acts_by, events_by, events_of, told_in}
 use Rattle.sd_model_serve.specs.Doors.{faults_among}
 use Rattle.sd_model_serve.specs.Receiving.{failed_sends, tally_of}
-use Rattle.sd_model_serve.specs.Rounds.{Form, Round, of_round, of_rounds, round_deliveries, round_text, swaps_at}
+use Rattle.sd_model_serve.specs.Rounds.{Form, Round, of_round, of_rounds, swaps_at}
 use Rattle.sd_model_serve.specs.Served.{AreCommands}
-use Rattle.sd_model_run.specs.Course.{Course, Reception, counts_of, rounds_in}
+use Rattle.sd_model_stream.specs.Stream.{bad_of_line, pieces_of_line}
+use Rattle.sd_model_stream.specs.Streams.{lines_in}
+use Rattle.sd_model_run.specs.Course.{Course, Lining, Reception, counts_of, faults_in_lines, rounds_in}
 
 -- two ways to count each element alike add up alike
 pub sum_by-alike : {X : Type 0} (f g : X → ℕ) (xs : List X) → ((x : X) → f x ≡ g x) → sum_by f xs ≡ sum_by g xs
@@ -86,16 +87,17 @@ received_by receptions drops =
     plus (of_tally (record { packets = length read; lines = sum_by (λ d. length (pieces d)) read; bad = sum_by bad_of read; dropped = drops }))
     (of_sends (sum_by (λ (r : Reception). failed_sends r.sendings) receptions))
 
--- What a run counts is what its receivers, its rounds and its sessions count.
-module _ (form : Form) (c : Course) (texts : (b : Backend) → c.deliveries b ≡ round_deliveries form b (rounds_in c)) where
+-- what keepers of lines count together, with so many drops
+abbrev pub lined_by : List Lining → ℕ → Amounts
+lined_by linings drops =
+    let lines = flat_map (λ (l : Lining). lines_in l.streams) linings in
+    plus (of_tally (record { packets = 0; lines = sum_by pieces_of_line lines; bad = sum_by bad_of_line lines; dropped = drops }))
+    (of_sessions (sum_by faults_in_lines linings))
+
+-- What a run counts is what its receivers, its keeper of lines, its rounds and its admin sessions count.
+module _ (form : Form) (c : Course) where
   abbrev faults : ℕ
   faults = c.failures + faults_among c.visits
-
-  -- a backend missed the rounds that are marked so
-  faults_missed : (b : Backend) → missed (c.deliveries b) ≡ sum_by (λ (r : Round). fault_of (mark_of b r.marks)) (rounds_in c)
-  faults_missed b =
-      ap missed (texts b)
-      ∙ sum_by-map (λ (d : Delivery). fault_of d.mark) (λ (r : Round). record { text = round_text form b r; mark = mark_of b r.marks }) (rounds_in c)
 
   no_rounds : (count : Count) → ((r : Round) → of_round r count ≡ 0) → of_rounds (rounds_in c) count ≡ 0
   no_rounds count none = sum_by-nothing (λ (r : Round). of_round r count) (rounds_in c) none
@@ -103,23 +105,23 @@ module _ (form : Form) (c : Course) (texts : (b : Backend) → c.deliveries b �
   in_rounds : (count : Count) (f : Round → ℕ) → ((r : Round) → of_round r count ≡ f r) → of_rounds (rounds_in c) count ≡ sum_by f (rounds_in c)
   in_rounds count f same = sum_by-alike (λ (r : Round). of_round r count) f (rounds_in c) same
 
-  pub counts_add_up : (drops : ℕ) → drops ≡ told_in dropped_in form.shards c.histories → (count : Count)
-      → counts_of form.shards c count ≡ received_by c.receptions drops count + (of_rounds (rounds_in c) count + of_sessions faults count)
-  counts_add_up drops is TotalPackets = let none = no_rounds TotalPackets (λ r. refl) in omega (arith, none)
-  counts_add_up drops is TotalLines = let none = no_rounds TotalLines (λ r. refl) in omega (arith, none)
-  counts_add_up drops is TotalBad = let none = no_rounds TotalBad (λ r. refl) in omega (arith, none)
-  counts_add_up drops is TotalDropped = let none = no_rounds TotalDropped (λ r. refl) in omega (arith, none, is)
-  counts_add_up drops is TakenPackets = let all = in_rounds TakenPackets (λ r. r.tally.packets) (λ r. omega arith) in omega (arith, all)
-  counts_add_up drops is TakenLines = let all = in_rounds TakenLines (λ r. r.tally.lines) (λ r. omega arith) in omega (arith, all)
-  counts_add_up drops is TakenBad = let all = in_rounds TakenBad (λ r. r.tally.bad) (λ r. omega arith) in omega (arith, all)
-  counts_add_up drops is TakenDropped = let all = in_rounds TakenDropped (λ r. r.tally.dropped) (λ r. omega arith) in omega (arith, all)
-  counts_add_up drops is RoundsMade = let all = sum_by-ones (λ (r : Round). of_round r RoundsMade) (rounds_in c) (λ r. omega arith) in omega (arith, all)
-  counts_add_up drops is GraphiteFaults =
-      let all = in_rounds GraphiteFaults (λ r. fault_of (mark_of Graphite r.marks)) (λ r. omega arith) in let missed_it = faults_missed Graphite in omega (arith, all, missed_it)
-  counts_add_up drops is ConsoleFaults =
-      let all = in_rounds ConsoleFaults (λ r. fault_of (mark_of Console r.marks)) (λ r. omega arith) in let missed_it = faults_missed Console in omega (arith, all, missed_it)
-  counts_add_up drops is RepeaterFaults = let none = no_rounds RepeaterFaults (λ r. refl) in omega (arith, none)
-  counts_add_up drops is AdminFaults = let none = no_rounds AdminFaults (λ r. refl) in omega (arith, none)
+  pub counts_add_up : (drops lined : ℕ) → drops + lined ≡ told_in dropped_in form.shards c.histories → (count : Count)
+      → counts_of form.shards c count ≡ received_by c.receptions drops count + (lined_by c.linings lined count + (of_rounds (rounds_in c) count + of_sessions faults count))
+  counts_add_up drops lined is TotalPackets = let none = no_rounds TotalPackets (λ r. refl) in omega (arith, none)
+  counts_add_up drops lined is TotalLines = let none = no_rounds TotalLines (λ r. refl) in omega (arith, none)
+  counts_add_up drops lined is TotalBad = let none = no_rounds TotalBad (λ r. refl) in omega (arith, none)
+  counts_add_up drops lined is TotalDropped = let none = no_rounds TotalDropped (λ r. refl) in omega (arith, none, is)
+  counts_add_up drops lined is TakenPackets = let all = in_rounds TakenPackets (λ r. r.tally.packets) (λ r. omega arith) in omega (arith, all)
+  counts_add_up drops lined is TakenLines = let all = in_rounds TakenLines (λ r. r.tally.lines) (λ r. omega arith) in omega (arith, all)
+  counts_add_up drops lined is TakenBad = let all = in_rounds TakenBad (λ r. r.tally.bad) (λ r. omega arith) in omega (arith, all)
+  counts_add_up drops lined is TakenDropped = let all = in_rounds TakenDropped (λ r. r.tally.dropped) (λ r. omega arith) in omega (arith, all)
+  counts_add_up drops lined is RoundsMade = let all = sum_by-ones (λ (r : Round). of_round r RoundsMade) (rounds_in c) (λ r. omega arith) in omega (arith, all)
+  counts_add_up drops lined is GraphiteFaults =
+      let all = in_rounds GraphiteFaults (λ r. fault_of (mark_of Graphite r.marks)) (λ r. omega arith) in omega (arith, all)
+  counts_add_up drops lined is ConsoleFaults =
+      let all = in_rounds ConsoleFaults (λ r. fault_of (mark_of Console r.marks)) (λ r. omega arith) in omega (arith, all)
+  counts_add_up drops lined is RepeaterFaults = let none = no_rounds RepeaterFaults (λ r. refl) in omega (arith, none)
+  counts_add_up drops lined is AdminFaults = let none = no_rounds AdminFaults (λ r. refl) in omega (arith, none)
 
 -- what one receiver counts, with so many drops
 abbrev pub one_by : Reception → ℕ → Amounts
@@ -164,19 +166,19 @@ received_next r receptions drops others RepeaterFaults =
     let all = sum_by-cons (λ (q : Reception). failed_sends q.sendings) r receptions in omega (arith, all)
 received_next r receptions drops others AdminFaults = refl
 
--- A tally that stops at the last count is exact where it was counted below it.
-pub exact_share : (packets lines bad drops n : ℕ) (old new : Part) → HasCounted (plus (of_tally (tally_of packets lines bad drops)) (of_sends n)) old new → ((count : Count) → old.share count ≡ 0) → (count : Count) → new.seen count < last_counted
-    → new.share count ≡ plus (of_tally (record { packets = packets; lines = lines; bad = bad; dropped = drops })) (of_sends n) count
-exact_share packets lines bad drops n old new h none TotalPackets few = omega (arith, h.grows TotalPackets few, h.adds TotalPackets few, none TotalPackets, few)
-exact_share packets lines bad drops n old new h none TotalLines few = omega (arith, h.grows TotalLines few, h.adds TotalLines few, none TotalLines, few)
-exact_share packets lines bad drops n old new h none TotalBad few = omega (arith, h.grows TotalBad few, h.adds TotalBad few, none TotalBad, few)
-exact_share packets lines bad drops n old new h none TotalDropped few = omega (arith, h.grows TotalDropped few, h.adds TotalDropped few, none TotalDropped, few)
-exact_share packets lines bad drops n old new h none TakenPackets few = omega (arith, h.adds TakenPackets few, none TakenPackets)
-exact_share packets lines bad drops n old new h none TakenLines few = omega (arith, h.adds TakenLines few, none TakenLines)
-exact_share packets lines bad drops n old new h none TakenBad few = omega (arith, h.adds TakenBad few, none TakenBad)
-exact_share packets lines bad drops n old new h none TakenDropped few = omega (arith, h.adds TakenDropped few, none TakenDropped)
-exact_share packets lines bad drops n old new h none RoundsMade few = omega (arith, h.adds RoundsMade few, none RoundsMade)
-exact_share packets lines bad drops n old new h none GraphiteFaults few = omega (arith, h.adds GraphiteFaults few, none GraphiteFaults)
-exact_share packets lines bad drops n old new h none ConsoleFaults few = omega (arith, h.adds ConsoleFaults few, none ConsoleFaults)
-exact_share packets lines bad drops n old new h none RepeaterFaults few = omega (arith, h.adds RepeaterFaults few, none RepeaterFaults)
-exact_share packets lines bad drops n old new h none AdminFaults few = omega (arith, h.adds AdminFaults few, none AdminFaults)
+-- A tally that stops at the last count is exact where it was counted below it, whatever else was counted with it.
+pub exact_share : (packets lines bad drops : ℕ) (others : Amounts) (old new : Part) → HasCounted (plus (of_tally (tally_of packets lines bad drops)) others) old new → ((count : Count) → old.share count ≡ 0) → (count : Count) → new.seen count < last_counted
+    → new.share count ≡ plus (of_tally (record { packets = packets; lines = lines; bad = bad; dropped = drops })) others count
+exact_share packets lines bad drops others old new h none TotalPackets few = omega (arith, h.grows TotalPackets few, h.adds TotalPackets few, none TotalPackets, few)
+exact_share packets lines bad drops others old new h none TotalLines few = omega (arith, h.grows TotalLines few, h.adds TotalLines few, none TotalLines, few)
+exact_share packets lines bad drops others old new h none TotalBad few = omega (arith, h.grows TotalBad few, h.adds TotalBad few, none TotalBad, few)
+exact_share packets lines bad drops others old new h none TotalDropped few = omega (arith, h.grows TotalDropped few, h.adds TotalDropped few, none TotalDropped, few)
+exact_share packets lines bad drops others old new h none TakenPackets few = omega (arith, h.adds TakenPackets few, none TakenPackets)
+exact_share packets lines bad drops others old new h none TakenLines few = omega (arith, h.adds TakenLines few, none TakenLines)
+exact_share packets lines bad drops others old new h none TakenBad few = omega (arith, h.adds TakenBad few, none TakenBad)
+exact_share packets lines bad drops others old new h none TakenDropped few = omega (arith, h.adds TakenDropped few, none TakenDropped)
+exact_share packets lines bad drops others old new h none RoundsMade few = omega (arith, h.adds RoundsMade few, none RoundsMade)
+exact_share packets lines bad drops others old new h none GraphiteFaults few = omega (arith, h.adds GraphiteFaults few, none GraphiteFaults)
+exact_share packets lines bad drops others old new h none ConsoleFaults few = omega (arith, h.adds ConsoleFaults few, none ConsoleFaults)
+exact_share packets lines bad drops others old new h none RepeaterFaults few = omega (arith, h.adds RepeaterFaults few, none RepeaterFaults)
+exact_share packets lines bad drops others old new h none AdminFaults few = omega (arith, h.adds AdminFaults few, none AdminFaults)

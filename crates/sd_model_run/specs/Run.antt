@@ -1,5 +1,5 @@
 -- A run of the server between two times, over the objects that its workers use.
-use Rattle.std.specs.Prelude.{◌≡◌, ℕ, ◌+◌, ◌<◌, ◌≤◌, min, List, [], ◌∷◌, length, map, take, drop}
+use Rattle.std.specs.Prelude.{◌≡◌, ℕ, ◌+◌, ◌<◌, ◌≤◌, min, Bool, true, false, List, [], ◌∷◌, length, map, take, drop}
 use Rattle.std.specs.List.{AllByRecursion}
 use Rattle.sd_model_outside.specs.Outside.{Object, last_count}
 use Rattle.sd_model_outside.specs.Deliveries.{AfterDeliveries}
@@ -9,20 +9,24 @@ use Rattle.sd_model_record.specs.Counts.{Count, number_of}
 use Rattle.sd_model_record.specs.Desk.{IsBalanced, last_counted}
 use Rattle.sd_model_serve.specs.Accounting.{AreAccounted}
 use Rattle.sd_model_serve.specs.Doors.{ServesDoor}
-use Rattle.sd_model_serve.specs.Ends.{LoopEnd, EndsReceiver, EndsFlusher, EndsKeeper}
+use Rattle.sd_model_serve.specs.Ends.{LoopEnd, WornOut, EndsReceiver, EndsFlusher, EndsKeeper, most_turns}
 use Rattle.sd_model_serve.specs.Receiving.{PassesOn}
-use Rattle.sd_model_serve.specs.Rounds.{MarksFit, Round, round_deliveries}
+use Rattle.sd_model_serve.specs.Rounds.{MarksFit, Round, round_text}
 use Rattle.sd_model_serve.specs.Served.{Ran}
 use Rattle.sd_model_serve.specs.Visits.{AreVisitsOf, asked_by}
-use Rattle.sd_model_run.specs.Course.{Course, Reception, Terms, brought_by, counts_of, rounds_in}
+use Rattle.sd_model_stream.specs.Streams.{AreStreamsOf, any_worn}
+use Rattle.sd_model_run.specs.Course.{Course, Lining, Reception, Terms, brought_in, counts_of, deliveries_in, rounds_in}
+use Rattle.sd_model_run.specs.Outlets.{HasFlowed, has_outlet, uses_at_ticks}
 
--- What is seen of the objects that the workers use: the sources of datagrams, the wires, the beat, the backends and the door.
+-- What is seen of the objects that the workers use: the sources of datagrams, the wires, the beat, the backends, the admin door and the
+-- door of streams.
 pub record Objects : Type 0 where
   pub sources : List Object
   pub wires : List Object
   pub beat : Object
   pub backs : Backend → Object
   pub door : Object
+  pub streams : Object
 
 -- What a receiver did is seen of its source and its wires. It ended so once its source had taken some turns, counted up to the
 -- last count, and it had seen some flushes, no more than were made; the source is where it was.
@@ -60,27 +64,52 @@ pub record IsKept (asked made : ℕ) (ended : LoopEnd) (door door_now : Object) 
   pub known : seen ≤ made
   pub ends : EndsKeeper asked ended door_now seen turned
 
+-- A keeper of lines read the sessions of its door as streams, one after another. It ended so once the door had taken some turns, and it
+-- had seen some flushes, no more than were made; where a stream took the most reads, it ended by that.
+pub record IsLined (asked made : ℕ) (l : Lining) (door door_now : Object) : Type 0 where
+  pub served : ServesDoor l.visits l.failures door door_now
+  pub went : AreStreamsOf l.visits l.streams
+  pub turned : ℕ
+  pub turns : door_now.turns ≡ door.turns + turned
+  pub seen : ℕ
+  pub known : seen ≤ made
+  pub worn : any_worn l.streams ≡ true → l.ended ≡ WornOut most_turns
+  pub ends : any_worn l.streams ≡ false → EndsKeeper asked l.ended door_now seen turned
+
+-- Where lines of streams are read, one keeper of lines did so; where they aren't, there is none, and the door is as it was.
+abbrev pub AreLined : (asked made : ℕ) → (streams : Bool) → List Lining → (door door_now : Object) → Type 0
+AreLined asked made false [] door door_now = door_now ≡ door
+AreLined asked made false (l ∷ linings) door door_now = ⊥
+AreLined asked made true [] door door_now = ⊥
+AreLined asked made true (l ∷ []) door door_now = IsLined asked made l door door_now
+AreLined asked made true (l ∷ k ∷ linings) door door_now = ⊥
+
 -- A run by these terms went so, of which the clock may say these moments.
 pub record IsRun (terms : Terms) (says : ℕ → Type 0) (c : Course) (old new : Objects) : Type 0 where
   -- each shard has one legal history, in which are, each in its order, just what each receiver brought of the datagrams that it
-  -- read, one swap for each round, which handed out its table, and what the lines of the sessions asked for
+  -- read, and the keeper of lines of its streams, one swap for each round, which handed out its table, and what the lines of the admin
+  -- sessions asked for
   pub ran : (i : ℕ) → i < terms.form.shards
-      → Ran terms.limits terms.policy terms.form.shards (map brought_by c.receptions) (rounds_in c) (asked_by c.dialogues) i (c.histories i)
+      → Ran terms.limits terms.policy terms.form.shards (brought_in c) (rounds_in c) (asked_by c.dialogues) i (c.histories i)
   -- each receiver sent on just the datagrams that it read, in order
   pub count : length c.receptions ≡ terms.receivers
   pub received : AreReceptions terms.run_flushes c.desk.rounds terms.wires c.receptions old.sources new.sources old.wires new.wires
   -- there was a round at each tick, and a last one at a moment of the clock
   pub flushed : IsFlushed terms.run_flushes c.flusher_ended c.ticked old.beat new.beat
   pub last : says c.last.ts
-  -- each round used just the backends that are used; what a backend was to be given are the texts of the rounds' records; and
-  -- of them it has just those that were written, in order, each whole, but where it failed
-  pub used : AllByRecursion (MarksFit terms.uses) (rounds_in c)
-  pub texts : (back : Backend) → c.deliveries back ≡ round_deliveries terms.form back (rounds_in c)
-  pub delivered : (back : Backend) → AfterDeliveries (c.deliveries back) (old.backs back) (new.backs back)
+  -- the last round wrote to just the backends that are used, and those at the ticks too, but where there are outlets to none; there
+  -- the texts of their records went through the outlets
+  pub used : AllByRecursion (MarksFit (uses_at_ticks terms.outlets terms.uses)) c.ticked
+  pub used_last : MarksFit terms.uses c.last
+  pub flowed : (back : Backend) → HasFlowed (has_outlet terms.outlets terms.uses back) (map (round_text terms.form back) c.ticked) (c.outflows back)
+  -- of what a backend was given it has just what was written, in order, each text whole, but where it failed
+  pub delivered : (back : Backend) → AfterDeliveries (deliveries_in terms.form c back) (old.backs back) (new.backs back)
   -- the sessions of the door were visited one after another, and each went as its lines ask
   pub visited : ServesDoor c.visits c.failures old.door new.door
   pub went : AreVisitsOf terms.form.shards terms.settings says c.visits c.dialogues
   pub kept : IsKept terms.run_flushes c.desk.rounds c.keeper_ended old.door new.door
+  -- the streams of the other door were read one after another, where they are
+  pub lined : AreLined terms.run_flushes c.desk.rounds terms.streams c.linings old.streams new.streams
   -- the desk began at a moment of the clock; a number of it that hasn't reached the last count is what the run counts; and what
   -- was counted of datagrams is what rounds took of it and what the desk still has
   pub started : says c.desk.start

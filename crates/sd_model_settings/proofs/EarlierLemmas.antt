@@ -1,5 +1,5 @@
 -- A file that was accepted earlier sets the same values.
-use Rattle.std.proofs.Common.{◌≡◌, ℕ, ◌*◌, ◌≤◌, Bool, true, false, cond, ◌||◌, ◌&&◌, nat_le, nat_lt, pos, negsuc, List, [], ◌∷◌, ◌++◌, length, drop, codes, Option, Some, None, Result, Ok, Err, IfOk, refl, sym, ap, subst, ◌∙◌, inl, inr, arith}
+use Rattle.std.proofs.Common.{◌≡◌, ℕ, ◌*◌, ◌≤◌, Bool, true, false, cond, ◌||◌, ◌&&◌, nat_le, nat_lt, pos, negsuc, List, [], ◌∷◌, ◌++◌, length, take, drop, codes, Option, Some, None, Result, Ok, Err, IfOk, refl, sym, ap, subst, ◌∙◌, inl, inr, arith}
 use Rattle.std.proofs.Common.{Ordering, nat_cmp, Less, Equal, Greater}
 use Rattle.std.specs.Prelude.{⊤}
 use Rattle.std.specs.List.{list_any}
@@ -18,8 +18,8 @@ use Rattle.toml.specs.Data.{Data, integer, Members, no_members, member, get_memb
 use Rattle.sd_model_settings.specs.Values.{ValueFlaw, whole}
 use Rattle.sd_model_settings.specs.TimerClasses.{class_names}
 use Rattle.sd_model_settings.specs.KnownNames.{top_names, names, first_unknown, unknown_inside, unknown_by, unknown}
-use Rattle.sd_model_settings.specs.Settings.{SettingsFlaw, ◌>>=◌, in_force, Section, setting, within_product, top, server, deletions, addresses, namespace, entry_lists, sizes, flush_rules, Settings, settings_in, unless_unknown, document, settings}
-use Rattle.sd_model_settings.specs.Earlier.{earlier_names, earlier_rules, earlier_sizes, earlier_in, earlier_settings}
+use Rattle.sd_model_settings.specs.Settings.{SettingsFlaw, ◌>>=◌, in_force, Section, setting, within_product, top, server, deletions, addresses, namespace, entry_lists, Sizes, sizes, FlushRules, flush_rules, transport, Settings, settings_in, unless_unknown, document, settings}
+use Rattle.sd_model_settings.specs.Earlier.{earlier_rules, earlier_transport, earlier_sizes, values_by, settings_by, earlier_settings, settings_before_outlets}
 use Rattle.sd_model_settings.specs.Ranges.{IsWithin}
 use Rattle.sd_model_settings.proofs.ValuesInRange.{bind_in_range, anything_in_range, setting_in_range, whole_in_range}
 
@@ -104,95 +104,156 @@ rules_kept s first second =
     known_then (setting s (codes "gaugesMaxTTL") (whole 1 1000000000) 1) 1 _ (by_default s (codes "gaugesMaxTTL") (whole 1 1000000000) 1 first)
     ∙ known_then (setting s (codes "calculatedTimerMetrics") class_names []) [] _ (by_default s (codes "calculatedTimerMetrics") class_names [] second)
 
-values_kept : (s : Section) → flush_rules s ≡ Ok earlier_rules → Gives (earlier_in s) (settings_in s)
-unfolding earlier_in settings_in
-values_kept s rules =
+-- the transport where none of its settings is given
+transport_kept : (s : Section) → get_member (codes "outlets") s.members ≡ None → get_member (codes "outletBytes") s.members ≡ None → get_member (codes "tcp_port") s.members ≡ None → transport s ≡ Ok earlier_transport
+unfolding transport
+transport_kept s first second third =
+    known_then (setting s (codes "outlets") (whole 0 64) 0) 0 _ (by_default s (codes "outlets") (whole 0 64) 0 first)
+    ∙ known_then (setting s (codes "outletBytes") (whole 65536 16777216) 4194304) 4194304 _ (by_default s (codes "outletBytes") (whole 65536 16777216) 4194304 second)
+    ∙ known_then (setting s (codes "tcp_port") (whole 0 65535) 0) 0 _ (by_default s (codes "tcp_port") (whole 0 65535) 0 third)
+
+-- the values, where sizes and rules are kept and no transport is given
+values_kept : (of_sizes : Section → Result Sizes SettingsFlaw) (of_rules : Section → Result FlushRules SettingsFlaw) (s : Section)
+    → Gives (of_sizes s) (sizes s) → Gives (of_rules s) (flush_rules s) → transport s ≡ Ok earlier_transport → Gives (values_by of_sizes of_rules s) (settings_in s)
+unfolding settings_in
+values_kept of_sizes of_rules s sizes-same rules-same none =
     same_then (server s) _ _ (λ server-values _.
     same_then (deletions s) _ _ (λ deletions-values _.
     same_then (addresses s) _ _ (λ addresses-values _.
     same_then (namespace s) _ _ (λ namespace-values _.
     same_then (entry_lists s) _ _ (λ lists-values _.
-    given_then (earlier_sizes s) (sizes s) _ _ (sizes_kept s) (λ sizes-values.
-    known_then (flush_rules s) earlier_rules _ rules))))))
-
--- names that are known among fewer are known
-known_among_more : (name : List ℕ) → list_any (λ k. bytes_eq k name) earlier_names ≡ true → list_any (λ k. bytes_eq k name) top_names ≡ true
-known_among_more name known =
-    list_any-append (λ k. bytes_eq k name) earlier_names (drop 26 top_names)
-    ∙ ap (λ b. b || list_any (λ k. bytes_eq k name) (drop 26 top_names)) known
-
-all_known : (ns : List (List ℕ)) → first_unknown [] earlier_names ns ≡ None → first_unknown [] top_names ns ≡ None
-all_known [] h = refl
-all_known (n ∷ ns) h = by_test (list_any (λ k. bytes_eq k n) earlier_names) refl h (all_known ns) where
-  by_test : (b : Bool) → list_any (λ k. bytes_eq k n) earlier_names ≡ b → cond b (first_unknown [] earlier_names ns) (Some n) ≡ None
-      → (first_unknown [] earlier_names ns ≡ None → first_unknown [] top_names ns ≡ None) → first_unknown [] top_names (n ∷ ns) ≡ None
-  by_test true known rest others =
-      ap (λ b. cond b (first_unknown [] top_names ns) (Some n)) (known_among_more n known) ∙ others rest
-  by_test false known rest others = absurd (cc)
-
--- a name that isn't known stands in no table without unknown names
-absent : (name : List ℕ) → list_any (λ k. bytes_eq k name) earlier_names ≡ false → (ms : Members) → first_unknown [] earlier_names (names ms) ≡ None → get_member name ms ≡ None
-absent name other no_members h = refl
-absent name other (member l d ms) h = by_test (list_any (λ k. bytes_eq k l) earlier_names) refl h (absent name other ms) where
-  by_order : (o : Ordering) → is_eq o ≡ bytes_eq name l → bytes_eq name l ≡ false → get_member name ms ≡ None → match_ordering o (get_member name ms) (Some d) (get_member name ms) ≡ None
-  by_order Less e apart rest = rest
-  by_order Equal e apart rest = absurd (cc)
-  by_order Greater e apart rest = rest
-
-  apart : (b : Bool) → bytes_eq name l ≡ b → list_any (λ k. bytes_eq k l) earlier_names ≡ true → bytes_eq name l ≡ false
-  apart false e known = e
-  apart true e known =
-      let same : name ≡ l = (bytes_eq-Decides name l).0 e in
-      absurd (false≢true (sym other ∙ ap (λ n. list_any (λ k. bytes_eq k n) earlier_names) same ∙ known))
-
-  by_test : (b : Bool) → list_any (λ k. bytes_eq k l) earlier_names ≡ b → cond b (first_unknown [] earlier_names (names ms)) (Some l) ≡ None
-      → (first_unknown [] earlier_names (names ms) ≡ None → get_member name ms ≡ None) → get_member name (member l d ms) ≡ None
-  by_test true known rest others =
-      by_order (slice_cmp nat_cmp name l) (is_eq-slice_cmp name l) (apart (bytes_eq name l) refl known) (others rest)
-  by_test false known rest others = absurd (cc)
+    given_then (of_sizes s) (sizes s) _ _ sizes-same (λ sizes-values.
+    given_then (of_rules s) (flush_rules s) _ _ rules-same (λ rules-values.
+    known_then (transport s) earlier_transport _ none)))))))
 
 none_of_both : {A : Type 0} (a b : Option A) → option_or a b ≡ None → (a ≡ None) × (b ≡ None)
 none_of_both None b h = (refl, h)
 none_of_both (Some x) b h = absurd (cc)
 
-file_kept : (doc : Members) (name : Option (List ℕ)) → unknown_by earlier_names doc ≡ name → Gives (unless_unknown name (earlier_in (top doc))) (unless_unknown (unknown doc) (settings_in (top doc)))
-unfolding unknown
-file_kept doc (Some name) is = tt
-file_kept doc None is =
-    let parts = none_of_both (first_unknown [] earlier_names (names doc)) (unknown_inside doc) is in
-    let all : unknown doc ≡ None = ap (λ o. option_or o (unknown_inside doc)) (all_known (names doc) parts.0) ∙ parts.1 in
-    let rules : flush_rules (top doc) ≡ Ok earlier_rules = rules_kept (top doc) (absent (codes "gaugesMaxTTL") refl doc parts.0) (absent (codes "calculatedTimerMetrics") refl doc parts.0) in
-    subst (λ o. IfOk (earlier_in (top doc)) (λ v. unless_unknown o (settings_in (top doc)) ≡ Ok v)) (sym all) (values_kept (top doc) rules)
+-- where fewer names are known
+module _ (fewer more : List (List ℕ)) where
+  -- names that are known among fewer are known
+  known_among_more : (name : List ℕ) → list_any (λ k. bytes_eq k name) fewer ≡ true → list_any (λ k. bytes_eq k name) (fewer ++ more) ≡ true
+  known_among_more name known =
+      list_any-append (λ k. bytes_eq k name) fewer more
+      ∙ ap (λ b. b || list_any (λ k. bytes_eq k name) more) known
+
+  all_known : (ns : List (List ℕ)) → first_unknown [] fewer ns ≡ None → first_unknown [] (fewer ++ more) ns ≡ None
+  all_known [] h = refl
+  all_known (n ∷ ns) h = by_test (list_any (λ k. bytes_eq k n) fewer) refl h (all_known ns) where
+    by_test : (b : Bool) → list_any (λ k. bytes_eq k n) fewer ≡ b → cond b (first_unknown [] fewer ns) (Some n) ≡ None
+        → (first_unknown [] fewer ns ≡ None → first_unknown [] (fewer ++ more) ns ≡ None) → first_unknown [] (fewer ++ more) (n ∷ ns) ≡ None
+    by_test true known rest others =
+        ap (λ b. cond b (first_unknown [] (fewer ++ more) ns) (Some n)) (known_among_more n known) ∙ others rest
+    by_test false known rest others = absurd (cc)
+
+  -- a file without unknown names
+  file_known : (doc : Members) → unknown_by fewer doc ≡ None → unknown_by (fewer ++ more) doc ≡ None
+  file_known doc is =
+      let parts = none_of_both (first_unknown [] fewer (names doc)) (unknown_inside doc) is in
+      ap (λ o. option_or o (unknown_inside doc)) (all_known (names doc) parts.0) ∙ parts.1
+
+-- a name that isn't known stands in no table without unknown names
+module _ (fewer : List (List ℕ)) (name : List ℕ) (other : list_any (λ k. bytes_eq k name) fewer ≡ false) where
+  absent_in : (ms : Members) → first_unknown [] fewer (names ms) ≡ None → get_member name ms ≡ None
+  absent_in no_members h = refl
+  absent_in (member l d ms) h = by_test (list_any (λ k. bytes_eq k l) fewer) refl h (absent_in ms) where
+    by_order : (o : Ordering) → is_eq o ≡ bytes_eq name l → bytes_eq name l ≡ false → get_member name ms ≡ None → match_ordering o (get_member name ms) (Some d) (get_member name ms) ≡ None
+    by_order Less e apart rest = rest
+    by_order Equal e apart rest = absurd (cc)
+    by_order Greater e apart rest = rest
+
+    apart : (b : Bool) → bytes_eq name l ≡ b → list_any (λ k. bytes_eq k l) fewer ≡ true → bytes_eq name l ≡ false
+    apart false e known = e
+    apart true e known =
+        let same : name ≡ l = (bytes_eq-Decides name l).0 e in
+        absurd (false≢true (sym other ∙ ap (λ n. list_any (λ k. bytes_eq k n) fewer) same ∙ known))
+
+    by_test : (b : Bool) → list_any (λ k. bytes_eq k l) fewer ≡ b → cond b (first_unknown [] fewer (names ms)) (Some l) ≡ None
+        → (first_unknown [] fewer (names ms) ≡ None → get_member name ms ≡ None) → get_member name (member l d ms) ≡ None
+    by_test true known rest others =
+        by_order (slice_cmp nat_cmp name l) (is_eq-slice_cmp name l) (apart (bytes_eq name l) refl known) (others rest)
+    by_test false known rest others = absurd (cc)
+
+  absent : (doc : Members) → unknown_by fewer doc ≡ None → get_member name doc ≡ None
+  absent doc is = absent_in doc (none_of_both (first_unknown [] fewer (names doc)) (unknown_inside doc) is).0
+
+-- the files that were accepted where fewer names were known set what their values were
+module _ (count : ℕ) (values : Section → Result Settings SettingsFlaw) (known : (doc : Members) → unknown_by (take count top_names) doc ≡ None → unknown doc ≡ None)
+    (same_values : (doc : Members) → unknown_by (take count top_names) doc ≡ None → Gives (values (top doc)) (settings_in (top doc))) where
+  file_kept : (doc : Members) (name : Option (List ℕ)) → unknown_by (take count top_names) doc ≡ name → Gives (unless_unknown name (values (top doc))) (unless_unknown (unknown doc) (settings_in (top doc)))
+  file_kept doc (Some name) is = tt
+  file_kept doc None is =
+      subst (λ o. IfOk (values (top doc)) (λ v. unless_unknown o (settings_in (top doc)) ≡ Ok v)) (sym (known doc is)) (same_values doc is)
+
+  all_kept : (bytes : List ℕ) → Gives (settings_by count values bytes) (settings bytes)
+  unfolding settings
+  all_kept bytes = elim (cases_Bool (nat_lt 65536 (length bytes))) [
+    | inl e ↦ rw e tt
+    | inr e ↦ rw e (same_then (document bytes) _ _ (λ doc _. file_kept doc (unknown_by (take count top_names) doc) refl))
+  ]
+
+no_transport : (count : ℕ) → list_any (λ k. bytes_eq k (codes "outlets")) (take count top_names) ≡ false → list_any (λ k. bytes_eq k (codes "outletBytes")) (take count top_names) ≡ false
+    → list_any (λ k. bytes_eq k (codes "tcp_port")) (take count top_names) ≡ false → (doc : Members) → unknown_by (take count top_names) doc ≡ None → transport (top doc) ≡ Ok earlier_transport
+no_transport count first second third doc is =
+    transport_kept (top doc) (absent (take count top_names) (codes "outlets") first doc is) (absent (take count top_names) (codes "outletBytes") second doc is) (absent (take count top_names) (codes "tcp_port") third doc is)
 
 pub settings_kept : (bytes : List ℕ) → IfOk (earlier_settings bytes) (λ v. settings bytes ≡ Ok v)
-unfolding earlier_settings settings
-settings_kept bytes = elim (cases_Bool (nat_lt 65536 (length bytes))) [
-  | inl e ↦ rw e tt
-  | inr e ↦ rw e (same_then (document bytes) _ _ (λ doc _. file_kept doc (unknown_by earlier_names doc) refl))
-]
+unfolding earlier_settings unknown
+settings_kept =
+    all_kept 26 (values_by earlier_sizes (λ s. Ok earlier_rules)) (file_known (take 26 top_names) (drop 26 top_names)) (λ doc is.
+    let rules : flush_rules (top doc) ≡ Ok earlier_rules =
+    rules_kept (top doc) (absent (take 26 top_names) (codes "gaugesMaxTTL") refl doc is) (absent (take 26 top_names) (codes "calculatedTimerMetrics") refl doc is) in
+    values_kept earlier_sizes (λ s. Ok earlier_rules) (top doc) (sizes_kept (top doc)) rules (no_transport 26 refl refl refl doc is))
 
--- the rules behind a value of which nothing is asked
-any_then : {A : Type 0} (r : Result A SettingsFlaw) (f : A → Result Settings SettingsFlaw) → ((x : A) → IfOk (f x) (λ v. v.rules ≡ earlier_rules)) → IfOk (r >>= f) (λ v. v.rules ≡ earlier_rules)
-any_then r f h = bind_in_range r f (λ _. ⊤) (λ v. v.rules ≡ earlier_rules) (anything_in_range r) (λ x _. h x)
+pub settings_kept_before_outlets : (bytes : List ℕ) → IfOk (settings_before_outlets bytes) (λ v. settings bytes ≡ Ok v)
+unfolding settings_before_outlets unknown
+settings_kept_before_outlets =
+    all_kept 28 (values_by sizes flush_rules) (file_known (take 28 top_names) (drop 28 top_names)) (λ doc is.
+    values_kept sizes flush_rules (top doc) (same (sizes (top doc))) (same (flush_rules (top doc))) (no_transport 28 refl refl refl doc is))
 
--- the rules of every file that was accepted
-rules_of : (s : Section) → IfOk (earlier_in s) (λ v. v.rules ≡ earlier_rules)
-unfolding earlier_in
-rules_of s =
-    any_then (server s) _ (λ server-values.
-    any_then (deletions s) _ (λ deletions-values.
-    any_then (addresses s) _ (λ addresses-values.
-    any_then (namespace s) _ (λ namespace-values.
-    any_then (entry_lists s) _ (λ lists-values.
-    any_then (earlier_sizes s) _ (λ sizes-values. refl))))))
+-- what holds of the values that a file set
+module _ (Q : Settings → Type 0) where
+  -- a step behind a value of which nothing is asked
+  any_then : {A : Type 0} (r : Result A SettingsFlaw) (f : A → Result Settings SettingsFlaw) → ((x : A) → IfOk (f x) Q) → IfOk (r >>= f) Q
+  any_then r f h = bind_in_range r f (λ _. ⊤) Q (anything_in_range r) (λ x _. h x)
 
-rules_unless : (name : Option (List ℕ)) (r : Result Settings SettingsFlaw) → IfOk r (λ v. v.rules ≡ earlier_rules) → IfOk (unless_unknown name r) (λ v. v.rules ≡ earlier_rules)
-rules_unless None r h = h
-rules_unless (Some name) r h = tt
+  -- by its rules and its transport
+  of_values : (of_sizes : Section → Result Sizes SettingsFlaw) (of_rules : Section → Result FlushRules SettingsFlaw) (P : FlushRules → Type 0) (s : Section)
+      → IfOk (of_rules s) P → ((v : Settings) → P v.rules → v.transport ≡ earlier_transport → Q v) → IfOk (values_by of_sizes of_rules s) Q
+  of_values of_sizes of_rules P s p h =
+      any_then (server s) _ (λ server-values.
+      any_then (deletions s) _ (λ deletions-values.
+      any_then (addresses s) _ (λ addresses-values.
+      any_then (namespace s) _ (λ namespace-values.
+      any_then (entry_lists s) _ (λ lists-values.
+      any_then (of_sizes s) _ (λ sizes-values.
+      bind_in_range (of_rules s) _ P Q p (λ rules-values q. h _ q refl)))))))
+
+  unless_of : (name : Option (List ℕ)) (r : Result Settings SettingsFlaw) → IfOk r Q → IfOk (unless_unknown name r) Q
+  unless_of None r h = h
+  unless_of (Some name) r h = tt
+
+  of_file : (count : ℕ) (values : Section → Result Settings SettingsFlaw) → ((s : Section) → IfOk (values s) Q) → (bytes : List ℕ) → IfOk (settings_by count values bytes) Q
+  of_file count values h bytes = elim (cases_Bool (nat_lt 65536 (length bytes))) [
+    | inl e ↦ rw e tt
+    | inr e ↦ rw e (any_then (document bytes) _ (λ doc. unless_of (unknown_by (take count top_names) doc) (values (top doc)) (h (top doc))))
+  ]
 
 pub earlier_rules_in_force : (bytes : List ℕ) → IfOk (earlier_settings bytes) (λ v. v.rules ≡ earlier_rules)
 unfolding earlier_settings
-earlier_rules_in_force bytes = elim (cases_Bool (nat_lt 65536 (length bytes))) [
-  | inl e ↦ rw e tt
-  | inr e ↦ rw e (bind_in_range (document bytes) _ (λ _. ⊤) (λ v. v.rules ≡ earlier_rules) (anything_in_range (document bytes)) (λ doc _. rules_unless (unknown_by earlier_names doc) (earlier_in (top doc)) (rules_of (top doc))))
-]
+earlier_rules_in_force =
+    of_file (λ v. v.rules ≡ earlier_rules) 26 (values_by earlier_sizes (λ s. Ok earlier_rules)) (λ s.
+    of_values (λ v. v.rules ≡ earlier_rules) earlier_sizes (λ s. Ok earlier_rules) (λ r. r ≡ earlier_rules) s refl (λ v rules transport. rules))
+
+pub earlier_transport_in_force : (bytes : List ℕ) → IfOk (earlier_settings bytes) (λ v. v.transport ≡ earlier_transport)
+unfolding earlier_settings
+earlier_transport_in_force =
+    of_file (λ v. v.transport ≡ earlier_transport) 26 (values_by earlier_sizes (λ s. Ok earlier_rules)) (λ s.
+    of_values (λ v. v.transport ≡ earlier_transport) earlier_sizes (λ s. Ok earlier_rules) (λ r. r ≡ earlier_rules) s refl (λ v rules transport. transport))
+
+pub transport_before_outlets : (bytes : List ℕ) → IfOk (settings_before_outlets bytes) (λ v. v.transport ≡ earlier_transport)
+unfolding settings_before_outlets
+transport_before_outlets =
+    of_file (λ v. v.transport ≡ earlier_transport) 28 (values_by sizes flush_rules) (λ s.
+    of_values (λ v. v.transport ≡ earlier_transport) sizes flush_rules (λ r. ⊤) s (anything_in_range (flush_rules s)) (λ v rules transport. transport))

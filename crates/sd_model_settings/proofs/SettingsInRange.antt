@@ -9,8 +9,8 @@ use Rattle.sd_model_settings.specs.Values.{flag, text, whole, is_prefix, is_fill
 use Rattle.sd_model_settings.specs.Entries.{thresholds, backends, classes, target, node}
 use Rattle.sd_model_settings.specs.TimerClasses.{class_names}
 use Rattle.sd_model_settings.specs.KnownNames.{unknown}
-use Rattle.sd_model_settings.specs.Settings.{SettingsFlaw, ◌>>=◌, Section, setting, within_product, Server, Addresses, Namespace, EntryLists, Sizes, FlushRules, top, inside_graphite, server, deletions, addresses, namespace, entry_lists, sizes, flush_rules, Settings, settings_in, unless_unknown, document, settings}
-use Rattle.sd_model_settings.specs.Ranges.{IsWithin, IsPrefix, IsHost, AreThresholds, AreBackends, AreClassNames, AreHistograms, AreTargets, AreNodes, ServerInRange, AddressesInRange, NamespaceInRange, EntryListsInRange, SizesInRange, FlushRulesInRange, InRange}
+use Rattle.sd_model_settings.specs.Settings.{SettingsFlaw, ◌>>=◌, Section, setting, within_product, Server, Addresses, Namespace, EntryLists, Sizes, FlushRules, Transport, top, inside_graphite, server, deletions, addresses, namespace, entry_lists, sizes, flush_rules, transport, Settings, settings_in, unless_unknown, document, settings}
+use Rattle.sd_model_settings.specs.Ranges.{IsWithin, IsPrefix, IsHost, AreThresholds, AreBackends, AreClassNames, AreHistograms, AreTargets, AreNodes, ServerInRange, AddressesInRange, NamespaceInRange, EntryListsInRange, SizesInRange, FlushRulesInRange, TransportInRange, InRange}
 use Rattle.sd_model_settings.proofs.ValuesInRange.{anything_in_range, bind_in_range, setting_in_range, whole_in_range}
 use Rattle.sd_model_settings.proofs.EntriesInRange.{is_prefix-prefix, is_host-host, prefix_in_range, filled_prefix_in_range, host_in_range, thresholds_in_range, backends_in_range, class_names_in_range, histogram_in_range, repeater_in_range, nodes_in_range}
 
@@ -112,6 +112,15 @@ flush_rules_in_range s =
     bind_in_range _ _ AreClassNames FlushRulesInRange (setting_in_range s (codes "calculatedTimerMetrics") class_names [] AreClassNames (record { few = omega arith; known = λ k d l. absurd (omega arith); distinct = refl }) class_names_in_range) (λ names n.
     record { gauges_max_ttl = g; calculated_timer_metrics = n }))
 
+pub transport_in_range : (s : Section) → IfOk (transport s) TransportInRange
+unfolding transport
+transport_in_range s =
+    whole_then s (codes "outlets") 0 64 0 _ TransportInRange (omega arith, omega arith) (λ outlets o.
+    whole_then s (codes "outletBytes") 65536 16777216 4194304 _ TransportInRange (omega arith, omega arith) (λ outlet_bytes b.
+    product_then s (codes "outletBytes") 268435456 outlets outlet_bytes _ TransportInRange (λ a.
+    whole_then s (codes "tcp_port") 0 65535 0 _ TransportInRange (omega arith, omega arith) (λ tcp_port t.
+    record { outlets = o.1; outlet_bytes = b; all_outlets = a; tcp_port = t.1 }))))
+
 pub settings_in_in_range : (s : Section) → IfOk (settings_in s) InRange
 unfolding settings_in
 settings_in_in_range s =
@@ -122,7 +131,8 @@ settings_in_in_range s =
     bind_in_range _ _ EntryListsInRange InRange (entry_lists_in_range s) (λ lists l.
     bind_in_range _ _ SizesInRange InRange (sizes_in_range s) (λ sizes z.
     bind_in_range _ _ FlushRulesInRange InRange (flush_rules_in_range s) (λ rules u.
-    record { server = r; addresses = a; namespace = n; lists = l; sizes = z; rules = u })))))))
+    bind_in_range _ _ TransportInRange InRange (transport_in_range s) (λ transport t.
+    record { server = r; addresses = a; namespace = n; lists = l; sizes = z; rules = u; transport = t }))))))))
 
 known_in_range : (name : Option (List ℕ)) (r : Result Settings SettingsFlaw) → IfOk r InRange → IfOk (unless_unknown name r) InRange
 known_in_range None r h = h
@@ -153,3 +163,6 @@ sizes_read s {v} e = IfOk-at_ok SizesInRange e (sizes_in_range s)
 
 pub flush_rules_read : (s : Section) {v : FlushRules} → flush_rules s ≡ Ok v → FlushRulesInRange v
 flush_rules_read s {v} e = IfOk-at_ok FlushRulesInRange e (flush_rules_in_range s)
+
+pub transport_read : (s : Section) {v : Transport} → transport s ≡ Ok v → TransportInRange v
+transport_read s {v} e = IfOk-at_ok TransportInRange e (transport_in_range s)

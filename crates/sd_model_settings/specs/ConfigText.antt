@@ -3,7 +3,7 @@ use Rattle.std.specs.Prelude.{ℕ, Bool, if◌then◌else◌, List, [], ◌∷�
 use Rattle.std.specs.List.{concat, join_with_byte}
 use Rattle.sd_model_text.specs.Numbers.{number_text, Limit, Below, Infinite}
 use Rattle.sd_model_settings.specs.Entries.{Classes, Target, Node}
-use Rattle.sd_model_settings.specs.Settings.{Server, Deletions, Addresses, Namespace, Sizes, FlushRules, Settings}
+use Rattle.sd_model_settings.specs.Settings.{Server, Deletions, Addresses, Namespace, Sizes, FlushRules, Transport, Settings}
 
 -- a line: a name, a colon, a space and a value
 abbrev pub line : List ℕ → List ℕ → List ℕ
@@ -91,6 +91,13 @@ rule_lines s =
     ∷ line (codes "calculatedTimerMetrics") (joined s.calculated_timer_metrics)
     ∷ []
 
+abbrev pub transport_lines : Transport → List (List ℕ)
+transport_lines s =
+    line (codes "outlets") (decimal s.outlets)
+    ∷ line (codes "outletBytes") (decimal s.outlet_bytes)
+    ∷ line (codes "tcp_port") (decimal s.tcp_port)
+    ∷ []
+
 -- the lines before those of entries
 abbrev pub front_lines : Settings → List (List ℕ)
 front_lines s = server_lines s.server ++ deletion_lines s.deletions ++ address_lines s.addresses ++ namespace_lines s.namespace
@@ -102,7 +109,7 @@ entry_lines s =
 
 -- the lines behind those of entries
 abbrev pub back_lines : Settings → List (List ℕ)
-back_lines s = size_lines s.sizes ++ rule_lines s.rules
+back_lines s = size_lines s.sizes ++ rule_lines s.rules ++ transport_lines s.transport
 
 -- the lines of all settings
 abbrev pub config_lines : Settings → List (List ℕ)

@@ -38,6 +38,7 @@ default_settings =
         run_flushes = 0;
       };
       rules = record { gauges_max_ttl = 1; calculated_timer_metrics = [] };
+      transport = record { outlets = 0; outlet_bytes = 4194304; tcp_port = 0 };
     }
 
 -- What a record is reckoned by: the interval of rates in milliseconds, the thresholds, the bins, and the names of the

@@ -1,16 +1,17 @@
--- What a file set before gauges could live longer, lines of timers were chosen, and a shard had more than 65,536 entries.
+-- What a file set before some of the settings were known: before gauges could live longer, lines of timers were chosen, and a
+-- shard had more than 65,536 entries; and then before backends had outlets and lines came in streams.
 use Rattle.std.specs.Prelude.{ℕ, nat_lt, if◌then◌else◌, List, [], take, length, codes, Result, Ok, Err}
 use Rattle.sd_model_settings.specs.Values.{whole}
 use Rattle.sd_model_settings.specs.KnownNames.{top_names, unknown_by}
-use Rattle.sd_model_settings.specs.Settings.{SettingsFlaw, OutOfRange, ◌>>=◌, Section, setting, top, server, deletions, addresses, namespace, entry_lists, Sizes, FlushRules, Settings, unless_unknown, document}
-
--- the names that were known then: all but the last two
-abbrev pub earlier_names : List (List ℕ)
-earlier_names = take 26 top_names
+use Rattle.sd_model_settings.specs.Settings.{SettingsFlaw, OutOfRange, ◌>>=◌, Section, setting, top, server, deletions, addresses, namespace, entry_lists, Sizes, sizes, FlushRules, flush_rules, Transport, Settings, unless_unknown, document}
 
 -- a gauge that goes when idle goes at the first swap, and no class of lines is chosen
 abbrev pub earlier_rules : FlushRules
 earlier_rules = record { gauges_max_ttl = 1; calculated_timer_metrics = [] }
+
+-- no text waits for a backend, and no port takes streams of lines
+abbrev pub earlier_transport : Transport
+earlier_transport = record { outlets = 0; outlet_bytes = 4194304; tcp_port = 0 }
 
 -- the sizes, with at most 65,536 entries and no rule on their product with the shards
 unfoldable pub earlier_sizes : Section → Result Sizes SettingsFlaw
@@ -24,21 +25,30 @@ earlier_sizes s = do
   run_flushes ← setting s (codes "runFlushes") (whole 0 1000000000) 0
   Ok (record { check_interval = check_interval; cache_size = cache_size; shards = shards; rows = rows; entries = entries; receivers = receivers; run_flushes = run_flushes })
 
--- the values that a file's table set, with the rules that were in force for all files
-unfoldable pub earlier_in : Section → Result Settings SettingsFlaw
-earlier_in s = do
+-- the values that a file's table set, by what its sizes and its rules were read as, and with no transport
+abbrev pub values_by : (Section → Result Sizes SettingsFlaw) → (Section → Result FlushRules SettingsFlaw) → Section → Result Settings SettingsFlaw
+values_by sizes rules s = do
   server-values ← server s
   deletions-values ← deletions s
   addresses-values ← addresses s
   namespace-values ← namespace s
   lists-values ← entry_lists s
-  sizes-values ← earlier_sizes s
-  Ok (record { server = server-values; deletions = deletions-values; addresses = addresses-values; namespace = namespace-values; lists = lists-values; sizes = sizes-values; rules = earlier_rules })
+  sizes-values ← sizes s
+  rules-values ← rules s
+  Ok (record { server = server-values; deletions = deletions-values; addresses = addresses-values; namespace = namespace-values; lists = lists-values; sizes = sizes-values; rules = rules-values; transport = earlier_transport })
 
--- the values that a file set then, or its first fault
-unfoldable pub earlier_settings : List ℕ → Result Settings SettingsFlaw
-earlier_settings bytes =
+-- the values that a file set, or its first fault, where so many of the names at its top were known
+abbrev pub settings_by : ℕ → (Section → Result Settings SettingsFlaw) → List ℕ → Result Settings SettingsFlaw
+settings_by count values bytes =
     if nat_lt 65536 (length bytes) then Err (OutOfRange (codes "file"))
     else (do
       doc ← document bytes
-      unless_unknown (unknown_by earlier_names doc) (earlier_in (top doc)))
+      unless_unknown (unknown_by (take count top_names) doc) (values (top doc)))
+
+-- before gauges could live longer: all names but the last five
+unfoldable pub earlier_settings : List ℕ → Result Settings SettingsFlaw
+earlier_settings = settings_by 26 (values_by earlier_sizes (λ s. Ok earlier_rules))
+
+-- before backends had outlets: all names but the last three
+unfoldable pub settings_before_outlets : List ℕ → Result Settings SettingsFlaw
+settings_before_outlets = settings_by 28 (values_by sizes flush_rules)

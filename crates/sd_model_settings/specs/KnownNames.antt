@@ -13,7 +13,7 @@ top_names =
     ∷ codes "address" ∷ codes "mgmt_address" ∷ codes "backends" ∷ codes "graphiteHost" ∷ codes "graphitePort" ∷ codes "graphite"
     ∷ codes "histogram" ∷ codes "repeater" ∷ codes "nodes" ∷ codes "checkInterval" ∷ codes "cacheSize" ∷ codes "shards"
     ∷ codes "rows" ∷ codes "entries" ∷ codes "receivers" ∷ codes "runFlushes" ∷ codes "gaugesMaxTTL"
-    ∷ codes "calculatedTimerMetrics" ∷ []
+    ∷ codes "calculatedTimerMetrics" ∷ codes "outlets" ∷ codes "outletBytes" ∷ codes "tcp_port" ∷ []
 
 -- the names in the table `graphite`
 abbrev pub graphite_names : List (List ℕ)

@@ -8,7 +8,7 @@ use Rattle.sd_model_settings.specs.Values.{is_host_byte, are_distinct}
 use Rattle.sd_model_text.specs.Numbers.{Limit, ascends}
 use Rattle.sd_model_settings.specs.Entries.{is_backend, is_limit, Classes, Target, Node}
 use Rattle.sd_model_settings.specs.TimerClasses.{is_class_name}
-use Rattle.sd_model_settings.specs.Settings.{Server, Addresses, Namespace, EntryLists, Sizes, FlushRules, Settings}
+use Rattle.sd_model_settings.specs.Settings.{Server, Addresses, Namespace, EntryLists, Sizes, FlushRules, Transport, Settings}
 
 -- a number from least to most
 abbrev pub IsWithin : ℕ → ℕ → ℕ → Type 0
@@ -127,6 +127,12 @@ pub record FlushRulesInRange (s : FlushRules) : Type 0 where
   pub gauges_max_ttl : IsWithin 1 1000000000 s.gauges_max_ttl
   pub calculated_timer_metrics : AreClassNames s.calculated_timer_metrics
 
+pub record TransportInRange (s : Transport) : Type 0 where
+  pub outlets : s.outlets ≤ 64
+  pub outlet_bytes : IsWithin 65536 16777216 s.outlet_bytes
+  pub all_outlets : s.outlets * s.outlet_bytes ≤ 268435456
+  pub tcp_port : s.tcp_port ≤ 65535
+
 -- Each setting is in its range.
 pub record InRange (s : Settings) : Type 0 where
   pub server : ServerInRange s.server
@@ -135,3 +141,4 @@ pub record InRange (s : Settings) : Type 0 where
   pub lists : EntryListsInRange s.lists
   pub sizes : SizesInRange s.sizes
   pub rules : FlushRulesInRange s.rules
+  pub transport : TransportInRange s.transport

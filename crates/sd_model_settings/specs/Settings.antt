@@ -60,7 +60,7 @@ within_product s name most earlier value =
     if nat_le (earlier * value) most then Ok value else Err (OutOfRange (shown (s.prefix ++ name)))
 
 -- The settings in the order in which they are tested, each on one line: its name, what it is read as with its
--- range, and its default. They stand in seven groups in that order.
+-- range, and its default. They stand in eight groups in that order.
 
 -- Ports, the time between two flushes in milliseconds, and the thresholds of timers.
 pub record Server : Type 0 where
@@ -182,6 +182,20 @@ flush_rules s = do
   calculated_timer_metrics ← setting s (codes "calculatedTimerMetrics") class_names []
   Ok (record { gauges_max_ttl = gauges_max_ttl; calculated_timer_metrics = calculated_timer_metrics })
 
+-- How many texts may wait for each backend and of how many bytes each may be, and the port of streams of lines; 0 is none.
+pub record Transport : Type 0 where
+  pub outlets : ℕ
+  pub outlet_bytes : ℕ
+  pub tcp_port : ℕ
+
+unfoldable pub transport : Section → Result Transport SettingsFlaw
+transport s = do
+  outlets ← setting s (codes "outlets") (whole 0 64) 0
+  per_outlet ← setting s (codes "outletBytes") (whole 65536 16777216) 4194304
+  outlet_bytes ← within_product s (codes "outletBytes") 268435456 outlets per_outlet
+  tcp_port ← setting s (codes "tcp_port") (whole 0 65535) 0
+  Ok (record { outlets = outlets; outlet_bytes = outlet_bytes; tcp_port = tcp_port })
+
 -- The values of all settings.
 pub record Settings : Type 0 where
   pub server : Server
@@ -191,6 +205,7 @@ pub record Settings : Type 0 where
   pub lists : EntryLists
   pub sizes : Sizes
   pub rules : FlushRules
+  pub transport : Transport
 
 -- the values that a file's table sets
 unfoldable pub settings_in : Section → Result Settings SettingsFlaw
@@ -202,7 +217,8 @@ settings_in s = do
   lists-values ← entry_lists s
   sizes-values ← sizes s
   rules-values ← flush_rules s
-  Ok (record { server = server-values; deletions = deletions-values; addresses = addresses-values; namespace = namespace-values; lists = lists-values; sizes = sizes-values; rules = rules-values })
+  transport-values ← transport s
+  Ok (record { server = server-values; deletions = deletions-values; addresses = addresses-values; namespace = namespace-values; lists = lists-values; sizes = sizes-values; rules = rules-values; transport = transport-values })
 
 -- a name that isn't known comes before all settings
 abbrev pub unless_unknown : Option (List ℕ) → Result Settings SettingsFlaw → Result Settings SettingsFlaw

@@ -2,7 +2,7 @@ ghost use Rattle.std.specs.Prelude.{◌≡◌, ◌∷◌, [], pos, codes, Ok, Er
 ghost use Rattle.sd_model_text.specs.Numbers.{Below, Infinite};
 ghost use Rattle.sd_model_settings.specs.Settings.{settings, Unknown, WrongKind, OutOfRange, NotToml};
 ghost use Rattle.sd_model_settings.specs.Defaults.{default_settings};
-ghost use Rattle.sd_model_settings.specs.ConfigText.{server_lines, deletion_lines, address_lines, namespace_lines, size_lines, rule_lines, histogram_line, repeater_line, node_line};
+ghost use Rattle.sd_model_settings.specs.ConfigText.{server_lines, deletion_lines, address_lines, namespace_lines, size_lines, rule_lines, transport_lines, histogram_line, repeater_line, node_line};
 
 /// What files set.
 #[tactic(auto, unfolding(crate::proofs::OnLiterals::settings_on_literals))]
@@ -26,6 +26,14 @@ pub fn accepted_files()
         ≡ Ok (record default_settings {
           sizes = record default_settings.sizes { shards = 2; entries = 1048576 };
         }) }
+    ensures transport { settings (codes "outlets = 2\noutletBytes = 65536\ntcp_port = 8127\n")
+        ≡ Ok (record default_settings {
+          transport = record { outlets = 2; outlet_bytes = 65536; tcp_port = 8127 };
+        }) }
+    ensures most_outlets { settings (codes "outlets = 64\n")
+        ≡ Ok (record default_settings {
+          transport = record default_settings.transport { outlets = 64 };
+        }) }
 {}
 
 /// The first faults of files.
@@ -48,6 +56,9 @@ pub fn refused_files()
     ensures class_twice { settings (codes "calculatedTimerMetrics = ['sum', 'sum']\n")
         ≡ Err (OutOfRange (codes "calculatedTimerMetrics")) }
     ensures no_list { settings (codes "calculatedTimerMetrics = 3\n") ≡ Err (WrongKind (codes "calculatedTimerMetrics")) }
+    ensures too_many_outlets { settings (codes "outlets = 65\n") ≡ Err (OutOfRange (codes "outlets")) }
+    ensures too_many_bytes { settings (codes "outlets = 17\noutletBytes = 16777216\ntcp_port = true\n")
+        ≡ Err (OutOfRange (codes "outletBytes")) }
 {}
 
 /// The lines of the reply to `config` where nothing is set, and of entries.
@@ -99,6 +110,11 @@ pub fn config_lines_of_files()
     ensures chosen_lines { rule_lines (record { gauges_max_ttl = 2; calculated_timer_metrics = codes "count" ∷ codes "upper_percent" ∷ [] })
         ≡ codes "gaugesMaxTTL: 2\n"
         ∷ codes "calculatedTimerMetrics: count,upper_percent\n"
+        ∷ [] }
+    ensures transport_defaults { transport_lines default_settings.transport
+        ≡ codes "outlets: 0\n"
+        ∷ codes "outletBytes: 4194304\n"
+        ∷ codes "tcp_port: 0\n"
         ∷ [] }
     ensures a_histogram { histogram_line (record { metric = codes "web"; limits = Below (pos 2500000) ∷ Infinite ∷ [] })
         ≡ codes "histogram: web 2.5,inf\n" }

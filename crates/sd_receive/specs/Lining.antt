@@ -1,5 +1,5 @@
 -- The reading of a door's streams.
-use Rattle.std.specs.Prelude.{◌≡◌, ℕ, ◌<◌, true, false, ◌||◌, List, length}
+use Rattle.std.specs.Prelude.{◌≡◌, ℕ, ◌+◌, ◌<◌, true, false, ◌||◌, List, length}
 use Rattle.sd_model_outside.specs.Outside.{Object}
 use Rattle.sd_model_shard.specs.History.{History}
 use Rattle.sd_model_record.specs.Counts.{Amounts, Part, of_tally}
@@ -12,7 +12,7 @@ use Rattle.sd_model_stream.specs.Streams.{FilesLines, IsStreamOf, ServesStreams,
 use Rattle.sd_desk.specs.Tally.{tally_of}
 use Rattle.sd_outside.specs.declared.door.DoorEnd.TheVariants.{Worn}
 use Rattle.sd_pool.specs.Pool.{IsSeatOf, own_at, shards_of, who_is}
-use Rattle.sd_door.specs.Keeping.{EndsKeeping}
+use Rattle.sd_door.specs.Keeping.{EndsAfter}
 use Rattle.sd_receive.specs.declared.line_visitor.LineVisitor.{LineVisitor}
 use Rattle.sd_receive.specs.declared.lining.Lined.{Lined}
 
@@ -50,10 +50,12 @@ module _ {C : Type 0} where
     pub taken_is : new.account.taken ≡ counted old.account.taken taken
     pub worn_is : new.is_worn ≡ (old.is_worn || is_worn stream.ended)
 
--- What the reading of a door's streams did, and how it ended: where a stream was worn, by that, and else as the keeping of the
--- door did.
+-- What the reading of a door's streams did, and how it ended, after so many turns of the door: where a stream was worn, by that, and
+-- else as the keeping of the door did.
 pub record KeepsLines (shards run_flushes : ℕ) (own own_now : ℕ → History) (door door_now : Object) (part part_now : Part) (got : Lined) : Type 0 where
   pub streams : List Stream
   pub serves : ServesStreams shards streams own own_now door door_now part part_now (tally_of got.tally) got.taken
+  pub turned : ℕ
+  pub turns : door_now.turns ≡ door.turns + turned
   pub worn : any_worn streams ≡ true → got.ended ≡ Worn most_turns
-  pub ends : any_worn streams ≡ false → EndsKeeping run_flushes got.ended door door_now part_now
+  pub ends : any_worn streams ≡ false → EndsAfter run_flushes got.ended door_now part_now turned

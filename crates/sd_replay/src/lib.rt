@@ -12,4 +12,4 @@ pub use fault::ScriptFault;
 pub use room::ReplayRoom;
 pub use run::{ReplayEnd, replay};
 pub use settings::{limits_of, names_backend, policy_of, targets_of};
-pub use totals::{Totals, push_total, write_total, write_totals};
+pub use totals::{Totals, push_total, totals_text, write_total, write_totals};

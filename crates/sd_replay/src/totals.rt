@@ -64,8 +64,9 @@ pub fn push_total(name: &[u8], n: u128, line: &mut Line)
 }
 
 /// The lines of the totals.
-fn totals_text(totals: &Totals) -> Line
-    ensures { result.items ≡ lines_of (totals_view totals.now) }
+pub fn totals_text(totals: &Totals) -> Line
+    ensures text { result.items ≡ lines_of (totals_view totals.now) }
+    ensures len { length result.items ≤ 640 }
 {
     let mut line = Line::new();
     push_total(b"packets", totals.packets, &mut line);

@@ -5,7 +5,7 @@ use Rattle.std.specs.List.{AllByRecursion}
 use Rattle.std.proofs.lemmas.List.Elements.{All-nil, All-cons}
 use Rattle.std.proofs.lemmas.List.Sums.{sum_by-cons}
 use Rattle.sd_model_outside.specs.Outside.{Object}
-use Rattle.sd_model_text.specs.Lines.{pieces, bad_of}
+use Rattle.sd_model_text.specs.Lines.{Sample, pieces, bad_of}
 use Rattle.sd_model_shard.specs.Whereabouts.{dropped_in, told_by}
 use Rattle.sd_model_record.specs.Counts.{Count, RoundsMade, Part, HasCounted, plus, of_tally, of_sends}
 use Rattle.sd_model_record.specs.Desk.{last_counted}
@@ -162,13 +162,16 @@ module _ {D L : Type 0} (seen : D → Object) (wire_seen : L → Object) (pool :
   made_since : (x y : Post D L) (ran : Ran x y) → ((i : ℕ) → own_at x.seat i ≡ []) → (i : ℕ) → i < shards_of pool → own_at y.seat i ≡ ran.receives.takes.filed.acts i
   made_since x y ran none i below = ran.receives.takes.filed.added i below ∙ ap (λ h. h ++ ran.receives.takes.filed.acts i) (none i)
 
-  pub all_asked : (xs ys : List (Post D L)) (all : Pairs Ran xs ys) → AreNew xs → (i : ℕ) → i < shards_of pool → (r : ℕ) → r < length (map (λ (s : Seat). own_at s i) (map seat_in ys))
-      → events_of (get_or (map (λ (s : Seat). own_at s i) (map seat_in ys)) r []) ≡ asks (shards_of pool) i (get_or (map brought_by (receptions_of xs ys all)) r [])
-  all_asked [] [] all new i below r inside = absurd (omega (arith, inside))
-  all_asked [] (y ∷ ys) all new i below r inside = absurd all
-  all_asked (x ∷ xs) [] all new i below r inside = absurd all
-  all_asked (x ∷ xs) (y ∷ ys) all new i below zero inside = ap events_of (made_since x y all.0 new.0.0 i below) ∙ all.0.receives.takes.filed.asked i
-  all_asked (x ∷ xs) (y ∷ ys) all new i below (suc r) inside = all_asked xs ys all.1 new.1 i below r (omega (arith, inside))
+  -- each of them asked for what its receiver brought, and each of the seats behind them for what was brought there
+  pub all_asked : (behind : List Seat) (more : List (List Sample)) (i : ℕ) → i < shards_of pool
+      → ((r : ℕ) → r < length (map (λ (s : Seat). own_at s i) behind) → events_of (get_or (map (λ (s : Seat). own_at s i) behind) r []) ≡ asks (shards_of pool) i (get_or more r []))
+      → (xs ys : List (Post D L)) (all : Pairs Ran xs ys) → AreNew xs → (r : ℕ) → r < length (map (λ (s : Seat). own_at s i) (map seat_in ys ++ behind))
+      → events_of (get_or (map (λ (s : Seat). own_at s i) (map seat_in ys ++ behind)) r []) ≡ asks (shards_of pool) i (get_or (map brought_by (receptions_of xs ys all) ++ more) r [])
+  all_asked behind more i below by_behind [] [] all new r inside = by_behind r inside
+  all_asked behind more i below by_behind [] (y ∷ ys) all new r inside = absurd all
+  all_asked behind more i below by_behind (x ∷ xs) [] all new r inside = absurd all
+  all_asked behind more i below by_behind (x ∷ xs) (y ∷ ys) all new zero inside = ap events_of (made_since x y all.0 new.0.0 i below) ∙ all.0.receives.takes.filed.asked i
+  all_asked behind more i below by_behind (x ∷ xs) (y ∷ ys) all new (suc r) inside = all_asked behind more i below by_behind xs ys all.1 new.1 r (omega (arith, inside))
 
   -- the drops of a seat
   abbrev pub drops_of : Seat → ℕ
@@ -182,7 +185,7 @@ module _ {D L : Type 0} (seen : D → Object) (wire_seen : L → Object) (pool :
       sum_by-range (λ i. told_by dropped_in (takes.filed.acts i)) (λ i. told_by dropped_in (own_at y.seat i)) 0 (shards_of pool)
       (λ i below. ap (told_by dropped_in) (sym (made_since x y ran none i (omega (arith, below))))) in
       let tally = takes.filed.tally_is ∙ ap (λ n. tally_of (length takes.read) (sum_by (λ d. length (pieces d)) takes.read) (sum_by bad_of takes.read) n) drops in
-      exact_share (length takes.read) (sum_by (λ d. length (pieces d)) takes.read) (sum_by bad_of takes.read) (drops_of y.seat) (failed_sends takes.sendings) (part_of x.own) (part_of y.own)
+      exact_share (length takes.read) (sum_by (λ d. length (pieces d)) takes.read) (sum_by bad_of takes.read) (drops_of y.seat) (of_sends (failed_sends takes.sendings)) (part_of x.own) (part_of y.own)
       (subst (λ (t : Tally). HasCounted (plus (of_tally t) (of_sends (failed_sends takes.sendings))) (part_of x.own) (part_of y.own)) tally takes.counted) zero_shares count few
 
   pub all_shares : (xs ys : List (Post D L)) (all : Pairs Ran xs ys) → AreNew xs → (count : Count) → AllByRecursion (λ (o : DeskSeat). (part_of o).seen count < last_counted) (map own_in ys)

@@ -1,5 +1,6 @@
 -- What a server's room has for its posts, and what is left behind them.
-use Rattle.std.proofs.Common.{◌≡◌, ℕ, ◌+◌, ◌*◌, ◌<◌, ◌^◌, List, [], ◌∷◌, ◌++◌, length, map, flat_map, All, sym, ap, ◌∙◌, arith, length-append}
+use Rattle.std.proofs.Common.{◌≡◌, ℕ, ◌+◌, ◌*◌, ◌<◌, ◌^◌, Bool, true, false, List, [], ◌∷◌, ◌++◌, length, map, flat_map, get_or, All, refl, sym, ap, subst, ◌∙◌, arith, append_assoc, length-append}
+use Rattle.std.specs.Prelude.{Option, Some, None, IfSome, option_to_list, vec_len}
 use Rattle.std.specs.List.{AllByRecursion}
 use Rattle.std.proofs.Math.Nat.{suc-mul, zero-mul}
 use Rattle.std.proofs.lemmas.List.{length-map}
@@ -8,12 +9,18 @@ use Rattle.sd_seats.specs.Lists.{span}
 use Rattle.sd_pool.specs.Pool.{IsNewSeatOf}
 use Rattle.sd_pool.specs.declared.pool.Pool.{Pool}
 use Rattle.sd_pool.specs.declared.seat.Seat.{Seat}
-use Rattle.sd_pool.proofs.AlongLemmas.{span_long}
+use Rattle.sd_pool.proofs.AlongLemmas.{AllByRecursion-back, AllByRecursion-front, span_long}
 use Rattle.sd_receive.specs.Posts.{IsReady}
 use Rattle.sd_receive.specs.declared.post.Post.{Post}
 use Rattle.sd_shared_desk.specs.Shared.{IsNewSeatOf as IsNewDeskSeatOf, OwnSeat as DeskSeat}
 use Rattle.sd_shared_desk.specs.declared.shared_desk.SharedDesk.{SharedDesk}
+use Rattle.sd_serve.specs.LinePost.{HasLineRoom, IsLineReady, line_keepers, line_owns, line_rooms, line_seats, lines_in}
+use Rattle.sd_serve.specs.OutRoom.{HasOutRooms, IsOutRoom, has_rooms}
 use Rattle.sd_serve.specs.Parts.{IsFitted, own_in, seat_in, wires_in}
+use Rattle.sd_serve.specs.declared.line_post.LinePost.{LinePost}
+use Rattle.sd_serve.specs.declared.line_post.LineRoom.{LineRoom}
+use Rattle.sd_serve.specs.declared.out_room.OutRooms.{OutRooms}
+use Rattle.sd_serve.proofs.LineLemmas.{IsNewLine}
 use Rattle.sd_serve.proofs.PostLemmas.{AreNew}
 
 -- as many as have numbers
@@ -37,6 +44,55 @@ module _ {D L : Type 0} (pool : Pool) (desk : SharedDesk) where
       (record { room = let big = fitted.0.1 in omega (arith, big, x.buf.ok.0); few_wires = let len = fitted.0.0 in omega (arith, len, few, x.wires.ok.0); seat_is = new_seats.0.seat_is; own_is = new_owns.0.own })
       (ready_posts run few xs seats owns new_seats.1 new_owns.1 fitted.1)
 
+-- Parts were put back before what was left.
+pub put_back : {X : Type 0} (all front part mid rest left : List X) → all ≡ front ++ mid → mid ≡ part ++ left → left ≡ rest → all ≡ (front ++ part) ++ rest
+put_back {X} all front part mid rest left first second third =
+    first ∙ ap (λ (l : List X). front ++ l) (second ∙ ap (λ (l : List X). part ++ l) third) ∙ sym (append_assoc front part rest)
+
+-- Behind those in front stand those of one part, of which the same holds.
+pub part_behind : {X : Type 0} (P : X → Type 0) (all front mid part rest : List X) → AllByRecursion P all → all ≡ front ++ mid → mid ≡ part ++ rest → AllByRecursion P part
+part_behind P all front mid part rest each whole behind =
+    AllByRecursion-front P part rest (subst (AllByRecursion P) behind (AllByRecursion-back P front mid (subst (AllByRecursion P) whole each)))
+
+-- the same, and two more behind them
+pub parts_behind : {X : Type 0} (P : X → Type 0) (all front mid part rest left last : List X) (one two : X) → AllByRecursion P all → all ≡ front ++ mid → mid ≡ part ++ rest → rest ≡ one ∷ left → left ≡ two ∷ last
+    → AllByRecursion P part × P one × P two
+parts_behind {X} P all front mid part rest left last one two each whole behind first second =
+    let back : AllByRecursion P (part ++ one ∷ two ∷ last) = subst (AllByRecursion P) (behind ∙ ap (λ (l : List X). part ++ l) (first ∙ ap (λ (l : List X). one ∷ l) second)) (AllByRecursion-back P front mid (subst (AllByRecursion P) whole each)) in
+    let ends = AllByRecursion-back P part (one ∷ two ∷ last) back in
+    (AllByRecursion-front P part (one ∷ two ∷ last) back, ends.0, ends.1.0)
+
+-- there is room for as many keepers of lines as there are
+pub line_there : (streams : Bool) (room : Option LineRoom) → HasLineRoom streams room → length (lines_in room) ≡ line_keepers streams
+line_there false None h = refl
+line_there false (Some room) h = absurd h
+line_there true None h = absurd h
+line_there true (Some room) h = refl
+
+-- a post for each room
+pub line_long : (post : Option LinePost) (room : Option LineRoom) → line_rooms post ≡ lines_in room → length (option_to_list post) ≡ length (lines_in room)
+line_long post room is = sym (length-map (option_to_list post) (λ (p : LinePost). p.room)) ∙ ap length is
+
+-- and as many seats of both kinds
+pub lines_long : (post : Option LinePost) (room : Option LineRoom) → line_rooms post ≡ lines_in room → (length (line_seats post) ≡ length (lines_in room)) × (length (line_owns post) ≡ length (lines_in room))
+lines_long post room is =
+    (length-map (option_to_list post) (λ (p : LinePost). p.seat) ∙ line_long post room is, length-map (option_to_list post) (λ (p : LinePost). p.own) ∙ line_long post room is)
+
+-- each room can be read into
+line_room : (streams : Bool) (room : Option LineRoom) (r : LineRoom) → HasLineRoom streams room → r ∷ [] ≡ lines_in room → 0 < vec_len r.buf
+line_room streams None r h is = absurd (cc)
+line_room false (Some room) r h is = absurd h
+line_room true (Some room) r h is = subst (λ (q : LineRoom). 0 < vec_len q.buf) (sym (ap (λ rooms. get_or rooms 0 r) is)) h
+
+pub line_ready : (pool : Pool) (desk : SharedDesk) (streams : Bool) (room : Option LineRoom) (post : Option LinePost) → HasLineRoom streams room → line_rooms post ≡ lines_in room → AllByRecursion (IsNewSeatOf pool) (line_seats post) → AllByRecursion (IsNewDeskSeatOf desk) (line_owns post)
+    → IfSome post (IsLineReady pool desk)
+line_ready pool desk streams room None has is seats owns = tt
+line_ready pool desk streams room (Some p) has is seats owns = record { seat_is = seats.0.seat_is; own_is = owns.0.own; room = line_room streams room p.room has is }
+
+pub line_new : (pool : Pool) (desk : SharedDesk) (post : Option LinePost) → AllByRecursion (IsNewSeatOf pool) (line_seats post) → AllByRecursion (IsNewDeskSeatOf desk) (line_owns post) → IsNewLine post
+line_new pool desk None seats owns = tt
+line_new pool desk (Some p) seats owns = (seats.0.own, owns.0.share)
+
 -- how many wires posts have together
 pub wires_of_posts : {D L : Type 0} (run : ℕ) (xs : List (Post D L)) → AllByRecursion (IsFitted run) xs → length (flat_map wires_in xs) ≡ length xs * run
 wires_of_posts run [] fitted = sym (zero-mul run)
@@ -46,3 +102,17 @@ wires_of_posts run (x ∷ xs) fitted =
     let len = fitted.0.0 in
     let more = suc-mul (length xs) run in
     both ∙ omega (arith, rest, len, more)
+
+-- there is room for outlets where there are any
+pub rooms_there : (outlets : Bool) (rooms : Option OutRooms) → HasOutRooms outlets rooms → has_rooms rooms ≡ outlets
+rooms_there false None h = refl
+rooms_there false (Some rooms) h = absurd h
+rooms_there true None h = absurd h
+rooms_there true (Some rooms) h = refl
+
+-- and nothing was sent there
+pub rooms_ready : (outlets : Bool) (rooms : Option OutRooms) → HasOutRooms outlets rooms → IfSome rooms (λ r. IsOutRoom r.graphite × IsOutRoom r.console)
+rooms_ready false None h = tt
+rooms_ready false (Some rooms) h = absurd h
+rooms_ready true None h = absurd h
+rooms_ready true (Some rooms) h = h

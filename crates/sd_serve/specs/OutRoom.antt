@@ -1,11 +1,12 @@
 -- What an outlet's room was opened for, and what is done with its ends.
-use Rattle.std.specs.Prelude.{◌≡◌, Bool, true, false, [], Option, Some, None}
+use Rattle.std.specs.Prelude.{◌≡◌, Bool, true, false, [], Option, Some, None, ⊤}
 use Rattle.sd_outlet.specs.declared.feed.Feed.{Feed}
 use Rattle.sd_outlet.specs.declared.outlet.Outlet.{Outlet}
 use Rattle.sd_outlet.specs.Drain.{IsDrainOf, got}
 use Rattle.sd_outlet.specs.Feed.{IsFeedOf, IsNew, sends_of, sent, stopped_at}
 use Rattle.sd_flush.specs.declared.outs.Lead.{Lead}
 use Rattle.sd_serve.specs.declared.out_room.OutRoom.{OutRoom}
+use Rattle.sd_serve.specs.declared.out_room.OutRooms.{OutRooms}
 
 -- the outlet
 abbrev pub outlet_in : OutRoom → Outlet
@@ -21,6 +22,18 @@ pub record IsOutRoom (room : OutRoom) : Type 0 where
   pub is_new : IsNew room.feed
   pub drain_is : IsDrainOf room.outlet room.drain
   pub none_got : got room.drain ≡ []
+
+-- Where there are outlets, both are there, and nothing was sent or got; where there are none, there is no room for them.
+abbrev pub HasOutRooms : Bool → Option OutRooms → Type 0
+HasOutRooms false None = ⊤
+HasOutRooms false (Some rooms) = ⊥
+HasOutRooms true None = ⊥
+HasOutRooms true (Some rooms) = IsOutRoom rooms.graphite × IsOutRoom rooms.console
+
+-- whether there are outlets
+abbrev pub has_rooms : Option OutRooms → Bool
+has_rooms None = false
+has_rooms (Some rooms) = true
 
 -- The feed is in a lead, where the backend is used.
 pub record IsLent (o : Outlet) (f : Feed) (lead : Option Lead) : Type 0 where

@@ -1,5 +1,5 @@
 -- What a server's room was opened for.
-use Rattle.std.specs.Prelude.{◌≡◌, ℕ, ◌+◌, ◌≤◌, [], All, length, map, vec_capacity}
+use Rattle.std.specs.Prelude.{◌≡◌, ℕ, ◌+◌, ◌≤◌, nat_lt, Bool, [], All, length, map, vec_capacity}
 use Rattle.std.specs.List.{AllByRecursion}
 use Rattle.sd_model_shard.specs.Shard as model
 use Rattle.sd_model_record.specs.Callers.{administrator, flusher}
@@ -11,22 +11,36 @@ use Rattle.sd_pool.specs.Pool.{IsNewSeatOf, IsRoomOf as IsClosingRoomOf, limits_
 use Rattle.sd_shared_desk.specs.Shared.{IsNewSeatOf as IsNewDeskSeatOf, number_of_seat, opened_with, seats_of, start_of}
 use Rattle.sd_flush.specs.Tables.{AreTablesFor}
 use Rattle.sd_session.specs.Space.{IsSpaceFor}
+use Rattle.sd_serve.specs.LinePost.{HasLineRoom, line_keepers}
+use Rattle.sd_serve.specs.OutRoom.{HasOutRooms}
 use Rattle.sd_serve.specs.Parts.{HasPlace}
 use Rattle.sd_serve.specs.declared.room.ServerRoom.{ServerRoom}
 use Rattle.sd_serve.specs.declared.room.Sizes.{Sizes}
 
--- how many shards, receivers, and wires of each receiver there are, and what goes by each shard
+-- How many shards, receivers, and wires of each receiver there are, whether lines of streams are read, how many buffers each outlet
+-- has, none where there are no outlets, and how many bytes each buffer, and what goes by each shard.
 pub record Sizing : Type 0 where
   pub limits : model.Limits
   pub policy : model.Policy
   pub shards : ℕ
   pub receivers : ℕ
   pub wires : ℕ
+  pub streams : Bool
+  pub outlets : ℕ
+  pub outlet_bytes : ℕ
 
 -- sizes of the code, as contracts read them
 abbrev pub sizing_of : Sizes → Sizing
 sizing_of s =
-    record { limits = limits_seen s.limits; policy = policy_seen s.policy; shards = s.shards; receivers = s.receivers; wires = s.wires }
+    record { limits = limits_seen s.limits; policy = policy_seen s.policy; shards = s.shards; receivers = s.receivers; wires = s.wires; streams = s.streams; outlets = s.outlets; outlet_bytes = s.outlet_bytes }
+
+-- whether there are outlets
+abbrev pub with_outlets : Sizing → Bool
+with_outlets sizing = nat_lt 0 sizing.outlets
+
+-- how many callers submit samples: the receivers, and the keeper of lines, if there is one
+abbrev pub submitters : Sizing → ℕ
+submitters sizing = sizing.receivers + line_keepers sizing.streams
 
 -- sizes that a server can be opened for
 pub record AreSizes (sizing : Sizing) : Type 0 where
@@ -36,6 +50,7 @@ pub record AreSizes (sizing : Sizing) : Type 0 where
   pub some_receivers : 1 ≤ sizing.receivers
   pub few_receivers : sizing.receivers ≤ 16
   pub few_wires : sizing.wires ≤ 16
+  pub some_bytes : 1 ≤ sizing.outlet_bytes
 
 -- the sizes that a room was opened for
 abbrev pub sizing_in : {D L : Type 0} → ServerRoom D L → Sizing
@@ -46,26 +61,29 @@ abbrev pub start_in : {D L : Type 0} → ServerRoom D L → ℕ
 start_in room = start_of room.desk
 
 -- The room is that of a server of its sizes, which has done nothing: it has a pool and its seats, a desk and as many seats as
--- there are receivers and two more, what flusher and sessions work with, and the room of each receiver.
+-- submit samples and two more, what flusher and sessions work with, the room of each receiver, and that of the keeper of lines and of
+-- outlets, if there are any.
 pub record IsRoom {D L : Type 0} (room : ServerRoom D L) : Type 0 where
   pub sizes_are : AreSizes (sizing_in room)
   pub shards : shards_of room.pool ≡ (sizing_in room).shards
   pub limits : limits_of room.pool ≡ (sizing_in room).limits
   pub policy : policy_of room.pool ≡ (sizing_in room).policy
-  pub receivers : receivers_of room.pool ≡ (sizing_in room).receivers
-  pub callers : map who_is room.seats.receivers.items ≡ span 0 (sizing_in room).receivers
+  pub receivers : receivers_of room.pool ≡ submitters (sizing_in room)
+  pub callers : map who_is room.seats.receivers.items ≡ span 0 (submitters (sizing_in room))
   pub flushes : who_is room.seats.flusher ≡ flusher
   pub commands : who_is room.seats.admin ≡ administrator
   pub seats : AllByRecursion (IsNewSeatOf room.pool) (seats_in room.seats)
   pub closing : IsClosingRoomOf room.pool room.seats.room
   pub desk : opened_with room.desk ≡ new_desk (start_in room)
-  pub desk_seats : seats_of room.desk ≡ (sizing_in room).receivers + 2
-  pub numbers : map number_of_seat room.owns.items ≡ span 0 ((sizing_in room).receivers + 2)
+  pub desk_seats : seats_of room.desk ≡ submitters (sizing_in room) + 2
+  pub numbers : map number_of_seat room.owns.items ≡ span 0 (submitters (sizing_in room) + 2)
   pub owns : All (IsNewDeskSeatOf room.desk) room.owns.items
   pub tables : AreTablesFor (sizing_in room).limits (sizing_in room).shards room.tables
   pub space : IsSpaceFor (sizing_in room).limits (sizing_in room).shards room.space
   pub places : length room.rooms.items ≡ (sizing_in room).receivers
   pub place_each : All (HasPlace (sizing_in room).wires) room.rooms.items
+  pub lines : HasLineRoom (sizing_in room).streams room.lines
+  pub outs : HasOutRooms (with_outlets (sizing_in room)) room.outs
   pub no_post : room.posts.items ≡ []
   pub post_room : (sizing_in room).receivers ≤ vec_capacity room.posts
   pub no_end : room.ends.items ≡ []

@@ -1,5 +1,5 @@
 -- What a server goes by, and what its run leaves.
-use Rattle.std.specs.Prelude.{◌≡◌, ℕ, ◌<◌, List, length, map, get_or}
+use Rattle.std.specs.Prelude.{◌≡◌, ℕ, ◌<◌, List, length, map, get_or, option_to_list}
 use Rattle.sd_model_outside.specs.Outside.{Object}
 use Rattle.sd_model_settings.specs.Defaults.{Names}
 use Rattle.sd_model_settings.specs.Settings as file
@@ -17,7 +17,8 @@ use Rattle.sd_plan.specs.Plan.{plan_view}
 use Rattle.sd_plan.specs.declared.reckoning.Reckoning.{Reckoning}
 use Rattle.sd_pool.specs.Books.{IsBookOf, no_book}
 use Rattle.sd_flush.specs.Flushing.{back_of, uses}
-use Rattle.sd_serve.specs.Room.{Sizing}
+use Rattle.sd_serve.specs.Room.{Sizing, with_outlets}
+use Rattle.sd_serve.specs.Through.{AreCounted, has_counts}
 use Rattle.sd_serve.specs.declared.serving.Served.{Served}
 
 -- an end of a receiver or of the flusher, as the definitions have it
@@ -41,25 +42,30 @@ terms_of sizing plan names settings backs run_flushes =
       policy = sizing.policy;
       form = record { shards = sizing.shards; plan = plan_view plan; names = names };
       uses = uses backs;
+      outlets = with_outlets sizing;
       settings = settings;
       receivers = sizing.receivers;
       wires = sizing.wires;
+      streams = sizing.streams;
       run_flushes = run_flushes;
     }
 
 -- what is seen of the objects of a server
-abbrev pub objects_of : {D L P B E : Type 0} → (D → Object) → (L → Object) → (P → Object) → (B → Object) → (E → Object) → List D → List L → P → Backs B → E → Objects
-objects_of source_seen wire_seen beat_seen back_seen door_seen packets wires beat backs door =
-    record { sources = map source_seen packets; wires = map wire_seen wires; beat = beat_seen beat; backs = back_of back_seen backs; door = door_seen door }
+abbrev pub objects_of : {D L P B E S : Type 0} → (D → Object) → (L → Object) → (P → Object) → (B → Object) → (E → Object) → (S → Object) → List D → List L → P → Backs B → E → S → Objects
+objects_of source_seen wire_seen beat_seen back_seen door_seen streams_seen packets wires beat backs door streams =
+    record { sources = map source_seen packets; wires = map wire_seen wires; beat = beat_seen beat; backs = back_of back_seen backs; door = door_seen door; streams = streams_seen streams }
 
--- A server was run, the accounting theorem holds of its course, and it left how its workers ended, the numbers of each shard,
--- and the desk.
+-- A server was run, the accounting theorem holds of its course, and it left how its workers ended, what outlets counted, if there
+-- were any, the numbers of each shard, and the desk.
 pub record HasServed (terms : Terms) (says : ℕ → Type 0) (old new : Objects) (served : Served) : Type 0 where
   pub course : Course
   pub theorem : ServerTheorem terms says course old new
   pub received : map end_of served.received.items ≡ map (λ r. r.ended) course.receptions
   pub flusher : end_of served.ends.flusher ≡ course.flusher_ended
   pub keeper : door_end_of served.ends.keeper ≡ course.keeper_ended
+  pub liner : map door_end_of (option_to_list served.ends.liner) ≡ map (λ l. l.ended) course.linings
+  pub outlets : has_counts served.outs ≡ terms.outlets
+  pub outs : AreCounted served.outs course.outflows
   pub desk : served.desk ≡ course.desk
   pub shards : length served.books.items ≡ terms.form.shards
   pub books : (i : ℕ) → i < terms.form.shards → IsBookOf (get_or served.books.items i no_book) (state_after terms.limits terms.policy (course.histories i))

@@ -8,7 +8,7 @@ use Rattle.sd_outlet.specs.Worked.{HasWorked}
 use Rattle.sd_flush.specs.Offers.{HasOffered, texts_queued}
 use Rattle.sd_serve.specs.OutRoom.{feed_in, outlet_in}
 use Rattle.sd_serve.specs.declared.out_room.OutRoom.{OutRoom}
-use Rattle.sd_serve.specs.declared.workers_out.OutEnds.{OutEnds}
+use Rattle.sd_serve.specs.declared.workers_out.OutCounts.{OutCounts}
 
 -- These texts were offered at the outlet, in order, and so many were skipped. Each of the others was one round of the backend, in
 -- order, written whole or missed.
@@ -23,8 +23,8 @@ HasWritten true room texts skipped w old new = WritesQueued room texts skipped w
 HasWritten false room texts skipped w old new = (skipped ≡ 0) × (new ≡ old) × (w.written ≡ 0) × (w.faults ≡ 0)
 
 -- what was written of a backend's texts
-abbrev pub written_by : (Backend → Bool) → OutRoom → OutRoom → OutEnds → (Backend → Object) → (Backend → Object) → Backend → List (List ℕ) → Type 0
-written_by used graphite console ends back back_now Graphite texts =
-    HasWritten (used Graphite) graphite texts ends.flushed.skips.graphite ends.graphite (back Graphite) (back_now Graphite)
-written_by used graphite console ends back back_now Console texts =
-    HasWritten (used Console) console texts ends.flushed.skips.console ends.console (back Console) (back_now Console)
+abbrev pub written_by : (Backend → Bool) → OutRoom → OutRoom → OutCounts → (Backend → Object) → (Backend → Object) → Backend → List (List ℕ) → Type 0
+written_by used graphite console counts back back_now Graphite texts =
+    HasWritten (used Graphite) graphite texts counts.skips.graphite counts.graphite (back Graphite) (back_now Graphite)
+written_by used graphite console counts back back_now Console texts =
+    HasWritten (used Console) console texts counts.skips.console counts.console (back Console) (back_now Console)

@@ -1,3 +1,6 @@
+ghost use Rattle.std.specs.Prelude.{◌<◌, IfOk, nat_lt};
+ghost use Rattle.sd_serve.specs.OutRoom.{HasOutRooms};
+
 use sd_outlet::{Drain, Feed, Outlet};
 use std::alloc::{AllocError, Global};
 
@@ -31,4 +34,33 @@ impl OutRoom {
             drain,
         })
     }
+}
+
+/// The outlets of both backends. That of a backend that isn't used is there too, and nothing goes through it.
+#[derive(Drop)]
+pub struct OutRooms {
+    pub graphite: OutRoom,
+    pub console: OutRoom,
+}
+
+/// Takes the room of outlets of so many buffers each, where that isn't 0, each buffer of so many bytes.
+///
+/// # Errors
+///
+/// Where no memory is left for it.
+pub(crate) fn open_outlets(
+    alloc: Global,
+    n: u32,
+    bytes: u32,
+) -> Result<Option<OutRooms>, AllocError>
+    requires { 0 < bytes }
+    ensures { IfOk result (HasOutRooms (nat_lt 0 n)) }
+{
+    if n == 0 {
+        return Ok(None);
+    }
+    Ok(Some(OutRooms {
+        graphite: OutRoom::open(alloc, n, bytes)?,
+        console: OutRoom::open(alloc, n, bytes)?,
+    }))
 }

@@ -8,8 +8,8 @@ use sd_receive::Post;
 use sd_shared_desk::DeskSeat;
 use std::alloc::{AllocError, Global};
 
-// The most bytes of a datagram.
-const LONGEST_DATAGRAM: usize = 65_507;
+/// The most bytes of a datagram.
+pub(crate) const LONGEST_DATAGRAM: usize = 65_507;
 
 /// The room of a receiver: for its wires, and for a datagram.
 #[derive(Drop)]
@@ -18,8 +18,8 @@ pub(crate) struct PostRoom<L> {
     pub buf: Vec<u8>,
 }
 
-// A buffer of so many bytes.
-fn buffer(alloc: Global, size: usize) -> Result<Vec<u8>, AllocError>
+/// A buffer of so many bytes.
+pub(crate) fn buffer(alloc: Global, size: usize) -> Result<Vec<u8>, AllocError>
     ensures { IfOk result (λ v. vec_len v ≡ size) }
 {
     Ok(vec![in alloc; 0; size]?)

@@ -1,6 +1,8 @@
 ghost use Rattle.std.specs.Prelude.{◌≡◌, ◌<◌, ◌≤◌, IfOk};
 ghost use Rattle.sd_epoch.specs.Limits.{AreLimits, limits_of as limits_seen};
 
+use crate::line_post::{LineRoom, open_line_room};
+use crate::out_room::{OutRooms, open_outlets};
 use crate::parts::{PostRoom, open_rooms};
 use sd_epoch::Limits;
 use sd_flush::Tables;
@@ -12,7 +14,8 @@ use sd_shard::Policy;
 use sd_shared_desk::{DeskSeat, SharedDesk};
 use std::alloc::{AllocError, Global};
 
-/// How many shards and receivers a server has, how many wires each receiver has, and what goes by each shard.
+/// How many shards and receivers a server has, how many wires each receiver has, whether it reads lines of streams, how many buffers
+/// each outlet has, none where there are no outlets, and how many bytes each buffer, and what goes by each shard.
 #[derive(Clone, Copy, Debug)]
 pub struct Sizes {
     pub limits: Limits,
@@ -20,6 +23,26 @@ pub struct Sizes {
     pub shards: u16,
     pub receivers: u16,
     pub wires: u16,
+    pub streams: bool,
+    pub outlets: u32,
+    pub outlet_bytes: u32,
+}
+
+impl Sizes {
+    ghost use Rattle.std.specs.Prelude.{◌≡◌, ◌≤◌};
+    ghost use Rattle.sd_serve.specs.Room.{sizing_of, submitters};
+
+    // How many callers submit samples: the receivers, and the keeper of lines, if there is one.
+    fn submitters(self) -> u16
+        requires { self.receivers ≤ 16 }
+        ensures { result ≡ submitters (sizing_of self) }
+    {
+        if self.streams {
+            self.receivers + 1
+        } else {
+            self.receivers
+        }
+    }
 }
 
 /// All that a server works on, in room that is taken before its workers start. Nothing was done yet.
@@ -33,6 +56,8 @@ pub struct ServerRoom<D, L> {
     pub(crate) tables: Tables,
     pub(crate) space: AdminSpace,
     pub(crate) rooms: Vec<PostRoom<L>>,
+    pub(crate) lines: Option<LineRoom>,
+    pub(crate) outs: Option<OutRooms>,
     pub(crate) posts: Vec<Post<D, L>>,
     pub(crate) ends: Vec<Ended>,
 }
@@ -57,9 +82,13 @@ impl<D: Drop, L: Drop> ServerRoom<D, L> {
             shards,
             receivers,
             wires,
+            streams,
+            outlets,
+            outlet_bytes,
         } = sizes;
-        let (pool, seats) = Pool::open(alloc, limits, policy, shards, receivers)?;
-        let (desk, owns) = SharedDesk::open(alloc, start, receivers + 2)?;
+        let submitters = sizes.submitters();
+        let (pool, seats) = Pool::open(alloc, limits, policy, shards, submitters)?;
+        let (desk, owns) = SharedDesk::open(alloc, start, submitters + 2)?;
         let count = usize::from(receivers);
         Ok(ServerRoom {
             sizes,
@@ -70,6 +99,8 @@ impl<D: Drop, L: Drop> ServerRoom<D, L> {
             tables: Tables::open(alloc, limits, shards)?,
             space: AdminSpace::open(alloc, limits, shards)?,
             rooms: open_rooms(alloc, count, usize::from(wires))?,
+            lines: open_line_room(alloc, streams)?,
+            outs: open_outlets(alloc, outlets, outlet_bytes)?,
             posts: Vec::with_capacity(alloc, count)?,
             ends: Vec::with_capacity(alloc, count)?,
         })

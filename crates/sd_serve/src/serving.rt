@@ -4,13 +4,17 @@ ghost use Rattle.std.specs.List.{AllByRecursion};
 ghost use Rattle.sd_pool.specs.Pool.{IsRoomOf, IsSeatOf, receivers_of};
 ghost use Rattle.sd_shared_desk.specs.Shared.{IsSeatOf as IsDeskSeatOf, seats_of};
 ghost use Rattle.sd_serve.specs.Closing.{IsClosed, WasRun, ended_in};
+ghost use Rattle.sd_serve.specs.LinePost.{line_owns, line_seats};
 ghost use Rattle.sd_serve.specs.Parts.{own_in, seat_in, source_in, wires_in};
 ghost use Rattle.sd_serve.specs.Room.{IsRoom, sizing_in, start_in};
 ghost use Rattle.sd_serve.specs.Serving.{HasServed, objects_of, terms_of};
 
+use crate::line_post::{LinePost, put_line_post, take_line_post};
 use crate::parts::{gather, give_back, put_first, take_first};
 use crate::room::ServerRoom;
-use crate::workers::{Ends, run_server};
+use crate::running::run_all;
+use crate::workers::Ends;
+use crate::workers_out::OutCounts;
 use sd_config::Settings;
 use sd_desk::Desk;
 use sd_flush::round;
@@ -22,12 +26,13 @@ use sd_shared_desk::{DeskSeat, SharedDesk};
 use std::sync::Wait;
 use std::thread::Threads;
 
-/// What a run of the server left: how each receiver ended, in order, and the other workers, the numbers of each shard, and the
-/// desk.
+/// What a run of the server left: how each receiver ended, in order, and the other workers, what the outlets counted, if there were
+/// any, the numbers of each shard, and the desk.
 #[derive(Drop)]
 pub struct Served {
     pub received: Vec<Ended>,
     pub ends: Ends,
+    pub outs: Option<OutCounts>,
     pub books: Books,
     pub desk: Desk,
 }
@@ -64,6 +69,7 @@ fn close<D: Datagrams + Drop, L: Wire + Drop>(
     mut owns: Vec<DeskSeat>,
     own: DeskSeat,
     admin_own: DeskSeat,
+    line_post: Option<LinePost>,
     posts: Vec<Post<D, L>>,
     packets: &mut Vec<D>,
     wires: &mut Vec<L>,
@@ -71,36 +77,39 @@ fn close<D: Datagrams + Drop, L: Wire + Drop>(
     requires packets { length posts.items + length packets.old.items ≤ vec_capacity packets.old }
     requires wires { length (flat_map wires_in posts.items) + length wires.old.items ≤ vec_capacity wires.old }
     requires none { (seats.receivers.items ≡ []) × (owns.items ≡ []) }
-    requires places { length posts.items ≤ vec_capacity seats.receivers }
-    requires own_places { length posts.items + 2 ≤ vec_capacity owns }
-    requires receivers { AllByRecursion (IsSeatOf pool) (map seat_in posts.items) }
+    requires places { length posts.items + length (line_seats line_post) ≤ vec_capacity seats.receivers }
+    requires own_places { length posts.items + length (line_owns line_post) + 2 ≤ vec_capacity owns }
+    requires receivers { AllByRecursion (IsSeatOf pool) (map seat_in posts.items ++ line_seats line_post) }
     requires flusher { IsSeatOf pool seats.flusher }
     requires admin { IsSeatOf pool seats.admin }
-    requires count { length posts.items ≡ receivers_of pool }
+    requires count { length posts.items + length (line_seats line_post) ≡ receivers_of pool }
     requires room { IsRoomOf pool seats.room }
-    requires owns { All (IsDeskSeatOf desk) (map own_in posts.items) }
+    requires owns { All (IsDeskSeatOf desk) (map own_in posts.items ++ line_owns line_post) }
     requires own { IsDeskSeatOf desk own }
     requires admin_own { IsDeskSeatOf desk admin_own }
-    requires own_count { length posts.items + 2 ≡ seats_of desk }
+    requires own_count { length posts.items + length (line_owns line_post) + 2 ≡ seats_of desk }
     ensures packets { packets.new.items ≡ map source_in posts.items ++ packets.old.items }
     ensures wires { wires.new.items ≡ flat_map wires_in posts.items ++ wires.old.items }
-    ensures closed { IsClosed pool desk (map seat_in posts.items ++ seats.flusher ∷ seats.admin ∷ []) (map own_in posts.items ++ own ∷ admin_own ∷ []) result.0.items result.1 }
+    ensures closed { IsClosed pool desk ((map seat_in posts.items ++ line_seats line_post) ++ seats.flusher ∷ seats.admin ∷ []) ((map own_in posts.items ++ line_owns line_post) ++ own ∷ admin_own ∷ []) result.0.items result.1 }
 {
     put_first(&mut owns, admin_own);
     put_first(&mut owns, own);
+    put_line_post(line_post, &mut seats.receivers, &mut owns);
     give_back(posts, packets, wires, &mut seats.receivers, &mut owns);
     (pool.close(seats), desk.close(owns))
 }
 
-/// Runs the server's workers over the room's sources, each with its run of wires, until all have ended; then makes a last
-/// round, at a moment that the clock tells, and closes the pool and the desk. Sources and wires then stand where they stood. It
-/// takes no memory.
+/// Runs the server's workers over the room's sources, each with its run of wires, and both doors, of which that of streams is read
+/// only where the room is for that, until all have ended, with outlets before the backends, where the room has them; then makes a
+/// last round, at a moment that the clock tells, which writes to the backends itself, and closes the pool and the desk. Sources and
+/// wires then stand where they stood. It takes no memory.
 pub fn serve<
     D: Datagrams + Send + Drop,
     L: Wire + Send + Drop,
     B: Backend + Send,
     P: Beat + Send,
     E: Door<Asking: Send, Telling: Send> + Send,
+    S: Door<Asking: Send, Telling: Send> + Send,
     G: Gate + Sync,
     C: Clock + Sync,
     R: Threads + Wait + Sync,
@@ -116,6 +125,7 @@ pub fn serve<
     beat: &mut P,
     backs: &mut Backs<B>,
     door: &mut E,
+    streams: &mut S,
     gate: &G,
     clock: &C,
 ) -> Served
@@ -125,9 +135,10 @@ pub fn serve<
     requires wires { (sizing_in room).receivers * (sizing_in room).wires ≤ length wires.old.items }
     requires beat { (P.seen beat.old).turns < 2 ^ 62 }
     requires door { ((E.seen door.old).is_out ≡ false) × ((E.seen door.old).turns < 2 ^ 62) }
+    requires streams { ((S.seen streams.old).is_out ≡ false) × ((S.seen streams.old).turns < 2 ^ 62) }
     ensures served { HasServed (terms_of (sizing_in room) plan.now names.now settings.now backs.old run_flushes) (C.may_say clock.now)
-        (objects_of D.seen L.seen P.seen B.seen E.seen packets.old.items wires.old.items beat.old backs.old door.old)
-        (objects_of D.seen L.seen P.seen B.seen E.seen packets.new.items wires.new.items beat.new backs.new door.new) result }
+        (objects_of D.seen L.seen P.seen B.seen E.seen S.seen packets.old.items wires.old.items beat.old backs.old door.old streams.old)
+        (objects_of D.seen L.seen P.seen B.seen E.seen S.seen packets.new.items wires.new.items beat.new backs.new door.new streams.new) result }
     ensures graphite_flag { backs.new.graphite_used ≡ backs.old.graphite_used }
     ensures console_flag { backs.new.console_used ≡ backs.old.console_used }
 {
@@ -140,6 +151,8 @@ pub fn serve<
         mut tables,
         mut space,
         rooms,
+        lines,
+        outs,
         mut posts,
         ends: end_room,
     } = room;
@@ -152,6 +165,7 @@ pub fn serve<
         rooms,
         &mut posts,
     );
+    let mut line_post = take_line_post(lines, &mut seats.receivers, &mut owns);
     let mut own = take_first(&mut owns);
     let mut admin_own = take_first(&mut owns);
     let shared = Shared {
@@ -161,7 +175,7 @@ pub fn serve<
         clock,
         run_flushes,
     };
-    let ends = run_server(
+    let (ends, counts) = run_all(
         rt,
         &shared,
         &mut own,
@@ -171,11 +185,14 @@ pub fn serve<
         names,
         beat,
         backs,
+        outs,
         &mut admin_own,
         &mut seats.admin,
         settings,
         &mut space,
         door,
+        &mut line_post,
+        streams,
         posts.as_mut_slice(),
     );
     round(
@@ -193,11 +210,12 @@ pub fn serve<
     );
     let received = ends_in(&posts, end_room);
     let (books, desk) = close(
-        pool, desk, seats, owns, own, admin_own, posts, packets, wires,
+        pool, desk, seats, owns, own, admin_own, line_post, posts, packets, wires,
     );
     Served {
         received,
         ends,
+        outs: counts,
         books,
         desk,
     }

@@ -1,4 +1,4 @@
-ghost use Rattle.std.specs.Prelude.{◌≡◌, ℕ, ◌<◌, ◌^◌, false, All, length, slice_index_or};
+ghost use Rattle.std.specs.Prelude.{◌≡◌, ℕ, ◌<◌, ◌^◌, false, All, IfSome, length, slice_index_or};
 ghost use Rattle.sd_model_record.specs.Callers.{administrator, flusher};
 ghost use Rattle.sd_pool.specs.Pool.{IsSeatOf, limits_of, own_at, shards_of, who_is};
 ghost use Rattle.sd_shared_desk.specs.Shared.{IsSeatOf as IsDeskSeatOf, number_of_seat, part_of};
@@ -8,9 +8,13 @@ ghost use Rattle.sd_flush.specs.Tables.{AreTablesFor};
 ghost use Rattle.sd_door.specs.Keeping.{EndsKeeping};
 ghost use Rattle.sd_model_serve.specs.Visits.{ServesSessions};
 ghost use Rattle.sd_session.specs.Space.{IsSpaceFor};
+ghost use Rattle.sd_serve.specs.LinePost.{AreLinedBy, IsLineReady};
 
+use crate::beside::run_with_third;
 use crate::flushing::Flushing;
 use crate::keeping::Keeping;
+use crate::line_post::LinePost;
+use crate::lining::Lining;
 use sd_config::Settings;
 use sd_flush::Tables;
 use sd_outside::{Backend, Backs, Beat, Clock, Datagrams, Door, DoorEnd, Ended, Gate, Wire};
@@ -19,25 +23,26 @@ use sd_pool::Seat;
 use sd_receive::{Post, Shared};
 use sd_session::AdminSpace;
 use sd_shared_desk::DeskSeat;
-use sd_workers::run_workers;
 use std::sync::Wait;
 use std::thread::Threads;
 
-/// How the flusher and the keeper of the door ended.
+/// How the flusher and the keeper of the admin door ended, and the keeper of lines, if there was one.
 #[derive(Clone, Copy, Debug, PartialEq, Eq)]
 pub struct Ends {
     pub flusher: Ended,
     pub keeper: DoorEnd,
+    pub liner: Option<DoorEnd>,
 }
 
-/// Runs the flusher, the keeper of the admin door and the receivers side by side, each in a thread of its own where the machine
-/// gives one, until all have ended. What is lent to them is left as each says of its own work.
+/// Runs the flusher, the keeper of the admin door, the keeper of lines, if there is one, and the receivers side by side, each in a
+/// thread of its own where the machine gives one, until all have ended. What is lent to them is left as each says of its own work.
 pub fn run_server<
     D: Datagrams + Send,
     L: Wire + Send,
     B: Backend + Send,
     P: Beat + Send,
     E: Door<Asking: Send, Telling: Send> + Send,
+    S: Door<Asking: Send, Telling: Send> + Send,
     G: Gate + Sync,
     C: Clock + Sync,
     R: Threads + Wait + Sync,
@@ -56,6 +61,8 @@ pub fn run_server<
     settings: &Settings,
     space: &mut AdminSpace,
     door: &mut E,
+    line_post: &mut Option<LinePost>,
+    streams: &mut S,
     posts: &mut [Post<D, L>],
 ) -> Ends
     requires own { IsDeskSeatOf shared.now.desk.now own.old }
@@ -66,6 +73,8 @@ pub fn run_server<
     requires admin_seat { IsSeatOf shared.now.pool.now admin_seat.old × (who_is admin_seat.old ≡ administrator) }
     requires space { IsSpaceFor (limits_of shared.now.pool.now) (shards_of shared.now.pool.now) space.old }
     requires door { ((E.seen door.old).is_out ≡ false) × ((E.seen door.old).turns < 2 ^ 62) }
+    requires line_post { IfSome line_post.old (IsLineReady shared.now.pool.now shared.now.desk.now) }
+    requires streams { ((S.seen streams.old).is_out ≡ false) × ((S.seen streams.old).turns < 2 ^ 62) }
     requires posts { All (IsReady shared.now.pool.now shared.now.desk.now) posts.old }
     ensures own { IsDeskSeatOf shared.now.desk.now own.new × (number_of_seat own.new ≡ number_of_seat own.old) }
     ensures seat { IsSeatOf shared.now.pool.now seat.new × (who_is seat.new ≡ flusher) }
@@ -79,6 +88,7 @@ pub fn run_server<
     ensures space { IsSpaceFor (limits_of shared.now.pool.now) (shards_of shared.now.pool.now) space.new }
     ensures serves { ServesSessions (shards_of shared.now.pool.now) settings.now (C.may_say shared.now.clock.now) (own_at admin_seat.old) (own_at admin_seat.new) (E.seen door.old) (E.seen door.new) (part_of admin_own.old) (part_of admin_own.new) }
     ensures keeper { EndsKeeping shared.now.run_flushes result.keeper (E.seen door.old) (E.seen door.new) (part_of admin_own.new) }
+    ensures lines { AreLinedBy shared.now.pool.now shared.now.desk.now shared.now.run_flushes line_post.old line_post.new result.liner (S.seen streams.old) (S.seen streams.new) }
     ensures len { length posts.new ≡ length posts.old }
     ensures each { (i : ℕ) (d : _) → i < length posts.old → HasRun D.seen L.seen shared.now.pool.now shared.now.desk.now shared.now.run_flushes (slice_index_or posts.old i d) (slice_index_or posts.new i d) }
 {
@@ -100,9 +110,15 @@ pub fn run_server<
         door,
         ended: DoorEnd::End,
     };
-    run_workers(rt, shared, &mut flushing, &mut keeping, posts);
+    let mut lining = Lining {
+        post: line_post,
+        door: streams,
+        ended: None,
+    };
+    run_with_third(rt, shared, &mut flushing, &mut keeping, &mut lining, posts);
     Ends {
         flusher: flushing.ended,
         keeper: keeping.ended,
+        liner: lining.ended,
     }
 }

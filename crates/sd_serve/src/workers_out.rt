@@ -16,6 +16,8 @@ ghost use Rattle.sd_flush.specs.Tables.{AreTablesFor};
 ghost use Rattle.sd_door.specs.Keeping.{EndsKeeping};
 ghost use Rattle.sd_session.specs.Space.{IsSpaceFor};
 ghost use Rattle.sd_serve.specs.Draining.{WasDrained};
+ghost use Rattle.sd_serve.specs.LinePost.{AreLinedBy, IsLineReady};
+ghost use Rattle.sd_serve.specs.Lining.{CanLine, HasLined};
 ghost use Rattle.sd_serve.specs.OutRoom.{IsLentOrIdle, IsOutRoom};
 ghost use Rattle.sd_serve.specs.Written.{written_by};
 
@@ -23,7 +25,10 @@ use crate::beside::run_with_pair;
 use crate::draining::Draining;
 use crate::feeding::Feeding;
 use crate::keeping::Keeping;
-use crate::out_room::OutRoom;
+use crate::line_post::LinePost;
+use crate::lining::Lining;
+use crate::out_room::{OutRoom, OutRooms};
+use crate::workers::Ends;
 use sd_config::Settings;
 use sd_flush::{FlushedOut, Lead, Outs, Skips, Tables};
 use sd_outlet::{Drain, Feed, Outlet, Worked};
@@ -36,14 +41,19 @@ use sd_shared_desk::DeskSeat;
 use std::sync::Wait;
 use std::thread::Threads;
 
-/// How the flusher over outlets and the keeper of the door ended, how many texts were skipped, and what each outlet's worker
-/// wrote.
+/// How many texts were skipped at each outlet, and how many of the others were written whole and missed.
 #[derive(Clone, Copy, Debug, PartialEq, Eq)]
-pub struct OutEnds {
-    pub flushed: FlushedOut,
-    pub keeper: DoorEnd,
+pub struct OutCounts {
+    pub skips: Skips,
     pub graphite: Worked,
     pub console: Worked,
+}
+
+/// How the flusher over outlets and the keepers of the doors ended, and what the outlets counted.
+#[derive(Clone, Copy, Debug, PartialEq, Eq)]
+pub struct OutEnds {
+    pub ends: Ends,
+    pub counts: OutCounts,
 }
 
 // Nothing was written yet.
@@ -101,14 +111,14 @@ fn close_outlet<B: Backend, R: Wait>(
     worked.and(left)
 }
 
-// Runs the flusher over outlets, the keeper of the admin door, the outlets' workers and the receivers side by side, until all have
-// ended.
+// Runs the flusher over outlets, the keepers of both doors, the outlets' workers and the receivers side by side, until all have ended.
 fn run_beside<
     D: Datagrams + Send,
     L: Wire + Send,
     B: Backend + Send,
     P: Beat + Send,
     E: Door<Asking: Send, Telling: Send> + Send,
+    S: Door<Asking: Send, Telling: Send> + Send,
     G: Gate + Sync,
     C: Clock + Sync,
     R: Threads + Wait + Sync,
@@ -133,6 +143,7 @@ fn run_beside<
     settings: &Settings,
     space: &mut AdminSpace,
     door: &mut E,
+    lining: &mut Lining<'_, '_, S>,
     posts: &mut [Post<D, L>],
 ) -> OutEnds
     requires own { IsDeskSeatOf shared.now.desk.now own.old }
@@ -146,20 +157,23 @@ fn run_beside<
     requires admin_seat { IsSeatOf shared.now.pool.now admin_seat.old × (who_is admin_seat.old ≡ administrator) }
     requires space { IsSpaceFor (limits_of shared.now.pool.now) (shards_of shared.now.pool.now) space.old }
     requires door { ((E.seen door.old).is_out ≡ false) × ((E.seen door.old).turns < 2 ^ 62) }
+    requires lining { CanLine S.seen shared.now.pool.now shared.now.desk.now lining.old }
     requires posts { All (IsReady shared.now.pool.now shared.now.desk.now) posts.old }
     ensures own { IsDeskSeatOf shared.now.desk.now own.new × (number_of_seat own.new ≡ number_of_seat own.old) }
     ensures seat { IsSeatOf shared.now.pool.now seat.new × (who_is seat.new ≡ flusher) }
     ensures tables { AreTablesFor (limits_of shared.now.pool.now) (shards_of shared.now.pool.now) tables.new }
     ensures outs { AreOutsReady outs.new }
-    ensures flushes { FlushesOut (form_of shared.now.pool.now plan.now names.now) (fed_by result.flushed.skips outs.old outs.new) shared.now.run_flushes (own_at seat.old) (own_at seat.new) (part_of own.old) (part_of own.new)
-        (P.seen beat.old) (P.seen beat.new) result.flushed.ended }
-    ensures graphite { WasDrained graphite.now graphite_drain.new result.graphite (B.seen graphite_back.old) (B.seen graphite_back.new) }
-    ensures console { WasDrained console.now console_drain.new result.console (B.seen console_back.old) (B.seen console_back.new) }
+    ensures flushes { FlushesOut (form_of shared.now.pool.now plan.now names.now) (fed_by result.counts.skips outs.old outs.new) shared.now.run_flushes (own_at seat.old) (own_at seat.new) (part_of own.old) (part_of own.new)
+        (P.seen beat.old) (P.seen beat.new) result.ends.flusher }
+    ensures graphite { WasDrained graphite.now graphite_drain.new result.counts.graphite (B.seen graphite_back.old) (B.seen graphite_back.new) }
+    ensures console { WasDrained console.now console_drain.new result.counts.console (B.seen console_back.old) (B.seen console_back.new) }
     ensures admin_own { IsDeskSeatOf shared.now.desk.now admin_own.new × (number_of_seat admin_own.new ≡ number_of_seat admin_own.old) }
     ensures admin_seat { IsSeatOf shared.now.pool.now admin_seat.new × (who_is admin_seat.new ≡ administrator) }
     ensures space { IsSpaceFor (limits_of shared.now.pool.now) (shards_of shared.now.pool.now) space.new }
     ensures serves { ServesSessions (shards_of shared.now.pool.now) settings.now (C.may_say shared.now.clock.now) (own_at admin_seat.old) (own_at admin_seat.new) (E.seen door.old) (E.seen door.new) (part_of admin_own.old) (part_of admin_own.new) }
-    ensures keeper { EndsKeeping shared.now.run_flushes result.keeper (E.seen door.old) (E.seen door.new) (part_of admin_own.new) }
+    ensures keeper { EndsKeeping shared.now.run_flushes result.ends.keeper (E.seen door.old) (E.seen door.new) (part_of admin_own.new) }
+    ensures lining { HasLined S.seen shared.now.pool.now shared.now.desk.now shared.now.run_flushes lining.old lining.new }
+    ensures liner { result.ends.liner ≡ (lining.new).ended }
     ensures len { length posts.new ≡ length posts.old }
     ensures each { (i : ℕ) (d : _) → i < length posts.old → HasRun D.seen L.seen shared.now.pool.now shared.now.desk.now shared.now.run_flushes (slice_index_or posts.old i d) (slice_index_or posts.new i d) }
 {
@@ -204,27 +218,35 @@ fn run_beside<
         shared,
         &mut feeding,
         &mut keeping,
+        lining,
         &mut to_graphite,
         &mut to_console,
         posts,
     );
     OutEnds {
-        flushed: feeding.flushed,
-        keeper: keeping.ended,
-        graphite: to_graphite.worked,
-        console: to_console.worked,
+        ends: Ends {
+            flusher: feeding.flushed.ended,
+            keeper: keeping.ended,
+            liner: lining.ended,
+        },
+        counts: OutCounts {
+            skips: feeding.flushed.skips,
+            graphite: to_graphite.worked,
+            console: to_console.worked,
+        },
     }
 }
 
-/// Runs the flusher over outlets, the keeper of the admin door, a worker for each outlet and the receivers side by side, each in a
-/// thread of its own where the machine gives one, until all have ended; the flusher stops the outlets' workers as it ends. Then the
-/// outlets are closed. What is lent is left as each says of its own work.
+/// Runs the flusher over outlets, the keepers of both doors, a worker for each outlet and the receivers side by side, each in a thread
+/// of its own where the machine gives one, until all have ended; the flusher stops the outlets' workers as it ends. Then the outlets
+/// are closed. What is lent is left as each says of its own work.
 pub fn run_server_out<
     D: Datagrams + Send,
     L: Wire + Send,
     B: Backend + Send,
     P: Beat + Send,
     E: Door<Asking: Send, Telling: Send> + Send,
+    S: Door<Asking: Send, Telling: Send> + Send,
     G: Gate + Sync,
     C: Clock + Sync,
     R: Threads + Wait + Sync,
@@ -238,37 +260,41 @@ pub fn run_server_out<
     names: &Names,
     beat: &mut P,
     backs: &mut Backs<B>,
-    graphite: OutRoom,
-    console: OutRoom,
+    outs: OutRooms,
     admin_own: &mut DeskSeat,
     admin_seat: &mut Seat,
     settings: &Settings,
     space: &mut AdminSpace,
     door: &mut E,
+    line_post: &mut Option<LinePost>,
+    streams: &mut S,
     posts: &mut [Post<D, L>],
 ) -> OutEnds
     requires own { IsDeskSeatOf shared.now.desk.now own.old }
     requires seat { IsSeatOf shared.now.pool.now seat.old × (who_is seat.old ≡ flusher) }
     requires tables { AreTablesFor (limits_of shared.now.pool.now) (shards_of shared.now.pool.now) tables.old }
     requires beat { (P.seen beat.old).turns < 2 ^ 62 }
-    requires rooms { IsOutRoom graphite × IsOutRoom console }
+    requires outs { IsOutRoom outs.graphite × IsOutRoom outs.console }
     requires admin_own { IsDeskSeatOf shared.now.desk.now admin_own.old }
     requires admin_seat { IsSeatOf shared.now.pool.now admin_seat.old × (who_is admin_seat.old ≡ administrator) }
     requires space { IsSpaceFor (limits_of shared.now.pool.now) (shards_of shared.now.pool.now) space.old }
     requires door { ((E.seen door.old).is_out ≡ false) × ((E.seen door.old).turns < 2 ^ 62) }
+    requires line_post { IfSome line_post.old (IsLineReady shared.now.pool.now shared.now.desk.now) }
+    requires streams { ((S.seen streams.old).is_out ≡ false) × ((S.seen streams.old).turns < 2 ^ 62) }
     requires posts { All (IsReady shared.now.pool.now shared.now.desk.now) posts.old }
     ensures own { IsDeskSeatOf shared.now.desk.now own.new × (number_of_seat own.new ≡ number_of_seat own.old) }
     ensures seat { IsSeatOf shared.now.pool.now seat.new × (who_is seat.new ≡ flusher) }
     ensures tables { AreTablesFor (limits_of shared.now.pool.now) (shards_of shared.now.pool.now) tables.new }
-    ensures flushes { FlushesOut (form_of shared.now.pool.now plan.now names.now) (written_by (uses backs.old) graphite console result (back_of B.seen backs.old) (back_of B.seen backs.new)) shared.now.run_flushes
-        (own_at seat.old) (own_at seat.new) (part_of own.old) (part_of own.new) (P.seen beat.old) (P.seen beat.new) result.flushed.ended }
+    ensures flushes { FlushesOut (form_of shared.now.pool.now plan.now names.now) (written_by (uses backs.old) outs.graphite outs.console result.counts (back_of B.seen backs.old) (back_of B.seen backs.new)) shared.now.run_flushes
+        (own_at seat.old) (own_at seat.new) (part_of own.old) (part_of own.new) (P.seen beat.old) (P.seen beat.new) result.ends.flusher }
     ensures graphite_flag { backs.new.graphite_used ≡ backs.old.graphite_used }
     ensures console_flag { backs.new.console_used ≡ backs.old.console_used }
     ensures admin_own { IsDeskSeatOf shared.now.desk.now admin_own.new × (number_of_seat admin_own.new ≡ number_of_seat admin_own.old) }
     ensures admin_seat { IsSeatOf shared.now.pool.now admin_seat.new × (who_is admin_seat.new ≡ administrator) }
     ensures space { IsSpaceFor (limits_of shared.now.pool.now) (shards_of shared.now.pool.now) space.new }
     ensures serves { ServesSessions (shards_of shared.now.pool.now) settings.now (C.may_say shared.now.clock.now) (own_at admin_seat.old) (own_at admin_seat.new) (E.seen door.old) (E.seen door.new) (part_of admin_own.old) (part_of admin_own.new) }
-    ensures keeper { EndsKeeping shared.now.run_flushes result.keeper (E.seen door.old) (E.seen door.new) (part_of admin_own.new) }
+    ensures keeper { EndsKeeping shared.now.run_flushes result.ends.keeper (E.seen door.old) (E.seen door.new) (part_of admin_own.new) }
+    ensures lines { AreLinedBy shared.now.pool.now shared.now.desk.now shared.now.run_flushes line_post.old line_post.new result.ends.liner (S.seen streams.old) (S.seen streams.new) }
     ensures len { length posts.new ≡ length posts.old }
     ensures each { (i : ℕ) (d : _) → i < length posts.old → HasRun D.seen L.seen shared.now.pool.now shared.now.desk.now shared.now.run_flushes (slice_index_or posts.old i d) (slice_index_or posts.new i d) }
 {
@@ -276,23 +302,28 @@ pub fn run_server_out<
         outlet: graphite,
         feed: graphite_feed,
         drain: mut graphite_drain,
-    } = graphite;
+    } = outs.graphite;
     let OutRoom {
         outlet: console,
         feed: console_feed,
         drain: mut console_drain,
-    } = console;
+    } = outs.console;
     let (graphite_lead, graphite_idle) = lead_or_idle(
         backs.graphite_used,
         &graphite,
         graphite_feed,
     );
     let (console_lead, console_idle) = lead_or_idle(backs.console_used, &console, console_feed);
-    let mut outs = Outs {
+    let mut leads = Outs {
         graphite: graphite_lead,
         console: console_lead,
     };
-    let ends = run_beside(
+    let mut lining = Lining {
+        post: line_post,
+        door: streams,
+        ended: None,
+    };
+    let out = run_beside(
         rt,
         shared,
         own,
@@ -301,7 +332,7 @@ pub fn run_server_out<
         plan,
         names,
         beat,
-        &mut outs,
+        &mut leads,
         &graphite,
         &mut graphite_drain,
         &mut backs.graphite,
@@ -313,23 +344,23 @@ pub fn run_server_out<
         settings,
         space,
         door,
+        &mut lining,
         posts,
     );
     let Outs {
         graphite: graphite_lead,
         console: console_lead,
-    } = outs;
+    } = leads;
     let graphite_feed = feed_back(graphite_lead, graphite_idle);
     let console_feed = feed_back(console_lead, console_idle);
-    OutEnds {
-        flushed: ends.flushed,
-        keeper: ends.keeper,
+    let counts = OutCounts {
+        skips: out.counts.skips,
         graphite: close_outlet(
             rt,
             graphite,
             graphite_feed,
             graphite_drain,
-            ends.graphite,
+            out.counts.graphite,
             &mut backs.graphite,
         ),
         console: close_outlet(
@@ -337,8 +368,12 @@ pub fn run_server_out<
             console,
             console_feed,
             console_drain,
-            ends.console,
+            out.counts.console,
             &mut backs.console,
         ),
+    };
+    OutEnds {
+        ends: out.ends,
+        counts,
     }
 }

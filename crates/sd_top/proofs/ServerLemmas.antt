@@ -1,6 +1,6 @@
 -- The end of a server.
-use Rattle.std.proofs.Common.{◌≡◌, ℕ, ◌<◌, List, [], ◌∷◌, ◌++◌, length, map, get_or, refl, sym, ap, subst, ◌∙◌, arith}
-use Rattle.std.specs.Prelude.{◌||◌, sum_by}
+use Rattle.std.proofs.Common.{◌≡◌, ℕ, ◌+◌, ◌<◌, Bool, List, [], ◌∷◌, ◌++◌, length, map, get_or, refl, sym, ap, subst, ◌∙◌, arith}
+use Rattle.std.specs.Prelude.{◌||◌, codes, sum_by, if◌then◌else◌, Option, Some, None}
 use Rattle.std.proofs.Math.Bool.{or_assoc}
 use Rattle.std.proofs.lemmas.List.{length-map, get_or-map}
 use Rattle.std.proofs.lemmas.List.FromFn.{fill_by_all}
@@ -10,22 +10,25 @@ use Rattle.sd_model_outside.specs.Outside.{File, Object}
 use Rattle.sd_model_settings.specs.Settings as file
 use Rattle.sd_model_shard.specs.Shard.{State}
 use Rattle.sd_model_shard.specs.History.{state_after}
+use Rattle.sd_model_record.specs.Backends.{Graphite, Console}
 use Rattle.sd_model_record.specs.Desk.{Desk}
 use Rattle.sd_model_replay.specs.Settings.{limits_of, policy_of}
-use Rattle.sd_model_replay.specs.Totals.{totals_text}
+use Rattle.sd_model_replay.specs.Totals.{Totals, total_line, totals_text}
 use Rattle.sd_model_serve.specs.Ends.{LoopEnd}
 use Rattle.sd_model_run.specs.Course.{Course}
 use Rattle.sd_model_run.specs.Run.{ServerTheorem}
 use Rattle.sd_model_call.specs.Call.{Answer, WritesTotals}
 use Rattle.sd_model_call.specs.Opening.{IsAccepted, World, flags_of, settled}
-use Rattle.sd_model_call.specs.Server.{HasServed, ends_answer, is_worn, run_answer, run_totals}
-use Rattle.sd_model_call.specs.ServerOpening.{begun, objects_in, serves_by}
+use Rattle.sd_model_call.specs.Server.{HasServed, ends_answer, is_worn, run_answer, run_text, run_totals, skipped_lines}
+use Rattle.sd_model_call.specs.ServerOpening.{begun, has_outlets, objects_in, serves_by}
 use Rattle.sd_outside.specs.declared.datagrams.Ended.{Ended}
 use Rattle.sd_pool.specs.Books.{IsBookOf, no_book}
 use Rattle.sd_serve.specs.Serving.{HasServed as Ran, end_of}
+use Rattle.sd_serve.specs.Through.{AreCounted, has_counts}
 use Rattle.sd_serve.specs.declared.serving.Served.{Served}
+use Rattle.sd_serve.specs.declared.workers_out.OutCounts.{OutCounts}
 use Rattle.sd_shard.specs.declared.shard.ShardBook.{ShardBook}
-use Rattle.sd_top.specs.Serving.{ends_of, totals_in}
+use Rattle.sd_top.specs.Serving.{ends_of, lines_by, lines_in, totals_in}
 
 -- whether a loop took the most turns: a receiver's, or another
 pub worn_among : (received : List Ended) (others : List LoopEnd) → list_any is_worn (map end_of received ++ others) ≡ (list_any (λ e. is_worn (end_of e)) received || list_any is_worn others)
@@ -40,10 +43,10 @@ summed_books f g books n count each =
     sym (sum-map f books) ∙ ap sum all ∙ sum-map g (range_with_len 0 n)
 
 -- the totals of books and a desk are those of the run that left them
-pub totals_are : (s : file.Settings) (c : Course) (books : List ShardBook) (desk : Desk) → desk ≡ c.desk → length books ≡ s.sizes.shards
+pub totals_are : (s : file.Settings) (c : Course) (books : List ShardBook) (desk : Desk) (outs : Option OutCounts) → desk ≡ c.desk → AreCounted outs c.outflows → length books ≡ s.sizes.shards
     → ((i : ℕ) → i < s.sizes.shards → IsBookOf (get_or books i no_book) (state_after (limits_of s) (policy_of s) (c.histories i)))
-    → totals_in books desk ≡ run_totals s c
-totals_are s c books desk left count are =
+    → totals_in books desk outs ≡ run_totals s c
+totals_are s c books desk outs left counts count are =
     let state : ℕ → State = λ i. state_after (limits_of s) (policy_of s) (c.histories i) in
     let taken = summed_books (λ b. b.taken) (λ i. (state i).taken) books s.sizes.shards count (λ i h. (are i h).taken) in
     let dropped = summed_books (λ b. b.dropped) (λ i. (state i).dropped) books s.sizes.shards count (λ i h. (are i h).dropped) in
@@ -60,17 +63,25 @@ totals_are s c books desk left count are =
       held = held i;
       deleted = deleted i;
       rounds = (left i).rounds;
-      graphite_faults = (left i).graphite_faults;
-      console_faults = (left i).console_faults;
+      graphite_faults = (left i).graphite_faults + counts.faults Graphite i;
+      console_faults = (left i).console_faults + counts.faults Console i;
       repeater_faults = (left i).repeater_faults;
       admin_faults = (left i).admin_faults;
     }
+
+-- and what is told of both is the same
+pub lines_are : (s : file.Settings) (c : Course) (totals : Totals) (outs : Option OutCounts) → totals ≡ run_totals s c → has_counts outs ≡ has_outlets s → AreCounted outs c.outflows → lines_by totals outs ≡ run_text s c
+lines_are s c totals None is has counts =
+    ap totals_text is ∙ ap (λ (b : Bool). if b then totals_text (run_totals s c) ++ skipped_lines c else totals_text (run_totals s c)) has
+lines_are s c totals (Some outs) is has counts =
+    (λ i. totals_text (is i) ++ (total_line (codes "graphite_skipped") (counts.skips Graphite i) ++ total_line (codes "console_skipped") (counts.skips Console i)))
+    ∙ ap (λ (b : Bool). if b then totals_text (run_totals s c) ++ skipped_lines c else totals_text (run_totals s c)) has
 
 -- a run whose totals were written, or a front of them
 pub has_served : (name : List ℕ) (says : ℕ → Type 0) (answer : Answer) (old mid new : World) (values : file.Settings) (settings : Object) (served : Served)
     → IsAccepted values (File name) old.settings settings → mid ≡ settled values settings old
     → Ran (serves_by values) says (objects_in (begun values mid)) (objects_in new) served
-    → WritesTotals (totals_text (totals_in served.books.items served.desk)) (ends_of served.received.items served.ends) answer old.seen.output new.seen.output
+    → WritesTotals (lines_in served.books.items served.desk served.outs) (ends_of served.received.items served.ends) answer old.seen.output new.seen.output
     → new.seen.script ≡ old.seen.script → new.probe ≡ old.probe → new.flags ≡ flags_of values → new.settings ≡ settings
     → HasServed name says answer old new
 has_served name says answer old mid new values settings served accepted is ran written script probe flags kept =
@@ -80,8 +91,9 @@ has_served name says answer old mid new values settings served accepted is ran w
       taken = accepted;
       course = ran.course;
       theorem = subst (λ w. ServerTheorem (serves_by values) says ran.course (objects_in (begun values w)) (objects_in new)) is ran.theorem;
-      written = subst (λ t. WritesTotals (totals_text t) (run_answer ran.course) answer old.seen.output new.seen.output) (totals_are values ran.course served.books.items served.desk ran.desk ran.shards ran.books)
-          (subst (λ whole. WritesTotals (totals_text (totals_in served.books.items served.desk)) whole answer old.seen.output new.seen.output) (λ i. ends_answer (ran.received i) (ran.flusher i) (ran.keeper i ∷ [])) written);
+      written = subst (λ text. WritesTotals text (run_answer ran.course) answer old.seen.output new.seen.output)
+          (lines_are values ran.course (totals_in served.books.items served.desk served.outs) served.outs (totals_are values ran.course served.books.items served.desk served.outs ran.desk ran.outs ran.shards ran.books) ran.outlets ran.outs)
+          (subst (λ whole. WritesTotals (lines_in served.books.items served.desk served.outs) whole answer old.seen.output new.seen.output) (λ i. ends_answer (ran.received i) (ran.flusher i) (ran.keeper i ∷ ran.liner i)) written);
       script = script;
       probe = probe;
       flags = flags;

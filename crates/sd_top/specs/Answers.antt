@@ -2,7 +2,7 @@
 use Rattle.sd_model_call.specs.Opening as opening
 use Rattle.sd_model_call.specs.Call as model
 use Rattle.sd_top.specs.declared.status.Part.{Part}
-use Rattle.sd_top.specs.declared.status.Part.TheVariants.{Settings, Script, Packets, Beat, Wire, Graphite, Console, Door}
+use Rattle.sd_top.specs.declared.status.Part.TheVariants.{Settings, Script, Packets, Beat, Wire, Graphite, Console, Door, Streams}
 use Rattle.sd_top.specs.declared.status.Status.{Status}
 use Rattle.sd_top.specs.declared.status.Status.TheVariants.{Ok, OutOfMemory, Usage, Config, ReadFault, WriteFault, OpenFault, Worn}
 use Rattle.sd_top.specs.declared.status.Status.TheVariants as status
@@ -22,6 +22,7 @@ part_of (Wire i) = opening.OfWire i
 part_of Graphite = opening.OfGraphite
 part_of Console = opening.OfConsole
 part_of Door = opening.OfDoor
+part_of Streams = opening.OfStreams
 
 abbrev pub config_answer : ConfigFault → model.Answer
 config_answer config.OutOfMemory = model.NoMemory

@@ -1,26 +1,31 @@
 -- What a server of a settings file is opened for, and what it tells once its run has ended.
-use Rattle.std.specs.Prelude.{List, [], ◌∷◌, length, map, sum_by}
+use Rattle.std.specs.Prelude.{ℕ, ◌+◌, List, ◌∷◌, ◌++◌, codes, length, map, sum_by, Option, Some, None}
+use Rattle.std.specs.Option.{option_to_list}
+use Rattle.sd_model_record.specs.Backends.{Graphite, Console}
 use Rattle.sd_model_record.specs.Desk.{Desk}
 use Rattle.sd_model_settings.specs.Settings as file
 use Rattle.sd_model_replay.specs.Settings.{limits_of, policy_of, targets_of}
 use Rattle.sd_model_replay.specs.Totals as model
 use Rattle.sd_model_call.specs.Call.{Answer}
 use Rattle.sd_model_call.specs.Server.{ends_answer}
+use Rattle.sd_model_call.specs.ServerOpening.{has_streams}
 use Rattle.sd_outside.specs.declared.datagrams.Ended.{Ended}
 use Rattle.sd_shard.specs.declared.shard.ShardBook.{ShardBook}
 use Rattle.sd_shards.specs.declared.book.ShardsBook.{ShardsBook}
 use Rattle.sd_replay.specs.Totals.{totals_by}
 use Rattle.sd_serve.specs.Room.{Sizing}
 use Rattle.sd_serve.specs.Serving.{door_end_of, end_of}
+use Rattle.sd_serve.specs.Through.{faults_at}
 use Rattle.sd_serve.specs.declared.workers.Ends.{Ends}
+use Rattle.sd_serve.specs.declared.workers_out.OutCounts.{OutCounts}
 
 -- its sizes
 abbrev pub sizing_by : file.Settings → Sizing
-sizing_by s = record { limits = limits_of s; policy = policy_of s; shards = s.sizes.shards; receivers = s.sizes.receivers; wires = length (targets_of s) }
+sizing_by s = record { limits = limits_of s; policy = policy_of s; shards = s.sizes.shards; receivers = s.sizes.receivers; wires = length (targets_of s); streams = has_streams s; outlets = s.transport.outlets; outlet_bytes = s.transport.outlet_bytes }
 
 -- how a run is answered whose workers ended so
 abbrev pub ends_of : List Ended → Ends → Answer
-ends_of received ends = ends_answer (map end_of received) (end_of ends.flusher) (door_end_of ends.keeper ∷ [])
+ends_of received ends = ends_answer (map end_of received) (end_of ends.flusher) (door_end_of ends.keeper ∷ map door_end_of (option_to_list ends.liner))
 
 -- the numbers of all shards together
 abbrev pub sums_of : List ShardBook → ShardsBook
@@ -33,6 +38,20 @@ sums_of books =
       held = sum_by (λ (b : ShardBook). b.held) books;
     }
 
--- the totals of shards with these numbers, and of a desk
-abbrev pub totals_in : List ShardBook → Desk → model.Totals
-totals_in books desk = totals_by (sums_of books) desk
+-- the totals of shards with these numbers and a desk, with what outlets counted, if there were any
+abbrev pub totals_in : List ShardBook → Desk → Option OutCounts → model.Totals
+totals_in books desk outs =
+    record (totals_by (sums_of books) desk) {
+      graphite_faults = desk.graphite_faults + faults_at outs Graphite;
+      console_faults = desk.console_faults + faults_at outs Console;
+    }
+
+-- what is told of a run with these totals, and with what outlets counted, if there were any
+abbrev pub lines_by : model.Totals → Option OutCounts → List ℕ
+lines_by totals None = model.totals_text totals
+lines_by totals (Some outs) =
+    model.totals_text totals ++ (model.total_line (codes "graphite_skipped") outs.skips.graphite ++ model.total_line (codes "console_skipped") outs.skips.console)
+
+-- what is told of a run that left these
+abbrev pub lines_in : List ShardBook → Desk → Option OutCounts → List ℕ
+lines_in books desk outs = lines_by (totals_in books desk outs) outs

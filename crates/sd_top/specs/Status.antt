@@ -1,7 +1,7 @@
 -- What a status says to the user, and to the shell.
 use Rattle.std.specs.Prelude.{ℕ, List, [], ◌∷◌, ◌++◌, codes, decimal}
 use Rattle.sd_top.specs.declared.status.Part.{Part}
-use Rattle.sd_top.specs.declared.status.Part.TheVariants.{Settings, Script, Packets, Beat, Wire, Graphite, Console, Door}
+use Rattle.sd_top.specs.declared.status.Part.TheVariants.{Settings, Script, Packets, Beat, Wire, Graphite, Console, Door, Streams}
 use Rattle.sd_top.specs.declared.status.Status.{Status}
 use Rattle.sd_top.specs.declared.status.Status.TheVariants.{Ok, OutOfMemory, Usage, Config, ReadFault, WriteFault, OpenFault, Worn}
 use Rattle.sd_top.specs.declared.status.Status.TheVariants as status
@@ -20,6 +20,7 @@ part_name (Wire i) = codes "wire " ++ decimal i
 part_name Graphite = codes "graphite"
 part_name Console = codes "console"
 part_name Door = codes "door"
+part_name Streams = codes "streams"
 
 -- what is said where no memory was left
 abbrev pub no_memory : List ℕ

@@ -5,14 +5,14 @@ use Rattle.sd_model_call.specs.Opening as model
 use Rattle.sd_replay.specs.Seen.{seen_of}
 use Rattle.sd_top.specs.declared.call.World.{World}
 
--- by what is seen of a source of bytes, of the output, of a backend, of a source of datagrams, of a wire, of the door, of the beat and
--- of the probe
-abbrev pub world_of : {R O B D L E P G T Q : Type 0} → (R → Object) → (O → Object) → (B → Object) → (D → Object) → (L → Object) → (E → Object) → (P → Object) → (Q → Object) → World R O B D L E P G T Q → model.World
-world_of of_source of_output of_back of_datagrams of_wire of_door of_beat of_probe world =
+-- by what is seen of a source of bytes, of the output, of a backend, of a source of datagrams, of a wire, of the admin door, of the
+-- beat, of the probe and of the door of streams
+abbrev pub world_of : {R O B D L E P G T Q S : Type 0} → (R → Object) → (O → Object) → (B → Object) → (D → Object) → (L → Object) → (E → Object) → (P → Object) → (Q → Object) → (S → Object) → World R O B D L E P G T Q S → model.World
+world_of of_source of_output of_back of_datagrams of_wire of_door of_beat of_probe of_streams world =
     record {
       settings = of_source world.settings;
       seen = seen_of of_source of_output of_back of_wire world.script world.output world.backs world.wires.items;
-      served = record { sources = map of_datagrams world.packets.items; beat = of_beat world.beat; door = of_door world.door };
+      served = record { sources = map of_datagrams world.packets.items; beat = of_beat world.beat; door = of_door world.door; streams = of_streams world.streams };
       probe = of_probe world.probe;
       flags = record { graphite = world.backs.graphite_used; console = world.backs.console_used };
     }

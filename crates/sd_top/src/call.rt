@@ -28,7 +28,7 @@ use std::thread::Threads;
 
 /// The objects that the program uses. None is opened yet.
 #[derive(Drop)]
-pub struct World<R, O, B, D, L, E, P, G, T, Q> {
+pub struct World<R, O, B, D, L, E, P, G, T, Q, S> {
     pub settings: R,
     pub script: R,
     pub output: O,
@@ -40,6 +40,7 @@ pub struct World<R, O, B, D, L, E, P, G, T, Q> {
     pub gate: G,
     pub clock: T,
     pub probe: Q,
+    pub streams: S,
 }
 
 /// Opens what a replay by these settings uses, and carries out the script.
@@ -58,26 +59,28 @@ fn carry_out<
     G,
     T,
     Q: Probe,
+    S: Door,
 >(
     alloc: Global,
     settings: &Settings,
     script: Name,
-    world: &mut World<R, O, B, D, L, E, P, G, T, Q>,
+    world: &mut World<R, O, B, D, L, E, P, G, T, Q, S>,
 ) -> Result<ReplayEnd, Status>
-    requires flags { (world_of R.seen O.seen B.seen D.seen L.seen E.seen P.seen Q.seen world.old).flags ≡ flags_of settings.now }
+    requires flags { (world_of R.seen O.seen B.seen D.seen L.seen E.seen P.seen Q.seen S.seen world.old).flags ≡ flags_of settings.now }
     requires wires { 256 ≤ length (world.old).wires.items }
     ensures end { IfOk result (λ end. Replayed settings.now (end_of end)
-        (started script.items settings.now (world_of R.seen O.seen B.seen D.seen L.seen E.seen P.seen Q.seen world.old))
-        (world_of R.seen O.seen B.seen D.seen L.seen E.seen P.seen Q.seen world.new).seen) }
+        (started script.items settings.now (world_of R.seen O.seen B.seen D.seen L.seen E.seen P.seen Q.seen S.seen world.old))
+        (world_of R.seen O.seen B.seen D.seen L.seen E.seen P.seen Q.seen S.seen world.new).seen) }
     ensures refused { IfErr result (λ status. StopsAmong (replay_openings script.items settings.now) (answer_of status)
-        (world_of R.seen O.seen B.seen D.seen L.seen E.seen P.seen Q.seen world.old)
-        (world_of R.seen O.seen B.seen D.seen L.seen E.seen P.seen Q.seen world.new)) }
+        (world_of R.seen O.seen B.seen D.seen L.seen E.seen P.seen Q.seen S.seen world.old)
+        (world_of R.seen O.seen B.seen D.seen L.seen E.seen P.seen Q.seen S.seen world.new)) }
     ensures settings { (world.new).settings ≡ (world.old).settings }
     ensures packets { (world.new).packets ≡ (world.old).packets }
     ensures door { (world.new).door ≡ (world.old).door }
+    ensures streams { (world.new).streams ≡ (world.old).streams }
     ensures beat { (world.new).beat ≡ (world.old).beat }
     ensures probe { (world.new).probe ≡ (world.old).probe }
-    ensures flags { (world_of R.seen O.seen B.seen D.seen L.seen E.seen P.seen Q.seen world.new).flags ≡ (world_of R.seen O.seen B.seen D.seen L.seen E.seen P.seen Q.seen world.old).flags }
+    ensures flags { (world_of R.seen O.seen B.seen D.seen L.seen E.seen P.seen Q.seen S.seen world.new).flags ≡ (world_of R.seen O.seen B.seen D.seen L.seen E.seen P.seen Q.seen S.seen world.old).flags }
 {
     let Ok(room) = ReplayRoom::open(alloc, settings) else {
         return Err(Status::OutOfMemory);
@@ -105,16 +108,17 @@ fn replay_files<
     G,
     T,
     Q: Probe,
+    S: Door,
 >(
     alloc: Global,
     settings: Name,
     script: Name,
-    world: &mut World<R, O, B, D, L, E, P, G, T, Q>,
+    world: &mut World<R, O, B, D, L, E, P, G, T, Q, S>,
 ) -> Status
     requires wires { 256 ≤ length (world.old).wires.items }
     ensures { IsReplay settings.items script.items (answer_of result)
-        (world_of R.seen O.seen B.seen D.seen L.seen E.seen P.seen Q.seen world.old)
-        (world_of R.seen O.seen B.seen D.seen L.seen E.seen P.seen Q.seen world.new) }
+        (world_of R.seen O.seen B.seen D.seen L.seen E.seen P.seen Q.seen S.seen world.old)
+        (world_of R.seen O.seen B.seen D.seen L.seen E.seen P.seen Q.seen S.seen world.new) }
 {
     let settings = match read_settings(alloc, &mut world.settings, &Address::File(settings)) {
         Ok(settings) => settings,
@@ -148,27 +152,29 @@ pub fn statsd<
     G: Gate + Sync,
     T: Clock + Sync,
     Q: Probe + Send,
+    S: Door<Asking: Send, Telling: Send> + Send,
     X: Threads + Wait + Sync,
 >(
     rt: &X,
     alloc: Global,
     words: &[String],
-    world: &mut World<R, O, B, D, L, E, P, G, T, Q>,
+    world: &mut World<R, O, B, D, L, E, P, G, T, Q, S>,
 ) -> Status
     requires packets { 16 ≤ length (world.old).packets.items }
     requires wires { 256 ≤ length (world.old).wires.items }
     requires beat { (P.seen (world.old).beat).turns < 2 ^ 62 }
     requires door { ((E.seen (world.old).door).is_out ≡ false) × ((E.seen (world.old).door).turns < 2 ^ 62) }
+    requires streams { ((S.seen (world.old).streams).is_out ≡ false) × ((S.seen (world.old).streams).turns < 2 ^ 62) }
     ensures accounting { Accounts (map (λ w. string_bytes w) words.now)
-        (world_of R.seen O.seen B.seen D.seen L.seen E.seen P.seen Q.seen world.old)
-        (world_of R.seen O.seen B.seen D.seen L.seen E.seen P.seen Q.seen world.new)
+        (world_of R.seen O.seen B.seen D.seen L.seen E.seen P.seen Q.seen S.seen world.old)
+        (world_of R.seen O.seen B.seen D.seen L.seen E.seen P.seen Q.seen S.seen world.new)
         (answer_of result) }
     ensures serving { AnswersServer (form (map (λ w. string_bytes w) words.now)) (T.may_say (world.old).clock) (answer_of result)
-        (world_of R.seen O.seen B.seen D.seen L.seen E.seen P.seen Q.seen world.old)
-        (world_of R.seen O.seen B.seen D.seen L.seen E.seen P.seen Q.seen world.new) }
+        (world_of R.seen O.seen B.seen D.seen L.seen E.seen P.seen Q.seen S.seen world.old)
+        (world_of R.seen O.seen B.seen D.seen L.seen E.seen P.seen Q.seen S.seen world.new) }
     ensures proxying { AnswersProxy (form (map (λ w. string_bytes w) words.now)) (answer_of result)
-        (world_of R.seen O.seen B.seen D.seen L.seen E.seen P.seen Q.seen world.old)
-        (world_of R.seen O.seen B.seen D.seen L.seen E.seen P.seen Q.seen world.new) }
+        (world_of R.seen O.seen B.seen D.seen L.seen E.seen P.seen Q.seen S.seen world.old)
+        (world_of R.seen O.seen B.seen D.seen L.seen E.seen P.seen Q.seen S.seen world.new) }
 {
     match form_of(words) {
         Some(Form::Replay { settings, script }) => replay_files(alloc, settings, script, world),

@@ -7,13 +7,14 @@ ghost use Rattle.sd_model_call.specs.Opening.{World};
 ghost use Rattle.sd_model_call.specs.Call.{Answer, Done, Misset};
 ghost use Rattle.sd_model_call.specs.Completeness.{IsBlocked, IsWhole};
 ghost use Rattle.sd_model_call.specs.Server.{AnswersServer, HasServed, ServerAccounts};
+ghost use Rattle.sd_model_call.specs.ServerOpening.{has_streams};
 ghost use Rattle.sd_model_call.specs.ServerCompleteness.{AreAllSpent, AsksToServe, IsCauseOf, IsServed, IsUnhinderedServer, NoneFailed};
 
 use sd_outside::Clock;
 
-/// A server that nothing hinders serves, unless memory, a wire, a backend or the door is lacking; one whose settings have a flaw
+/// A server that nothing hinders serves, unless memory, a wire, a backend or a door is lacking; one whose settings have a flaw
 /// says so. Each answer has its cause. And where no flushes are asked for, one that says that all was done has read its sources,
-/// its beat and its door to their ends.
+/// its beat and its doors to their ends.
 pub fn unhindered_servers_serve<T: Clock>(clock: &T)
     ensures serves { (words : List (List ℕ)) (values : file.Settings) (old new : World) (bytes : List ℕ) (answer : Answer)
         → AsksToServe words old bytes → settings bytes ≡ Ok values → IsUnhinderedServer old new
@@ -27,5 +28,5 @@ pub fn unhindered_servers_serve<T: Clock>(clock: &T)
     ensures causes { (name : List ℕ) (old new : World) (answer : Answer)
         → ServerAccounts name (T.may_say clock.now) answer old new → IsCauseOf name answer old new }
     ensures spent { (name : List ℕ) (old new : World) (served : HasServed name (T.may_say clock.now) Done old new)
-        → served.values.sizes.run_flushes ≡ 0 → AreAllSpent served.values.sizes.receivers new }
+        → served.values.sizes.run_flushes ≡ 0 → AreAllSpent served.values.sizes.receivers (has_streams served.values) new }
 {}

@@ -131,17 +131,19 @@ pub(crate) fn open_peers<
     G,
     T,
     Q: Probe,
->(runs: u16, peers: &[K], world: &mut World<R, O, B, D, L, E, P, G, T, Q>) -> Result<(), Status>
+    S: Door,
+>(runs: u16, peers: &[K], world: &mut World<R, O, B, D, L, E, P, G, T, Q, S>) -> Result<(), Status>
     requires few { runs * length peers.now ≤ 256 }
     requires wires { 256 ≤ length (world.old).wires.items }
-    ensures opened { OnOk result (world_of R.seen O.seen B.seen D.seen L.seen E.seen P.seen Q.seen world.new
-        ≡ opened_all (world_of R.seen O.seen B.seen D.seen L.seen E.seen P.seen Q.seen world.old) (numbered OfWire 0 (repeated runs (map K.place peers.now)))) }
+    ensures opened { OnOk result (world_of R.seen O.seen B.seen D.seen L.seen E.seen P.seen Q.seen S.seen world.new
+        ≡ opened_all (world_of R.seen O.seen B.seen D.seen L.seen E.seen P.seen Q.seen S.seen world.old) (numbered OfWire 0 (repeated runs (map K.place peers.now)))) }
     ensures refused { IfErr result (λ status. StopsAmong (numbered OfWire 0 (repeated runs (map K.place peers.now))) (answer_of status)
-        (world_of R.seen O.seen B.seen D.seen L.seen E.seen P.seen Q.seen world.old)
-        (world_of R.seen O.seen B.seen D.seen L.seen E.seen P.seen Q.seen world.new)) }
+        (world_of R.seen O.seen B.seen D.seen L.seen E.seen P.seen Q.seen S.seen world.old)
+        (world_of R.seen O.seen B.seen D.seen L.seen E.seen P.seen Q.seen S.seen world.new)) }
     ensures count { length (world.new).wires.items ≡ length (world.old).wires.items }
     ensures packets { (world.new).packets ≡ (world.old).packets }
     ensures door { (world.new).door ≡ (world.old).door }
+    ensures streams { (world.new).streams ≡ (world.old).streams }
     ensures beat { (world.new).beat ≡ (world.old).beat }
     ensures probe { (world.new).probe ≡ (world.old).probe }
     ensures backs { (world.new).backs ≡ (world.old).backs }
@@ -149,7 +151,7 @@ pub(crate) fn open_peers<
     ensures script { (world.new).script ≡ (world.old).script }
     ensures output { (world.new).output ≡ (world.old).output }
     ensures clock { (world.new).clock ≡ (world.old).clock }
-    ensures flags { (world_of R.seen O.seen B.seen D.seen L.seen E.seen P.seen Q.seen world.new).flags ≡ (world_of R.seen O.seen B.seen D.seen L.seen E.seen P.seen Q.seen world.old).flags }
+    ensures flags { (world_of R.seen O.seen B.seen D.seen L.seen E.seen P.seen Q.seen S.seen world.new).flags ≡ (world_of R.seen O.seen B.seen D.seen L.seen E.seen P.seen Q.seen S.seen world.old).flags }
 {
     open_runs(0, runs, peers, &mut world.wires)
 }
@@ -170,48 +172,50 @@ pub(crate) fn open_repeater<
     G,
     T,
     Q: Probe,
+    S: Door,
 >(
     runs: u16,
     settings: &Settings,
-    world: &mut World<R, O, B, D, L, E, P, G, T, Q>,
+    world: &mut World<R, O, B, D, L, E, P, G, T, Q, S>,
 ) -> Result<(), Status>
     requires runs { runs ≤ 16 }
     requires wires { 256 ≤ length (world.old).wires.items }
-    ensures opened { OnOk result (world_of R.seen O.seen B.seen D.seen L.seen E.seen P.seen Q.seen world.new
-        ≡ opened_all (world_of R.seen O.seen B.seen D.seen L.seen E.seen P.seen Q.seen world.old) (wire_openings runs settings.now)) }
+    ensures opened { OnOk result (world_of R.seen O.seen B.seen D.seen L.seen E.seen P.seen Q.seen S.seen world.new
+        ≡ opened_all (world_of R.seen O.seen B.seen D.seen L.seen E.seen P.seen Q.seen S.seen world.old) (wire_openings runs settings.now)) }
     ensures refused { IfErr result (λ status. StopsAmong (wire_openings runs settings.now) (answer_of status)
-        (world_of R.seen O.seen B.seen D.seen L.seen E.seen P.seen Q.seen world.old)
-        (world_of R.seen O.seen B.seen D.seen L.seen E.seen P.seen Q.seen world.new)) }
+        (world_of R.seen O.seen B.seen D.seen L.seen E.seen P.seen Q.seen S.seen world.old)
+        (world_of R.seen O.seen B.seen D.seen L.seen E.seen P.seen Q.seen S.seen world.new)) }
     ensures count { length (world.new).wires.items ≡ length (world.old).wires.items }
     ensures packets { (world.new).packets ≡ (world.old).packets }
     ensures door { (world.new).door ≡ (world.old).door }
+    ensures streams { (world.new).streams ≡ (world.old).streams }
     ensures beat { (world.new).beat ≡ (world.old).beat }
     ensures probe { (world.new).probe ≡ (world.old).probe }
     ensures settings { (world.new).settings ≡ (world.old).settings }
     ensures script { (world.new).script ≡ (world.old).script }
     ensures output { (world.new).output ≡ (world.old).output }
     ensures clock { (world.new).clock ≡ (world.old).clock }
-    ensures flags { (world_of R.seen O.seen B.seen D.seen L.seen E.seen P.seen Q.seen world.new).flags ≡ (world_of R.seen O.seen B.seen D.seen L.seen E.seen P.seen Q.seen world.old).flags }
+    ensures flags { (world_of R.seen O.seen B.seen D.seen L.seen E.seen P.seen Q.seen S.seen world.new).flags ≡ (world_of R.seen O.seen B.seen D.seen L.seen E.seen P.seen Q.seen S.seen world.old).flags }
     ensures few { length (targets_of settings.now) ≤ 16 }
 {
     open_peers(runs, targets_of(settings), world)
 }
 
-/// Opens a backend, where it is used.
+/// Opens an object, where it is used.
 ///
 /// # Errors
 ///
 /// `OpenFault` where it failed, and `OutOfMemory`.
-pub(crate) fn open_where<B: Backend>(
+pub(crate) fn open_where<T: Opens>(
     used: bool,
-    back: &mut B,
+    object: &mut T,
     at: &Address,
     part: Part,
 ) -> Result<(), Status>
-    ensures ok { OnOk result (B.seen back.new ≡ (if used then opened (place_of at.now) (B.seen back.old) else B.seen back.old)) }
-    ensures refused { IfErr result (λ status. (used ≡ true) × IsNotOpened (part_of part) (answer_of status) (B.seen back.old) (B.seen back.new)) }
+    ensures ok { OnOk result (T.seen object.new ≡ (if used then opened (place_of at.now) (T.seen object.old) else T.seen object.old)) }
+    ensures refused { IfErr result (λ status. (used ≡ true) × IsNotOpened (part_of part) (answer_of status) (T.seen object.old) (T.seen object.new)) }
 {
-    if used { open(back, at, part) } else { Ok(()) }
+    if used { open(object, at, part) } else { Ok(()) }
 }
 
 /// Opens what a replay by these settings uses: the script, a wire for each target of the repeater, and each backend that is used.
@@ -230,24 +234,26 @@ pub(crate) fn open_replay<
     G,
     T,
     Q: Probe,
+    S: Door,
 >(
     settings: &Settings,
     script: Name,
-    world: &mut World<R, O, B, D, L, E, P, G, T, Q>,
+    world: &mut World<R, O, B, D, L, E, P, G, T, Q, S>,
 ) -> Result<(), Status>
-    requires flags { (world_of R.seen O.seen B.seen D.seen L.seen E.seen P.seen Q.seen world.old).flags ≡ flags_of settings.now }
+    requires flags { (world_of R.seen O.seen B.seen D.seen L.seen E.seen P.seen Q.seen S.seen world.old).flags ≡ flags_of settings.now }
     requires wires { 256 ≤ length (world.old).wires.items }
-    ensures opened { OnOk result (world_of R.seen O.seen B.seen D.seen L.seen E.seen P.seen Q.seen world.new
-        ≡ opened_all (world_of R.seen O.seen B.seen D.seen L.seen E.seen P.seen Q.seen world.old) (replay_openings script.items settings.now)) }
+    ensures opened { OnOk result (world_of R.seen O.seen B.seen D.seen L.seen E.seen P.seen Q.seen S.seen world.new
+        ≡ opened_all (world_of R.seen O.seen B.seen D.seen L.seen E.seen P.seen Q.seen S.seen world.old) (replay_openings script.items settings.now)) }
     ensures refused { IfErr result (λ status. StopsAmong (replay_openings script.items settings.now) (answer_of status)
-        (world_of R.seen O.seen B.seen D.seen L.seen E.seen P.seen Q.seen world.old)
-        (world_of R.seen O.seen B.seen D.seen L.seen E.seen P.seen Q.seen world.new)) }
+        (world_of R.seen O.seen B.seen D.seen L.seen E.seen P.seen Q.seen S.seen world.old)
+        (world_of R.seen O.seen B.seen D.seen L.seen E.seen P.seen Q.seen S.seen world.new)) }
     ensures settings { (world.new).settings ≡ (world.old).settings }
     ensures packets { (world.new).packets ≡ (world.old).packets }
     ensures door { (world.new).door ≡ (world.old).door }
+    ensures streams { (world.new).streams ≡ (world.old).streams }
     ensures beat { (world.new).beat ≡ (world.old).beat }
     ensures probe { (world.new).probe ≡ (world.old).probe }
-    ensures flags { (world_of R.seen O.seen B.seen D.seen L.seen E.seen P.seen Q.seen world.new).flags ≡ (world_of R.seen O.seen B.seen D.seen L.seen E.seen P.seen Q.seen world.old).flags }
+    ensures flags { (world_of R.seen O.seen B.seen D.seen L.seen E.seen P.seen Q.seen S.seen world.new).flags ≡ (world_of R.seen O.seen B.seen D.seen L.seen E.seen P.seen Q.seen S.seen world.old).flags }
     ensures count { length (world.new).wires.items ≡ length (world.old).wires.items }
     ensures few { OnOk result (length (targets_of settings.now) ≤ 16) }
 {

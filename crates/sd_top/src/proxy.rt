@@ -79,18 +79,20 @@ fn open_proxy<
     G,
     T,
     Q: Probe,
->(settings: &Settings, world: &mut World<R, O, B, D, L, E, P, G, T, Q>) -> Result<(), Status>
+    S: Door,
+>(settings: &Settings, world: &mut World<R, O, B, D, L, E, P, G, T, Q, S>) -> Result<(), Status>
     requires fits { proxy_flaw settings.now ≡ None }
     requires packets { 16 ≤ length (world.old).packets.items }
     requires wires { 256 ≤ length (world.old).wires.items }
-    ensures opened { OnOk result (world_of R.seen O.seen B.seen D.seen L.seen E.seen P.seen Q.seen world.new
-        ≡ opened_all (world_of R.seen O.seen B.seen D.seen L.seen E.seen P.seen Q.seen world.old) (proxy_openings settings.now)) }
+    ensures opened { OnOk result (world_of R.seen O.seen B.seen D.seen L.seen E.seen P.seen Q.seen S.seen world.new
+        ≡ opened_all (world_of R.seen O.seen B.seen D.seen L.seen E.seen P.seen Q.seen S.seen world.old) (proxy_openings settings.now)) }
     ensures refused { IfErr result (λ status. StopsAmong (proxy_openings settings.now) (answer_of status)
-        (world_of R.seen O.seen B.seen D.seen L.seen E.seen P.seen Q.seen world.old)
-        (world_of R.seen O.seen B.seen D.seen L.seen E.seen P.seen Q.seen world.new)) }
+        (world_of R.seen O.seen B.seen D.seen L.seen E.seen P.seen Q.seen S.seen world.old)
+        (world_of R.seen O.seen B.seen D.seen L.seen E.seen P.seen Q.seen S.seen world.new)) }
     ensures packets { length (world.new).packets.items ≡ length (world.old).packets.items }
     ensures wires { length (world.new).wires.items ≡ length (world.old).wires.items }
     ensures door { (world.new).door ≡ (world.old).door }
+    ensures streams { (world.new).streams ≡ (world.old).streams }
     ensures beat { (world.new).beat ≡ (world.old).beat }
     ensures probe { (world.new).probe ≡ (world.old).probe }
     ensures backs { (world.new).backs ≡ (world.old).backs }
@@ -120,23 +122,24 @@ fn run_proxy<
     G: Gate + Sync,
     T,
     Q: Probe + Send,
+    S: Door,
     X: Threads + Wait + Sync,
 >(
     rt: &X,
     alloc: Global,
     settings: &Settings,
-    world: &mut World<R, O, B, D, L, E, P, G, T, Q>,
+    world: &mut World<R, O, B, D, L, E, P, G, T, Q, S>,
 ) -> Result<Relayed, Status>
     requires fits { proxy_flaw settings.now ≡ None }
     requires packets { 16 ≤ length (world.old).packets.items }
     requires wires { 256 ≤ length (world.old).wires.items }
     ensures relayed { IfOk result (HasRelayed settings.now
-        (world_of R.seen O.seen B.seen D.seen L.seen E.seen P.seen Q.seen world.old)
-        (world_of R.seen O.seen B.seen D.seen L.seen E.seen P.seen Q.seen world.new)) }
+        (world_of R.seen O.seen B.seen D.seen L.seen E.seen P.seen Q.seen S.seen world.old)
+        (world_of R.seen O.seen B.seen D.seen L.seen E.seen P.seen Q.seen S.seen world.new)) }
     ensures few { IfOk result (λ relayed. length relayed.received.items ≤ 16) }
     ensures refused { IfErr result (λ status. StopsAmong (proxy_openings settings.now) (answer_of status)
-        (world_of R.seen O.seen B.seen D.seen L.seen E.seen P.seen Q.seen world.old)
-        (world_of R.seen O.seen B.seen D.seen L.seen E.seen P.seen Q.seen world.new)) }
+        (world_of R.seen O.seen B.seen D.seen L.seen E.seen P.seen Q.seen S.seen world.old)
+        (world_of R.seen O.seen B.seen D.seen L.seen E.seen P.seen Q.seen S.seen world.new)) }
 {
     let receivers = u16::try_from(settings.receivers()).unwrap();
     let nodes = settings.nodes();
@@ -227,13 +230,19 @@ pub(crate) fn proxy_files<
     G: Gate + Sync,
     T,
     Q: Probe + Send,
+    S: Door,
     X: Threads + Wait + Sync,
->(rt: &X, alloc: Global, settings: Name, world: &mut World<R, O, B, D, L, E, P, G, T, Q>) -> Status
+>(
+    rt: &X,
+    alloc: Global,
+    settings: Name,
+    world: &mut World<R, O, B, D, L, E, P, G, T, Q, S>,
+) -> Status
     requires packets { 16 ≤ length (world.old).packets.items }
     requires wires { 256 ≤ length (world.old).wires.items }
     ensures { ProxyAccounts settings.items (answer_of result)
-        (world_of R.seen O.seen B.seen D.seen L.seen E.seen P.seen Q.seen world.old)
-        (world_of R.seen O.seen B.seen D.seen L.seen E.seen P.seen Q.seen world.new) }
+        (world_of R.seen O.seen B.seen D.seen L.seen E.seen P.seen Q.seen S.seen world.old)
+        (world_of R.seen O.seen B.seen D.seen L.seen E.seen P.seen Q.seen S.seen world.new) }
 {
     let settings = match read_settings(alloc, &mut world.settings, &Address::File(settings)) {
         Ok(settings) => settings,

@@ -13,7 +13,7 @@ ghost use Rattle.sd_top.specs.World.{world_of};
 
 use crate::call::World;
 use crate::server_end::finish;
-use crate::server_opening::open_server;
+use crate::server_opening::{open_server, reads_streams};
 use crate::settings::read_settings;
 use crate::status::Status;
 use sd_config::{NamesOf, Settings};
@@ -38,6 +38,9 @@ fn sizes_of(settings: &Settings) -> Sizes
         shards: u16::try_from(settings.shards()).unwrap(),
         receivers: u16::try_from(settings.receivers()).unwrap(),
         wires: u16::try_from(targets_of(settings).len()).unwrap(),
+        streams: reads_streams(settings),
+        outlets: settings.outlets(),
+        outlet_bytes: settings.outlet_bytes(),
     }
 }
 
@@ -58,30 +61,32 @@ pub(crate) fn run_server<
     G: Gate + Sync,
     T: Clock + Sync,
     Q: Probe + Send,
+    S: Door<Asking: Send, Telling: Send> + Send,
     X: Threads + Wait + Sync,
 >(
     rt: &X,
     alloc: Global,
     settings: &Settings,
-    world: &mut World<R, O, B, D, L, E, P, G, T, Q>,
+    world: &mut World<R, O, B, D, L, E, P, G, T, Q, S>,
 ) -> Result<Served, Status>
-    requires flags { (world_of R.seen O.seen B.seen D.seen L.seen E.seen P.seen Q.seen world.old).flags ≡ flags_of settings.now }
+    requires flags { (world_of R.seen O.seen B.seen D.seen L.seen E.seen P.seen Q.seen S.seen world.old).flags ≡ flags_of settings.now }
     requires packets { 16 ≤ length (world.old).packets.items }
     requires wires { 256 ≤ length (world.old).wires.items }
     requires beat { (P.seen (world.old).beat).turns < 2 ^ 62 }
     requires door { ((E.seen (world.old).door).is_out ≡ false) × ((E.seen (world.old).door).turns < 2 ^ 62) }
+    requires streams { ((S.seen (world.old).streams).is_out ≡ false) × ((S.seen (world.old).streams).turns < 2 ^ 62) }
     ensures served { IfOk result (HasServed (serves_by settings.now) (T.may_say (world.old).clock)
-        (objects_in (begun settings.now (world_of R.seen O.seen B.seen D.seen L.seen E.seen P.seen Q.seen world.old)))
-        (objects_in (world_of R.seen O.seen B.seen D.seen L.seen E.seen P.seen Q.seen world.new))) }
+        (objects_in (begun settings.now (world_of R.seen O.seen B.seen D.seen L.seen E.seen P.seen Q.seen S.seen world.old)))
+        (objects_in (world_of R.seen O.seen B.seen D.seen L.seen E.seen P.seen Q.seen S.seen world.new))) }
     ensures few { IfOk result (λ served. length served.received.items ≤ 16) }
     ensures settings { (world.new).settings ≡ (world.old).settings }
     ensures script { (world.new).script ≡ (world.old).script }
     ensures output { (world.new).output ≡ (world.old).output }
     ensures probe { (world.new).probe ≡ (world.old).probe }
-    ensures flags { (world_of R.seen O.seen B.seen D.seen L.seen E.seen P.seen Q.seen world.new).flags ≡ (world_of R.seen O.seen B.seen D.seen L.seen E.seen P.seen Q.seen world.old).flags }
+    ensures flags { (world_of R.seen O.seen B.seen D.seen L.seen E.seen P.seen Q.seen S.seen world.new).flags ≡ (world_of R.seen O.seen B.seen D.seen L.seen E.seen P.seen Q.seen S.seen world.old).flags }
     ensures refused { IfErr result (λ status. StopsAmong (server_openings settings.now) (answer_of status)
-        (world_of R.seen O.seen B.seen D.seen L.seen E.seen P.seen Q.seen world.old)
-        (world_of R.seen O.seen B.seen D.seen L.seen E.seen P.seen Q.seen world.new)) }
+        (world_of R.seen O.seen B.seen D.seen L.seen E.seen P.seen Q.seen S.seen world.old)
+        (world_of R.seen O.seen B.seen D.seen L.seen E.seen P.seen Q.seen S.seen world.new)) }
 {
     let start = world.clock.now();
     let Ok(room) = ServerRoom::open(alloc, sizes_of(settings), start) else {
@@ -102,6 +107,7 @@ pub(crate) fn run_server<
         &mut world.beat,
         &mut world.backs,
         &mut world.door,
+        &mut world.streams,
         &world.gate,
         &world.clock,
     ))
@@ -119,15 +125,22 @@ pub(crate) fn serve_files<
     G: Gate + Sync,
     T: Clock + Sync,
     Q: Probe + Send,
+    S: Door<Asking: Send, Telling: Send> + Send,
     X: Threads + Wait + Sync,
->(rt: &X, alloc: Global, settings: Name, world: &mut World<R, O, B, D, L, E, P, G, T, Q>) -> Status
+>(
+    rt: &X,
+    alloc: Global,
+    settings: Name,
+    world: &mut World<R, O, B, D, L, E, P, G, T, Q, S>,
+) -> Status
     requires packets { 16 ≤ length (world.old).packets.items }
     requires wires { 256 ≤ length (world.old).wires.items }
     requires beat { (P.seen (world.old).beat).turns < 2 ^ 62 }
     requires door { ((E.seen (world.old).door).is_out ≡ false) × ((E.seen (world.old).door).turns < 2 ^ 62) }
+    requires streams { ((S.seen (world.old).streams).is_out ≡ false) × ((S.seen (world.old).streams).turns < 2 ^ 62) }
     ensures { ServerAccounts settings.items (T.may_say (world.old).clock) (answer_of result)
-        (world_of R.seen O.seen B.seen D.seen L.seen E.seen P.seen Q.seen world.old)
-        (world_of R.seen O.seen B.seen D.seen L.seen E.seen P.seen Q.seen world.new) }
+        (world_of R.seen O.seen B.seen D.seen L.seen E.seen P.seen Q.seen S.seen world.old)
+        (world_of R.seen O.seen B.seen D.seen L.seen E.seen P.seen Q.seen S.seen world.new) }
 {
     let settings = match read_settings(alloc, &mut world.settings, &Address::File(settings)) {
         Ok(settings) => settings,

@@ -1,20 +1,21 @@
 //! What a server tells once its run has ended: the totals, and the status.
-ghost use Rattle.std.specs.Prelude.{◌≡◌, ◌≤◌, ◌++◌, [], ◌∷◌, length, map, sum_by};
+ghost use Rattle.std.specs.Prelude.{◌≡◌, ◌≤◌, ◌++◌, ◌∷◌, length, map, sum_by};
+ghost use Rattle.std.specs.Option.{option_to_list};
 ghost use Rattle.std.specs.List.{list_any};
 ghost use Rattle.sd_model_call.specs.Call.{WritesTotals};
 ghost use Rattle.sd_model_call.specs.Server.{is_worn};
-ghost use Rattle.sd_model_replay.specs.Totals.{totals_text};
 ghost use Rattle.sd_replay.specs.Totals.{totals_view};
 ghost use Rattle.sd_serve.specs.Serving.{door_end_of, end_of};
 ghost use Rattle.sd_top.specs.Answers.{answer_of};
-ghost use Rattle.sd_top.specs.Serving.{ends_of, totals_in};
+ghost use Rattle.sd_top.specs.Serving.{ends_of, lines_by, lines_in, totals_in};
 
 use crate::ends::{any_worn, by_receivers, by_turns, cut, took_most_turns};
 use crate::status::{Part, Status};
+use sd_decimal::Line;
 use sd_desk::Desk;
-use sd_outside::{DoorEnd, Ended, Sink, WriteFault};
-use sd_replay::{Totals, write_totals};
-use sd_serve::{Ends, Served};
+use sd_outside::{DoorEnd, Ended, Failed, Sink, write_all};
+use sd_replay::{Totals, push_total, totals_text};
+use sd_serve::{Ends, OutCounts, Served};
 use sd_shard::ShardBook;
 use sd_shards::ShardsBook;
 
@@ -51,12 +52,41 @@ fn add_up(books: &[ShardBook]) -> ShardsBook
     sums
 }
 
-/// The totals of shards with these numbers, and of a desk.
-fn totals_of(books: &[ShardBook], desk: &Desk) -> Totals
+/// The totals of shards with these numbers and of a desk, with what outlets counted, if there were any.
+fn totals_of(books: &[ShardBook], desk: &Desk, outs: &Option<OutCounts>) -> Totals
     requires { length books.now ≤ 16 }
-    ensures { totals_view result ≡ totals_in books.now desk.now }
+    ensures { totals_view result ≡ totals_in books.now desk.now outs.now }
 {
-    Totals::new(&add_up(books), desk)
+    let totals = Totals::new(&add_up(books), desk);
+    let Some(outs) = outs else {
+        return totals;
+    };
+    let facts = desk.facts();
+    Totals {
+        graphite_faults: u128::from(facts.graphite_faults) + u128::from(outs.graphite.faults),
+        console_faults: u128::from(facts.console_faults) + u128::from(outs.console.faults),
+        ..totals
+    }
+}
+
+/// The lines that are told of a run with these totals, and with what outlets counted, if there were any.
+fn lines_of(totals: &Totals, outs: &Option<OutCounts>) -> Line
+    ensures { result.items ≡ lines_by (totals_view totals.now) outs.now }
+{
+    let mut line = totals_text(totals);
+    if let Some(outs) = outs {
+        push_total(
+            b"graphite_skipped",
+            u128::from(outs.skips.graphite),
+            &mut line,
+        );
+        push_total(
+            b"console_skipped",
+            u128::from(outs.skips.console),
+            &mut line,
+        );
+    }
+    line
 }
 
 /// Whether the keeper of the door ended since it took the most turns.
@@ -66,11 +96,28 @@ fn keeper_worn(ended: &DoorEnd) -> bool
     matches!(ended, DoorEnd::Worn { .. })
 }
 
-/// Whether any worker ended so.
-fn some_worn(received: &[Ended], ends: &Ends) -> bool
-    ensures { result ≡ list_any is_worn (map end_of received.now ++ end_of (ends.now).flusher ∷ door_end_of (ends.now).keeper ∷ []) }
+/// Whether the keeper of lines did, if there is one.
+fn liner_worn(ended: &Option<DoorEnd>) -> bool
+    ensures { result ≡ list_any is_worn (map door_end_of (option_to_list ended.now)) }
 {
-    any_worn(received) || took_most_turns(&ends.flusher) || keeper_worn(&ends.keeper)
+    match ended {
+        Some(ended) => keeper_worn(ended),
+        None => false,
+    }
+}
+
+/// Whether a worker beside the receivers did.
+fn other_worn(ends: &Ends) -> bool
+    ensures { result ≡ list_any is_worn (end_of (ends.now).flusher ∷ door_end_of (ends.now).keeper ∷ map door_end_of (option_to_list (ends.now).liner)) }
+{
+    took_most_turns(&ends.flusher) || keeper_worn(&ends.keeper) || liner_worn(&ends.liner)
+}
+
+/// Whether any worker did.
+fn some_worn(received: &[Ended], ends: &Ends) -> bool
+    ensures { result ≡ list_any is_worn (map end_of received.now ++ end_of (ends.now).flusher ∷ door_end_of (ends.now).keeper ∷ map door_end_of (option_to_list (ends.now).liner)) }
+{
+    any_worn(received) || other_worn(ends)
 }
 
 /// How a run is answered whose workers ended so, where its totals are written.
@@ -88,12 +135,13 @@ fn status_after(received: &[Ended], ends: &Ends) -> Status
 /// Writes the totals of a run, and answers how it ended.
 pub(crate) fn finish<O: Sink>(served: &Served, output: &mut O) -> Status
     requires { length (served.now).received.items ≤ 16 }
-    ensures { WritesTotals (totals_text (totals_in (served.now).books.items (served.now).desk)) (ends_of (served.now).received.items (served.now).ends)
+    ensures { WritesTotals (lines_in (served.now).books.items (served.now).desk (served.now).outs) (ends_of (served.now).received.items (served.now).ends)
         (answer_of result) (O.seen output.old) (O.seen output.new) }
 {
     let status = status_after(&served.received, &served.ends);
-    match write_totals(&totals_of(&served.books, &served.desk), output) {
+    let totals = totals_of(&served.books, &served.desk, &served.outs);
+    match write_all(output, lines_of(&totals, &served.outs).as_slice()) {
         Ok(()) => status,
-        Err(WriteFault) => cut(status),
+        Err(Failed) => cut(status),
     }
 }

@@ -1,9 +1,9 @@
 //! The parts of a server, opened in their order.
-ghost use Rattle.std.specs.Prelude.{◌≡◌, ◌+◌, ◌<◌, ◌≤◌, ◌^◌, [], ◌∷◌, length, map, OnOk, IfErr};
+ghost use Rattle.std.specs.Prelude.{◌≡◌, ◌+◌, ◌<◌, ◌≤◌, ◌^◌, [], ◌∷◌, length, map, if◌then◌else◌, OnOk, IfErr};
 ghost use Rattle.sd_model_outside.specs.Outside.{Host, opened};
 ghost use Rattle.sd_model_call.specs.Call.{StopsAmong};
 ghost use Rattle.sd_model_call.specs.Opening.{OfSource, flags_of, opened_all, repeated};
-ghost use Rattle.sd_model_call.specs.ServerOpening.{server_openings, source_openings};
+ghost use Rattle.sd_model_call.specs.ServerOpening.{door_openings, has_streams, server_openings, source_openings};
 ghost use Rattle.sd_outside.specs.Places.{place_of};
 ghost use Rattle.sd_top.specs.Answers.{answer_of};
 ghost use Rattle.sd_top.specs.Causes.{EachStops, opened_each};
@@ -69,16 +69,18 @@ pub(crate) fn open_packets<
     G,
     T,
     Q: Probe,
->(settings: &Settings, world: &mut World<R, O, B, D, L, E, P, G, T, Q>) -> Result<(), Status>
+    S: Door,
+>(settings: &Settings, world: &mut World<R, O, B, D, L, E, P, G, T, Q, S>) -> Result<(), Status>
     requires { 16 ≤ length (world.old).packets.items }
-    ensures opened { OnOk result (world_of R.seen O.seen B.seen D.seen L.seen E.seen P.seen Q.seen world.new
-        ≡ opened_all (world_of R.seen O.seen B.seen D.seen L.seen E.seen P.seen Q.seen world.old) (source_openings settings.now)) }
+    ensures opened { OnOk result (world_of R.seen O.seen B.seen D.seen L.seen E.seen P.seen Q.seen S.seen world.new
+        ≡ opened_all (world_of R.seen O.seen B.seen D.seen L.seen E.seen P.seen Q.seen S.seen world.old) (source_openings settings.now)) }
     ensures refused { IfErr result (λ status. StopsAmong (source_openings settings.now) (answer_of status)
-        (world_of R.seen O.seen B.seen D.seen L.seen E.seen P.seen Q.seen world.old)
-        (world_of R.seen O.seen B.seen D.seen L.seen E.seen P.seen Q.seen world.new)) }
+        (world_of R.seen O.seen B.seen D.seen L.seen E.seen P.seen Q.seen S.seen world.old)
+        (world_of R.seen O.seen B.seen D.seen L.seen E.seen P.seen Q.seen S.seen world.new)) }
     ensures count { length (world.new).packets.items ≡ length (world.old).packets.items }
     ensures wires { (world.new).wires ≡ (world.old).wires }
     ensures door { (world.new).door ≡ (world.old).door }
+    ensures streams { (world.new).streams ≡ (world.old).streams }
     ensures beat { (world.new).beat ≡ (world.old).beat }
     ensures probe { (world.new).probe ≡ (world.old).probe }
     ensures backs { (world.new).backs ≡ (world.old).backs }
@@ -86,11 +88,64 @@ pub(crate) fn open_packets<
     ensures script { (world.new).script ≡ (world.old).script }
     ensures output { (world.new).output ≡ (world.old).output }
     ensures clock { (world.new).clock ≡ (world.old).clock }
-    ensures flags { (world_of R.seen O.seen B.seen D.seen L.seen E.seen P.seen Q.seen world.new).flags ≡ (world_of R.seen O.seen B.seen D.seen L.seen E.seen P.seen Q.seen world.old).flags }
+    ensures flags { (world_of R.seen O.seen B.seen D.seen L.seen E.seen P.seen Q.seen S.seen world.new).flags ≡ (world_of R.seen O.seen B.seen D.seen L.seen E.seen P.seen Q.seen S.seen world.old).flags }
 {
     let receivers = u16::try_from(settings.receivers()).unwrap();
     let at = host_address(settings.address(), settings.port());
     open_sources(0, receivers, &at, &mut world.packets)
+}
+
+/// Whether a server by these settings reads lines of streams.
+pub(crate) fn reads_streams(settings: &Settings) -> bool
+    ensures { result ≡ has_streams settings.now }
+{
+    settings.tcp_port() > 0
+}
+
+/// Opens the admin door, and the door of streams, where it is used.
+///
+/// # Errors
+///
+/// `OpenFault` where one failed, and `OutOfMemory`.
+fn open_doors<
+    R: Source,
+    O: Sink,
+    B: Backend,
+    D: Datagrams,
+    L: Wire,
+    E: Door,
+    P: Beat,
+    G,
+    T,
+    Q: Probe,
+    S: Door,
+>(settings: &Settings, world: &mut World<R, O, B, D, L, E, P, G, T, Q, S>) -> Result<(), Status>
+    ensures opened { OnOk result (world_of R.seen O.seen B.seen D.seen L.seen E.seen P.seen Q.seen S.seen world.new
+        ≡ opened_all (world_of R.seen O.seen B.seen D.seen L.seen E.seen P.seen Q.seen S.seen world.old) (door_openings settings.now)) }
+    ensures refused { IfErr result (λ status. StopsAmong (door_openings settings.now) (answer_of status)
+        (world_of R.seen O.seen B.seen D.seen L.seen E.seen P.seen Q.seen S.seen world.old)
+        (world_of R.seen O.seen B.seen D.seen L.seen E.seen P.seen Q.seen S.seen world.new)) }
+    ensures door { OnOk result (E.seen (world.new).door ≡ opened (Host (settings.now).addresses.mgmt_address (settings.now).server.mgmt_port) (E.seen (world.old).door)) }
+    ensures streams { OnOk result (S.seen (world.new).streams ≡ (if has_streams settings.now then opened (Host (settings.now).addresses.address (settings.now).transport.tcp_port) (S.seen (world.old).streams) else S.seen (world.old).streams)) }
+    ensures packets { (world.new).packets ≡ (world.old).packets }
+    ensures wires { (world.new).wires ≡ (world.old).wires }
+    ensures backs { (world.new).backs ≡ (world.old).backs }
+    ensures beat { (world.new).beat ≡ (world.old).beat }
+    ensures probe { (world.new).probe ≡ (world.old).probe }
+    ensures settings { (world.new).settings ≡ (world.old).settings }
+    ensures script { (world.new).script ≡ (world.old).script }
+    ensures output { (world.new).output ≡ (world.old).output }
+    ensures clock { (world.new).clock ≡ (world.old).clock }
+{
+    let door = host_address(settings.mgmt_address(), settings.mgmt_port());
+    open(&mut world.door, &door, Part::Door)?;
+    let streams = host_address(settings.address(), settings.tcp_port());
+    open_where(
+        reads_streams(settings),
+        &mut world.streams,
+        &streams,
+        Part::Streams,
+    )
 }
 
 /// Opens all parts of a server by these settings, in their order.
@@ -109,25 +164,27 @@ pub(crate) fn open_server<
     G,
     T,
     Q: Probe,
->(settings: &Settings, world: &mut World<R, O, B, D, L, E, P, G, T, Q>) -> Result<(), Status>
-    requires flags { (world_of R.seen O.seen B.seen D.seen L.seen E.seen P.seen Q.seen world.old).flags ≡ flags_of settings.now }
+    S: Door,
+>(settings: &Settings, world: &mut World<R, O, B, D, L, E, P, G, T, Q, S>) -> Result<(), Status>
+    requires flags { (world_of R.seen O.seen B.seen D.seen L.seen E.seen P.seen Q.seen S.seen world.old).flags ≡ flags_of settings.now }
     requires packets { 16 ≤ length (world.old).packets.items }
     requires wires { 256 ≤ length (world.old).wires.items }
-    ensures opened { OnOk result (world_of R.seen O.seen B.seen D.seen L.seen E.seen P.seen Q.seen world.new
-        ≡ opened_all (world_of R.seen O.seen B.seen D.seen L.seen E.seen P.seen Q.seen world.old) (server_openings settings.now)) }
+    ensures opened { OnOk result (world_of R.seen O.seen B.seen D.seen L.seen E.seen P.seen Q.seen S.seen world.new
+        ≡ opened_all (world_of R.seen O.seen B.seen D.seen L.seen E.seen P.seen Q.seen S.seen world.old) (server_openings settings.now)) }
     ensures refused { IfErr result (λ status. StopsAmong (server_openings settings.now) (answer_of status)
-        (world_of R.seen O.seen B.seen D.seen L.seen E.seen P.seen Q.seen world.old)
-        (world_of R.seen O.seen B.seen D.seen L.seen E.seen P.seen Q.seen world.new)) }
+        (world_of R.seen O.seen B.seen D.seen L.seen E.seen P.seen Q.seen S.seen world.old)
+        (world_of R.seen O.seen B.seen D.seen L.seen E.seen P.seen Q.seen S.seen world.new)) }
     ensures packets { length (world.new).packets.items ≡ length (world.old).packets.items }
     ensures wires { length (world.new).wires.items ≡ length (world.old).wires.items }
     ensures door { OnOk result (E.seen (world.new).door ≡ opened (Host (settings.now).addresses.mgmt_address (settings.now).server.mgmt_port) (E.seen (world.old).door)) }
+    ensures streams { OnOk result (S.seen (world.new).streams ≡ (if has_streams settings.now then opened (Host (settings.now).addresses.address (settings.now).transport.tcp_port) (S.seen (world.old).streams) else S.seen (world.old).streams)) }
     ensures beat { (world.new).beat ≡ (world.old).beat }
     ensures probe { (world.new).probe ≡ (world.old).probe }
     ensures settings { (world.new).settings ≡ (world.old).settings }
     ensures script { (world.new).script ≡ (world.old).script }
     ensures output { (world.new).output ≡ (world.old).output }
     ensures clock { (world.new).clock ≡ (world.old).clock }
-    ensures flags { (world_of R.seen O.seen B.seen D.seen L.seen E.seen P.seen Q.seen world.new).flags ≡ (world_of R.seen O.seen B.seen D.seen L.seen E.seen P.seen Q.seen world.old).flags }
+    ensures flags { (world_of R.seen O.seen B.seen D.seen L.seen E.seen P.seen Q.seen S.seen world.new).flags ≡ (world_of R.seen O.seen B.seen D.seen L.seen E.seen P.seen Q.seen S.seen world.old).flags }
 {
     let receivers = u16::try_from(settings.receivers()).unwrap();
     open_packets(settings, world)?;
@@ -146,6 +203,5 @@ pub(crate) fn open_server<
         &Address::File(Name::new()),
         Part::Console,
     )?;
-    let door = host_address(settings.mgmt_address(), settings.mgmt_port());
-    open(&mut world.door, &door, Part::Door)
+    open_doors(settings, world)
 }

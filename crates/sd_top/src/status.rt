@@ -29,6 +29,7 @@ pub enum Part {
     Graphite,
     Console,
     Door,
+    Streams,
 }
 
 /// How a run ended.
@@ -114,6 +115,7 @@ fn push_part(part: Part, out: &mut Line)
         Part::Graphite => push_text(b"graphite", out),
         Part::Console => push_text(b"console", out),
         Part::Door => push_text(b"door", out),
+        Part::Streams => push_text(b"streams", out),
     }
 }
 

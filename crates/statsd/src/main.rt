@@ -75,6 +75,13 @@ const ADMIN_SIZES: DoorSizes = DoorSizes {
     long_lines: LongLines::Split,
 };
 
+/// What the port for streams of lines holds of its clients: one byte more than a line may have, so that a longer one is known.
+const STREAM_SIZES: DoorSizes = DoorSizes {
+    clients: 256,
+    line: 65_508,
+    long_lines: LongLines::Cut,
+};
+
 /// The variable of the environment that names the file whose being there stops a server or a proxy.
 const STOP_FILE: &str = "STATSD_STOP";
 
@@ -170,6 +177,7 @@ fn run<'a>(
         gate: NoGate,
         clock: SystemClock::new(rt),
         probe: TcpProbe::new(rt),
+        streams: TcpDoor::new(rt, alloc, &shared.stop, STREAM_SIZES),
     };
     statsd(threads, alloc, behind_name(words.as_slice()), &mut world)
 }

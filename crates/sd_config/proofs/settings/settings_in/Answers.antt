@@ -1,6 +1,6 @@
 use Rattle.toml.specs.View.{table_view}
 use Rattle.sd_model_settings.specs.Settings.{top}
-use Rattle.sd_model_settings.proofs.SettingsInRange.{server_read, addresses_read, namespace_read, entry_lists_read, sizes_read, flush_rules_read}
+use Rattle.sd_model_settings.proofs.SettingsInRange.{server_read, addresses_read, namespace_read, entry_lists_read, sizes_read, flush_rules_read, transport_read}
 use Rattle.sd_config.proofs.settings.settings_in.Goals as goal
 
 pub of-requires : goal.of-requires
@@ -26,4 +26,5 @@ invariant_of-result c =
       lists.nodes,
       sizes_read (top (table_view c.args.table.now)) c.in_ok-sizes.ensures,
       (flush_rules_read (top (table_view c.args.table.now)) c.in_ok-gauges_max_ttl.ensures).gauges_max_ttl,
+      transport_read (top (table_view c.args.table.now)) c.in_ok-transport.ensures,
     )

@@ -1,4 +1,4 @@
-use Rattle.sd_model_settings.proofs.EarlierLemmas.{settings_kept, earlier_rules_in_force}
+use Rattle.sd_model_settings.proofs.EarlierLemmas.{settings_kept, earlier_rules_in_force, earlier_transport_in_force, settings_kept_before_outlets, transport_before_outlets}
 use Rattle.sd_model_settings.proofs.earlier.earlier_files.Goals as goal
 
 pub returns-clause-kept : goal.returns-clause-kept
@@ -6,3 +6,12 @@ returns-clause-kept c = settings_kept
 
 pub returns-clause-rules : goal.returns-clause-rules
 returns-clause-rules c = earlier_rules_in_force
+
+pub returns-clause-transport : goal.returns-clause-transport
+returns-clause-transport c = earlier_transport_in_force
+
+pub returns-clause-kept_before_outlets : goal.returns-clause-kept_before_outlets
+returns-clause-kept_before_outlets c = settings_kept_before_outlets
+
+pub returns-clause-none_before_outlets : goal.returns-clause-none_before_outlets
+returns-clause-none_before_outlets c = transport_before_outlets

@@ -2,7 +2,7 @@ use Rattle.std.proofs.Common.{◌≡◌, Bool, ◌||◌, sym, ap, subst, ◌∙�
 use Rattle.sd_model_stream.specs.Streams.{any_worn}
 use Rattle.sd_outside.specs.declared.door.DoorEnd.{DoorEnd}
 use Rattle.sd_shared_desk.specs.Shared.{part_of}
-use Rattle.sd_door.specs.Keeping.{EndsKeeping}
+use Rattle.sd_door.specs.Keeping.{EndsAfter}
 use Rattle.sd_receive.proofs.DoorLemmas.{counted_whole, read_by}
 use Rattle.sd_receive.proofs.lining.read_all.Goals as goal
 
@@ -26,6 +26,8 @@ returns-clause-keeps g c =
         filed = all.filed;
         counted = counted_whole k.amounts _ _ _ _ all.has k.counted;
       };
+      turned = c.keep_door-kept.ensures.ends.turns;
+      turns = c.keep_door-kept.ensures.ends.turned;
       worn = λ is. c.ended_by.ensures.worn (worn ∙ is);
-      ends = λ is. subst (λ (ended : DoorEnd). EndsKeeping c.args.run_flushes ended (g.E.Faulty.seen c.args.door.now) (g.E.Faulty.seen c.keep_door-kept.new.door) (part_of c.keep_door-kept.new.own)) (sym (c.ended_by.ensures.kept (worn ∙ is))) c.keep_door-kept.ensures.ends;
+      ends = λ is. subst (λ (ended : DoorEnd). EndsAfter c.args.run_flushes ended (g.E.Faulty.seen c.keep_door-kept.new.door) (part_of c.keep_door-kept.new.own) c.keep_door-kept.ensures.ends.turns) (sym (c.ended_by.ensures.kept (worn ∙ is))) c.keep_door-kept.ensures.ends.ends;
     }

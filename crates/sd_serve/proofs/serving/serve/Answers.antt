@@ -1,21 +1,26 @@
-use Rattle.std.proofs.Common.{◌≡◌, ◌+◌, ◌++◌, ◌∷◌, [], List, All, length, map, flat_map, refl, sym, ap, subst, ◌∙◌, arith, append-nil, length-append}
+use Rattle.std.proofs.Common.{◌≡◌, ℕ, ◌+◌, ◌++◌, ◌∷◌, [], Bool, List, All, length, map, flat_map, refl, sym, ap, subst, ◌∙◌, arith, append-nil, length-append}
 use Rattle.std.specs.List.{AllByRecursion}
-use Rattle.std.proofs.lemmas.List.{with_items_is, length-map}
+use Rattle.std.proofs.lemmas.List.{with_items_is, length-map, map-append}
+use Rattle.std.proofs.lemmas.List.Elements.{All-append}
 use Rattle.sd_seats.specs.Lists.{span}
 use Rattle.sd_desk.specs.Marks.{marks_of}
 use Rattle.sd_pool.specs.Pool.{IsNewSeatOf, IsSeatOf, own_at, who_is}
 use Rattle.sd_pool.specs.declared.seat.Seat.{Seat}
-use Rattle.sd_pool.proofs.AlongLemmas.{AllByRecursion-back, AllByRecursion-front, none_in}
-use Rattle.sd_shared_desk.specs.Shared.{IsNewSeatOf as IsNewDeskSeatOf, IsSeatOf as IsDeskSeatOf, OwnSeat as DeskSeat, number_of_seat, part_of}
+use Rattle.sd_pool.proofs.AlongLemmas.{AllByRecursion-append, AllByRecursion-back, AllByRecursion-front, none_in}
+use Rattle.sd_shared_desk.specs.Shared.{IsNewSeatOf as IsNewDeskSeatOf, IsSeatOf as IsDeskSeatOf, number_of_seat, part_of}
 use Rattle.sd_flush.specs.Flushing.{MakesRoundAt, back_of, form_of, uses, uses_by}
 use Rattle.sd_flush.specs.Tables.{waiting_in}
 use Rattle.sd_receive.specs.Posts.{IsReady}
 use Rattle.sd_serve.specs.Closing.{IsClosed, WasRun, ended_in}
+use Rattle.sd_serve.specs.LinePost.{line_keepers, line_owns, line_seats}
+use Rattle.sd_serve.specs.OutRoom.{has_rooms}
 use Rattle.sd_serve.specs.Parts.{IsFitted, own_in, seat_in, source_in, wires_in}
-use Rattle.sd_serve.specs.Room.{sizing_in}
+use Rattle.sd_serve.specs.Room.{sizing_in, submitters, with_outlets}
 use Rattle.sd_serve.specs.Serving.{end_of}
+use Rattle.sd_serve.specs.Through.{FlushesThrough}
+use Rattle.sd_serve.proofs.LineLemmas.{line_callers, line_longs, line_owns_are, line_seats_are}
 use Rattle.sd_serve.proofs.PostLemmas.{AreNew, all_ran, all_were_run, ran_callers, ran_owns, ran_seats, ran_wires, receptions_ended}
-use Rattle.sd_serve.proofs.RoomLemmas.{counted_by, left_behind, new_posts, ready_posts}
+use Rattle.sd_serve.proofs.RoomLemmas.{counted_by, left_behind, line_long, line_new, line_ready, line_there, lines_long, new_posts, part_behind, parts_behind, ready_posts, rooms_ready, rooms_there}
 use Rattle.sd_serve.proofs.ServeLemmas.{Told, by_recursion}
 use Rattle.sd_serve.proofs.ServedLemmas.{served_as}
 use Rattle.sd_serve.proofs.serving.serve.Goals as goal
@@ -23,52 +28,95 @@ use Rattle.sd_serve.proofs.serving.serve.Goals as goal
 pub gather-requires-clause-seats : goal.gather-requires-clause-seats
 gather-requires-clause-seats g c =
     let room = c.requires.room in
-    let all = counted_by who_is c.args.room.seats.receivers.items (sizing_in c.args.room).receivers room.callers in
+    let all = counted_by who_is c.args.room.seats.receivers.items (submitters (sizing_in c.args.room)) room.callers in
     omega (arith, all, room.places)
 
 pub gather-requires-clause-owns : goal.gather-requires-clause-owns
 gather-requires-clause-owns g c =
     let room = c.requires.room in
-    let all = counted_by number_of_seat c.args.room.owns.items ((sizing_in c.args.room).receivers + 2) room.numbers in
+    let all = counted_by number_of_seat c.args.room.owns.items (submitters (sizing_in c.args.room) + 2) room.numbers in
     omega (arith, all, room.places)
+
+pub take_line_post-line_post-requires-clause-seats : goal.take_line_post-line_post-requires-clause-seats
+take_line_post-line_post-requires-clause-seats g c =
+    let room = c.requires.room in
+    let sizing = sizing_in c.args.room in
+    let xs = c.gather.new.posts.items in
+    let all = counted_by who_is c.args.room.seats.receivers.items (submitters sizing) room.callers in
+    let left = left_behind c.args.room.seats.receivers.items (map seat_in xs) c.gather.new.seats.items sizing.receivers (line_keepers sizing.streams) c.gather.ensures.seats all (length-map xs seat_in ∙ c.gather.ensures.len ∙ room.places) in
+    let there = line_there sizing.streams c.args.room.lines room.lines in
+    omega (arith, left, there)
+
+pub take_line_post-line_post-requires-clause-owns : goal.take_line_post-line_post-requires-clause-owns
+take_line_post-line_post-requires-clause-owns g c =
+    let room = c.requires.room in
+    let sizing = sizing_in c.args.room in
+    let xs = c.gather.new.posts.items in
+    let all = counted_by number_of_seat c.args.room.owns.items (submitters sizing + 2) room.numbers in
+    let left = left_behind c.args.room.owns.items (map own_in xs) c.gather.new.owns.items sizing.receivers (line_keepers sizing.streams + 2) c.gather.ensures.owns (omega (arith, all)) (length-map xs own_in ∙ c.gather.ensures.len ∙ room.places) in
+    let there = line_there sizing.streams c.args.room.lines room.lines in
+    omega (arith, left, there)
 
 pub take_first-own-requires : goal.take_first-own-requires
 take_first-own-requires g c =
     let room = c.requires.room in
+    let sizing = sizing_in c.args.room in
     let xs = c.gather.new.posts.items in
-    let all = counted_by number_of_seat c.args.room.owns.items ((sizing_in c.args.room).receivers + 2) room.numbers in
-    let left = left_behind c.args.room.owns.items (map own_in xs) c.gather.new.owns.items (sizing_in c.args.room).receivers 2 c.gather.ensures.owns all (length-map xs own_in ∙ c.gather.ensures.len ∙ room.places) in
-    omega (arith, left)
+    let all = counted_by number_of_seat c.args.room.owns.items (submitters sizing + 2) room.numbers in
+    let left = left_behind c.args.room.owns.items (map own_in xs) c.gather.new.owns.items sizing.receivers (line_keepers sizing.streams + 2) c.gather.ensures.owns (omega (arith, all)) (length-map xs own_in ∙ c.gather.ensures.len ∙ room.places) in
+    let there = line_there sizing.streams c.args.room.lines room.lines in
+    let line = lines_long c.take_line_post-line_post.result c.args.room.lines c.take_line_post-line_post.ensures.room in
+    let last = left_behind c.gather.new.owns.items (line_owns c.take_line_post-line_post.result) c.take_line_post-line_post.new.owns.items (line_keepers sizing.streams) 2 c.take_line_post-line_post.ensures.owns left (line.1 ∙ there) in
+    omega (arith, last)
 
 pub take_first-admin_own-requires : goal.take_first-admin_own-requires
 take_first-admin_own-requires g c =
     let room = c.requires.room in
+    let sizing = sizing_in c.args.room in
     let xs = c.gather.new.posts.items in
-    let all = counted_by number_of_seat c.args.room.owns.items ((sizing_in c.args.room).receivers + 2) room.numbers in
-    let left = left_behind c.args.room.owns.items (map own_in xs) c.gather.new.owns.items (sizing_in c.args.room).receivers 2 c.gather.ensures.owns all (length-map xs own_in ∙ c.gather.ensures.len ∙ room.places) in
+    let all = counted_by number_of_seat c.args.room.owns.items (submitters sizing + 2) room.numbers in
+    let left = left_behind c.args.room.owns.items (map own_in xs) c.gather.new.owns.items sizing.receivers (line_keepers sizing.streams + 2) c.gather.ensures.owns (omega (arith, all)) (length-map xs own_in ∙ c.gather.ensures.len ∙ room.places) in
+    let there = line_there sizing.streams c.args.room.lines room.lines in
+    let line = lines_long c.take_line_post-line_post.result c.args.room.lines c.take_line_post-line_post.ensures.room in
+    let last = left_behind c.gather.new.owns.items (line_owns c.take_line_post-line_post.result) c.take_line_post-line_post.new.owns.items (line_keepers sizing.streams) 2 c.take_line_post-line_post.ensures.owns left (line.1 ∙ there) in
     let next = ap length c.take_first-own.ensures.items in
-    omega (arith, left, next)
+    omega (arith, last, next)
 
-pub run_server-ends-requires-clause-own : goal.run_server-ends-requires-clause-own
-run_server-ends-requires-clause-own g c κs within = (AllByRecursion-back (IsNewDeskSeatOf c.args.room.desk) (map own_in c.gather.new.posts.items) (c.take_first-own.result ∷ c.take_first-admin_own.result ∷ c.take_first-admin_own.new.items.items)
-    (subst (AllByRecursion (IsNewDeskSeatOf c.args.room.desk)) (c.gather.ensures.owns ∙ ap (λ (l : List DeskSeat). map own_in c.gather.new.posts.items ++ l) (c.take_first-own.ensures.items ∙ ap (λ (l : List DeskSeat). c.take_first-own.result ∷ l) c.take_first-admin_own.ensures.items))
-    (by_recursion (IsNewDeskSeatOf c.args.room.desk) c.args.room.owns.items c.requires.room.owns))).0.own
+pub run_all-counts-requires-clause-own : goal.run_all-counts-requires-clause-own
+run_all-counts-requires-clause-own g c κs within =
+    let room = c.args.room in
+    (parts_behind (IsNewDeskSeatOf room.desk) room.owns.items (map own_in c.gather.new.posts.items) c.gather.new.owns.items (line_owns c.take_line_post-line_post.result) c.take_line_post-line_post.new.owns.items c.take_first-own.new.items.items c.take_first-admin_own.new.items.items
+    c.take_first-own.result c.take_first-admin_own.result (by_recursion (IsNewDeskSeatOf room.desk) room.owns.items c.requires.room.owns) c.gather.ensures.owns c.take_line_post-line_post.ensures.owns c.take_first-own.ensures.items c.take_first-admin_own.ensures.items).1.own
 
-pub run_server-ends-requires-clause-admin_own : goal.run_server-ends-requires-clause-admin_own
-run_server-ends-requires-clause-admin_own g c κs within = (AllByRecursion-back (IsNewDeskSeatOf c.args.room.desk) (map own_in c.gather.new.posts.items) (c.take_first-own.result ∷ c.take_first-admin_own.result ∷ c.take_first-admin_own.new.items.items)
-    (subst (AllByRecursion (IsNewDeskSeatOf c.args.room.desk)) (c.gather.ensures.owns ∙ ap (λ (l : List DeskSeat). map own_in c.gather.new.posts.items ++ l) (c.take_first-own.ensures.items ∙ ap (λ (l : List DeskSeat). c.take_first-own.result ∷ l) c.take_first-admin_own.ensures.items))
-    (by_recursion (IsNewDeskSeatOf c.args.room.desk) c.args.room.owns.items c.requires.room.owns))).1.0.own
+pub run_all-counts-requires-clause-admin_own : goal.run_all-counts-requires-clause-admin_own
+run_all-counts-requires-clause-admin_own g c κs within =
+    let room = c.args.room in
+    (parts_behind (IsNewDeskSeatOf room.desk) room.owns.items (map own_in c.gather.new.posts.items) c.gather.new.owns.items (line_owns c.take_line_post-line_post.result) c.take_line_post-line_post.new.owns.items c.take_first-own.new.items.items c.take_first-admin_own.new.items.items
+    c.take_first-own.result c.take_first-admin_own.result (by_recursion (IsNewDeskSeatOf room.desk) room.owns.items c.requires.room.owns) c.gather.ensures.owns c.take_line_post-line_post.ensures.owns c.take_first-own.ensures.items c.take_first-admin_own.ensures.items).2.own
 
-pub run_server-ends-requires-clause-seat : goal.run_server-ends-requires-clause-seat
-run_server-ends-requires-clause-seat g c κs within =
+pub run_all-counts-requires-clause-line_post : goal.run_all-counts-requires-clause-line_post
+run_all-counts-requires-clause-line_post g c κs within =
+    let room = c.args.room in
+    let line = c.take_line_post-line_post in
+    let owns = (parts_behind (IsNewDeskSeatOf room.desk) room.owns.items (map own_in c.gather.new.posts.items) c.gather.new.owns.items (line_owns line.result) line.new.owns.items c.take_first-own.new.items.items c.take_first-admin_own.new.items.items
+    c.take_first-own.result c.take_first-admin_own.result (by_recursion (IsNewDeskSeatOf room.desk) room.owns.items c.requires.room.owns) c.gather.ensures.owns line.ensures.owns c.take_first-own.ensures.items c.take_first-admin_own.ensures.items).0 in
+    let seats = part_behind (IsNewSeatOf room.pool) room.seats.receivers.items (map seat_in c.gather.new.posts.items) c.gather.new.seats.items (line_seats line.result) line.new.seats.items
+    (AllByRecursion-front (IsNewSeatOf room.pool) room.seats.receivers.items (room.seats.flusher ∷ room.seats.admin ∷ []) c.requires.room.seats) c.gather.ensures.seats line.ensures.seats in
+    line_ready room.pool room.desk (sizing_in room).streams room.lines line.result c.requires.room.lines line.ensures.room seats owns
+
+pub run_all-counts-requires-clause-outs : goal.run_all-counts-requires-clause-outs
+run_all-counts-requires-clause-outs g c κs within = rooms_ready (with_outlets (sizing_in c.args.room)) c.args.room.outs c.requires.room.outs
+
+pub run_all-counts-requires-clause-seat : goal.run_all-counts-requires-clause-seat
+run_all-counts-requires-clause-seat g c κs within =
     ((AllByRecursion-back (IsNewSeatOf c.args.room.pool) c.args.room.seats.receivers.items (c.args.room.seats.flusher ∷ c.args.room.seats.admin ∷ []) c.requires.room.seats).0.seat_is, c.requires.room.flushes)
 
-pub run_server-ends-requires-clause-admin_seat : goal.run_server-ends-requires-clause-admin_seat
-run_server-ends-requires-clause-admin_seat g c κs within =
+pub run_all-counts-requires-clause-admin_seat : goal.run_all-counts-requires-clause-admin_seat
+run_all-counts-requires-clause-admin_seat g c κs within =
     ((AllByRecursion-back (IsNewSeatOf c.args.room.pool) c.args.room.seats.receivers.items (c.args.room.seats.flusher ∷ c.args.room.seats.admin ∷ []) c.requires.room.seats).1.0.seat_is, c.requires.room.commands)
 
-pub run_server-ends-requires-clause-posts : goal.run_server-ends-requires-clause-posts
-run_server-ends-requires-clause-posts g c κs within =
+pub run_all-counts-requires-clause-posts : goal.run_all-counts-requires-clause-posts
+run_all-counts-requires-clause-posts g c κs within =
     let room = c.args.room in
     let xs = c.gather.new.posts.items in
     let few = c.requires.room.sizes_are.few_wires in
@@ -81,7 +129,7 @@ run_server-ends-requires-clause-posts g c κs within =
 
 pub ends_in-received-requires-clause-run : goal.ends_in-received-requires-clause-run
 ends_in-received-requires-clause-run g c =
-    let ran = c.run_server-ends in
+    let ran = c.run_all-counts in
     let slice = c.as_mut_slice in
     let same = with_items_is c.gather.new.posts ran.new.posts (ran.ensures.len ∙ slice.ensures.len) in
     let all = all_ran g.D.Faulty.seen g.L.Faulty.seen c.args.room.pool c.args.room.desk c.args.run_flushes slice.result.now ran.new.posts ran.ensures.len ran.ensures.each in
@@ -89,7 +137,7 @@ ends_in-received-requires-clause-run g c =
 
 pub close-books-requires-clause-packets : goal.close-books-requires-clause-packets
 close-books-requires-clause-packets g c =
-    let ran = c.run_server-ends in
+    let ran = c.run_all-counts in
     let slice = c.as_mut_slice in
     let xs = c.gather.new.posts.items in
     let count = ap length (with_items_is c.gather.new.posts ran.new.posts (ran.ensures.len ∙ slice.ensures.len)) ∙ ran.ensures.len ∙ ap length slice.ensures.value in
@@ -99,7 +147,7 @@ close-books-requires-clause-packets g c =
 
 pub close-books-requires-clause-wires : goal.close-books-requires-clause-wires
 close-books-requires-clause-wires g c =
-    let ran = c.run_server-ends in
+    let ran = c.run_all-counts in
     let slice = c.as_mut_slice in
     let xs = c.gather.new.posts.items in
     let same = with_items_is c.gather.new.posts ran.new.posts (ran.ensures.len ∙ slice.ensures.len) in
@@ -111,57 +159,102 @@ close-books-requires-clause-wires g c =
 pub close-books-requires-clause-none : goal.close-books-requires-clause-none
 close-books-requires-clause-none g c =
     let room = c.requires.room in
+    let sizing = sizing_in c.args.room in
+    let n = sizing.receivers in
+    let k = line_keepers sizing.streams in
     let xs = c.gather.new.posts.items in
-    let n = (sizing_in c.args.room).receivers in
-    let seats = counted_by who_is c.args.room.seats.receivers.items n room.callers in
-    let owns = counted_by number_of_seat c.args.room.owns.items (n + 2) room.numbers in
+    let line = c.take_line_post-line_post in
+    let seats = counted_by who_is c.args.room.seats.receivers.items (submitters sizing) room.callers in
+    let owns = counted_by number_of_seat c.args.room.owns.items (submitters sizing + 2) room.numbers in
     let first = length-map xs seat_in ∙ c.gather.ensures.len ∙ room.places in
     let first_owns = length-map xs own_in ∙ c.gather.ensures.len ∙ room.places in
-    let left = left_behind c.args.room.owns.items (map own_in xs) c.gather.new.owns.items n 2 c.gather.ensures.owns owns first_owns in
+    let there = line_there sizing.streams c.args.room.lines room.lines in
+    let long = lines_long line.result c.args.room.lines line.ensures.room in
+    let left_seats = left_behind c.args.room.seats.receivers.items (map seat_in xs) c.gather.new.seats.items n k c.gather.ensures.seats seats first in
+    let left_owns = left_behind c.args.room.owns.items (map own_in xs) c.gather.new.owns.items n (k + 2) c.gather.ensures.owns (omega (arith, owns)) first_owns in
+    let last = left_behind c.gather.new.owns.items (line_owns line.result) line.new.owns.items k 2 line.ensures.owns left_owns (long.1 ∙ there) in
     let one = ap length c.take_first-own.ensures.items in
     let two = ap length c.take_first-admin_own.ensures.items in (
-      none_in c.gather.new.seats.items (left_behind c.args.room.seats.receivers.items (map seat_in xs) c.gather.new.seats.items n 0 c.gather.ensures.seats (omega (arith, seats)) first),
-      none_in c.take_first-admin_own.new.items.items (omega (arith, left, one, two)),
+      none_in line.new.seats.items (left_behind c.gather.new.seats.items (line_seats line.result) line.new.seats.items k 0 line.ensures.seats (omega (arith, left_seats)) (long.0 ∙ there)),
+      none_in c.take_first-admin_own.new.items.items (omega (arith, last, one, two)),
     )
 
 pub close-books-requires-clause-places : goal.close-books-requires-clause-places
 close-books-requires-clause-places g c =
-    let ran = c.run_server-ends in
+    let ran = c.run_all-counts in
     let slice = c.as_mut_slice in
+    let line = c.take_line_post-line_post in
+    let sizing = sizing_in c.args.room in
     let count = ap length (with_items_is c.gather.new.posts ran.new.posts (ran.ensures.len ∙ slice.ensures.len)) ∙ ran.ensures.len ∙ ap length slice.ensures.value in
-    let seats = counted_by who_is c.args.room.seats.receivers.items (sizing_in c.args.room).receivers c.requires.room.callers in
-    omega (arith, count, c.gather.ensures.len, c.requires.room.places, seats, c.gather.ensures.seats_room, c.args.room.seats.receivers.ok.0, c.args.room.seats.receivers.ok.1)
+    let seats = counted_by who_is c.args.room.seats.receivers.items (submitters sizing) c.requires.room.callers in
+    let there = line_there sizing.streams c.args.room.lines c.requires.room.lines in
+    let long = lines_long line.result c.args.room.lines line.ensures.room in
+    let now = line_longs c.args.room.pool c.args.room.desk c.args.run_flushes line.result ran.new.line_post ran.result.0.liner (g.S.Faulty.seen c.args.streams.now) (g.S.Faulty.seen ran.new.streams) ran.ensures.lines in
+    omega (arith, count, c.gather.ensures.len, c.requires.room.places, seats, there, long.0, now.0, c.gather.ensures.seats_room, line.ensures.seats_room, c.args.room.seats.receivers.ok.0, c.args.room.seats.receivers.ok.1)
 
 pub close-books-requires-clause-own_places : goal.close-books-requires-clause-own_places
 close-books-requires-clause-own_places g c =
-    let ran = c.run_server-ends in
+    let ran = c.run_all-counts in
     let slice = c.as_mut_slice in
+    let line = c.take_line_post-line_post in
+    let sizing = sizing_in c.args.room in
     let count = ap length (with_items_is c.gather.new.posts ran.new.posts (ran.ensures.len ∙ slice.ensures.len)) ∙ ran.ensures.len ∙ ap length slice.ensures.value in
-    let owns = counted_by number_of_seat c.args.room.owns.items ((sizing_in c.args.room).receivers + 2) c.requires.room.numbers in
-    omega (arith, count, c.gather.ensures.len, c.requires.room.places, owns, c.gather.ensures.owns_room, c.take_first-own.ensures.capacity, c.take_first-admin_own.ensures.capacity, c.args.room.owns.ok.0, c.args.room.owns.ok.1)
+    let owns = counted_by number_of_seat c.args.room.owns.items (submitters sizing + 2) c.requires.room.numbers in
+    let there = line_there sizing.streams c.args.room.lines c.requires.room.lines in
+    let long = lines_long line.result c.args.room.lines line.ensures.room in
+    let now = line_longs c.args.room.pool c.args.room.desk c.args.run_flushes line.result ran.new.line_post ran.result.0.liner (g.S.Faulty.seen c.args.streams.now) (g.S.Faulty.seen ran.new.streams) ran.ensures.lines in
+    omega (arith, count, c.gather.ensures.len, c.requires.room.places, owns, there, long.1, now.1, c.gather.ensures.owns_room, line.ensures.owns_room, c.take_first-own.ensures.capacity, c.take_first-admin_own.ensures.capacity, c.args.room.owns.ok.0, c.args.room.owns.ok.1)
+
+pub close-books-requires-clause-count : goal.close-books-requires-clause-count
+close-books-requires-clause-count g c =
+    let ran = c.run_all-counts in
+    let slice = c.as_mut_slice in
+    let line = c.take_line_post-line_post in
+    let sizing = sizing_in c.args.room in
+    let count = ap length (with_items_is c.gather.new.posts ran.new.posts (ran.ensures.len ∙ slice.ensures.len)) ∙ ran.ensures.len ∙ ap length slice.ensures.value in
+    let there = line_there sizing.streams c.args.room.lines c.requires.room.lines in
+    let long = lines_long line.result c.args.room.lines line.ensures.room in
+    let now = line_longs c.args.room.pool c.args.room.desk c.args.run_flushes line.result ran.new.line_post ran.result.0.liner (g.S.Faulty.seen c.args.streams.now) (g.S.Faulty.seen ran.new.streams) ran.ensures.lines in
+    omega (arith, count, c.gather.ensures.len, c.requires.room.places, c.requires.room.receivers, there, long.0, now.0)
+
+pub close-books-requires-clause-own_count : goal.close-books-requires-clause-own_count
+close-books-requires-clause-own_count g c =
+    let ran = c.run_all-counts in
+    let slice = c.as_mut_slice in
+    let line = c.take_line_post-line_post in
+    let sizing = sizing_in c.args.room in
+    let count = ap length (with_items_is c.gather.new.posts ran.new.posts (ran.ensures.len ∙ slice.ensures.len)) ∙ ran.ensures.len ∙ ap length slice.ensures.value in
+    let there = line_there sizing.streams c.args.room.lines c.requires.room.lines in
+    let long = lines_long line.result c.args.room.lines line.ensures.room in
+    let now = line_longs c.args.room.pool c.args.room.desk c.args.run_flushes line.result ran.new.line_post ran.result.0.liner (g.S.Faulty.seen c.args.streams.now) (g.S.Faulty.seen ran.new.streams) ran.ensures.lines in
+    omega (arith, count, c.gather.ensures.len, c.requires.room.places, c.requires.room.desk_seats, there, long.1, now.1)
 
 pub close-books-requires-clause-receivers : goal.close-books-requires-clause-receivers
 close-books-requires-clause-receivers g c =
-    let ran = c.run_server-ends in
+    let ran = c.run_all-counts in
     let slice = c.as_mut_slice in
     let same = with_items_is c.gather.new.posts ran.new.posts (ran.ensures.len ∙ slice.ensures.len) in
     let all = all_ran g.D.Faulty.seen g.L.Faulty.seen c.args.room.pool c.args.room.desk c.args.run_flushes slice.result.now ran.new.posts ran.ensures.len ran.ensures.each in
-    subst (λ l. AllByRecursion (IsSeatOf c.args.room.pool) (map seat_in l)) (sym same) (ran_seats g.D.Faulty.seen g.L.Faulty.seen c.args.room.pool c.args.room.desk c.args.run_flushes slice.result.now ran.new.posts all)
+    let line = line_seats_are c.args.room.pool c.args.room.desk c.args.run_flushes c.take_line_post-line_post.result ran.new.line_post ran.result.0.liner (g.S.Faulty.seen c.args.streams.now) (g.S.Faulty.seen ran.new.streams) ran.ensures.lines in
+    subst (λ l. AllByRecursion (IsSeatOf c.args.room.pool) (map seat_in l ++ line_seats ran.new.line_post)) (sym same)
+    (AllByRecursion-append (IsSeatOf c.args.room.pool) (map seat_in ran.new.posts) (line_seats ran.new.line_post) (ran_seats g.D.Faulty.seen g.L.Faulty.seen c.args.room.pool c.args.room.desk c.args.run_flushes slice.result.now ran.new.posts all) line)
 
 pub close-books-requires-clause-owns : goal.close-books-requires-clause-owns
 close-books-requires-clause-owns g c =
-    let ran = c.run_server-ends in
+    let ran = c.run_all-counts in
     let slice = c.as_mut_slice in
     let same = with_items_is c.gather.new.posts ran.new.posts (ran.ensures.len ∙ slice.ensures.len) in
     let all = all_ran g.D.Faulty.seen g.L.Faulty.seen c.args.room.pool c.args.room.desk c.args.run_flushes slice.result.now ran.new.posts ran.ensures.len ran.ensures.each in
-    subst (λ l. All (IsDeskSeatOf c.args.room.desk) (map own_in l)) (sym same) (ran_owns g.D.Faulty.seen g.L.Faulty.seen c.args.room.pool c.args.room.desk c.args.run_flushes slice.result.now ran.new.posts all)
+    let line = line_owns_are c.args.room.pool c.args.room.desk c.args.run_flushes c.take_line_post-line_post.result ran.new.line_post ran.result.0.liner (g.S.Faulty.seen c.args.streams.now) (g.S.Faulty.seen ran.new.streams) ran.ensures.lines in
+    subst (λ l. All (IsDeskSeatOf c.args.room.desk) (map own_in l ++ line_owns ran.new.line_post)) (sym same)
+    (All-append (IsDeskSeatOf c.args.room.desk) (map own_in ran.new.posts) (line_owns ran.new.line_post) (ran_owns g.D.Faulty.seen g.L.Faulty.seen c.args.room.pool c.args.room.desk c.args.run_flushes slice.result.now ran.new.posts all) line)
 
 pub returns-clause-served : goal.returns-clause-served
 returns-clause-served g c =
     let room = c.args.room in
     let is = c.requires.room in
     let n = (sizing_in room).receivers in
-    let ran = c.run_server-ends in
+    let ran = c.run_all-counts in
     let slice = c.as_mut_slice in
     let gathered = c.gather.ensures in
     let xs = slice.result.now in
@@ -172,17 +265,34 @@ returns-clause-served g c =
     let seats = AllByRecursion-front (IsNewSeatOf room.pool) room.seats.receivers.items (room.seats.flusher ∷ room.seats.admin ∷ []) is.seats in
     let others = AllByRecursion-back (IsNewSeatOf room.pool) room.seats.receivers.items (room.seats.flusher ∷ room.seats.admin ∷ []) is.seats in
     let owns = subst (AllByRecursion (IsNewDeskSeatOf room.desk)) gathered.owns (by_recursion (IsNewDeskSeatOf room.desk) room.owns.items is.owns) in
-    let taken = c.take_first-own.ensures.items ∙ ap (λ (l : List DeskSeat). c.take_first-own.result ∷ l) c.take_first-admin_own.ensures.items in
-    let left = subst (AllByRecursion (IsNewDeskSeatOf room.desk)) taken (AllByRecursion-back (IsNewDeskSeatOf room.desk) (map own_in c.gather.new.posts.items) c.gather.new.owns.items owns) in
+    let line = c.take_line_post-line_post in
+    let left = parts_behind (IsNewDeskSeatOf room.desk) room.owns.items (map own_in c.gather.new.posts.items) c.gather.new.owns.items (line_owns line.result) line.new.owns.items c.take_first-own.new.items.items c.take_first-admin_own.new.items.items
+    c.take_first-own.result c.take_first-admin_own.result (by_recursion (IsNewDeskSeatOf room.desk) room.owns.items is.owns) gathered.owns line.ensures.owns c.take_first-own.ensures.items c.take_first-admin_own.ensures.items in
+    let line_new_seats = part_behind (IsNewSeatOf room.pool) room.seats.receivers.items (map seat_in c.gather.new.posts.items) c.gather.new.seats.items (line_seats line.result) line.new.seats.items seats gathered.seats line.ensures.seats in
+    let streams_before = g.S.Faulty.seen c.args.streams.now in
+    let streams_behind = g.S.Faulty.seen ran.new.streams in
+    let k = line_keepers (sizing_in room).streams in
+    let there = line_there (sizing_in room).streams room.lines is.lines in
+    let long = lines_long line.result room.lines line.ensures.room in
+    let now_long = line_longs room.pool room.desk c.args.run_flushes line.result ran.new.line_post ran.result.0.liner streams_before streams_behind ran.ensures.lines in
     let new_xs = new_posts room.pool room.desk c.gather.new.posts.items c.gather.new.seats.items c.gather.new.owns.items (subst (AllByRecursion (IsNewSeatOf room.pool)) gathered.seats seats) owns in
     let count : length ys ≡ n = ran.ensures.len ∙ ap length value ∙ gathered.len ∙ is.places in
     let first = length-map c.gather.new.posts.items seat_in ∙ gathered.len ∙ is.places in
-    let receivers = counted_by who_is room.seats.receivers.items n is.callers in
-    let none = none_in c.gather.new.seats.items (left_behind room.seats.receivers.items (map seat_in c.gather.new.posts.items) c.gather.new.seats.items n 0 gathered.seats (omega (arith, receivers)) first) in
-    let all_seats = gathered.seats ∙ ap (λ (l : List Seat). map seat_in c.gather.new.posts.items ++ l) none ∙ append-nil (map seat_in c.gather.new.posts.items) in
-    let callers = ran_callers g.D.Faulty.seen g.L.Faulty.seen room.pool room.desk c.args.run_flushes xs ys all ∙ ap (λ l. map who_is (map seat_in l)) value ∙ sym (ap (map who_is) all_seats) ∙ is.callers ∙ ap (span 0) (sym (length-map ys seat_in ∙ count)) in
+    let receivers = counted_by who_is room.seats.receivers.items (submitters (sizing_in room)) is.callers in
+    let left_seats = left_behind room.seats.receivers.items (map seat_in c.gather.new.posts.items) c.gather.new.seats.items n k gathered.seats receivers first in
+    let none = none_in line.new.seats.items (left_behind c.gather.new.seats.items (line_seats line.result) line.new.seats.items k 0 line.ensures.seats (omega (arith, left_seats)) (long.0 ∙ there)) in
+    let all_seats : room.seats.receivers.items ≡ map seat_in c.gather.new.posts.items ++ line_seats line.result =
+    gathered.seats ∙ ap (λ (l : List Seat). map seat_in c.gather.new.posts.items ++ l) (line.ensures.seats ∙ ap (λ (l : List Seat). line_seats line.result ++ l) none ∙ append-nil (line_seats line.result)) in
+    let front_long : length (map seat_in ys ++ line_seats ran.new.line_post) ≡ submitters (sizing_in room) =
+    (let both = length-append (map seat_in ys) (line_seats ran.new.line_post) in let posts_long = length-map ys seat_in in omega (arith, both, posts_long, count, now_long.0, long.0, there)) in
+    let callers : map who_is (map seat_in ys ++ line_seats ran.new.line_post) ≡ span 0 (length (map seat_in ys ++ line_seats ran.new.line_post)) =
+    map-append who_is (map seat_in ys) (line_seats ran.new.line_post)
+    ∙ ap (λ (l : List ℕ). l ++ map who_is (line_seats ran.new.line_post)) (ran_callers g.D.Faulty.seen g.L.Faulty.seen room.pool room.desk c.args.run_flushes xs ys all ∙ ap (λ l. map who_is (map seat_in l)) value)
+    ∙ ap (λ (l : List ℕ). map who_is (map seat_in c.gather.new.posts.items) ++ l) (line_callers room.pool room.desk c.args.run_flushes line.result ran.new.line_post ran.result.0.liner streams_before streams_behind ran.ensures.lines)
+    ∙ sym (map-append who_is (map seat_in c.gather.new.posts.items) (line_seats line.result)) ∙ sym (ap (map who_is) all_seats) ∙ is.callers ∙ ap (span 0) (sym front_long) in
+    let outlets : has_rooms room.outs ≡ with_outlets (sizing_in room) = rooms_there (with_outlets (sizing_in room)) room.outs is.outs in
     let flags : uses ran.new.backs ≡ uses c.args.backs.now = (λ i. uses_by (ran.ensures.graphite_flag i) (ran.ensures.console_flag i)) in
-    let told : Told g.D.Faulty.seen g.L.Faulty.seen room.pool room.desk c.args.plan.now c.args.names.now (uses c.args.backs.now) c.args.settings.now c.from.result c.args.run_flushes (g.C.Clock.may_say c.args.clock.now) = record {
+    let told : Told g.D.Faulty.seen g.L.Faulty.seen room.pool room.desk c.args.plan.now c.args.names.now (uses c.args.backs.now) c.args.settings.now n c.from.result (sizing_in room).streams (with_outlets (sizing_in room)) c.args.run_flushes (g.C.Clock.may_say c.args.clock.now) = record {
       xs = xs;
       ys = ys;
       more = c.gather.new.packets.items;
@@ -190,7 +300,15 @@ returns-clause-served g c =
       all = all;
       new_posts = subst AreNew (sym value) new_xs;
       fitted = subst (AllByRecursion (IsFitted c.from.result)) (sym value) (by_recursion (IsFitted c.from.result) c.gather.new.posts.items gathered.fitted);
-      count = count ∙ sym is.receivers;
+      count = count;
+      line = line.result;
+      line_now = ran.new.line_post;
+      line_end = ran.result.0.liner;
+      stream_door = streams_before;
+      stream_door_now = streams_behind;
+      lines = ran.ensures.lines;
+      new_line = line_new room.pool room.desk line.result line_new_seats left.0;
+      there = line_long line.result room.lines line.ensures.room ∙ there;
       flushing = c.round.new.seat;
       administering = ran.new.admin_seat;
       callers = callers;
@@ -203,14 +321,16 @@ returns-clause-served g c =
       no_flush = others.0.own;
       part = part_of c.take_first-own.result;
       part_mid = part_of ran.new.own;
-      no_share = left.0.share;
+      no_share = left.1.share;
       back = back_of g.B.Faulty.seen c.args.backs.now;
       back_mid = back_of g.B.Faulty.seen ran.new.backs;
       back_now = back_of g.B.Faulty.seen c.round.new.backs;
       beat = g.P.Faulty.seen c.args.beat.now;
       beat_now = g.P.Faulty.seen ran.new.beat;
-      end = ran.result.flusher;
-      flushes = ran.ensures.flushes;
+      end = ran.result.0.flusher;
+      counts = ran.result.1;
+      flushes = subst (λ (b : Bool). FlushesThrough (form_of room.pool c.args.plan.now c.args.names.now) (uses c.args.backs.now) b c.args.run_flushes (own_at room.seats.flusher) (own_at ran.new.seat) (part_of c.take_first-own.result) (part_of ran.new.own)
+          (back_of g.B.Faulty.seen c.args.backs.now) (back_of g.B.Faulty.seen ran.new.backs) (g.P.Faulty.seen c.args.beat.now) (g.P.Faulty.seen ran.new.beat) ran.result.0.flusher ran.result.1) outlets ran.ensures.flushes;
       ts = c.now.result;
       marks = marks_of c.round.result;
       waiting = waiting_in c.round.new.tables;
@@ -220,21 +340,21 @@ returns-clause-served g c =
       commanded = own_at room.seats.admin;
       no_command = others.1.0.own;
       admin_part = part_of c.take_first-admin_own.result;
-      no_admin_share = left.1.0.share;
+      no_admin_share = left.2.share;
       door = g.E.Faulty.seen c.args.door.now;
       door_now = g.E.Faulty.seen ran.new.door;
       serves = ran.ensures.serves;
-      door_end = ran.result.keeper;
+      door_end = ran.result.0.keeper;
       keeps = ran.ensures.keeper;
       books = c.close-books.result.0.items;
       after = c.close-books.result.1;
-      closed = subst (λ l. IsClosed room.pool room.desk (map seat_in l ++ c.round.new.seat ∷ ran.new.admin_seat ∷ []) (map own_in l ++ c.round.new.own ∷ ran.new.admin_own ∷ []) c.close-books.result.0.items c.close-books.result.1) same c.close-books.ensures.closed;
+      closed = subst (λ l. IsClosed room.pool room.desk ((map seat_in l ++ line_seats ran.new.line_post) ++ c.round.new.seat ∷ ran.new.admin_seat ∷ []) ((map own_in l ++ line_owns ran.new.line_post) ++ c.round.new.own ∷ ran.new.admin_own ∷ []) c.close-books.result.0.items c.close-books.result.1) same c.close-books.ensures.closed;
       start = c.requires.start;
     } in
     served_as g.D.Faulty.seen g.L.Faulty.seen room.pool room.desk c.from.result (g.C.Clock.may_say c.args.clock.now) (sizing_in room) c.args.plan.now c.args.names.now c.args.settings.now c.args.backs.now c.args.run_flushes told
-    is.shards is.limits is.policy is.receivers c.from.ensures
+    is.shards is.limits is.policy c.from.ensures
     (sym (gathered.packets ∙ ap (λ l. map source_in l ++ c.gather.new.packets.items) (sym value)))
     (sym (gathered.wires ∙ ap (λ l. flat_map wires_in l ++ c.gather.new.wires.items) (sym value)))
     (sym (c.close-books.ensures.packets ∙ ap (λ l. map source_in l ++ c.gather.new.packets.items) same))
     (sym (c.close-books.ensures.wires ∙ ap (λ l. flat_map wires_in l ++ c.gather.new.wires.items) same))
-    (ap (map end_of) (c.ends_in-received.ensures ∙ ap (map ended_in) (c.deref.ensures.value ∙ same)) ∙ receptions_ended g.D.Faulty.seen g.L.Faulty.seen room.pool room.desk c.args.run_flushes xs ys all) refl refl refl refl
+    (ap (map end_of) (c.ends_in-received.ensures ∙ ap (map ended_in) (c.deref.ensures.value ∙ same)) ∙ receptions_ended g.D.Faulty.seen g.L.Faulty.seen room.pool room.desk c.args.run_flushes xs ys all) refl refl refl (ran.ensures.counts ∙ outlets) refl refl refl

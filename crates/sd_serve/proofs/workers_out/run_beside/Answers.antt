@@ -5,8 +5,8 @@ use Rattle.sd_serve.proofs.workers_out.run_beside.Goals as goal
 -- what lies behind what was lent is what the workers left there
 pub returns-clause-graphite : goal.returns-clause-graphite
 returns-clause-graphite g c =
-    let new = c.run_with_pair.new.third in
-    let h = c.run_with_pair.ensures.third in
+    let new = c.run_with_pair.new.fourth in
+    let h = c.run_with_pair.ensures.fourth in
     let drain : c.graphite_drain-1.given.0 ≡ new.drain.now = search rules in
     let back : c.graphite_back-1.given.0 ≡ new.back.now = search rules in
     rw (drain, back) (record {
@@ -17,8 +17,8 @@ returns-clause-graphite g c =
 
 pub returns-clause-console : goal.returns-clause-console
 returns-clause-console g c =
-    let new = c.run_with_pair.new.fourth in
-    let h = c.run_with_pair.ensures.fourth in
+    let new = c.run_with_pair.new.fifth in
+    let h = c.run_with_pair.ensures.fifth in
     let drain : c.console_drain-1.given.0 ≡ new.drain.now = search rules in
     let back : c.console_back-1.given.0 ≡ new.back.now = search rules in
     rw (drain, back) (record {

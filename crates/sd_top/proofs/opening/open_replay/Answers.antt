@@ -14,7 +14,7 @@ use Rattle.sd_model_record.specs.Backends.{Graphite, Console}
 pub returns-in_err-open-clause-refused : goal.returns-in_err-open-clause-refused
 returns-in_err-open-clause-refused g c =
     let s = c.args.settings.now in
-    let old = world_of g.R.Faulty.seen g.O.Faulty.seen g.B.Faulty.seen g.D.Faulty.seen g.L.Faulty.seen g.E.Faulty.seen g.P.Faulty.seen g.Q.Faulty.seen c.args.world.now in
+    let old = world_of g.R.Faulty.seen g.O.Faulty.seen g.B.Faulty.seen g.D.Faulty.seen g.L.Faulty.seen g.E.Faulty.seen g.P.Faulty.seen g.Q.Faulty.seen g.S.Faulty.seen c.args.world.now in
     let at_script : Opening = record { part = OfScript; place = File c.args.script.items } in
     let graphite : List Opening = opening_where (is_used s Graphite) (record { part = OfGraphite; place = File [] }) in
     let console : List Opening = opening_where (is_used s Console) (record { part = OfConsole; place = File [] }) in
@@ -24,13 +24,13 @@ returns-in_err-open-clause-refused g c =
 pub returns-in_err-open_repeater-clause-refused : goal.returns-in_err-open_repeater-clause-refused
 returns-in_err-open_repeater-clause-refused g c =
     let s = c.args.settings.now in
-    let old = world_of g.R.Faulty.seen g.O.Faulty.seen g.B.Faulty.seen g.D.Faulty.seen g.L.Faulty.seen g.E.Faulty.seen g.P.Faulty.seen g.Q.Faulty.seen c.args.world.now in
+    let old = world_of g.R.Faulty.seen g.O.Faulty.seen g.B.Faulty.seen g.D.Faulty.seen g.L.Faulty.seen g.E.Faulty.seen g.P.Faulty.seen g.Q.Faulty.seen g.S.Faulty.seen c.args.world.now in
     let at_script : List Opening = record { part = OfScript; place = File c.args.script.items } ∷ [] in
     let graphite : List Opening = opening_where (is_used s Graphite) (record { part = OfGraphite; place = File [] }) in
     let console : List Opening = opening_where (is_used s Console) (record { part = OfConsole; place = File [] }) in
     let first = with_part OfScript (g.R.Faulty.seen c.open.new.object) old in
     let is_first : first ≡ opened_all old at_script = ap (λ o. with_part OfScript o old) c.in_ok-open.ensures.ok in
-    let second = world_of g.R.Faulty.seen g.O.Faulty.seen g.B.Faulty.seen g.D.Faulty.seen g.L.Faulty.seen g.E.Faulty.seen g.P.Faulty.seen g.Q.Faulty.seen c.open_repeater.new.world in
+    let second = world_of g.R.Faulty.seen g.O.Faulty.seen g.B.Faulty.seen g.D.Faulty.seen g.L.Faulty.seen g.E.Faulty.seen g.P.Faulty.seen g.Q.Faulty.seen g.S.Faulty.seen c.open_repeater.new.world in
     let answer = answer_of c.in_err-open_repeater.field-0.0 in
     let p = err_from_is_err_and c.from_residual-in_err-open_repeater.result c.from_residual-in_err-open_repeater.ensures.1 in
     rw (p.1, p.2) (stops_behind at_script (wire_openings 1 s ++ (graphite ++ console)) answer old first second is_first
@@ -39,17 +39,17 @@ returns-in_err-open_repeater-clause-refused g c =
 pub returns-in_err-open_where-clause-refused : goal.returns-in_err-open_where-clause-refused
 returns-in_err-open_where-clause-refused g c =
     let s = c.args.settings.now in
-    let old = world_of g.R.Faulty.seen g.O.Faulty.seen g.B.Faulty.seen g.D.Faulty.seen g.L.Faulty.seen g.E.Faulty.seen g.P.Faulty.seen g.Q.Faulty.seen c.args.world.now in
+    let old = world_of g.R.Faulty.seen g.O.Faulty.seen g.B.Faulty.seen g.D.Faulty.seen g.L.Faulty.seen g.E.Faulty.seen g.P.Faulty.seen g.Q.Faulty.seen g.S.Faulty.seen c.args.world.now in
     let at_script : List Opening = record { part = OfScript; place = File c.args.script.items } ∷ [] in
     let at_graphite : Opening = record { part = OfGraphite; place = File [] } in
     let graphite : List Opening = opening_where (is_used s Graphite) at_graphite in
     let console : List Opening = opening_where (is_used s Console) (record { part = OfConsole; place = File [] }) in
     let first = with_part OfScript (g.R.Faulty.seen c.open.new.object) old in
     let is_first : first ≡ opened_all old at_script = ap (λ o. with_part OfScript o old) c.in_ok-open.ensures.ok in
-    let second = world_of g.R.Faulty.seen g.O.Faulty.seen g.B.Faulty.seen g.D.Faulty.seen g.L.Faulty.seen g.E.Faulty.seen g.P.Faulty.seen g.Q.Faulty.seen c.open_repeater.new.world in
+    let second = world_of g.R.Faulty.seen g.O.Faulty.seen g.B.Faulty.seen g.D.Faulty.seen g.L.Faulty.seen g.E.Faulty.seen g.P.Faulty.seen g.Q.Faulty.seen g.S.Faulty.seen c.open_repeater.new.world in
     let flags : second.flags ≡ flags_of s = c.open_repeater.ensures.flags ∙ c.requires.flags in
     let answer = answer_of c.in_err-open_where.field-0.0 in
-    let now = g.B.Faulty.seen c.open_where.new.back in
+    let now = g.B.Faulty.seen c.open_where.new.object in
     let p = err_from_is_err_and c.from_residual-in_err-open_where.result c.from_residual-in_err-open_where.ensures.1 in
     rw (p.1, p.2) (stops_behind at_script (wire_openings 1 s ++ (graphite ++ console)) answer old first (with_part OfGraphite now second) is_first
     (stops_behind (wire_openings 1 s) (graphite ++ console) answer first second (with_part OfGraphite now second) c.in_ok-open_repeater.ensures.opened
@@ -58,7 +58,7 @@ returns-in_err-open_where-clause-refused g c =
 pub returns-clause-refused : goal.returns-clause-refused
 returns-clause-refused g c =
     let s = c.args.settings.now in
-    let old = world_of g.R.Faulty.seen g.O.Faulty.seen g.B.Faulty.seen g.D.Faulty.seen g.L.Faulty.seen g.E.Faulty.seen g.P.Faulty.seen g.Q.Faulty.seen c.args.world.now in
+    let old = world_of g.R.Faulty.seen g.O.Faulty.seen g.B.Faulty.seen g.D.Faulty.seen g.L.Faulty.seen g.E.Faulty.seen g.P.Faulty.seen g.Q.Faulty.seen g.S.Faulty.seen c.args.world.now in
     let at_script : List Opening = record { part = OfScript; place = File c.args.script.items } ∷ [] in
     let at_graphite : Opening = record { part = OfGraphite; place = File [] } in
     let at_console : Opening = record { part = OfConsole; place = File [] } in
@@ -66,12 +66,12 @@ returns-clause-refused g c =
     let console : List Opening = opening_where (is_used s Console) at_console in
     let first = with_part OfScript (g.R.Faulty.seen c.open.new.object) old in
     let is_first : first ≡ opened_all old at_script = ap (λ o. with_part OfScript o old) c.in_ok-open.ensures.ok in
-    let second = world_of g.R.Faulty.seen g.O.Faulty.seen g.B.Faulty.seen g.D.Faulty.seen g.L.Faulty.seen g.E.Faulty.seen g.P.Faulty.seen g.Q.Faulty.seen c.open_repeater.new.world in
+    let second = world_of g.R.Faulty.seen g.O.Faulty.seen g.B.Faulty.seen g.D.Faulty.seen g.L.Faulty.seen g.E.Faulty.seen g.P.Faulty.seen g.Q.Faulty.seen g.S.Faulty.seen c.open_repeater.new.world in
     let flags : second.flags ≡ flags_of s = c.open_repeater.ensures.flags ∙ c.requires.flags in
-    let third = with_part OfGraphite (g.B.Faulty.seen c.open_where.new.back) second in
-    let is_third : third ≡ opened_all second graphite = where_opened (is_used s Graphite) at_graphite second (g.B.Faulty.seen c.open_where.new.back)
+    let third = with_part OfGraphite (g.B.Faulty.seen c.open_where.new.object) second in
+    let is_third : third ≡ opened_all second graphite = where_opened (is_used s Graphite) at_graphite second (g.B.Faulty.seen c.open_where.new.object)
     (c.in_ok-open_where.ensures.ok ∙ (λ i. if (flags i).graphite then opened (File (c.new.ensures i)) second.seen.graphite else second.seen.graphite)) refl in
-    let now = g.B.Faulty.seen c.open_where-2.new.back in
+    let now = g.B.Faulty.seen c.open_where-2.new.object in
     let new = with_part OfConsole now third in
     IfErr-weaker c.open_where-2.result _ _
     (λ status h. stops_behind at_script (wire_openings 1 s ++ (graphite ++ console)) (answer_of status) old first new is_first

@@ -18,16 +18,16 @@ relay-requires-clause-room g c κs within = subst (λ n. IsRoomFor (map node_vie
 pub returns-clause-relayed : goal.returns-clause-relayed
 returns-clause-relayed g c =
     let s = c.args.settings.now in
-    let old = world_of g.R.Faulty.seen g.O.Faulty.seen g.B.Faulty.seen g.D.Faulty.seen g.L.Faulty.seen g.E.Faulty.seen g.P.Faulty.seen g.Q.Faulty.seen c.args.world.now in
+    let old = world_of g.R.Faulty.seen g.O.Faulty.seen g.B.Faulty.seen g.D.Faulty.seen g.L.Faulty.seen g.E.Faulty.seen g.P.Faulty.seen g.Q.Faulty.seen g.S.Faulty.seen c.args.world.now in
     let mid = c.open_proxy.new.world in
-    let seen_mid = world_of g.R.Faulty.seen g.O.Faulty.seen g.B.Faulty.seen g.D.Faulty.seen g.L.Faulty.seen g.E.Faulty.seen g.P.Faulty.seen g.Q.Faulty.seen mid in
+    let seen_mid = world_of g.R.Faulty.seen g.O.Faulty.seen g.B.Faulty.seen g.D.Faulty.seen g.L.Faulty.seen g.E.Faulty.seen g.P.Faulty.seen g.Q.Faulty.seen g.S.Faulty.seen mid in
     let e = c.open_proxy.ensures in
     let opened = c.in_ok-open_proxy.ensures.opened in
     let receivers : c.unwrap-receivers.result ≡ s.sizes.receivers = search rules in
     let begun_is : record seen_mid { served = record seen_mid.served { beat = with_interval s.sizes.check_interval seen_mid.served.beat } } ≡ proxy_begun s old =
     (λ i. record (opened i) { served = record (opened i).served { beat = with_interval s.sizes.check_interval (opened i).served.beat } }) in
     let beat = c.start.ensures ∙ ap (λ n. with_interval n (g.P.Faulty.seen mid.beat)) c.check_interval.ensures.value in
-    let new = world_of g.R.Faulty.seen g.O.Faulty.seen g.B.Faulty.seen g.D.Faulty.seen g.L.Faulty.seen g.E.Faulty.seen g.P.Faulty.seen g.Q.Faulty.seen (record mid { packets = c.relay.new.packets; wires = c.relay.new.wires; beat = c.relay.new.beat; probe = c.relay.new.probe }) in
+    let new = world_of g.R.Faulty.seen g.O.Faulty.seen g.B.Faulty.seen g.D.Faulty.seen g.L.Faulty.seen g.E.Faulty.seen g.P.Faulty.seen g.Q.Faulty.seen g.S.Faulty.seen (record mid { packets = c.relay.new.packets; wires = c.relay.new.wires; beat = c.relay.new.beat; probe = c.relay.new.probe }) in
     let r = c.relay.result in
     record {
       relayed = subst (λ o. relaying.HasRelayed s.lists.nodes s.sizes.receivers (proxy_begun s old).served.sources new.served.sources (proxy_begun s old).seen.wires new.seen.wires (proxy_begun s old).served.beat new.served.beat o new.probe r) (ap g.Q.Faulty.seen e.probe)
@@ -44,7 +44,7 @@ returns-clause-relayed g c =
           console = g.B.Faulty.seen (e.backs i).console;
           wires = map g.L.Faulty.seen c.relay.new.wires.items;
         };
-        served = record { sources = map g.D.Faulty.seen c.relay.new.packets.items; beat = g.P.Faulty.seen c.relay.new.beat; door = g.E.Faulty.seen (e.door i) };
+        served = record { sources = map g.D.Faulty.seen c.relay.new.packets.items; beat = g.P.Faulty.seen c.relay.new.beat; door = g.E.Faulty.seen (e.door i); streams = g.S.Faulty.seen (e.streams i) };
         probe = g.Q.Faulty.seen c.relay.new.probe;
         flags = record { graphite = (e.backs i).graphite_used; console = (e.backs i).console_used };
       });

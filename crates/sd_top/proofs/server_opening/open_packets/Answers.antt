@@ -14,7 +14,7 @@ use Rattle.sd_top.proofs.server_opening.open_packets.Goals as goal
 
 pub returns-clause-opened : goal.returns-clause-opened
 returns-clause-opened g c =
-    let old = world_of g.R.Faulty.seen g.O.Faulty.seen g.B.Faulty.seen g.D.Faulty.seen g.L.Faulty.seen g.E.Faulty.seen g.P.Faulty.seen g.Q.Faulty.seen c.args.world.now in
+    let old = world_of g.R.Faulty.seen g.O.Faulty.seen g.B.Faulty.seen g.D.Faulty.seen g.L.Faulty.seen g.E.Faulty.seen g.P.Faulty.seen g.Q.Faulty.seen g.S.Faulty.seen c.args.world.now in
     let put : List Object → World = λ l. record old { served = record old.served { sources = l } } in
     let ps = Host c.args.settings.now.addresses.address c.args.settings.now.server.port ∷ [] in
     let runs = c.args.settings.now.sizes.receivers in
@@ -31,7 +31,7 @@ returns-clause-opened g c =
 
 pub returns-clause-refused : goal.returns-clause-refused
 returns-clause-refused g c =
-    let old = world_of g.R.Faulty.seen g.O.Faulty.seen g.B.Faulty.seen g.D.Faulty.seen g.L.Faulty.seen g.E.Faulty.seen g.P.Faulty.seen g.Q.Faulty.seen c.args.world.now in
+    let old = world_of g.R.Faulty.seen g.O.Faulty.seen g.B.Faulty.seen g.D.Faulty.seen g.L.Faulty.seen g.E.Faulty.seen g.P.Faulty.seen g.Q.Faulty.seen g.S.Faulty.seen c.args.world.now in
     let put : List Object → World = λ l. record old { served = record old.served { sources = l } } in
     let ps = Host c.args.settings.now.addresses.address c.args.settings.now.server.port ∷ [] in
     let runs = c.args.settings.now.sizes.receivers in

@@ -4,4 +4,4 @@ use Rattle.sd_cases_runs.specs.Ready.{IsReady}
 use Rattle.sd_cases_runs.proofs.case.Case.world.Given as goal
 
 abbrev pub invariant-loop-failing : goal.invariant-loop-failing
-invariant-loop-failing l = IsReady door.seen_of beat.seen_of l.world
+invariant-loop-failing l = IsReady door.seen_of beat.seen_of door.seen_of l.world

@@ -1,0 +1,157 @@
+-- What the flusher left, with outlets and without.
+use Rattle.std.proofs.Common.{◌≡◌, ◌≢◌, ℕ, suc, ◌+◌, Bool, true, false, List, [], ◌∷◌, ◌++◌, length, map, min, refl, sym, ap, subst, ◌∙◌, arith}
+use Rattle.std.specs.Prelude.{Option, Some, None, flat_map}
+use Rattle.std.specs.List.{AllByRecursion}
+use Rattle.std.proofs.lemmas.List.{length-map}
+use Rattle.sd_model_outside.specs.Deliveries.{Delivery, AfterDeliveries, FitsUse, missed}
+use Rattle.sd_model_outside.specs.Deliveries as deliveries
+use Rattle.sd_model_outside.specs.Outside.{Object, last_count}
+use Rattle.sd_model_shard.specs.History.{History}
+use Rattle.sd_model_record.specs.Backends.{Backend, Graphite, Console, mark_of}
+use Rattle.sd_model_record.specs.Counts.{Part}
+use Rattle.sd_model_record.specs.Desk.{Marks}
+use Rattle.sd_model_serve.specs.Rounds.{Form, MarksFit, Round, round_deliveries, round_text}
+use Rattle.sd_model_run.specs.Outlets.{HasFlowed, Outflow, WentThrough, chosen, has_outlet, no_outflow, uses_at_ticks}
+use Rattle.sd_outside.specs.declared.datagrams.Ended.{Ended}
+use Rattle.sd_outlet.specs.declared.worked.Worked.{Worked}
+use Rattle.sd_outlet.specs.Worked.{EachUsed, HasWorked}
+use Rattle.sd_flush.specs.Flushing.{Flushes}
+use Rattle.sd_flush.specs.FlushingOut.{FlushesOut, no_marks}
+use Rattle.sd_flush.specs.Offers.{Offer, queued_by, texts_queued}
+use Rattle.sd_flush.specs.declared.outs.OutMark.{OutMark}
+use Rattle.sd_flush.specs.declared.outs.OutMark.TheVariants.{NotUsed, Queued, Skipped}
+use Rattle.sd_serve.specs.OutRoom.{IsOutRoom}
+use Rattle.sd_serve.specs.Through.{AreCounted, FlushesThrough, faults_at, skips_at}
+use Rattle.sd_serve.specs.Written.{HasWritten, WritesQueued, written_by}
+use Rattle.sd_serve.specs.declared.out_room.OutRoom.{OutRoom}
+use Rattle.sd_serve.specs.declared.workers_out.OutCounts.{OutCounts}
+
+-- without outlets all goes straight to the backends
+pub straight : (form : Form) (used : Backend → Bool) (asked : ℕ) (own own_now : ℕ → History) (part part_now : Part) (back back_now : Backend → Object) (beat beat_now : Object) (ended : Ended)
+    → Flushes form used asked own own_now part part_now back back_now beat beat_now ended → FlushesThrough form used false asked own own_now part part_now back back_now beat beat_now ended None
+straight form used asked own own_now part part_now back back_now beat beat_now ended h = record {
+  rounds = h.rounds;
+  swapped = h.made.swapped;
+  fits = h.made.used;
+  counted = h.made.counted;
+  outflows = λ b. no_outflow;
+  flowed = λ b. refl;
+  are_counted = record { skips = λ b. refl; faults = λ b. refl };
+  delivered = h.made.delivered;
+  given = h.given;
+  turns = h.turns;
+  same = h.same;
+  ends = h.ends;
+}
+
+-- whether a text was queued
+abbrev is_queued : OutMark → Bool
+is_queued NotUsed = false
+is_queued Queued = true
+is_queued (Skipped skip) = false
+
+-- what was queued is what was chosen so
+are_chosen : (offers : List Offer) → texts_queued offers ≡ chosen (map (λ (f : Offer). is_queued f.mark) offers) (map (λ (f : Offer). f.text) offers)
+are_chosen [] = refl
+are_chosen (f ∷ offers) = by_mark f.mark (are_chosen offers) where
+  by_mark : (m : OutMark) → texts_queued offers ≡ chosen (map (λ (g : Offer). is_queued g.mark) offers) (map (λ (g : Offer). g.text) offers)
+      → queued_by m f.text ++ texts_queued offers ≡ chosen (is_queued m ∷ map (λ (g : Offer). is_queued g.mark) offers) (f.text ∷ map (λ (g : Offer). g.text) offers)
+  by_mark NotUsed rest = rest
+  by_mark Queued rest = ap (λ (l : List (List ℕ)). f.text ∷ l) rest
+  by_mark (Skipped skip) rest = rest
+
+each_used : (ds : List Delivery) → EachUsed ds → AllByRecursion (λ (d : Delivery). FitsUse true d.mark) ds
+each_used [] h = tt
+each_used (d ∷ ds) h = (h.0, each_used ds h.1)
+
+-- rounds that write to no backend leave it as it is
+left_alone : (form : Form) (b : Backend) (rounds : List Round) (o : Object) → AllByRecursion (MarksFit (λ c. false)) rounds → AfterDeliveries (round_deliveries form b rounds) o o
+left_alone form b [] o h = refl
+left_alone form b (r ∷ rounds) o h = (o, subst (λ m. deliveries.AfterMark m (round_text form b r) o o) (sym (h.0 b)) refl, left_alone form b rounds o h.1)
+
+-- deliveries, and rounds behind them that write to no backend
+with_rounds : (form : Form) (b : Backend) (rounds : List Round) → AllByRecursion (MarksFit (λ c. false)) rounds → (ds : List Delivery) (old new : Object) → AfterDeliveries ds old new
+    → AfterDeliveries (ds ++ round_deliveries form b rounds) old new
+with_rounds form b rounds none [] old new h = subst (λ o. AfterDeliveries (round_deliveries form b rounds) old o) (sym h) (left_alone form b rounds old none)
+with_rounds form b rounds none (d ∷ ds) old new h = (h.0, h.1, with_rounds form b rounds none ds h.0 new h.2)
+
+-- marks of backends that aren't used fit so
+fit_none : (rounds : List Round) → AllByRecursion (λ (r : Round). r.marks ≡ no_marks) rounds → AllByRecursion (MarksFit (λ c. false)) rounds
+fit_none [] h = tt
+fit_none (r ∷ rounds) h = ((λ b. elim b as (λ (b : Backend). mark_of b r.marks ≡ deliveries.NotUsed) [ Graphite ↦ ap (λ (m : Marks). m.graphite) h.0 | Console ↦ ap (λ (m : Marks). m.console) h.0 ]), fit_none rounds h.1)
+
+module _ (room : OutRoom) (texts : List (List ℕ)) (skipped : ℕ) (w : Worked) (old new : Object) where
+  -- what went through an outlet, by whether its backend is used
+  abbrev outflow : (used : Bool) → HasWritten used room texts skipped w old new → Outflow
+  outflow true h = record { queued = h.worked.deliveries; skipped = skipped }
+  outflow false h = no_outflow
+
+  has_flowed : (used : Bool) (h : HasWritten used room texts skipped w old new) → HasFlowed used texts (outflow used h)
+  has_flowed true h =
+      let f = h.offered in
+      let long = length-map h.worked.deliveries (λ (d : Delivery). d.text) in
+      let queued = ap length h.worked.of_texts in
+      record {
+        choice = map (λ (o : Offer). is_queued o.mark) f.offers;
+        each = length-map f.offers (λ (o : Offer). is_queued o.mark) ∙ sym (length-map f.offers (λ (o : Offer). o.text)) ∙ ap length f.of_texts;
+        queued = h.worked.of_texts ∙ are_chosen f.offers ∙ ap (chosen (map (λ (o : Offer). is_queued o.mark) f.offers)) f.of_texts;
+        used = each_used h.worked.deliveries h.worked.used;
+        others = omega (arith, long, queued, f.others);
+      }
+  has_flowed false h = refl
+
+  skips_of : (used : Bool) (h : HasWritten used room texts skipped w old new) → skipped ≡ (outflow used h).skipped
+  skips_of true h = refl
+  skips_of false h = h.0
+
+  faults_of : (used : Bool) (h : HasWritten used room texts skipped w old new) → w.faults ≡ min (missed (outflow used h).queued) last_count
+  faults_of true h = h.worked.faults
+  faults_of false h = h.3
+
+  delivered_of : (used : Bool) (h : HasWritten used room texts skipped w old new) → AfterDeliveries (outflow used h).queued old new
+  delivered_of true h = h.worked.after
+  delivered_of false h = h.1
+
+-- with outlets all goes through them
+module _ (form : Form) (used : Backend → Bool) (graphite console : OutRoom) (counts : OutCounts) (asked : ℕ) (own own_now : ℕ → History) (part part_now : Part) (back back_now : Backend → Object) (beat beat_now : Object) (ended : Ended)
+    (h : FlushesOut form (written_by used graphite console counts back back_now) asked own own_now part part_now beat beat_now ended) where
+  abbrev texts_of : Backend → List (List ℕ)
+  texts_of b = map (round_text form b) h.rounds
+
+  abbrev flow : Backend → Outflow
+  flow Graphite = outflow graphite (texts_of Graphite) counts.skips.graphite counts.graphite (back Graphite) (back_now Graphite) (used Graphite) (h.texts Graphite)
+  flow Console = outflow console (texts_of Console) counts.skips.console counts.console (back Console) (back_now Console) (used Console) (h.texts Console)
+
+  flows : (b : Backend) → HasFlowed (used b) (texts_of b) (flow b)
+  flows Graphite = has_flowed graphite (texts_of Graphite) counts.skips.graphite counts.graphite (back Graphite) (back_now Graphite) (used Graphite) (h.texts Graphite)
+  flows Console = has_flowed console (texts_of Console) counts.skips.console counts.console (back Console) (back_now Console) (used Console) (h.texts Console)
+
+  skips : (b : Backend) → skips_at (Some counts) b ≡ (flow b).skipped
+  skips Graphite = skips_of graphite (texts_of Graphite) counts.skips.graphite counts.graphite (back Graphite) (back_now Graphite) (used Graphite) (h.texts Graphite)
+  skips Console = skips_of console (texts_of Console) counts.skips.console counts.console (back Console) (back_now Console) (used Console) (h.texts Console)
+
+  faults : (b : Backend) → faults_at (Some counts) b ≡ min (missed (flow b).queued) last_count
+  faults Graphite = faults_of graphite (texts_of Graphite) counts.skips.graphite counts.graphite (back Graphite) (back_now Graphite) (used Graphite) (h.texts Graphite)
+  faults Console = faults_of console (texts_of Console) counts.skips.console counts.console (back Console) (back_now Console) (used Console) (h.texts Console)
+
+  given_to : (b : Backend) → AfterDeliveries (flow b).queued (back b) (back_now b)
+  given_to Graphite = delivered_of graphite (texts_of Graphite) counts.skips.graphite counts.graphite (back Graphite) (back_now Graphite) (used Graphite) (h.texts Graphite)
+  given_to Console = delivered_of console (texts_of Console) counts.skips.console counts.console (back Console) (back_now Console) (used Console) (h.texts Console)
+
+  pub through : FlushesThrough form used true asked own own_now part part_now back back_now beat beat_now ended (Some counts)
+  through =
+      let none = fit_none h.rounds h.taken.unused in
+      record {
+        rounds = h.rounds;
+        swapped = h.taken.swapped;
+        fits = none;
+        counted = h.taken.counted;
+        outflows = flow;
+        flowed = flows;
+        are_counted = record { skips = skips; faults = faults };
+        delivered = λ b. with_rounds form b h.rounds none (flow b).queued (back b) (back_now b) (given_to b);
+        given = h.given;
+        turns = h.turns;
+        same = h.same;
+        ends = h.ends;
+      }
