@@ -1,5 +1,9 @@
 //! The flusher: at each tick of a beat it makes a round, which swaps the shards and writes the record of their tables, to the
 //! backends themselves or to their outlets.
+//!
+//! `sd_serve` runs it in a thread, and has it make the last round. Only `Tables::open` takes memory. It has no turn while it
+//! writes, so samples may be taken meanwhile, and over outlets it waits for no backend. It reads no clock: a round's second is
+//! given.
 #![tactic(auto)]
 
 mod flusher;

@@ -47,7 +47,7 @@ module _ (asked : ℕ) (answer other : Answer) where
 by_flusher : (asked made : ℕ) (answer other : Answer) (ended : LoopEnd) (beat beat_now : Object) → EndsFlusher asked ended beat beat_now made → by_beat ended other ≡ answer
     → (answer ≡ NotRead OfBeat) × Rose beat.faults beat_now.faults ⊎ (other ≡ answer)
 by_flusher asked made answer other Spent beat beat_now h is = inr is
-by_flusher asked made answer other Failed beat beat_now h is = inl (sym is, h)
+by_flusher asked made answer other Failed beat beat_now h is = inl (sym is, h.0)
 by_flusher asked made answer other (Enough flushes) beat beat_now h is = inr is
 by_flusher asked made answer other (WornOut turns) beat beat_now h is = inr is
 

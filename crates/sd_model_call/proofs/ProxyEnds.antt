@@ -40,10 +40,10 @@ looped nodes (r ∷ rs) (s ∷ ss) (n ∷ ns) ws wn h = (
 
 -- the end of a checker is one of a flusher of which no flushes are asked
 as_flusher : (made : ℕ) (ended : LoopEnd) (beat beat_now : Object) → EndsChecker ended beat beat_now made → EndsFlusher 0 ended beat beat_now made
-as_flusher made Spent beat beat_now h = (h.0, h.1)
-as_flusher made Failed beat beat_now h = h.0
+as_flusher made Spent beat beat_now h = (h.0, h.1, λ some. absurd (omega (arith, some)))
+as_flusher made Failed beat beat_now h = (h.0, λ some. absurd (omega (arith, some)))
 as_flusher made (Enough flushes) beat beat_now h = absurd h
-as_flusher made (WornOut turns) beat beat_now h = (h.0, h.1 ∙ sym h.0, h.2)
+as_flusher made (WornOut turns) beat beat_now h = (h.0, h.1 ∙ sym h.0, h.2, λ some. absurd (omega (arith, some)))
 
 -- a beat whose checker took the most turns
 beat_worn : (made : ℕ) (ended : LoopEnd) (beat beat_now : Object) → EndsChecker ended beat beat_now made → beat_now.turns ≡ min (beat.turns + made) last_count → list_any is_worn (ended ∷ []) ≡ true → SourceTookMost beat beat_now

@@ -32,12 +32,12 @@ EndsReceiver asked (WornOut turns) source source_now seen turned =
 
 -- Why the flusher ended, of which so many flushes were asked, once it had made so many.
 abbrev pub EndsFlusher : (asked : ℕ) → LoopEnd → (beat beat_now : Object) → (made : ℕ) → Type 0
-EndsFlusher asked Spent beat beat_now made = IsSpent beat_now.told × (beat_now.faults ≡ beat.faults)
-EndsFlusher asked Failed beat beat_now made = Rose beat.faults beat_now.faults
+EndsFlusher asked Spent beat beat_now made = IsSpent beat_now.told × (beat_now.faults ≡ beat.faults) × IsShort asked made
+EndsFlusher asked Failed beat beat_now made = Rose beat.faults beat_now.faults × IsShort asked made
 EndsFlusher asked (Enough flushes) beat beat_now made =
     (0 < asked) × (flushes ≡ asked) × (made ≡ flushes) × (beat_now.faults ≡ beat.faults)
 EndsFlusher asked (WornOut turns) beat beat_now made =
-    (turns ≡ most_turns) × (made ≡ turns) × (beat_now.faults ≡ beat.faults)
+    (turns ≡ most_turns) × (made ≡ turns) × (beat_now.faults ≡ beat.faults) × (0 < asked → made ≤ asked)
 
 -- Why the keeper of a door ended, of which so many flushes were asked, once it had seen so many, and the door had taken so
 -- many turns. A door's failures don't end it.

@@ -1,4 +1,4 @@
-use Rattle.std.proofs.Common.{◌≡◌}
+use Rattle.std.proofs.Common.{◌≡◌, ◌<◌, ◌≤◌}
 use Rattle.sd_pool.specs.Pool.{IsSeatOf, limits_of, own_at, shards_of, who_is}
 use Rattle.sd_shared_desk.specs.Shared.{IsSeatOf as IsDeskSeatOf, number_of_seat, part_of}
 use Rattle.sd_flush.specs.Tables.{AreTablesFor}
@@ -6,7 +6,7 @@ use Rattle.sd_flush.specs.Flushing.{back_of, form_of, uses}
 use Rattle.sd_flush.proofs.RoundLemmas.{SoFar}
 use Rattle.sd_flush.proofs.flusher.flush_all.Given as goal
 
--- as many rounds as ticks were read
+-- as many rounds as ticks were read, and no more than are asked for
 abbrev pub invariant-loop-made : goal.invariant-loop-made
 invariant-loop-made g l = record {
   own : IsDeskSeatOf l.desk l.own;
@@ -16,6 +16,7 @@ invariant-loop-made g l = record {
   tables : AreTablesFor (limits_of l.pool) (shards_of l.pool) l.tables;
   graphite_flag : l.backs.graphite_used ≡ l.initial.backs.graphite_used;
   console_flag : l.backs.console_used ≡ l.initial.backs.console_used;
+  few : 0 < l.run_flushes → l.made ≤ l.run_flushes;
   so_far : SoFar (form_of l.pool l.plan l.names) (uses l.initial.backs) (own_at l.initial.seat) (own_at l.seat) (part_of l.initial.own) (part_of l.own)
       (back_of g.B.Faulty.seen l.initial.backs) (back_of g.B.Faulty.seen l.backs) (g.E.Faulty.seen l.initial.beat) (g.E.Faulty.seen l.beat) l.made;
 }

@@ -1,4 +1,4 @@
-use Rattle.std.proofs.Common.{◌≡◌, ◌≤◌}
+use Rattle.std.proofs.Common.{◌≡◌, ◌<◌, ◌≤◌}
 use Rattle.sd_pool.specs.Pool.{IsSeatOf, limits_of, own_at, shards_of, who_is}
 use Rattle.sd_shared_desk.specs.Shared.{IsSeatOf as IsDeskSeatOf, number_of_seat, part_of}
 use Rattle.sd_flush.specs.Tables.{AreTablesFor}
@@ -7,7 +7,7 @@ use Rattle.sd_flush.specs.Outs.{AreOutsReady, offered_by}
 use Rattle.sd_flush.proofs.RoundOutLemmas.{SoFarOut}
 use Rattle.sd_flush.proofs.flusher_out.make_rounds.Given as goal
 
--- as many rounds as ticks were read
+-- as many rounds as ticks were read, and no more than are asked for
 abbrev pub invariant-loop-made : goal.invariant-loop-made
 invariant-loop-made g l = record {
   own : IsDeskSeatOf l.desk l.own;
@@ -18,6 +18,7 @@ invariant-loop-made g l = record {
   outs : AreOutsReady l.outs;
   graphite : l.skips.graphite ≤ l.made;
   console : l.skips.console ≤ l.made;
+  few : 0 < l.run_flushes → l.made ≤ l.run_flushes;
   so_far : SoFarOut (form_of l.pool l.plan l.names) (offered_by l.skips l.initial.outs l.outs) (own_at l.initial.seat) (own_at l.seat) (part_of l.initial.own) (part_of l.own)
       (g.E.Faulty.seen l.initial.beat) (g.E.Faulty.seen l.beat) l.made;
 }
