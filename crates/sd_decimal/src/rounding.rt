@@ -1,4 +1,4 @@
-ghost use Rattle.std.specs.Prelude.{◌≡◌, ◌+◌, ◌*◌, ◌^◌, ◌<◌, ◌≤◌, pos, ◌≤ℤ◌, unsigned_abs};
+ghost use Rattle.std.specs.Prelude.{◌≡◌, ◌+◌, ◌*◌, ◌/◌, ◌%◌, ◌^◌, ◌<◌, ◌≤◌, pos, ◌≤ℤ◌, unsigned_abs};
 ghost use Rattle.sd_model_text.specs.Numbers.{rounded, round, weight, per_second};
 
 use crate::number::{Micro, Sum};
@@ -42,7 +42,10 @@ pub fn root(x: u128) -> u64
     ensures square { result * result ≤ x }
     ensures next_square { x < (result + 1) * (result + 1) }
 {
-    x.isqrt() as u64
+    match u64::try_from(x) {
+        Ok(x) => x.isqrt(),
+        Err(_) => x.isqrt() as u64,
+    }
 }
 
 // The whole number nearest to `a / b`, and in a tie the one of greater magnitude.
@@ -66,12 +69,24 @@ fn nearest_magnitude(a: u128, b: u64) -> u128
     ensures value { result ≡ rounded a b }
     ensures bound { result ≤ a }
 {
-    let divisor = u128::from(b);
-    let quotient = a / divisor;
-    let rest = a % divisor;
-    if rest < divisor - rest {
+    let (quotient, rest) = divided(a, b);
+    if rest < b - rest {
         quotient
     } else {
         quotient + 1
     }
+}
+
+// The quotient and the rest. Most numbers have 64 bits, whose division is one instruction.
+pub(crate) fn divided(a: u128, b: u64) -> (u128, u64)
+    requires { 0 < b }
+    ensures quotient { result.0 ≡ a / b }
+    ensures rest { result.1 ≡ a % b }
+{
+    if let Ok(a) = u64::try_from(a) {
+        return (u128::from(a / b), a % b);
+    }
+    let divisor = u128::from(b);
+    let quotient = a / divisor;
+    (quotient, (a - quotient * divisor) as u64)
 }

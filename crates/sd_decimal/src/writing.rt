@@ -5,8 +5,9 @@ ghost use Rattle.sd_model_text.specs.Lists.{trim_end};
 ghost use Rattle.sd_model_text.specs.Numbers.{six_digits, behind_point, number_text};
 
 use crate::number::{Line, Sum};
+use crate::rounding::divided;
 
-const MILLION: u128 = 1_000_000;
+const MILLION: u64 = 1_000_000;
 
 /// Appends the text of a number, which has at most 41 bytes.
 pub fn write(v: Sum, out: &mut Line)
@@ -17,9 +18,9 @@ pub fn write(v: Sum, out: &mut Line)
     if v.0 < 0 {
         out.push(b'-');
     }
-    let magnitude = v.0.unsigned_abs();
-    push_wide(magnitude / MILLION, out);
-    push_fraction((magnitude % MILLION) as u32, out);
+    let (whole, millionths) = divided(v.0.unsigned_abs(), MILLION);
+    push_wide(whole, out);
+    push_fraction(millionths as u32, out);
 }
 
 /// Appends the digits of a whole number.
@@ -63,6 +64,9 @@ fn push_fraction(millionths: u32, out: &mut Line)
     ensures { out.new.items
         ≡ out.old.items ++ behind_point (trim_end (λ d. d == 48) (six_digits millionths)) }
 {
+    if millionths == 0 {
+        return;
+    }
     let digits = six_digits(millionths);
     let kept = without_zeros(&digits);
     if kept.is_empty() {

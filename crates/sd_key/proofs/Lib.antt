@@ -1,2 +1,2 @@
 mod CleanLemmas
-pub mod Orders
+mod TableLemmas

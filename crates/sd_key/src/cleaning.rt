@@ -100,9 +100,20 @@ pub fn is_white_space(b: u8) -> bool
     matches!(b, 9..=13 | b' ')
 }
 
-/// Whether a key may have the byte.
-fn is_name_byte(b: u8) -> bool
+// Each byte that a key may have stands at its own place, and a comma at every other place.
+static NAME_BYTES: [u8; 256] = *b"\
+    ,,,,,,,,,,,,,,,,,,,,,,,,,,,,,,,,\
+    ,,,,,,,,,,,,,-.,0123456789,,,,,,\
+    ,ABCDEFGHIJKLMNOPQRSTUVWXYZ,,,,_\
+    ,abcdefghijklmnopqrstuvwxyz,,,,,\
+    ,,,,,,,,,,,,,,,,,,,,,,,,,,,,,,,,\
+    ,,,,,,,,,,,,,,,,,,,,,,,,,,,,,,,,\
+    ,,,,,,,,,,,,,,,,,,,,,,,,,,,,,,,,\
+    ,,,,,,,,,,,,,,,,,,,,,,,,,,,,,,,,";
+
+/// Whether a key may have the byte: a letter, a digit, `_`, `-` or `.`.
+pub fn is_name_byte(b: u8) -> bool
     ensures { result ≡ is_name_byte b }
 {
-    b.is_ascii_alphanumeric() || matches!(b, b'_' | b'-' | b'.')
+    NAME_BYTES[b as usize] != b','
 }

@@ -15,7 +15,7 @@ pub fn shard_of(key: &Key, shards: u16) -> u16
     ensures shard { result ≡ shard key.now shards }
     ensures below { result < shards }
 {
-    (fnv1a(key.as_slice()) % u64::from(shards)) as u16
+    (key.fnv1a() % u64::from(shards)) as u16
 }
 
 /// The hash FNV-1a of 64 bits.

@@ -1,9 +1,9 @@
 -- A piece that is read is good or bad as the grammar says, and the pieces of a line.
-use Rattle.std.proofs.Common.{◌≡◌, ℕ, false, List, [], ◌∷◌, ◌++◌, length, map, Bool, true, not, Option, Some, None, is_some, option_map, Result, Ok, Err, unwrap_or, refl, sym, ap, ◌∙◌, arith, subst}
+use Rattle.std.proofs.Common.{◌≡◌, ℕ, false, List, [], ◌∷◌, ◌++◌, map, Bool, true, not, Option, Some, None, is_some, option_map, Result, Ok, Err, unwrap_or, refl, sym, ap, ◌∙◌, subst}
 use Rattle.std.specs.Prelude.{All, flat_map, IsTrue, ◌↔◌}
 use Rattle.std.proofs.lemmas.List.Elements.{All-head}
 use Rattle.sd_model_text.specs.Lists.{split, cut_at, Cut}
-use Rattle.sd_model_text.specs.Lines.{Sample, NoValue, has_byte, lines, pieces, pieces_in, pieces_cut, reading, reading_behind, reading_cut}
+use Rattle.sd_model_text.specs.Lines.{Sample, has_byte, lines, pieces, pieces_in, pieces_cut, reading, reading_behind, reading_cut}
 use Rattle.sd_model_text.specs.Grammar.{IsPiece, err_of}
 use Rattle.sd_model_text.proofs.CutLemmas.{cut-first}
 use Rattle.sd_model_text.proofs.GrammarLemmas.{first_flaw}

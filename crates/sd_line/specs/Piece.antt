@@ -1,5 +1,5 @@
 -- What the code reads of a piece, as the definitions have it.
-use Rattle.std.specs.Prelude.{◌≡◌, ℕ, List, Result, Ok, Err, MatchResult}
+use Rattle.std.specs.Prelude.{◌≡◌, ℕ, List, Option, Result, Ok, Err, ⊤, MatchOption, MatchResult, OnErr}
 use Rattle.sd_model_text.specs.Lines as model
 use Rattle.sd_model_text.specs.Lines.{reading}
 use Rattle.sd_model_text.specs.Grammar as grammar
@@ -29,3 +29,12 @@ Gives f (Err bad) read = read ≡ Err (cause_of bad)
 pub record Answers (piece : List ℕ) (answer : Result model.Sample Bad) : Type 0 where
   pub read : Gives (λ s. s) answer (reading piece)
   pub grammar : MatchResult answer (grammar.Good piece) (λ bad. grammar.IsBad piece (cause_of bad))
+
+-- the answer to a piece whose sample, if it has one, was put into a lent one
+abbrev pub filled : model.Sample → Result ⊤ Bad → Result model.Sample Bad
+filled s (Ok _) = Ok s
+filled s (Err bad) = Err bad
+
+-- the lent sample is the old one, unless an answer says that there is another
+abbrev pub Stays : Option (Result ⊤ Bad) → model.Sample → model.Sample → Type 0
+Stays answer old new = MatchOption answer (new ≡ old) (λ a. OnErr a (new ≡ old))

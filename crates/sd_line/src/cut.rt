@@ -2,6 +2,7 @@ ghost use Rattle.std.specs.Prelude.{◌≡◌, ◌<◌, ◌+◌, ◌∷◌, leng
 ghost use Rattle.sd_model_text.specs.Lists.{cut_at, split, trim_end, is_white_space};
 ghost use Rattle.sd_line.specs.Cut.{cut_view, parts_in};
 
+use memchr::memchr;
 use sd_key::is_white_space;
 
 /// What stands before a separator, and what stands behind it.
@@ -12,7 +13,7 @@ pub(crate) struct Cut<'a> {
 }
 
 /// The place of the first separator, where there is one.
-// A call of its own keeps the loop small, which goes over most bytes of a datagram.
+// A call of its own keeps the loop small.
 #[inline(never)]
 fn place_of(bytes: &[u8], separator: u8) -> Option<usize>
     ensures cut { option_map (λ i. record { part = take i bytes.now; rest = drop (i + 1) bytes.now }) result
@@ -25,6 +26,16 @@ fn place_of(bytes: &[u8], separator: u8) -> Option<usize>
         }
     }
     None
+}
+
+/// The same by vectors, which costs less where the separator is far, as a newline is, and more where it is near.
+#[inline(always)]
+fn far_place_of(bytes: &[u8], separator: u8) -> Option<usize>
+    ensures cut { option_map (λ i. record { part = take i bytes.now; rest = drop (i + 1) bytes.now }) result
+        ≡ cut_at separator bytes.now }
+    ensures inside { IfSome result (λ i. i < length bytes.now) }
+{
+    memchr(separator, bytes)
 }
 
 /// The bytes cut around the one at this place.
@@ -45,6 +56,16 @@ pub(crate) fn first_cut(bytes: &[u8], separator: u8) -> Option<Cut<'_>>
     ensures whole { IfSome result (λ c. length c.part.now + length c.rest.now + 1 ≡ length bytes.now) }
 {
     let place = place_of(bytes, separator)?;
+    Some(cut_around(bytes, place))
+}
+
+/// The same as `first_cut`, for separators that are far from each other.
+#[inline(always)]
+pub(crate) fn far_cut(bytes: &[u8], separator: u8) -> Option<Cut<'_>>
+    ensures cut { option_map cut_view result ≡ cut_at separator bytes.now }
+    ensures whole { IfSome result (λ c. length c.part.now + length c.rest.now + 1 ≡ length bytes.now) }
+{
+    let place = far_place_of(bytes, separator)?;
     Some(cut_around(bytes, place))
 }
 

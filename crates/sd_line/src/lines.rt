@@ -1,6 +1,6 @@
 ghost use Rattle.std.specs.Prelude.{◌≡◌, ℕ, List, [], ◌∷◌, IsNone, IfSome};
 ghost use Rattle.sd_model_text.specs.Lines.{pieces};
-ghost use Rattle.sd_line.specs.Piece.{Answers};
+ghost use Rattle.sd_line.specs.Piece.{Answers, Stays, filled};
 
 use crate::named::name_of;
 use crate::parts::next_part;
@@ -42,6 +42,20 @@ impl<'a> Lines<'a> {
         ensures end { IsNone result → (self.old ≡ []) × (self.new ≡ []) }
         ensures next { IfSome result (λ answer. (piece : List ℕ) × (self.old ≡ piece ∷ self.new) × Answers piece answer) }
     {
+        let mut sample = Sample::blank();
+        match self.next_into(&mut sample)? {
+            Ok(()) => Some(Ok(sample)),
+            Err(bad) => Some(Err(bad)),
+        }
+    }
+
+    /// The next piece: its sample, in the place of the one that is lent, or why it has none. None at the end. The lent one stays
+    /// where there is no other. No more bytes are copied and cleared than keys and members have.
+    pub fn next_into(&mut self, sample: &mut Sample) -> Option<Result<(), Bad>>
+        ensures end { IsNone result → (self.old ≡ []) × (self.new ≡ []) }
+        ensures next { IfSome result (λ answer. (piece : List ℕ) × (self.old ≡ piece ∷ self.new) × Answers piece (filled sample.new answer)) }
+        ensures stays { Stays result sample.old sample.new }
+    {
         if self.values.is_empty() {
             let Some(line) = next_part(self.rest) else {
                 self.rest = &[];
@@ -53,6 +67,6 @@ impl<'a> Lines<'a> {
             };
             self.values.begin(&named);
         }
-        self.values.next()
+        self.values.next_into(sample)
     }
 }

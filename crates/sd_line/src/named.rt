@@ -5,6 +5,7 @@ ghost use Rattle.sd_model_text.specs.Names.{is_name_byte as is_name, clean};
 ghost use Rattle.sd_line.specs.Named.{named_view};
 
 use crate::cut::{cut_around, first_cut};
+use sd_key::is_name_byte;
 
 /// The name before the first colon of a line, and what stands behind it. `is_key` says that the name is a key
 /// as it stands, where that is known.
@@ -15,14 +16,9 @@ pub(crate) struct Named<'a> {
     pub is_key: bool,
 }
 
-/// Whether a key may have the byte.
-fn is_name_byte(b: u8) -> bool
-    ensures { result ≡ is_name b }
-{
-    b.is_ascii_alphanumeric() || matches!(b, b'_' | b'-' | b'.')
-}
-
 /// How many bytes of names a line begins with.
+// A call of its own keeps the loop small, which goes over most bytes of a datagram.
+#[inline(never)]
 fn plain_len(line: &[u8]) -> usize
     ensures { result ≡ prefix_len is_name line.now }
 {

@@ -2,16 +2,17 @@ ghost use Rattle.std.specs.Prelude.{◌≡◌, ◌<◌, [], ◌∷◌, length, I
 ghost use Rattle.sd_model_text.specs.Lines.{lines, name_in_line};
 ghost use Rattle.sd_line.specs.Lines.{with_line};
 
-use crate::cut::{Cut, first_cut, trimmed};
+use crate::cut::{Cut, far_cut, trimmed};
 use std::marker::Model;
 
 /// What stands before the next newline without the white space at its end, and what stands behind it.
+#[inline(always)]
 fn next_line(bytes: &[u8]) -> Cut<'_>
     requires { 0 < length bytes.now }
     ensures lines { lines bytes.now ≡ with_line result.part.now (lines result.rest.now) }
     ensures shorter { length result.rest.now < length bytes.now }
 {
-    match first_cut(bytes, b'\n') {
+    match far_cut(bytes, b'\n') {
         Some(line) => Cut {
             part: trimmed(line.part),
             rest: line.rest,
@@ -24,6 +25,7 @@ fn next_line(bytes: &[u8]) -> Cut<'_>
 }
 
 /// The next line of a datagram and what stands behind it, where there is one.
+#[inline(always)]
 pub(crate) fn next_part(bytes: &[u8]) -> Option<Cut<'_>>
     ensures { MatchOption result (lines bytes.now ≡ []) (λ c. lines bytes.now ≡ c.part.now ∷ lines c.rest.now) }
 {
@@ -84,6 +86,6 @@ impl<'a> Parts<'a> {
 pub fn name_before_colon(line: &[u8]) -> Option<&[u8]>
     ensures { option_map (λ name. name.now) result ≡ name_in_line line.now }
 {
-    let cut = first_cut(line, b':')?;
+    let cut = far_cut(line, b':')?;
     Some(cut.part)
 }

@@ -10,7 +10,8 @@ ghost use Rattle.sd_line.specs.Reading.{key_view};
 ghost use Rattle.sd_line.specs.Values.{key_by};
 
 use crate::fields::Fields;
-use crate::reading::{KeyBytes, ONE, Reading, has_sign};
+use crate::reading::{KeyBytes, Reading, has_sign};
+use crate::sample::ONE;
 use sd_decimal::{Micro, NumberFault, read};
 use sd_key::{Key, KeyFault, Kind};
 

@@ -6,13 +6,10 @@ ghost use Rattle.sd_model_text.specs.Numbers as numbers;
 ghost use Rattle.sd_key.specs.Kind.{kind_of};
 ghost use Rattle.sd_line.specs.Reading.{key_view};
 
-use crate::sample::{Member, Sample};
+use crate::sample::{ONE, Sample};
 use sd_decimal::Micro;
 use sd_key::{Key, Kind};
 use std::marker::Model;
-
-/// The rate 1.
-pub(crate) const ONE: Micro = Micro(1_000_000);
 
 /// The bytes of a key: a name that is one as it stands, or what cleaning left of a name.
 #[derive(Clone, Copy)]
@@ -60,6 +57,7 @@ fn member_of(text: &[u8]) -> &[u8]
 
 impl<'a> Reading<'a> {
     /// What a key and the fields behind it say.
+    #[inline(always)]
     pub(crate) fn of(
         kind: Kind,
         key: KeyBytes<'a>,
@@ -91,37 +89,26 @@ impl<'a> Reading<'a> {
         }
     }
 
-    /// The key, by itself.
-    fn key(&self) -> Key
-        ensures { result ≡ self.now.key }
+    /// The key's bytes.
+    fn key(&self) -> &[u8]
+        ensures bytes { result.now ≡ self.now.key }
+        ensures short { length result.now ≤ 255 }
     {
-        let bytes = match self.key {
+        match self.key {
             KeyBytes::Name(name) => name,
             KeyBytes::Cleaned(key) => key.as_slice(),
-        };
-        Key::of(bytes).unwrap()
-    }
-
-    /// The member's bytes in their place.
-    fn member(&self) -> Member
-        ensures { result.items ≡ self.now.member }
-    {
-        let mut member = Member::new();
-        member.try_extend_from_slice(self.member).unwrap();
-        member
-    }
-
-    /// The sample.
-    pub(crate) fn sample(&self) -> Sample
-        ensures { result ≡ self.now }
-    {
-        Sample {
-            kind: self.kind,
-            key: self.key(),
-            value: self.value,
-            rate: self.rate,
-            signed: self.signed,
-            member: self.member(),
         }
+    }
+
+    /// Puts what it says in the place of a sample.
+    pub(crate) fn fill(&self, sample: &mut Sample)
+        ensures { sample.new ≡ self.now }
+    {
+        sample.kind = self.kind;
+        sample.key.copy_from_slice(self.key());
+        sample.value = self.value;
+        sample.rate = self.rate;
+        sample.signed = self.signed;
+        sample.put_member(self.member);
     }
 }

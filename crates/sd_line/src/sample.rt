@@ -1,9 +1,13 @@
-ghost use Rattle.std.specs.Prelude.{◌≡◌};
+ghost use Rattle.std.specs.Prelude.{◌≡◌, ◌^◌, ◌≤◌, pos, false, [], ◌∷◌, length};
+ghost use Rattle.sd_model_text.specs.Names.{Counter};
 
 use arrayvec::ArrayVec;
 use sd_decimal::Micro;
 use sd_key::{Key, Kind};
 use std::marker::Model;
+
+/// The rate 1.
+pub(crate) const ONE: Micro = Micro(1_000_000);
 
 /// A member of a set: at most 128 bytes.
 pub type Member = ArrayVec<u8, 128>;
@@ -33,6 +37,31 @@ impl Model for Sample {
 }
 
 impl Sample {
+    /// A sample to lend to `Lines::next_into`: the value 0 of a counter `_`.
+    pub fn blank() -> Sample
+        ensures { result ≡ record { kind = Counter; key = 95 ∷ []; value = pos 0; rate = 10 ^ 6; is_signed = false; member = [] } }
+    {
+        Sample {
+            kind: Kind::Counter,
+            key: Key::of(b"_").unwrap(),
+            value: Micro(0),
+            rate: ONE,
+            signed: false,
+            member: Member::new(),
+        }
+    }
+
+    /// Puts a member in the place of its own.
+    pub(crate) fn put_member(&mut self, member: &[u8])
+        requires { length member.now ≤ 128 }
+        ensures { self.new ≡ record self.old { member = member.now } }
+    {
+        self.member.clear();
+        if !member.is_empty() {
+            self.member.try_extend_from_slice(member).unwrap();
+        }
+    }
+
     /// Takes the parts of another sample in the place of its own. It copies no more bytes than key and member have.
     pub fn clone_from(&mut self, source: &Sample)
         ensures { self.new ≡ source.now }
@@ -42,9 +71,6 @@ impl Sample {
         self.value = source.value;
         self.rate = source.rate;
         self.signed = source.signed;
-        self.member.clear();
-        self.member
-            .try_extend_from_slice(source.member.as_slice())
-            .unwrap();
+        self.put_member(source.member.as_slice());
     }
 }

@@ -1,8 +1,8 @@
-ghost use Rattle.std.specs.Prelude.{◌≡◌, ◌↔◌, ℕ, List, [], ◌∷◌, ◌++◌, map, IsNone, IfSome, IsTrue, Ok, true, false};
+ghost use Rattle.std.specs.Prelude.{◌≡◌, ◌↔◌, ℕ, List, [], ◌∷◌, ◌++◌, map, IsNone, IfSome, IsTrue, None, Ok, true, false};
 ghost use Rattle.sd_model_text.specs.Lists.{split};
 ghost use Rattle.sd_model_text.specs.Names.{clean as clean_name};
 ghost use Rattle.sd_model_text.specs.Lines.{has_byte};
-ghost use Rattle.sd_line.specs.Piece.{Answers};
+ghost use Rattle.sd_line.specs.Piece.{Answers, Stays, filled};
 
 use crate::cut::first_part;
 use crate::named::Named;
@@ -31,6 +31,15 @@ impl<'a> Model for Values<'a> {
     ghost invariant = { IsValues };
 }
 
+/// Leaves nothing. It writes only where something is, since it clears all bytes of a key.
+fn forget(cleaned: &mut Option<Result<Key, KeyFault>>)
+    ensures { cleaned.new ≡ None }
+{
+    if cleaned.is_some() {
+        *cleaned = None;
+    }
+}
+
 impl<'a> Values<'a> {
     /// No pieces.
     pub(crate) fn none() -> Values<'a>
@@ -57,23 +66,28 @@ impl<'a> Values<'a> {
         ensures { self.new ≡ map (λ part. named.now.name.now ++ 58 ∷ part) (split 58 named.now.rest.now) }
     {
         self.name = named.name;
-        self.cleaned = if named.is_key {
-            None
+        if named.is_key {
+            forget(&mut self.cleaned);
         } else {
-            Some(clean(named.name))
-        };
+            self.cleaned = Some(clean(named.name));
+        }
         self.left = Some(named.rest);
     }
 
-    /// The next piece: its sample, or why it has none. None at the end.
-    pub(crate) fn next(&mut self) -> Option<Result<Sample, Bad>>
+    /// The next piece: its sample, in the place of the one that is lent, or why it has none. None at the end. The lent one stays
+    /// where there is no other.
+    pub(crate) fn next_into(&mut self, sample: &mut Sample) -> Option<Result<(), Bad>>
         ensures end { IsNone result → (self.old ≡ []) × (self.new ≡ []) }
-        ensures next { IfSome result (λ answer. (piece : List ℕ) × (self.old ≡ piece ∷ self.new) × Answers piece answer) }
+        ensures next { IfSome result (λ answer. (piece : List ℕ) × (self.old ≡ piece ∷ self.new) × Answers piece (filled sample.new answer)) }
+        ensures stays { Stays result sample.old sample.new }
     {
         let part = first_part(self.left?, b':');
         self.left = part.behind;
         match read_value(self.name, &self.cleaned, part.text) {
-            Ok(reading) => Some(Ok(reading.sample())),
+            Ok(reading) => {
+                reading.fill(sample);
+                Some(Ok(()))
+            }
             Err(bad) => Some(Err(bad)),
         }
     }

@@ -2,7 +2,7 @@ ghost use Rattle.std.specs.Prelude.{◌≡◌, ◌↔◌, ◌<◌, IsTrue};
 ghost use Rattle.sd_rows.specs.Rows.{home_of};
 
 use sd_decimal::Micro;
-use sd_key::{Key, Kind, Pattern, fnv1a, matches};
+use sd_key::{Key, Kind, Pattern, matches};
 
 /// A row: the kind and key that it is known by, and what it keeps from swap to swap.
 #[derive(Clone, Debug, Drop)]
@@ -51,7 +51,7 @@ pub(crate) fn home_of(kind: Kind, key: &Key, homes: u64) -> u64
 {
     // All keys of one shard have one residue of the hash by the number of shards, which is at most 16. Without the
     // division they would begin at one cell in 16, for as many homes.
-    (fnv1a(key.as_slice()) / 16 + kind as u64) % homes
+    (key.fnv1a() / 16 + kind as u64) % homes
 }
 
 /// The same row, in memory of its own.

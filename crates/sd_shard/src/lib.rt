@@ -1,4 +1,8 @@
 //! A shard: rows and entries, and the events that change them.
+//!
+//! `sd_shards` has the shards of a replay, and `sd_pool` those of a server. What a sample, a swap, a deletion and a dump do is
+//! the definitions' step, and nothing else. Only `open` takes memory, of a shard as of the lists that it fills. A shard knows no
+//! threads and no clock: it has one caller at a time, and how long a row is idle is a number of swaps.
 #![tactic(auto)]
 
 mod carry;

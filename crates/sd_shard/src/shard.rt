@@ -109,7 +109,8 @@ impl Shard {
         let limits = self.table.limits();
         let live = self.table.rows();
         let held = self.table.entries();
-        if !self.table.has_row(s.kind, &s.key) && live >= limits.rows {
+        // (a row is searched for only where there is no room for another)
+        if live >= limits.rows && !self.table.has_row(s.kind, &s.key) {
             return Some(Cause::NoRow {
                 live,
                 limit: limits.rows,

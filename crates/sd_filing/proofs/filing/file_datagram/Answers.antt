@@ -1,8 +1,9 @@
 use Rattle.std.proofs.Common.{◌≡◌, refl, subst, ◌∙◌, arith}
-use Rattle.std.specs.Prelude.{Result, Ok}
+use Rattle.std.specs.Prelude.{Result, Ok, ⊤}
 use Rattle.sd_model_text.specs.Lines.{Sample, reading}
 use Rattle.sd_model_text.proofs.PieceCounts.{length-pieces}
-use Rattle.sd_line.specs.Piece.{Gives}
+use Rattle.sd_line.specs.Piece.{Gives, filled}
+use Rattle.sd_line.specs.declared.piece.Bad.{Bad}
 use Rattle.sd_filing.proofs.FilingLemmas.{none_filed, all_filed, good_filed, shard_below}
 use Rattle.sd_filing.proofs.filing.file_datagram.Goals as goal
 
@@ -33,8 +34,8 @@ loop-piece-preserved-in-Ok g c =
     let inv = c.loop-piece.invariant in
     let group = c.args.group.now in
     let next = c.in-Some.ensures.next in
-    let s = c.in-Ok.sample in
-    let is : reading next.0 ≡ Ok s = subst (λ (a : Result Sample _). Gives (λ (x : Sample). x) a (reading next.0)) c.in-Ok.is next.2.read in
+    let s = c.next_into.new.sample in
+    let is : reading next.0 ≡ Ok s = subst (λ (a : Result ⊤ Bad). Gives (λ (x : Sample). x) (filled s a) (reading next.0)) c.in-Ok.is next.2.read in
     let submits = rw (inv.shards, inv.caller) at c.file_sample.ensures.submits in
     record {
       ready = c.file_sample.ensures.ready;

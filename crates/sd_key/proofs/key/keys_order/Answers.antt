@@ -4,11 +4,7 @@ use Rattle.std.proofs.lemmas.Cmp.{tied_itself, nat_list_cmp_total}
 use Rattle.std.proofs.lemmas.Map.Lookups.{exact_bytes}
 use Rattle.std.specs.Ordering.{nat_cmp}
 use Rattle.std.specs.Cmp.Lexicographic.{slice_cmp}
-use Rattle.sd_key.proofs.Orders.{key_partial_cmp}
 use Rattle.sd_key.proofs.key.keys_order.Goals as goal
-
-pub returns-clause-partial : goal.returns-clause-partial
-returns-clause-partial c = key_partial_cmp
 
 pub returns-clause-equal : goal.returns-clause-equal
 returns-clause-equal c a b = (exact_bytes a b, λ same. ap (slice_cmp nat_cmp a) (sym same) ∙ tied_itself nat_list_cmp_total a)

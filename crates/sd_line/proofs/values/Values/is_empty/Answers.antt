@@ -1,4 +1,4 @@
-use Rattle.std.proofs.Common.{◌≡◌, ◌↔◌, ◌∷◌, ◌++◌, [], IsTrue, sym, ◌∙◌}
+use Rattle.std.proofs.Common.{◌∷◌, ◌++◌, sym, ◌∙◌}
 use Rattle.sd_line.proofs.PieceLemmas.{no-values}
 use Rattle.sd_line.proofs.values.Values.is_empty.Goals as goal
 

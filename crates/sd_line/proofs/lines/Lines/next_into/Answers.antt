@@ -1,11 +1,11 @@
-use Rattle.std.proofs.Common.{◌≡◌, ℕ, List, [], ◌∷◌, ◌++◌, None, IsTrue, sym, ap, ◌∙◌}
+use Rattle.std.proofs.Common.{◌≡◌, [], ◌∷◌, ◌++◌, None, sym, ap, ◌∙◌}
 use Rattle.std.proofs.lemmas.Bool.{both_ways}
 use Rattle.sd_model_text.specs.Lines.{pieces}
 use Rattle.sd_model_text.proofs.CutLemmas.{cut-leaves}
 use Rattle.sd_line.specs.Named.{named_view}
 use Rattle.sd_line.proofs.PieceLemmas.{line-answers, pieces-line, some-values}
-use Rattle.sd_line.proofs.lines.Lines.next.Goals as goal
-use Rattle.sd_line.proofs.lines.Lines.next.Goals.{then-is_empty+in-Some+in-Some-name_of, else-is_empty}
+use Rattle.sd_line.proofs.lines.Lines.next_into.Goals as goal
+use Rattle.sd_line.proofs.lines.Lines.next_into.Goals.{then-is_empty+in-Some+in-Some-name_of, else-is_empty}
 
 pub returns-in_default-name_of-clause-next : goal.returns-in_default-name_of-clause-next
 returns-in_default-name_of-clause-next c =
@@ -25,7 +25,7 @@ begin-requires-clause-first c =
 
 pub returns-clause-end : goal.returns-clause-end
 returns-clause-end c h =
-    let end : c.if-is_empty.self-inside.values ≡ [] = (c.next.ensures.end h).0 in
+    let end : c.if-is_empty.self-inside.values ≡ [] = (c.next_into.ensures.end h).0 in
     elim c.if-is_empty.branch [
       | then-is_empty+in-Some+in-Some-name_of w ↦
           absurd (some-values (λ part. w.in-Some-name_of.named.name.now ++ 58 ∷ part) w.in-Some-name_of.named.rest.now
