@@ -8,10 +8,10 @@ use Rattle.std.proofs.lemmas.List.Elements.{filter_more}
 use Rattle.std.proofs.Math.ListN.{get_or-map}
 use Rattle.sd_epoch.specs.Chain.{IsLast, up_to, IsChain}
 use Rattle.sd_epoch.specs.Entries.{places_of, entries_at}
-use Rattle.sd_epoch.specs.declared.entry.Entry.{Entry}
+use Rattle.sd_epoch.specs.Held.{Filed}
 
 -- where no entry between two names the place, none is left out
-quiet : (place : ℕ) (entries : List Entry) (m n : ℕ) → m ≤ n → ((k : ℕ) → m ≤ k → k < n → get_or (places_of entries) k 0 ≢ place)
+quiet : (place : ℕ) (entries : List Filed) (m n : ℕ) → m ≤ n → ((k : ℕ) → m ≤ k → k < n → get_or (places_of entries) k 0 ≢ place)
     → entries_at place (take n entries) ≡ entries_at place (take m entries)
 quiet place entries zero zero le none = refl
 quiet place [] zero (suc n) le none = refl
@@ -21,10 +21,10 @@ quiet place (e ∷ entries) zero (suc n) le none =
 quiet place entries (suc m) zero le none = absurd (omega arith)
 quiet place [] (suc m) (suc n) le none = refl
 quiet place (e ∷ entries) (suc m) (suc n) le none =
-    ap (λ (es : List Entry). cond (e.place == place) (e ∷ es) es) (quiet place entries m n (omega arith) (λ k low high. none (suc k) (omega arith) (omega arith)))
+    ap (λ (es : List Filed). cond (e.place == place) (e ∷ es) es) (quiet place entries m n (omega arith) (λ k low high. none (suc k) (omega arith) (omega arith)))
 
 -- the entries of a row up to its last are all of them
-all_up_to : (entries : List Entry) (place n : ℕ) (next : Option ℕ) → IsLast (places_of entries) n place next → entries_at place (take n entries) ≡ entries_at place (take (up_to next) entries)
+all_up_to : (entries : List Filed) (place n : ℕ) (next : Option ℕ) → IsLast (places_of entries) n place next → entries_at place (take n entries) ≡ entries_at place (take (up_to next) entries)
 all_up_to entries place n None h = quiet place entries 0 n (omega arith) (λ k low high. h k high)
 all_up_to entries place n (Some i) h = quiet place entries (i + 1) n (omega (arith, h.0)) (λ k low high. h.2 k (omega arith) high)
 
@@ -41,20 +41,20 @@ few_up_to : (places : List ℕ) (n place : ℕ) (next : Option ℕ) → IsLast p
 few_up_to places n place None h = omega arith
 few_up_to places n place (Some i) h = omega (arith, h.0)
 
-place_at : (entries : List Entry) (i : ℕ) (d : Entry) → i < length entries → get_or (places_of entries) i 0 ≡ (get_or entries i d).place
+place_at : (entries : List Filed) (i : ℕ) (d : Filed) → i < length entries → get_or (places_of entries) i 0 ≡ (get_or entries i d).place
 place_at entries i d lt =
-    get_or_default (places_of entries) i 0 d.place (omega (arith, lt, length-map entries (λ (e : Entry). e.place))) ∙ get_or-map (λ (e : Entry). e.place) entries i d
+    get_or_default (places_of entries) i 0 d.place (omega (arith, lt, length-map entries (λ (e : Filed). e.place))) ∙ get_or-map (λ (e : Filed). e.place) entries i d
 
 -- the last entry of a row, with which a walk begins
-pub record Begins (entries : List Entry) (place : ℕ) (next : Option ℕ) : Type 0 where
+pub record Begins (entries : List Filed) (place : ℕ) (next : Option ℕ) : Type 0 where
   pub of_row : IsOfRow (places_of entries) place next
   pub all : entries_at place (take (up_to next) entries) ≡ entries_at place entries
   pub few : up_to next ≤ length entries
 
-pub begins : (entries : List Entry) (last before : List (Option ℕ)) (place : ℕ) (next : Option ℕ) → IsChain (places_of entries) last before → place < length last → next ≡ get_or last place next
+pub begins : (entries : List Filed) (last before : List (Option ℕ)) (place : ℕ) (next : Option ℕ) → IsChain (places_of entries) last before → place < length last → next ≡ get_or last place next
     → Begins entries place next
 begins entries last before place next w within is =
-    let count = length-map entries (λ (e : Entry). e.place) in
+    let count = length-map entries (λ (e : Filed). e.place) in
     let n = length (places_of entries) in
     let at = subst (IsLast (places_of entries) n place) (sym (get_or_read last place next within is None)) (w.ends place) in record {
       of_row = last_of_row (places_of entries) n place next (omega arith) at;
@@ -63,33 +63,33 @@ begins entries last before place next w within is =
     }
 
 -- the entry before one of a row, to which a walk goes on
-pub record GoesOn (entries : List Entry) (place i : ℕ) (next : Option ℕ) : Type 0 where
+pub record GoesOn (entries : List Filed) (place i : ℕ) (next : Option ℕ) : Type 0 where
   pub of_row : IsOfRow (places_of entries) place next
-  pub more : (d : Entry) → entries_at place (take (i + 1) entries) ≡ entries_at place (take (up_to next) entries) ++ get_or entries i d ∷ []
+  pub more : (d : Filed) → entries_at place (take (i + 1) entries) ≡ entries_at place (take (up_to next) entries) ++ get_or entries i d ∷ []
   pub before : entries_at place (take i entries) ≡ entries_at place (take (up_to next) entries)
   pub few : up_to next ≤ i
 
-pub goes_on_to : (entries : List Entry) (last before : List (Option ℕ)) (place i : ℕ) (next : Option ℕ) → IsChain (places_of entries) last before → IsOfRow (places_of entries) place (Some i) → next ≡ get_or before i None
+pub goes_on_to : (entries : List Filed) (last before : List (Option ℕ)) (place i : ℕ) (next : Option ℕ) → IsChain (places_of entries) last before → IsOfRow (places_of entries) place (Some i) → next ≡ get_or before i None
     → GoesOn entries place i next
 goes_on_to entries last before place i next w here read =
-    let count = length-map entries (λ (e : Entry). e.place) in
+    let count = length-map entries (λ (e : Filed). e.place) in
     let within : i < length entries = omega (arith, here.0, count) in
     let at = subst (IsLast (places_of entries) i place) (sym read) (subst (λ p. IsLast (places_of entries) i p (get_or before i None)) here.1 (w.linked i here.0)) in record {
       of_row = last_of_row (places_of entries) i place next (omega (arith, here.0)) at;
       more = λ d.
-          filter_more (λ (e : Entry). e.place == place) entries i d within
+          filter_more (λ (e : Filed). e.place == place) entries i d within
           ∙ ap (λ b. entries_at place (take i entries) ++ cond b (get_or entries i d ∷ []) []) (eq-eqb (get_or entries i d).place place (sym (place_at entries i d within) ∙ here.1))
-          ∙ ap (λ (es : List Entry). es ++ get_or entries i d ∷ []) (all_up_to entries place i next at);
+          ∙ ap (λ (es : List Filed). es ++ get_or entries i d ∷ []) (all_up_to entries place i next at);
       before = all_up_to entries place i next at;
       few = few_up_to (places_of entries) i place next at;
     }
 
-pub goes_on : (entries : List Entry) (last before : List (Option ℕ)) (place i : ℕ) (next : Option ℕ) → IsChain (places_of entries) last before → IsOfRow (places_of entries) place (Some i) → next ≡ get_or before i next
+pub goes_on : (entries : List Filed) (last before : List (Option ℕ)) (place i : ℕ) (next : Option ℕ) → IsChain (places_of entries) last before → IsOfRow (places_of entries) place (Some i) → next ≡ get_or before i next
     → GoesOn entries place i next
 goes_on entries last before place i next w here is = goes_on_to entries last before place i next w here (get_or_read before i next (omega (arith, here.0, w.len)) is None)
 
 -- what was taken from the entries so far, and that from those that are left, the last one first
-pub back_more : {A : Type 0} (v : Entry → A) (out : List A) (own : List Entry) (e : Entry) → (out ++ v e ∷ []) ++ reverse (map v own) ≡ out ++ reverse (map v (own ++ e ∷ []))
+pub back_more : {A : Type 0} (v : Filed → A) (out : List A) (own : List Filed) (e : Filed) → (out ++ v e ∷ []) ++ reverse (map v own) ≡ out ++ reverse (map v (own ++ e ∷ []))
 back_more v out own e =
     append_assoc out (v e ∷ []) (reverse (map v own))
     ∙ ap (λ ys. out ++ ys) (sym (ap reverse (map-append v own (e ∷ [])) ∙ reverse-append (map v own) (v e ∷ [])))

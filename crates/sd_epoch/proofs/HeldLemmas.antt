@@ -19,19 +19,19 @@ use Rattle.sd_rows.specs.declared.row.Row.{Row}
 use Rattle.sd_rows.proofs.IndexLemmas.{taken_count-unset}
 use Rattle.sd_epoch.specs.Entries.{id_in, entry_of, entry_view, held_in, places_of, entries_at, AllLive, is_among, IsTally, AreTallies, StayAt}
 use Rattle.sd_epoch.specs.Table.{id_of, row_view}
-use Rattle.sd_epoch.specs.declared.entry.Entry.{Entry}
+use Rattle.sd_epoch.specs.Held.{Filed}
 use Rattle.sd_epoch.specs.declared.tally.Tally.{Tally}
 use Rattle.sd_epoch.proofs.ListingLemmas.{same_itself}
 use Rattle.sd_epoch.proofs.PlaceLemmas.{id_here, test_place, absent_id}
 
 -- entries whose rows stay are seen as before
-pub held_stays : (old new : List (Option Row)) (entries : List Entry) → StayAt old new → AllLive old (places_of entries) → held_in new entries ≡ held_in old entries
+pub held_stays : (old new : List (Option Row)) (entries : List Filed) → StayAt old new → AllLive old (places_of entries) → held_in new entries ≡ held_in old entries
 held_stays old new [] stay l = refl
 held_stays old new (e ∷ entries) stay l =
     ap (λ id. entry_of id e ∷ held_in new entries) (stay e.place l.0).1 ∙ ap (λ (es : List model.Entry). entry_view old e ∷ es) (held_stays old new entries stay l.1)
 
 -- the entries that name a place are those of its row
-pub entries_here : (rows : List (Option Row)) (place : ℕ) (entries : List Entry) → places.AreApart rows → row_at rows place ≢ None → AllLive rows (places_of entries)
+pub entries_here : (rows : List (Option Row)) (place : ℕ) (entries : List Filed) → places.AreApart rows → row_at rows place ≢ None → AllLive rows (places_of entries)
     → map (entry_view rows) (entries_at place entries) ≡ entries_of (id_in rows place) (held_in rows entries)
 entries_here rows place [] w here l = refl
 entries_here rows place (e ∷ entries) w here l =
@@ -43,7 +43,7 @@ entries_here rows place (e ∷ entries) w here l =
     (sym (test_place rows place e.place w here l.0))
 
 -- a row that is absent has no entries
-pub none_held : (rows : List (Option Row)) (kind : Kind) (key : List ℕ) (entries : List Entry) → IsAbsent kind key rows → AllLive rows (places_of entries) → entries_of (id_of kind key) (held_in rows entries) ≡ []
+pub none_held : (rows : List (Option Row)) (kind : Kind) (key : List ℕ) (entries : List Filed) → IsAbsent kind key rows → AllLive rows (places_of entries) → entries_of (id_of kind key) (held_in rows entries) ≡ []
 none_held rows kind key [] absent l = refl
 none_held rows kind key (e ∷ entries) absent l =
     ap (λ b. cond b (entry_view rows e ∷ entries_of (id_of kind key) (held_in rows entries)) (entries_of (id_of kind key) (held_in rows entries))) (absent_id rows e.place kind key absent l.0)

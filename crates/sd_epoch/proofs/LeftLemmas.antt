@@ -12,7 +12,7 @@ use Rattle.sd_rows.proofs.IndexLemmas.{set_differs, present_within}
 use Rattle.sd_rows.proofs.MapLemmas.{not_true, has_holds, holds_has}
 use Rattle.sd_epoch.specs.Entries.{listed_as, id_in, entry_of, entry_view, held_in, listed_in, places_of, AllLive, is_among, AreRows, IsTally, AreTallies, left_by, AreLeft}
 use Rattle.sd_epoch.specs.Table.{AreApart, id_of, row_view}
-use Rattle.sd_epoch.specs.declared.entry.Entry.{Entry}
+use Rattle.sd_epoch.specs.Held.{Filed}
 use Rattle.sd_epoch.specs.declared.tally.Tally.{Tally}
 use Rattle.sd_epoch.proofs.ForgetLemmas.{AreApart-filter}
 use Rattle.sd_epoch.proofs.ListingLemmas.{same_row}
@@ -58,11 +58,11 @@ all_live left (p ∷ order) = by_test (is_some (row_at left p)) refl (all_live l
   by_test false h rest = rest
 
 -- and those of entries
-pub all_owned : (left : List (Option Row)) (entries : List Entry) → AllLive left (places_of (filter (λ (e : Entry). is_some (row_at left e.place)) entries))
+pub all_owned : (left : List (Option Row)) (entries : List Filed) → AllLive left (places_of (filter (λ (e : Filed). is_some (row_at left e.place)) entries))
 all_owned left [] = tt
 all_owned left (e ∷ entries) = by_test (is_some (row_at left e.place)) refl (all_owned left entries) where
-  rest : List Entry
-  rest = filter (λ (x : Entry). is_some (row_at left x.place)) entries
+  rest : List Filed
+  rest = filter (λ (x : Filed). is_some (row_at left x.place)) entries
 
   by_test : (b : Bool) → is_some (row_at left e.place) ≡ b → AllLive left (places_of rest) → AllLive left (places_of (cond b (e ∷ rest) rest))
   by_test true h l = (live_some (row_at left e.place) h, l)
@@ -124,11 +124,11 @@ module _ (gone : RowId → Bool) (rows left : List (Option Row)) (are : AreLeft 
       ∙ pick (is_some (row_at left p)) _ (listed_as (row_at rows p)) _ _ (listed_here p) (listed_left order l.1)
       ∙ ap (λ b. cond b (listed_as (row_at rows p) ∷ filter (λ (e : RowId × Kept). not (gone e.0)) (listed_in rows order)) (filter (λ (e : RowId × Kept). not (gone e.0)) (listed_in rows order))) (test_left p l.0)
 
-  pub held_left : (entries : List Entry) → AllLive rows (places_of entries)
-      → held_in left (filter (λ (e : Entry). is_some (row_at left e.place)) entries) ≡ filter (λ (e : model.Entry). not (gone (row_of e.sample))) (held_in rows entries)
+  pub held_left : (entries : List Filed) → AllLive rows (places_of entries)
+      → held_in left (filter (λ (e : Filed). is_some (row_at left e.place)) entries) ≡ filter (λ (e : model.Entry). not (gone (row_of e.sample))) (held_in rows entries)
   held_left [] l = refl
   held_left (e ∷ entries) l =
-      map-cond (entry_view left) (is_some (row_at left e.place)) e (filter (λ (x : Entry). is_some (row_at left x.place)) entries)
+      map-cond (entry_view left) (is_some (row_at left e.place)) e (filter (λ (x : Filed). is_some (row_at left x.place)) entries)
       ∙ pick (is_some (row_at left e.place)) _ (entry_view rows e) _ _ (λ h. ap (λ (k : RowId × Kept). entry_of k.0 e) (listed_here e.place h)) (held_left entries l.1)
       ∙ ap (λ b. cond b (entry_view rows e ∷ filter (λ (x : model.Entry). not (gone (row_of x.sample))) (held_in rows entries)) (filter (λ (x : model.Entry). not (gone (row_of x.sample))) (held_in rows entries))) (test_left e.place l.0)
 
@@ -174,7 +174,7 @@ one_gone rows at kind key w within h p =
     ]
 
 -- the place that an entry names is one of the places
-pub owned_within : (rows : List (Option Row)) (entries : List Entry) → AllLive rows (places_of entries) → (i : ℕ) (d : Entry) → i < length entries → (get_or entries i d).place < length rows
+pub owned_within : (rows : List (Option Row)) (entries : List Filed) → AllLive rows (places_of entries) → (i : ℕ) (d : Filed) → i < length entries → (get_or entries i d).place < length rows
 owned_within rows [] l i d lt = absurd (omega arith)
 owned_within rows (e ∷ entries) l zero d lt = present_within rows e.place l.0
 owned_within rows (e ∷ entries) l (suc i) d lt = owned_within rows entries l.1 i d (omega arith)

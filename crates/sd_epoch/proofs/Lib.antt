@@ -1,6 +1,7 @@
 pub mod ChainLemmas
 pub mod ForgetLemmas
 pub mod HeldLemmas
+pub mod JoinedLemmas
 pub mod LeftLemmas
 pub mod ListingLemmas
 pub mod MemberLemmas

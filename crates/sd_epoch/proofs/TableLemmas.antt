@@ -16,7 +16,7 @@ use Rattle.sd_epoch.specs.Entries.{listed_as, id_in, listed_in, live_in, entry_v
 use Rattle.sd_epoch.specs.Scratch.{micros, AreTimerValues}
 use Rattle.sd_epoch.specs.Table.{Listing, id_of, row_view, listed_with}
 use Rattle.sd_epoch.specs.TableInside.{listing_of, IsTable}
-use Rattle.sd_epoch.specs.declared.entry.Entry.{Entry}
+use Rattle.sd_epoch.specs.Held.{Filed}
 use Rattle.sd_epoch.specs.declared.table.Table.TheInside.{Inside}
 use Rattle.sd_epoch.specs.declared.tally.Tally.{Tally}
 use Rattle.sd_model_text.specs.Names as text
@@ -88,26 +88,26 @@ module _ (t : Inside) (w : IsTable t) (self : Listing) (view : listing_of t ≡ 
   }
 
 -- the values and the members of entries
-pub values_same : (rows : List (Option Row)) (own : List Entry) → micros (map (λ (e : Entry). e.value) own) ≡ map (λ (e : model.Entry). e.sample.value) (map (entry_view rows) own)
+pub values_same : (rows : List (Option Row)) (own : List Filed) → micros (map (λ (e : Filed). e.value) own) ≡ map (λ (e : model.Entry). e.sample.value) (map (entry_view rows) own)
 values_same rows [] = refl
 values_same rows (e ∷ own) = ap (λ vs. e.value.0 ∷ vs) (values_same rows own)
 
-pub members_same : (rows : List (Option Row)) (own : List Entry) → map (λ (e : Entry). e.member.items) own ≡ map (λ (e : model.Entry). e.sample.member) (map (entry_view rows) own)
+pub members_same : (rows : List (Option Row)) (own : List Filed) → map (λ (e : Filed). e.member) own ≡ map (λ (e : model.Entry). e.sample.member) (map (entry_view rows) own)
 members_same rows [] = refl
-members_same rows (e ∷ own) = ap (λ ms. e.member.items ∷ ms) (members_same rows own)
+members_same rows (e ∷ own) = ap (λ ms. e.member ∷ ms) (members_same rows own)
 
 -- timers' values are in their range
-pub timed_values : (rows : List (Option Row)) (id : RowId) (own : List Entry) → id.kind ≡ text.Timer → All IsTimed (map (entry_view rows) own)
-    → All (λ (e : model.Entry). is_same_row id (row_of e.sample) ≡ true) (map (entry_view rows) own) → AreTimerValues (map (λ (e : Entry). e.value) own)
+pub timed_values : (rows : List (Option Row)) (id : RowId) (own : List Filed) → id.kind ≡ text.Timer → All IsTimed (map (entry_view rows) own)
+    → All (λ (e : model.Entry). is_same_row id (row_of e.sample) ≡ true) (map (entry_view rows) own) → AreTimerValues (map (λ (e : Filed). e.value) own)
 timed_values rows id [] timer timed same = All-nil (λ (v : Micro). (pos 0 ≤ℤ v.0) × (v.0 ≤ℤ pos (10 ^ 16)))
 timed_values rows id (e ∷ own) timer timed same =
     let kind : (entry_view rows e).sample.kind ≡ text.Timer =
     ap (λ (i : RowId). i.kind) (sym (same_row id (row_of (entry_view rows e).sample) (All-head (λ (x : model.Entry). is_same_row id (row_of x.sample) ≡ true) (entry_view rows e) (map (entry_view rows) own) same))) ∙ timer in
-    All-cons (λ (v : Micro). (pos 0 ≤ℤ v.0) × (v.0 ≤ℤ pos (10 ^ 16))) e.value (map (λ (x : Entry). x.value) own) (All-head IsTimed (entry_view rows e) (map (entry_view rows) own) timed kind)
+    All-cons (λ (v : Micro). (pos 0 ≤ℤ v.0) × (v.0 ≤ℤ pos (10 ^ 16))) e.value (map (λ (x : Filed). x.value) own) (All-head IsTimed (entry_view rows e) (map (entry_view rows) own) timed kind)
     (timed_values rows id own timer (All-tail IsTimed (entry_view rows e) (map (entry_view rows) own) timed) (All-tail (λ (x : model.Entry). is_same_row id (row_of x.sample) ≡ true) (entry_view rows e) (map (entry_view rows) own) same))
 
 -- a row that isn't listed has no entries
-pub none_listed : (rows : List (Option Row)) (order : List ℕ) (id : RowId) (entries : List Entry) → AreRows rows order → AllLive rows (places_of entries)
+pub none_listed : (rows : List (Option Row)) (order : List ℕ) (id : RowId) (entries : List Filed) → AreRows rows order → AllLive rows (places_of entries)
     → listed_with id (listed_in rows order) ≡ false → entries_of id (held_in rows entries) ≡ []
 none_listed rows order id [] w l absent = refl
 none_listed rows order id (e ∷ entries) w l absent =

@@ -18,7 +18,7 @@ use Rattle.sd_epoch.specs.Entries.{listed_as, id_in, listed_in, live_in, AllLive
 use Rattle.sd_epoch.specs.Order.{AreDifferent, IsWithout}
 use Rattle.sd_epoch.specs.Table.{AreApart, HasPlaces, listed_with}
 use Rattle.sd_epoch.specs.TableInside.{listing_of, IsTable}
-use Rattle.sd_epoch.specs.declared.entry.Entry.{Entry}
+use Rattle.sd_epoch.specs.Held.{Filed}
 use Rattle.sd_epoch.specs.declared.tally.Tally.{Tally}
 use Rattle.sd_decimal.specs.declared.number.Micro.{Micro}
 use Rattle.sd_epoch.specs.declared.table.Table.TheInside.{Inside}
@@ -158,7 +158,7 @@ emptied_tallies rows at tallies apart w p row other is = w p row other (there (c
   there (inr ne) = sym (get_or-set_other rows at p None None ne) ∙ is
 
 -- where nothing is held there are no entries
-pub no_entries : (rows : List (Option Row)) (entries : List Entry) → held_in rows entries ≡ [] → entries ≡ []
+pub no_entries : (rows : List (Option Row)) (entries : List Filed) → held_in rows entries ≡ [] → entries ≡ []
 no_entries rows [] h = refl
 no_entries rows (e ∷ entries) h = absurd (cc)
 

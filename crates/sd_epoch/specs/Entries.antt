@@ -12,7 +12,7 @@ use Rattle.sd_rows.specs.Rows as places
 use Rattle.sd_rows.specs.Rows.{row_at}
 use Rattle.sd_rows.specs.declared.row.Row.{Row}
 use Rattle.sd_epoch.specs.Table.{AreApart, row_view, id_of}
-use Rattle.sd_epoch.specs.declared.entry.Entry.{Entry}
+use Rattle.sd_epoch.specs.Held.{Filed}
 use Rattle.sd_epoch.specs.declared.tally.Tally.{Tally}
 
 -- the row of a place, where there is one
@@ -33,26 +33,26 @@ abbrev pub live_in : List (Option Row) → List ℕ → model.Rows
 live_in rows order = from_entries (listed_in rows order)
 
 -- an entry, as the definitions have it, where its row has this id
-abbrev pub entry_of : RowId → Entry → model.Entry
+abbrev pub entry_of : RowId → Filed → model.Entry
 entry_of id e =
     record {
-      who = e.who.0;
+      who = e.who;
       number = e.number;
-      sample = record { kind = id.kind; key = id.key; value = e.value.0; rate = unsigned_abs e.rate.0; is_signed = e.signed; member = e.member.items };
+      sample = record { kind = id.kind; key = id.key; value = e.value.0; rate = e.rate; is_signed = e.signed; member = e.member };
     }
 
-abbrev pub entry_view : List (Option Row) → Entry → model.Entry
+abbrev pub entry_view : List (Option Row) → Filed → model.Entry
 entry_view rows e = entry_of (id_in rows e.place) e
 
-abbrev pub held_in : List (Option Row) → List Entry → List model.Entry
+abbrev pub held_in : List (Option Row) → List Filed → List model.Entry
 held_in rows entries = map (entry_view rows) entries
 
 -- the places that entries name
-abbrev pub places_of : List Entry → List ℕ
+abbrev pub places_of : List Filed → List ℕ
 places_of entries = map (λ e. e.place) entries
 
 -- the entries that name a place
-abbrev pub entries_at : ℕ → List Entry → List Entry
+abbrev pub entries_at : ℕ → List Filed → List Filed
 entries_at place entries = filter (λ e. e.place == place) entries
 
 -- a timer's value is from 0 to 10 ^ 10

@@ -25,6 +25,6 @@ pub record IsTable (t : Inside) : Type 0 where
   pub chain_places : length t.chain.last.items ≡ t.limits.rows
   pub order : vec_len t.order.places ≤ t.limits.rows
   pub order_room : t.limits.rows ≤ vec_capacity t.order.places
-  pub entries : vec_len t.entries ≤ t.limits.entries
-  pub entry_room : t.limits.entries ≤ vec_capacity t.entries
+  pub entries : length t.entries.items ≤ t.limits.entries
+  pub entry_room : t.entries.room ≡ t.limits.entries
   pub link_room : t.limits.entries ≤ vec_capacity t.chain.before

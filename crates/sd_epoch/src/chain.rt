@@ -1,9 +1,9 @@
 ghost use Rattle.std.specs.Prelude.{◌≡◌, ℕ, ◌+◌, ◌^◌, ◌<◌, ◌≤◌, List, [], ◌∷◌, ◌++◌, length, get_or, vec_len, vec_capacity, IfOk};
 ghost use Rattle.sd_epoch.specs.Chain.{IsChain};
 ghost use Rattle.sd_epoch.specs.Entries.{places_of};
-ghost use Rattle.sd_epoch.specs.declared.entry.Entry.{Entry as Held};
+ghost use Rattle.sd_epoch.specs.Held.{Filed};
 
-use crate::entry::Entry;
+use crate::entries::Entries;
 use crate::limits::Limits;
 use std::alloc::{AllocError, Global};
 
@@ -55,17 +55,17 @@ impl Chain {
     }
 
     /// Chains these entries in place of those before.
-    pub(crate) fn chain_anew(&mut self, entries: &[Entry])
-        requires within { (i : ℕ) (d : Held) → i < length entries.now → (get_or entries.now i d).place < length self.old.last.items }
-        requires room { length entries.now ≤ vec_capacity self.old.before }
-        requires few { length entries.now ≤ 2 ^ 20 }
-        ensures chain { IsChain (places_of entries.now) self.new.last.items self.new.before.items }
+    pub(crate) fn chain_anew(&mut self, entries: &Entries)
+        requires within { (i : ℕ) (d : Filed) → i < length entries.now.items → (get_or entries.now.items i d).place < length self.old.last.items }
+        requires room { length entries.now.items ≤ vec_capacity self.old.before }
+        requires few { length entries.now.items ≤ 2 ^ 20 }
+        ensures chain { IsChain (places_of entries.now.items) self.new.last.items self.new.before.items }
         ensures places { length self.new.last.items ≡ length self.old.last.items }
         ensures capacity { vec_capacity self.new.before ≡ vec_capacity self.old.before }
     {
         self.clear();
-        for entry in entries {
-            self.push(entry.place);
+        for at in 0..entries.len() {
+            self.push(entries.place(at));
         }
     }
 }

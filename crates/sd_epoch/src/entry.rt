@@ -1,47 +1,42 @@
-ghost use Rattle.std.specs.Prelude.{◌≡◌, ℕ, List, Option};
-ghost use Rattle.sd_model_shard.specs.Rows.{row_of};
-ghost use Rattle.sd_rows.specs.declared.row.Row.{Row};
-ghost use Rattle.sd_epoch.specs.Entries.{entry_view, id_in};
+ghost use Rattle.std.specs.Prelude.{◌≡◌, ◌≤◌, length};
 
 use crate::limits::Who;
 use sd_decimal::Micro;
 use sd_key::Key;
-use sd_line::{Member, Sample};
+use sd_line::Member;
 
-/// A sample that was taken, who brought it, and its number in the shard. Its kind and key are those of its row.
+/// A sample that was taken, who brought it, and its number in the shard. Its kind and key are those of its row, and `member`
+/// says which of the members is its own, if it has one.
+///
+/// The greatest fields stand first, so that none of its bytes lies between two others.
 #[derive(Debug, Drop)]
 pub(crate) struct Entry {
-    pub who: Who,
     pub number: u64,
-    pub place: u32,
     pub value: Micro,
     pub rate: Micro,
+    pub place: u32,
+    pub member: Option<u32>,
+    pub who: Who,
     pub signed: bool,
+}
+
+const _: () = prove!(size_of::<Entry>() == 40);
+
+/// The member of an entry, and the place that the entry names.
+#[derive(Debug, Drop)]
+pub(crate) struct EntryMember {
+    pub place: u32,
     pub member: Member,
 }
 
-/// An entry of this sample, whose row stands in this place.
-pub(crate) fn new_entry(who: Who, number: u64, place: u32, s: &Sample) -> Entry
-    ensures place { result.place ≡ place }
-    ensures entry { (rows : List (Option Row)) → id_in rows place ≡ row_of s.now
-        → entry_view rows result ≡ record { who = who.0; number = number; sample = s.now } }
+/// A member of these bytes. All are copied at once: the clone of an `ArrayVec` pushes them one by one.
+pub(crate) fn member_of(bytes: &[u8]) -> Member
+    requires { length bytes.now ≤ 128 }
+    ensures { result.items ≡ bytes.now }
 {
-    Entry {
-        who,
-        number,
-        place,
-        value: s.value,
-        rate: s.rate,
-        signed: s.signed,
-        member: s.member.clone().unwrap(),
-    }
-}
-
-/// A copy of the member of an entry.
-pub(crate) fn copy_member(entry: &Entry) -> Member
-    ensures { result.items ≡ entry.now.member.items }
-{
-    entry.member.clone().unwrap()
+    let mut copy = Member::new();
+    copy.try_extend_from_slice(bytes).unwrap();
+    copy
 }
 
 /// A copy of a key.

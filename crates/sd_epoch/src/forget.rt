@@ -9,7 +9,7 @@ ghost use Rattle.sd_epoch.specs.Order.{IsRanked};
 ghost use Rattle.sd_epoch.specs.Table.{id_of};
 
 use crate::chain::Chain;
-use crate::entry::Entry;
+use crate::entries::Entries;
 use crate::order::Order;
 use sd_key::{Key, Kind, Pattern};
 use sd_rows::Rows;
@@ -21,43 +21,34 @@ pub(crate) fn is_live(rows: &Rows, place: u32) -> bool
     place < rows.len() && rows.row(place).is_some()
 }
 
-/// Takes the entries out whose place has no row.
-fn drop_entries(rows: &Rows, entries: &mut Vec<Entry>)
-    ensures entries { entries.new.items ≡ filter (λ e. is_some (row_at rows.now e.place)) entries.old.items }
-    ensures few { vec_len entries.new ≤ vec_len entries.old }
-    ensures capacity { vec_capacity entries.new ≡ vec_capacity entries.old }
-{
-    entries.retain(|entry| is_live(rows, entry.place));
-}
-
 /// Takes the places and the entries out that have no row, and chains those anew that are left. Answers how many entries went.
 pub(crate) fn close_up(
     rows: &Rows,
     order: &mut Order,
-    entries: &mut Vec<Entry>,
+    entries: &mut Entries,
     chain: &mut Chain,
 ) -> u64
     requires ranked { IsRanked order.old.places.items order.old.rank.items }
     requires places { length chain.old.last.items ≡ length rows.now }
-    requires room { vec_len entries.old ≤ vec_capacity chain.old.before }
-    requires few { vec_len entries.old ≤ 2 ^ 20 }
+    requires room { length entries.old.items ≤ vec_capacity chain.old.before }
+    requires few { length entries.old.items ≤ 2 ^ 20 }
     ensures order { order.new.places.items ≡ filter (λ place. is_some (row_at rows.now place)) order.old.places.items }
     ensures ranked { IsRanked order.new.places.items order.new.rank.items }
     ensures ranks { length order.new.rank.items ≡ length order.old.rank.items }
     ensures order_few { vec_len order.new.places ≤ vec_len order.old.places }
     ensures order_capacity { vec_capacity order.new.places ≡ vec_capacity order.old.places }
     ensures entries { entries.new.items ≡ filter (λ e. is_some (row_at rows.now e.place)) entries.old.items }
-    ensures capacity { vec_capacity entries.new ≡ vec_capacity entries.old }
-    ensures count { result + vec_len entries.new ≡ vec_len entries.old }
+    ensures entry_room { entries.new.room ≡ entries.old.room }
+    ensures count { result + length entries.new.items ≡ length entries.old.items }
     ensures chain { IsChain (places_of entries.new.items) chain.new.last.items chain.new.before.items }
     ensures chain_places { length chain.new.last.items ≡ length chain.old.last.items }
     ensures link_capacity { vec_capacity chain.new.before ≡ vec_capacity chain.old.before }
 {
     let before = entries.len();
     order.retain_live(rows);
-    drop_entries(rows, entries);
+    entries.retain_live(rows);
     chain.chain_anew(entries);
-    (before - entries.len()) as u64
+    u64::from(before - entries.len())
 }
 
 /// Takes a row out, where it is there.

@@ -5,31 +5,31 @@ ghost use Rattle.std.specs.Cmp.Lexicographic.{slice_cmp};
 ghost use Rattle.sd_model_shard.specs.Values.{distinct};
 ghost use Rattle.sd_epoch.specs.Chain.{IsChain};
 ghost use Rattle.sd_epoch.specs.Entries.{places_of, entries_at};
-ghost use Rattle.sd_epoch.specs.declared.entry.Entry.{Entry as Held};
+ghost use Rattle.sd_epoch.specs.Held.{entry_at};
 
 use crate::chain::Chain;
-use crate::entry::Entry;
+use crate::entries::Entries;
 use sd_decimal::Sum;
 
-/// Whether a member is that of an entry.
-fn is_member(member: &[u8], entry: &Entry) -> bool
-    ensures { result ≡ is_eq (slice_cmp nat_cmp member.now entry.now.member.items) }
+/// Whether two members are the same.
+fn is_member(member: &[u8], other: &[u8]) -> bool
+    ensures { result ≡ is_eq (slice_cmp nat_cmp member.now other.now) }
 {
-    member.cmp(entry.member.as_slice()).is_eq()
+    member.cmp(other).is_eq()
 }
 
 /// Whether the member of an entry stands before it in its row.
-fn stands_before(entries: &[Entry], chain: &Chain, place: u32, at: u32) -> bool
-    requires chain { IsChain (places_of entries.now) chain.now.last.items chain.now.before.items }
-    requires within { at < length entries.now }
-    requires place { get_or (places_of entries.now) at 0 ≡ place }
-    ensures { (d : Held) → result ≡ list_any (λ other. is_eq (slice_cmp nat_cmp (get_or entries.now at d).member.items other))
-        (map (λ e. e.member.items) (entries_at place (take at entries.now))) }
+fn stands_before(entries: &Entries, chain: &Chain, place: u32, at: u32) -> bool
+    requires chain { IsChain (places_of entries.now.items) chain.now.last.items chain.now.before.items }
+    requires within { at < length entries.now.items }
+    requires place { get_or (places_of entries.now.items) at 0 ≡ place }
+    ensures { result ≡ list_any (λ other. is_eq (slice_cmp nat_cmp (entry_at entries.now at).member other))
+        (map (λ e. e.member) (entries_at place (take at entries.now.items))) }
 {
-    let member = entries[at as usize].member.as_slice();
+    let member = entries.member(at);
     let mut next = chain.before[at as usize];
     while let Some(other) = next {
-        if is_member(member, &entries[other as usize]) {
+        if is_member(member, entries.member(other)) {
             return true;
         }
         next = chain.before[other as usize];
@@ -38,11 +38,11 @@ fn stands_before(entries: &[Entry], chain: &Chain, place: u32, at: u32) -> bool
 }
 
 /// How many members of the entries of a place's row differ.
-fn distinct_at(entries: &[Entry], chain: &Chain, place: u32) -> u32
-    requires chain { IsChain (places_of entries.now) chain.now.last.items chain.now.before.items }
+fn distinct_at(entries: &Entries, chain: &Chain, place: u32) -> u32
+    requires chain { IsChain (places_of entries.now.items) chain.now.last.items chain.now.before.items }
     requires within { place < length chain.now.last.items }
-    requires few { length entries.now ≤ 2 ^ 20 }
-    ensures count { result ≡ distinct (map (λ e. e.member.items) (entries_at place entries.now)) }
+    requires few { length entries.now.items ≤ 2 ^ 20 }
+    ensures count { result ≡ distinct (map (λ e. e.member) (entries_at place entries.now.items)) }
     ensures bound { result ≤ 2 ^ 20 }
 {
     let mut count = 0;
@@ -57,11 +57,11 @@ fn distinct_at(entries: &[Entry], chain: &Chain, place: u32) -> u32
 }
 
 /// The same, as whole units.
-pub(crate) fn distinct_sum(entries: &[Entry], chain: &Chain, place: u32) -> Sum
-    requires chain { IsChain (places_of entries.now) chain.now.last.items chain.now.before.items }
+pub(crate) fn distinct_sum(entries: &Entries, chain: &Chain, place: u32) -> Sum
+    requires chain { IsChain (places_of entries.now.items) chain.now.last.items chain.now.before.items }
     requires within { place < length chain.now.last.items }
-    requires few { length entries.now ≤ 2 ^ 20 }
-    ensures { result.0 ≡ pos (distinct (map (λ e. e.member.items) (entries_at place entries.now)) * 1000000) }
+    requires few { length entries.now.items ≤ 2 ^ 20 }
+    ensures { result.0 ≡ pos (distinct (map (λ e. e.member) (entries_at place entries.now.items)) * 1000000) }
 {
     Sum(i128::from(distinct_at(entries, chain, place)) * 1_000_000)
 }

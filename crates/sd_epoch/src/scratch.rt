@@ -6,7 +6,8 @@ ghost use Rattle.sd_epoch.specs.Limits.{limits_of, AreLimits};
 ghost use Rattle.sd_epoch.specs.Scratch.{texts};
 
 use crate::chain::Chain;
-use crate::entry::{Entry, copy_member};
+use crate::entries::Entries;
+use crate::entry::member_of;
 use crate::limits::Limits;
 use sd_decimal::Micro;
 use sd_line::Member;
@@ -67,11 +68,11 @@ impl Scratch {
     }
 
     /// Puts the values of the entries of a place's row there, in place of those before.
-    pub(crate) fn put_values(&mut self, entries: &[Entry], chain: &Chain, place: u32)
-        requires room { length entries.now ≤ self.old.room }
-        requires chain { IsChain (places_of entries.now) chain.now.last.items chain.now.before.items }
+    pub(crate) fn put_values(&mut self, entries: &Entries, chain: &Chain, place: u32)
+        requires room { length entries.now.items ≤ self.old.room }
+        requires chain { IsChain (places_of entries.now.items) chain.now.last.items chain.now.before.items }
         requires within { place < length chain.now.last.items }
-        ensures values { self.new.values ≡ map (λ e. e.value) (entries_at place entries.now) }
+        ensures values { self.new.values ≡ map (λ e. e.value) (entries_at place entries.now.items) }
         ensures members { self.new.members ≡ self.old.members }
         ensures room { self.new.room ≡ self.old.room }
     {
@@ -81,11 +82,11 @@ impl Scratch {
     }
 
     /// Puts the members of the entries of a place's row there, in place of those before.
-    pub(crate) fn put_members(&mut self, entries: &[Entry], chain: &Chain, place: u32)
-        requires room { length entries.now ≤ self.old.room }
-        requires chain { IsChain (places_of entries.now) chain.now.last.items chain.now.before.items }
+    pub(crate) fn put_members(&mut self, entries: &Entries, chain: &Chain, place: u32)
+        requires room { length entries.now.items ≤ self.old.room }
+        requires chain { IsChain (places_of entries.now.items) chain.now.last.items chain.now.before.items }
         requires within { place < length chain.now.last.items }
-        ensures members { texts self.new.members ≡ map (λ e. e.member.items) (entries_at place entries.now) }
+        ensures members { texts self.new.members ≡ map (λ e. e.member) (entries_at place entries.now.items) }
         ensures values { self.new.values ≡ self.old.values }
         ensures room { self.new.room ≡ self.old.room }
     {
@@ -96,33 +97,33 @@ impl Scratch {
 }
 
 /// Appends the values of the entries of a place's row, from the last one back.
-fn push_values(entries: &[Entry], chain: &Chain, place: u32, out: &mut Vec<Micro>)
+fn push_values(entries: &Entries, chain: &Chain, place: u32, out: &mut Vec<Micro>)
     requires empty { vec_len out.old ≡ 0 }
-    requires room { length entries.now ≤ vec_capacity out.old }
-    requires chain { IsChain (places_of entries.now) chain.now.last.items chain.now.before.items }
+    requires room { length entries.now.items ≤ vec_capacity out.old }
+    requires chain { IsChain (places_of entries.now.items) chain.now.last.items chain.now.before.items }
     requires within { place < length chain.now.last.items }
-    ensures values { out.new.items ≡ reverse (map (λ e. e.value) (entries_at place entries.now)) }
+    ensures values { out.new.items ≡ reverse (map (λ e. e.value) (entries_at place entries.now.items)) }
     ensures capacity { vec_capacity out.new ≡ vec_capacity out.old }
 {
     let mut next = chain.last[place as usize];
     while let Some(at) = next {
-        out.push_reserved(entries[at as usize].value);
+        out.push_reserved(entries.value(at));
         next = chain.before[at as usize];
     }
 }
 
 /// Appends the members of the entries of a place's row, from the last one back.
-fn push_members(entries: &[Entry], chain: &Chain, place: u32, out: &mut Vec<Member>)
+fn push_members(entries: &Entries, chain: &Chain, place: u32, out: &mut Vec<Member>)
     requires empty { vec_len out.old ≡ 0 }
-    requires room { length entries.now ≤ vec_capacity out.old }
-    requires chain { IsChain (places_of entries.now) chain.now.last.items chain.now.before.items }
+    requires room { length entries.now.items ≤ vec_capacity out.old }
+    requires chain { IsChain (places_of entries.now.items) chain.now.last.items chain.now.before.items }
     requires within { place < length chain.now.last.items }
-    ensures members { texts out.new.items ≡ reverse (map (λ e. e.member.items) (entries_at place entries.now)) }
+    ensures members { texts out.new.items ≡ reverse (map (λ e. e.member) (entries_at place entries.now.items)) }
     ensures capacity { vec_capacity out.new ≡ vec_capacity out.old }
 {
     let mut next = chain.last[place as usize];
     while let Some(at) = next {
-        out.push_reserved(copy_member(&entries[at as usize]));
+        out.push_reserved(member_of(entries.member(at)));
         next = chain.before[at as usize];
     }
 }

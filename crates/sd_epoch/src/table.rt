@@ -12,14 +12,15 @@ ghost use Rattle.sd_rows.specs.Rows.{row_at, StandsNowhereElse, reset};
 ghost use Rattle.sd_rows.specs.RowMap.{copy_steps};
 
 use crate::chain::Chain;
-use crate::entry::{Entry, copy_key, new_entry};
+use crate::entries::Entries;
+use crate::entry::copy_key;
 use crate::forget::{close_up, drop_hits, drop_row, empty_at};
 use crate::limits::{Limits, Who};
 use crate::members::distinct_sum;
 use crate::order::Order;
 use crate::placing::{add_row, carry_in, clear_tallies, live_row, touch};
 use crate::scratch::Scratch;
-use crate::tally::{Tally, empty_tally, with_sample};
+use crate::tally::{Tally, empty_tally};
 use sd_decimal::{Micro, Sum};
 use sd_key::{Key, Kind, Pattern};
 use sd_line::Sample;
@@ -41,14 +42,14 @@ pub struct RowFacts {
 
 /// The rows and entries of one epoch of a shard, in room taken when it was opened.
 ///
-/// `order` has the places of the rows in the order in which they came. `tallies` has that of each place's row.
+/// `order` has the places of the rows, and the rank of each. `tallies` has that of each place's row.
 #[derive(Debug, Drop)]
 pub struct Table {
     limits: Limits,
     rows: Rows,
     order: Order,
     tallies: Vec<Tally>,
-    entries: Vec<Entry>,
+    entries: Entries,
     chain: Chain,
 }
 
@@ -77,7 +78,7 @@ impl Table {
             rows: Rows::open(alloc, limits.rows)?,
             order: Order::open(alloc, limits.rows)?,
             tallies: vec![in alloc; empty_tally(Micro(0)); limits.rows as usize]?,
-            entries: Vec::with_capacity(alloc, limits.entries as usize)?,
+            entries: Entries::open(alloc, limits.entries)?,
             chain: Chain::open(alloc, limits)?,
         })
     }
@@ -107,7 +108,7 @@ impl Table {
         ensures owned { (id : RowId) → contains_key (live_of self.now) id ≡ false → entries_of id self.now.held ≡ [] }
         ensures within { result ≤ self.now.limits.entries }
     {
-        self.entries.len() as u32
+        self.entries.len()
     }
 
     /// Whether it has the row.
@@ -354,8 +355,8 @@ impl Table {
             s.kind,
             &s.key,
         );
-        self.tallies[place as usize] = with_sample(self.tallies[place as usize], s);
-        self.entries.push_reserved(new_entry(who, number, place, s));
+        self.tallies[place as usize].add(s);
+        self.entries.file(who, number, place, s);
         self.chain.push(place);
     }
 }

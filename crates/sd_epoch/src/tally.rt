@@ -33,6 +33,26 @@ impl Tally {
     {
         Sum(i128::from(self.gauge.0))
     }
+
+    /// Adds a sample of its row.
+    pub(crate) fn add(&mut self, s: &Sample)
+        requires samples { self.old.samples < 2 ^ 20 }
+        requires weight_bound { unsigned_abs self.old.weight.0 ≤ self.old.samples * 10 ^ 24 }
+        requires sum_bound { unsigned_abs self.old.sum.0 ≤ self.old.samples * 10 ^ 18 }
+        ensures samples { self.new.samples ≡ self.old.samples + 1 }
+        ensures weight { self.new.weight.0 ≡ self.old.weight.0 +ℤ sample_weight s.now.kind s.now }
+        ensures sum { self.new.sum.0 ≡ self.old.sum.0 +ℤ s.now.value }
+        ensures gauge { self.new.gauge.0 ≡ gauge_after self.old.gauge.0 s.now }
+        ensures weight_bound { unsigned_abs self.new.weight.0 ≤ self.new.samples * 10 ^ 24 }
+        ensures sum_bound { unsigned_abs self.new.sum.0 ≤ self.new.samples * 10 ^ 18 }
+    {
+        let weight = sample_weight(s);
+        let value = value_of(s);
+        self.samples += 1;
+        self.weight = Sum(self.weight.0 + weight.0);
+        self.sum = Sum(self.sum.0 + i128::from(value.0));
+        self.gauge = gauge_after(self.gauge, s);
+    }
 }
 
 /// The tally of a row without samples.
@@ -80,26 +100,4 @@ fn gauge_after(value: Micro, s: &Sample) -> Micro
         s.value.0
     };
     Micro(next.clamp(-GAUGE_LIMIT, GAUGE_LIMIT))
-}
-
-/// The tally of a sample's row with this sample more.
-pub(crate) fn with_sample(tally: Tally, s: &Sample) -> Tally
-    requires samples { tally.samples < 2 ^ 20 }
-    requires weight_bound { unsigned_abs tally.weight.0 ≤ tally.samples * 10 ^ 24 }
-    requires sum_bound { unsigned_abs tally.sum.0 ≤ tally.samples * 10 ^ 18 }
-    ensures samples { result.samples ≡ tally.samples + 1 }
-    ensures weight { result.weight.0 ≡ tally.weight.0 +ℤ sample_weight s.now.kind s.now }
-    ensures sum { result.sum.0 ≡ tally.sum.0 +ℤ s.now.value }
-    ensures gauge { result.gauge.0 ≡ gauge_after tally.gauge.0 s.now }
-    ensures weight_bound { unsigned_abs result.weight.0 ≤ result.samples * 10 ^ 24 }
-    ensures sum_bound { unsigned_abs result.sum.0 ≤ result.samples * 10 ^ 18 }
-{
-    let weight = sample_weight(s);
-    let value = value_of(s);
-    Tally {
-        samples: tally.samples + 1,
-        weight: Sum(tally.weight.0 + weight.0),
-        sum: Sum(tally.sum.0 + i128::from(value.0)),
-        gauge: gauge_after(tally.gauge, s),
-    }
 }

@@ -3,7 +3,7 @@ use Rattle.std.proofs.lemmas.List.{map-append, reverse-append, reverse-reverse}
 use Rattle.arrayvec.specs.ArrayVec.{ArrayVec}
 use Rattle.sd_epoch.specs.Entries.{entries_at}
 use Rattle.sd_epoch.specs.Scratch.{texts}
-use Rattle.sd_epoch.specs.declared.entry.Entry.{Entry}
+use Rattle.sd_epoch.specs.Held.{Filed}
 use Rattle.sd_epoch.proofs.scratch.Scratch.put_members.Goals as goal
 
 map-reverse : {A B : Type 0} (f : A → B) (xs : List A) → map f (reverse xs) ≡ reverse (map f xs)
@@ -15,4 +15,4 @@ map-reverse f (x ∷ xs) =
 pub returns-clause-members : goal.returns-clause-members
 returns-clause-members c =
     ap texts c.reverse.ensures.items ∙ map-reverse (λ (m : ArrayVec ℕ). m.items) c.push_members.new.out.items
-    ∙ ap reverse c.push_members.ensures.members ∙ reverse-reverse (map (λ (e : Entry). e.member.items) (entries_at c.args.place c.args.entries.now))
+    ∙ ap reverse c.push_members.ensures.members ∙ reverse-reverse (map (λ (e : Filed). e.member) (entries_at c.args.place c.args.entries.now.items))

@@ -1,4 +1,4 @@
-use Rattle.std.proofs.Common.{◌≡◌, ℕ, ◌*◌, pos, List, length, map, Option, sym, ap, subst, ◌∙◌, arith}
+use Rattle.std.proofs.Common.{◌≡◌, ℕ, ◌*◌, pos, List, map, Option, sym, ap, subst, ◌∙◌, arith}
 use Rattle.std.specs.Prelude.{IfSome}
 use Rattle.std.specs.List.{slice_get}
 use Rattle.sd_model_text.specs.Names as text
@@ -11,7 +11,6 @@ use Rattle.sd_key.specs.declared.kind.Kind.{Kind}
 use Rattle.sd_epoch.specs.Entries.{entries_at}
 use Rattle.sd_epoch.specs.Table.{Listing, row_view}
 use Rattle.sd_epoch.specs.TableInside.{listing_of}
-use Rattle.sd_epoch.specs.declared.entry.Entry.{Entry}
 use Rattle.sd_epoch.proofs.HeldLemmas.{entries_here}
 use Rattle.sd_epoch.proofs.PlaceLemmas.{id_here}
 use Rattle.sd_epoch.proofs.TableLemmas.{place_live, place_within, at_place, members_same}
@@ -33,7 +32,7 @@ distinct_sum-requires-clause-within c =
 pub distinct_sum-requires-clause-few : goal.distinct_sum-requires-clause-few
 distinct_sum-requires-clause-few c =
     let w = c.self.invariant in
-    omega (arith, ap length c.deref.ensures.value, c.self.inside.entries.ok.0, w.entries, w.limits.few_entries)
+    omega (arith, w.entries, w.limits.few_entries)
 
 pub returns-in-Counter : goal.returns-in-Counter
 returns-in-Counter c =
@@ -83,7 +82,7 @@ returns-in-Set c =
     let at = at_place t w c.args.self.now c.self.view_is c.args.i place c.requires c.index-place.ensures row c.live_row.ensures in
     let tally = at.tally c.index.result.now c.index.ensures in
     let own = entries_here t.rows place t.entries.items w.rows.apart at.live w.owned in
-    let are : c.distinct_sum.result.0 ≡ amount_by text.Set (row_view row).0 row.base.0 (listing_of t).held = c.distinct_sum.ensures ∙ ap (λ (es : List Entry). pos (distinct (map (λ (e : Entry). e.member.items) (entries_at place es)) * 1000000)) c.deref.ensures.value
+    let are : c.distinct_sum.result.0 ≡ amount_by text.Set (row_view row).0 row.base.0 (listing_of t).held = c.distinct_sum.ensures
     ∙ ap (λ (ms : List (List ℕ)). pos (distinct ms * 1000000)) (members_same t.rows (entries_at place t.entries.items) ∙ ap (map (λ (e : model.Entry). e.sample.member)) own
     ∙ ap (λ (id : RowId). members_of id (listing_of t).held) (id_here t.rows place row c.live_row.ensures)) in
     let amount : c.distinct_sum.result.0 ≡ amount_of (row_view row).0 row.base.0 (listing_of t).held = are ∙ ap (λ (kind : Kind). amount_by (kind_of kind) (row_view row).0 row.base.0 (listing_of t).held) (sym c.in-Set.is) in

@@ -5,7 +5,7 @@ use Rattle.sd_rows.specs.Rows.{row_at, reset}
 use Rattle.sd_rows.proofs.IndexLemmas.{taken_count-le}
 use Rattle.sd_epoch.specs.Entries.{AreTallies, AllLive, held_in, places_of, IsTimed}
 use Rattle.sd_epoch.specs.Table.{Listing}
-use Rattle.sd_epoch.specs.declared.entry.Entry.{Entry}
+use Rattle.sd_epoch.specs.Held.{Filed}
 use Rattle.sd_epoch.proofs.TurnLemmas.{no_entries, map_of_places, order_count}
 use Rattle.sd_epoch.proofs.table.Table.carry_row.Goals as goal
 
@@ -22,10 +22,10 @@ invariant_of-self g c =
       rows = c.carry_in.ensures.rows;
       ranked = c.carry_in.ensures.ranked;
       ranks = c.carry_in.ensures.ranks ∙ w.ranks;
-      tallies = subst (λ (es : List Entry). AreTallies rows tallies (held_in rows es)) (sym none)
-          (c.carry_in.ensures.tallies (subst (λ (es : List Entry). AreTallies t.rows t.tallies.items (held_in t.rows es)) none w.tallies));
-      owned = subst (λ (es : List Entry). AllLive rows (places_of es)) (sym none) tt;
-      timed = subst (λ (es : List Entry). All IsTimed (held_in rows es)) (sym none) (All-nil IsTimed);
+      tallies = subst (λ (es : List Filed). AreTallies rows tallies (held_in rows es)) (sym none)
+          (c.carry_in.ensures.tallies (subst (λ (es : List Filed). AreTallies t.rows t.tallies.items (held_in t.rows es)) none w.tallies));
+      owned = subst (λ (es : List Filed). AllLive rows (places_of es)) (sym none) tt;
+      timed = subst (λ (es : List Filed). All IsTimed (held_in rows es)) (sym none) (All-nil IsTimed);
       chain = w.chain;
       places = places;
       tally_places = c.carry_in.ensures.tally_places ∙ w.tally_places;

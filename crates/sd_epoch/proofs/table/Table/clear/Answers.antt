@@ -3,7 +3,7 @@ use Rattle.std.proofs.lemmas.List.{length-replicate}
 use Rattle.sd_rows.specs.declared.row.Row.{Row}
 use Rattle.sd_epoch.specs.Chain.{IsChain}
 use Rattle.sd_epoch.specs.Entries.{AreRows, AreTallies, AllLive, held_in, places_of, IsTimed}
-use Rattle.sd_epoch.specs.declared.entry.Entry.{Entry}
+use Rattle.sd_epoch.specs.Held.{Filed}
 use Rattle.std.proofs.lemmas.List.Elements.{All-nil}
 use Rattle.sd_epoch.proofs.TableLemmas.{no_rows, no_tallies}
 use Rattle.sd_epoch.proofs.table.Table.clear.Goals as goal
@@ -23,15 +23,15 @@ invariant_of-self c =
       ranked = c.clear-2.ensures.ranked;
       ranks = c.clear-2.ensures.ranks ∙ w.ranks;
       tallies = subst (λ (xs : List (Option Row)). AreTallies xs tallies (held_in xs entries.items)) (sym empty) (no_tallies n tallies (held_in (replicate n None) entries.items));
-      owned = subst (λ (es : List Entry). AllLive rows (places_of es)) (sym c.clear-3.ensures.items) tt;
-      timed = subst (λ (es : List Entry). All IsTimed (held_in rows es)) (sym c.clear-3.ensures.items) (All-nil IsTimed);
-      chain = subst (λ (es : List Entry). IsChain (places_of es) chain.last.items chain.before.items) (sym c.clear-3.ensures.items) c.clear-4.ensures.chain;
+      owned = subst (λ (es : List Filed). AllLive rows (places_of es)) (sym c.clear-3.ensures.items) tt;
+      timed = subst (λ (es : List Filed). All IsTimed (held_in rows es)) (sym c.clear-3.ensures.items) (All-nil IsTimed);
+      chain = subst (λ (es : List Filed). IsChain (places_of es) chain.last.items chain.before.items) (sym c.clear-3.ensures.items) c.clear-4.ensures.chain;
       places = ap length empty ∙ length-replicate n None ∙ w.places;
       tally_places = w.tally_places;
       chain_places = c.clear-4.ensures.places ∙ w.chain_places;
       order = omega (arith, c.clear-2.ensures.len);
       order_room = omega (arith, c.clear-2.ensures.capacity, w.order_room);
-      entries = omega (arith, c.clear-3.ensures.len);
-      entry_room = omega (arith, c.clear-3.ensures.capacity, w.entry_room);
+      entries = omega (arith, ap length c.clear-3.ensures.items);
+      entry_room = c.clear-3.ensures.room ∙ w.entry_room;
       link_room = omega (arith, c.clear-4.ensures.capacity, w.link_room);
     }

@@ -4,7 +4,7 @@ use Rattle.std.proofs.lemmas.List.Elements.{All-nil}
 use Rattle.sd_rows.specs.declared.row.Row.{Row}
 use Rattle.sd_epoch.specs.Entries.{AreTallies, AllLive, held_in, places_of, IsTimed}
 use Rattle.sd_epoch.specs.Table.{Listing}
-use Rattle.sd_epoch.specs.declared.entry.Entry.{Entry}
+use Rattle.sd_epoch.specs.Held.{Filed}
 use Rattle.sd_epoch.proofs.TurnLemmas.{emptied_tallies, no_entries, map_of_places}
 use Rattle.sd_epoch.proofs.table.Table.drop_place.Goals as goal
 
@@ -19,11 +19,11 @@ invariant_of-self c =
       rows = c.empty_at.ensures.rows;
       ranked = c.empty_at.ensures.ranked;
       ranks = c.empty_at.ensures.ranks ∙ w.ranks;
-      tallies = subst (λ (es : List Entry). AreTallies rows t.tallies.items (held_in rows es)) (sym none)
+      tallies = subst (λ (es : List Filed). AreTallies rows t.tallies.items (held_in rows es)) (sym none)
           (subst (λ (xs : List (Option Row)). AreTallies xs t.tallies.items []) (sym are)
-          (emptied_tallies t.rows c.args.at t.tallies.items w.rows.apart (subst (λ (es : List Entry). AreTallies t.rows t.tallies.items (held_in t.rows es)) none w.tallies)));
-      owned = subst (λ (es : List Entry). AllLive rows (places_of es)) (sym none) tt;
-      timed = subst (λ (es : List Entry). All IsTimed (held_in rows es)) (sym none) (All-nil IsTimed);
+          (emptied_tallies t.rows c.args.at t.tallies.items w.rows.apart (subst (λ (es : List Filed). AreTallies t.rows t.tallies.items (held_in t.rows es)) none w.tallies)));
+      owned = subst (λ (es : List Filed). AllLive rows (places_of es)) (sym none) tt;
+      timed = subst (λ (es : List Filed). All IsTimed (held_in rows es)) (sym none) (All-nil IsTimed);
       chain = w.chain;
       places = ap length are ∙ length-set t.rows c.args.at None ∙ w.places;
       tally_places = w.tally_places;

@@ -8,7 +8,7 @@ use Rattle.sd_epoch.proofs.ForgetLemmas.{without_row}
 use Rattle.sd_epoch.specs.Table.{Listing, live_of, id_of}
 use Rattle.sd_model_shard.specs.Rows as model
 use Rattle.sd_epoch.specs.Entries.{listed_in, entry_view, held_in, places_of, AllLive, AreRows, AreTallies, IsTimed}
-use Rattle.sd_epoch.specs.declared.entry.Entry.{Entry}
+use Rattle.sd_epoch.specs.Held.{Filed}
 use Rattle.sd_epoch.proofs.LeftLemmas.{listed_left, held_left, left_rows, left_tallies, all_owned}
 use Rattle.sd_epoch.proofs.table.Table.forget_row.Goals as goal
 
@@ -25,7 +25,7 @@ invariant_of-self c =
       ranked = c.close_up.ensures.ranked;
       ranks = c.close_up.ensures.ranks ∙ w.ranks;
       tallies = subst (AreTallies rows t.tallies.items) (sym held) (left_tallies gone t.rows rows are t.tallies.items (held_in t.rows t.entries.items) w.tallies);
-      owned = subst (λ (es : List Entry). AllLive rows (places_of es)) (sym c.close_up.ensures.entries) (all_owned rows t.entries.items);
+      owned = subst (λ (es : List Filed). AllLive rows (places_of es)) (sym c.close_up.ensures.entries) (all_owned rows t.entries.items);
       timed = subst (All IsTimed) (sym held) (All-filter (λ (e : model.Entry). not (gone (row_of e.sample))) IsTimed (held_in t.rows t.entries.items) w.timed);
       chain = c.close_up.ensures.chain;
       places = c.drop_row.ensures.len ∙ w.places;
@@ -34,7 +34,7 @@ invariant_of-self c =
       order = omega (arith, c.close_up.ensures.order_few, w.order);
       order_room = omega (arith, c.close_up.ensures.order_capacity, w.order_room);
       entries = omega (arith, c.close_up.ensures.count, w.entries);
-      entry_room = omega (arith, c.close_up.ensures.capacity, w.entry_room);
+      entry_room = c.close_up.ensures.entry_room ∙ w.entry_room;
       link_room = omega (arith, c.close_up.ensures.link_capacity, w.link_room);
     }
 
@@ -65,5 +65,5 @@ returns-clause-count c =
     let left = ap (held_in rows) c.close_up.ensures.entries ∙ held_left gone t.rows rows c.drop_row.ensures.left t.entries.items c.self.invariant.owned in
     let both = length-filter_both (λ (e : model.Entry). gone (row_of e.sample)) (λ (e : model.Entry). not (gone (row_of e.sample))) (λ e. refl) held in
     let went : c.close_up.result ≡ length (entries_of (id_of c.args.kind c.args.key.now) held) =
-    omega (arith, both, ap length left, c.close_up.ensures.count, length-map t.entries.items (entry_view t.rows), length-map c.close_up.new.entries.items (entry_view rows), t.entries.ok.0, c.close_up.new.entries.ok.0) in
+    omega (arith, both, ap length left, c.close_up.ensures.count, length-map t.entries.items (entry_view t.rows), length-map c.close_up.new.entries.items (entry_view rows)) in
     went ∙ ap (λ (s : Listing). length (entries_of (id_of c.args.kind c.args.key.now) s.held)) c.self.view_is

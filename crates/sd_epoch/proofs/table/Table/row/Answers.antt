@@ -48,4 +48,4 @@ returns-clause-bound c =
     let at = at_place t w c.args.self.now c.self.view_is c.args.i c.index-place.result.now c.requires c.index-place.ensures c.live_row-row.result.now c.live_row-row.ensures in
     let tally = at.tally c.index-tally.result.now c.index-tally.ensures in
     let few = few_own (row_view c.live_row-row.result.now).0 (listing_of t).held in
-    omega (arith, ap (λ (s : Sum). unsigned_abs s.0) c.facts_of.ensures.weight, tally.weight_bound, tally.samples, few, length-map t.entries.items (entry_view t.rows), t.entries.ok.0, w.entries, w.limits.few_entries)
+    omega (arith, ap (λ (s : Sum). unsigned_abs s.0) c.facts_of.ensures.weight, tally.weight_bound, tally.samples, few, length-map t.entries.items (entry_view t.rows), w.entries, w.limits.few_entries)

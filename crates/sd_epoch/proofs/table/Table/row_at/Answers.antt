@@ -25,4 +25,4 @@ returns-in-Some-clause-bound c =
     let tally = w.tallies c.args.at row c.index.result.now c.in-Some.ensures in
     let weight = ap (λ (s : Sum). unsigned_abs s.0) c.facts_of.ensures.weight ∙ ap (λ (x : Tally). unsigned_abs x.weight.0) c.index.ensures in
     let few = few_own (row_view row).0 (listing_of t).held in
-    omega (arith, weight, tally.weight_bound, tally.samples, few, length-map t.entries.items (entry_view t.rows), t.entries.ok.0, w.entries, w.limits.few_entries)
+    omega (arith, weight, tally.weight_bound, tally.samples, few, length-map t.entries.items (entry_view t.rows), w.entries, w.limits.few_entries)

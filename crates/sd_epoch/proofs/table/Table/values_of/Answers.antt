@@ -1,4 +1,4 @@
-use Rattle.std.proofs.Common.{◌≡◌, List, length, map, ap, subst, sym, ◌∙◌, arith, All, true}
+use Rattle.std.proofs.Common.{◌≡◌, length, map, ap, subst, sym, ◌∙◌, arith, All, true}
 use Rattle.std.specs.Prelude.{IfSome, Option}
 use Rattle.std.specs.List.{slice_get}
 use Rattle.std.proofs.lemmas.List.{length-map}
@@ -11,7 +11,7 @@ use Rattle.sd_epoch.specs.Entries.{entry_view, entries_at, IsTimed, id_in}
 use Rattle.sd_epoch.specs.Scratch.{micros, AreTimerValues}
 use Rattle.sd_epoch.specs.Table.{Listing, row_view}
 use Rattle.sd_epoch.specs.TableInside.{listing_of}
-use Rattle.sd_epoch.specs.declared.entry.Entry.{Entry}
+use Rattle.sd_epoch.specs.Held.{Filed}
 use Rattle.sd_model_text.specs.Names as text
 use Rattle.std.proofs.lemmas.List.Elements.{All-filter, filter_passes}
 use Rattle.sd_epoch.proofs.HeldLemmas.{entries_here, few_own}
@@ -20,7 +20,7 @@ use Rattle.sd_epoch.proofs.TableLemmas.{place_live, place_within, at_place, valu
 use Rattle.sd_epoch.proofs.table.Table.values_of.Goals as goal
 
 pub put_values-requires-clause-room : goal.put_values-requires-clause-room
-put_values-requires-clause-room c = omega (arith, c.requires.room, ap (λ (s : Listing). length s.held) c.self.view_is, length-map c.self.inside.entries.items (entry_view c.self.inside.rows), ap length c.deref.ensures.value)
+put_values-requires-clause-room c = omega (arith, c.requires.room, ap (λ (s : Listing). length s.held) c.self.view_is, length-map c.self.inside.entries.items (entry_view c.self.inside.rows))
 
 pub put_values-requires-clause-within : goal.put_values-requires-clause-within
 put_values-requires-clause-within c =
@@ -35,10 +35,9 @@ returns-clause-values c =
     let live = place_live t w c.args.self.now c.self.view_is c.args.i place c.requires.place c.index.ensures in
     let there = some_of (row_at t.rows place) live in
     let at = at_place t w c.args.self.now c.self.view_is c.args.i place c.requires.place c.index.ensures there.0 there.1 in
-    let same = ap (λ (es : List Entry). map (λ (e : Entry). e.value) (entries_at place es)) c.deref.ensures.value in
     let own = entries_here t.rows place t.entries.items w.rows.apart live w.owned in
     let are : micros c.put_values.new.self.values ≡ values_of (row_view there.0).0 (listing_of t).held =
-    ap micros (c.put_values.ensures.values ∙ same) ∙ values_same t.rows (entries_at place t.entries.items) ∙ ap (map (λ (e : model.Entry). e.sample.value)) own
+    ap micros c.put_values.ensures.values ∙ values_same t.rows (entries_at place t.entries.items) ∙ ap (map (λ (e : model.Entry). e.sample.value)) own
     ∙ ap (λ (id : RowId). values_of id (listing_of t).held) (id_here t.rows place there.0 there.1) in
     subst (λ (s : Listing). IfSome (slice_get s.listed c.args.i) (λ row. micros c.put_values.new.self.values ≡ values_of row.0 s.held)) c.self.view_is
     (subst (λ (o : Option (RowId × Kept)). IfSome o (λ row. micros c.put_values.new.self.values ≡ values_of row.0 (listing_of t).held)) (sym at.listed) are)
@@ -56,7 +55,7 @@ returns-clause-range c =
     let are = entries_here t.rows place t.entries.items w.rows.apart live w.owned ∙ ap (λ (i : RowId). entries_of i (listing_of t).held) (id_here t.rows place there.0 there.1) in
     let timed = subst (All IsTimed) (sym are) (All-filter (λ (e : model.Entry). is_same_row id (row_of e.sample)) IsTimed (listing_of t).held w.timed) in
     let same = subst (All (λ (e : model.Entry). is_same_row id (row_of e.sample) ≡ true)) (sym are) (filter_passes (λ (e : model.Entry). is_same_row id (row_of e.sample)) (listing_of t).held) in
-    let values = c.put_values.ensures.values ∙ ap (λ (es : List Entry). map (λ (e : Entry). e.value) (entries_at place es)) c.deref.ensures.value in
+    let values = c.put_values.ensures.values in
     subst (λ (s : Listing). IfSome (slice_get s.listed c.args.i) (λ row. row.0.kind ≡ text.Timer → AreTimerValues c.put_values.new.self.values)) c.self.view_is
     (subst (λ (o : Option (RowId × Kept)). IfSome o (λ row. row.0.kind ≡ text.Timer → AreTimerValues c.put_values.new.self.values)) (sym at.listed)
     (λ timer. subst AreTimerValues (sym values) (timed_values t.rows id own timer timed same)))
@@ -68,16 +67,15 @@ returns-clause-few c =
     let place = c.index.result.now in
     let live = place_live t w c.args.self.now c.self.view_is c.args.i place c.requires.place c.index.ensures in
     let own = entries_here t.rows place t.entries.items w.rows.apart live w.owned in
-    let values = c.put_values.ensures.values ∙ ap (λ (es : List Entry). map (λ (e : Entry). e.value) (entries_at place es)) c.deref.ensures.value in
+    let values = c.put_values.ensures.values in
     omega (
       arith,
       ap length values,
-      length-map (entries_at place t.entries.items) (λ (e : Entry). e.value),
+      length-map (entries_at place t.entries.items) (λ (e : Filed). e.value),
       length-map (entries_at place t.entries.items) (entry_view t.rows),
       ap length own,
       few_own (id_in t.rows place) (listing_of t).held,
       length-map t.entries.items (entry_view t.rows),
-      t.entries.ok.0,
       w.entries,
       w.limits.few_entries,
     )
