@@ -1,1 +1,2 @@
+pub mod SecondInside
 pub mod Texts

@@ -1,13 +1,14 @@
-ghost use Rattle.std.specs.Prelude.{◌≡◌, ◌+◌, ◌≤◌, ◌∷◌, ◌++◌, [], length, decimal};
+ghost use Rattle.std.specs.Prelude.{◌≡◌, ◌+◌, ◌≤◌, ◌++◌, length};
 ghost use Rattle.arrayvec.specs.ArrayVec.{array_vec_len};
 ghost use Rattle.sd_model_text.specs.Numbers.{number_text};
 ghost use Rattle.sd_model_record.specs.Graphite.{dotted, suffix, front, line as line_text};
 ghost use Rattle.sd_graphite.specs.Texts.{path_text};
 
 use crate::path::Path;
+use crate::second::Second;
 use sd_decimal::{Line, Sum};
 use sd_plan::Names;
-use sd_text::{push_number, push_text, push_whole};
+use sd_text::{push_number, push_text};
 
 /// Appends a part of a path and the point behind it, or nothing where it is empty.
 fn push_dotted(part: &[u8], line: &mut Line)
@@ -53,18 +54,15 @@ fn push_suffix(names: &Names, line: &mut Line)
     push_text(text, line);
 }
 
-/// Appends a space, a Unix second, and the end of a line.
-fn push_second(ts: u64, line: &mut Line)
-    requires { array_vec_len line.old ≤ 800 }
-    ensures { line.new.items ≡ line.old.items ++ 32 ∷ decimal ts ++ 10 ∷ [] }
-{
-    push_whole(ts, line);
-    line.push(b'\n');
-}
-
 /// Puts the line of a path and a number into `line`, in place of what it has.
-pub(crate) fn put_path(names: &Names, path: &Path<'_>, number: Sum, ts: u64, line: &mut Line)
-    ensures { line.new.items ≡ line_text names.now (path_text names.now path.now) (number_text number.0) ts }
+pub(crate) fn put_path(
+    names: &Names,
+    path: &Path<'_>,
+    number: Sum,
+    second: &Second,
+    line: &mut Line,
+)
+    ensures { line.new.items ≡ line_text names.now (path_text names.now path.now) (number_text number.0) second.now }
 {
     line.clear();
     push_front(names, path.legacy, path.prefix, line);
@@ -72,5 +70,5 @@ pub(crate) fn put_path(names: &Names, path: &Path<'_>, number: Sum, ts: u64, lin
     push_text(path.back, line);
     push_suffix(names, line);
     push_number(number, line);
-    push_second(ts, line);
+    second.push(line);
 }

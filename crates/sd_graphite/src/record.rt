@@ -4,6 +4,7 @@ ghost use Rattle.sd_model_outside.specs.Outside.{HasFailedBehind, given};
 ghost use Rattle.sd_record.specs.Record.{record_view, room_of, SameScratch};
 
 use crate::row::GraphiteRows;
+use crate::second::Second;
 use crate::tail::write_tail;
 use sd_outside::{Sink, WriteFault};
 use sd_plan::Names;
@@ -27,10 +28,11 @@ pub fn write_record<K: Sink>(
     ensures room { room_of rec.new ≡ room_of rec.old }
     ensures same_scratch { SameScratch rec.new rec.old }
 {
+    let second = Second::of(rec.ts());
     let form = GraphiteRows {
         names,
         calculated: rec.calculated(),
-        ts: rec.ts(),
+        second: &second,
     };
     write_rows(&form, rec, sink)?;
     write_tail(rec, names, sink)

@@ -5,6 +5,7 @@ ghost use Rattle.sd_graphite.specs.Texts.{rate_line, count_line, sent_line, gaug
 
 use crate::line::put_path;
 use crate::path::Path;
+use crate::second::Second;
 use arrayvec::ArrayVec;
 use sd_decimal::{Line, Micro, Sum};
 use sd_key::Key;
@@ -18,13 +19,13 @@ use sd_text::RowText;
 pub(crate) struct GraphiteRows<'a> {
     pub names: &'a Names,
     pub calculated: &'a Calculated,
-    pub ts: u64,
+    pub second: &'a Second,
 }
 
 impl<'a> RowText for GraphiteRows<'a> {
     ghost use Rattle.sd_graphite.specs.Texts.{row_texts};
 
-    ghost lines_of = { λ s. row_texts s.names.now s.calculated.now s.ts };
+    ghost lines_of = { λ s. row_texts s.names.now s.calculated.now s.second.now };
 
     fn line_count(&self, row: &Row) -> usize {
         match row {
@@ -42,15 +43,15 @@ impl<'a> RowText for GraphiteRows<'a> {
     fn put_line(&self, row: &Row, place: usize, line: &mut Line) {
         match row {
             Row::Counter { key, count, rate } => match place {
-                0 => put_rate(key, *rate, self.names, self.ts, line),
-                _ => put_count(key, *count, self.names, self.ts, line),
+                0 => put_rate(key, *rate, self.names, self.second, line),
+                _ => put_count(key, *count, self.names, self.second, line),
             },
             Row::Timer { key, timer } => {
                 let figure = timer.figure(place);
-                put_sent(key, &figure, self.calculated, self.names, self.ts, line);
+                put_sent(key, &figure, self.calculated, self.names, self.second, line);
             }
-            Row::Gauge { key, value } => put_gauge(key, *value, self.names, self.ts, line),
-            Row::Set { key, count } => put_set(key, *count, self.names, self.ts, line),
+            Row::Gauge { key, value } => put_gauge(key, *value, self.names, self.second, line),
+            Row::Set { key, count } => put_set(key, *count, self.names, self.second, line),
         }
     }
 }
@@ -65,8 +66,8 @@ fn counter_back<'a>(names: &Names, back: &'a [u8]) -> &'a [u8]
 }
 
 /// Puts the line of a counter's count per second into `line`.
-fn put_rate(key: &Key, rate: Sum, names: &Names, ts: u64, line: &mut Line)
-    ensures { line.new.items ≡ rate_line names.now ts key.now rate.0 }
+fn put_rate(key: &Key, rate: Sum, names: &Names, second: &Second, line: &mut Line)
+    ensures { line.new.items ≡ rate_line names.now second.now key.now rate.0 }
 {
     let path = Path {
         legacy: b"stats.",
@@ -74,12 +75,12 @@ fn put_rate(key: &Key, rate: Sum, names: &Names, ts: u64, line: &mut Line)
         key: key.as_slice(),
         back: counter_back(names, b".rate"),
     };
-    put_path(names, &path, rate, ts, line);
+    put_path(names, &path, rate, second, line);
 }
 
 /// Puts the line of a counter's count into `line`.
-fn put_count(key: &Key, count: Sum, names: &Names, ts: u64, line: &mut Line)
-    ensures { line.new.items ≡ count_line names.now ts key.now count.0 }
+fn put_count(key: &Key, count: Sum, names: &Names, second: &Second, line: &mut Line)
+    ensures { line.new.items ≡ count_line names.now second.now key.now count.0 }
 {
     let path = Path {
         legacy: b"stats_counts.",
@@ -87,7 +88,7 @@ fn put_count(key: &Key, count: Sum, names: &Names, ts: u64, line: &mut Line)
         key: key.as_slice(),
         back: counter_back(names, b".count"),
     };
-    put_path(names, &path, count, ts, line);
+    put_path(names, &path, count, second, line);
 }
 
 /// What stands behind a timer's key: a point and the name of a figure.
@@ -102,9 +103,9 @@ fn figure_back(figure: &Figure) -> ArrayVec<u8, 65>
 }
 
 /// Puts the line of a timer's figure into `line`.
-fn put_figure(key: &Key, figure: &Figure, names: &Names, ts: u64, line: &mut Line)
+fn put_figure(key: &Key, figure: &Figure, names: &Names, second: &Second, line: &mut Line)
     requires { length figure.now.name.items ≤ 64 }
-    ensures { line.new.items ≡ figure_line names.now ts key.now (figure_view figure.now) }
+    ensures { line.new.items ≡ figure_line names.now second.now key.now (figure_view figure.now) }
 {
     let back = figure_back(figure);
     let path = Path {
@@ -113,7 +114,7 @@ fn put_figure(key: &Key, figure: &Figure, names: &Names, ts: u64, line: &mut Lin
         key: key.as_slice(),
         back: back.as_slice(),
     };
-    put_path(names, &path, figure.value, ts, line);
+    put_path(names, &path, figure.value, second, line);
 }
 
 /// Puts the line of a timer's figure into `line`, or nothing where its class isn't sent.
@@ -122,14 +123,14 @@ fn put_sent(
     figure: &Figure,
     calculated: &Calculated,
     names: &Names,
-    ts: u64,
+    second: &Second,
     line: &mut Line,
 )
     requires { length figure.now.name.items ≤ 64 }
-    ensures { line.new.items ≡ sent_line names.now calculated.now ts key.now (figure_view figure.now) }
+    ensures { line.new.items ≡ sent_line names.now calculated.now second.now key.now (figure_view figure.now) }
 {
     if calculated.sends(figure.class) {
-        put_figure(key, figure, names, ts, line);
+        put_figure(key, figure, names, second, line);
     } else {
         line.clear();
     }
@@ -143,8 +144,8 @@ fn as_sum(value: Micro) -> Sum
 }
 
 /// Puts the line of a gauge into `line`.
-fn put_gauge(key: &Key, value: Micro, names: &Names, ts: u64, line: &mut Line)
-    ensures { line.new.items ≡ gauge_line names.now ts key.now value.0 }
+fn put_gauge(key: &Key, value: Micro, names: &Names, second: &Second, line: &mut Line)
+    ensures { line.new.items ≡ gauge_line names.now second.now key.now value.0 }
 {
     let path = Path {
         legacy: b"stats.gauges.",
@@ -152,12 +153,12 @@ fn put_gauge(key: &Key, value: Micro, names: &Names, ts: u64, line: &mut Line)
         key: key.as_slice(),
         back: b"",
     };
-    put_path(names, &path, as_sum(value), ts, line);
+    put_path(names, &path, as_sum(value), second, line);
 }
 
 /// Puts the line of a set into `line`.
-fn put_set(key: &Key, count: u64, names: &Names, ts: u64, line: &mut Line)
-    ensures { line.new.items ≡ set_line names.now ts key.now count }
+fn put_set(key: &Key, count: u64, names: &Names, second: &Second, line: &mut Line)
+    ensures { line.new.items ≡ set_line names.now second.now key.now count }
 {
     let path = Path {
         legacy: b"stats.sets.",
@@ -165,5 +166,5 @@ fn put_set(key: &Key, count: u64, names: &Names, ts: u64, line: &mut Line)
         key: key.as_slice(),
         back: b".count",
     };
-    put_path(names, &path, whole_number(count), ts, line);
+    put_path(names, &path, whole_number(count), second, line);
 }

@@ -10,6 +10,7 @@ ghost use Rattle.sd_graphite.specs.Texts.{own_text, rows_line, tail_text};
 use crate::line::put_path;
 use crate::path::Path;
 use crate::row::GraphiteRows;
+use crate::second::Second;
 use sd_decimal::{Line, per_second};
 use sd_key::Key;
 use sd_outside::{Sink, WriteFault};
@@ -50,23 +51,25 @@ fn write_own_counter<K: Sink>(
     number: u64,
     names: &Names,
     rec: &Record<'_>,
+    second: &Second,
     sink: &mut K,
 ) -> Result<(), WriteFault>
-    requires { length name.now ≤ 64 }
+    requires name { length name.now ≤ 64 }
+    requires second { second.now ≡ (record_view rec.now).ts }
     ensures ok { OnOk result (K.seen sink.new ≡ given (own_text names.now (record_view rec.now) name.now number) (K.seen sink.old)) }
     ensures failed { OnErr result (HasFailedBehind (own_text names.now (record_view rec.now) name.now number) (K.seen sink.old) (K.seen sink.new)) }
 {
     let form = GraphiteRows {
         names,
         calculated: rec.calculated(),
-        ts: rec.ts(),
+        second,
     };
     write_row(&form, &own_row(name, number, names, rec), sink)
 }
 
 /// Puts the line of the number of rows into `line`.
-fn put_rows(rows: u64, names: &Names, ts: u64, line: &mut Line)
-    ensures { line.new.items ≡ rows_line names.now rows ts }
+fn put_rows(rows: u64, names: &Names, second: &Second, line: &mut Line)
+    ensures { line.new.items ≡ rows_line names.now rows second.now }
 {
     let path = Path {
         legacy: b"",
@@ -74,7 +77,7 @@ fn put_rows(rows: u64, names: &Names, ts: u64, line: &mut Line)
         key: names.prefix_stats().as_slice(),
         back: b".numStats",
     };
-    put_path(names, &path, whole_number(rows), ts, line);
+    put_path(names, &path, whole_number(rows), second, line);
 }
 
 /// Writes the lines at the end of a record.
@@ -87,11 +90,19 @@ pub(crate) fn write_tail<K: Sink>(
     ensures failed { OnErr result (HasFailedBehind (tail_text names.now (record_view rec.now)) (K.seen sink.old) (K.seen sink.new)) }
 {
     let tally = rec.tally();
-    write_own_counter(b"bad_lines_seen", tally.bad, names, rec, sink)?;
-    write_own_counter(b"packets_received", tally.packets, names, rec, sink)?;
-    write_own_counter(b"metrics_received", tally.lines, names, rec, sink)?;
-    write_own_counter(b"samples_dropped", tally.dropped, names, rec, sink)?;
+    let second = Second::of(rec.ts());
+    write_own_counter(b"bad_lines_seen", tally.bad, names, rec, &second, sink)?;
+    write_own_counter(
+        b"packets_received",
+        tally.packets,
+        names,
+        rec,
+        &second,
+        sink,
+    )?;
+    write_own_counter(b"metrics_received", tally.lines, names, rec, &second, sink)?;
+    write_own_counter(b"samples_dropped", tally.dropped, names, rec, &second, sink)?;
     let mut line = Line::new();
-    put_rows(rec.rows() as u64, names, rec.ts(), &mut line);
+    put_rows(rec.rows() as u64, names, &second, &mut line);
     write_line(&line, sink)
 }

@@ -1,4 +1,5 @@
 pub mod FigureLemmas
 pub mod FillLemmas
+pub mod OrderLemmas
 pub mod RecordLemmas
 pub mod TimerLemmas

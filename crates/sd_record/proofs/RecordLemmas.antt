@@ -1,6 +1,6 @@
 -- The rows of a record are those of its tables in order.
-use Rattle.std.proofs.Common.{◌≡◌, ◌+◌, ◌<◌, Bool, true, false, cond, ◌||◌, List, [], ◌∷◌, ◌++◌, length, get_or, map, refl, sym, ap, subst, ◌∙◌, Option, Some, option_map, unwrap_or, IsPermutation, IsSortedByKey, arith}
-use Rattle.std.specs.Prelude.{All, flat_map}
+use Rattle.std.proofs.Common.{◌≡◌, ◌+◌, ◌<◌, Bool, true, false, cond, ◌||◌, List, [], ◌∷◌, ◌++◌, length, get_or, map, refl, sym, ap, subst, ◌∙◌, rules, Option, Some, option_map, unwrap_or, IsPermutation, IsSortedByKey, arith}
+use Rattle.std.specs.Prelude.{All, IsSome, flat_map}
 use Rattle.std.specs.List.{list_any}
 use Rattle.std.specs.Option.{option_or}
 use Rattle.std.specs.Ordering.{is_lt}
@@ -18,9 +18,9 @@ use Rattle.sd_model_shard.proofs.EntryLemmas.{StandApart, entries-sorted}
 use Rattle.sd_model_record.specs.Record.{Row, row_value, table_rows, record_rows}
 use Rattle.sd_epoch.specs.Table.{Listing, AreApart, live_of, table_of, listed_with}
 use Rattle.sd_epoch.proofs.ListingLemmas.{contains-listed, same_itself, same_row}
-use Rattle.sd_record.specs.Rows.{TableRow, AreDisjoint, rows_in, all_rows, with_id, value_of}
-use Rattle.sd_record.specs.Placed.{row_id, seen_in, no_row, value_at, IsPlaced}
-use Rattle.sd_record.specs.declared.placed.PlacedRow.{PlacedRow}
+use Rattle.sd_record.specs.Rows.{TableRow, AreDisjoint, rows_in, all_rows, value_of}
+use Rattle.sd_record.specs.Placed.{row_at, id_at, no_row, value_at, IsPlaced}
+use Rattle.sd_record.specs.declared.placed.Place.{Place}
 
 -- the rows of all tables, as they are listed
 listed_in : List Listing → List (RowId × Kept)
@@ -135,38 +135,33 @@ sorted_entries {X = X} g (row ∷ rows) up = λ k d low high.
     ∙ ap (λ (e : RowId × X). is_lt (row_cmp (g (get_or (row ∷ rows) (k + 1) row)).0 e.0)) (get_or-map g (row ∷ rows) k row d (omega arith))
     ∙ up k row low few
 
--- rows in order, each with its place, are the rows of the record
+-- rows in order, by their places, are the rows of the record
 pub rows-placed :
-    (plan : Plan) (tables : List Listing) (placed : List PlacedRow) → AreDisjoint tables → All (λ t. AreApart t.listed) tables → IsPermutation (map with_id (all_rows tables)) (map (seen_in tables) placed)
-    → IsSortedByKey row_id row_cmp placed → map (value_at plan tables) placed ≡ record_rows plan (map table_of tables)
+    (plan : Plan) (tables : List Listing) (placed : List Place) → AreDisjoint tables → All (λ t. AreApart t.listed) tables → IsPermutation (map Some (all_rows tables)) (map (row_at tables) placed)
+    → IsSortedByKey (id_at tables) row_cmp placed → map (value_at plan tables) placed ≡ record_rows plan (map table_of tables)
 unfolding valued
 rows-placed plan tables placed none apart moved up =
     let rows = all_rows tables in
     let es : List (RowId × Row) = map (valued plan) rows in
-    let read : RowId × Option TableRow → RowId × Row = λ e. (e.0, value_of plan (unwrap_or e.1 no_row)) in
-    let entry : PlacedRow → RowId × Row = λ p. (row_id p, value_at plan tables p) in
+    let read : Option TableRow → RowId × Row = λ o. valued plan (unwrap_or o no_row) in
+    let entry : Place → RowId × Row = λ p. (id_at tables p, value_at plan tables p) in
     let fs : List (RowId × Row) = map entry placed in
     let all : IsPermutation es fs =
-    subst (λ ds. IsPermutation ds fs) (map-map read with_id rows)
-    (subst (IsPermutation (map read (map with_id rows))) (map-map read (seen_in tables) placed) (IsPermutation-map read (map with_id rows) (map (seen_in tables) placed) moved)) in
+    subst (λ ds. IsPermutation ds fs) (map-map read Some rows)
+    (subst (IsPermutation (map read (map Some rows))) (map-map read (row_at tables) placed) (IsPermutation-map read (map Some rows) (map (row_at tables) placed) moved)) in
     let stand : StandApart row_cmp es = apart_by_keys (listed_in tables) es (keys_as_listed plan tables) (all_apart tables none apart) in
     sym (map-map (λ (e : RowId × Row). e.1) entry placed)
     ∙ ap (map (λ e. e.1)) (sym (entries-sorted rows_total rows_exact es fs stand all (sorted_entries entry placed up)))
     ∙ ap (λ m. map (λ e. e.1) (entries m)) (sym (same_map rows_total rows_exact (from_entries {R = row_cmp} (flat_map (table_rows plan) (map table_of tables))) (from_entries {R = row_cmp} es) (λ q.
     get-from_entries rows_total (flat_map (table_rows plan) (map table_of tables)) q ∙ find-tables plan q tables ∙ sym (get-from_entries rows_total es q))))
 
--- at the place of each row stands a row of its id
-HasRow : RowId × Option TableRow → Type 0
-HasRow e = option_map (λ (r : TableRow). r.id) e.1 ≡ Some e.0
+have_rows : (rows : List TableRow) → All IsSome (map Some rows)
+have_rows [] = All-nil IsSome
+have_rows (row ∷ rows) = All-cons IsSome (Some row) (map Some rows) (search rules) (have_rows rows)
 
-have_rows : (rows : List TableRow) → All HasRow (map with_id rows)
-unfolding HasRow
-have_rows [] = All-nil HasRow
-have_rows (row ∷ rows) = All-cons HasRow (with_id row) (map with_id rows) refl (have_rows rows)
-
-pub all-placed : (tables : List Listing) (placed : List PlacedRow) → IsPermutation (map with_id (all_rows tables)) (map (seen_in tables) placed) → All (IsPlaced tables) placed
-unfolding HasRow
+-- at each place stands a row
+pub all-placed : (tables : List Listing) (placed : List Place) → IsPermutation (map Some (all_rows tables)) (map (row_at tables) placed) → All (IsPlaced tables) placed
 all-placed tables placed moved = λ k d below.
-    let seen = seen_in tables in
-    let all = All-permutation HasRow (map with_id (all_rows tables)) (map seen placed) moved (have_rows (all_rows tables)) in
-    subst HasRow (get_or-map seen placed k d (seen d) below) (all k (seen d) (omega (arith, length-map placed seen)))
+    let at = row_at tables in
+    let all = All-permutation IsSome (map Some (all_rows tables)) (map at placed) moved (have_rows (all_rows tables)) in
+    subst IsSome (get_or-map at placed k d (at d) below) (all k (at d) (omega (arith, length-map placed at)))

@@ -1,15 +1,17 @@
 -- The thresholds and limits of a timer.
-use Rattle.std.proofs.Common.{◌≡◌, ◌≢◌, ℕ, ◌+◌, ◌<◌, Bool, true, false, cond, ℤ, pos, negsuc, List, [], ◌∷◌, ◌++◌, inl, inr, length, get_or, map, drop, refl, sym, ap, subst, ◌∙◌, arith}
-use Rattle.std.specs.Prelude.{All, unsigned_abs, IsTrue, ◌↔◌}
-use Rattle.std.proofs.lemmas.Bool.{cases_Bool}
+use Rattle.std.proofs.Common.{◌≡◌, ◌≢◌, ℕ, ◌+◌, ◌<◌, Bool, true, false, cond, ℤ, pos, negsuc, List, [], ◌∷◌, ◌++◌, inl, inr, length, get_or, map, drop, refl, sym, ap, subst, ◌∙◌, Some, arith}
+use Rattle.std.specs.Prelude.{◌==◌, All, filter_map, unsigned_abs, IsTrue, ◌↔◌}
+use Rattle.std.proofs.lemmas.Bool.{cases_Bool, false≢true}
 use Rattle.std.proofs.lemmas.List.{length-map, get_or-map}
 use Rattle.std.proofs.lemmas.List.Elements.{All-get_or}
 use Rattle.sd_model_text.specs.Names.{is_part, HasPart}
 use Rattle.sd_model_text.specs.Numbers as text
+use Rattle.sd_model_text.specs.Numbers.{per_second}
 use Rattle.sd_model_text.proofs.PartLemmas.{found_part, part_found}
 use Rattle.sd_model_settings.specs.Ranges.{IsThreshold}
-use Rattle.sd_model_shard.specs.Values.{bin}
-use Rattle.sd_model_record.specs.Record.{limits_for}
+use Rattle.sd_model_shard.specs.Values.{Bin, Part, Whole, bin, bins, pct, timer_of, whole}
+use Rattle.sd_model_settings.specs.Defaults.{Plan}
+use Rattle.sd_model_record.specs.Record.{limits_for, timer_figures}
 use Rattle.sd_epoch.proofs.ListingLemmas.{left_from}
 use Rattle.sd_decimal.specs.declared.number.Micro.{Micro}
 use Rattle.sd_plan.specs.Values.{micros}
@@ -54,3 +56,12 @@ pub entry_passed : (key : List ℕ) (hs : List Classes) (i : ℕ) (c : Classes) 
 entry_passed key hs i c below is part =
     sym (ap (λ cs. limits_for key (map classes_view cs)) (left_from hs i c below is)
     ∙ ap (λ b. cond b (limits_of c.limits.items) (limits_for key (map classes_view (drop (i + 1) hs)))) part)
+
+-- the figures of a timer with values, by what its parts are
+pub figures-made :
+    (plan : Plan) (key : List ℕ) (weight rate : ℤ) (values : List ℤ) (w : Whole) (parts : List Part) (bs : List Bin) (n : ℕ) → (n == 0) ≡ false → n ≡ length values → rate ≡ per_second weight plan.interval_ms
+    → w ≡ whole (timer_of values weight plan.interval_ms) → parts ≡ filter_map (λ t. pct t (timer_of values weight plan.interval_ms).values) plan.thresholds
+    → bs ≡ bins (limits_for key plan.histograms) (timer_of values weight plan.interval_ms).values
+    → record { count = weight; count_ps = rate; whole = Some w; parts = parts; bins = bs } ≡ timer_figures plan key weight values
+figures-made plan key weight rate [] w parts bs n some many a b d e = absurd (false≢true (sym some ∙ ap (λ m. m == 0) many))
+figures-made plan key weight rate (v ∷ values) w parts bs n some many a b d e = cc

@@ -1,5 +1,5 @@
 -- The rows of several tables, and when these make a record.
-use Rattle.std.specs.Prelude.{◌≡◌, ℕ, true, false, List, [], ◌∷◌, map, flat_map, All, ⊤, Option, Some}
+use Rattle.std.specs.Prelude.{◌≡◌, ℕ, true, false, List, [], ◌∷◌, map, flat_map, All, ⊤}
 use Rattle.std.specs.FinMap.{contains_key}
 use Rattle.sd_model_settings.specs.Defaults.{Plan}
 use Rattle.sd_model_record.specs.Record as model
@@ -33,10 +33,6 @@ rows_in t = map (λ e. record { id = e.0; kept = e.1; held = t.held }) t.listed
 -- the rows of all tables
 abbrev pub all_rows : List Listing → List TableRow
 all_rows tables = flat_map rows_in tables
-
--- a row with its id before it
-abbrev pub with_id : TableRow → RowId × Option TableRow
-with_id row = (row.id, Some row)
 
 -- the row of a record for a row of a table
 abbrev pub value_of : Plan → TableRow → model.Row

@@ -5,4 +5,4 @@ use Rattle.sd_record.specs.declared.scratch.RecordScratch.TheInside.{Inside}
 
 abbrev pub scratch_view : Inside → Places
 scratch_view s =
-    record { room = record { rows = vec_capacity s.rows; entries = s.gathered.room }; placed = s.rows.items }
+    record { room = record { rows = vec_capacity s.places; entries = s.gathered.room }; placed = s.places.items }

@@ -1,5 +1,5 @@
 ghost use Rattle.std.specs.Prelude.{◌≡◌, ◌≤◌, length, map};
-ghost use Rattle.sd_model_shard.specs.Values.{bin, bins};
+ghost use Rattle.sd_model_shard.specs.Values.{bin, bins as bins_of};
 ghost use Rattle.sd_plan.specs.Entries.{limit_of, limits_of};
 ghost use Rattle.sd_stats.specs.Seen.{timer_seen};
 ghost use Rattle.sd_record.specs.Row.{bin_view};
@@ -8,12 +8,13 @@ use crate::row::{Bin, Bins};
 use sd_decimal::{Limit, Micro};
 use sd_stats::TimerStats;
 
-/// The bins of a timer at these limits: each begins where the one before it ends, and the first at 0.
-pub(crate) fn bins_of(stats: &TimerStats<'_>, limits: &[Limit]) -> Bins
+/// Puts the bins of a timer at these limits in place of those that were there: each begins where the one before it ends, and
+/// the first at 0.
+pub(crate) fn put_bins(stats: &TimerStats<'_>, limits: &[Limit], bins: &mut Bins)
     requires few { length limits.now ≤ 64 }
-    ensures { map bin_view result.items ≡ bins (limits_of limits.now) (timer_seen stats.now).values }
+    ensures { map bin_view bins.new.items ≡ bins_of (limits_of limits.now) (timer_seen stats.now).values }
 {
-    let mut bins = Bins::new();
+    bins.clear();
     let mut from = Limit::Below(Micro(0));
     for below in limits {
         bins.push(Bin {
@@ -22,7 +23,6 @@ pub(crate) fn bins_of(stats: &TimerStats<'_>, limits: &[Limit]) -> Bins
         });
         from = *below;
     }
-    bins
 }
 
 /// How many values of a timer are below a limit and not below another.

@@ -1,4 +1,8 @@
 //! Records: the rows of a flush with their values, and what was counted besides.
+//!
+//! `sd_replay` and `sd_flush` make one of the tables that a flush took out, and `sd_text`, `sd_graphite` and `sd_console` write
+//! it row by row. Rows are put in order in the scratch's room, and a row's figures are worked out when it is asked for. Only
+//! `RecordScratch::open` takes memory. A record writes nothing, and leaves the tables as they are.
 #![tactic(auto)]
 
 mod bins;

@@ -9,17 +9,16 @@ use crate::row::Parts;
 use sd_decimal::Micro;
 use sd_stats::TimerStats;
 
-/// The statistics of a timer at each threshold that takes a value.
-pub(crate) fn parts_of(stats: &TimerStats<'_>, thresholds: &[Micro]) -> Parts
+/// Puts the statistics of a timer at each threshold that takes a value in place of those that were there.
+pub(crate) fn put_parts(stats: &TimerStats<'_>, thresholds: &[Micro], parts: &mut Parts)
     requires few { length thresholds.now ≤ 16 }
     requires range { All IsThreshold (micros thresholds.now) }
-    ensures { map part_of result.items ≡ filter_map (λ t. pct t (timer_seen stats.now).values) (micros thresholds.now) }
+    ensures { map part_of parts.new.items ≡ filter_map (λ t. pct t (timer_seen stats.now).values) (micros thresholds.now) }
 {
-    let mut parts = Parts::new();
+    parts.clear();
     for threshold in thresholds {
         if let Some(part) = stats.pct(*threshold) {
             parts.push(part);
         }
     }
-    parts
 }

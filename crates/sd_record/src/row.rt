@@ -31,6 +31,19 @@ pub struct TimerRow {
     pub bins: Bins,
 }
 
+impl TimerRow {
+    /// A timer to put others into: one without samples.
+    pub(crate) fn new() -> TimerRow {
+        TimerRow {
+            count: Sum(0),
+            count_ps: Sum(0),
+            whole: None,
+            parts: Parts::new(),
+            bins: Bins::new(),
+        }
+    }
+}
+
 /// A row of a record with its values.
 #[derive(Debug, Drop)]
 pub enum Row {

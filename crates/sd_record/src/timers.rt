@@ -5,39 +5,40 @@ ghost use Rattle.sd_plan.specs.Plan.{plan_view};
 ghost use Rattle.sd_stats.specs.Timer.{numbers, IsTimerValue};
 ghost use Rattle.sd_record.specs.Row.{timer_view};
 
-use crate::bins::bins_of;
-use crate::parts::parts_of;
-use crate::row::{Bins, Parts, TimerRow};
+use crate::bins::put_bins;
+use crate::parts::put_parts;
+use crate::row::TimerRow;
 use sd_decimal::{Limit, Micro, Sum, per_second};
 use sd_key::{Key, has_part};
 use sd_plan::{Classes, Reckoning};
 use sd_stats::TimerStats;
 
-/// A timer of this key, weight and values. The slice is sorted.
-pub(crate) fn timer_of(key: &Key, weight: Sum, values: &mut [Micro], plan: &Reckoning) -> TimerRow
+/// Puts the timer of this key, weight and values into `timer`, in place of what it has. The slice is sorted.
+pub(crate) fn put_timer_of(
+    key: &Key,
+    weight: Sum,
+    values: &mut [Micro],
+    plan: &Reckoning,
+    timer: &mut TimerRow,
+)
     requires weight { unsigned_abs weight.0 ≤ 10 ^ 34 }
     requires range { All IsTimerValue values.old }
     requires many { length values.old ≤ 2 ^ 20 }
-    ensures { timer_view result ≡ timer_figures (plan_view plan.now) key.now weight.0 (numbers values.old) }
+    ensures { timer_view timer.new ≡ timer_figures (plan_view plan.now) key.now weight.0 (numbers values.old) }
 {
-    let count_ps = per_second(weight, plan.interval_ms);
+    timer.count = weight;
+    timer.count_ps = per_second(weight, plan.interval_ms);
     if values.is_empty() {
-        return TimerRow {
-            count: weight,
-            count_ps,
-            whole: None,
-            parts: Parts::new(),
-            bins: Bins::new(),
-        };
+        timer.whole = None;
+        timer.parts.clear();
+        timer.bins.clear();
+        return;
     }
     let stats = TimerStats::of(values, weight, plan.interval_ms);
-    TimerRow {
-        count: weight,
-        count_ps,
-        whole: Some(stats.whole()),
-        parts: parts_of(&stats, plan.thresholds.as_slice()),
-        bins: bins_of(&stats, limits_for(key, plan.histograms.as_slice())),
-    }
+    timer.whole = Some(stats.whole());
+    put_parts(&stats, plan.thresholds.as_slice(), &mut timer.parts);
+    let limits = limits_for(key, plan.histograms.as_slice());
+    put_bins(&stats, limits, &mut timer.bins);
 }
 
 /// The limits of the bins of a key: those of the first entry whose metric is part of it.

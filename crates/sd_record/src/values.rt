@@ -1,14 +1,15 @@
-ghost use Rattle.std.specs.Prelude.{◌≡◌, ◌<◌, ◌≤◌, length, slice_get, IfSome};
+ghost use Rattle.std.specs.Prelude.{◌≡◌, ◌^◌, ◌<◌, ◌≤◌, length, slice_get, unsigned_abs, All, IfSome};
 ghost use Rattle.sd_model_text.specs.Names.{Counter, Timer};
-ghost use Rattle.sd_model_record.specs.Record.{row_value, row_of_kind, GaugeRow, SetRow};
+ghost use Rattle.sd_model_record.specs.Record.{row_value, row_of_kind, timer_figures, TimerRow as RowOfTimer, GaugeRow, SetRow};
 ghost use Rattle.sd_model_shard.specs.Statistics.{gauge_value, members_of};
 ghost use Rattle.sd_model_shard.specs.Values.{distinct};
 ghost use Rattle.sd_plan.specs.Plan.{plan_view};
+ghost use Rattle.sd_stats.specs.Timer.{numbers, IsTimerValue};
 ghost use Rattle.sd_record.specs.Row.{row_view};
 
-use crate::row::Row;
-use crate::timers::timer_of;
-use sd_decimal::per_second;
+use crate::row::{Row, TimerRow};
+use crate::timers::put_timer_of;
+use sd_decimal::{Micro, Sum, per_second};
 use sd_epoch::{Scratch, Table};
 use sd_key::{Key, Kind};
 use sd_plan::Reckoning;
@@ -17,8 +18,8 @@ use sd_stats::distinct;
 /// Puts the row of a record for the i-th row of a table into `row`, in place of what it has. The room is for the values
 /// and members of its samples.
 ///
-/// Of a row that stays a counter, a gauge or a set the fields alone are written. To make one anew writes as many bytes
-/// as a timer has.
+/// Of a row that keeps its kind the fields alone are written, and of its key the bytes that it has. To make one anew writes
+/// as many bytes as a timer has.
 pub(crate) fn put_row(table: &Table, i: u32, plan: &Reckoning, room: &mut Scratch, row: &mut Row)
     requires place { i < length table.now.listed }
     requires room { length table.now.held ≤ room.old.room }
@@ -46,16 +47,16 @@ fn put_counter(table: &Table, i: u32, plan: &Reckoning, row: &mut Row)
     requires { i < length table.now.listed }
     ensures { IfSome (slice_get table.now.listed i) (λ e. row_view row.new ≡ row_of_kind Counter (plan_view plan.now) table.now.held e.0 e.1) }
 {
-    let facts = table.row(i);
-    let per_second = per_second(facts.weight, plan.interval_ms);
+    let weight = table.row(i).weight;
+    let per_second = per_second(weight, plan.interval_ms);
     if let Row::Counter { key, count, rate } = row {
-        *key = facts.key;
-        *count = facts.weight;
+        key.clone_from(&table.get(i).key);
+        *count = weight;
         *rate = per_second;
     } else {
         *row = Row::Counter {
-            key: facts.key,
-            count: facts.weight,
+            key: key_of(table, i),
+            count: weight,
             rate: per_second,
         };
     }
@@ -69,11 +70,27 @@ fn put_timer(table: &Table, i: u32, plan: &Reckoning, room: &mut Scratch, row: &
     ensures row { IfSome (slice_get table.now.listed i) (λ e. row_view row.new ≡ row_of_kind Timer (plan_view plan.now) table.now.held e.0 e.1) }
     ensures room { room.new.room ≡ room.old.room }
 {
-    let facts = table.row(i);
+    let weight = table.row(i).weight;
     table.values_of(i, room);
-    let timer = timer_of(&facts.key, facts.weight, room.values(), plan);
+    if let Row::Timer { key, timer } = row {
+        key.clone_from(&table.get(i).key);
+        put_timer_of(key, weight, room.values(), plan, timer);
+    } else {
+        put_new_timer(&table.get(i).key, weight, room.values(), plan, row);
+    }
+}
+
+/// Puts a timer of this key, weight and values, made anew, into `row`. The slice is sorted.
+fn put_new_timer(key: &Key, weight: Sum, values: &mut [Micro], plan: &Reckoning, row: &mut Row)
+    requires weight { unsigned_abs weight.0 ≤ 10 ^ 34 }
+    requires range { All IsTimerValue values.old }
+    requires many { length values.old ≤ 2 ^ 20 }
+    ensures { row_view row.new ≡ RowOfTimer key.now (timer_figures (plan_view plan.now) key.now weight.0 (numbers values.old)) }
+{
+    let mut timer = TimerRow::new();
+    put_timer_of(key, weight, values, plan, &mut timer);
     *row = Row::Timer {
-        key: facts.key,
+        key: key.clone().unwrap(),
         timer,
     };
 }
@@ -85,7 +102,7 @@ fn put_gauge(table: &Table, i: u32, row: &mut Row)
 {
     let gauge = table.gauge_of(i);
     if let Row::Gauge { key, value } = row {
-        *key = key_of(table, i);
+        key.clone_from(&table.get(i).key);
         *value = gauge;
     } else {
         *row = Row::Gauge {
@@ -105,7 +122,7 @@ fn put_set(table: &Table, i: u32, room: &mut Scratch, row: &mut Row)
     table.members_of(i, room);
     let members = distinct(room.members());
     if let Row::Set { key, count } = row {
-        *key = key_of(table, i);
+        key.clone_from(&table.get(i).key);
         *count = members;
     } else {
         *row = Row::Set {

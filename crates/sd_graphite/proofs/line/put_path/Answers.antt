@@ -13,4 +13,4 @@ returns c =
     let to_path = c.push_text-2.ensures.text ∙ ap (λ (xs : List ℕ). xs ++ p.back.now) (c.push_text.ensures.text ∙ ap (λ (xs : List ℕ). xs ++ p.key.now) before) in
     let to_suffix = c.push_suffix.ensures.text ∙ ap (λ (xs : List ℕ). xs ++ suffix c.args.names.now) to_path in
     let to_number = c.push_number.ensures.text ∙ ap (λ (xs : List ℕ). xs ++ 32 ∷ number_text c.args.number.0) to_suffix in
-    c.push_second.ensures ∙ ap (λ (xs : List ℕ). xs ++ 32 ∷ decimal c.args.ts ++ 10 ∷ []) to_number
+    c.push.ensures ∙ ap (λ (xs : List ℕ). xs ++ 32 ∷ decimal c.args.second.now ++ 10 ∷ []) to_number

@@ -8,5 +8,5 @@ pub returns : goal.returns
 returns c =
     let names = c.args.names.now in
     let path = path_text-parts _ _ (codes "stats.gauges.") _ _ _ refl (c.as_slice.ensures.value ∙ c.prefix_gauge.ensures.value) c.as_slice-2.ensures.bytes refl ∙ append-nil (front names (codes "stats.gauges.") names.namespace.prefix_gauge ++ c.args.key.now) in
-    c.put_path.ensures ∙ ap (λ p. line names p (number_text c.as_sum.result.0) c.args.ts) path
-    ∙ ap (λ n. line names (front names (codes "stats.gauges.") names.namespace.prefix_gauge ++ c.args.key.now) (number_text n) c.args.ts) c.as_sum.ensures
+    c.put_path.ensures ∙ ap (λ p. line names p (number_text c.as_sum.result.0) c.args.second.now) path
+    ∙ ap (λ n. line names (front names (codes "stats.gauges.") names.namespace.prefix_gauge ++ c.args.key.now) (number_text n) c.args.second.now) c.as_sum.ensures

@@ -1,4 +1,4 @@
-use Rattle.std.proofs.Common.{refl}
+use Rattle.std.proofs.Common.{refl, ◌∙◌}
 use Rattle.std.proofs.lemmas.Result.{err_from_is_err_and, on_ok_weaker, on_err_weaker}
 use Rattle.sd_record.specs.Record.{record_view}
 use Rattle.sd_desk.specs.Tally.{tally_of}
@@ -32,10 +32,10 @@ returns-in_err-write_own_counter-4-clause-failed g c =
 
 pub returns-clause-ok : goal.returns-clause-ok
 returns-clause-ok g c =
-    let parts = tail_text-parts c.args.names.now (record_view c.args.rec.now) (tally_of c.tally-tally.result) c.tally-tally.ensures _ _ c.rows.ensures c.ts.ensures c.put_rows.new.line.items c.put_rows.ensures in
+    let parts = tail_text-parts c.args.names.now (record_view c.args.rec.now) (tally_of c.tally-tally.result) c.tally-tally.ensures _ _ c.rows.ensures (c.of-second.ensures ∙ c.ts.ensures) c.put_rows.new.line.items c.put_rows.ensures in
     on_ok_weaker _ (five_parts _ _ _ _ _ _ _ parts _ c.in_ok-write_own_counter.ensures.ok _ c.in_ok-write_own_counter-2.ensures.ok _ c.in_ok-write_own_counter-3.ensures.ok _ c.in_ok-write_own_counter-4.ensures.ok _) c.write_line.ensures.ok
 
 pub returns-clause-failed : goal.returns-clause-failed
 returns-clause-failed g c =
-    let parts = tail_text-parts c.args.names.now (record_view c.args.rec.now) (tally_of c.tally-tally.result) c.tally-tally.ensures _ _ c.rows.ensures c.ts.ensures c.put_rows.new.line.items c.put_rows.ensures in
+    let parts = tail_text-parts c.args.names.now (record_view c.args.rec.now) (tally_of c.tally-tally.result) c.tally-tally.ensures _ _ c.rows.ensures (c.of-second.ensures ∙ c.ts.ensures) c.put_rows.new.line.items c.put_rows.ensures in
     on_err_weaker _ (front_5 _ _ _ _ _ _ _ parts _ c.in_ok-write_own_counter.ensures.ok _ c.in_ok-write_own_counter-2.ensures.ok _ c.in_ok-write_own_counter-3.ensures.ok _ c.in_ok-write_own_counter-4.ensures.ok _) c.write_line.ensures.failed

@@ -4,7 +4,7 @@ use Rattle.sd_model_shard.specs.Values.{pct}
 use Rattle.sd_plan.specs.Values.{micros}
 use Rattle.sd_stats.specs.Seen.{timer_seen}
 use Rattle.sd_stats.specs.Timer.{part_of}
-use Rattle.sd_record.proofs.parts.parts_of.Given as goal
+use Rattle.sd_record.proofs.parts.put_parts.Given as goal
 
 -- the parts so far and those that are left are all parts
 abbrev pub invariant-loop-threshold : goal.invariant-loop-threshold

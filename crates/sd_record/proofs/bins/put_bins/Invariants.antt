@@ -3,7 +3,7 @@ use Rattle.sd_model_shard.specs.Values.{bins, bins_from}
 use Rattle.sd_plan.specs.Entries.{limit_of, limits_of}
 use Rattle.sd_stats.specs.Seen.{timer_seen}
 use Rattle.sd_record.specs.Row.{bin_view}
-use Rattle.sd_record.proofs.bins.bins_of.Given as goal
+use Rattle.sd_record.proofs.bins.put_bins.Given as goal
 
 -- the bins so far and those that are left are all bins
 abbrev pub invariant-loop-below : goal.invariant-loop-below
