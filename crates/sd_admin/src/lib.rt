@@ -1,4 +1,7 @@
 //! Admin commands: what a line asks for, and the replies.
+//!
+//! `sd_command` has a script's lines read and replied to by it, and `sd_session` those of a session. It carries out nothing: what
+//! a reply tells, the caller lends. It takes no memory, and writes to any `Sink`.
 #![tactic(auto)]
 
 mod command;

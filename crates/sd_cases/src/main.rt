@@ -1,5 +1,5 @@
-//! Cases of numbers, names, datagrams, statistics and rings: reads a call and its arguments from each line, makes the call,
-//! and prints the line with its answer.
+//! Cases of numbers, names, datagrams, statistics and rings: reads a call and its arguments from each line, makes the call, and
+//! prints the line with its answer, as in `read 0.0000005 = 1`. Quantities are whole millionths.
 #![tactic(auto)]
 
 mod datagrams;

@@ -1,5 +1,5 @@
-//! Cases of admin commands: reads a line of an admin from each line, and prints what it asks for, or the reply that it gets
-//! from a server with samples, settings and a desk.
+//! Cases of admin commands: reads a line of an admin from each line, and prints what it asks for, or the reply that it gets from
+//! a server with samples, settings and a desk. A line reads `command LINE`, `name LINE PLACES` or `ask LINE STEPS`.
 #![tactic(auto)]
 
 mod commands;

@@ -1,5 +1,6 @@
-//! Cases of flush rounds: reads steps on shards, a desk and backends from each line, and prints the line with what came of
-//! them.
+//! Cases of flush rounds: reads steps on shards, a desk and backends from each line, and prints the line with what came of them.
+//! A line reads `rounds SHARDS STEPS`, or `large SHARDS STEPS` for shards with more room; steps are samples, tallies, calls that
+//! are to fail, rounds and the like.
 #![tactic(auto)]
 
 mod bench;

@@ -1,5 +1,6 @@
-//! Cases of the health checks of a proxy: each line of the input says what is done with the set of nodes that are up, by one thread
-//! or by several side by side, and is printed with what comes of it, which is the same whatever the order of the threads.
+//! Cases of the health checks of a proxy: each line of the input says what is done with the set of nodes that are up, by one
+//! thread or by several side by side, and is printed with what comes of it, which is the same whatever the order of the threads.
+//! A line reads `cell`, `looks`, `says`, `check` or `part`, with arguments.
 #![tactic(auto)]
 
 mod checks;

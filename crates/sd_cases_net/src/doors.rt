@@ -6,6 +6,7 @@ use sd_case::Answer;
 use sd_net::{DoorSizes, LongLines, Stop, TcpDoor};
 use sd_outside::{Address, Door, Entry, Faulty, Name, OpenRefusal, Opens, read_full, write_all};
 use std::io::{self, Write};
+use std::net::TcpStream;
 use std::thread::sleep;
 use std::time::Duration;
 
@@ -153,6 +154,62 @@ pub(crate) fn run(rt: &HostRuntime, out: &mut Answer) -> io::Result<()> {
     Ok(())
 }
 
+/// A line that is cut in two by a pause, with the start of another behind it, and then the rest of that one, and one more.
+fn cut_lines<'a>(
+    door: &mut TcpDoor<'a, HostRuntime>,
+    client: &mut TcpStream,
+    buf: &mut [u8],
+    out: &mut Answer,
+) -> io::Result<()>
+    requires room { 5 ≤ length buf.old }
+    requires door { (⟦<TcpDoor<'a, HostRuntime> as Faulty>⟧.seen door.old).is_out ≡ false }
+    ensures { (⟦<TcpDoor<'a, HostRuntime> as Faulty>⟧.seen door.new).is_out ≡ false }
+{
+    step(
+        out,
+        "a line that is cut in two by a pause, with the start of another behind it",
+    );
+    client.write_all(b"sta")?;
+    rest(door, buf, YES, out);
+    client.write_all(b"ts\nqu")?;
+    serve(door, buf, YES, out);
+    show_next(client, buf, out);
+    step(
+        out,
+        "the rest of that line, and one more, of which the session reads the first",
+    );
+    client.write_all(b"it\nstats\n")?;
+    serve(door, &mut buf[..5], YES, out);
+    show_next(client, buf, out);
+    show_next(client, buf, out);
+    Ok(())
+}
+
+/// A line that is longer than a session takes.
+fn long_line<'a>(
+    rt: &HostRuntime,
+    door: &mut TcpDoor<'a, HostRuntime>,
+    client: &mut TcpStream,
+    buf: &mut [u8],
+    out: &mut Answer,
+) -> io::Result<()>
+    requires door { (⟦<TcpDoor<'a, HostRuntime> as Faulty>⟧.seen door.old).is_out ≡ false }
+    ensures { (⟦<TcpDoor<'a, HostRuntime> as Faulty>⟧.seen door.new).is_out ≡ false }
+{
+    step(
+        out,
+        "1,034 bytes without a newline, of which the session reads as many as there is room for",
+    );
+    let mut line = room(rt.alloc(), ROOM)?;
+    line.as_mut_slice().fill(b'x');
+    client.write_all(line.as_slice())?;
+    client.write_all(b"xxxxxxxxxx")?;
+    serve(door, line.as_mut_slice(), YES, out);
+    show_next(client, buf, out);
+    show_next(client, buf, out);
+    Ok(())
+}
+
 /// Sessions of three clients beside one that says nothing.
 fn visits<'a>(
     rt: &HostRuntime,
@@ -168,23 +225,7 @@ fn visits<'a>(
     let _silent = client_of(rt, port)?;
     let mut first = client_of(rt, port)?;
     let mut second = client_of(rt, port)?;
-    step(
-        out,
-        "a line that is cut in two by a pause, with the start of another behind it",
-    );
-    first.write_all(b"sta")?;
-    rest(door, buf, YES, out);
-    first.write_all(b"ts\nqu")?;
-    serve(door, buf, YES, out);
-    show_next(&mut first, buf, out);
-    step(
-        out,
-        "the rest of that line, and one more, of which the session reads the first",
-    );
-    first.write_all(b"it\nstats\n")?;
-    serve(door, &mut buf[..5], YES, out);
-    show_next(&mut first, buf, out);
-    show_next(&mut first, buf, out);
+    cut_lines(door, &mut first, buf, out)?;
     step(out, "two lines of a client and one of another");
     let mut third = client_of(rt, port)?;
     second.write_all(b"a\nb\n")?;
@@ -193,17 +234,7 @@ fn visits<'a>(
     serve(door, buf, YES, out);
     show_next(&mut second, buf, out);
     show_next(&mut third, buf, out);
-    step(
-        out,
-        "1,034 bytes without a newline, of which the session reads as many as there is room for",
-    );
-    let mut line = room(rt.alloc(), ROOM)?;
-    line.as_mut_slice().fill(b'x');
-    third.write_all(line.as_slice())?;
-    third.write_all(b"xxxxxxxxxx")?;
-    serve(door, line.as_mut_slice(), YES, out);
-    show_next(&mut third, buf, out);
-    show_next(&mut third, buf, out);
+    long_line(rt, door, &mut third, buf, out)?;
     step(out, "a client that leaves behind a line");
     second.write_all(b"d\n")?;
     drop(second);

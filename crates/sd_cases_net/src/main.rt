@@ -1,4 +1,5 @@
-//! Runs of the real objects over sockets of this machine alone. What is printed is the same whatever the order of the threads.
+//! Runs of the real objects over sockets of this machine alone. What is printed is the same whatever the order of the threads. No
+//! input is read: each line of the output names a run of receivers, beats, links, probes or doors, and says what came of it.
 #![tactic(auto)]
 
 mod beats;

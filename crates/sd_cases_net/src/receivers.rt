@@ -94,16 +94,12 @@ fn stop_files(rt: &HostRuntime, buf: &mut [u8], out: &mut Answer) -> io::Result<
     Ok(())
 }
 
-/// Two receivers on one socket, and stop files.
-pub(crate) fn run(rt: &HostRuntime, out: &mut Answer) -> io::Result<()> {
-    let shared = OnceLock::new();
-    let stop = Stop::new(None);
-    let mut first = UdpReceiver::new(rt, &shared, &stop);
-    let mut second = UdpReceiver::new(rt, &shared, &stop);
-    let mut buf = room(rt.alloc(), MOST_DATAGRAM)?;
-    out.text("receivers");
-    step(out, "one that isn't open");
-    ask(&mut first, buf.as_mut_slice(), out);
+/// Opens a receiver at addresses of every kind, and another beside it.
+fn open_both(
+    first: &mut UdpReceiver<'_, HostRuntime>,
+    second: &mut UdpReceiver<'_, HostRuntime>,
+    out: &mut Answer,
+) {
     step(
         out,
         "a file, a host with a byte 255, one with a byte 0, this machine, for the second a port that isn't asked for",
@@ -119,6 +115,19 @@ pub(crate) fn run(rt: &HostRuntime, out: &mut Answer) -> io::Result<()> {
     }
     out.text(" ");
     out.text(opening_text(second.open_at(&here(1))));
+}
+
+/// Two receivers on one socket, and stop files.
+pub(crate) fn run(rt: &HostRuntime, out: &mut Answer) -> io::Result<()> {
+    let shared = OnceLock::new();
+    let stop = Stop::new(None);
+    let mut first = UdpReceiver::new(rt, &shared, &stop);
+    let mut second = UdpReceiver::new(rt, &shared, &stop);
+    let mut buf = room(rt.alloc(), MOST_DATAGRAM)?;
+    out.text("receivers");
+    step(out, "one that isn't open");
+    ask(&mut first, buf.as_mut_slice(), out);
+    open_both(&mut first, &mut second, out);
     let port = shared.get().ok_or_else(stuck)?.local_addr()?.port();
     let sender = UdpSocket::bind(rt, socket_here(0))?;
     step(

@@ -1,5 +1,6 @@
-//! Cases of outlets: each line of the input says what is done with an outlet, by one thread or by a feeder and a worker side
-//! by side, and is printed with what comes of it, which is the same whatever the order of the threads.
+//! Cases of outlets: each line of the input says what is done with an outlet, by one thread or by a feeder and a worker side by
+//! side, and is printed with what comes of it, which is the same whatever the order of the threads. A line reads
+//! `outlet N BYTES STEPS`, `order COUNT`, `relay N COUNT FAIL` or `follow N COUNT FAIL`.
 #![tactic(auto)]
 
 mod count_gate;

@@ -1,5 +1,6 @@
-//! Cases of the outside: reads a call and its arguments from each line, makes the call on an object in memory, on several
-//! wires or on the reader of a script, and prints the line with its answer.
+//! Cases of the outside: reads a call and its arguments from each line, makes the call on an object in memory, on several wires
+//! or on the reader of a script, and prints the line with its answer. A line of an object reads as in
+//! `source abcde read=2 faults`: what it holds, and then steps, each of which is answered on a line.
 #![tactic(auto)]
 
 mod arrivals;

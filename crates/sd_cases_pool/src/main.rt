@@ -1,5 +1,5 @@
-//! Cases of a pool among threads: each line of the input names one, and is printed with what it gives, which is the same
-//! whatever the order of the threads.
+//! Cases of a pool among threads: each line of the input names one, and is printed with what it gives, which is the same whatever
+//! the order of the threads. A line reads `shared LINE` or `held LINE`, with the line of one sample.
 #![tactic(auto)]
 
 mod held;

@@ -1,4 +1,5 @@
-//! Cases of the proxy: where lines go, and what a run over objects in memory sends and counts.
+//! Cases of the proxy: where lines go, and what a run over objects in memory sends and counts. A line reads
+//! `route NODES CACHE UPS LINES` or `proxy NODES CACHE UP STEPS`, and is printed with what came of it.
 #![tactic(auto)]
 
 mod packing;

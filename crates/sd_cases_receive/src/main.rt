@@ -1,5 +1,6 @@
-//! Cases of receivers: each line of the input says what a house of receivers is opened with and what their sources answer, and
-//! is printed with what the receivers did and left.
+//! Cases of receivers: each line of the input says what a house of receivers is opened with and what their sources answer, and is
+//! printed with what the receivers did and left. A line reads `receive` or, for the order of what one does, `order`, with words
+//! as `shards=4`, `get=DATAGRAM`, `idle` and `fail`.
 #![tactic(auto)]
 
 mod arrivals;

@@ -1,5 +1,6 @@
-//! Cases of whole runs: reads the words, files and failing calls of a run from each line, runs the program over
-//! objects in memory, and prints the line with all that came of it.
+//! Cases of whole runs: reads the words, files and failing calls of a run from each line, runs the program over objects in
+//! memory, and prints the line with all that came of it. A line reads `run WORDS : PARTS`; `cut`, `both`, `slow` and `late` make
+//! the run in other ways, and `status NAME` asks for a text.
 #![tactic(auto)]
 
 mod calls;

@@ -1,5 +1,6 @@
 //! Cases of servers: each line of the input says what a server is opened with and what its sources, beat, backends and sessions
-//! give, and is printed with what its workers did and left, which is the same whatever the order of the threads.
+//! give, and is printed with what its workers did and left, which is the same whatever the order of the threads. A line reads
+//! `serve PARTS`, `share PARTS`, or `meet PARTIES SAMPLES PARTS` for workers that wait for one another.
 #![tactic(auto)]
 
 mod backing;

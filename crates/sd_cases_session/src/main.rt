@@ -1,5 +1,6 @@
 //! Cases of admin sessions: reads from each line what a session or the sessions of a door ask, over what, and prints how they
-//! ended and what was replied.
+//! ended and what was replied. A line reads `session ASKED STEPS`, `door SESSIONS STEPS`, or `cuts ASKED STEPS`, which cuts the
+//! replies everywhere.
 #![tactic(auto)]
 
 mod cuts;

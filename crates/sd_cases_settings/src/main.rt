@@ -1,5 +1,5 @@
-//! Cases: reads a call and its arguments from each line, makes the call, and prints the line with its answer. Most
-//! read a settings file, which stands on the line, and ask for values.
+//! Cases of settings: reads a call and its arguments from each line, makes the call, and prints the line with its answer. Most
+//! read a settings file, which stands on the line, and ask for values, as in `read FILE CALLS`, `all FILE` and `config FILE`.
 #![tactic(auto)]
 
 mod values;

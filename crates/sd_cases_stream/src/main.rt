@@ -1,5 +1,6 @@
 //! Cases of streams of lines: reads from each line in which pieces a stream comes, or the sessions of a door, and prints which
-//! lines were cut out of it, how its reading ended, and what that left.
+//! lines were cut out of it, how its reading ended, and what that left. A line reads `cut PIECES`, `cuts STREAM`, `stream STEPS`,
+//! `streams STREAM STEPS` or `door SESSIONS STEPS`.
 #![tactic(auto)]
 
 mod cuts;

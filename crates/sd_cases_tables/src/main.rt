@@ -1,5 +1,6 @@
-//! Cases of tables: reads a call and its arguments from each line, makes the call on a shard or a table, and prints the
-//! line with its answer.
+//! Cases of tables: reads a call and its arguments from each line, makes the call on a shard or a table, and prints the line with
+//! its answer. A line reads as in `shard 2/3 none a:1|c swap book`: the limits on rows and entries, what else it is opened with,
+//! and then steps, each of which is answered on a line.
 #![tactic(auto)]
 
 mod records;

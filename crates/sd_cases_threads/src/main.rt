@@ -1,5 +1,6 @@
-//! Cases of values behind a turn: each line of the input names one and two numbers, and is printed
-//! with its answer, which is the same whatever the order of the threads.
+//! Cases of values behind a turn: each line of the input names one and one number or two, and is printed with its answer, which
+//! is the same whatever the order of the threads. A line reads as in `ledger 20000 30000`; the others are `turn`, `seats`, `desk`
+//! and `facts`.
 #![tactic(auto)]
 
 mod book;

@@ -1,4 +1,8 @@
 //! The desk: what the server counts of itself, when the last datagram came, and whether it is well.
+//!
+//! A replay has a `Desk` in hand, and the server's workers share one by `sd_shared_desk`; records have its `Tally`, and
+//! `sd_delivery` answers its `RoundMarks`. Counts stop at 2^63. It reads no clock, since moments come with the calls, and takes
+//! no memory.
 #![tactic(auto)]
 
 mod count;

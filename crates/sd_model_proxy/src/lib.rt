@@ -1,5 +1,8 @@
 //! The definitions of a proxy: where each line of a datagram goes, what that does to the wires of the nodes, and what is
 //! counted. The functions have no code, and each states a law of the definitions.
+//!
+//! `sd_proxy` and `sd_relay` cite them, and so do the definitions of health checks and of a call. They speak of lines, and not of
+//! pieces: whether a piece is good isn't asked.
 #![tactic(auto)]
 
 mod routes;

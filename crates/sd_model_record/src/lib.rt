@@ -1,6 +1,9 @@
 //! The definitions of a flush and of admin commands: the record of a flush, what the server counts of itself, the texts that
 //! backends get, what an admin's line asks for, and the replies. The functions have no code, and each states a law of the
 //! definitions.
+//!
+//! `sd_desk`, `sd_record`, `sd_graphite`, `sd_console` and `sd_admin` cite them for what they do; `sd_replay`, the server's
+//! workers and the definitions of replays and servers for what it comes to.
 #![tactic(auto)]
 
 mod admin;

@@ -1,5 +1,9 @@
 //! The real objects of the server: receivers of datagrams, a beat, a clock, a link to Graphite, a door for clients over
 //! TCP and a probe. They tell nothing of their content.
+//!
+//! `statsd` hands them to `sd_top`. Each counts its faults and turns as its trait asks; that the bytes are the right ones no
+//! clause says. Receivers, beat and doors look at one `Stop`, and each wait for a connection, a write or a reply has a limit. A
+//! door takes the room of its clients where it is opened. They know no samples and no settings.
 #![tactic(auto)]
 
 mod clients;

@@ -1,6 +1,9 @@
 //! Outlets: the texts of flushes go through a bounded queue to a worker that writes them to a backend, so that a slow backend
 //! doesn't hold up the flusher. A feed sends, a drain takes; two ruled queues and a stop flag tie what the one sent to what
 //! the other took.
+//!
+//! `sd_flush` has the feeds, and `sd_serve` runs the workers. Only `open` takes memory. The sender doesn't wait for a backend:
+//! where no buffer is free `start` answers none, and the text is the caller's to skip. No text is given to a backend twice.
 #![tactic(auto)]
 
 mod buf;

@@ -1,4 +1,9 @@
 //! The outside: the traits of what the program reads, writes and opens, and forms of them in memory.
+//!
+//! All who touch an object outside are generic over these traits, from `sd_repeater` and `sd_text` up to `sd_top`. `statsd` and
+//! `sd_net` have the real objects, and the programs of cases use those in memory. A call that fails raises the object's count of
+//! faults, up to 2^64 - 1. No file, socket or clock of the system is known here. The forms in memory take their room in `open`,
+//! and fail at the calls that they are told to, and where there is no room.
 #![tactic(auto)]
 
 mod address;

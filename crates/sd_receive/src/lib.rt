@@ -1,5 +1,9 @@
 //! Receivers: each takes datagrams of a source, repeats them on wires, submits their samples to a pool, and counts them at a
 //! desk. Streams of lines are read, submitted and counted too.
+//!
+//! `sd_serve` runs each receiver, and the keeper of streams, in a thread. They wait for their source, for the turns of shards and
+//! for the desk's, and take no memory. A send that fails is counted, and its datagram is submitted all the same. They open
+//! nothing and answer nobody; the clock is asked for the desk alone.
 #![tactic(auto)]
 
 mod account;

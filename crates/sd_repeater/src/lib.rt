@@ -1,4 +1,8 @@
 //! The repeater: each datagram, sent on as it came.
+//!
+//! `sd_replay` and the receivers of `sd_receive` send each packet so, to the targets of the repeater. A send that fails is
+//! counted and stops no other, and nothing is sent twice. It takes no memory, and knows no sockets: a wire is whatever is a
+//! `Wire`.
 #![tactic(auto)]
 
 ghost use Rattle.std.specs.Prelude.{◌<◌, ◌^◌, length, map};

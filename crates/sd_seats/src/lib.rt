@@ -1,5 +1,8 @@
 //! What a turn with shares and a turn with a history have in common: what a seat knows, the rule
 //! of the value behind the turn, its steps, and how a caller waits.
+//!
+//! `sd_ledger` and `sd_turn` are made of it. Only `TurnTable::open` takes memory. Who finds the turn taken tries a while, and
+//! then sleeps until it is woken. That a caller comes to its turn, and in which order callers do, no clause says.
 #![tactic(auto)]
 
 mod behind;

@@ -1,4 +1,9 @@
 //! The server's workers, over one pool and one desk.
+//!
+//! `sd_top` takes the room, opens all objects, and calls `serve`: the flusher, the keeper of the admin door, the receivers and,
+//! where the settings ask for them, the keeper of streams and the outlets' workers run side by side; then it makes the last
+//! round, and closes the pool and the desk. All memory is taken where a room is opened, as in `ServerRoom::open`, and none later.
+//! It opens no object and writes no totals. That the workers come to their end, no clause says.
 #![tactic(auto)]
 
 mod beside;

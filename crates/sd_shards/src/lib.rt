@@ -1,4 +1,7 @@
 //! The shards of a replay, over which samples are spread by their keys.
+//!
+//! `sd_replay` files datagrams and swaps with them, and `sd_command` deletes and dumps. A server has `sd_pool` in their place.
+//! All memory is taken in `Shards::open`. They have one caller, and no call waits.
 #![tactic(auto)]
 
 mod book;

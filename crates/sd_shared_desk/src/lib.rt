@@ -1,4 +1,8 @@
 //! The desk that threads share: it stands behind a turn, and each of its thirteen numbers is the sum of what its callers added.
+//!
+//! The server's workers call it: receivers add tallies, rounds take them and mark, the keepers of doors count faults, and
+//! sessions set the health and ask for the facts. Each call waits for the desk's turn. Only `open` takes memory. It reads no
+//! clock: moments come with the calls.
 #![tactic(auto)]
 
 mod ask;

@@ -141,6 +141,12 @@ fn replay_files<
 /// of the repeater, where the settings name it, and its samples are filed; each flush gives the backends that they name the
 /// record's text; and the output gets the reply to each admin command. It gets the totals at the script's end. Once the
 /// settings are accepted, the flags of `backs` say which backends they name.
+///
+/// `serve SETTINGS` reads the settings file, opens what they name, and runs receivers, the flusher, the keepers of the doors and
+/// the workers of outlets side by side until all have ended; then it makes a last round, and the output gets the totals.
+///
+/// `proxy SETTINGS` reads the settings file, and sends each line of the datagrams to the node that owns its name among those that
+/// the checker finds up, until all sources and the beat have ended; then the output gets the totals.
 pub fn statsd<
     R: Source,
     O: Sink,

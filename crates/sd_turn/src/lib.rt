@@ -1,4 +1,7 @@
 //! A value behind a turn, with one history of all changes that contracts alone see.
+//!
+//! `sd_pool` puts each shard behind one. A call waits for the turn, and the change itself for nobody. Only `open` takes memory:
+//! the history has no bytes.
 #![tactic(auto)]
 
 mod history;

@@ -1,4 +1,8 @@
 //! Workers that run side by side, each in a thread of its own.
+//!
+//! `sd_serve` runs the server's workers by it, and `sd_relay` those of a proxy. Each worker is run once, and all have ended when
+//! a call returns. Where the machine gives no thread they run one after another, which no clause tells. It knows nothing of what
+//! they do.
 #![tactic(auto)]
 
 mod worker;

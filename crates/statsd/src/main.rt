@@ -1,4 +1,9 @@
 //! A StatsD daemon.
+//!
+//! `main` makes the objects of a `World`, those of `sd_net` and the adapters here for files, standard output, backends and wires,
+//! and calls `sd_top::statsd`. It prints what `explain` says on standard error, and exits with the status's number. It looks into
+//! no settings, line or text. The adapters tell contracts nothing of the bytes: that these are the ones that the theorem speaks
+//! of is by reading, and by `checks/program` and `checks/server`.
 #![tactic(auto)]
 
 ghost use Rattle.std.specs.Prelude.{◌≡◌, drop, length, IfOk};
