@@ -73,16 +73,10 @@ fn take(tables: &mut Tables, line: &[u8], key: &mut Vec<u8>) -> Option<()> {
 
 /// A number with at most six digits behind the point, and none where they are zero.
 fn put(text: &mut String, value: f64) {
-    let from = text.len();
-    write!(text, "{value:.6}").unwrap();
-    while text.ends_with('0') {
-        text.pop();
-    }
-    if text.ends_with('.') {
-        text.pop();
-    }
-    if &text[from..] == "-0" {
-        text.replace_range(from.., "0");
+    if value.fract() == 0.0 {
+        write!(text, "{}", value as i64).unwrap();
+    } else {
+        write!(text, "{}", (value * 1e6).round() / 1e6).unwrap();
     }
 }
 
