@@ -5,4 +5,3 @@ pub mod Statistics
 pub mod Values
 pub mod History
 pub mod Whereabouts
-pub mod Codes

@@ -2,7 +2,7 @@
 use Rattle.std.specs.Prelude.{ℕ, refl}
 use Rattle.std.specs.Coded.{Coded, code_by, coded×, coded_ℕ}
 use Rattle.sd_model_shard.specs.History.{Act}
-use Rattle.sd_model_shard.specs.Codes.{act_code}
+use Rattle.sd_shard.specs.Codes.{act_code}
 use Rattle.sd_pool.specs.Noted.{Noted}
 
 abbrev pub noted_code : Coded Noted

@@ -2,7 +2,7 @@
 use Rattle.std.specs.Prelude.{List, refl}
 use Rattle.std.specs.Coded.{Coded, code_by, coded×, coded_list}
 use Rattle.sd_model_shard.specs.Shard.{Limits, Policy, State, Table}
-use Rattle.sd_model_shard.specs.Codes.{limits_code, policy_code, state_code, table_code}
+use Rattle.sd_shard.specs.Codes.{limits_code, policy_code, state_code, table_code}
 use Rattle.sd_shards.specs.Shards.{Group}
 
 abbrev pub group_code : Coded Group
