@@ -3,3 +3,4 @@ pub mod WordLemmas
 pub mod CountLemmas
 pub mod OrderLemmas
 pub mod SentLemmas
+pub mod WireLemmas

@@ -7,6 +7,7 @@ pub mod Admin
 pub mod Replies
 pub mod Counts
 pub mod Backends
+pub mod WireSends
 pub mod Repeater
 pub mod Callers
 pub mod Replying

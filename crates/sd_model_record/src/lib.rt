@@ -1,15 +1,17 @@
-//! The definitions of a flush and of admin commands: the record of a flush, what the server counts of itself, the texts that
-//! backends get, what an admin's line asks for, and the replies. The functions have no code, and each states a law of the
-//! definitions.
+//! The definitions of a flush, of sends and of admin commands: the record of a flush, what the server counts of itself, the
+//! texts that backends get, what sends do to wires, what an admin's line asks for, and the replies. The functions have no
+//! code, and each states a law of the definitions.
 //!
 //! `sd_desk`, `sd_record`, `sd_graphite`, `sd_console` and `sd_admin` cite them for what they do; `sd_replay`, the server's
-//! workers and the definitions of replays and servers for what it comes to.
+//! workers, the proxy and the definitions of replays, servers and proxies for what it comes to.
 #![tactic(auto)]
 
 mod admin;
 mod desk;
 mod texts;
+mod wires;
 
 pub use admin::{deletions_have_names, lines_have_words, sets_are_not_shown};
 pub use desk::{desks_are_balanced, desks_count, desks_keep_counts, parts_add_up};
 pub use texts::empty_lists_send_all;
+pub use wires::sends_are_packets;
