@@ -8,7 +8,7 @@ use Rattle.sd_model_shard.specs.Whereabouts.{taken_in, dropped_in, told_by}
 use Rattle.sd_model_record.specs.Record.{Tally}
 use Rattle.sd_model_record.specs.Desk.{last_counted}
 use Rattle.sd_model_record.specs.Counts.{Part, HasCounted, plus, of_tally, of_sends}
-use Rattle.sd_model_record.specs.Repeater.{Sending, AfterSendings, failures}
+use Rattle.sd_model_record.specs.Repeater.{Sending, AreRepeated, failures}
 use Rattle.sd_model_serve.specs.Acts.{Adds, events_of, asks, told_in}
 
 -- what so many packets and pieces count for, with the pieces that are bad and the samples that were dropped; each number
@@ -46,7 +46,7 @@ pub record PassesOn (read : List (List ℕ)) (sendings : List Sending) (source s
   pub given : source.told ≡ with_datagrams read source_now.told
   pub repeated : map (λ s. s.packet) sendings ≡ read
   pub every_wire : All (λ s. length s.failed ≡ length wires) sendings
-  pub sends : AfterSendings sendings wires wires_now
+  pub sends : AreRepeated sendings wires wires_now
 
 -- The datagrams that a source has given since were so sent on, their good samples were submitted, and what they count for was
 -- added at the desk, with the sends that failed.
