@@ -8,5 +8,4 @@ pub mod NextLemmas
 pub mod Numbers
 pub mod ReadingLemmas
 pub mod ReplayLemmas
-pub mod SendingLemmas
 pub mod EarlierLemmas

@@ -8,7 +8,7 @@ use Rattle.sd_model_shard.specs.Whereabouts.{arrivals}
 use Rattle.sd_model_serve.specs.Accounting.{AreAccounted}
 use Rattle.sd_model_replay.specs.Settings.{limits_of, policy_of}
 use Rattle.sd_model_record.specs.Backends.{Backend, Graphite, Console}
-use Rattle.sd_model_record.specs.Repeater.{AfterSendings}
+use Rattle.sd_model_record.specs.Repeater.{AreRepeated}
 use Rattle.sd_model_replay.specs.Script.{script_text, IsLegal}
 use Rattle.sd_model_replay.specs.Replay.{Played, IsOutcome, home_of, first_run, form_of, run_of, history_at, samples_at, rounds, deliveries, sendings}
 use Rattle.sd_model_settings.specs.Settings.{Settings}
@@ -55,4 +55,4 @@ pub record AccountingTheorem (settings : Settings) (course : Course) (old new : 
   pub texts : (back : Backend) → AfterDeliveries (deliveries settings back course.played) (seen_at back old) (seen_at back new)
   -- each packet was sent as it came on the wires of the targets, in order: it stands at the end of those whose send didn't fail,
   -- and each other one's count of faults rose; wires without a target are untouched
-  pub sends : AfterSendings (sendings course.played) old.wires new.wires
+  pub sends : AreRepeated (sendings course.played) old.wires new.wires

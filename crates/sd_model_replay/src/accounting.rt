@@ -1,6 +1,5 @@
 ghost use Rattle.std.specs.Prelude.{◌≡◌, ◌<◌, ◌≤◌, ℕ, List, map};
 ghost use Rattle.std.specs.List.{AllByRecursion, range_with_len};
-ghost use Rattle.sd_model_outside.specs.Outside.{Object, Packets, RoseBy, Used};
 ghost use Rattle.sd_model_shard.specs.History.{part_of, state_after};
 ghost use Rattle.sd_model_shard.specs.Whereabouts.{arrivals};
 ghost use Rattle.sd_model_record.specs.Record.{record_rows};
@@ -8,7 +7,6 @@ ghost use Rattle.sd_model_record.specs.Callers.{flusher};
 ghost use Rattle.sd_model_serve.specs.Accounting.{AreAccounted};
 ghost use Rattle.sd_model_serve.specs.Served.{Ran};
 ghost use Rattle.sd_model_replay.specs.Settings.{limits_of, policy_of};
-ghost use Rattle.sd_model_record.specs.Repeater.{AfterSendings, HasPackets, Sending, missed_on, sent_on, wire_at};
 ghost use Rattle.sd_model_replay.specs.Script.{IsLegal};
 ghost use Rattle.sd_model_replay.specs.Asked.{asked_in, brought_in};
 ghost use Rattle.sd_model_replay.specs.Replay.{Played, first_run, form_of, history_at, home_of, records, rounds, run_of, samples_at};
@@ -43,17 +41,4 @@ pub fn records_are_documented()
     ensures statistics { (settings : Settings) (played : List Played)
         → map (λ r. r.rows) (records settings played) ≡ map (λ r. record_rows (plan_of settings) (map r.tables (range_with_len 0 settings.sizes.shards))) (rounds settings played) }
     ensures times { (settings : Settings) (played : List Played) → map (λ r. r.ts) (records settings played) ≡ map (λ r. r.ts) (rounds settings played) }
-{}
-
-/// A wire that tells its packets has those whose send on it didn't fail, in order, behind those that it had. Its count of
-/// faults rose by as many as failed there, or by more; and where none did, it stayed. So a wire lacks at most as many packets
-/// as its faults rose by.
-pub fn sendings_are_packets()
-    ensures packets { (sendings : List Sending) (i : ℕ) (packets : List (List ℕ)) (old new : List Object)
-        → (wire_at i old).told ≡ Packets packets → AfterSendings sendings old new → HasPackets packets (sent_on i sendings) (wire_at i new).told }
-    ensures used { (sendings : List Sending) (i : ℕ) (old new : List Object) → AfterSendings sendings old new → Used (wire_at i old) (wire_at i new) }
-    ensures faults { (sendings : List Sending) (i : ℕ) (old new : List Object)
-        → AfterSendings sendings old new → RoseBy (missed_on i sendings) (wire_at i old).faults (wire_at i new).faults }
-    ensures steady { (sendings : List Sending) (i : ℕ) (old new : List Object)
-        → AfterSendings sendings old new → missed_on i sendings ≡ 0 → (wire_at i new).faults ≡ (wire_at i old).faults }
 {}
