@@ -3,8 +3,9 @@ use Rattle.std.specs.Prelude.{ℕ, Bool, true, false, List, length, ◌++◌, co
 use Rattle.std.specs.List.{range_with_len}
 use Rattle.sd_model_settings.specs.Entries.{Node}
 use Rattle.sd_model_record.specs.Desk.{counted}
+use Rattle.sd_model_record.specs.WireSends.{WireSend}
 use Rattle.sd_model_replay.specs.Totals.{total_line}
-use Rattle.sd_model_proxy.specs.Sends.{WireSend, sends_to}
+use Rattle.sd_model_proxy.specs.Sends.{sends_to}
 use Rattle.sd_model_proxy.specs.Routes.{Routed, Fate, WasBad, WasUnowned, WasSent, WasNotSent, fate_of}
 
 -- What a proxy counted: datagrams; lines, those that were bad, those that were sent, those that had no owner; and sends that

@@ -1,4 +1,4 @@
-//! The definitions of a proxy: where each line of a datagram goes, what that does to the wires of the nodes, and what is
+//! The definitions of a proxy: where each line of a datagram goes, which sends the wires of the nodes get, and what is
 //! counted. The functions have no code, and each states a law of the definitions.
 //!
 //! `sd_proxy` and `sd_relay` cite them, and so do the definitions of health checks and of a call. They speak of lines, and not of
@@ -6,9 +6,7 @@
 #![tactic(auto)]
 
 mod routes;
-mod sends;
 mod totals;
 
 pub use routes::{all_up_all_owned, lines_go_to_owners};
-pub use sends::{wires_have_their_lines, wires_lack_by_faults};
 pub use totals::{lines_have_one_fate, totals_add_up, wires_add_up};

@@ -1,8 +1,8 @@
 ghost use Rattle.std.specs.Prelude.{◌≡◌, ℕ, ◌+◌, ◌<◌, List, [], ◌∷◌, ◌++◌, length};
 ghost use Rattle.sd_model_settings.specs.Entries.{Node};
 ghost use Rattle.sd_model_record.specs.Desk.{last_counted};
+ghost use Rattle.sd_model_record.specs.WireSends.{failed_among, packets_of};
 ghost use Rattle.sd_model_proxy.specs.Routes.{Routed};
-ghost use Rattle.sd_model_proxy.specs.Sends.{failed_among, packets_of};
 ghost use Rattle.sd_model_proxy.specs.Relays.{Relay, relay_totals, relays_totals};
 ghost use Rattle.sd_model_proxy.specs.Totals.{ProxyTotals, how_many, is_not_sent, is_sent, over_wires, sums_of_totals, totals_of_lines};
 
