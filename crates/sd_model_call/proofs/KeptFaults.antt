@@ -2,7 +2,8 @@
 use Rattle.std.proofs.Common.{◌≡◌, ℕ, zero, suc, ◌≤◌, List, [], ◌∷◌, set, refl, sym, ap, subst, ◌∙◌, arith, Option, Some, None, inl, inr}
 use Rattle.sd_model_outside.specs.Outside.{Place, File, Object, Used, HasRead, opened}
 use Rattle.sd_model_record.specs.Backends.{Graphite, Console}
-use Rattle.sd_model_record.specs.Repeater.{wire_at}
+use Rattle.sd_model_record.specs.WireSends.{wire_at}
+use Rattle.sd_model_record.specs.Repeater.{sends_on}
 use Rattle.sd_model_replay.specs.Replay.{deliveries, sendings}
 use Rattle.sd_model_replay.specs.AccountingTheorem.{Course, AccountingTheorem}
 use Rattle.sd_model_replay.specs.Ends.{End, Complete, Faulted, ReadFailed, WriteFailed, WornOut, OutputAfter}
@@ -12,7 +13,7 @@ use Rattle.sd_model_call.specs.Opening.{World, Opening, Part, OfSettings, OfScri
 use Rattle.sd_model_call.specs.Call.{Account, Answer, Done, Answers, AnswersReplay, Accounts, HasReplayed, IsNotTaken, IsScripted, NotBegun, NotTaken, OnlyOutput, StopsAmong, WritesTotals}
 use Rattle.sd_model_call.specs.Completeness.{start_of}
 use Rattle.sd_model_outside.proofs.DeliveryLemmas.{all_counts}
-use Rattle.sd_model_replay.proofs.SendingLemmas.{wire_counts}
+use Rattle.sd_model_record.proofs.WireLemmas.{sends_count}
 use Rattle.sd_model_call.proofs.BegunLemmas.{Same, at_same, same_faults}
 use Rattle.sd_model_call.proofs.CallEnds.{replayed}
 use Rattle.sd_model_settings.specs.Settings.{Settings}
@@ -140,7 +141,7 @@ module _ (old new : World) where
         graphite = omega (arith, same.graphite, graphite.used.faults);
         console = omega (arith, same.console, console.used.faults);
         output = used_next old.seen.output begin.output new.seen.output (used_same old.seen.output begin.output same.output) (output_used h.values h.end r.course begin.output new.seen.output r.ends.output);
-        wires = λ i. omega (arith, at_same (λ o. o.faults) i begin.wires old.seen.wires same.wires, (wire_counts (sendings r.course.played) i begin.wires new.seen.wires r.theorem.sends).used.faults);
+        wires = λ i. omega (arith, at_same (λ o. o.faults) i begin.wires old.seen.wires same.wires, (sends_count (sends_on i (sendings r.course.played)) (wire_at i begin.wires) (wire_at i new.seen.wires) (r.theorem.sends.each i)).used.faults);
       }
 
   kept_by : (name script : List ℕ) (answer : Answer) (a : Account) → AccountingTheorem a.force a.course a.start a.end → AnswersReplay name script answer a old new → Kept old new

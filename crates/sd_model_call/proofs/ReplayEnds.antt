@@ -11,7 +11,8 @@ use Rattle.sd_model_record.specs.Backends.{Backend, Graphite, Console, mark_of}
 use Rattle.sd_model_replay.specs.Script.{Command, Packet, Flush, Admin, spelled, end_word, script_text, IsLegal, BeginsEnd, BeginsRecord}
 use Rattle.sd_model_replay.specs.Next.{ScriptFlaw, Next, Carried, Ending, Faulty, Begins}
 use Rattle.sd_model_settings.specs.Entries.{Target}
-use Rattle.sd_model_record.specs.Repeater.{AfterSendings, missed_on, wire_at, Sending}
+use Rattle.sd_model_record.specs.WireSends.{failed_among, wire_at}
+use Rattle.sd_model_record.specs.Repeater.{AreRepeated, sends_on}
 use Rattle.sd_model_shard.specs.Shard.{table_of}
 use Rattle.sd_model_replay.specs.Replay.{Outcome, Played, Run, IsOutcome, first_run, run_of, play, rounds_from, deliveries, sendings}
 use Rattle.sd_model_replay.specs.Output.{output_in, output_of}
@@ -24,7 +25,7 @@ use Rattle.sd_model_replay.proofs.ReadingLemmas.{Behind, ended_script, cut_scrip
 use Rattle.sd_model_replay.proofs.NextLemmas.{one_next, next_stays}
 use Rattle.sd_model_outside.proofs.DeliveryLemmas.{all_counts, none_missed, written_mark}
 use Rattle.sd_model_replay.proofs.ReplayLemmas.{delivery_of}
-use Rattle.sd_model_replay.proofs.SendingLemmas.{wire_counts}
+use Rattle.sd_model_record.proofs.WireLemmas.{failed_among-sends_on, sends_count}
 use Rattle.sd_model_settings.specs.Settings.{Settings}
 
 -- what a script tells that it has left, where it told what it had
@@ -324,20 +325,16 @@ module _ (settings : Settings) where
 
   -- no packet was missed on the wire of a target
   abbrev AreAllSent : List Played → Type 0
-  AreAllSent played = (i : ℕ) → i < length (targets_of settings) → missed_on i (sendings played) ≡ 0
-
-  -- a packet more, before others
-  missed-packet : (packet : List ℕ) (failed : List Bool) (rest : List Sending) (i : ℕ) → missed_on i (record { packet = packet; failed = failed } ∷ rest) ≡ fault_of_send (get_or failed i false) + missed_on i rest
-  missed-packet packet failed rest i = sum_by-cons (λ (s : Sending). fault_of_send (get_or s.failed i false)) (record { packet = packet; failed = failed }) rest
+  AreAllSent played = (i : ℕ) → i < length (targets_of settings) → failed_among (sends_on i (sendings played)) ≡ 0
 
   -- one record, before others that were carried out well
   one_well : (run : Run) (c : Command) (outcome : Outcome) (played : List Played) → IsOutcome settings c outcome → IsMet run (record { command = c; outcome = outcome } ∷ played) → AreAllSent (record { command = c; outcome = outcome } ∷ played)
       → (IsMet (play settings run (record { command = c; outcome = outcome })) played → AreAllSent played → played ≡ map (well settings) (commands_of played))
       → record { command = c; outcome = outcome } ∷ played ≡ well settings c ∷ map (well settings) (commands_of played)
   one_well run (Packet who moment datagram) outcome played is met sent others =
-      let failed = none_failed outcome.failed (targets_of settings) is.1 (λ i below. omega (arith, sent i below, missed-packet datagram outcome.failed (sendings played) i)) in
+      let failed = none_failed outcome.failed (targets_of settings) is.1 (λ i below. omega (arith, sent i below, failed_among-sends_on datagram outcome.failed (sendings played) i)) in
       let marks = is.0 in
-      ap (λ ps. record { command = Packet who moment datagram; outcome = outcome } ∷ ps) (others met (λ i below. omega (arith, sent i below, missed-packet datagram outcome.failed (sendings played) i)))
+      ap (λ ps. record { command = Packet who moment datagram; outcome = outcome } ∷ ps) (others met (λ i below. omega (arith, sent i below, failed_among-sends_on datagram outcome.failed (sendings played) i)))
       ∙ (λ i. record { command = Packet who moment datagram; outcome = record { marks = marks i; failed = failed i } } ∷ map (well settings) (commands_of played))
   one_well run (Flush ts) outcome played is met sent others =
       let graphite = written_or_unused (is_used settings Graphite) outcome.marks.graphite (is.1 Graphite) (λ on. omega (arith, met Graphite on, missed-flush run ts outcome played Graphite)) in
@@ -362,8 +359,8 @@ played_well settings old new course theorem none =
     let played = course.played in
     let met : IsMet settings (first_run played) played = λ back on. none_missed (missed (deliveries settings back played)) (seen_at back old) (seen_at back new) (none.backends back on)
     (all_counts (deliveries settings back played) (seen_at back old) (seen_at back new) (theorem.texts back)) in
-    let sent : AreAllSent settings played = λ i below. none_missed (missed_on i (sendings played)) (wire_at i old.wires) (wire_at i new.wires) (none.wires i below)
-    (wire_counts (sendings played) i old.wires new.wires theorem.sends) in
+    let sent : AreAllSent settings played = λ i below. none_missed (failed_among (sends_on i (sendings played))) (wire_at i old.wires) (wire_at i new.wires) (none.wires i below)
+    (sends_count (sends_on i (sendings played)) (wire_at i old.wires) (wire_at i new.wires) (theorem.sends.each i)) in
     all_well settings (first_run played) played theorem.used met sent
 
 pub carries_out_well : (settings : Settings) (old new : Seen) (commands : List Command) (rest : List ℕ) → NoneMissed settings old new → CarriedOut settings old new commands rest → CarriedOutWell settings old new commands
@@ -371,6 +368,6 @@ carries_out_well settings old new commands rest none out =
     let alike : out.course.played ≡ map (well settings) commands = played_well settings old new out.course out.theorem none ∙ ap (map (well settings)) out.all in
     record {
       backends = λ back. subst (λ ps. AfterDeliveries (deliveries settings back ps) (seen_at back old) (seen_at back new)) alike (out.theorem.texts back);
-      wires = subst (λ ps. AfterSendings (sendings ps) old.wires new.wires) alike out.theorem.sends;
+      wires = subst (λ ps. AreRepeated (sendings ps) old.wires new.wires) alike out.theorem.sends;
       output = subst (λ ps. new.output ≡ given (output_of settings ps ++ totals_text (totals_after settings ps)) old.output) alike out.output;
     }

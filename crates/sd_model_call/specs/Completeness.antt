@@ -7,7 +7,8 @@ use Rattle.sd_model_replay.specs.Settings.{is_used, targets_of}
 use Rattle.sd_model_record.specs.Backends.{Backend}
 use Rattle.sd_model_replay.specs.Script.{Command, end_word, script_text, IsLegal}
 use Rattle.sd_model_replay.specs.Next.{ScriptFlaw, Faulty, Begins}
-use Rattle.sd_model_record.specs.Repeater.{AfterSendings, wire_at}
+use Rattle.sd_model_record.specs.WireSends.{wire_at}
+use Rattle.sd_model_record.specs.Repeater.{AreRepeated}
 use Rattle.sd_model_replay.specs.Replay.{deliveries, sendings}
 use Rattle.sd_model_replay.specs.Output.{output_of}
 use Rattle.sd_model_replay.specs.Totals.{totals_after, totals_text}
@@ -110,5 +111,5 @@ pub record CarriedOut (settings : Settings) (old new : Seen) (commands : List Co
 -- target got each packet, and the output got their replies and then their totals
 pub record CarriedOutWell (settings : Settings) (old new : Seen) (commands : List Command) : Type 0 where
   pub backends : (back : Backend) → AfterDeliveries (deliveries settings back (map (well settings) commands)) (seen_at back old) (seen_at back new)
-  pub wires : AfterSendings (sendings (map (well settings) commands)) old.wires new.wires
+  pub wires : AreRepeated (sendings (map (well settings) commands)) old.wires new.wires
   pub output : (let played = map (well settings) commands in new.output ≡ given (output_of settings played ++ totals_text (totals_after settings played)) old.output)

@@ -4,7 +4,7 @@ use Rattle.sd_model_outside.specs.Outside.{Place, File, Host, Object, Untold, fr
 use Rattle.sd_model_settings.specs.Settings.{SettingsFlaw, settings, Settings}
 use Rattle.sd_model_settings.specs.Entries.{Target}
 use Rattle.sd_model_replay.specs.Settings.{targets_of, is_used}
-use Rattle.sd_model_record.specs.Repeater.{wire_at}
+use Rattle.sd_model_record.specs.WireSends.{wire_at}
 use Rattle.sd_model_replay.specs.AccountingTheorem.{Seen}
 use Rattle.sd_model_record.specs.Backends.{Graphite, Console}
 

@@ -4,7 +4,7 @@ use Rattle.std.specs.Prelude.{◌≡◌, ◌⊎◌, ℕ, ◌<◌, ⊤, List, Som
 use Rattle.sd_model_outside.specs.Outside.{File, Left, Object, Rose, last_count}
 use Rattle.sd_model_outside.specs.Turns.{IsSpent}
 use Rattle.sd_model_settings.specs.Settings.{Settings}
-use Rattle.sd_model_record.specs.Repeater.{wire_at}
+use Rattle.sd_model_record.specs.WireSends.{wire_at}
 use Rattle.sd_model_serve.specs.Ends.{most_turns}
 use Rattle.sd_model_call.specs.Words.{Proxy, form}
 use Rattle.sd_model_call.specs.Opening.{Part, OfSettings, OfSource, OfBeat, OfWire, World, IsAccepted, IsFlawed, OnlySettings, source_at}

@@ -3,7 +3,7 @@
 use Rattle.std.specs.Prelude.{◌≡◌, ◌⊎◌, ℕ, ◌+◌, ◌<◌, min, Bool, true, ⊤, List, Some}
 use Rattle.sd_model_outside.specs.Outside.{File, Left, Object, Rose, last_count}
 use Rattle.sd_model_outside.specs.Turns.{IsSpent}
-use Rattle.sd_model_record.specs.Repeater.{wire_at}
+use Rattle.sd_model_record.specs.WireSends.{wire_at}
 use Rattle.sd_model_serve.specs.Doors.{Visit, ServesDoor}
 use Rattle.sd_model_serve.specs.Ends.{most_turns}
 use Rattle.sd_model_stream.specs.Streams.{AreStreamsOf, Stream, any_worn}
