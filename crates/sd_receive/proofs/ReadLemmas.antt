@@ -1,18 +1,18 @@
 -- What a receiver read, one turn after the other.
-use Rattle.std.proofs.Common.{suc, ◌≡◌, ℕ, ◌+◌, ◌<◌, Bool, List, [], ◌∷◌, ◌++◌, refl, sym, ap, subst, ◌∙◌, arith, append_assoc}
+use Rattle.std.proofs.Common.{◌≡◌, ℕ, ◌+◌, ◌<◌, List, [], ◌∷◌, ◌++◌, refl, sym, ap, subst, ◌∙◌, arith, append-nil, append_assoc}
 use Rattle.std.specs.Prelude.{length, All}
 use Rattle.std.proofs.lemmas.List.Elements.{All-nil, All-cons, All-append}
 use Rattle.std.proofs.lemmas.List.{map-append}
 use Rattle.std.proofs.lemmas.List.Sums.{sum_by-append, sum_by-cons}
 use Rattle.sd_model_outside.specs.Outside.{Object, Told, Untold, Left, Number, Bytes, Buffer, Rounds, Packets, Datagrams, Ticks, Sessions, Replies, Rose}
 use Rattle.sd_model_outside.specs.Turns.{with_datagrams}
-use Rattle.sd_model_outside.specs.Wires.{AreSent}
 use Rattle.sd_model_shard.specs.History.{History}
 use Rattle.sd_model_record.specs.Record.{Tally}
 use Rattle.sd_model_record.specs.Desk.{add_tally, no_tally, counted}
 use Rattle.sd_model_record.specs.Counts.{Part, HasCounted, plus, nothing, of_tally, of_sends}
-use Rattle.sd_model_record.specs.Repeater.{Sending, AfterSendings, IsRepeated, failures}
+use Rattle.sd_model_record.specs.Repeater.{Sending, AreRepeated, failures}
 use Rattle.sd_model_record.proofs.CountLemmas.{counted_next}
+use Rattle.sd_model_record.proofs.WireLemmas.{AreRepeated-next, AreRepeated-none, AreRepeated-one, length-sent}
 use Rattle.sd_model_serve.specs.Ends.{most_turns}
 use Rattle.sd_model_serve.specs.Receiving.{HasReceived, failed_sends}
 use Rattle.sd_outside.specs.declared.datagrams.Ended.{Ended}
@@ -50,28 +50,6 @@ given_none (Ticks left) = refl
 given_none (Sessions left back) = refl
 given_none (Replies left questions) = refl
 
-AfterSendings-next : (xs ys : List Sending) (old mid new : List Object) → AfterSendings xs old mid → AfterSendings ys mid new → AfterSendings (xs ++ ys) old new
-AfterSendings-next [] ys old mid new first second = subst (λ o. AfterSendings ys o new) first second
-AfterSendings-next (x ∷ xs) ys old mid new first second = (first.0, first.1, AfterSendings-next xs ys first.0 mid new first.2 second)
-
--- a packet that was sent on all wires was repeated
-pub all_repeated : (packet : List ℕ) (failed : List Bool) (old new : List Object) → AreSent packet failed old new → IsRepeated packet failed old new
-all_repeated packet [] [] [] h = refl
-all_repeated packet [] [] (n ∷ new) h = absurd h
-all_repeated packet [] (o ∷ old) new h = absurd h
-all_repeated packet (f ∷ failed) [] new h = absurd h
-all_repeated packet (f ∷ failed) (o ∷ old) [] h = absurd h
-all_repeated packet (f ∷ failed) (o ∷ old) (n ∷ new) h = (h.0, all_repeated packet failed old new h.1)
-
--- one send on each of the wires
-pub every_sent : (packet : List ℕ) (failed : List Bool) (old new : List Object) → AreSent packet failed old new → length failed ≡ length old
-every_sent packet [] [] [] h = refl
-every_sent packet [] [] (n ∷ new) h = absurd h
-every_sent packet [] (o ∷ old) new h = absurd h
-every_sent packet (f ∷ failed) [] new h = absurd h
-every_sent packet (f ∷ failed) (o ∷ old) [] h = absurd h
-every_sent packet (f ∷ failed) (o ∷ old) (n ∷ new) h = ap suc (every_sent packet failed old new h.1)
-
 module _ {shards : ℕ} where
   -- a turn that took nothing
   pub takes_none : (source source_now : Object) (wires : List Object) (own : ℕ → History) (part part_now : Part) → source_now.told ≡ source.told → HasCounted nothing part part_now
@@ -83,7 +61,7 @@ module _ {shards : ℕ} where
       given = sym same ∙ given_none source_now.told;
       repeated = refl;
       every_wire = All-nil (λ (s : Sending). length s.failed ≡ length wires);
-      sends = refl;
+      sends = AreRepeated-none wires;
     };
     filed = HasFiled-none own;
     counted = counted_as nothing (plus (of_tally no_tally) (of_sends 0)) part part_now (λ c few. no_counts c) counts;
@@ -103,8 +81,10 @@ module _ {shards : ℕ} where
         passed = record {
           given = given;
           repeated = refl;
-          every_wire = All-cons (λ (s : Sending). length s.failed ≡ length wires) sending [] takes.every_wire (All-nil (λ (s : Sending). length s.failed ≡ length wires));
-          sends = (wires_now, takes.sends, refl);
+          every_wire = All-cons (λ (s : Sending). length s.failed ≡ length wires) sending [] (length-sent datagram takes.failed wires wires_now takes.sends) (All-nil (λ (s : Sending). length s.failed ≡ length wires));
+          sends =
+              subst (λ ws. AreRepeated (sending ∷ []) ws wires_now) (append-nil wires)
+              (subst (AreRepeated (sending ∷ []) (wires ++ [])) (append-nil wires_now) (AreRepeated-one datagram takes.failed wires wires_now [] takes.sends));
         };
         filed = takes.filed;
         counted =
@@ -128,7 +108,7 @@ module _ {shards : ℕ} where
           every_wire =
               All-append (λ (s : Sending). length s.failed ≡ length u) first.sendings second.sendings first.passed.every_wire
               (subst (λ k. All (λ (s : Sending). length s.failed ≡ k) second.sendings) same second.passed.every_wire);
-          sends = AfterSendings-next first.sendings second.sendings u v w first.passed.sends second.passed.sends;
+          sends = AreRepeated-next first.sendings second.sendings u v w first.passed.sends second.passed.sends;
         };
         filed = FilesDatagrams-next first.read second.read f g h s t m n first.filed second.filed;
         counted =

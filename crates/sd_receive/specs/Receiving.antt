@@ -1,10 +1,11 @@
 -- What a receiver did, and how it ended.
-use Rattle.std.specs.Prelude.{◌≡◌, ℕ, ◌+◌, min, Bool, List, [], ◌∷◌, length}
+use Rattle.std.specs.Prelude.{◌≡◌, ℕ, ◌+◌, min, Bool, List, [], ◌∷◌}
 use Rattle.sd_model_outside.specs.Outside.{Object, last_count}
+use Rattle.sd_model_outside.specs.Wires.{AreSent}
 use Rattle.sd_model_shard.specs.History.{History}
 use Rattle.sd_model_record.specs.Counts.{Part, RoundsMade, HasCounted, plus, of_tally, of_sends}
 use Rattle.sd_model_record.specs.Record.{Tally}
-use Rattle.sd_model_record.specs.Repeater.{IsRepeated, failures}
+use Rattle.sd_model_record.specs.Repeater.{failures}
 use Rattle.sd_model_serve.specs.Ends as model
 use Rattle.sd_model_serve.specs.Ends.{EndsReceiver, Spent, Enough, WornOut}
 use Rattle.sd_model_serve.specs.Receiving.{FilesDatagrams, HasReceived}
@@ -18,8 +19,7 @@ use Rattle.sd_receive.specs.declared.received.Received.{Received}
 pub record TakesDatagram (shards : ℕ) (datagram : List ℕ) (wires wires_now : List Object) (own own_now : ℕ → History) (part part_now : Part) (tally : Tally) (taken : ℕ) : Type 0 where
   pub failed : List Bool
   pub filed : FilesDatagrams shards (datagram ∷ []) own own_now tally taken
-  pub every_wire : length failed ≡ length wires
-  pub sends : IsRepeated datagram failed wires wires_now
+  pub sends : AreSent datagram failed wires wires_now
   pub counted : HasCounted (plus (of_tally tally) (of_sends (failures failed))) part part_now
 
 -- why a receiver ended, after so many turns of its source
