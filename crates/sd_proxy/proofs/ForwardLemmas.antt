@@ -8,7 +8,7 @@ use Rattle.sd_model_proxy.specs.Routes.{Fate, WasBad, WasUnowned, WasSent, WasNo
 use Rattle.sd_model_text.specs.Lines.{lines}
 use Rattle.sd_model_proxy.specs.Sends.{AreForwarded}
 use Rattle.sd_model_proxy.specs.Totals.{ProxyTotals, add_totals, is_bad, is_not_sent, is_sent, is_unowned, no_totals, totals_of_lines}
-use Rattle.sd_model_proxy.proofs.SendLemmas.{AreSentFrom-next, AreSentFrom-none, AreSentFrom-nowhere, AreSentFrom-somewhere}
+use Rattle.sd_model_proxy.proofs.SendLemmas.{AreForwarded-next, AreForwarded-none, AreForwarded-nowhere, AreForwarded-somewhere}
 use Rattle.sd_model_proxy.proofs.TotalLemmas.{add_totals-next}
 use Rattle.sd_proxy.specs.Forwarding.{Forwards, SendsLine}
 use Rattle.sd_proxy.specs.Views.{totals_of_fate}
@@ -19,7 +19,7 @@ SendsLine-nowhere nodes line up wires goes is elsewhere =
     let r : Routed = record { line = line; up = up; is_failed = false } in
     record {
       is_failed = false;
-      sends = AreSentFrom-nowhere 0 nodes r wires (λ at behind. ap (goes_to at) (sym is) ∙ elsewhere at);
+      sends = AreForwarded-nowhere nodes r wires (λ at. ap (goes_to at) (sym is) ∙ elsewhere at);
       became = ap (λ (g : Route). fate_by g false) is;
     }
 
@@ -30,11 +30,10 @@ SendsLine-somewhere seen nodes line up place failed wires old new goes inside is
     let r : Routed = record { line = line; up = up; is_failed = failed } in
     let within : place < length (map seen wires) = subst (λ n. place < n) (sym (length-map _ _)) inside in
     let there : get_or (map seen wires) place (seen old) ≡ seen old = get_or-map seen wires place old (seen old) inside ∙ ap seen (sym is) in
-    let at : 0 + place ≡ place = omega arith in
     record {
       is_failed = failed;
       sends = subst (λ ws. AreForwarded nodes (r ∷ []) (map seen wires) ws) (sym (map-set seen wires place new))
-          (AreSentFrom-somewhere 0 place nodes r (map seen wires) (seen old) (seen new) (sym goes ∙ ap To (sym at)) within there has);
+          (AreForwarded-somewhere nodes r place (map seen wires) (seen old) (seen new) (sym goes) within there has);
       became = ap (λ (g : Route). fate_by g failed) goes;
     }
 
@@ -59,14 +58,14 @@ Forwards-line nodes line up wires wires_now f t t_now sent counts =
 
 -- no line, of so many datagrams
 pub Forwards-none : (nodes : List Node) (packets : ℕ) (wires : List Object) (t t_now : ProxyTotals) → t_now ≡ add_totals t (record no_totals { packets = packets }) → Forwards nodes packets [] wires wires t t_now
-Forwards-none nodes packets wires t t_now counts = record { routed = []; lines_are = refl; sends = AreSentFrom-none 0 nodes wires; counted = counts }
+Forwards-none nodes packets wires t t_now counts = record { routed = []; lines_are = refl; sends = AreForwarded-none nodes wires; counted = counts }
 
 -- lines behind lines
 pub Forwards-next : (nodes : List Node) (m n : ℕ) (xs ys : List (List ℕ × ℕ)) (a b c : List Object) (s t u : ProxyTotals) → Forwards nodes m xs a b s t → Forwards nodes n ys b c t u → Forwards nodes (m + n) (xs ++ ys) a c s u
 Forwards-next nodes m n xs ys a b c s t u first second = record {
   routed = first.routed ++ second.routed;
   lines_are = map-append line_and_set first.routed second.routed ∙ (λ i. first.lines_are i ++ second.lines_are i);
-  sends = AreSentFrom-next 0 nodes first.routed second.routed a b c first.sends second.sends;
+  sends = AreForwarded-next nodes first.routed second.routed a b c first.sends second.sends;
   counted = second.counted ∙ ap (λ x. add_totals x (totals_of_lines nodes n second.routed)) first.counted ∙ add_totals-next nodes m n first.routed second.routed s;
 }
 
