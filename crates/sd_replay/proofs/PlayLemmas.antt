@@ -27,7 +27,7 @@ use Rattle.sd_command.proofs.CommandLemmas.{deleted-at, idle_delete, line_carrie
 use Rattle.sd_model_settings.specs.Settings.{Settings}
 use Rattle.sd_model_replay.specs.Settings.{is_used, limits_of, policy_of, targets_of}
 use Rattle.sd_model_record.specs.Backends.{Backend, mark_of, text_of}
-use Rattle.sd_model_record.specs.Repeater.{AfterSendings, IsRepeated, failures}
+use Rattle.sd_model_record.specs.Repeater.{AreRepeated, failures}
 use Rattle.sd_model_replay.specs.Script.{Command, Packet, Flush, Admin, end_word, spelled, script_text, IsLegal}
 use Rattle.sd_model_replay.specs.Next.{ScriptFlaw, Faulty, Begins, IsUndecided}
 use Rattle.sd_model_serve.specs.Rounds.{Round, round_text}
@@ -39,7 +39,7 @@ use Rattle.sd_model_replay.specs.Ends.{Complete, Faulted, ReadFailed, WriteFaile
 use Rattle.sd_model_replay.proofs.AccountingLemmas.{are_accounted}
 use Rattle.sd_model_replay.proofs.HistoryLemmas.{arrivals-history_at, state-history_at}
 use Rattle.sd_model_outside.proofs.DeliveryLemmas.{AfterDeliveries-push}
-use Rattle.sd_model_replay.proofs.SendingLemmas.{AfterSendings-push}
+use Rattle.sd_model_record.proofs.WireLemmas.{AreRepeated-next, AreRepeated-none}
 use Rattle.sd_model_replay.proofs.ReplayLemmas.{run_before, run_of-push, output_of-push, deliveries-push, delivery_of, sendings-push, script_text-end, AllByRecursion-push}
 use Rattle.sd_shards.specs.Shards.{Group, AreAlike, numbers, state_at}
 use Rattle.sd_shards.specs.Filed.{filed_of, filed_at, replies_of, replies_at}
@@ -57,7 +57,7 @@ pub record Progress (settings : Settings) (script left : Told) (old new : Backen
   pub legal : AllByRecursion (λ p. IsLegal settings.sizes.receivers p.command) played
   pub used : AllByRecursion (λ p. IsOutcome settings p.command p.outcome) played
   pub texts : (back : Backend) → AfterDeliveries (deliveries settings back played) (old back) (new back)
-  pub sends : AfterSendings (sendings played) had has
+  pub sends : AreRepeated (sendings played) had has
   pub same_states : states ≡ (run_of settings (first_run played) played).shards
   pub same_desk : desk ≡ (run_of settings (first_run played) played).desk
   pub same_place : at ≡ text_length played
@@ -72,7 +72,7 @@ nothing_played settings script left backs wires states desk at r s d a = record 
   legal = tt;
   used = tt;
   texts = λ back. refl;
-  sends = refl;
+  sends = AreRepeated-none wires;
   same_states = s;
   same_desk = d;
   same_place = a;
@@ -209,7 +209,7 @@ module _ (settings : Settings) (some : 0 < settings.sizes.shards) (script left l
   -- whose text was read, and which left what it leaves
   one_more : (p : Played) → Reads left (spelled p.command) left' → IsLegal settings.sizes.receivers p.command → IsOutcome settings p.command p.outcome
       → ((back : Backend) → AfterDeliveries (deliveries settings back (so_far.played ++ p ∷ [])) (old back) (new' back))
-      → AfterSendings (sendings (so_far.played ++ p ∷ [])) had has'
+      → AreRepeated (sendings (so_far.played ++ p ∷ [])) had has'
       → ((i : ℕ) → i < settings.sizes.shards → state_at group' i ≡ asked_by settings some p.command i (state_at group i)) → desk' ≡ (play settings (before p) p).desk
       → at' ≡ min (at + length (spelled p.command)) last_count → More p
   one_more p text legal used after sent each d a =
@@ -240,13 +240,13 @@ module _ (settings : Settings) (some : 0 < settings.sizes.shards) (script left l
       (subst (λ (f : Backend → Object). AfterDeliveries (deliveries settings back so_far.played) (old back) (f back)) (sym kept) (so_far.texts back))
 
   -- and one that is no packet is sent on no wire
-  no_sending : (p : Played) → sendings (so_far.played ++ p ∷ []) ≡ sendings so_far.played → has' ≡ has → AfterSendings (sendings (so_far.played ++ p ∷ [])) had has'
-  no_sending p same kept = subst (λ ss. AfterSendings ss had has') (sym same) (subst (λ ws. AfterSendings (sendings so_far.played) had ws) (sym kept) so_far.sends)
+  no_sending : (p : Played) → sendings (so_far.played ++ p ∷ []) ≡ sendings so_far.played → has' ≡ has → AreRepeated (sendings (so_far.played ++ p ∷ [])) had has'
+  no_sending p same kept = subst (λ ss. AreRepeated ss had has') (sym same) (subst (λ ws. AreRepeated (sendings so_far.played) had ws) (sym kept) so_far.sends)
 
   -- a packet more: it is sent on, its samples are filed, and it is counted
   pub packet_more : (who moment : ℕ) (datagram : List ℕ) (failed : List Bool) → Reads left (spelled (Packet who moment datagram)) left' → IsLegal settings.sizes.receivers (Packet who moment datagram)
       → begun ≡ (before (record { command = Packet who moment datagram; outcome = record { marks = no_marks; failed = failed } })).desk
-      → length failed ≡ length (targets_of settings) → IsRepeated datagram failed has has'
+      → length failed ≡ length (targets_of settings) → AreRepeated (record { packet = datagram; failed = failed } ∷ []) has has'
       → ((i : ℕ) → i < length group.states → state_at group' i ≡ filed_at group who datagram i)
       → desk' ≡ with_repeater_faults (with_tally begun (packet_tally datagram (sum_by dropped_in (replies_at group who datagram))) moment) (failures failed)
       → at' ≡ min (at + length (spelled (Packet who moment datagram))) last_count → new' ≡ new
@@ -256,7 +256,7 @@ module _ (settings : Settings) (some : 0 < settings.sizes.shards) (script left l
       let counted_by : Desk → ℕ → Desk = λ e n. with_repeater_faults (with_tally e (packet_tally datagram n) moment) (failures failed) in
       one_more p text legal (refl, count)
       (no_delivery p (λ back. deliveries-push settings back so_far.played p ∙ append-nil (deliveries settings back so_far.played)) kept)
-      (subst (λ ss. AfterSendings ss had has') (sym (sendings-push so_far.played p)) (AfterSendings-push (sendings so_far.played) (record { packet = datagram; failed = failed }) had has has' so_far.sends sent))
+      (subst (λ ss. AreRepeated ss had has') (sym (sendings-push so_far.played p)) (AreRepeated-next (sendings so_far.played) (record { packet = datagram; failed = failed } ∷ []) had has has' so_far.sends sent))
       (λ i below. each i (omega (arith, below, by.count)) ∙ filed_by settings group who moment datagram i by)
       (d ∙ ap (counted_by begun) (replied_by settings (before p) group who moment datagram by (states_before p)) ∙ ap (λ e. counted_by e (sum_by dropped_in (replies_to settings (before p) p.command))) same_desk)
       a

@@ -1,4 +1,4 @@
-use Rattle.std.proofs.Common.{◌≡◌, ◌≢◌, ◌<◌, ℕ, ◌^◌, List, [], ◌++◌, map, take, drop, length, length-take, length-append, sym, subst, ap, ◌∙◌, refl, arith}
+use Rattle.std.proofs.Common.{◌≡◌, ◌≢◌, ◌<◌, ℕ, ◌^◌, List, [], ◌∷◌, ◌++◌, map, take, drop, length, length-take, length-append, sym, subst, ap, ◌∙◌, refl, arith}
 use Rattle.sd_model_outside.specs.Outside.{Object, Used, Rose, HasFailedBehind, given, put_back}
 use Rattle.sd_model_outside.specs.Wires.{AreSent}
 use Rattle.sd_model_outside.specs.Deliveries.{AfterMark, FitsUse}
@@ -14,7 +14,7 @@ use Rattle.sd_model_replay.specs.Settings.{is_used, limits_of, targets_of}
 use Rattle.sd_model_record.specs.Graphite.{graphite_text}
 use Rattle.sd_model_record.specs.Record.{Record, record_of}
 use Rattle.sd_model_record.specs.Backends.{Backend, Graphite, Console, text_of, mark_of as mark_at}
-use Rattle.sd_model_record.specs.Repeater.{IsRepeated, failures}
+use Rattle.sd_model_record.specs.Repeater.{AreRepeated, Sending, failures}
 use Rattle.sd_model_replay.specs.Replay.{packet_tally, Played, moment_of, desk_after_line, first_run, run_of}
 use Rattle.sd_model_replay.specs.Script.{Packet, Flush, Admin, IsLegal, end_word}
 use Rattle.sd_model_replay.specs.Next.{Faulty, Begins, IsUndecided}
@@ -29,7 +29,7 @@ use Rattle.sd_model_shard.specs.Whereabouts.{dropped_in}
 use Rattle.sd_replay.specs.Ends.{end_of}
 use Rattle.sd_desk.specs.Marks.{marks_of}
 use Rattle.sd_plan.specs.Entries.{target_view}
-use Rattle.sd_model_replay.proofs.SendingLemmas.{repeated_from, length-sent}
+use Rattle.sd_model_record.proofs.WireLemmas.{AreRepeated-one, length-sent}
 use Rattle.std.proofs.lemmas.List.{map-append, length-map, take-append-drop, length-drop}
 use Rattle.sd_script.specs.Flaws.{flaw_of}
 use Rattle.sd_script.specs.Reading.{left}
@@ -252,10 +252,11 @@ loop-turn-preserved g c =
           let behind = map g.L.Faulty.seen (drop n wires) in
           let sends : AreSent datagram failed (map g.L.Faulty.seen (take n wires)) (map g.L.Faulty.seen sent_on) =
           subst (λ bytes. AreSent bytes failed (map g.L.Faulty.seen (take n wires)) (map g.L.Faulty.seen sent_on)) w.body.ensures w.play_packet.ensures.played.sends in
-          let repeated : IsRepeated datagram failed (map g.L.Faulty.seen wires) (map g.L.Faulty.seen c.match-item.wires) =
-          subst (λ ws. IsRepeated datagram failed ws (map g.L.Faulty.seen c.match-item.wires)) (sym (map-append g.L.Faulty.seen (take n wires) (drop n wires)) ∙ ap (map g.L.Faulty.seen) (take-append-drop n wires))
-          (subst (λ ws. IsRepeated datagram failed (map g.L.Faulty.seen (take n wires) ++ behind) ws) (sym (ap (map g.L.Faulty.seen) after ∙ map-append g.L.Faulty.seen sent_on (drop n wires)))
-          (repeated_from datagram failed _ _ behind sends)) in
+          let sending : Sending = record { packet = datagram; failed = failed } in
+          let repeated : AreRepeated (sending ∷ []) (map g.L.Faulty.seen wires) (map g.L.Faulty.seen c.match-item.wires) =
+          subst (λ ws. AreRepeated (sending ∷ []) ws (map g.L.Faulty.seen c.match-item.wires)) (sym (map-append g.L.Faulty.seen (take n wires) (drop n wires)) ∙ ap (map g.L.Faulty.seen) (take-append-drop n wires))
+          (subst (λ ws. AreRepeated (sending ∷ []) (map g.L.Faulty.seen (take n wires) ++ behind) ws) (sym (ap (map g.L.Faulty.seen) after ∙ map-append g.L.Faulty.seen sent_on (drop n wires)))
+          (AreRepeated-one datagram failed _ _ behind sends)) in
           let count : length failed ≡ length (targets_of settings) =
           omega (arith, length-sent datagram failed _ _ sends, length-map (take n wires) g.L.Faulty.seen, length-take n wires, length-map c.targets_of-targets.result.now target_view, ap length c.targets_of-targets.ensures.targets, c.requires.wires, c.loop-turn.invariant.3) in
           let alike = subst (AreAlike group) (sym w.shards-is) w.play_packet.ensures.alike in
