@@ -4,6 +4,7 @@ use Rattle.sd_model_outside.specs.Outside.{File, Object}
 use Rattle.sd_model_outside.proofs.OutsideLemmas.{Reads-nil}
 use Rattle.sd_model_settings.specs.Settings as file
 use Rattle.sd_model_settings.specs.Defaults.{default_settings}
+use Rattle.sd_model_record.proofs.WireLemmas.{AreRepeated-none}
 use Rattle.sd_model_replay.specs.AccountingTheorem.{Seen, Course, AccountingTheorem}
 use Rattle.sd_model_replay.specs.Ends.{End, Replayed}
 use Rattle.sd_model_replay.proofs.AccountingLemmas.{are_accounted}
@@ -33,7 +34,7 @@ nothing_done now =
       state = λ i below. state-history_at plain i [];
       used = tt;
       texts = λ back. refl;
-      sends = refl;
+      sends = AreRepeated-none now.wires;
     }
 
 -- the account of a call that carried out nothing
