@@ -1,6 +1,6 @@
 -- What an answer by the ends of loops says of their objects: those of receivers over their sources, that of the worker of the beat, and
 -- others.
-use Rattle.std.proofs.Common.{◌≡◌, ◌⊎◌, ℕ, zero, suc, ◌+◌, ◌<◌, Bool, true, false, List, [], ◌∷◌, ◌++◌, length, refl, sym, ap, subst, ◌∙◌, inl, inr, arith}
+use Rattle.std.proofs.Common.{◌≡◌, ◌⊎◌, ℕ, zero, suc, ◌+◌, ◌<◌, Bool, true, false, List, [], ◌∷◌, ◌++◌, length, refl, sym, ap, ◌∙◌, inl, inr, arith}
 use Rattle.std.specs.Prelude.{◌||◌, min, if◌then◌else◌, ⊤}
 use Rattle.std.specs.List.{list_any}
 use Rattle.std.proofs.lemmas.List.Folds.{list_any-append}
@@ -8,7 +8,7 @@ use Rattle.sd_model_outside.specs.Outside.{Object, Rose, last_count}
 use Rattle.sd_model_outside.specs.Turns.{IsSpent}
 use Rattle.sd_model_serve.specs.Ends.{LoopEnd, Spent, Failed, Enough, WornOut, EndsReceiver, EndsFlusher, most_turns}
 use Rattle.sd_model_call.specs.Opening.{OfSource, OfBeat, source_at}
-use Rattle.sd_model_call.specs.Call.{Answer, Done, NotRead, NotWritten, Worn, cut_answer}
+use Rattle.sd_model_call.specs.Call.{Answer, Done, NotRead, NotWritten, Worn}
 use Rattle.sd_model_call.specs.Server.{by_beat, by_receivers, ends_answer, is_worn, turns_answer}
 use Rattle.sd_model_call.specs.ServerCompleteness.{SourceTookMost}
 

@@ -1,5 +1,5 @@
 -- How a call answers that is asked for the proxy, where nothing hinders it, and what its answers say of its objects.
-use Rattle.std.proofs.Common.{◌≡◌, ◌⊎◌, ℕ, ◌+◌, ◌<◌, List, [], ◌∷◌, ◌++◌, length, map, drop, refl, sym, ap, subst, ◌∙◌, Option, Some, None, Ok, Err, inl, inr, true, arith}
+use Rattle.std.proofs.Common.{◌≡◌, ◌⊎◌, ℕ, ◌+◌, List, [], ◌∷◌, length, map, drop, refl, sym, ap, subst, ◌∙◌, Option, Some, None, Ok, Err, inl, inr, true, arith}
 use Rattle.std.specs.Prelude.{min}
 use Rattle.std.specs.List.{AllByRecursion, list_any}
 use Rattle.std.proofs.lemmas.List.{length-map}
@@ -15,11 +15,11 @@ use Rattle.sd_model_call.specs.Call.{Answer, Done, NoMemory, NoForm, Misset, Bad
 use Rattle.sd_model_call.specs.Completeness.{IsBlocked, IsWhole}
 use Rattle.sd_model_call.specs.Server.{is_worn}
 use Rattle.sd_model_call.specs.ServerOpening.{source_openings}
-use Rattle.sd_model_call.specs.ServerCompleteness.{HasFaultOf, SourceTookMost}
+use Rattle.sd_model_call.specs.ServerCompleteness.{SourceTookMost}
 use Rattle.sd_model_call.specs.Proxy.{AnswersProxy, HasProxied, IsUnfit, ProxyAccounts, node_place, proxy_answer, proxy_begun, proxy_flaw, proxy_openings, relay_text}
 use Rattle.sd_model_call.specs.ProxyCompleteness.{AreRelaysSpent, AsksForProxy, IsOpenedToRelay, IsProxyCauseOf, IsRelayed, IsUnhinderedProxy, NoWireFailed, OneLoopTookMost}
 use Rattle.sd_model_call.proofs.BegunLemmas.{Same, all_numbered, accepted_so, at_same, has_flaw, not_begun, not_taken, same_start, uncut}
-use Rattle.sd_model_call.proofs.LoopEnds.{AreEnded, ComesFrom, OneSourceTookMost, all_done, comes_from, whole_done, worn_one}
+use Rattle.sd_model_call.proofs.LoopEnds.{AreEnded, ComesFrom, OneSourceTookMost, all_done, comes_from, worn_one}
 use Rattle.sd_model_call.proofs.Openings.{all_append}
 
 all_relayed : (s : Settings) → AllByRecursion (λ (o : Opening). IsOpenedToRelay o.part) (proxy_openings s)

@@ -16,7 +16,7 @@ use Rattle.sd_model_record.specs.Repeater.{AreRepeated, sends_on}
 use Rattle.sd_model_shard.specs.Shard.{table_of}
 use Rattle.sd_model_replay.specs.Replay.{Outcome, Played, Run, IsOutcome, first_run, run_of, play, rounds_from, deliveries, sendings}
 use Rattle.sd_model_replay.specs.Output.{output_in, output_of}
-use Rattle.sd_model_replay.specs.Totals.{Totals, totals_after, totals_text}
+use Rattle.sd_model_replay.specs.Totals.{Total, totals_after, totals_text}
 use Rattle.sd_model_replay.specs.AccountingTheorem.{Seen, Course, AccountingTheorem, seen_at}
 use Rattle.sd_model_replay.specs.Ends.{End, Complete, Faulted, ReadFailed, WriteFailed, WornOut, most_records, StopsFor, IsInReply, IsBrokenOff, EndsAs, Replayed, behind}
 use Rattle.sd_model_call.specs.Completeness.{EndsSo, IsSteady, IsUnhindered, IsCutOff, IsLongest, CarriedOut, CarriedOutWell, NoneMissed}
@@ -150,7 +150,7 @@ module _ (settings : Settings) (old new : Seen) (commands : List Command) (rest 
       ]
 
   -- a replay comes to the end of such a script, or a write failed
-  pub ends_whole : (end : End) → EndsAs settings end course old new → ((totals : Totals) × (end ≡ Complete totals)) ⊎ (end ≡ WriteFailed)
+  pub ends_whole : (end : End) → EndsAs settings end course old new → ((totals : List Total) × (end ≡ Complete totals)) ⊎ (end ≡ WriteFailed)
   ends_whole (Complete totals) ends = inl (totals, refl)
   ends_whole (Faulted at flaw) ends = absurd (no_stop (Faulty flaw) at tt ends.read)
   ends_whole ReadFailed ends = absurd (no_read_failed settings old new commands (end_word ++ rest) steady course theorem ends)
@@ -163,7 +163,7 @@ module _ (settings : Settings) (old new : Seen) (commands : List Command) (rest 
   pub no_reply : AllByRecursion IsSilent commands → (h : IsBrokenOff settings course old.output new.output) → IsInReply settings course h.before h.text → ⊥
   no_reply silent h reply = let b = ended_behind reached_end in no_reply_failed settings old new commands b.behind course silent b.whole h reply
 
-  ends_complete : ¬ Rose old.output.faults new.output.faults → (end : End) → EndsAs settings end course old new → (totals : Totals) × (end ≡ Complete totals)
+  ends_complete : ¬ Rose old.output.faults new.output.faults → (end : End) → EndsAs settings end course old new → (totals : List Total) × (end ≡ Complete totals)
   ends_complete steady_output end ends = elim (ends_whole end ends) [
     | inl complete ↦ complete
     | inr failed ↦ absurd (steady_output (subst (λ (e : End). EndsAs settings e course old new) failed ends).output.failed.rose)
@@ -192,7 +192,7 @@ module _ (settings : Settings) (old new : Seen) (commands : List Command) (rest 
         output = ends.output;
       }
 
-pub replay_completes : (settings : Settings) (old new : Seen) (commands : List Command) (rest : List ℕ) (end : End) → IsUnhindered settings old new commands rest → Replayed settings end old new → (totals : Totals) × (end ≡ Complete totals)
+pub replay_completes : (settings : Settings) (old new : Seen) (commands : List Command) (rest : List ℕ) (end : End) → IsUnhindered settings old new commands rest → Replayed settings end old new → (totals : List Total) × (end ≡ Complete totals)
 replay_completes settings old new commands rest end free h = ends_complete settings old new commands rest free.steady free.few h.course h.theorem free.output_faults end h.ends
 
 -- of a script that is cut off behind its records

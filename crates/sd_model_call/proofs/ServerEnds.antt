@@ -1,15 +1,14 @@
 -- How a call answers that is asked to serve, where nothing hinders it, and what its answers say of its objects.
-use Rattle.std.proofs.Common.{◌≡◌, ◌⊎◌, ℕ, zero, suc, ◌+◌, ◌<◌, Bool, true, false, List, [], ◌∷◌, ◌++◌, length, map, drop, refl, sym, ap, subst, ◌∙◌, Option, Ok, Err, inl, inr, arith}
-use Rattle.std.specs.Prelude.{◌||◌, min, if◌then◌else◌, ⊤}
+use Rattle.std.proofs.Common.{◌≡◌, ◌⊎◌, ℕ, ◌+◌, Bool, true, false, List, [], ◌∷◌, ◌++◌, length, map, drop, refl, sym, ap, subst, ◌∙◌, Option, Ok, Err, inl, inr, arith}
+use Rattle.std.specs.Prelude.{◌||◌, min}
 use Rattle.std.specs.List.{AllByRecursion, list_any}
 use Rattle.std.proofs.Math.Bool.{or-false}
 use Rattle.std.proofs.lemmas.List.{length-map}
-use Rattle.std.proofs.lemmas.List.Folds.{list_any-append}
-use Rattle.sd_model_outside.specs.Outside.{File, Host, Object, Place, Rose, Told, last_count, opened, telling}
-use Rattle.sd_model_outside.specs.Turns.{IsSpent, with_interval}
+use Rattle.sd_model_outside.specs.Outside.{File, Host, Object, Rose, last_count}
+use Rattle.sd_model_outside.specs.Turns.{IsSpent}
 use Rattle.sd_model_settings.specs.Settings.{Settings, SettingsFlaw, settings}
 use Rattle.sd_model_replay.specs.Settings.{targets_of, is_used}
-use Rattle.sd_model_serve.specs.Ends.{LoopEnd, Spent, Failed, Enough, WornOut, EndsReceiver, EndsFlusher, EndsKeeper, most_turns}
+use Rattle.sd_model_serve.specs.Ends.{LoopEnd, Spent, Failed, Enough, WornOut, EndsFlusher, EndsKeeper, most_turns}
 use Rattle.sd_model_serve.specs.Doors.{ServesDoor}
 use Rattle.sd_model_stream.specs.Streams.{AreStreamsOf, any_worn}
 use Rattle.sd_model_run.specs.Course.{Course, Lining, Reception}
@@ -18,11 +17,12 @@ use Rattle.sd_model_call.specs.Words.{Form, form}
 use Rattle.sd_model_call.specs.Opening.{World, Opening, Part, OfSettings, OfScript, OfSource, OfBeat, OfWire, OfGraphite, OfConsole, OfDoor, OfStreams, IsAccepted, IsFlawed, opening_where, repeated, settled, source_at, target_place, wire_openings}
 use Rattle.sd_model_call.specs.Call.{Answer, Done, NoMemory, NoForm, Misset, BadScript, NotOpened, NotRead, NotWritten, Worn, WritesTotals}
 use Rattle.sd_model_call.specs.Completeness.{IsWhole, IsBlocked}
-use Rattle.sd_model_call.specs.Server.{AnswersServer, HasServed, ServerAccounts, by_beat, by_receivers, is_worn, run_answer, run_text, turns_answer}
+use Rattle.sd_model_replay.specs.Totals.{totals_text}
+use Rattle.sd_model_call.specs.Server.{AnswersServer, HasServed, ServerAccounts, is_worn, run_answer, run_totals}
 use Rattle.sd_model_call.specs.ServerOpening.{begun, door_openings, has_streams, server_openings, source_openings}
-use Rattle.sd_model_call.specs.ServerCompleteness.{AStreamTookMost, AreAllSpent, AsksToServe, HasFaultOf, IsCauseOf, IsOpenedToServe, IsOutermost, IsServed, IsUnhinderedServer, NoneFailed, OneTookMost, SourceTookMost, TookFew, TookMost}
+use Rattle.sd_model_call.specs.ServerCompleteness.{AStreamTookMost, AreAllSpent, AsksToServe, HasFaultOf, IsCauseOf, IsOpenedToServe, IsOutermost, IsServed, IsUnhinderedServer, NoneFailed, OneTookMost, TookMost}
 use Rattle.sd_model_call.proofs.BegunLemmas.{Same, all_numbered, accepted_so, at_same, has_flaw, not_begun, not_taken, same_all, same_start, uncut}
-use Rattle.sd_model_call.proofs.LoopEnds.{AreEnded, ComesFrom, EndedSo, OneSourceTookMost, all_done, both_false, comes_from, whole_done, worn_one}
+use Rattle.sd_model_call.proofs.LoopEnds.{AreEnded, ComesFrom, OneSourceTookMost, all_done, both_false, comes_from, whole_done, worn_one}
 use Rattle.sd_model_call.proofs.Openings.{all_append, all_where}
 use Rattle.sd_model_record.specs.Backends.{Graphite, Console}
 
@@ -167,7 +167,7 @@ module _ (name : List ℕ) (says : ℕ → Type 0) (answer : Answer) (old new : 
     by_uncut rose (inl is) = subst (λ (a : Answer). IsCauseOf name a old new) (sym is) rose
     by_uncut rose (inr is) = cause answer (ends answer is)
 
-    by_written : WritesTotals (run_text h.values course) (run_answer course) answer old.seen.output new.seen.output → IsCauseOf name answer old new
+    by_written : WritesTotals (totals_text (run_totals h.values course)) (run_answer course) answer old.seen.output new.seen.output → IsCauseOf name answer old new
     by_written (inl (is, text)) = cause answer (ends answer (sym is))
     by_written (inr (is, failed)) = by_uncut failed.rose (uncut (run_answer course) answer is)
 
@@ -198,7 +198,7 @@ module _ (name : List ℕ) (says : ℕ → Type 0) (old new : World) (h : HasSer
 
   done : run_answer h.course ≡ Done
   done = by_written h.written where
-    by_written : WritesTotals (run_text h.values h.course) (run_answer h.course) Done old.seen.output new.seen.output → run_answer h.course ≡ Done
+    by_written : WritesTotals (totals_text (run_totals h.values h.course)) (run_answer h.course) Done old.seen.output new.seen.output → run_answer h.course ≡ Done
     by_written (inl (is, text)) = sym is
     by_written (inr (is, failed)) = whole_done (run_answer h.course) (uncut (run_answer h.course) Done is)
 

@@ -1,12 +1,11 @@
 -- What the program answers where it is asked for the proxy, and what was done by then.
-use Rattle.std.specs.Prelude.{◌≡◌, ◌⊎◌, ℕ, ◌*◌, ◌^◌, ◌==◌, nat_lt, min, if◌then◌else◌, List, [], ◌++◌, length, map, codes, Option, Some, None, ⊤}
+use Rattle.std.specs.Prelude.{◌≡◌, ◌⊎◌, ℕ, ◌*◌, ◌^◌, ◌==◌, nat_lt, min, if◌then◌else◌, List, [], ◌∷◌, ◌++◌, length, map, codes, Option, Some, None, ⊤}
 use Rattle.sd_model_outside.specs.Outside.{Object, Place, File, Host}
 use Rattle.sd_model_settings.specs.Entries.{Node}
 use Rattle.sd_model_settings.specs.Settings.{Settings, SettingsFlaw, OutOfRange}
 use Rattle.sd_model_serve.specs.Ends.{LoopEnd}
-use Rattle.sd_model_replay.specs.Totals.{total_line}
+use Rattle.sd_model_replay.specs.Totals.{totals_text}
 use Rattle.sd_model_proxy.specs.Relays.{Relay, relays_totals}
-use Rattle.sd_model_proxy.specs.Totals.{proxy_text}
 use Rattle.sd_model_live.specs.Checks.{Check, failed_in}
 use Rattle.sd_model_live.specs.Proxy.{ProxyTheorem}
 use Rattle.sd_model_call.specs.Words.{Form, Proxy}
@@ -55,12 +54,10 @@ pub record ProxyNotBegun (name : List ℕ) (answer : Answer) (old new : World) :
 abbrev pub proxy_answer : List Relay → LoopEnd → Answer
 proxy_answer relays checker_ended = ends_answer (map (λ r. r.ended) relays) checker_ended []
 
--- the lines of its totals: those of its receivers, added up, the number of checks, and that of the questions that failed, up to 2^63
+-- the text of its totals: those of its receivers, added up, the number of checks, and that of the questions that failed, up to 2^63
 abbrev pub relay_text : List Node → List Relay → List Check → List ℕ
 relay_text nodes relays checks =
-    proxy_text (relays_totals nodes relays)
-    ++ total_line (codes "checks") (length checks)
-    ++ total_line (codes "probe_faults") (min (failed_in checks) (2 ^ 63))
+    totals_text (relays_totals nodes relays ++ (codes "checks", length checks) ∷ (codes "probe_faults", min (failed_in checks) (2 ^ 63)) ∷ [])
 
 -- The proxy of settings that were read and accepted was begun, and its theorem holds of what its receivers and its checker did; its
 -- totals were written, and the answer says how these ended, or that the output failed. Nothing else that is seen changed.

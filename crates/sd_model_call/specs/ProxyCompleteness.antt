@@ -1,7 +1,7 @@
 -- What a call that is asked for the proxy has to come to, by its words, what its objects tell, and where no fault was counted; and
 -- what its answers say of its objects.
 use Rattle.std.specs.Prelude.{◌≡◌, ◌⊎◌, ℕ, ◌<◌, ⊤, List, Some}
-use Rattle.sd_model_outside.specs.Outside.{File, Left, Object, Rose, last_count}
+use Rattle.sd_model_outside.specs.Outside.{File, Left, Rose, last_count}
 use Rattle.sd_model_outside.specs.Turns.{IsSpent}
 use Rattle.sd_model_settings.specs.Settings.{Settings}
 use Rattle.sd_model_record.specs.WireSends.{wire_at}

@@ -9,7 +9,7 @@ use Rattle.sd_model_serve.specs.Ends.{LoopEnd, Failed, WornOut, most_turns}
 use Rattle.sd_model_run.specs.Course.{Course}
 use Rattle.sd_model_run.specs.Run.{ServerTheorem}
 use Rattle.sd_model_replay.specs.Settings.{limits_of, policy_of}
-use Rattle.sd_model_replay.specs.Totals.{Totals, total_line, totals_of, totals_text}
+use Rattle.sd_model_replay.specs.Totals.{Total, summed, totals_of, totals_text}
 use Rattle.sd_model_call.specs.Words.{Form, Serve}
 use Rattle.sd_model_call.specs.Opening.{OfSource, OfBeat, World, IsAccepted, flags_of, settled}
 use Rattle.sd_model_call.specs.Call.{Answer, Done, NotRead, Worn, NotBegun, NotTaken, WritesTotals}
@@ -49,21 +49,15 @@ run_answer c = ends_answer (map (λ r. r.ended) c.receptions) c.flusher_ended (c
 abbrev pub outlet_faults : Backend → Course → ℕ
 outlet_faults back c = min (missed (c.outflows back).queued) last_count
 
--- the totals of a run: of its shards and its desk, with what was missed of texts that went through outlets
-abbrev pub run_totals : Settings → Course → Totals
+-- the totals of a run: of its shards and its desk, with what was missed of texts that went through outlets, and behind them how many
+-- texts each outlet skipped, where there are outlets
+abbrev pub run_totals : Settings → Course → List Total
 run_totals s c =
-    record (totals_of s (record { shards = λ i. state_after (limits_of s) (policy_of s) (c.histories i); desk = c.desk })) {
+    totals_of (summed s.sizes.shards (λ i. state_after (limits_of s) (policy_of s) (c.histories i))) (record c.desk {
       graphite_faults = c.desk.graphite_faults + outlet_faults Graphite c;
       console_faults = c.desk.console_faults + outlet_faults Console c;
-    }
-
--- the lines that are told of outlets: how many texts each of them skipped
-abbrev pub skipped_lines : Course → List ℕ
-skipped_lines c = total_line (codes "graphite_skipped") (c.outflows Graphite).skipped ++ total_line (codes "console_skipped") (c.outflows Console).skipped
-
--- what is told of a run: its totals, and behind them those lines, where there are outlets
-abbrev pub run_text : Settings → Course → List ℕ
-run_text s c = if has_outlets s then totals_text (run_totals s c) ++ skipped_lines c else totals_text (run_totals s c)
+    })
+    ++ (if has_outlets s then (codes "graphite_skipped", (c.outflows Graphite).skipped) ∷ (codes "console_skipped", (c.outflows Console).skipped) ∷ [] else [])
 
 -- A server by settings that were read and accepted was begun; it ran between then and now, and the accounting theorem holds of its
 -- course; its totals were written, and the answer says how its workers ended, or that the output failed. Nothing else that is seen
@@ -74,7 +68,7 @@ pub record HasServed (name : List ℕ) (says : ℕ → Type 0) (answer : Answer)
   pub taken : IsAccepted values (File name) old.settings settings
   pub course : Course
   pub theorem : (let start = begun values (settled values settings old) in ServerTheorem (serves_by values) says course (objects_in start) (objects_in new))
-  pub written : WritesTotals (run_text values course) (run_answer course) answer old.seen.output new.seen.output
+  pub written : WritesTotals (totals_text (run_totals values course)) (run_answer course) answer old.seen.output new.seen.output
   pub script : new.seen.script ≡ old.seen.script
   pub probe : new.probe ≡ old.probe
   pub flags : new.flags ≡ flags_of values

@@ -2,7 +2,7 @@ ghost use Rattle.std.specs.Prelude.{◌≡◌, ◌<◌, ◌≤◌, ℕ, List, []
 ghost use Rattle.sd_model_outside.specs.Outside.{Rose, Used, given, last_count};
 ghost use Rattle.sd_model_settings.specs.Settings.{SettingsFlaw, settings, Settings};
 ghost use Rattle.sd_model_replay.specs.Script.{Command, script_text};
-ghost use Rattle.sd_model_replay.specs.Totals.{Totals};
+ghost use Rattle.sd_model_replay.specs.Totals.{Total};
 ghost use Rattle.sd_model_record.specs.WireSends.{wire_at};
 ghost use Rattle.sd_model_replay.specs.AccountingTheorem.{Seen};
 ghost use Rattle.sd_model_replay.specs.Next.{ScriptFlaw};
@@ -20,7 +20,7 @@ ghost use Rattle.sd_model_call.specs.ProxyCompleteness.{AsksForProxy, IsProxyCau
 /// unless a write failed before.
 pub fn unhindered_replays_complete()
     ensures complete { (settings : Settings) (old new : Seen) (commands : List Command) (rest : List ℕ) (end : End)
-        → IsUnhindered settings old new commands rest → Replayed settings end old new → (totals : Totals) × (end ≡ Complete totals) }
+        → IsUnhindered settings old new commands rest → Replayed settings end old new → (totals : List Total) × (end ≡ Complete totals) }
     ensures cut_off { (settings : Settings) (old new : Seen) (commands : List Command) (flaw : ScriptFlaw) (bytes : List ℕ) (end : End)
         → IsCutOff settings old new commands flaw bytes → Replayed settings end old new
         → EndsSo (Faulted (min (length (script_text commands)) last_count) flaw) end }

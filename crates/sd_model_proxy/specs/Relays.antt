@@ -6,7 +6,8 @@ use Rattle.sd_model_settings.specs.Entries.{Node}
 use Rattle.sd_model_serve.specs.Ends.{LoopEnd, EndsReceiver}
 use Rattle.sd_model_proxy.specs.Routes.{Read, Routed, line_and_set, lines_of_read}
 use Rattle.sd_model_proxy.specs.Sends.{AreForwarded}
-use Rattle.sd_model_proxy.specs.Totals.{ProxyTotals, add_totals, no_totals, sums_of_totals, totals_of_lines}
+use Rattle.sd_model_replay.specs.Totals.{Total}
+use Rattle.sd_model_proxy.specs.Totals.{add_totals, no_totals, sums_of_totals, totals_of_lines}
 
 -- What a receiver of a proxy did: the datagrams that it read, each with the nodes that were up; the lines that it routed; and
 -- how it ended.
@@ -31,11 +32,11 @@ pub record IsRelay (nodes : List Node) (r : Relay) (source source_now : Object) 
   pub same : source_now ≡ record source { told = source_now.told; faults = source_now.faults; turns = source_now.turns }
 
 -- what a receiver counted
-abbrev pub relay_totals : List Node → Relay → ProxyTotals
+abbrev pub relay_totals : List Node → Relay → List Total
 relay_totals nodes r = add_totals no_totals (totals_of_lines nodes (length r.reads) r.routed)
 
 -- the totals of receivers, added up
-abbrev pub relays_totals : List Node → List Relay → ProxyTotals
+abbrev pub relays_totals : List Node → List Relay → List Total
 relays_totals nodes relays = sums_of_totals (map (relay_totals nodes) relays)
 
 -- The first receiver has the first source and the first wires, one for each node, the next one the next, and so on; the sources

@@ -1,18 +1,19 @@
-ghost use Rattle.std.specs.Prelude.{◌≡◌, ℕ, ◌+◌, ◌<◌, List, [], ◌∷◌, ◌++◌, length};
+ghost use Rattle.std.specs.Prelude.{◌≡◌, ℕ, ◌+◌, ◌<◌, List, [], ◌∷◌, ◌++◌, codes, length};
 ghost use Rattle.sd_model_settings.specs.Entries.{Node};
 ghost use Rattle.sd_model_record.specs.Desk.{last_counted};
+ghost use Rattle.sd_model_replay.specs.Totals.{number_in};
 ghost use Rattle.sd_model_record.specs.WireSends.{failed_among, packets_of};
 ghost use Rattle.sd_model_proxy.specs.Routes.{Routed};
 ghost use Rattle.sd_model_proxy.specs.Relays.{Relay, relay_totals, relays_totals};
-ghost use Rattle.sd_model_proxy.specs.Totals.{ProxyTotals, how_many, is_not_sent, is_sent, over_wires, sums_of_totals, totals_of_lines};
+ghost use Rattle.sd_model_proxy.specs.Totals.{how_many, is_not_sent, is_sent, over_wires, sums_of_totals, totals_of_lines};
 
 /// Each line was bad, was sent, had no owner, or its send failed. So the number of lines is the sum of these, in a receiver's
 /// totals too, where it hasn't reached the last count.
 pub fn lines_have_one_fate()
-    ensures lines { (nodes : List Node) (packets : ℕ) (routed : List Routed)
-        → (let t : ProxyTotals = totals_of_lines nodes packets routed in t.lines ≡ t.bad + t.sent + t.unowned + t.send_faults) }
-    ensures totals { (nodes : List Node) (r : Relay)
-        → (let t : ProxyTotals = relay_totals nodes r in t.lines < last_counted → t.lines ≡ t.bad + t.sent + t.unowned + t.send_faults) }
+    ensures lines { (nodes : List Node) (packets : ℕ) (routed : List Routed) → (let n : List ℕ → ℕ = number_in (totals_of_lines nodes packets routed) in
+        n (codes "lines") ≡ n (codes "bad") + n (codes "sent") + n (codes "unowned") + n (codes "send_faults")) }
+    ensures totals { (nodes : List Node) (r : Relay) → (let n : List ℕ → ℕ = number_in (relay_totals nodes r) in
+        n (codes "lines") < last_counted → n (codes "lines") ≡ n (codes "bad") + n (codes "sent") + n (codes "unowned") + n (codes "send_faults")) }
 {}
 
 /// The sums of one receiver's totals are these totals, and those of receivers behind others are the sums of both.

@@ -9,3 +9,4 @@ pub mod Numbers
 pub mod ReadingLemmas
 pub mod ReplayLemmas
 pub mod EarlierLemmas
+pub mod TotalLemmas

@@ -5,7 +5,7 @@ use Rattle.sd_model_replay.specs.Script.{script_text, BeginsEnd}
 use Rattle.sd_model_replay.specs.Next.{ScriptFlaw, Next, Faulty, Begins, IsUndecided}
 use Rattle.sd_model_replay.specs.Replay.{Played, first_run, run_of}
 use Rattle.sd_model_replay.specs.Output.{output_in, output_of}
-use Rattle.sd_model_replay.specs.Totals.{Totals, totals_after, totals_text}
+use Rattle.sd_model_replay.specs.Totals.{Total, totals_after, totals_text}
 use Rattle.sd_model_replay.specs.AccountingTheorem.{Seen, Course, AccountingTheorem}
 use Rattle.sd_model_settings.specs.Settings.{Settings}
 
@@ -13,7 +13,7 @@ use Rattle.sd_model_settings.specs.Settings.{Settings}
 -- has a flaw; a read of the script failed; a write of a reply or of the totals failed; it has carried out as many records
 -- as it may.
 pub data End : Type 0 where
-  Complete : (totals : Totals) → End
+  Complete : (totals : List Total) → End
   Faulted : (at : ℕ) (flaw : ScriptFlaw) → End
   ReadFailed : End
   WriteFailed : End

@@ -232,11 +232,11 @@ no_books = record { came = []; flushed = []; deleted = []; held = [] }
 
 -- the numbers of all shards after a script, by its books
 pub record AreSummed (settings : Settings) (run : Run) (b : Books) : Type 0 where
-  pub taken : summed settings run (λ state. state.taken) ≡ length b.came
-  pub dropped : summed settings run (λ state. state.dropped) ≡ 0
-  pub flushed : summed settings run (λ state. state.flushed) ≡ length b.flushed
-  pub held : summed settings run (λ state. length state.held) ≡ length b.held
-  pub deleted : summed settings run (λ state. state.deleted) ≡ length b.deleted
+  pub taken : summed settings.sizes.shards run.shards (λ state. state.taken) ≡ length b.came
+  pub dropped : summed settings.sizes.shards run.shards (λ state. state.dropped) ≡ 0
+  pub flushed : summed settings.sizes.shards run.shards (λ state. state.flushed) ≡ length b.flushed
+  pub held : summed settings.sizes.shards run.shards (λ state. length state.held) ≡ length b.held
+  pub deleted : summed settings.sizes.shards run.shards (λ state. state.deleted) ≡ length b.deleted
 
 pub books_summed : (settings : Settings) → 1 ≤ settings.sizes.shards → (played : List Played) → NoneDropped settings played → AreSummed settings (run_of settings (first_run played) played) (books_of no_books played)
 books_summed settings some played none =

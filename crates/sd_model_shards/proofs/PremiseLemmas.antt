@@ -1,13 +1,13 @@
 -- That no sample is dropped, as the totals tell it.
 use Rattle.std.proofs.Common.{◌≡◌, ℕ, zero, suc, ◌+◌, ◌<◌, ◌≤◌, List, [], ◌∷◌, length, refl, ap, ◌∙◌, ⊎_elim, arith}
 use Rattle.std.proofs.lemmas.Bool.{cases_lt}
-use Rattle.std.specs.Prelude.{sum_by}
+use Rattle.std.specs.Prelude.{codes, sum_by}
 use Rattle.std.specs.List.{range_with_len}
 use Rattle.std.proofs.lemmas.List.Sums.{sum_by-cons}
 use Rattle.sd_model_shard.specs.Shard.{State, Cause}
 use Rattle.sd_model_shard.specs.Whereabouts.{causes}
 use Rattle.sd_model_replay.specs.Replay.{Played, first_run, run_of, history_at}
-use Rattle.sd_model_replay.specs.Totals.{totals_after}
+use Rattle.sd_model_replay.specs.Totals.{number_in, totals_after}
 use Rattle.sd_model_replay.proofs.AccountingLemmas.{are_accounted}
 use Rattle.sd_model_replay.proofs.HistoryLemmas.{state-history_at}
 use Rattle.sd_model_shards.specs.Shards.{NoneDropped}
@@ -23,7 +23,7 @@ no_causes : (cs : List Cause) → length cs ≡ 0 → cs ≡ []
 no_causes [] h = refl
 no_causes (c ∷ cs) h = absurd (omega arith)
 
-pub none_told : (settings : Settings) (played : List Played) → (totals_after settings played).dropped ≡ 0 → NoneDropped settings played
+pub none_told : (settings : Settings) (played : List Played) → number_in (totals_after settings played) (codes "dropped") ≡ 0 → NoneDropped settings played
 none_told settings played told i below =
     let places = (are_accounted settings played).places i below in
     let zero_here = none_of_sum (λ j. ((run_of settings (first_run played) played).shards j).dropped) i 0 settings.sizes.shards told (omega arith) (omega arith) in

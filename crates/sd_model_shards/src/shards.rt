@@ -1,10 +1,10 @@
-ghost use Rattle.std.specs.Prelude.{◌≡◌, ℕ, ◌≤◌, List, true};
+ghost use Rattle.std.specs.Prelude.{◌≡◌, ℕ, ◌≤◌, List, codes, true};
 ghost use Rattle.std.specs.FinMap.{contains_key};
 ghost use Rattle.std.specs.List.{AllByRecursion, IsDistinct};
 ghost use Rattle.sd_model_text.specs.Names.{shard};
 ghost use Rattle.sd_model_shard.specs.Rows.{RowId, is_same_row};
 ghost use Rattle.sd_model_replay.specs.Replay.{Played, first_run, rounds, run_of};
-ghost use Rattle.sd_model_replay.specs.Totals.{totals_after};
+ghost use Rattle.sd_model_replay.specs.Totals.{number_in, totals_after};
 ghost use Rattle.sd_model_shards.specs.Shards.{NoneDropped, ShowTheSame, rows_taken, with_shards};
 ghost use Rattle.sd_model_settings.specs.Settings.{Settings};
 
@@ -18,7 +18,7 @@ pub fn shards_are_not_shown()
 
 /// Totals that tell no drop say that no shard drops a sample.
 pub fn no_drop_is_told()
-    ensures { (settings : Settings) (played : List Played) → (totals_after settings played).dropped ≡ 0 → NoneDropped settings played }
+    ensures { (settings : Settings) (played : List Played) → number_in (totals_after settings played) (codes "dropped") ≡ 0 → NoneDropped settings played }
 {}
 
 /// Each shard has rows of its own keys alone, whether or not samples are dropped. So no row stands in two of the tables

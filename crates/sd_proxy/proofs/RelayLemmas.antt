@@ -12,7 +12,8 @@ use Rattle.sd_model_settings.specs.Entries.{Node}
 use Rattle.sd_model_serve.specs.Ends.{EndsReceiver, most_turns}
 use Rattle.sd_model_proxy.specs.Routes.{Read, lines_of_read}
 use Rattle.sd_model_proxy.specs.Relays.{IsRelay, Relay, relay_totals}
-use Rattle.sd_model_proxy.specs.Totals.{ProxyTotals, no_totals}
+use Rattle.sd_model_replay.specs.Totals.{Total}
+use Rattle.sd_model_proxy.specs.Totals.{no_totals}
 use Rattle.sd_model_live.specs.Looks.{Begins, HaveAnswered}
 use Rattle.sd_model_live.proofs.LookLemmas.{answered_more, one_answered}
 use Rattle.sd_proxy.specs.Forwarding.{Forwards}
@@ -53,7 +54,7 @@ looked-next history mid now up datagram goes_on last reads looks =
     (answered_more history mid now (map (λ (r : Read). r.up) reads) (up ∷ []) looks (one_answered mid now up goes_on last))
 
 -- What a receiver did in so many turns of its source, in which the source didn't fail, and what is known of its datagrams.
-pub record Ran (nodes : List Node) (known : List Read → Type 0) (source source_now : Object) (took : ℕ) (wires wires_now : List Object) (totals : ProxyTotals) : Type 0 where
+pub record Ran (nodes : List Node) (known : List Read → Type 0) (source source_now : Object) (took : ℕ) (wires wires_now : List Object) (totals : List Total) : Type 0 where
   pub reads : List Read
   pub are : known reads
   pub forwards : Forwards nodes (length reads) (flat_map lines_of_read reads) wires wires_now no_totals totals
@@ -63,7 +64,7 @@ pub record Ran (nodes : List Node) (known : List Read → Type 0) (source source
   pub faults : source_now.faults ≡ source.faults
   pub same : source_now ≡ record source { told = source_now.told; faults = source_now.faults; turns = source_now.turns }
 
-pub ran_first : (nodes : List Node) (known : List Read → Type 0) (source : Object) (wires : List Object) (t : ProxyTotals) → known [] → source.turns ≤ last_count → t ≡ no_totals → Ran nodes known source source 0 wires wires t
+pub ran_first : (nodes : List Node) (known : List Read → Type 0) (source : Object) (wires : List Object) (t : List Total) → known [] → source.turns ≤ last_count → t ≡ no_totals → Ran nodes known source source 0 wires wires t
 ran_first nodes known source wires t are fits none = record {
   reads = [];
   are = are;
@@ -99,7 +100,7 @@ module _ (nodes : List Node) (known : List Read → Type 0) (source mid now : Ob
   same_given datagram gives = ap (λ (o : Object). record o { told = now.told; faults = now.faults; turns = now.turns }) (sym gives)
 
   -- a turn that gave a datagram, whose lines were sent
-  pub ran_read : (known_now : List Read → Type 0) (datagram : List ℕ) (up : ℕ) (wires wires_mid wires_now : List Object) (t t_now : ProxyTotals) → ((reads : List Read) → known reads → known_now (reads ++ read_of datagram up ∷ []))
+  pub ran_read : (known_now : List Read → Type 0) (datagram : List ℕ) (up : ℕ) (wires wires_mid wires_now : List Object) (t t_now : List Total) → ((reads : List Read) → known reads → known_now (reads ++ read_of datagram up ∷ []))
       → Ran nodes known source mid took wires wires_mid t → GivesDatagram datagram mid now
       → Forwards nodes 1 (lines_of_read (read_of datagram up)) wires_mid wires_now t t_now → Ran nodes known_now source now (took + 1) wires wires_now t_now
   ran_read known_now datagram up wires wires_mid wires_now t t_now next ran gives forwards =
@@ -124,7 +125,7 @@ module _ (nodes : List Node) (known : List Read → Type 0) (source mid now : Ob
       }
 
   -- a turn that gave nothing
-  pub ran_idle : (wires wires_now : List Object) (t : ProxyTotals) → Ran nodes known source mid took wires wires_now t → now ≡ turned mid → Ran nodes known source now (took + 1) wires wires_now t
+  pub ran_idle : (wires wires_now : List Object) (t : List Total) → Ran nodes known source mid took wires wires_now t → now ≡ turned mid → Ran nodes known source now (took + 1) wires wires_now t
   ran_idle wires wires_now t ran idle =
       let turn : now.turns ≡ raised mid.turns = ap (λ (o : Object). o.turns) idle in
       record {
@@ -160,11 +161,11 @@ module _ (nodes : List Node) (known : List Read → Type 0) (source mid now : Ob
   }
 
   -- the source had nothing left
-  pub ends_spent : (wires wires_now : List Object) (t : ProxyTotals) → Ran nodes known source mid took wires wires_now t → now ≡ mid → IsSpent mid.told → took < most_turns → IsSpent now.told × (now.faults ≡ source.faults) × (0 < 0 → 0 < 0) × (took < most_turns)
+  pub ends_spent : (wires wires_now : List Object) (t : List Total) → Ran nodes known source mid took wires wires_now t → now ≡ mid → IsSpent mid.told → took < most_turns → IsSpent now.told × (now.faults ≡ source.faults) × (0 < 0 → 0 < 0) × (took < most_turns)
   ends_spent wires wires_now t ran last spent few = (subst (λ (o : Object). IsSpent o.told) (sym last) spent, ap (λ (o : Object). o.faults) last ∙ ran.faults, λ none. none, few)
 
   -- the source failed
-  pub ends_failed : (wires wires_now : List Object) (t : ProxyTotals) → Ran nodes known source mid took wires wires_now t → HasFailed mid now → took < most_turns → Rose source.faults now.faults × (0 < 0 → 0 < 0) × (took < most_turns)
+  pub ends_failed : (wires wires_now : List Object) (t : List Total) → Ran nodes known source mid took wires wires_now t → HasFailed mid now → took < most_turns → Rose source.faults now.faults × (0 < 0 → 0 < 0) × (took < most_turns)
   ends_failed wires wires_now t ran failed few = (subst (λ n. Rose n now.faults) ran.faults failed.rose, λ none. none, few)
 
 -- what a receiver did under one set

@@ -4,7 +4,8 @@ use Rattle.sd_model_outside.specs.Outside.{Object}
 use Rattle.sd_model_settings.specs.Entries.{Node}
 use Rattle.sd_model_proxy.specs.Routes.{Fate, Routed, fate_of, line_and_set}
 use Rattle.sd_model_proxy.specs.Sends.{AreForwarded}
-use Rattle.sd_model_proxy.specs.Totals.{ProxyTotals, add_totals, totals_of_lines}
+use Rattle.sd_model_replay.specs.Totals.{Total}
+use Rattle.sd_model_proxy.specs.Totals.{add_totals, totals_of_lines}
 
 -- A line was routed among the nodes that were up, and this became of it.
 pub record SendsLine (nodes : List Node) (line : List ℕ) (up : ℕ) (wires wires_now : List Object) (fate : Fate) : Type 0 where
@@ -13,7 +14,7 @@ pub record SendsLine (nodes : List Node) (line : List ℕ) (up : ℕ) (wires wir
   pub became : fate ≡ fate_of nodes (record { line = line; up = up; is_failed = is_failed })
 
 -- Lines of so many datagrams, each with the nodes that were up, were routed, in order, and counted.
-pub record Forwards (nodes : List Node) (packets : ℕ) (lines : List (List ℕ × ℕ)) (wires wires_now : List Object) (totals totals_now : ProxyTotals) : Type 0 where
+pub record Forwards (nodes : List Node) (packets : ℕ) (lines : List (List ℕ × ℕ)) (wires wires_now : List Object) (totals totals_now : List Total) : Type 0 where
   pub routed : List Routed
   pub lines_are : map line_and_set routed ≡ lines
   pub sends : AreForwarded nodes routed wires wires_now

@@ -1,8 +1,8 @@
 -- Routes, fates, totals and ends of the code, as the definitions have them.
-use Rattle.std.specs.Prelude.{◌<◌, List, length, ⊤}
+use Rattle.std.specs.Prelude.{◌<◌, List, [], ◌∷◌, codes, length, ⊤}
 use Rattle.sd_model_settings.specs.Entries.{Node as ModelNode}
 use Rattle.sd_model_proxy.specs.Routes as model
-use Rattle.sd_model_proxy.specs.Totals.{ProxyTotals as ModelTotals, no_totals}
+use Rattle.sd_model_replay.specs.Totals.{Total}
 use Rattle.sd_model_serve.specs.Ends as ends
 use Rattle.sd_outside.specs.declared.datagrams.Ended.{Ended}
 use Rattle.sd_outside.specs.declared.datagrams.Ended.TheVariants.{End, Failed, Stopped, Worn}
@@ -32,15 +32,22 @@ fate_view fate.Sent = model.WasSent
 fate_view fate.NotSent = model.WasNotSent
 
 -- totals
-abbrev pub totals_view : ProxyTotals → ModelTotals
-totals_view t = record { packets = t.packets; lines = t.lines; bad = t.bad; sent = t.sent; unowned = t.unowned; send_faults = t.send_faults }
+abbrev pub totals_view : ProxyTotals → List Total
+totals_view t =
+    (codes "packets", t.packets)
+    ∷ (codes "lines", t.lines)
+    ∷ (codes "bad", t.bad)
+    ∷ (codes "sent", t.sent)
+    ∷ (codes "unowned", t.unowned)
+    ∷ (codes "send_faults", t.send_faults)
+    ∷ []
 
 -- what a line counts for, by what became of it
-abbrev pub totals_of_fate : model.Fate → ModelTotals
-totals_of_fate model.WasBad = record no_totals { lines = 1; bad = 1 }
-totals_of_fate model.WasUnowned = record no_totals { lines = 1; unowned = 1 }
-totals_of_fate model.WasSent = record no_totals { lines = 1; sent = 1 }
-totals_of_fate model.WasNotSent = record no_totals { lines = 1; send_faults = 1 }
+abbrev pub totals_of_fate : model.Fate → List Total
+totals_of_fate model.WasBad = (codes "lines", 1) ∷ (codes "bad", 1) ∷ []
+totals_of_fate model.WasUnowned = (codes "lines", 1) ∷ (codes "unowned", 1) ∷ []
+totals_of_fate model.WasSent = (codes "lines", 1) ∷ (codes "sent", 1) ∷ []
+totals_of_fate model.WasNotSent = (codes "lines", 1) ∷ (codes "send_faults", 1) ∷ []
 
 -- how a receiver ended
 abbrev pub end_view : Ended → ends.LoopEnd

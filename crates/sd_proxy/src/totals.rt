@@ -1,7 +1,7 @@
-ghost use Rattle.std.specs.Prelude.{◌≡◌, ◌+◌, ◌≤◌, ◌^◌, ◌++◌, length, OnOk, OnErr};
+ghost use Rattle.std.specs.Prelude.{◌≡◌, ◌+◌, ◌≤◌, ◌^◌, [], ◌++◌, length, OnOk, OnErr};
 ghost use Rattle.sd_model_outside.specs.Outside.{HasFailedBehind, given};
 ghost use Rattle.sd_model_record.specs.Desk.{counted};
-ghost use Rattle.sd_model_replay.specs.Totals.{total_line};
+ghost use Rattle.sd_model_replay.specs.Totals.{total_line, totals_text};
 
 use sd_decimal::{Line, write_whole};
 use sd_outside::{Failed, Sink, WriteFault, write_all};
@@ -46,7 +46,7 @@ fn raised(count: u64) -> u64
 /// Appends a line: the name, a space, the number and a newline.
 fn push_total(name: &[u8], count: u64, line: &mut Line)
     requires { length line.old.items + length name.now + 41 ≤ 1024 }
-    ensures text { line.new.items ≡ line.old.items ++ total_line name.now count }
+    ensures text { line.new.items ≡ line.old.items ++ total_line (name.now, count) }
     ensures len { length line.new.items ≤ length line.old.items + length name.now + 41 }
 {
     line.try_extend_from_slice(name).unwrap();
@@ -56,7 +56,7 @@ fn push_total(name: &[u8], count: u64, line: &mut Line)
 }
 
 impl ProxyTotals {
-    ghost use Rattle.sd_model_proxy.specs.Totals.{add_totals, no_totals, proxy_text};
+    ghost use Rattle.sd_model_proxy.specs.Totals.{add_totals, no_totals, totals_of_lines};
     ghost use Rattle.sd_proxy.specs.Views.{fate_view, totals_of_fate, totals_view};
 
     /// Nothing was counted.
@@ -75,7 +75,7 @@ impl ProxyTotals {
 
     /// Counts a datagram.
     pub(crate) fn add_packet(&mut self)
-        ensures { totals_view self.new ≡ add_totals (totals_view self.old) (record no_totals { packets = 1 }) }
+        ensures { totals_view self.new ≡ add_totals (totals_view self.old) (totals_of_lines [] 1 []) }
     {
         self.packets = raised(self.packets);
     }
@@ -95,7 +95,7 @@ impl ProxyTotals {
 
     /// The lines of the totals.
     fn text(&self) -> Line
-        ensures { result.items ≡ proxy_text (totals_view self.now) }
+        ensures { result.items ≡ totals_text (totals_view self.now) }
     {
         let mut line = Line::new();
         push_total(b"packets", self.packets, &mut line);
@@ -113,8 +113,8 @@ impl ProxyTotals {
     ///
     /// `WriteFault` where the sink failed. Then a front of the text was written.
     pub fn write<O: Sink>(&self, output: &mut O) -> Result<(), WriteFault>
-        ensures ok { OnOk result (O.seen output.new ≡ given (proxy_text (totals_view self.now)) (O.seen output.old)) }
-        ensures failed { OnErr result (HasFailedBehind (proxy_text (totals_view self.now)) (O.seen output.old) (O.seen output.new)) }
+        ensures ok { OnOk result (O.seen output.new ≡ given (totals_text (totals_view self.now)) (O.seen output.old)) }
+        ensures failed { OnErr result (HasFailedBehind (totals_text (totals_view self.now)) (O.seen output.old) (O.seen output.new)) }
     {
         match write_all(output, self.text().as_slice()) {
             Ok(()) => Ok(()),

@@ -1,22 +1,31 @@
 -- Totals, with those of one receiver more.
-use Rattle.std.proofs.Common.{◌≡◌, ◌∙◌, ℕ, ◌+◌, List, [], ◌∷◌, ◌++◌, sym, ap, arith}
+use Rattle.std.proofs.Common.{◌≡◌, ◌∙◌, ℕ, ◌+◌, List, [], ◌∷◌, ◌++◌, codes, refl, sym, ap, arith}
 use Rattle.std.specs.Prelude.{sum_by}
 use Rattle.std.proofs.lemmas.List.Sums.{sum_by-append}
-use Rattle.sd_model_proxy.specs.Totals.{ProxyTotals, sums_of_totals}
+use Rattle.sd_model_replay.specs.Totals.{Total, number_in}
+use Rattle.sd_model_proxy.specs.Totals.{sums_of_totals}
+use Rattle.sd_proxy.specs.Views.{totals_view}
+use Rattle.sd_proxy.specs.declared.totals.ProxyTotals.{ProxyTotals}
 use Rattle.sd_relay.specs.declared.sums.ProxySums.{ProxySums}
 use Rattle.sd_relay.specs.Sums.{AddsTotals, sums_view}
 
 -- a number of totals, with one more
-sum-snoc : (f : ProxyTotals → ℕ) (ts : List ProxyTotals) (t : ProxyTotals) → sum_by f (ts ++ t ∷ []) ≡ sum_by f ts + f t
+sum-snoc : (f : List Total → ℕ) (ts : List (List Total)) (t : List Total) → sum_by f (ts ++ t ∷ []) ≡ sum_by f ts + f t
 sum-snoc f ts t = let n : ℕ = f t in let one : 0 + n ≡ n = omega arith in sum_by-append f ts (t ∷ []) ∙ ap (λ m. sum_by f ts + m) one
 
 -- the sums with one more
-pub sums-next : (ts : List ProxyTotals) (t : ProxyTotals) (old new : ProxySums) → sums_view old ≡ sums_of_totals ts → AddsTotals t old new → sums_view new ≡ sums_of_totals (ts ++ t ∷ [])
-sums-next ts t old new are adds = λ i. record {
-  packets = (adds.packets ∙ ap (λ (s : ProxyTotals). s.packets + t.packets) are ∙ sym (sum-snoc (λ (x : ProxyTotals). x.packets) ts t)) i;
-  lines = (adds.lines ∙ ap (λ (s : ProxyTotals). s.lines + t.lines) are ∙ sym (sum-snoc (λ (x : ProxyTotals). x.lines) ts t)) i;
-  bad = (adds.bad ∙ ap (λ (s : ProxyTotals). s.bad + t.bad) are ∙ sym (sum-snoc (λ (x : ProxyTotals). x.bad) ts t)) i;
-  sent = (adds.sent ∙ ap (λ (s : ProxyTotals). s.sent + t.sent) are ∙ sym (sum-snoc (λ (x : ProxyTotals). x.sent) ts t)) i;
-  unowned = (adds.unowned ∙ ap (λ (s : ProxyTotals). s.unowned + t.unowned) are ∙ sym (sum-snoc (λ (x : ProxyTotals). x.unowned) ts t)) i;
-  send_faults = (adds.send_faults ∙ ap (λ (s : ProxyTotals). s.send_faults + t.send_faults) are ∙ sym (sum-snoc (λ (x : ProxyTotals). x.send_faults) ts t)) i;
-}
+pub sums-next : (ts : List (List Total)) (t : ProxyTotals) (old new : ProxySums) → sums_view old ≡ sums_of_totals ts → AddsTotals t old new → sums_view new ≡ sums_of_totals (ts ++ totals_view t ∷ [])
+sums-next ts t old new are adds = λ i.
+    (codes "packets", grown (codes "packets") new.packets adds.packets refl i)
+    ∷ (codes "lines", grown (codes "lines") new.lines adds.lines refl i)
+    ∷ (codes "bad", grown (codes "bad") new.bad adds.bad refl i)
+    ∷ (codes "sent", grown (codes "sent") new.sent adds.sent refl i)
+    ∷ (codes "unowned", grown (codes "unowned") new.unowned adds.unowned refl i)
+    ∷ (codes "send_faults", grown (codes "send_faults") new.send_faults adds.send_faults refl i)
+    ∷ []
+  where
+    grown : (name : List ℕ) (n : ℕ) → n ≡ number_in (sums_view old) name + number_in (totals_view t) name → number_in (sums_of_totals ts) name ≡ sum_by (λ x. number_in x name) ts
+        → n ≡ sum_by (λ x. number_in x name) (ts ++ totals_view t ∷ [])
+    grown name n more same =
+        more ∙ ap (λ totals. number_in totals name + number_in (totals_view t) name) are ∙ ap (λ m. m + number_in (totals_view t) name) same
+        ∙ sym (sum-snoc (λ x. number_in x name) ts (totals_view t))

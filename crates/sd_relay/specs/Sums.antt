@@ -1,13 +1,15 @@
 -- What the receivers of posts counted, added up.
-use Rattle.std.specs.Prelude.{◌≡◌, ◌+◌, ◌≤◌, ◌^◌, Option, Some, None}
-use Rattle.sd_model_proxy.specs.Totals.{ProxyTotals, no_totals}
+use Rattle.std.specs.Prelude.{◌≡◌, ◌+◌, ◌≤◌, ◌^◌, List, [], ◌∷◌, codes, Option, Some, None}
+use Rattle.sd_model_replay.specs.Totals.{Total}
+use Rattle.sd_model_proxy.specs.Totals.{no_totals}
 use Rattle.sd_proxy.specs.Views.{totals_view}
 use Rattle.sd_proxy.specs.declared.proxied.Proxied.{Proxied}
+use Rattle.sd_proxy.specs.declared.totals.ProxyTotals.{ProxyTotals}
 use Rattle.sd_relay.specs.declared.post.Post.{Post}
 use Rattle.sd_relay.specs.declared.sums.ProxySums.{ProxySums}
 
 -- what a receiver counted, if there was one
-abbrev pub totals_by : Option Proxied → ProxyTotals
+abbrev pub totals_by : Option Proxied → List Total
 totals_by None = no_totals
 totals_by (Some got) = totals_view got.totals
 
@@ -17,12 +19,19 @@ module _ {D L : Type 0} where
   WasRun post = (got : Proxied) × (post.got ≡ Some got)
 
   -- what its receiver counted, where it was run
-  abbrev pub totals_in : Post D L → ProxyTotals
+  abbrev pub totals_in : Post D L → List Total
   totals_in post = totals_by post.got
 
 -- sums, as the definitions have them
-abbrev pub sums_view : ProxySums → ProxyTotals
-sums_view s = record { packets = s.packets; lines = s.lines; bad = s.bad; sent = s.sent; unowned = s.unowned; send_faults = s.send_faults }
+abbrev pub sums_view : ProxySums → List Total
+sums_view s =
+    (codes "packets", s.packets)
+    ∷ (codes "lines", s.lines)
+    ∷ (codes "bad", s.bad)
+    ∷ (codes "sent", s.sent)
+    ∷ (codes "unowned", s.unowned)
+    ∷ (codes "send_faults", s.send_faults)
+    ∷ []
 
 -- Each sum has room for one count more.
 pub record HasRoom (s : ProxySums) : Type 0 where

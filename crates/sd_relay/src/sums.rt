@@ -22,7 +22,7 @@ impl ProxySums {
     /// With the totals of one receiver more.
     fn with(self, totals: ProxyTotals) -> ProxySums
         requires { HasRoom self }
-        ensures adds { AddsTotals (totals_view totals) self result }
+        ensures adds { AddsTotals totals self result }
         ensures few { GrowsLittle self result }
     {
         ProxySums {

@@ -33,7 +33,7 @@ use Rattle.sd_model_replay.specs.Next.{ScriptFlaw, Faulty, Begins, IsUndecided}
 use Rattle.sd_model_serve.specs.Rounds.{Round, round_text}
 use Rattle.sd_model_replay.specs.Replay.{Played, IsOutcome, no_marks, home_of, events_in, replies_to, packet_tally, moment_of, desk_after_line, Run, begun_at, first_run, form_of, play, run_of, deliveries, sendings}
 use Rattle.sd_model_replay.specs.Output.{output_in, output_of}
-use Rattle.sd_model_replay.specs.Totals.{Totals, totals_of, totals_after, totals_text}
+use Rattle.sd_model_replay.specs.Totals.{Total, summed, totals_of, totals_after, totals_text}
 use Rattle.sd_model_replay.specs.AccountingTheorem.{Seen, Course, AccountingTheorem, seen_at}
 use Rattle.sd_model_replay.specs.Ends.{Complete, Faulted, ReadFailed, WriteFailed, WornOut, Replayed, text_length}
 use Rattle.sd_model_replay.proofs.AccountingLemmas.{are_accounted}
@@ -332,14 +332,14 @@ module _ (settings : Settings) (old new : Seen) (left : Told) (group : Group) (d
   same_totals : (begun : Desk) → length group.states ≡ settings.sizes.shards → begun ≡ (run_of settings (first_run so_far.played) so_far.played).desk → totals_of_group group begun ≡ totals_after settings so_far.played
   same_totals begun count same_desk =
       let run = run_of settings (first_run so_far.played) so_far.played in
-      ap (λ n. totals_of (record settings { sizes = record settings.sizes { shards = n } }) (run_with (state_at group) begun)) count
-      ∙ ap (λ (states : ℕ → State). totals_of settings (run_with states begun)) so_far.same_states
-      ∙ ap (λ (e : Desk). totals_of settings (run_with run.shards e)) same_desk
+      ap (λ n. totals_of (summed n (state_at group)) begun) count
+      ∙ ap (λ (states : ℕ → State). totals_of (summed settings.sizes.shards states) begun) so_far.same_states
+      ∙ ap (λ (e : Desk). totals_of (summed settings.sizes.shards run.shards) e) same_desk
 
   -- the script counted no fault
   module _ (script_faults : new.script.faults ≡ old.script.faults) where
     -- the word was read, and these totals were written
-    pub completes : length group.states ≡ settings.sizes.shards → (begun : Desk) (totals : Totals) (rest : List ℕ) (output : Object) → begun ≡ (run_of settings (first_run so_far.played) so_far.played).desk → turn < 2 ^ 62 → ahead ≡ end_word ++ rest → totals ≡ totals_of_group group begun
+    pub completes : length group.states ≡ settings.sizes.shards → (begun : Desk) (totals : List Total) (rest : List ℕ) (output : Object) → begun ≡ (run_of settings (first_run so_far.played) so_far.played).desk → turn < 2 ^ 62 → ahead ≡ end_word ++ rest → totals ≡ totals_of_group group begun
         → HasWritten so_far.played output → new.output ≡ given (totals_text totals) output → Replayed settings (Complete totals) old new
     completes group_count begun totals rest output same_desk few word counts front written = record {
       course = course;

@@ -1,64 +1,46 @@
 -- The totals of the code, as the definitions have them.
-use Rattle.std.specs.Prelude.{length}
+use Rattle.std.specs.Prelude.{List, [], ◌∷◌, codes, length}
 use Rattle.sd_model_record.specs.Desk.{Desk}
-use Rattle.sd_model_replay.specs.Totals as model
-use Rattle.sd_shards.specs.Shards.{Group}
-use Rattle.sd_shards.specs.Book.{summed}
+use Rattle.sd_model_replay.specs.Totals.{Total, summed, totals_of}
+use Rattle.sd_shards.specs.Shards.{Group, state_at}
 use Rattle.sd_shards.specs.declared.book.ShardsBook.{ShardsBook}
 use Rattle.sd_replay.specs.declared.totals.Totals.{Totals}
 
-abbrev pub totals_view : Totals → model.Totals
+abbrev pub totals_view : Totals → List Total
 totals_view t =
-    record {
-      packets = t.packets;
-      lines = t.lines;
-      bad = t.bad;
-      taken = t.taken;
-      dropped = t.dropped;
-      flushed = t.flushed;
-      held = t.held;
-      deleted = t.deleted;
-      rounds = t.rounds;
-      graphite_faults = t.graphite_faults;
-      console_faults = t.console_faults;
-      repeater_faults = t.repeater_faults;
-      admin_faults = t.admin_faults;
-    }
+    (codes "packets", t.packets)
+    ∷ (codes "lines", t.lines)
+    ∷ (codes "bad", t.bad)
+    ∷ (codes "taken", t.taken)
+    ∷ (codes "dropped", t.dropped)
+    ∷ (codes "flushed", t.flushed)
+    ∷ (codes "held", t.held)
+    ∷ (codes "deleted", t.deleted)
+    ∷ (codes "rounds", t.rounds)
+    ∷ (codes "graphite_faults", t.graphite_faults)
+    ∷ (codes "console_faults", t.console_faults)
+    ∷ (codes "repeater_faults", t.repeater_faults)
+    ∷ (codes "admin_faults", t.admin_faults)
+    ∷ []
 
 -- the totals of shards with these numbers all together, and of a desk
-abbrev pub totals_by : ShardsBook → Desk → model.Totals
+abbrev pub totals_by : ShardsBook → Desk → List Total
 totals_by book desk =
-    record {
-      packets = desk.totals.packets;
-      lines = desk.totals.lines;
-      bad = desk.totals.bad;
-      taken = book.taken;
-      dropped = book.dropped;
-      flushed = book.flushed;
-      held = book.held;
-      deleted = book.deleted;
-      rounds = desk.rounds;
-      graphite_faults = desk.graphite_faults;
-      console_faults = desk.console_faults;
-      repeater_faults = desk.repeater_faults;
-      admin_faults = desk.admin_faults;
-    }
+    (codes "packets", desk.totals.packets)
+    ∷ (codes "lines", desk.totals.lines)
+    ∷ (codes "bad", desk.totals.bad)
+    ∷ (codes "taken", book.taken)
+    ∷ (codes "dropped", book.dropped)
+    ∷ (codes "flushed", book.flushed)
+    ∷ (codes "held", book.held)
+    ∷ (codes "deleted", book.deleted)
+    ∷ (codes "rounds", desk.rounds)
+    ∷ (codes "graphite_faults", desk.graphite_faults)
+    ∷ (codes "console_faults", desk.console_faults)
+    ∷ (codes "repeater_faults", desk.repeater_faults)
+    ∷ (codes "admin_faults", desk.admin_faults)
+    ∷ []
 
 -- the totals of shards and a desk
-abbrev pub totals_of_group : Group → Desk → model.Totals
-totals_of_group group desk =
-    record {
-      packets = desk.totals.packets;
-      lines = desk.totals.lines;
-      bad = desk.totals.bad;
-      taken = summed group (λ state. state.taken);
-      dropped = summed group (λ state. state.dropped);
-      flushed = summed group (λ state. state.flushed);
-      held = summed group (λ state. length state.held);
-      deleted = summed group (λ state. state.deleted);
-      rounds = desk.rounds;
-      graphite_faults = desk.graphite_faults;
-      console_faults = desk.console_faults;
-      repeater_faults = desk.repeater_faults;
-      admin_faults = desk.admin_faults;
-    }
+abbrev pub totals_of_group : Group → Desk → List Total
+totals_of_group group desk = totals_of (summed (length group.states) (state_at group)) desk

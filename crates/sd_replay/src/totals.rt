@@ -54,7 +54,7 @@ impl Totals {
 /// Appends a line: the name, a space, the number and a newline.
 pub fn push_total(name: &[u8], n: u128, line: &mut Line)
     requires { length line.old.items + length name.now + 41 ≤ 1024 }
-    ensures text { line.new.items ≡ line.old.items ++ total_line name.now n }
+    ensures text { line.new.items ≡ line.old.items ++ total_line (name.now, n) }
     ensures len { length line.new.items ≤ length line.old.items + length name.now + 41 }
 {
     line.try_extend_from_slice(name).unwrap();
@@ -92,8 +92,8 @@ pub fn totals_text(totals: &Totals) -> Line
 /// `WriteFault` where the sink failed. Then a front of the line was written.
 pub fn write_total<O: Sink>(name: &[u8], n: u128, output: &mut O) -> Result<(), WriteFault>
     requires { length name.now ≤ 255 }
-    ensures ok { OnOk result (O.seen output.new ≡ given (total_line name.now n) (O.seen output.old)) }
-    ensures failed { OnErr result (HasFailedBehind (total_line name.now n) (O.seen output.old) (O.seen output.new)) }
+    ensures ok { OnOk result (O.seen output.new ≡ given (total_line (name.now, n)) (O.seen output.old)) }
+    ensures failed { OnErr result (HasFailedBehind (total_line (name.now, n)) (O.seen output.old) (O.seen output.new)) }
 {
     let mut line = Line::new();
     push_total(name, n, &mut line);

@@ -1,11 +1,12 @@
 -- What a drill answers, by how its replay ended.
-use Rattle.std.proofs.Common.{◌≡◌, ℕ, ◌≤◌, List, [], ◌++◌, Ok, codes, refl, sym, ap, subst, ◌∙◌, inl, inr}
+use Rattle.std.proofs.Common.{◌≡◌, ℕ, ◌≤◌, List, [], ◌∷◌, ◌++◌, Ok, codes, refl, sym, ap, subst, ◌∙◌, inl, inr}
 use Rattle.sd_model_outside.specs.Outside.{Object, Number, HasFailedBehind, given}
 use Rattle.sd_model_outside.proofs.WriteLemmas.{behind-later, behind-longer, given-given}
 use Rattle.sd_model_settings.specs.Settings as file
 use Rattle.sd_model_settings.specs.Defaults.{default_settings}
 use Rattle.sd_model_settings.proofs.OnLiterals.{settings_on_literals}
-use Rattle.sd_model_replay.specs.Totals.{Totals, total_line}
+use Rattle.sd_model_replay.specs.Totals.{Total, total_line, totals_after, totals_text}
+use Rattle.sd_model_replay.proofs.TotalLemmas.{totals_text-snoc}
 use Rattle.sd_model_replay.specs.AccountingTheorem.{Seen}
 use Rattle.sd_model_replay.specs.Ends.{End, Complete, WriteFailed, Replayed}
 use Rattle.sd_model_call.specs.Words.{most_packets}
@@ -28,7 +29,7 @@ pub in_force : (values : file.Settings) → file.settings [] ≡ Ok values → v
 in_force values is = let same : Ok values ≡ Ok default_settings = sym is ∙ empty_file in cc
 
 -- a replay of the code that didn't end with `Ok` isn't complete
-pub not_complete : (r : ReplayEnd) → ((totals : CodeTotals) → r ≡ code.Ok totals → ⊥) → (totals : Totals) → end_of r ≡ Complete totals → ⊥
+pub not_complete : (r : ReplayEnd) → ((totals : CodeTotals) → r ≡ code.Ok totals → ⊥) → (totals : List Total) → end_of r ≡ Complete totals → ⊥
 not_complete (code.Ok t) other totals is = other t refl
 not_complete (code.Script (Word at)) other totals is = absurd (cc)
 not_complete (code.Script (Length at)) other totals is = absurd (cc)
@@ -72,17 +73,24 @@ module _ (n : ℕ) (few : n ≤ most_packets) (values : file.Settings) (is : val
   has_failed : (new : Object) → HasFailedBehind (drill_text n) output new → IsDrill n NotWritten output new
   has_failed new failed = has_drilled NotWritten new (λ is. absurd (cc)) (inr (refl, failed))
 
+  -- a front of the totals is one of the text
+  in_front : HasFailedBehind (drill_totals n) output end.output → HasFailedBehind (drill_text n) output end.output
+  in_front failed =
+      let bytes : Total = (codes "bytes", bytes_counted drill_settings (drilled n)) in
+      subst (λ (text : List ℕ). HasFailedBehind text output end.output) (sym (totals_text-snoc (totals_after drill_settings (drilled n)) bytes))
+      (behind-longer (drill_totals n) (total_line bytes) output end.output failed)
+
   -- a replay that isn't complete failed to write the totals
-  pub by_failure : (answer : Answer) → answer ≡ ending e → ((totals : Totals) → e ≡ Complete totals → ⊥) → IsDrill n answer output end.output
+  pub by_failure : (answer : Answer) → answer ≡ ending e → ((totals : List Total) → e ≡ Complete totals → ⊥) → IsDrill n answer output end.output
   by_failure answer is other = elim ended.ends [
     | inl complete ↦ absurd (other _ complete.0)
-    | inr failed ↦ subst (λ (a : Answer). IsDrill n a output end.output) (sym (is ∙ ap ending failed.0)) (has_failed end.output (behind-longer (drill_totals n) _ output end.output failed.1))
+    | inr failed ↦ subst (λ (a : Answer). IsDrill n a output end.output) (sym (is ∙ ap ending failed.0)) (has_failed end.output (in_front failed.1))
   ]
 
   -- the totals were written, and then the number of Graphite's bytes was
-  module _ (totals : Totals) (complete : e ≡ Complete totals) (count : ℕ) (counted : end.graphite.told ≡ Number count) where
+  module _ (totals : List Total) (complete : e ≡ Complete totals) (count : ℕ) (counted : end.graphite.told ≡ Number count) where
     abbrev bytes_line : List ℕ
-    bytes_line = total_line (codes "bytes") count
+    bytes_line = total_line (codes "bytes", count)
 
     totals_written : (e ≡ drill_end n) × (end.output ≡ given (drill_totals n) output)
     totals_written = elim ended.ends [
@@ -92,7 +100,9 @@ module _ (n : ℕ) (few : n ≤ most_packets) (values : file.Settings) (is : val
 
     text : drill_totals n ++ bytes_line ≡ drill_text n
     text = let both : Number count ≡ Number (bytes_counted drill_settings (drilled n)) = sym counted ∙ ended.counted in
-        let same : count ≡ bytes_counted drill_settings (drilled n) = cc in ap (λ m. drill_totals n ++ total_line (codes "bytes") m) same
+        let same : count ≡ bytes_counted drill_settings (drilled n) = cc in
+        let totals : List Total = totals_after drill_settings (drilled n) in
+        sym (totals_text-snoc totals (codes "bytes", count)) ∙ ap (λ m. totals_text (totals ++ (codes "bytes", m) ∷ [])) same
 
     pub by_bytes : (new : Object) → new ≡ given bytes_line end.output → IsDrill n Done output new
     by_bytes new written = has_drilled Done new (λ is. totals_written.0) (inl (refl, written ∙ ap (given bytes_line) totals_written.1 ∙ given-given (drill_totals n) bytes_line output ∙ ap (λ t. given t output) text))

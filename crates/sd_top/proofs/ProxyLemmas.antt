@@ -6,8 +6,7 @@ use Rattle.std.proofs.lemmas.Bool.Decides.{nat_tests}
 use Rattle.sd_model_outside.specs.Outside.{File, Object}
 use Rattle.sd_model_settings.specs.Settings as file
 use Rattle.sd_model_settings.specs.Settings.{OutOfRange, SettingsFlaw}
-use Rattle.sd_model_replay.specs.Totals.{total_line}
-use Rattle.sd_model_proxy.specs.Totals.{proxy_text}
+use Rattle.sd_model_replay.specs.Totals.{totals_text}
 use Rattle.sd_model_call.specs.Opening.{IsAccepted, World, settled}
 use Rattle.sd_model_call.specs.Call.{Answer, StopsAmong, WritesTotals}
 use Rattle.sd_model_call.specs.Proxy.{ProxyAccounts, most_wires, proxy_answer, proxy_flaw, proxy_openings, relay_text}
@@ -65,7 +64,7 @@ module _ (name : List ℕ) (values : file.Settings) (settings : Object) (old new
       → WritesTotals (relay_lines r.sums r.checked) (relay_answer r.received.items r.checked) answer old.seen.output output → ProxyAccounts name answer old new
   proxy_ran r answer mid output h is written =
       let x = h.relayed in
-      let text : relay_lines r.sums r.checked ≡ relay_text values.lists.nodes x.relays x.checks = (λ i. proxy_text (x.sums i) ++ total_line (codes "checks") (x.checked i) ++ total_line (codes "probe_faults") (x.faults i)) in
+      let text : relay_lines r.sums r.checked ≡ relay_text values.lists.nodes x.relays x.checks = (λ i. totals_text (x.sums i ++ (codes "checks", x.checked i) ∷ (codes "probe_faults", x.faults i) ∷ [])) in
       let ends = same_ends r.received.items ∙ x.received in
       let whole : relay_answer r.received.items r.checked ≡ proxy_answer x.relays (checking.end_view r.checked.ended) = (λ i. ends_answer (ends i) (checking.end_view r.checked.ended) []) in
       subst (λ (w : World). ProxyAccounts name answer old w) (sym (is ∙ ap (λ (w : World). record w { seen = record w.seen { output = output } }) h.others))

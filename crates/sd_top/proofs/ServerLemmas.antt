@@ -13,27 +13,32 @@ use Rattle.sd_model_shard.specs.History.{state_after}
 use Rattle.sd_model_record.specs.Backends.{Graphite, Console}
 use Rattle.sd_model_record.specs.Desk.{Desk}
 use Rattle.sd_model_replay.specs.Settings.{limits_of, policy_of}
-use Rattle.sd_model_replay.specs.Totals.{Totals, total_line, totals_text}
+use Rattle.sd_model_replay.specs.Totals.{Total, totals_text}
 use Rattle.sd_model_serve.specs.Ends.{LoopEnd}
 use Rattle.sd_model_run.specs.Course.{Course}
 use Rattle.sd_model_run.specs.Run.{ServerTheorem}
 use Rattle.sd_model_call.specs.Call.{Answer, WritesTotals}
 use Rattle.sd_model_call.specs.Opening.{IsAccepted, World, flags_of, settled}
-use Rattle.sd_model_call.specs.Server.{HasServed, ends_answer, is_worn, run_answer, run_text, run_totals, skipped_lines}
+use Rattle.sd_model_call.specs.Server.{HasServed, ends_answer, is_worn, run_answer, run_totals}
 use Rattle.sd_model_call.specs.ServerOpening.{begun, has_outlets, objects_in, serves_by}
 use Rattle.sd_outside.specs.declared.datagrams.Ended.{Ended}
 use Rattle.sd_pool.specs.Books.{IsBookOf, no_book}
+use Rattle.sd_replay.specs.Totals.{totals_by}
 use Rattle.sd_serve.specs.Serving.{HasServed as Ran, end_of}
 use Rattle.sd_serve.specs.Through.{AreCounted, has_counts}
 use Rattle.sd_serve.specs.declared.serving.Served.{Served}
 use Rattle.sd_serve.specs.declared.workers_out.OutCounts.{OutCounts}
 use Rattle.sd_shard.specs.declared.shard.ShardBook.{ShardBook}
-use Rattle.sd_top.specs.Serving.{ends_of, lines_by, lines_in, totals_in}
+use Rattle.sd_top.specs.Serving.{ends_of, lines_in, skips_in, totals_in}
 
 -- whether a loop took the most turns: a receiver's, or another
 pub worn_among : (received : List Ended) (others : List LoopEnd) → list_any is_worn (map end_of received ++ others) ≡ (list_any (λ e. is_worn (end_of e)) received || list_any is_worn others)
 worn_among [] others = refl
 worn_among (e ∷ received) others = ap (λ b. is_worn (end_of e) || b) (worn_among received others) ∙ sym (or_assoc (is_worn (end_of e)) (list_any (λ e. is_worn (end_of e)) received) (list_any is_worn others))
+
+-- how many texts outlets skipped, where there are outlets
+abbrev skips_where : Bool → Course → List Total
+skips_where are c = if are then (codes "graphite_skipped", (c.outflows Graphite).skipped) ∷ (codes "console_skipped", (c.outflows Console).skipped) ∷ [] else []
 
 -- a number of each book, summed, where it is that of a shard by its number
 summed_books : (f : ShardBook → ℕ) (g : ℕ → ℕ) (books : List ShardBook) (n : ℕ) → length books ≡ n → ((i : ℕ) → i < n → f (get_or books i no_book) ≡ g i) → sum_by f books ≡ sum_by g (range_with_len 0 n)
@@ -42,40 +47,29 @@ summed_books f g books n count each =
     fill_by_all g (map f books) n (f no_book) (length-map books f ∙ count) (λ k h. get_or-map f books k no_book (f no_book) (omega (arith, h, count)) ∙ each k h) in
     sym (sum-map f books) ∙ ap sum all ∙ sum-map g (range_with_len 0 n)
 
+-- the texts that outlets skipped are those of the run
+skips_are : (s : file.Settings) (c : Course) (outs : Option OutCounts) → has_counts outs ≡ has_outlets s → AreCounted outs c.outflows → skips_in outs ≡ skips_where (has_outlets s) c
+skips_are s c None has counts = ap (λ (b : Bool). skips_where b c) has
+skips_are s c (Some outs) has counts =
+    (λ i. (codes "graphite_skipped", counts.skips Graphite i) ∷ (codes "console_skipped", counts.skips Console i) ∷ []) ∙ ap (λ (b : Bool). skips_where b c) has
+
 -- the totals of books and a desk are those of the run that left them
-pub totals_are : (s : file.Settings) (c : Course) (books : List ShardBook) (desk : Desk) (outs : Option OutCounts) → desk ≡ c.desk → AreCounted outs c.outflows → length books ≡ s.sizes.shards
+pub totals_are : (s : file.Settings) (c : Course) (books : List ShardBook) (desk : Desk) (outs : Option OutCounts) → desk ≡ c.desk → has_counts outs ≡ has_outlets s → AreCounted outs c.outflows → length books ≡ s.sizes.shards
     → ((i : ℕ) → i < s.sizes.shards → IsBookOf (get_or books i no_book) (state_after (limits_of s) (policy_of s) (c.histories i)))
-    → totals_in books desk outs ≡ run_totals s c
-totals_are s c books desk outs left counts count are =
+    → totals_in books desk outs ++ skips_in outs ≡ run_totals s c
+totals_are s c books desk outs left has counts count are =
     let state : ℕ → State = λ i. state_after (limits_of s) (policy_of s) (c.histories i) in
     let taken = summed_books (λ b. b.taken) (λ i. (state i).taken) books s.sizes.shards count (λ i h. (are i h).taken) in
     let dropped = summed_books (λ b. b.dropped) (λ i. (state i).dropped) books s.sizes.shards count (λ i h. (are i h).dropped) in
     let flushed = summed_books (λ b. b.flushed) (λ i. (state i).flushed) books s.sizes.shards count (λ i h. (are i h).flushed) in
     let held = summed_books (λ b. b.held) (λ i. length (state i).held) books s.sizes.shards count (λ i h. (are i h).held) in
     let deleted = summed_books (λ b. b.deleted) (λ i. (state i).deleted) books s.sizes.shards count (λ i h. (are i h).deleted) in
-    λ i. record {
-      packets = (left i).totals.packets;
-      lines = (left i).totals.lines;
-      bad = (left i).totals.bad;
-      taken = taken i;
-      dropped = dropped i;
-      flushed = flushed i;
-      held = held i;
-      deleted = deleted i;
-      rounds = (left i).rounds;
+    let skips = skips_are s c outs has counts in
+    λ i. totals_by (record { taken = taken i; flushed = flushed i; deleted = deleted i; dropped = dropped i; held = held i }) (record (left i) {
       graphite_faults = (left i).graphite_faults + counts.faults Graphite i;
       console_faults = (left i).console_faults + counts.faults Console i;
-      repeater_faults = (left i).repeater_faults;
-      admin_faults = (left i).admin_faults;
-    }
-
--- and what is told of both is the same
-pub lines_are : (s : file.Settings) (c : Course) (totals : Totals) (outs : Option OutCounts) → totals ≡ run_totals s c → has_counts outs ≡ has_outlets s → AreCounted outs c.outflows → lines_by totals outs ≡ run_text s c
-lines_are s c totals None is has counts =
-    ap totals_text is ∙ ap (λ (b : Bool). if b then totals_text (run_totals s c) ++ skipped_lines c else totals_text (run_totals s c)) has
-lines_are s c totals (Some outs) is has counts =
-    (λ i. totals_text (is i) ++ (total_line (codes "graphite_skipped") (counts.skips Graphite i) ++ total_line (codes "console_skipped") (counts.skips Console i)))
-    ∙ ap (λ (b : Bool). if b then totals_text (run_totals s c) ++ skipped_lines c else totals_text (run_totals s c)) has
+    })
+    ++ skips i
 
 -- a run whose totals were written, or a front of them
 pub has_served : (name : List ℕ) (says : ℕ → Type 0) (answer : Answer) (old mid new : World) (values : file.Settings) (settings : Object) (served : Served)
@@ -92,7 +86,7 @@ has_served name says answer old mid new values settings served accepted is ran w
       course = ran.course;
       theorem = subst (λ w. ServerTheorem (serves_by values) says ran.course (objects_in (begun values w)) (objects_in new)) is ran.theorem;
       written = subst (λ text. WritesTotals text (run_answer ran.course) answer old.seen.output new.seen.output)
-          (lines_are values ran.course (totals_in served.books.items served.desk served.outs) served.outs (totals_are values ran.course served.books.items served.desk served.outs ran.desk ran.outs ran.shards ran.books) ran.outlets ran.outs)
+          (ap totals_text (totals_are values ran.course served.books.items served.desk served.outs ran.desk ran.outlets ran.outs ran.shards ran.books))
           (subst (λ whole. WritesTotals (lines_in served.books.items served.desk served.outs) whole answer old.seen.output new.seen.output) (λ i. ends_answer (ran.received i) (ran.flusher i) (ran.keeper i ∷ ran.liner i)) written);
       script = script;
       probe = probe;

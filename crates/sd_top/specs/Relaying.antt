@@ -1,8 +1,7 @@
 -- What the proxy of a settings file did, and what it tells once its run has ended.
-use Rattle.std.specs.Prelude.{◌≡◌, ◌++◌, ℕ, List, [], codes, map}
+use Rattle.std.specs.Prelude.{◌≡◌, ◌∷◌, ◌++◌, ℕ, List, [], codes, map}
 use Rattle.sd_model_settings.specs.Settings as file
-use Rattle.sd_model_replay.specs.Totals.{total_line}
-use Rattle.sd_model_proxy.specs.Totals.{proxy_text}
+use Rattle.sd_model_replay.specs.Totals.{totals_text}
 use Rattle.sd_model_call.specs.Call.{Answer}
 use Rattle.sd_model_call.specs.Opening.{World}
 use Rattle.sd_model_call.specs.Proxy.{proxy_begun}
@@ -29,7 +28,7 @@ pub record HasRelayed (values : file.Settings) (old new : World) (r : Relayed) :
 abbrev pub relay_answer : List Ended → Checked → Answer
 relay_answer received checked = ends_answer (map end_of received) (checking.end_view checked.ended) []
 
--- the lines of a proxy's totals
+-- the text of a proxy's totals
 abbrev pub relay_lines : ProxySums → Checked → List ℕ
 relay_lines sums checked =
-    proxy_text (sums_view sums) ++ total_line (codes "checks") checked.checks ++ total_line (codes "probe_faults") checked.probe_faults
+    totals_text (sums_view sums ++ (codes "checks", checked.checks) ∷ (codes "probe_faults", checked.probe_faults) ∷ [])

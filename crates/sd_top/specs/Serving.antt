@@ -1,11 +1,11 @@
 -- What a server of a settings file is opened for, and what it tells once its run has ended.
-use Rattle.std.specs.Prelude.{ℕ, ◌+◌, List, ◌∷◌, ◌++◌, codes, length, map, sum_by, Option, Some, None}
+use Rattle.std.specs.Prelude.{ℕ, ◌+◌, List, [], ◌∷◌, ◌++◌, codes, length, map, sum_by, Option, Some, None}
 use Rattle.std.specs.Option.{option_to_list}
 use Rattle.sd_model_record.specs.Backends.{Graphite, Console}
 use Rattle.sd_model_record.specs.Desk.{Desk}
 use Rattle.sd_model_settings.specs.Settings as file
 use Rattle.sd_model_replay.specs.Settings.{limits_of, policy_of, targets_of}
-use Rattle.sd_model_replay.specs.Totals as model
+use Rattle.sd_model_replay.specs.Totals.{Total, totals_text}
 use Rattle.sd_model_call.specs.Call.{Answer}
 use Rattle.sd_model_call.specs.Server.{ends_answer}
 use Rattle.sd_model_call.specs.ServerOpening.{has_streams}
@@ -39,19 +39,18 @@ sums_of books =
     }
 
 -- the totals of shards with these numbers and a desk, with what outlets counted, if there were any
-abbrev pub totals_in : List ShardBook → Desk → Option OutCounts → model.Totals
+abbrev pub totals_in : List ShardBook → Desk → Option OutCounts → List Total
 totals_in books desk outs =
-    record (totals_by (sums_of books) desk) {
+    totals_by (sums_of books) (record desk {
       graphite_faults = desk.graphite_faults + faults_at outs Graphite;
       console_faults = desk.console_faults + faults_at outs Console;
-    }
+    })
 
--- what is told of a run with these totals, and with what outlets counted, if there were any
-abbrev pub lines_by : model.Totals → Option OutCounts → List ℕ
-lines_by totals None = model.totals_text totals
-lines_by totals (Some outs) =
-    model.totals_text totals ++ (model.total_line (codes "graphite_skipped") outs.skips.graphite ++ model.total_line (codes "console_skipped") outs.skips.console)
+-- how many texts each outlet skipped, if there were any
+abbrev pub skips_in : Option OutCounts → List Total
+skips_in None = []
+skips_in (Some outs) = (codes "graphite_skipped", outs.skips.graphite) ∷ (codes "console_skipped", outs.skips.console) ∷ []
 
 -- what is told of a run that left these
 abbrev pub lines_in : List ShardBook → Desk → Option OutCounts → List ℕ
-lines_in books desk outs = lines_by (totals_in books desk outs) outs
+lines_in books desk outs = totals_text (totals_in books desk outs ++ skips_in outs)

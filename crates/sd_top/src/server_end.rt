@@ -4,10 +4,11 @@ ghost use Rattle.std.specs.Option.{option_to_list};
 ghost use Rattle.std.specs.List.{list_any};
 ghost use Rattle.sd_model_call.specs.Call.{WritesTotals};
 ghost use Rattle.sd_model_call.specs.Server.{is_worn};
+ghost use Rattle.sd_model_replay.specs.Totals.{totals_text as text_of};
 ghost use Rattle.sd_replay.specs.Totals.{totals_view};
 ghost use Rattle.sd_serve.specs.Serving.{door_end_of, end_of};
 ghost use Rattle.sd_top.specs.Answers.{answer_of};
-ghost use Rattle.sd_top.specs.Serving.{ends_of, lines_by, lines_in, totals_in};
+ghost use Rattle.sd_top.specs.Serving.{ends_of, lines_in, skips_in, totals_in};
 
 use crate::ends::{any_worn, by_receivers, by_turns, cut, took_most_turns};
 use crate::status::{Part, Status};
@@ -71,7 +72,7 @@ fn totals_of(books: &[ShardBook], desk: &Desk, outs: &Option<OutCounts>) -> Tota
 
 /// The lines that are told of a run with these totals, and with what outlets counted, if there were any.
 fn lines_of(totals: &Totals, outs: &Option<OutCounts>) -> Line
-    ensures { result.items ≡ lines_by (totals_view totals.now) outs.now }
+    ensures { result.items ≡ text_of (totals_view totals.now ++ skips_in outs.now) }
 {
     let mut line = totals_text(totals);
     if let Some(outs) = outs {

@@ -1,4 +1,4 @@
-use Rattle.std.proofs.Common.{sym, ◌∙◌}
+use Rattle.std.proofs.Common.{[], ◌∷◌, codes, sym, ◌∙◌}
 use Rattle.sd_model_shards.specs.Shards.{with_shards}
 use Rattle.sd_model_shards.proofs.BooksLemmas.{books_summed}
 use Rattle.sd_model_shards.proofs.ShownLemmas.{deliveries_alike, desk_at_end, output_alike, records_alike}
@@ -18,19 +18,19 @@ returns c settings n m played some_n some_m none_n none_m =
       deliveries = λ back. deliveries_alike settings n m some_n some_m played none_n none_m back;
       records = records_alike settings n m some_n some_m played none_n none_m;
       output = λ shows. output_alike settings n m some_n some_m played none_n none_m shows;
-      totals = λ k. record {
-        packets = (desk k).totals.packets;
-        lines = (desk k).totals.lines;
-        bad = (desk k).totals.bad;
-        taken = taken k;
-        dropped = dropped k;
-        flushed = flushed k;
-        held = held k;
-        deleted = deleted k;
-        rounds = (desk k).rounds;
-        graphite_faults = (desk k).graphite_faults;
-        console_faults = (desk k).console_faults;
-        repeater_faults = (desk k).repeater_faults;
-        admin_faults = (desk k).admin_faults;
-      };
+      totals = λ k.
+          (codes "packets", (desk k).totals.packets)
+          ∷ (codes "lines", (desk k).totals.lines)
+          ∷ (codes "bad", (desk k).totals.bad)
+          ∷ (codes "taken", taken k)
+          ∷ (codes "dropped", dropped k)
+          ∷ (codes "flushed", flushed k)
+          ∷ (codes "held", held k)
+          ∷ (codes "deleted", deleted k)
+          ∷ (codes "rounds", (desk k).rounds)
+          ∷ (codes "graphite_faults", (desk k).graphite_faults)
+          ∷ (codes "console_faults", (desk k).console_faults)
+          ∷ (codes "repeater_faults", (desk k).repeater_faults)
+          ∷ (codes "admin_faults", (desk k).admin_faults)
+          ∷ [];
     }

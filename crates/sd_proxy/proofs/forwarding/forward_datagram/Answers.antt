@@ -20,7 +20,7 @@ loop-line-preserved g c =
     let sends =
     subst (λ (ns : List Node). SendsLine ns c.in-Some.line.now c.args.up (map seen c.loop-line.wires) (map seen c.forward_line-fate.new.wires) (fate_view c.forward_line-fate.result)) loop.ring
     forward.sends in
-    let one = Forwards-line c.args.ring.now c.in-Some.line.now c.args.up _ _ _ (totals_view c.loop-line.totals) (totals_view c.add_line.new.self) sends c.add_line.ensures in
+    let one = Forwards-line c.args.ring.now c.in-Some.line.now c.args.up _ _ _ c.loop-line.totals (totals_view c.add_line.new.self) sends c.add_line.ensures in
     record {
       ring = forward.ring ∙ loop.ring;
       wires = forward.wires ∙ loop.wires;

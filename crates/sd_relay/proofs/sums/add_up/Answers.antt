@@ -1,7 +1,7 @@
 use Rattle.std.proofs.Common.{◌≡◌, ◌∙◌, ◌+◌, ◌++◌, [], ◌∷◌, map, take, sym, ap, subst, arith, rules}
 use Rattle.std.proofs.lemmas.List.{map-append, take_more}
 use Rattle.sd_model_proxy.specs.Totals.{sums_of_totals}
-use Rattle.sd_relay.specs.Sums.{AddsTotals, WasRun, totals_in}
+use Rattle.sd_relay.specs.Sums.{WasRun, totals_in}
 use Rattle.sd_relay.proofs.SumLemmas.{sums-next}
 use Rattle.sd_relay.proofs.sums.add_up.Goals as goal
 
@@ -18,7 +18,7 @@ loop-post-preserved g c =
     let more : map totals_in (take (index + 1) posts) ≡ map totals_in (take index posts) ++ totals_in post ∷ [] =
     ap (map totals_in) (take_more posts index post (omega arith) ∙ ap (λ p. take index posts ++ p ∷ []) (sym c.post-item.is)) ∙ map-append totals_in (take index posts) (post ∷ []) in
     record {
-      are = sums-next (map totals_in (take index posts)) (totals_in post) _ _ i.are (subst (λ t. AddsTotals t c.loop-post.sums c.with-sums.result) c.totals_of.ensures c.with-sums.ensures.adds) ∙ ap sums_of_totals (sym more);
+      are = sums-next (map totals_in (take index posts)) c.totals_of.result _ _ i.are c.with-sums.ensures.adds ∙ ap (λ t. sums_of_totals (map totals_in (take index posts) ++ t ∷ [])) c.totals_of.ensures ∙ ap sums_of_totals (sym more);
       packets = omega (arith, few.packets, i.packets);
       lines = omega (arith, few.lines, i.lines);
       bad = omega (arith, few.bad, i.bad);

@@ -23,14 +23,14 @@ returns-in-Ok-write_total g c =
     by_bytes c.args.packets (omega (arith, c.requires.most)) c.in-Ok.settings (in_force c.in-Ok.settings c.in-Ok.ensures.exact) (g.O.Faulty.seen c.args.output.now) _ _
     (λ i. record { script = c.new-script.ensures i; output = g.O.Faulty.seen c.args.output.now; graphite = c.new.ensures i; console = c.new-2.ensures i; wires = [] })
     refl refl _ c.in-Ok-replay.ensures.end (totals_view c.in-Ok-replay.field-0) refl c.count.result c.count.ensures _
-    (c.in-Ok-write_total.ensures.ok ∙ ap (λ n. given (total_line (codes "bytes") n) (g.O.Faulty.seen c.replay.new.output)) c.from.ensures)
+    (c.in-Ok-write_total.ensures.ok ∙ ap (λ n. given (total_line (codes "bytes", n)) (g.O.Faulty.seen c.replay.new.output)) c.from.ensures)
 
 pub returns-in-Err : goal.returns-in-Err
 returns-in-Err g c =
     by_bytes_failed c.args.packets (omega (arith, c.requires.most)) c.in-Ok.settings (in_force c.in-Ok.settings c.in-Ok.ensures.exact) (g.O.Faulty.seen c.args.output.now) _ _
     (λ i. record { script = c.new-script.ensures i; output = g.O.Faulty.seen c.args.output.now; graphite = c.new.ensures i; console = c.new-2.ensures i; wires = [] })
     refl refl _ c.in-Ok-replay.ensures.end (totals_view c.in-Ok-replay.field-0) refl c.count.result c.count.ensures _
-    (subst (λ (n : ℕ). HasFailedBehind (total_line (codes "bytes") n) (g.O.Faulty.seen c.replay.new.output) (g.O.Faulty.seen c.write_total.new.output)) c.from.ensures c.in-Err.ensures.failed)
+    (subst (λ (n : ℕ). HasFailedBehind (total_line (codes "bytes", n)) (g.O.Faulty.seen c.replay.new.output) (g.O.Faulty.seen c.write_total.new.output)) c.from.ensures c.in-Err.ensures.failed)
 
 pub returns-in_default-replay : goal.returns-in_default-replay
 returns-in_default-replay g c =
