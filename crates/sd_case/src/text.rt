@@ -95,3 +95,29 @@ where
 {
     word.parse::<T>().map_err(|_| Refusal::Malformed)
 }
+
+/// Takes the number that a word writes in the place of another.
+///
+/// # Errors
+///
+/// `Malformed` where it writes none that `T` holds.
+pub fn set_number<T: FromStr + Drop>(place: &mut T, word: &str) -> Result<(), Refusal>
+where
+    T::Err: Drop,
+    ensures cause { IsOkUnless result Refusal.Malformed }
+{
+    *place = number(word)?;
+    Ok(())
+}
+
+/// Appends the number that a word writes.
+///
+/// # Errors
+///
+/// `Malformed` where it writes none, and `OutOfMemory`.
+pub fn push_number(numbers: &mut Vec<u64>, word: &str) -> Result<(), Refusal>
+    ensures cause { IfErr result (λ refusal. (refusal ≡ Refusal.Malformed) ⊎ (refusal ≡ Refusal.OutOfMemory)) }
+{
+    numbers.push(number(word)?)?;
+    Ok(())
+}
