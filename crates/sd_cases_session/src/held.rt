@@ -1,5 +1,6 @@
-ghost use Rattle.std.specs.Prelude.{All, IfOk};
+ghost use Rattle.std.specs.Prelude.{◌≡◌, All, IfOk, false};
 ghost use Rattle.sd_outside.specs.MemSessions.{HasNoFaults};
+ghost use Rattle.sd_cases_session.specs.Pausing.{seen_of};
 
 use crate::pausing::PausingDoor;
 use crate::plan::Plan;
@@ -30,10 +31,21 @@ pub(crate) fn hold_one<R: Wait>(
     out: &mut Answer,
 ) -> Result<(), Refusal> {
     let plan = Plan::of(alloc, steps)?;
-    let mut server = Server::open(rt, alloc, &plan)?;
+    hold_by(rt, alloc, &plan, asked, out)
+}
+
+/// Holds a session by a plan, and appends what came of it.
+fn hold_by<R: Wait>(
+    rt: &R,
+    alloc: Global,
+    plan: &Plan,
+    asked: &str,
+    out: &mut Answer,
+) -> Result<(), Refusal> {
     let mut source = plan.source(alloc, asked)?;
     let mut sink = plan.sink(alloc, plan.room)?;
-    let ended = server.hold(rt, &plan, &mut source, &mut sink);
+    let mut server = Server::open(rt, alloc, plan)?;
+    let ended = server.hold(rt, plan, &mut source, &mut sink);
     out.text(" = ");
     out.text(end_word(ended));
     out.text(", left ");
@@ -84,12 +96,35 @@ pub(crate) fn keep<R: Wait>(
     out: &mut Answer,
 ) -> Result<(), Refusal> {
     let plan = Plan::of(alloc, steps)?;
-    let mut server = Server::open(rt, alloc, &plan)?;
-    let door = MemDoor::open(sessions_of(alloc, &plan, sessions)?)?;
-    let mut door = PausingDoor::of(alloc, door);
-    door.door.fail_call.extend_from_slice(&plan.fail_next)?;
-    door.pauses.extend_from_slice(&plan.idle)?;
-    match server.keep(rt, &plan, &mut door) {
+    let mut door = door_of(alloc, &plan, sessions)?;
+    keep_by(rt, alloc, &plan, &mut door, out)
+}
+
+/// The door with the sessions of a word, whose calls fail or pause as a plan says.
+fn door_of(alloc: Global, plan: &Plan, sessions: &str) -> Result<PausingDoor, Refusal>
+    ensures is_out { IfOk result (λ door. (seen_of door).is_out ≡ false) }
+    ensures turns { IfOk result (λ door. (seen_of door).turns ≡ 0) }
+{
+    let pauses = plan.idle.clone()?;
+    let fail_call = plan.fail_next.clone()?;
+    let mut door = MemDoor::open(sessions_of(alloc, plan, sessions)?)?;
+    door.fail_call = fail_call;
+    Ok(PausingDoor::of(door, pauses))
+}
+
+/// Keeps a door by a plan, and appends what came of it.
+fn keep_by<R: Wait>(
+    rt: &R,
+    alloc: Global,
+    plan: &Plan,
+    door: &mut PausingDoor,
+    out: &mut Answer,
+) -> Result<(), Refusal>
+    requires none_out { (seen_of door.old).is_out ≡ false }
+    requires turns { (seen_of door.old).turns ≡ 0 }
+{
+    let mut server = Server::open(rt, alloc, plan)?;
+    match server.keep(rt, plan, door) {
         DoorEnd::End => out.text(" = end"),
         DoorEnd::Stopped { rounds } => out.count(" = stopped ", rounds),
         DoorEnd::Worn { turns } => out.count(" = worn ", turns),

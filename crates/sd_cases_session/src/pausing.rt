@@ -1,11 +1,10 @@
 use sd_outside::{Address, Door, Entry, Faulty, MemDoor, MemSink, MemSource, OpenRefusal, Opens};
-use std::alloc::Global;
 
 /// A door in memory that has no session for now at calls of these numbers, counted from 1.
 #[derive(Drop)]
 pub(crate) struct PausingDoor {
     pub door: MemDoor,
-    pub pauses: Vec<u64>,
+    pauses: Vec<u64>,
     calls: u64,
     turns: u64,
 }
@@ -15,14 +14,14 @@ impl PausingDoor {
     ghost use Rattle.sd_outside.specs.MemDoor.{seen_of as mem_seen};
     ghost use Rattle.sd_cases_session.specs.Pausing.{seen_of};
 
-    /// A door that doesn't pause yet.
-    pub fn of(alloc: Global, door: MemDoor) -> PausingDoor
+    /// A door that has no session for now at calls of these numbers.
+    pub fn of(door: MemDoor, pauses: Vec<u64>) -> PausingDoor
         ensures is_out { (seen_of result).is_out ≡ (mem_seen door).is_out }
         ensures turns { (seen_of result).turns ≡ 0 }
     {
         PausingDoor {
             door,
-            pauses: Vec::new(alloc),
+            pauses,
             calls: 0,
             turns: 0,
         }

@@ -2,7 +2,7 @@ ghost use Rattle.std.specs.Prelude.{◌≡◌, ◌<◌, ◌≤◌, IfOk};
 ghost use Rattle.sd_outside.specs.MemSink.{seen_of as sink_seen};
 ghost use Rattle.sd_outside.specs.MemSource.{seen_of as source_seen};
 
-use sd_case::{Refusal, bytes_of, number};
+use sd_case::{Refusal, bytes_of, number, push_number, set_number};
 use sd_config::Settings;
 use sd_line::{Lines, Sample};
 use sd_outside::{MemSink, MemSource};
@@ -66,42 +66,52 @@ impl Plan {
     /// The plan that steps write.
     pub fn of(alloc: Global, steps: &[&str]) -> Result<Plan, Refusal> {
         let mut plan = Plan::new(alloc)?;
+        plan.take_all(alloc, steps)?;
+        Ok(plan)
+    }
+
+    /// Takes steps.
+    fn take_all(&mut self, alloc: Global, steps: &[&str]) -> Result<(), Refusal> {
         for step in steps {
             match step.split_once('=') {
-                Some((name, value)) => plan.set(alloc, name, value)?,
-                None => plan.add_sample(step)?,
+                Some((name, value)) => self.set(alloc, name, value)?,
+                None => self.add_sample(step)?,
             }
         }
-        Ok(plan)
+        Ok(())
     }
 
     /// Sets what a step names.
     fn set(&mut self, alloc: Global, name: &str, value: &str) -> Result<(), Refusal> {
         match name {
-            "settings" => {
-                let file = bytes_of(alloc, value)?;
-                self.settings = Settings::read(alloc, &file).map_err(|_| Refusal::Condition)?;
-            }
-            "shards" => self.set_shards(number(value)?)?,
-            "start" => self.start = number(value)?,
-            "last" => self.last = number(value)?,
-            "bad" => self.bad = number(value)?,
-            "rounds" => self.rounds = number(value)?,
-            "now" => self.moment = number(value)?,
-            "flushes" => self.flushes = number(value)?,
-            "fail_next" => self.fail_next.push(number(value)?)?,
-            "idle" => self.idle.push(number(value)?)?,
-            "most" => self.set_most(number(value)?)?,
-            "fail_read" => self.fail_read.push(number(value)?)?,
-            "fail_write" => self.fail_write.push(number(value)?)?,
-            "room" => self.room = number::<u32>(value)? as usize,
-            _ => return Err(Refusal::Malformed),
+            "settings" => self.read_settings(alloc, value),
+            "shards" => self.set_shards(value),
+            "start" => set_number(&mut self.start, value),
+            "last" => set_number(&mut self.last, value),
+            "bad" => set_number(&mut self.bad, value),
+            "rounds" => set_number(&mut self.rounds, value),
+            "now" => set_number(&mut self.moment, value),
+            "flushes" => set_number(&mut self.flushes, value),
+            "fail_next" => push_number(&mut self.fail_next, value),
+            "idle" => push_number(&mut self.idle, value),
+            "most" => self.set_most(value),
+            "fail_read" => push_number(&mut self.fail_read, value),
+            "fail_write" => push_number(&mut self.fail_write, value),
+            "room" => self.set_room(value),
+            _ => Err(Refusal::Malformed),
         }
+    }
+
+    /// Takes the settings of a file.
+    fn read_settings(&mut self, alloc: Global, file: &str) -> Result<(), Refusal> {
+        let file = bytes_of(alloc, file)?;
+        self.settings = Settings::read(alloc, &file).map_err(|_| Refusal::Condition)?;
         Ok(())
     }
 
     /// Sets how many shards there are.
-    fn set_shards(&mut self, shards: u16) -> Result<(), Refusal> {
+    fn set_shards(&mut self, word: &str) -> Result<(), Refusal> {
+        let shards = number::<u16>(word)?;
         if shards == 0 || shards > MOST_SHARDS {
             return Err(Refusal::Condition);
         }
@@ -110,11 +120,18 @@ impl Plan {
     }
 
     /// Sets how many bytes a read gives at most.
-    fn set_most(&mut self, most: u32) -> Result<(), Refusal> {
+    fn set_most(&mut self, word: &str) -> Result<(), Refusal> {
+        let most = number::<u32>(word)?;
         if most == 0 {
             return Err(Refusal::Condition);
         }
         self.most = most as usize;
+        Ok(())
+    }
+
+    /// Sets for how many bytes of replies there is room.
+    fn set_room(&mut self, word: &str) -> Result<(), Refusal> {
+        self.room = number::<u32>(word)? as usize;
         Ok(())
     }
 
