@@ -3,7 +3,7 @@ use sd_case::{Answer, Refusal, bytes_of, number};
 use sd_config::Settings;
 use sd_desk::{Desk, Tally};
 use sd_epoch::{Limits, Who};
-use sd_key::Kind;
+use sd_key::{Kind, Pattern};
 use sd_line::Lines;
 use sd_outside::{MemSink, WriteFault};
 use sd_shard::{Dump, Keys, Policy, Shard};
@@ -28,11 +28,11 @@ const ROOM: usize = 4096;
 /// A server that an admin asks, and what it writes.
 #[derive(Drop)]
 struct Server {
+    output: MemSink,
+    shard: Shard,
     settings: Settings,
     desk: Desk,
     now: u64,
-    shard: Shard,
-    output: MemSink,
 }
 
 /// The settings of a file.
@@ -64,29 +64,48 @@ impl Server {
     /// A server that has the defaults and nothing else, at Unix second 0.
     fn open(alloc: Global) -> Result<Server, Refusal> {
         Ok(Server {
+            output: MemSink::open(alloc, ROOM)?,
+            shard: Shard::open(alloc, LIMITS, KEEPS_ALL)?,
             settings: settings_of(alloc, "")?,
             desk: Desk::new(0),
             now: 0,
-            shard: Shard::open(alloc, LIMITS, KEEPS_ALL)?,
-            output: MemSink::open(alloc, ROOM)?,
         })
     }
 
-    /// Carries out a step: `settings=FILE`, `desk=START`, `desk=START/LAST/BAD`, `now=SECOND`, `down`, `room=BYTES`,
-    /// `fail=WRITE`, or a sample.
+    /// Carries out a step: a setting, `down`, or a sample.
     fn step(&mut self, alloc: Global, step: &str) -> Result<(), Refusal> {
         match step.split_once('=') {
-            Some(("settings", file)) => self.settings = settings_of(alloc, file)?,
-            Some(("desk", word)) => self.desk = desk_of(word)?,
-            Some(("now", second)) => self.now = number(second)?,
-            Some(("room", bytes)) => {
-                self.output = MemSink::open(alloc, number::<u32>(bytes)? as usize)?;
+            Some((name, value)) => self.set(alloc, name, value),
+            None if step == "down" => {
+                self.desk.set_health(false);
+                Ok(())
             }
-            Some(("fail", call)) => self.output.fail_call.push(number(call)?)?,
-            Some(_) => return Err(Refusal::Malformed),
-            None if step == "down" => self.desk.set_health(false),
-            None => return self.sample(step),
+            None => self.sample(step),
         }
+    }
+
+    /// Takes a setting: `settings=FILE`, `desk=START`, `desk=START/LAST/BAD`, `now=SECOND`, `room=BYTES` or `fail=WRITE`.
+    fn set(&mut self, alloc: Global, name: &str, value: &str) -> Result<(), Refusal> {
+        match name {
+            "settings" => self.read_settings(alloc, value)?,
+            "desk" => self.desk = desk_of(value)?,
+            "now" => self.now = number(value)?,
+            "room" => self.open_output(alloc, value)?,
+            "fail" => self.output.fail_call.push(number(value)?)?,
+            _ => return Err(Refusal::Malformed),
+        }
+        Ok(())
+    }
+
+    /// Takes the settings of a file.
+    fn read_settings(&mut self, alloc: Global, file: &str) -> Result<(), Refusal> {
+        self.settings = settings_of(alloc, file)?;
+        Ok(())
+    }
+
+    /// Takes an empty output that has room for so many bytes.
+    fn open_output(&mut self, alloc: Global, bytes: &str) -> Result<(), Refusal> {
+        self.output = MemSink::open(alloc, number::<u32>(bytes)? as usize)?;
         Ok(())
     }
 
@@ -101,19 +120,31 @@ impl Server {
         }
     }
 
+    /// Carries out steps and then a line, and appends what came of the line.
+    fn serve(
+        &mut self,
+        alloc: Global,
+        line: &str,
+        steps: &[&str],
+        out: &mut Answer,
+    ) -> Result<(), Refusal> {
+        for step in steps {
+            self.step(alloc, step)?;
+        }
+        match self.answer(alloc, &bytes_of(alloc, line)?)? {
+            Ok(()) => out.text(" = ok"),
+            Err(WriteFault) => out.text(" = fault"),
+        }
+        out.count(", faults ", self.output.faults());
+        out.lines(self.output.bytes());
+        Ok(())
+    }
+
     /// Carries out a line of an admin, and writes the reply.
     fn answer(&mut self, alloc: Global, line: &[u8]) -> Result<Result<(), WriteFault>, Refusal> {
         match Command::read(line) {
-            Ok(Command::Stats) => {
-                let facts = self.desk.facts();
-                let now = self.now;
-                let stats = Reply::Stats { facts: &facts, now };
-                Ok(write_reply(&stats, &mut self.output))
-            }
-            Ok(Command::Config) => {
-                let settings = &self.settings;
-                Ok(write_reply(&Reply::Config { settings }, &mut self.output))
-            }
+            Ok(Command::Stats) => Ok(self.stats()),
+            Ok(Command::Config) => Ok(self.config()),
             Ok(Command::Quit) => Ok(Ok(())),
             Ok(Command::Show(kind)) => self.show(alloc, kind),
             Ok(Command::Delete { kind, names }) => {
@@ -122,6 +153,19 @@ impl Server {
             Ok(Command::Health(word)) => Ok(self.health(word)),
             Err(fault) => Ok(write_reply(&Reply::Fault { fault }, &mut self.output)),
         }
+    }
+
+    /// Shows what the desk counted.
+    fn stats(&mut self) -> Result<(), WriteFault> {
+        let facts = self.desk.facts();
+        let now = self.now;
+        write_reply(&Reply::Stats { facts: &facts, now }, &mut self.output)
+    }
+
+    /// Shows the settings.
+    fn config(&mut self) -> Result<(), WriteFault> {
+        let settings = &self.settings;
+        write_reply(&Reply::Config { settings }, &mut self.output)
     }
 
     /// Shows the rows of a kind.
@@ -147,18 +191,28 @@ impl Server {
             let Some(pattern) = command.name(i) else {
                 break;
             };
-            let mut keys = Keys::open(alloc, self.shard.rows())?;
-            self.shard.delete(kind, &pattern, &mut keys);
-            keys.sort();
-            let gone = Reply::Gone {
-                pattern: &pattern,
-                keys: &keys,
-            };
-            if write_reply(&gone, &mut self.output).is_err() {
+            if self.delete_by(alloc, kind, &pattern)?.is_err() {
                 return Ok(Err(WriteFault));
             }
         }
         Ok(write_reply(&Reply::Finish, &mut self.output))
+    }
+
+    /// Deletes the rows of a kind that a name stands for.
+    fn delete_by(
+        &mut self,
+        alloc: Global,
+        kind: Kind,
+        pattern: &Pattern,
+    ) -> Result<Result<(), WriteFault>, Refusal> {
+        let mut keys = Keys::open(alloc, self.shard.rows())?;
+        self.shard.delete(kind, pattern, &mut keys);
+        keys.sort();
+        let gone = Reply::Gone {
+            pattern,
+            keys: &keys,
+        };
+        Ok(write_reply(&gone, &mut self.output))
     }
 
     /// Sets the health or asks for it.
@@ -181,14 +235,5 @@ pub(crate) fn ask(
     out: &mut Answer,
 ) -> Result<(), Refusal> {
     let mut server = Server::open(alloc)?;
-    for step in steps {
-        server.step(alloc, step)?;
-    }
-    match server.answer(alloc, &bytes_of(alloc, line)?)? {
-        Ok(()) => out.text(" = ok"),
-        Err(WriteFault) => out.text(" = fault"),
-    }
-    out.count(", faults ", server.output.faults());
-    out.lines(server.output.bytes());
-    Ok(())
+    server.serve(alloc, line, steps, out)
 }
