@@ -3,7 +3,8 @@ use crate::packing::{MOST_BYTES, output_of, source_of, wires_of};
 use crate::rings::ring_of;
 use sd_case::{Answer, Refusal, number};
 use sd_outside::{Ended, MemDatagrams, MemSink, MemWire};
-use sd_proxy::proxy;
+use sd_proxy::{ProxyTotals, proxy};
+use sd_ring::Ring;
 use std::alloc::Global;
 
 /// `proxy NODES CACHE UP STEPS`: how a run with these nodes up ends, what its wires have, and its totals.
@@ -15,17 +16,38 @@ pub fn run(
     steps: &[&str],
     out: &mut Answer,
 ) -> Result<(), Refusal> {
+    let up = number(up)?;
     let mut ring = ring_of(alloc, nodes, cache)?;
+    run_over(alloc, &mut ring, up, steps, out)
+}
+
+fn run_over(
+    alloc: Global,
+    ring: &mut Ring,
+    up: u64,
+    steps: &[&str],
+    out: &mut Answer,
+) -> Result<(), Refusal> {
+    let mut buf = Vec::from_elem(alloc, b'.', MOST_BYTES)?;
     let mut source = source_of(alloc, steps)?;
     let mut wires = wires_of(alloc, ring.nodes().len(), steps)?;
-    let mut output = output_of(alloc, steps)?;
-    let mut buf = Vec::from_elem(alloc, b'.', MOST_BYTES)?;
-    let got = proxy(&mut ring, &mut source, &mut wires, &mut buf, number(up)?);
+    let got = proxy(ring, &mut source, &mut wires, &mut buf, up);
     show_end(got.ended, &source, out);
     for (place, wire) in wires.iter().enumerate() {
         show_wire(place, wire, out);
     }
-    let written = got.totals.write(&mut output);
+    show_totals(alloc, &got.totals, steps, out)
+}
+
+/// Appends what the totals are written as.
+fn show_totals(
+    alloc: Global,
+    totals: &ProxyTotals,
+    steps: &[&str],
+    out: &mut Answer,
+) -> Result<(), Refusal> {
+    let mut output = output_of(alloc, steps)?;
+    let written = totals.write(&mut output);
     show_output(&output, written.is_ok(), out);
     Ok(())
 }
