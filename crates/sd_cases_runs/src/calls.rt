@@ -8,7 +8,7 @@ use sd_case::{Refusal, number};
 use sd_outside::{MemDatagrams, MemWire};
 
 /// A call on an object.
-#[derive(Clone, Copy, Debug)]
+#[derive(Clone, Copy)]
 enum Call {
     OpenSettings,
     ReadSettings,
@@ -36,7 +36,7 @@ enum Call {
 }
 
 /// A call that is to fail, by its number from 1.
-#[derive(Clone, Copy, Debug)]
+#[derive(Clone, Copy)]
 pub(crate) struct Failing {
     call: Call,
     number: u64,
@@ -93,6 +93,12 @@ fn call_of(word: &str) -> Result<Call, Refusal> {
     }
 }
 
+/// Has the call of a number fail.
+fn note(calls: &mut Vec<u64>, number: u64) -> Result<(), Refusal> {
+    calls.push(number)?;
+    Ok(())
+}
+
 /// The source of a number.
 fn source_at(sources: &mut [MemDatagrams], source: usize) -> Result<&mut MemDatagrams, Refusal> {
     sources.get_mut(source).ok_or(Refusal::Malformed)
@@ -113,35 +119,38 @@ pub(crate) fn fail(world: &mut MemWorld, failing: Failing) -> Result<(), Refusal
 {
     let number = failing.number;
     match failing.call {
-        Call::OpenSettings => world.settings.fail_open.push(number)?,
-        Call::ReadSettings => world.settings.fail_call.push(number)?,
-        Call::OpenScript => world.script.fail_open.push(number)?,
-        Call::ReadScript => world.script.fail_call.push(number)?,
+        Call::OpenSettings => note(&mut world.settings.fail_open, number),
+        Call::ReadSettings => note(&mut world.settings.fail_call, number),
+        Call::OpenScript => note(&mut world.script.fail_open, number),
+        Call::ReadScript => note(&mut world.script.fail_call, number),
         Call::OpenSource { source } => {
-            source_at(&mut world.packets, source)?
-                .fail_open
-                .push(number)?;
+            note(
+                &mut source_at(&mut world.packets, source)?.fail_open,
+                number,
+            )
         }
-        Call::Next { source } => source_at(&mut world.packets, source)?
-            .fail_call
-            .push(number)?,
-        Call::OpenWire { wire } => wire_at(&mut world.wires, wire)?.fail_open.push(number)?,
-        Call::Send { wire } => wire_at(&mut world.wires, wire)?.fail_call.push(number)?,
-        Call::OpenGraphite => world.backs.graphite.fail_open.push(number)?,
-        Call::Begin => world.backs.graphite.fail_begin.push(number)?,
-        Call::Write => world.backs.graphite.fail_call.push(number)?,
-        Call::Finish => world.backs.graphite.fail_finish.push(number)?,
-        Call::OpenConsole => world.backs.console.fail_open.push(number)?,
-        Call::BeginConsole => world.backs.console.fail_begin.push(number)?,
-        Call::WriteConsole => world.backs.console.fail_call.push(number)?,
-        Call::FinishConsole => world.backs.console.fail_finish.push(number)?,
-        Call::OpenDoor => world.door.fail_open.push(number)?,
-        Call::NextSession => world.door.fail_call.push(number)?,
-        Call::OpenStreams => world.streams.fail_open.push(number)?,
-        Call::NextStream => world.streams.fail_call.push(number)?,
-        Call::NextTick => world.beat.fail_call.push(number)?,
-        Call::Ask => world.probe.fail_call.push(number)?,
-        Call::WriteOutput => world.output.fail_call.push(number)?,
+        Call::Next { source } => {
+            note(
+                &mut source_at(&mut world.packets, source)?.fail_call,
+                number,
+            )
+        }
+        Call::OpenWire { wire } => note(&mut wire_at(&mut world.wires, wire)?.fail_open, number),
+        Call::Send { wire } => note(&mut wire_at(&mut world.wires, wire)?.fail_call, number),
+        Call::OpenGraphite => note(&mut world.backs.graphite.fail_open, number),
+        Call::Begin => note(&mut world.backs.graphite.fail_begin, number),
+        Call::Write => note(&mut world.backs.graphite.fail_call, number),
+        Call::Finish => note(&mut world.backs.graphite.fail_finish, number),
+        Call::OpenConsole => note(&mut world.backs.console.fail_open, number),
+        Call::BeginConsole => note(&mut world.backs.console.fail_begin, number),
+        Call::WriteConsole => note(&mut world.backs.console.fail_call, number),
+        Call::FinishConsole => note(&mut world.backs.console.fail_finish, number),
+        Call::OpenDoor => note(&mut world.door.fail_open, number),
+        Call::NextSession => note(&mut world.door.fail_call, number),
+        Call::OpenStreams => note(&mut world.streams.fail_open, number),
+        Call::NextStream => note(&mut world.streams.fail_call, number),
+        Call::NextTick => note(&mut world.beat.fail_call, number),
+        Call::Ask => note(&mut world.probe.fail_call, number),
+        Call::WriteOutput => note(&mut world.output.fail_call, number),
     }
-    Ok(())
 }

@@ -6,7 +6,7 @@ ghost use Rattle.sd_cases_runs.specs.Ready.{IsReady};
 use crate::calls::{Failing, fail};
 use crate::most::Most;
 use crate::traffic::Traffic;
-use sd_case::{Refusal, bytes_of, number};
+use sd_case::{Refusal, bytes_of, number, set_number};
 use sd_drill::{Drill, MOST_PACKETS};
 use sd_outside::{
     Backs, MemBackend, MemBeat, MemClock, MemDatagrams, MemDoor, MemProbe, MemSink, MemSource,
@@ -35,19 +35,23 @@ pub(crate) type MemWorld = World<
 /// How many wires a run has.
 const WIRES: usize = 256;
 
+/// For how many bytes an object has room, and in how many lists or packets.
+#[derive(Clone, Copy)]
+struct Room {
+    bytes: usize,
+    parts: usize,
+}
+
 /// What a run is given.
-#[derive(Debug, Drop)]
+#[derive(Drop)]
 pub(crate) struct Case {
     pub words: Vec<String>,
     pub settings: Vec<u8>,
     pub script: Vec<u8>,
     output_bytes: usize,
-    graphite_bytes: usize,
-    graphite_lists: usize,
-    console_bytes: usize,
-    console_lists: usize,
-    wire_bytes: usize,
-    wire_packets: usize,
+    graphite: Room,
+    console: Room,
+    wire: Room,
     pub most: Most,
     traffic: Traffic,
     failing: Vec<Failing>,
@@ -66,27 +70,39 @@ impl Case {
             settings: Vec::new(alloc),
             script: Vec::new(alloc),
             output_bytes: 1024,
-            graphite_bytes: 4096,
-            graphite_lists: 4,
-            console_bytes: 4096,
-            console_lists: 4,
-            wire_bytes: 64,
-            wire_packets: 4,
+            graphite: Room {
+                bytes: 4096,
+                parts: 4,
+            },
+            console: Room {
+                bytes: 4096,
+                parts: 4,
+            },
+            wire: Room {
+                bytes: 64,
+                parts: 4,
+            },
             most: Most::all(NonZeroUsize::MAX),
             traffic: Traffic::none(alloc),
             failing: Vec::new(alloc),
         };
+        case.take_all(alloc, parts)?;
+        Ok(case)
+    }
+
+    /// Takes words, and behind a colon parts.
+    fn take_all(&mut self, alloc: Global, parts: &[&str]) -> Result<(), Refusal> {
         let mut are_words = true;
         for part in parts {
             if !are_words {
-                case.set(alloc, part)?;
+                self.set(alloc, part)?;
             } else if *part == ":" {
                 are_words = false;
             } else {
-                case.words.push(word_of(alloc, part)?)?;
+                self.words.push(word_of(alloc, part)?)?;
             }
         }
-        Ok(case)
+        Ok(())
     }
 
     /// Takes a part: `settings=TEXT`, `script=TEXT`, `made=PACKETS` for the made script, `output=BYTES`,
@@ -94,22 +110,29 @@ impl Case {
     /// writes take, `fail=CALL:NUMBER`, or what a server or a proxy is given.
     fn set(&mut self, alloc: Global, part: &str) -> Result<(), Refusal> {
         match part.split_once('=') {
-            Some(("settings", text)) => self.settings = bytes_of(alloc, text)?,
-            Some(("script", text)) => self.script = bytes_of(alloc, text)?,
-            Some(("made", packets)) => self.script = made_script(alloc, number(packets)?)?,
-            Some(("output", bytes)) => self.output_bytes = number(bytes)?,
-            Some(("graphite", room)) => {
-                (self.graphite_bytes, self.graphite_lists) = room_of(room)?;
-            }
-            Some(("console", room)) => {
-                (self.console_bytes, self.console_lists) = room_of(room)?;
-            }
-            Some(("wires", room)) => (self.wire_bytes, self.wire_packets) = room_of(room)?,
-            Some(("most", text)) => self.most.set(text)?,
-            Some(("fail", failing)) => self.failing.push(Failing::of(failing)?)?,
-            Some((name, value)) => self.traffic.set(alloc, name, value)?,
-            None => return Err(Refusal::Malformed),
+            Some(("settings", text)) => set_bytes(alloc, &mut self.settings, text),
+            Some(("script", text)) => set_bytes(alloc, &mut self.script, text),
+            Some(("made", packets)) => self.make_script(alloc, packets),
+            Some(("output", bytes)) => set_number(&mut self.output_bytes, bytes),
+            Some(("graphite", room)) => set_room(&mut self.graphite, room),
+            Some(("console", room)) => set_room(&mut self.console, room),
+            Some(("wires", room)) => set_room(&mut self.wire, room),
+            Some(("most", text)) => self.most.set(text),
+            Some(("fail", failing)) => self.push_failing(failing),
+            Some((name, value)) => self.traffic.set(alloc, name, value),
+            None => Err(Refusal::Malformed),
         }
+    }
+
+    /// Takes the made script of so many packets.
+    fn make_script(&mut self, alloc: Global, packets: &str) -> Result<(), Refusal> {
+        self.script = made_script(alloc, number(packets)?)?;
+        Ok(())
+    }
+
+    /// Takes a call that is to fail.
+    fn push_failing(&mut self, failing: &str) -> Result<(), Refusal> {
+        self.failing.push(Failing::of(failing)?)?;
         Ok(())
     }
 
@@ -119,7 +142,7 @@ impl Case {
     {
         let mut wires = Vec::new(alloc);
         for _ in 0..WIRES {
-            wires.push(MemWire::open(alloc, self.wire_bytes, self.wire_packets)?)?;
+            wires.push(MemWire::open(alloc, self.wire.bytes, self.wire.parts)?)?;
         }
         Ok(wires)
     }
@@ -133,37 +156,75 @@ impl Case {
         self.traffic.first_datagram()
     }
 
+    /// The settings file, the script and the output.
+    fn files(&self, alloc: Global) -> Result<(MemSource, MemSource, MemSink), Refusal> {
+        let mut settings = MemSource::of(self.settings.clone()?);
+        settings.most = self.most.settings.get();
+        let mut script = MemSource::of(self.script.clone()?);
+        script.most = self.most.script.get();
+        let mut output = MemSink::open(alloc, self.output_bytes)?;
+        output.most = self.most.output.get();
+        Ok((settings, script, output))
+    }
+
+    /// The backends.
+    fn backs(&self, alloc: Global) -> Result<Backs<MemBackend>, Refusal> {
+        let mut graphite = MemBackend::open(alloc, self.graphite.bytes, self.graphite.parts)?;
+        graphite.most = self.most.graphite.get();
+        let mut console = MemBackend::open(alloc, self.console.bytes, self.console.parts)?;
+        console.most = self.most.console.get();
+        Ok(Backs {
+            graphite,
+            console,
+            graphite_used: false,
+            console_used: true,
+        })
+    }
+
+    /// The objects of the run, none of whose calls fails.
+    fn objects(&self, alloc: Global) -> Result<MemWorld, Refusal>
+        ensures { IfOk result (IsReady door_seen beat_seen door_seen) }
+    {
+        let beat = self.traffic.beat()?;
+        let packets = self.traffic.sources(alloc)?;
+        let wires = self.wires(alloc)?;
+        let probe = self.traffic.probe()?;
+        let (settings, script, output) = self.files(alloc)?;
+        let door = self.traffic.door(alloc, self.most.sessions)?;
+        let streams = self.traffic.streams(alloc, self.most.sessions)?;
+        Ok(World {
+            settings,
+            script,
+            output,
+            backs: self.backs(alloc)?,
+            packets,
+            wires,
+            door,
+            beat,
+            gate: NoGate,
+            clock: self.traffic.clock(),
+            probe,
+            streams,
+        })
+    }
+
+    /// Has the calls fail that are to.
+    fn fail_all(&self, world: &mut MemWorld) -> Result<(), Refusal>
+        requires { IsReady door_seen beat_seen door_seen world.old }
+        ensures { IsReady door_seen beat_seen door_seen world.new }
+    {
+        for failing in &self.failing {
+            fail(world, *failing)?;
+        }
+        Ok(())
+    }
+
     /// The objects of the run.
     pub(crate) fn world(&self, alloc: Global) -> Result<MemWorld, Refusal>
         ensures { IfOk result (IsReady door_seen beat_seen door_seen) }
     {
-        let mut world = World {
-            settings: MemSource::of(self.settings.clone()?),
-            script: MemSource::of(self.script.clone()?),
-            output: MemSink::open(alloc, self.output_bytes)?,
-            backs: Backs {
-                graphite: MemBackend::open(alloc, self.graphite_bytes, self.graphite_lists)?,
-                console: MemBackend::open(alloc, self.console_bytes, self.console_lists)?,
-                graphite_used: false,
-                console_used: true,
-            },
-            packets: self.traffic.sources(alloc)?,
-            wires: self.wires(alloc)?,
-            door: self.traffic.door(alloc, self.most.sessions)?,
-            beat: self.traffic.beat()?,
-            gate: NoGate,
-            clock: self.traffic.clock(),
-            probe: self.traffic.probe()?,
-            streams: self.traffic.streams(alloc, self.most.sessions)?,
-        };
-        world.settings.most = self.most.settings.get();
-        world.script.most = self.most.script.get();
-        world.output.most = self.most.output.get();
-        world.backs.graphite.most = self.most.graphite.get();
-        world.backs.console.most = self.most.console.get();
-        for failing in &self.failing {
-            fail(&mut world, *failing)?;
-        }
+        let mut world = self.objects(alloc)?;
+        self.fail_all(&mut world)?;
         Ok(world)
     }
 }
@@ -184,10 +245,18 @@ fn made_script(alloc: Global, packets: u32) -> Result<Vec<u8>, Refusal> {
     Ok(script)
 }
 
-/// The room that a word writes as two numbers with a slash between them.
-fn room_of(word: &str) -> Result<(usize, usize), Refusal> {
+/// Takes the room that a word writes as two numbers with a slash between them.
+fn set_room(room: &mut Room, word: &str) -> Result<(), Refusal> {
     let (bytes, parts) = word.split_once('/').ok_or(Refusal::Malformed)?;
-    Ok((number(bytes)?, number(parts)?))
+    room.bytes = number(bytes)?;
+    room.parts = number(parts)?;
+    Ok(())
+}
+
+/// Takes the bytes that a word stands for.
+fn set_bytes(alloc: Global, place: &mut Vec<u8>, word: &str) -> Result<(), Refusal> {
+    *place = bytes_of(alloc, word)?;
+    Ok(())
 }
 
 /// The word of a command line that a word of a case stands for.

@@ -170,9 +170,21 @@ pub(crate) fn run_late<R: Threads + Wait + Sync>(
     parts: &[&str],
     out: &mut Answer,
 ) -> Result<(), Refusal> {
+    let wanted = number(count)?;
     let case = Case::of(alloc, parts)?;
+    run_case(rt, alloc, wanted, &case, out)
+}
+
+/// Runs a case whose first source has its first datagram once the checker has published so many sets.
+fn run_case<R: Threads + Wait + Sync>(
+    rt: &R,
+    alloc: Global,
+    wanted: u64,
+    case: &Case,
+    out: &mut Answer,
+) -> Result<(), Refusal> {
     let passed = AtomicU64::new(0);
-    let packets = sources(alloc, &passed, number(count)?, case.first_datagram()?)?;
+    let packets = sources(alloc, &passed, wanted, case.first_datagram()?)?;
     let World {
         settings,
         script,

@@ -3,7 +3,7 @@ use sd_case::{Refusal, number};
 use std::num::NonZeroUsize;
 
 /// How many bytes a read or a write takes at most, of each object and of both ends of the sessions.
-#[derive(Clone, Copy, Debug)]
+#[derive(Clone, Copy)]
 pub(crate) struct Most {
     pub settings: NonZeroUsize,
     pub script: NonZeroUsize,

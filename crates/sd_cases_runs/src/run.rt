@@ -64,8 +64,17 @@ fn report_of_front<R: Threads + Wait + Sync>(
 ) -> Result<String, Refusal> {
     let mut case = Case::of(alloc, parts)?;
     case.script.extend_from_slice(front)?;
+    report_of(rt, alloc, &case)
+}
+
+/// What comes of a run.
+fn report_of<R: Threads + Wait + Sync>(
+    rt: &R,
+    alloc: Global,
+    case: &Case,
+) -> Result<String, Refusal> {
     let mut report = Answer::new(alloc);
-    carry_out(rt, alloc, &case, &mut report)?;
+    carry_out(rt, alloc, case, &mut report)?;
     report.finish()
 }
 
@@ -80,10 +89,22 @@ pub(crate) fn by_both<R: Threads + Wait + Sync>(
     out: &mut Answer,
 ) -> Result<(), Refusal> {
     let mut case = Case::of(alloc, parts)?;
+    run_by_both(rt, alloc, &mut case, first, second, out)
+}
+
+/// Runs a case with each of two settings files.
+fn run_by_both<R: Threads + Wait + Sync>(
+    rt: &R,
+    alloc: Global,
+    case: &mut Case,
+    first: &str,
+    second: &str,
+    out: &mut Answer,
+) -> Result<(), Refusal> {
     case.settings = bytes_of(alloc, first)?;
-    let first = report_by(rt, alloc, &case, out)?;
+    let first = report_by(rt, alloc, case, out)?;
     case.settings = bytes_of(alloc, second)?;
-    let second = report_by(rt, alloc, &case, out)?;
+    let second = report_by(rt, alloc, case, out)?;
     show_alike(&first, &second, out);
     Ok(())
 }
@@ -97,10 +118,22 @@ pub(crate) fn by_slow<R: Threads + Wait + Sync>(
     parts: &[&str],
     out: &mut Answer,
 ) -> Result<(), Refusal> {
+    let most = Most::all(bytes_of_word(most)?);
     let mut case = Case::of(alloc, parts)?;
-    let whole = report_by(rt, alloc, &case, out)?;
-    case.most = Most::all(bytes_of_word(most)?);
-    let slow = report_by(rt, alloc, &case, out)?;
+    run_by_slow(rt, alloc, &mut case, most, out)
+}
+
+/// Runs a case, and once more with reads and writes that take no more than this.
+fn run_by_slow<R: Threads + Wait + Sync>(
+    rt: &R,
+    alloc: Global,
+    case: &mut Case,
+    most: Most,
+    out: &mut Answer,
+) -> Result<(), Refusal> {
+    let whole = report_by(rt, alloc, case, out)?;
+    case.most = most;
+    let slow = report_by(rt, alloc, case, out)?;
     show_alike(&whole, &slow, out);
     Ok(())
 }

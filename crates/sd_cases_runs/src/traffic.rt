@@ -5,7 +5,7 @@ ghost use Rattle.sd_outside.specs.MemBeat.{seen_of as beat_seen};
 ghost use Rattle.sd_outside.specs.MemDoor.{seen_of as door_seen};
 ghost use Rattle.sd_outside.specs.MemSessions.{HasNoFaults};
 
-use sd_case::{Refusal, bytes_of, number};
+use sd_case::{Refusal, bytes_of, number, push_number, set_number};
 use sd_outside::{MemBeat, MemClock, MemDatagrams, MemDoor, MemProbe, MemSink, MemSource};
 use std::alloc::Global;
 use std::num::NonZeroUsize;
@@ -23,21 +23,21 @@ const ROOM: usize = 1 << 16;
 const QUESTIONS: usize = 64;
 
 /// A datagram that a source gives.
-#[derive(Debug, Drop)]
+#[derive(Drop)]
 struct Sent {
     source: usize,
     datagram: Vec<u8>,
 }
 
 /// A read of a session's source that is to fail, by its number from 1.
-#[derive(Clone, Copy, Debug)]
+#[derive(Clone, Copy)]
 struct Unread {
     session: usize,
     read: u64,
 }
 
 /// Datagrams, ticks, sessions, streams of lines and replies of nodes, and the moment of the clock.
-#[derive(Debug, Drop)]
+#[derive(Drop)]
 pub(crate) struct Traffic {
     sent: Vec<Sent>,
     ticks: Vec<u64>,
@@ -56,6 +56,12 @@ fn source_of(word: &str) -> Result<usize, Refusal> {
     } else {
         Err(Refusal::Malformed)
     }
+}
+
+/// Appends the bytes that a word stands for.
+fn push_bytes(alloc: Global, texts: &mut Vec<Vec<u8>>, word: &str) -> Result<(), Refusal> {
+    texts.push(bytes_of(alloc, word)?)?;
+    Ok(())
 }
 
 /// The two ends of a session that has these bytes, of whose reads these are to fail, and whose reads and writes take so many bytes at
@@ -99,25 +105,32 @@ impl Traffic {
     /// `Malformed` where the part is of no form, and `OutOfMemory`.
     pub(crate) fn set(&mut self, alloc: Global, name: &str, value: &str) -> Result<(), Refusal> {
         match name {
-            "packet" => {
-                let (source, text) = value.split_once('/').ok_or(Refusal::Malformed)?;
-                let source = source_of(source)?;
-                let datagram = bytes_of(alloc, text)?;
-                self.sent.push(Sent { source, datagram })?;
-            }
-            "counted" => self.push_counted(alloc, value)?,
-            "tick" => self.ticks.push(number(value)?)?,
-            "session" => self.sessions.push(bytes_of(alloc, value)?)?,
-            "unread" => {
-                let (session, read) = value.split_once('/').ok_or(Refusal::Malformed)?;
-                let (session, read) = (number(session)?, number(read)?);
-                self.unread.push(Unread { session, read })?;
-            }
-            "stream" => self.streams.push(bytes_of(alloc, value)?)?,
-            "reply" => self.replies.push(bytes_of(alloc, value)?)?,
-            "clock" => self.now = number(value)?,
-            _ => return Err(Refusal::Malformed),
+            "packet" => self.push_sent(alloc, value),
+            "counted" => self.push_counted(alloc, value),
+            "tick" => push_number(&mut self.ticks, value),
+            "session" => push_bytes(alloc, &mut self.sessions, value),
+            "unread" => self.push_unread(value),
+            "stream" => push_bytes(alloc, &mut self.streams, value),
+            "reply" => push_bytes(alloc, &mut self.replies, value),
+            "clock" => set_number(&mut self.now, value),
+            _ => Err(Refusal::Malformed),
         }
+    }
+
+    /// Appends the datagram that `SOURCE/TEXT` stands for.
+    fn push_sent(&mut self, alloc: Global, value: &str) -> Result<(), Refusal> {
+        let (source, text) = value.split_once('/').ok_or(Refusal::Malformed)?;
+        let source = source_of(source)?;
+        let datagram = bytes_of(alloc, text)?;
+        self.sent.push(Sent { source, datagram })?;
+        Ok(())
+    }
+
+    /// Appends the read that `SESSION/READ` stands for.
+    fn push_unread(&mut self, value: &str) -> Result<(), Refusal> {
+        let (session, read) = value.split_once('/').ok_or(Refusal::Malformed)?;
+        let (session, read) = (number(session)?, number(read)?);
+        self.unread.push(Unread { session, read })?;
         Ok(())
     }
 

@@ -1,7 +1,7 @@
 use Rattle.sd_outside.specs.MemBeat as beat
 use Rattle.sd_outside.specs.MemDoor as door
 use Rattle.sd_cases_runs.specs.Ready.{IsReady}
-use Rattle.sd_cases_runs.proofs.case.Case.world.Given as goal
+use Rattle.sd_cases_runs.proofs.case.Case.fail_all.Given as goal
 
 abbrev pub invariant-loop-failing : goal.invariant-loop-failing
 invariant-loop-failing l = IsReady door.seen_of beat.seen_of door.seen_of l.world
