@@ -21,8 +21,8 @@ pub(crate) fn sample_of(alloc: Global, word: &str) -> Result<Sample, Refusal> {
     let (name, fields) = word.split_once(':').ok_or(Refusal::Malformed)?;
     let (value, rest) = fields.split_once('|').ok_or(Refusal::Malformed)?;
     let (letters, rate) = rest.split_once("|@").unwrap_or((rest, "1"));
-    let key = key_of(alloc, name)?;
     let rate = decimal(rate)?;
+    let key = key_of(alloc, name)?;
     match letters {
         "c" => sample_with(Kind::Counter, key, decimal(value)?, rate),
         "g" => gauge_sample(key, value, rate),

@@ -82,6 +82,15 @@ struct Bench {
 }
 
 impl Bench {
+    /// Carries out steps, and appends what each answers.
+    fn steps(&mut self, alloc: Global, steps: &[&str], out: &mut Answer) -> Result<(), Refusal> {
+        for step in steps {
+            out.step(step);
+            self.step(alloc, step, out)?;
+        }
+        Ok(())
+    }
+
     /// Carries out a step: `delete=KIND/PATTERN`, `dump=KIND`, or one without an argument.
     fn step(&mut self, alloc: Global, step: &str, out: &mut Answer) -> Result<(), Refusal> {
         match step.split_once('=') {
@@ -129,10 +138,10 @@ impl Bench {
         let there = rows_at(alloc, &spare)?;
         let mut table = swap_counted::<Brand>(&mut self.shard, spare, Blank::new(1));
         self.most = most_steps(&table, &self.policy, &there);
-        show_table(alloc, &table, out)?;
+        let shown = show_table(alloc, &table, out);
         table.clear_entries();
         self.spare = Some(table);
-        Ok(())
+        shown
     }
 
     /// Deletes rows, and shows how many rows and entries went, and the keys in order.
@@ -279,9 +288,5 @@ pub(crate) fn steps_on_shard(
         spare: None,
         most: 0,
     };
-    for step in steps {
-        out.step(step);
-        bench.step(alloc, step, out)?;
-    }
-    Ok(())
+    bench.steps(alloc, steps, out)
 }

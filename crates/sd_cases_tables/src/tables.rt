@@ -27,8 +27,8 @@ enum Part {
 #[derive(Drop)]
 struct Bench {
     limits: Limits,
-    table: Table,
     gathered: Scratch,
+    table: Table,
     scratch: RecordScratch,
     ghost opened: { table.limits ≡ limits_of limits },
     ghost sample_room: { gathered.room ≡ limits.entries },
@@ -36,6 +36,33 @@ struct Bench {
 }
 
 impl Bench {
+    /// An empty table with these limits.
+    fn open(alloc: Global, limits: Limits) -> Result<Bench, Refusal>
+        requires { AreLimits (limits_of limits) }
+    {
+        Ok(Bench {
+            limits,
+            gathered: Scratch::open(alloc, limits)?,
+            table: Table::open(alloc, limits)?,
+            scratch: RecordScratch::open(alloc, limits, 1)?,
+        })
+    }
+
+    /// Carries out steps, and appends what each answers.
+    fn steps(
+        &mut self,
+        alloc: Global,
+        flush: &Flush,
+        steps: &[&str],
+        out: &mut Answer,
+    ) -> Result<(), Refusal> {
+        for step in steps {
+            out.step(step);
+            self.step(alloc, flush, step, out)?;
+        }
+        Ok(())
+    }
+
     /// Carries out a step.
     fn step(
         &mut self,
@@ -220,14 +247,16 @@ fn sink_from(alloc: Global, word: &str) -> Result<MemSink, Refusal> {
 
 /// What a flush is told by a settings file, a Unix second and a tally.
 fn flush_from(alloc: Global, settings: &str, ts: &str, tally: &str) -> Result<Flush, Refusal> {
+    let ts = number(ts)?;
+    let tally = tally_from(tally)?;
     let Ok(settings) = Settings::read(alloc, &bytes_of(alloc, settings)?) else {
         return Err(Refusal::Condition);
     };
     Ok(Flush {
         names: Names::of(&settings),
         settings,
-        ts: number(ts)?,
-        tally: tally_from(tally)?,
+        ts,
+        tally,
     })
 }
 
@@ -243,15 +272,19 @@ pub(crate) fn steps_on_table(
     let limits = limits_from(limits)?;
     let [settings, ts, tally] = *flush;
     let flush = flush_from(alloc, settings, ts, tally)?;
-    let mut bench = Bench {
-        limits,
-        table: Table::open(alloc, limits)?,
-        gathered: Scratch::open(alloc, limits)?,
-        scratch: RecordScratch::open(alloc, limits, 1)?,
-    };
-    for step in steps {
-        out.step(step);
-        bench.step(alloc, &flush, step, out)?;
-    }
-    Ok(())
+    steps_by_flush(alloc, limits, &flush, steps, out)
+}
+
+/// What each step on an empty table answers, and on the records of it, which go by what a flush is told.
+fn steps_by_flush(
+    alloc: Global,
+    limits: Limits,
+    flush: &Flush,
+    steps: &[&str],
+    out: &mut Answer,
+) -> Result<(), Refusal>
+    requires { AreLimits (limits_of limits) }
+{
+    let mut bench = Bench::open(alloc, limits)?;
+    bench.steps(alloc, flush, steps, out)
 }
