@@ -267,6 +267,37 @@ fn world_of<'a>(
     })
 }
 
+// Serves over objects, and appends what the server left.
+fn meet_over<R: Threads + Wait + Sync>(
+    rt: &R,
+    alloc: Global,
+    setup: &Setup,
+    world: &mut MeetWorld<'_>,
+    order: &Order,
+    out: &mut Answer,
+) -> Result<(), Refusal>
+    requires { IsFresh beat_seen door_seen door_seen world.old }
+{
+    let served = serve_over(rt, alloc, setup, world, order)?;
+    show_ends(&served, out);
+    show_desk(&served.desk.facts(), out);
+    show_books(served.books.as_slice(), out);
+    show_graphite(alloc, &world.backs.graphite.back, out)
+}
+
+// Serves over the objects that the words write.
+fn meet<R: Threads + Wait + Sync>(
+    rt: &R,
+    alloc: Global,
+    words: &[&str],
+    setup: &Setup,
+    plan: Plan<'_>,
+    out: &mut Answer,
+) -> Result<(), Refusal> {
+    let mut world = world_of(alloc, words, setup, plan)?;
+    meet_over(rt, alloc, setup, &mut world, plan.order, out)
+}
+
 /// `meet PARTIES SAMPLES WORDS`: a server whose workers meet.
 pub fn meet_case<R: Threads + Wait + Sync>(
     rt: &R,
@@ -284,12 +315,7 @@ pub fn meet_case<R: Threads + Wait + Sync>(
         parties: number(parties)?,
         samples: number(samples)?,
     };
-    let mut world = world_of(alloc, words, &setup, plan)?;
-    let served = serve_over(rt, alloc, &setup, &mut world, &order)?;
-    show_ends(&served, out);
-    show_desk(&served.desk.facts(), out);
-    show_books(served.books.as_slice(), out);
-    show_graphite(alloc, &world.backs.graphite.back, out)?;
+    meet(rt, alloc, words, &setup, plan, out)?;
     order.show(out);
     Ok(())
 }

@@ -83,8 +83,8 @@ pub fn serve_over<
     if world.packets.len() < receivers || world.wires.len() < runs {
         return Err(Refusal::Condition);
     }
-    let room = ServerRoom::open(alloc, sizes, setup.clock)?;
     let settings = Settings::read(alloc, b"").map_err(|_| Refusal::Condition)?;
+    let room = ServerRoom::open(alloc, sizes, setup.clock)?;
     let clock = MemClock::of(setup.clock);
     Ok(serve(
         rt,

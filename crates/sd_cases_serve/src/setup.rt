@@ -1,5 +1,5 @@
 //! What the words of a case set.
-use sd_case::{Refusal, number};
+use sd_case::{Refusal, number, push_number, set_number};
 use std::alloc::Global;
 
 /// What a server is opened with, and what is made for it.
@@ -44,24 +44,29 @@ impl Setup {
     // Takes in what a word sets, if it sets anything here.
     fn set(&mut self, name: &str, value: &str) -> Result<(), Refusal> {
         match name {
-            "shards" => self.shards = number(value)?,
-            "rows" => self.rows = number(value)?,
-            "entries" => self.entries = number(value)?,
-            "receivers" => self.receivers = number(value)?,
-            "wires" => self.wires = number(value)?,
-            "streams" => self.streams = yes_or_no(value)?,
-            "cut" => self.cut = number(value)?,
-            "outlets" => self.outlets = number(value)?,
-            "outlet_bytes" => self.outlet_bytes = number(value)?,
-            "spare" => self.spare = number(value)?,
-            "times" => self.times = number(value)?,
-            "own" => self.own = number(value)?,
-            "more" => self.more = number(value)?,
-            "keys" => self.keys = number(value)?,
-            "flushes" => self.flushes = number(value)?,
-            "clock" => self.clock = number(value)?,
-            _ => {}
+            "shards" => set_number(&mut self.shards, value),
+            "rows" => set_number(&mut self.rows, value),
+            "entries" => set_number(&mut self.entries, value),
+            "receivers" => set_number(&mut self.receivers, value),
+            "wires" => set_number(&mut self.wires, value),
+            "streams" => self.set_streams(value),
+            "cut" => set_number(&mut self.cut, value),
+            "outlets" => set_number(&mut self.outlets, value),
+            "outlet_bytes" => set_number(&mut self.outlet_bytes, value),
+            "spare" => set_number(&mut self.spare, value),
+            "times" => set_number(&mut self.times, value),
+            "own" => set_number(&mut self.own, value),
+            "more" => set_number(&mut self.more, value),
+            "keys" => set_number(&mut self.keys, value),
+            "flushes" => set_number(&mut self.flushes, value),
+            "clock" => set_number(&mut self.clock, value),
+            _ => Ok(()),
         }
+    }
+
+    // Sets whether lines of streams are read.
+    fn set_streams(&mut self, word: &str) -> Result<(), Refusal> {
+        self.streams = yes_or_no(word)?;
         Ok(())
     }
 }
@@ -121,7 +126,7 @@ pub fn values_in<'a>(
 pub fn numbers_in(alloc: Global, words: &[&str], name: &str) -> Result<Vec<u64>, Refusal> {
     let mut numbers = Vec::new(alloc);
     for value in &values_in(alloc, words, name)? {
-        numbers.push(number(value)?)?;
+        push_number(&mut numbers, value)?;
     }
     Ok(numbers)
 }
