@@ -46,12 +46,33 @@ pub struct Bench {
     pub backs: Backs<MemBackend>,
 }
 
+// Backends that are used.
+fn backs_of(alloc: Global) -> Result<Backs<MemBackend>, Refusal> {
+    Ok(Backs {
+        graphite: MemBackend::open(alloc, BYTES, LISTS)?,
+        console: MemBackend::open(alloc, BYTES, LISTS)?,
+        graphite_used: true,
+        console_used: true,
+    })
+}
+
 /// A bench with so many shards with these limits, whose backends are used.
 pub fn open(alloc: Global, shards: u16, limits: Limits) -> Result<Bench, Refusal>
     requires shards { (1 ≤ shards) × (shards ≤ 16) }
     requires limits { AreLimits (limits_of limits) }
     ensures { IfOk result IsReady }
 {
+    let backs = backs_of(alloc)?;
+    let tables = Tables::open(alloc, limits, shards)?;
+    let spares = Spares::open(alloc, shards, limits)?;
+    let (desk, mut owns) = SharedDesk::open(alloc, 0, 3)?;
+    let watcher = owns.pop();
+    let Some(own) = owns.pop() else {
+        unreachable!()
+    };
+    let Some(adder) = owns.pop() else {
+        unreachable!()
+    };
     let (pool, seats) = Pool::open(alloc, limits, POLICY, shards, 1)?;
     let Seats {
         mut receivers,
@@ -62,14 +83,6 @@ pub fn open(alloc: Global, shards: u16, limits: Limits) -> Result<Bench, Refusal
     let Some(receiver) = receivers.pop() else {
         unreachable!()
     };
-    let (desk, mut owns) = SharedDesk::open(alloc, 0, 3)?;
-    let watcher = owns.pop();
-    let Some(own) = owns.pop() else {
-        unreachable!()
-    };
-    let Some(adder) = owns.pop() else {
-        unreachable!()
-    };
     Ok(Bench {
         pool,
         desk,
@@ -78,15 +91,10 @@ pub fn open(alloc: Global, shards: u16, limits: Limits) -> Result<Bench, Refusal
         adder,
         own,
         watcher,
-        tables: Tables::open(alloc, limits, shards)?,
-        spares: Spares::open(alloc, shards, limits)?,
+        tables,
+        spares,
         plan: Reckoning::plain(),
         names: Names::plain(),
-        backs: Backs {
-            graphite: MemBackend::open(alloc, BYTES, LISTS)?,
-            console: MemBackend::open(alloc, BYTES, LISTS)?,
-            graphite_used: true,
-            console_used: true,
-        },
+        backs,
     })
 }

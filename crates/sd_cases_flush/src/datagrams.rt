@@ -54,8 +54,8 @@ pub fn receive_lines<R: Wait>(
     requires { IsReady bench.old }
     ensures { IsReady bench.new }
 {
-    let mut source = MemDatagrams::of(one_datagram(alloc, lines)?);
     let mut buf: Vec<u8> = vec![in alloc; 0; LONGEST_DATAGRAM]?;
+    let mut source = MemDatagrams::of(one_datagram(alloc, lines)?);
     let mut wires: Vec<MemWire> = Vec::new(alloc);
     let received = receive(
         rt,

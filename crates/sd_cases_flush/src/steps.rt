@@ -116,6 +116,23 @@ fn step<R: Wait>(
     Ok(())
 }
 
+// Makes steps, and tells what each comes to.
+fn make_steps<R: Wait>(
+    rt: &R,
+    alloc: Global,
+    bench: &mut Bench,
+    steps: &[&str],
+    out: &mut Answer,
+) -> Result<(), Refusal>
+    requires { IsReady bench.old }
+{
+    for word in steps {
+        out.step(word);
+        step(rt, alloc, bench, word, out)?;
+    }
+    Ok(())
+}
+
 /// `SHARDS STEP..`: steps on a bench with so many shards with these limits.
 pub fn steps_on_bench<R: Wait>(
     rt: &R,
@@ -132,9 +149,5 @@ pub fn steps_on_bench<R: Wait>(
         return Err(Refusal::Condition);
     }
     let mut bench = open(alloc, shards, limits)?;
-    for word in steps {
-        out.step(word);
-        step(rt, alloc, &mut bench, word, out)?;
-    }
-    Ok(())
+    make_steps(rt, alloc, &mut bench, steps, out)
 }

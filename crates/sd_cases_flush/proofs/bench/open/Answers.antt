@@ -18,24 +18,24 @@ returns c =
     let Is = IsSeatOf pool in
     let all = AllByRecursion-seats pool (seats_in seats) c.in_ok-pool.ensures.seats in
     let behind = AllByRecursion-back Is seats.receivers.items (seats.flusher ∷ seats.admin ∷ []) all in
-    let first = subst (AllByRecursion Is) c.in-Some.ensures.items (AllByRecursion-front Is seats.receivers.items (seats.flusher ∷ seats.admin ∷ []) all) in
+    let first = subst (AllByRecursion Is) c.in-Some-pop-2.ensures.items (AllByRecursion-front Is seats.receivers.items (seats.flusher ∷ seats.admin ∷ []) all) in
     let Own = IsNewDeskSeatOf c.in_ok-desk.desk in
     let top = All-pop Own c.in_ok-desk.owns.items c.pop-watcher.new.self.items c.pop-watcher.result c.pop-watcher.ensures.items c.in_ok-desk.ensures.seats in
-    let last = All-pop Own c.pop-watcher.new.self.items c.pop-2.new.self.items c.pop-2.result c.pop-2.ensures.items top.0 in
-    let next = All-pop Own c.pop-2.new.self.items c.pop-3.new.self.items c.pop-3.result c.pop-3.ensures.items last.0 in
+    let last = All-pop Own c.pop-watcher.new.self.items c.pop.new.self.items c.pop.result c.pop.ensures.items top.0 in
+    let next = All-pop Own c.pop.new.self.items c.pop-2.new.self.items c.pop-2.result c.pop-2.ensures.items last.0 in
     record {
-      receiver_is = (AllByRecursion-back Is c.pop.new.self.items (c.in-Some.receiver ∷ []) first).0;
+      receiver_is = (AllByRecursion-back Is c.pop-3.new.self.items (c.in-Some-pop-2.receiver ∷ []) first).0;
       flusher_is = behind.0;
       who = c.in_ok-pool.ensures.callers.1;
-      own_is = (subst (λ (o : _). IfSome o Own) c.in-Some-pop.is last.1).own;
-      adder_is = (subst (λ (o : _). IfSome o Own) c.in-Some-pop-2.is next.1).own;
+      own_is = (subst (λ (o : _). IfSome o Own) c.in-Some.is last.1).own;
+      adder_is = (subst (λ (o : _). IfSome o Own) c.in-Some-pop.is next.1).own;
       watcher_is = λ x is. (subst (λ (o : _). IfSome o Own) is top.1).own;
-      tables_are = subst (λ (l : Limits). AreTablesFor l (shards_of pool) c.in_ok-open.field-0) (sym c.in_ok-pool.ensures.limits)
-          (subst (λ (n : ℕ). AreTablesFor (limits_of c.args.limits) n c.in_ok-open.field-0) (sym c.in_ok-pool.ensures.shards) c.in_ok-open.ensures);
+      tables_are = subst (λ (l : Limits). AreTablesFor l (shards_of pool) c.in_ok-tables.tables) (sym c.in_ok-pool.ensures.limits)
+          (subst (λ (n : ℕ). AreTablesFor (limits_of c.args.limits) n c.in_ok-tables.tables) (sym c.in_ok-pool.ensures.shards) c.in_ok-tables.ensures);
       spares_are = record {
-        limits_are = c.in_ok-open-2.ensures.limits ∙ sym c.in_ok-pool.ensures.limits;
-        room_is = c.in_ok-open-2.ensures.room ∙ sym c.in_ok-pool.ensures.shards;
-        spare = omega (arith, c.in_ok-open-2.ensures.waiting, c.in_ok-pool.ensures.shards);
-        out = ap length c.in_ok-open-2.ensures.swapped;
+        limits_are = c.in_ok-spares.ensures.limits ∙ sym c.in_ok-pool.ensures.limits;
+        room_is = c.in_ok-spares.ensures.room ∙ sym c.in_ok-pool.ensures.shards;
+        spare = omega (arith, c.in_ok-spares.ensures.waiting, c.in_ok-pool.ensures.shards);
+        out = ap length c.in_ok-spares.ensures.swapped;
       };
     }
