@@ -3,7 +3,8 @@ ghost use Rattle.std.specs.Prelude.{◌≡◌, ◌<◌, ◌^◌, false, IfOk};
 ghost use Rattle.sd_shared_desk.specs.Shared.{IsSeatOf as IsDeskSeatOf};
 
 use crate::plan::Plan;
-use sd_case::Refusal;
+use crate::shown::show_tables;
+use sd_case::{Answer, Refusal};
 use sd_desk::{Mark, RoundMarks};
 use sd_epoch::{Limits, Table};
 use sd_outside::{Door, MemClock, NoGate, Source};
@@ -35,10 +36,10 @@ pub(crate) fn open_desk(alloc: Global) -> Result<(SharedDesk, DeskSeat, DeskSeat
 {
     let (desk, mut seats) = SharedDesk::open(alloc, 0, 2)?;
     let Some(own) = seats.pop() else {
-        return Err(Refusal::Condition);
+        unreachable!()
     };
     let Some(other) = seats.pop() else {
-        return Err(Refusal::Condition);
+        unreachable!()
     };
     Ok((desk, own, other))
 }
@@ -74,6 +75,8 @@ impl House {
     pub fn open(alloc: Global, plan: &Plan) -> Result<House, Refusal>
         ensures { IfOk result IsReady }
     {
+        let buf = vec![in alloc; 0; plan.room]?;
+        let cutter = Cutter::open(alloc)?;
         let (pool, seats) = Pool::open(alloc, LIMITS, KEEPS_ALL, plan.shards, 1)?;
         let Seats {
             mut receivers,
@@ -82,14 +85,14 @@ impl House {
             room: _room,
         } = seats;
         let Some(seat) = receivers.pop() else {
-            return Err(Refusal::Condition);
+            unreachable!()
         };
         Ok(House {
             pool,
             seat,
             flusher,
-            cutter: Cutter::open(alloc)?,
-            buf: vec![in alloc; 0; plan.room]?,
+            cutter,
+            buf,
         })
     }
 
@@ -151,7 +154,7 @@ impl House {
     }
 
     /// The tables of all shards, which get empty ones for them.
-    pub fn tables<R: Wait>(&mut self, rt: &R, alloc: Global) -> Result<Vec<Table>, Refusal>
+    fn tables<R: Wait>(&mut self, rt: &R, alloc: Global) -> Result<Vec<Table>, Refusal>
         requires { IsReady self.old }
     {
         let (pool, flusher) = (&self.pool, &mut self.flusher);
@@ -161,5 +164,17 @@ impl House {
             tables.push(pool.swap(rt, i, flusher, spare))?;
         }
         Ok(tables)
+    }
+
+    /// Appends the rows of the shards.
+    pub fn show_rows<R: Wait>(
+        &mut self,
+        rt: &R,
+        alloc: Global,
+        out: &mut Answer,
+    ) -> Result<(), Refusal>
+        requires { IsReady self.old }
+    {
+        show_tables(alloc, &self.tables(rt, alloc)?, out)
     }
 }

@@ -1,10 +1,12 @@
 //! The streams of a door.
-ghost use Rattle.std.specs.Prelude.{All, IfOk};
+ghost use Rattle.std.specs.Prelude.{◌≡◌, All, IfOk, false};
+ghost use Rattle.sd_outside.specs.MemDoor.{seen_of as door_seen};
 ghost use Rattle.sd_outside.specs.MemSessions.{HasNoFaults};
+ghost use Rattle.sd_cases_stream.specs.House.{IsReady};
 
 use crate::house::{House, mark_often, open_desk};
 use crate::plan::Plan;
-use crate::shown::{show_counts, show_tables};
+use crate::shown::show_counts;
 use sd_case::{Answer, Refusal, bytes_of, number};
 use sd_outside::{DoorEnd, MemDoor, MemSink, MemSource};
 use std::alloc::Global;
@@ -59,12 +61,52 @@ pub(crate) fn keep<R: Wait>(
     out: &mut Answer,
 ) -> Result<(), Refusal> {
     let plan = Plan::of(alloc, words)?;
-    let mut house = House::open(alloc, &plan)?;
+    let fail_next = plan.fail_next.clone()?;
+    let mut door = MemDoor::open(sessions_of(alloc, sessions)?)?;
+    door.fail_call = fail_next;
+    keep_by(rt, alloc, &plan, &mut door, out)
+}
+
+/// Reads the streams of a door by a plan, and appends what came of that.
+fn keep_by<R: Wait>(
+    rt: &R,
+    alloc: Global,
+    plan: &Plan,
+    door: &mut MemDoor,
+    out: &mut Answer,
+) -> Result<(), Refusal>
+    requires none_out { (door_seen door.old).is_out ≡ false }
+    requires turns { (door_seen door.old).turns ≡ 0 }
+{
+    let mut house = House::open(alloc, plan)?;
+    keep_in(rt, alloc, plan, &mut house, door, out)?;
+    house.show_rows(rt, alloc, out)?;
+    for (asking, telling) in door.back() {
+        out.text("\n  left ");
+        out.bytes(asking.remaining());
+        out.text(" told ");
+        out.bytes(telling.bytes());
+    }
+    Ok(())
+}
+
+/// Reads the streams of a door in a house, and appends how that ended, and what the lines came to.
+fn keep_in<R: Wait>(
+    rt: &R,
+    alloc: Global,
+    plan: &Plan,
+    house: &mut House,
+    door: &mut MemDoor,
+    out: &mut Answer,
+) -> Result<(), Refusal>
+    requires house { IsReady house.old }
+    requires none_out { (door_seen door.old).is_out ≡ false }
+    requires turns { (door_seen door.old).turns ≡ 0 }
+    ensures { IsReady house.new }
+{
     let (desk, mut own, _other) = open_desk(alloc)?;
     mark_often(rt, &desk, &mut own, plan.rounds);
-    let mut door = MemDoor::open(sessions_of(alloc, sessions)?)?;
-    door.fail_call.extend_from_slice(&plan.fail_next)?;
-    let lined = house.keep(rt, &desk, &mut own, &mut door, plan.flushes);
+    let lined = house.keep(rt, &desk, &mut own, door, plan.flushes);
     let facts = desk.facts(rt, &mut own);
     show_end(lined.ended, out);
     out.count(", left ", door.remaining().len() as u64);
@@ -72,13 +114,5 @@ pub(crate) fn keep<R: Wait>(
     out.count(", counted ", facts.admin_faults);
     out.count(", turns ", door.turns());
     show_counts(lined.tally, lined.taken, &facts, out);
-    let tables = house.tables(rt, alloc)?;
-    show_tables(alloc, &tables, out)?;
-    for (asking, telling) in door.back() {
-        out.text("\n  left ");
-        out.bytes(asking.remaining());
-        out.text(" told ");
-        out.bytes(telling.bytes());
-    }
     Ok(())
 }

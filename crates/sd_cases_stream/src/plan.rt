@@ -2,7 +2,7 @@
 ghost use Rattle.std.specs.Prelude.{◌<◌, ◌≤◌};
 
 use crate::pieces::Step;
-use sd_case::{Refusal, bytes_of, number};
+use sd_case::{Refusal, bytes_of, number, push_number, set_number};
 use std::alloc::Global;
 
 // How many shards there may be.
@@ -52,19 +52,19 @@ impl Plan {
     /// Sets what a word names, unless that is a read.
     fn set(&mut self, name: &str, value: &str) -> Result<(), Refusal> {
         match name {
-            "get" => {}
-            "shards" => self.set_shards(number(value)?)?,
-            "rounds" => self.rounds = number(value)?,
-            "flushes" => self.flushes = number(value)?,
-            "room" => self.set_room(number(value)?)?,
-            "fail_next" => self.fail_next.push(number(value)?)?,
-            _ => return Err(Refusal::Malformed),
+            "get" => Ok(()),
+            "shards" => self.set_shards(value),
+            "rounds" => set_number(&mut self.rounds, value),
+            "flushes" => set_number(&mut self.flushes, value),
+            "room" => self.set_room(value),
+            "fail_next" => push_number(&mut self.fail_next, value),
+            _ => Err(Refusal::Malformed),
         }
-        Ok(())
     }
 
     /// Sets how many shards there are.
-    fn set_shards(&mut self, shards: u16) -> Result<(), Refusal> {
+    fn set_shards(&mut self, word: &str) -> Result<(), Refusal> {
+        let shards = number::<u16>(word)?;
         if shards == 0 || shards > MOST_SHARDS {
             return Err(Refusal::Condition);
         }
@@ -73,7 +73,8 @@ impl Plan {
     }
 
     /// Sets how many bytes a read is given room for.
-    fn set_room(&mut self, room: u32) -> Result<(), Refusal> {
+    fn set_room(&mut self, word: &str) -> Result<(), Refusal> {
+        let room = number::<u32>(word)?;
         if room == 0 {
             return Err(Refusal::Condition);
         }

@@ -1,8 +1,10 @@
 //! Streams that come in pieces.
+ghost use Rattle.sd_cases_stream.specs.House.{IsReady};
+
 use crate::house::{House, open_desk};
 use crate::pieces::{Pieces, Step};
 use crate::plan::{Plan, steps_of};
-use crate::shown::{show_counts, show_tables};
+use crate::shown::show_counts;
 use sd_case::{Answer, Refusal, bytes_of};
 use sd_receive::StreamEnd;
 use std::alloc::Global;
@@ -19,6 +21,20 @@ fn read_steps<R: Wait>(
     out: &mut Answer,
 ) -> Result<(), Refusal> {
     let mut house = House::open(alloc, plan)?;
+    read_in(rt, alloc, &mut house, steps, with_notes, out)
+}
+
+/// Reads a stream that comes so in a house, and appends what came of that.
+fn read_in<R: Wait>(
+    rt: &R,
+    alloc: Global,
+    house: &mut House,
+    steps: Vec<Step>,
+    with_notes: bool,
+    out: &mut Answer,
+) -> Result<(), Refusal>
+    requires { IsReady house.old }
+{
     let (desk, mut own, other) = open_desk(alloc)?;
     let mut pieces = Pieces::of(rt, alloc, &desk, other, steps);
     let streamed = house.read(rt, &desk, &mut own, &mut pieces);
@@ -30,16 +46,20 @@ fn read_steps<R: Wait>(
     out.count(", faults ", pieces.faults());
     let facts = desk.facts(rt, &mut own);
     show_counts(streamed.tally, streamed.taken, &facts, out);
-    let tables = house.tables(rt, alloc)?;
-    show_tables(alloc, &tables, out)?;
+    let shown = house.show_rows(rt, alloc, out);
     if with_notes {
-        out.step("before each read");
-        for (place, (lines, bad)) in pieces.notes().iter().enumerate() {
-            out.count(if place > 0 { " " } else { "" }, *lines);
-            out.count("/", *bad);
-        }
+        show_notes(pieces.notes(), out);
     }
-    Ok(())
+    shown
+}
+
+/// Appends how many lines and bad ones the desk had counted before each read.
+fn show_notes(notes: &[(u64, u64)], out: &mut Answer) {
+    out.step("before each read");
+    for (place, (lines, bad)) in notes.iter().enumerate() {
+        out.count(if place > 0 { " " } else { "" }, *lines);
+        out.count("/", *bad);
+    }
 }
 
 /// `stream STEPS`: a stream whose reads answer so.
