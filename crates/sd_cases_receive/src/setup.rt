@@ -1,6 +1,6 @@
 //! What the words of a case say.
 use crate::arrivals::{Arrivals, Step};
-use sd_case::{Refusal, bytes_of, number};
+use sd_case::{Refusal, bytes_of, number, push_number, set_number};
 use std::alloc::Global;
 
 /// What a house of receivers is opened with.
@@ -23,18 +23,17 @@ pub struct Setup {
 // Takes in a word that sets something.
 fn set(setup: &mut Setup, name: &str, value: &str) -> Result<(), Refusal> {
     match name {
-        "shards" => setup.shards = number(value)?,
-        "rows" => setup.rows = number(value)?,
-        "entries" => setup.entries = number(value)?,
-        "posts" => setup.posts = number(value)?,
-        "times" => setup.times = number(value)?,
-        "wires" => setup.wires = number(value)?,
-        "marked" => setup.marked = number(value)?,
-        "stop" => setup.stop = number(value)?,
-        "fail_send" => setup.fail_send.push(number(value)?)?,
-        _ => {}
+        "shards" => set_number(&mut setup.shards, value),
+        "rows" => set_number(&mut setup.rows, value),
+        "entries" => set_number(&mut setup.entries, value),
+        "posts" => set_number(&mut setup.posts, value),
+        "times" => set_number(&mut setup.times, value),
+        "wires" => set_number(&mut setup.wires, value),
+        "marked" => set_number(&mut setup.marked, value),
+        "stop" => set_number(&mut setup.stop, value),
+        "fail_send" => push_number(&mut setup.fail_send, value),
+        _ => Ok(()),
     }
-    Ok(())
 }
 
 /// What the words of a case say of the house. The limits are the default ones of a server, where no word says others.
