@@ -122,9 +122,9 @@ pub(crate) fn rest<'a>(
 
 /// Clients of a door, one that says nothing among them.
 pub(crate) fn run(rt: &HostRuntime, out: &mut Answer) -> io::Result<()> {
+    let mut buf = room(rt.alloc(), 2 * ROOM)?;
     let stop = Stop::new(None);
     let mut door = TcpDoor::new(rt, rt.alloc(), &stop, SIZES);
-    let mut buf = room(rt.alloc(), 2 * ROOM)?;
     out.text("\ndoors");
     step(out, "one that isn't open");
     rest(&mut door, buf.as_mut_slice(), YES, out);
@@ -135,6 +135,22 @@ pub(crate) fn run(rt: &HostRuntime, out: &mut Answer) -> io::Result<()> {
     let port = door.port().ok_or_else(stuck)?;
     visits(rt, &mut door, port, buf.as_mut_slice(), out)?;
     crowd(rt, &mut door, port, buf.as_mut_slice(), out)?;
+    stopped(rt, &mut door, port, &stop, buf.as_mut_slice(), out)?;
+    out.count("; faults ", door.faults());
+    Ok(())
+}
+
+/// A stop, where two clients are in the middle of a line.
+fn stopped<'a>(
+    rt: &HostRuntime,
+    door: &mut TcpDoor<'a, HostRuntime>,
+    port: u16,
+    stop: &Stop,
+    buf: &mut [u8],
+    out: &mut Answer,
+) -> io::Result<()>
+    requires { (⟦<TcpDoor<'a, HostRuntime> as Faulty>⟧.seen door.old).is_out ≡ false }
+{
     step(
         out,
         "a stop, where one client has sent a line and a half, and another half a line",
@@ -145,12 +161,11 @@ pub(crate) fn run(rt: &HostRuntime, out: &mut Answer) -> io::Result<()> {
     second.write_all(b"hea")?;
     sleep(rt, Duration::from_millis(50));
     stop.set();
-    serve(&mut door, buf.as_mut_slice(), YES, out);
-    show_next(&mut first, buf.as_mut_slice(), out);
+    serve(door, buf, YES, out);
+    show_next(&mut first, buf, out);
     first.write_all(b"lth\n")?;
-    serve(&mut door, buf.as_mut_slice(), YES, out);
-    rest(&mut door, buf.as_mut_slice(), YES, out);
-    out.count("; faults ", door.faults());
+    serve(door, buf, YES, out);
+    rest(door, buf, YES, out);
     Ok(())
 }
 
@@ -224,8 +239,23 @@ fn visits<'a>(
 {
     let _silent = client_of(rt, port)?;
     let mut first = client_of(rt, port)?;
-    let mut second = client_of(rt, port)?;
+    let second = client_of(rt, port)?;
     cut_lines(door, &mut first, buf, out)?;
+    two_clients(rt, door, port, second, buf, out)
+}
+
+/// Lines of two clients, a line that is too long, and a client that leaves.
+fn two_clients<'a>(
+    rt: &HostRuntime,
+    door: &mut TcpDoor<'a, HostRuntime>,
+    port: u16,
+    mut second: TcpStream,
+    buf: &mut [u8],
+    out: &mut Answer,
+) -> io::Result<()>
+    requires { (⟦<TcpDoor<'a, HostRuntime> as Faulty>⟧.seen door.old).is_out ≡ false }
+    ensures { (⟦<TcpDoor<'a, HostRuntime> as Faulty>⟧.seen door.new).is_out ≡ false }
+{
     step(out, "two lines of a client and one of another");
     let mut third = client_of(rt, port)?;
     second.write_all(b"a\nb\n")?;

@@ -73,6 +73,15 @@ fn answered(
     Ok(())
 }
 
+/// A question to a port where nobody listens any more.
+fn unheard(rt: &HostRuntime, out: &mut Answer) -> io::Result<()> {
+    let listener = TcpListener::bind(rt, socket_here(0))?;
+    let at = here(listener.local_addr()?.port());
+    drop(listener);
+    show(&ask(rt, &at), out);
+    Ok(())
+}
+
 /// A question to a listener that doesn't answer.
 fn unanswered(rt: &HostRuntime, out: &mut Answer) -> io::Result<()> {
     let listener = TcpListener::bind(rt, socket_here(0))?;
@@ -91,10 +100,7 @@ pub(crate) fn run(threads: &impl Threads, rt: &HostRuntime, out: &mut Answer) ->
     show(&ask(rt, &Address::File(Name::new())), out);
     show(&ask(rt, &host_at(b"\xff", 1)), out);
     step(out, "a port where nobody listens");
-    let listener = TcpListener::bind(rt, socket_here(0))?;
-    let at = here(listener.local_addr()?.port());
-    drop(listener);
-    show(&ask(rt, &at), out);
+    unheard(rt, out)?;
     step(out, "a listener that doesn't answer");
     unanswered(rt, out)?;
     step(out, "a line with another behind it");

@@ -119,11 +119,11 @@ fn open_both(
 
 /// Two receivers on one socket, and stop files.
 pub(crate) fn run(rt: &HostRuntime, out: &mut Answer) -> io::Result<()> {
+    let mut buf = room(rt.alloc(), MOST_DATAGRAM)?;
     let shared = OnceLock::new();
     let stop = Stop::new(None);
     let mut first = UdpReceiver::new(rt, &shared, &stop);
     let mut second = UdpReceiver::new(rt, &shared, &stop);
-    let mut buf = room(rt.alloc(), MOST_DATAGRAM)?;
     out.text("receivers");
     step(out, "one that isn't open");
     ask(&mut first, buf.as_mut_slice(), out);
