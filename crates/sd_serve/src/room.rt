@@ -62,6 +62,56 @@ pub struct ServerRoom<D, L> {
     pub(crate) ends: Vec<Ended>,
 }
 
+/// What the flusher, the sessions, the keeper of lines and the outlets work with.
+#[derive(Drop)]
+struct Benches {
+    tables: Tables,
+    space: AdminSpace,
+    lines: Option<LineRoom>,
+    outs: Option<OutRooms>,
+}
+
+impl Benches {
+    ghost use Rattle.sd_serve.specs.Room.{AreSizes, sizing_of};
+    ghost use Rattle.sd_serve.specs.RoomParts.{AreBenchesFor};
+
+    fn open(alloc: Global, sizes: Sizes) -> Result<Benches, AllocError>
+        requires { AreSizes (sizing_of sizes) }
+        ensures { IfOk result (AreBenchesFor (sizing_of sizes)) }
+    {
+        Ok(Benches {
+            lines: open_line_room(alloc, sizes.streams)?,
+            outs: open_outlets(alloc, sizes.outlets, sizes.outlet_bytes)?,
+            space: AdminSpace::open(alloc, sizes.limits, sizes.shards)?,
+            tables: Tables::open(alloc, sizes.limits, sizes.shards)?,
+        })
+    }
+}
+
+/// What the receivers work with.
+#[derive(Drop)]
+struct Postings<D, L> {
+    rooms: Vec<PostRoom<L>>,
+    posts: Vec<Post<D, L>>,
+    ends: Vec<Ended>,
+}
+
+impl<D: Drop, L: Drop> Postings<D, L> {
+    ghost use Rattle.sd_serve.specs.Room.{sizing_of};
+    ghost use Rattle.sd_serve.specs.RoomParts.{ArePostingsFor};
+
+    fn open(alloc: Global, sizes: Sizes) -> Result<Postings<D, L>, AllocError>
+        ensures { IfOk result (ArePostingsFor (sizing_of sizes)) }
+    {
+        let count = usize::from(sizes.receivers);
+        Ok(Postings {
+            posts: Vec::with_capacity(alloc, count)?,
+            ends: Vec::with_capacity(alloc, count)?,
+            rooms: open_rooms(alloc, count, usize::from(sizes.wires))?,
+        })
+    }
+}
+
 impl<D: Drop, L: Drop> ServerRoom<D, L> {
     ghost use Rattle.sd_serve.specs.Room.{AreSizes, IsRoom, sizing_in, sizing_of, start_in};
 
@@ -76,33 +126,38 @@ impl<D: Drop, L: Drop> ServerRoom<D, L> {
         ensures sizes { IfOk result (λ room. sizing_in room ≡ sizing_of sizes) }
         ensures start { IfOk result (λ room. start_in room ≡ start) }
     {
-        let Sizes {
-            limits,
-            policy,
-            shards,
-            receivers,
-            wires,
-            streams,
-            outlets,
-            outlet_bytes,
-        } = sizes;
         let submitters = sizes.submitters();
-        let (pool, seats) = Pool::open(alloc, limits, policy, shards, submitters)?;
+        // where one of these isn't opened, each of those before is let go as a whole
+        let benches = Benches::open(alloc, sizes)?;
+        let postings = Postings::open(alloc, sizes)?;
         let (desk, owns) = SharedDesk::open(alloc, start, submitters + 2)?;
-        let count = usize::from(receivers);
+        let (pool, seats) = Pool::open(
+            alloc,
+            sizes.limits,
+            sizes.policy,
+            sizes.shards,
+            submitters,
+        )?;
+        let Benches {
+            tables,
+            space,
+            lines,
+            outs,
+        } = benches;
+        let Postings { rooms, posts, ends } = postings;
         Ok(ServerRoom {
             sizes,
             pool,
             seats,
             desk,
             owns,
-            tables: Tables::open(alloc, limits, shards)?,
-            space: AdminSpace::open(alloc, limits, shards)?,
-            rooms: open_rooms(alloc, count, usize::from(wires))?,
-            lines: open_line_room(alloc, streams)?,
-            outs: open_outlets(alloc, outlets, outlet_bytes)?,
-            posts: Vec::with_capacity(alloc, count)?,
-            ends: Vec::with_capacity(alloc, count)?,
+            tables,
+            space,
+            rooms,
+            lines,
+            outs,
+            posts,
+            ends,
         })
     }
 }

@@ -1,7 +1,6 @@
-use Rattle.std.proofs.Common.{◌∙◌, ◌+◌, All, arith, subst, sym, ap}
+use Rattle.std.proofs.Common.{◌∙◌, ◌+◌, sym, ap}
 use Rattle.sd_seats.specs.Lists.{span}
 use Rattle.sd_model_record.specs.Desk.{Desk, new_desk}
-use Rattle.sd_serve.specs.Parts.{HasPlace}
 use Rattle.sd_serve.proofs.room.ServerRoom.open.Goals as goal
 
 pub returns-clause-room : goal.returns-clause-room
@@ -9,9 +8,8 @@ returns-clause-room g c =
     let many = c.submitters-submitters.ensures in
     let pool = c.in_ok-pool.ensures in
     let desk = c.in_ok-desk.ensures in
-    let rooms = c.in_ok-open_rooms.ensures in
-    let posts = c.in_ok-with_capacity.ensures in
-    let ends = c.in_ok-with_capacity-2.ensures in
+    let benches = c.in_ok-benches.ensures in
+    let postings = c.in_ok-postings.ensures in
     record {
       sizes_are = c.requires;
       shards = pool.shards;
@@ -27,16 +25,16 @@ returns-clause-room g c =
       desk_seats = desk.desk.1 ∙ ap (λ n. n + 2) many;
       numbers = desk.numbers ∙ ap (λ n. span 0 (n + 2)) many;
       owns = desk.seats;
-      tables = c.in_ok-open.ensures;
-      space = c.in_ok-open-2.ensures;
-      places = rooms.count ∙ c.from-count.ensures;
-      place_each = subst (λ n. All (HasPlace n) c.in_ok-open_rooms.field-0.items) c.from.ensures rooms.each;
-      lines = c.in_ok-open_line_room.ensures;
-      outs = c.in_ok-open_outlets.ensures;
-      no_post = posts.items;
-      post_room = let a = posts.capacity in let b = c.from-count.ensures in omega arith;
-      no_end = ends.items;
-      end_room = let a = ends.capacity in let b = c.from-count.ensures in omega arith;
+      tables = benches.tables;
+      space = benches.space;
+      places = postings.places;
+      place_each = postings.place_each;
+      lines = benches.lines;
+      outs = benches.outs;
+      no_post = postings.no_post;
+      post_room = postings.post_room;
+      no_end = postings.no_end;
+      end_room = postings.end_room;
     }
 
 pub returns-clause-start : goal.returns-clause-start
