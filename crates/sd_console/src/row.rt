@@ -1,13 +1,12 @@
 ghost use Rattle.std.specs.Prelude.{◌≡◌, ◌≤◌, ◌∷◌, ◌++◌, [], length, codes, decimal};
 ghost use Rattle.sd_model_text.specs.Numbers.{number_text};
 ghost use Rattle.sd_model_record.specs.Console.{console_figure};
-ghost use Rattle.sd_record.specs.Figures.{figure_view};
 ghost use Rattle.sd_console.specs.Texts.{counter_line, sent_line, gauge_line, set_line};
 
 use sd_decimal::{Line, Micro, Sum};
 use sd_key::Key;
 use sd_plan::Calculated;
-use sd_record::{Figure, Row};
+use sd_record::{FigureParts, Row};
 use sd_text::{RowText, push_number, push_text, push_whole};
 
 /// How the console gets the rows of a record, where these classes of timers' lines are chosen.
@@ -38,7 +37,7 @@ impl<'a> RowText for ConsoleRows<'a> {
         match row {
             Row::Counter { key, count, rate } => put_counter(key, *count, *rate, line),
             Row::Timer { key, timer } => {
-                let figure = timer.figure(place);
+                let figure = timer.figure_parts(place);
                 put_sent(key, &figure, self.calculated, line);
             }
             Row::Gauge { key, value } => put_gauge(key, *value, line),
@@ -68,24 +67,22 @@ fn put_counter(key: &Key, count: Sum, rate: Sum, line: &mut Line)
 }
 
 /// Puts the line of a timer's figure into `line`.
-fn put_figure(key: &Key, figure: &Figure, line: &mut Line)
-    requires { length figure.now.name.items ≤ 64 }
-    ensures { line.new.items ≡ console_figure key.now (figure_view figure.now) }
+fn put_figure(key: &Key, figure: &FigureParts, line: &mut Line)
+    ensures { line.new.items ≡ console_figure key.now figure.now }
 {
     begin(b"timer ", line);
     push_text(key.as_slice(), line);
     line.push(b' ');
-    push_text(figure.name.as_slice(), line);
-    push_number(figure.value, line);
+    figure.push_name(line);
+    push_number(figure.value(), line);
     line.push(b'\n');
 }
 
 /// Puts the line of a timer's figure into `line`, or nothing where its class isn't sent.
-fn put_sent(key: &Key, figure: &Figure, calculated: &Calculated, line: &mut Line)
-    requires { length figure.now.name.items ≤ 64 }
-    ensures { line.new.items ≡ sent_line calculated.now key.now (figure_view figure.now) }
+fn put_sent(key: &Key, figure: &FigureParts, calculated: &Calculated, line: &mut Line)
+    ensures { line.new.items ≡ sent_line calculated.now key.now figure.now }
 {
-    if calculated.sends(figure.class) {
+    if calculated.sends(figure.class()) {
         put_figure(key, figure, line);
     } else {
         line.clear();

@@ -42,7 +42,7 @@ fn push_front(names: &Names, legacy: &[u8], prefix: &[u8], line: &mut Line)
 
 /// Appends what stands behind each path.
 fn push_suffix(names: &Names, line: &mut Line)
-    requires { array_vec_len line.old ≤ 512 }
+    requires { array_vec_len line.old ≤ 514 }
     ensures text { line.new.items ≡ line.old.items ++ suffix names.now }
     ensures len { array_vec_len line.new ≤ array_vec_len line.old + 65 }
 {
@@ -52,6 +52,27 @@ fn push_suffix(names: &Names, line: &mut Line)
     }
     line.push(b'.');
     push_text(text, line);
+}
+
+/// Begins a line with a path, in place of what it has.
+pub(crate) fn begin(names: &Names, path: &Path<'_>, line: &mut Line)
+    ensures text { line.new.items ≡ path_text names.now path.now }
+    ensures len { array_vec_len line.new ≤ 450 }
+{
+    line.clear();
+    push_front(names, path.legacy, path.prefix, line);
+    push_text(path.key, line);
+    push_text(path.back, line);
+}
+
+/// Ends a line behind its path with the suffix, a number and the second.
+pub(crate) fn end(names: &Names, number: Sum, second: &Second, line: &mut Line)
+    requires { array_vec_len line.old ≤ 514 }
+    ensures { line.new.items ≡ line_text names.now line.old.items (number_text number.0) second.now }
+{
+    push_suffix(names, line);
+    push_number(number, line);
+    second.push(line);
 }
 
 /// Puts the line of a path and a number into `line`, in place of what it has.
@@ -64,11 +85,6 @@ pub(crate) fn put_path(
 )
     ensures { line.new.items ≡ line_text names.now (path_text names.now path.now) (number_text number.0) second.now }
 {
-    line.clear();
-    push_front(names, path.legacy, path.prefix, line);
-    push_text(path.key, line);
-    push_text(path.back, line);
-    push_suffix(names, line);
-    push_number(number, line);
-    second.push(line);
+    begin(names, path, line);
+    end(names, number, second, line);
 }

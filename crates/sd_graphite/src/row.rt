@@ -1,16 +1,14 @@
-ghost use Rattle.std.specs.Prelude.{◌≡◌, ◌≤◌, ◌∷◌, length, codes};
+ghost use Rattle.std.specs.Prelude.{◌≡◌, ◌≤◌, length};
 ghost use Rattle.sd_model_record.specs.Graphite.{counter_back, figure_line};
-ghost use Rattle.sd_record.specs.Figures.{figure_view};
 ghost use Rattle.sd_graphite.specs.Texts.{rate_line, count_line, sent_line, gauge_line, set_line};
 
-use crate::line::put_path;
+use crate::line::{begin, end, put_path};
 use crate::path::Path;
 use crate::second::Second;
-use arrayvec::ArrayVec;
 use sd_decimal::{Line, Micro, Sum};
 use sd_key::Key;
 use sd_plan::{Calculated, Names};
-use sd_record::{Figure, Row, whole_number};
+use sd_record::{FigureParts, Row, whole_number};
 use sd_text::RowText;
 
 /// How Graphite gets the rows of a record under these names, at this Unix second, where these classes of timers' lines are
@@ -47,7 +45,7 @@ impl<'a> RowText for GraphiteRows<'a> {
                 _ => put_count(key, *count, self.names, self.second, line),
             },
             Row::Timer { key, timer } => {
-                let figure = timer.figure(place);
+                let figure = timer.figure_parts(place);
                 put_sent(key, &figure, self.calculated, self.names, self.second, line);
             }
             Row::Gauge { key, value } => put_gauge(key, *value, self.names, self.second, line),
@@ -91,45 +89,33 @@ fn put_count(key: &Key, count: Sum, names: &Names, second: &Second, line: &mut L
     put_path(names, &path, count, second, line);
 }
 
-/// What stands behind a timer's key: a point and the name of a figure.
-fn figure_back(figure: &Figure) -> ArrayVec<u8, 65>
-    requires { length figure.now.name.items ≤ 64 }
-    ensures { result.items ≡ 46 ∷ figure.now.name.items }
-{
-    let mut back = ArrayVec::new();
-    back.push(b'.');
-    back.try_extend_from_slice(figure.name.as_slice()).unwrap();
-    back
-}
-
 /// Puts the line of a timer's figure into `line`.
-fn put_figure(key: &Key, figure: &Figure, names: &Names, second: &Second, line: &mut Line)
-    requires { length figure.now.name.items ≤ 64 }
-    ensures { line.new.items ≡ figure_line names.now second.now key.now (figure_view figure.now) }
+fn put_figure(key: &Key, figure: &FigureParts, names: &Names, second: &Second, line: &mut Line)
+    ensures { line.new.items ≡ figure_line names.now second.now key.now figure.now }
 {
-    let back = figure_back(figure);
     let path = Path {
         legacy: b"stats.timers.",
         prefix: names.prefix_timer().as_slice(),
         key: key.as_slice(),
-        back: back.as_slice(),
+        back: b".",
     };
-    put_path(names, &path, figure.value, second, line);
+    begin(names, &path, line);
+    figure.push_name(line);
+    end(names, figure.value(), second, line);
 }
 
 /// Puts the line of a timer's figure into `line`, or nothing where its class isn't sent.
 fn put_sent(
     key: &Key,
-    figure: &Figure,
+    figure: &FigureParts,
     calculated: &Calculated,
     names: &Names,
     second: &Second,
     line: &mut Line,
 )
-    requires { length figure.now.name.items ≤ 64 }
-    ensures { line.new.items ≡ sent_line names.now calculated.now second.now key.now (figure_view figure.now) }
+    ensures { line.new.items ≡ sent_line names.now calculated.now second.now key.now figure.now }
 {
-    if calculated.sends(figure.class) {
+    if calculated.sends(figure.class()) {
         put_figure(key, figure, names, second, line);
     } else {
         line.clear();

@@ -1,5 +1,5 @@
 -- How many figures a timer has, and which one stands at a place.
-use Rattle.std.proofs.Common.{◌≡◌, ℕ, zero, suc, ◌+◌, ◌-◌, ◌*◌, ◌/◌, ◌%◌, ◌<◌, ◌≤◌, List, [], ◌∷◌, ◌++◌, length, map, flat_map, refl, sym, ap, ◌∙◌, Some, None, slice_get, get_or, option_map, length-append, arith}
+use Rattle.std.proofs.Common.{◌≡◌, ℕ, zero, suc, ◌+◌, ◌-◌, ◌*◌, ◌/◌, ◌%◌, ◌<◌, ◌≤◌, List, [], ◌∷◌, ◌++◌, length, map, flat_map, refl, sym, ap, ◌∙◌, Some, None, slice_get, get_or, set, take, drop, option_map, length-append, arith}
 use Rattle.std.proofs.lemmas.List.{length-map}
 use Rattle.std.proofs.lemmas.Option.{slice_get-map, slice_get-get_or}
 use Rattle.sd_model_shard.specs.Values.{Part, Whole}
@@ -15,6 +15,14 @@ figures-idle t none = ap (figures_with t) none
 pub got_at : {A B : Type 0} (f : A → B) (xs ys : List A) (i : ℕ) (d : A) → xs ≡ ys → i < length xs → slice_get (map f ys) i ≡ Some (f (get_or xs i d))
 got_at f xs ys i d same inside =
     ap (λ zs. slice_get (map f zs) i) (sym same) ∙ slice_get-map f xs i ∙ ap (option_map f) (slice_get-get_or xs i d inside)
+
+-- a list whose first things are mapped, with one more that is
+pub mapped_more : {A : Type 0} (f : A → A) (xs : List A) (i : ℕ) (d : A) → i < length xs → set (map f (take i xs) ++ drop i xs) i (f (get_or (map f (take i xs) ++ drop i xs) i d)) ≡ map f (take (i + 1) xs) ++ drop (i + 1) xs
+mapped_more f [] i d inside = absurd (omega arith)
+mapped_more f (x ∷ xs) zero d inside = refl
+mapped_more f (x ∷ xs) (suc i) d inside =
+    let more : suc i + 1 ≡ suc (i + 1) = omega arith in
+    rw more (ap (λ ys. f x ∷ ys) (mapped_more f xs i d (omega arith)))
 
 -- each part has five figures
 length-parts : (ps : List Part) → length (flat_map part_figures ps) ≡ 5 * length ps

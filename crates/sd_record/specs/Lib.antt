@@ -1,3 +1,4 @@
+pub mod FigureInside
 pub mod Figures
 pub mod Placed
 pub mod Record

@@ -1,18 +1,16 @@
-ghost use Rattle.std.specs.Prelude.{◌≡◌, ◌+◌, ◌<◌, ◌≤◌, ◌++◌, [], length, map, slice_get, option_map, Some, codes, pos, unsigned_abs, if◌then◌else◌};
-ghost use Rattle.arrayvec.specs.ArrayVec.{array_vec_len};
-ghost use Rattle.sd_model_text.specs.Numbers.{number_text};
+ghost use Rattle.std.specs.Prelude.{◌≡◌, ◌<◌, ◌≤◌, ◌++◌, length, slice_get, option_map, Some, codes, if◌then◌else◌};
 ghost use Rattle.sd_model_settings.specs.TimerClasses.{UpperPercent, LowerPercent};
 ghost use Rattle.sd_model_shard.specs.Values.{is_upper};
-ghost use Rattle.sd_model_record.specs.Figures.{whole_number, underlined, label, part_figures, whole_figures, bin_figure, idle_figures, figures_of};
+ghost use Rattle.sd_model_record.specs.Figures.{figure, whole_number, part_figures, whole_figures, bin_figure, idle_figures, figures_of, label};
 ghost use Rattle.sd_plan.specs.Calculated.{class_of};
 ghost use Rattle.sd_stats.specs.Timer.{part_of, whole_of};
 ghost use Rattle.sd_record.specs.Row.{bin_view, timer_view};
-ghost use Rattle.sd_record.specs.Figures.{figure_view, entry_view, titled};
+ghost use Rattle.sd_record.specs.Figures.{figure_view};
 
-use crate::entry::Entry;
+use crate::figure_parts::{FigureParts, Tail};
 use crate::row::{Bin, TimerRow};
 use arrayvec::ArrayVec;
-use sd_decimal::{Limit, Line, Micro, Sum, write};
+use sd_decimal::{Limit, Line, Sum};
 use sd_plan::TimerClass;
 use sd_stats::{PctStats, Whole};
 
@@ -39,168 +37,99 @@ pub fn whole_number(n: u64) -> Sum
     Sum(i128::from(n) * 1_000_000)
 }
 
-/// The figures of a timer without samples.
-fn idle_entries(timer: &TimerRow) -> [Entry; 2]
-    ensures { map entry_view result ≡ idle_figures (timer_view timer.now) }
+/// A figure of this class, name and value.
+fn plain(class: TimerClass, name: &'static [u8], value: Sum) -> FigureParts
+    requires { length name.now ≤ 17 }
+    ensures { result ≡ figure (class_of class) name.now value.0 }
 {
-    [
-        Entry::new(TimerClass::Count, b"count", timer.count),
-        Entry::new(TimerClass::CountPs, b"count_ps", timer.count_ps),
-    ]
+    FigureParts::new(class, name, Tail::Nothing, value)
 }
 
-/// The figures of all values.
-fn whole_entries(whole: &Whole) -> [Entry; 9]
-    ensures { map entry_view result ≡ whole_figures (whole_of whole.now) }
+/// The figure at a place of a timer without samples.
+fn idle_figure(timer: &TimerRow, i: usize) -> FigureParts
+    requires { i < 2 }
+    ensures { slice_get (idle_figures (timer_view timer.now)) i ≡ Some result }
 {
-    [
-        Entry::new(TimerClass::Std, b"std", whole.std),
-        Entry::new(TimerClass::Upper, b"upper", whole.upper),
-        Entry::new(TimerClass::Lower, b"lower", whole.lower),
-        Entry::new(TimerClass::Count, b"count", whole.count),
-        Entry::new(TimerClass::CountPs, b"count_ps", whole.count_ps),
-        Entry::new(TimerClass::Sum, b"sum", whole.sum),
-        Entry::new(TimerClass::SumSquares, b"sum_squares", whole.sum_squares),
-        Entry::new(TimerClass::Mean, b"mean", whole.mean),
-        Entry::new(TimerClass::Median, b"median", whole.median),
-    ]
+    match i {
+        0 => plain(TimerClass::Count, b"count", timer.count),
+        _ => plain(TimerClass::CountPs, b"count_ps", timer.count_ps),
+    }
 }
 
-/// The figures of a part, whose names end with that of its threshold.
-fn part_entries(part: &PctStats) -> [Entry; 5]
-    ensures { map (titled (label part.now.threshold.0)) result ≡ part_figures (part_of part.now) }
+/// The figure of all values at a place.
+fn whole_figure(whole: &Whole, i: usize) -> FigureParts
+    requires { i < 9 }
+    ensures { slice_get (whole_figures (whole_of whole.now)) i ≡ Some result }
 {
-    [
-        Entry::new(
-            TimerClass::CountPercent,
-            b"count_",
-            whole_number(part.count),
-        ),
-        Entry::new(TimerClass::MeanPercent, b"mean_", part.mean),
-        Entry::new(
-            edge_class(part.threshold),
-            edge_title(part.threshold),
-            part.edge,
-        ),
-        Entry::new(TimerClass::SumPercent, b"sum_", part.sum),
-        Entry::new(
+    match i {
+        0 => plain(TimerClass::Std, b"std", whole.std),
+        1 => plain(TimerClass::Upper, b"upper", whole.upper),
+        2 => plain(TimerClass::Lower, b"lower", whole.lower),
+        3 => plain(TimerClass::Count, b"count", whole.count),
+        4 => plain(TimerClass::CountPs, b"count_ps", whole.count_ps),
+        5 => plain(TimerClass::Sum, b"sum", whole.sum),
+        6 => plain(TimerClass::SumSquares, b"sum_squares", whole.sum_squares),
+        7 => plain(TimerClass::Mean, b"mean", whole.mean),
+        _ => plain(TimerClass::Median, b"median", whole.median),
+    }
+}
+
+/// A figure of a part, whose name ends with that of its threshold.
+fn of_part(part: &PctStats, class: TimerClass, title: &'static [u8], value: Sum) -> FigureParts
+    requires { length title.now ≤ 17 }
+    ensures { result ≡ figure (class_of class) (title.now ++ label part.now.threshold.0) value.0 }
+{
+    FigureParts::new(class, title, Tail::Threshold(part.threshold), value)
+}
+
+/// The figure of a part at a place.
+fn part_figure(part: &PctStats, i: usize) -> FigureParts
+    requires { i < 5 }
+    ensures { slice_get (part_figures (part_of part.now)) i ≡ Some result }
+{
+    match i {
+        0 => {
+            let count = whole_number(part.count);
+            of_part(part, TimerClass::CountPercent, b"count_", count)
+        }
+        1 => of_part(part, TimerClass::MeanPercent, b"mean_", part.mean),
+        2 => edge_figure(part),
+        3 => of_part(part, TimerClass::SumPercent, b"sum_", part.sum),
+        _ => of_part(
+            part,
             TimerClass::SumSquaresPercent,
             b"sum_squares_",
             part.sum_squares,
         ),
-    ]
+    }
 }
 
-/// The class of a part's edge.
-fn edge_class(threshold: Micro) -> TimerClass
-    ensures { class_of result ≡ (if is_upper threshold.0 then UpperPercent else LowerPercent) }
+/// The figure of a part's edge.
+fn edge_figure(part: &PctStats) -> FigureParts
+    ensures { result ≡ figure (if is_upper part.now.threshold.0 then UpperPercent else LowerPercent)
+        ((if is_upper part.now.threshold.0 then codes "upper_" else codes "lower_") ++ label part.now.threshold.0)
+        part.now.edge.0 }
 {
-    if threshold.0 > 0 {
-        TimerClass::UpperPercent
+    if part.threshold.0 > 0 {
+        of_part(part, TimerClass::UpperPercent, b"upper_", part.edge)
     } else {
-        TimerClass::LowerPercent
+        of_part(part, TimerClass::LowerPercent, b"lower_", part.edge)
     }
-}
-
-/// What the name of a part's edge begins with.
-fn edge_title(threshold: Micro) -> &'static [u8]
-    ensures title { result.now ≡ (if is_upper threshold.0 then codes "upper_" else codes "lower_") }
-    ensures short { length result.now ≤ 6 }
-{
-    if threshold.0 > 0 {
-        b"upper_"
-    } else {
-        b"lower_"
-    }
-}
-
-/// What the name of a threshold begins with.
-fn threshold_title(threshold: Micro) -> &'static [u8]
-    ensures title { result.now ≡ (if is_upper threshold.0 then [] else codes "top") }
-    ensures short { length result.now ≤ 3 }
-{
-    if threshold.0 > 0 { b"" } else { b"top" }
-}
-
-/// Appends bytes for which there is room.
-fn push_text(text: &[u8], name: &mut Label)
-    requires { array_vec_len name.old + length text.now ≤ 64 }
-    ensures { name.new.items ≡ name.old.items ++ text.now }
-{
-    name.try_extend_from_slice(text).unwrap();
-}
-
-/// Appends a number, its point as `_`.
-fn push_number(number: Sum, name: &mut Label)
-    requires { array_vec_len name.old ≤ 20 }
-    ensures { name.new.items ≡ name.old.items ++ underlined (number_text number.0) }
-{
-    let mut text = Line::new();
-    write(number, &mut text);
-    for byte in text.as_slice() {
-        name.push(if *byte == b'.' { b'_' } else { *byte });
-    }
-}
-
-/// A threshold without its sign.
-fn magnitude(threshold: Micro) -> Sum
-    ensures { result.0 ≡ pos (unsigned_abs threshold.0) }
-{
-    Sum(i128::from(threshold.0.unsigned_abs()))
-}
-
-/// Appends the name of a threshold.
-fn push_threshold(threshold: Micro, name: &mut Label)
-    requires { array_vec_len name.old ≤ 16 }
-    ensures { name.new.items ≡ name.old.items ++ label threshold.0 }
-{
-    push_text(threshold_title(threshold), name);
-    push_number(magnitude(threshold), name);
-}
-
-/// The figure of an entry whose title is the whole name.
-fn plain(entry: Entry) -> Figure
-    ensures { figure_view result ≡ entry_view entry }
-{
-    let mut name = Label::new();
-    push_text(entry.title, &mut name);
-    Figure {
-        class: entry.class,
-        name,
-        value: entry.value,
-    }
-}
-
-/// The figure of a part at a place.
-fn part_figure(part: &PctStats, i: usize) -> Figure
-    requires { i < 5 }
-    ensures { slice_get (part_figures (part_of part.now)) i ≡ Some (figure_view result) }
-{
-    let Entry {
-        class,
-        title,
-        value,
-    } = part_entries(part)[i];
-    let mut name = Label::new();
-    push_text(title, &mut name);
-    push_threshold(part.threshold, &mut name);
-    Figure { class, name, value }
 }
 
 /// The figure of a bin, which has the name of its upper limit.
-fn bin_figure(bin: &Bin) -> Figure
-    ensures { figure_view result ≡ bin_figure (bin_view bin.now) }
+fn bin_figure(bin: &Bin) -> FigureParts
+    ensures { result ≡ bin_figure (bin_view bin.now) }
 {
-    let mut name = Label::new();
-    push_text(b"histogram.bin_", &mut name);
+    let count = whole_number(bin.count);
     match bin.below {
-        Limit::Below(limit) => push_number(Sum(i128::from(limit.0)), &mut name),
-        Limit::Infinite => push_text(b"inf", &mut name),
-    }
-    Figure {
-        class: TimerClass::Histogram,
-        name,
-        value: whole_number(bin.count),
+        Limit::Below(limit) => FigureParts::new(
+            TimerClass::Histogram,
+            b"histogram.bin_",
+            Tail::Number(limit),
+            count,
+        ),
+        Limit::Infinite => plain(TimerClass::Histogram, b"histogram.bin_inf", count),
     }
 }
 
@@ -221,17 +150,25 @@ impl TimerRow {
         ensures figure { slice_get (figures_of (timer_view self.now)) i ≡ Some (figure_view result) }
         ensures short { length result.name.items ≤ 64 }
     {
+        named(&self.figure_parts(i))
+    }
+
+    /// The i-th figure, in the order in which backends get them. Its name is put together where it is asked for.
+    pub fn figure_parts(&self, i: usize) -> FigureParts
+        requires { i < length (figures_of (timer_view self.now)) }
+        ensures { slice_get (figures_of (timer_view self.now)) i ≡ Some result }
+    {
         match &self.whole {
-            None => plain(idle_entries(self)[i]),
+            None => idle_figure(self, i),
             Some(whole) => self.sampled_figure(whole, i),
         }
     }
 
     /// The i-th figure of a timer with samples.
-    fn sampled_figure(&self, whole: &Whole, i: usize) -> Figure
+    fn sampled_figure(&self, whole: &Whole, i: usize) -> FigureParts
         requires some { option_map whole_of self.now.whole ≡ Some (whole_of whole.now) }
         requires place { i < length (figures_of (timer_view self.now)) }
-        ensures { slice_get (figures_of (timer_view self.now)) i ≡ Some (figure_view result) }
+        ensures { slice_get (figures_of (timer_view self.now)) i ≡ Some result }
     {
         let parts = self.parts.as_slice();
         let of_parts = OF_PART * parts.len();
@@ -240,8 +177,24 @@ impl TimerRow {
         }
         let place = i - of_parts;
         if place < OF_WHOLE {
-            return plain(whole_entries(whole)[place]);
+            return whole_figure(whole, place);
         }
         bin_figure(&self.bins.as_slice()[place - OF_WHOLE])
+    }
+}
+
+/// A figure with its name.
+fn named(parts: &FigureParts) -> Figure
+    ensures figure { figure_view result ≡ parts.now }
+    ensures short { length result.name.items ≤ 64 }
+{
+    let mut text = Line::new();
+    parts.push_name(&mut text);
+    let mut name = Label::new();
+    name.try_extend_from_slice(text.as_slice()).unwrap();
+    Figure {
+        class: parts.class(),
+        name,
+        value: parts.value(),
     }
 }

@@ -6,7 +6,7 @@
 #![tactic(auto)]
 
 mod bins;
-mod entry;
+mod figure_parts;
 mod figures;
 mod parts;
 mod placed;
@@ -16,6 +16,7 @@ mod scratch;
 mod timers;
 mod values;
 
+pub use figure_parts::FigureParts;
 pub use figures::{Figure, Label, whole_number};
 pub use record::Record;
 pub use row::{Bin, Bins, Parts, Row, TimerRow};

@@ -1,12 +1,11 @@
 use Rattle.std.proofs.Common.{◌≡◌, ◌<◌, ◌∷◌, [], slice_get, Some, ap, sym, subst, ◌∙◌, arith}
 use Rattle.sd_record.specs.Row.{row_view, timer_view}
-use Rattle.sd_record.specs.Figures.{figure_view}
 use Rattle.sd_graphite.specs.Texts.{rate_line, count_line}
 use Rattle.sd_graphite.proofs.TextLemmas.{counter_count, counter_at, timer_count, timer_at, gauge_at, set_at}
 use Rattle.sd_graphite.proofs.row.GraphiteRowsRowText.put_line.Goals as goal
 
-pub figure-figure-requires : goal.figure-figure-requires
-figure-figure-requires c =
+pub figure_parts-figure-requires : goal.figure_parts-figure-requires
+figure_parts-figure-requires c =
     subst (λ n. c.args.place < n) (timer_count c.args.self.now.names.now c.args.self.now.calculated.now c.args.self.now.second.now _ _ _ (ap row_view c.in-Timer.is)) c.requires
 
 pub returns-in-0 : goal.returns-in-0
@@ -24,7 +23,7 @@ returns-in_default c =
 
 pub returns-in-Timer : goal.returns-in-Timer
 returns-in-Timer c =
-    timer_at c.args.self.now.names.now c.args.self.now.calculated.now c.args.self.now.second.now _ c.in-Timer.key (timer_view c.in-Timer.timer) (ap row_view c.in-Timer.is) c.args.place (figure_view c.figure-figure.result) c.figure-figure.ensures.figure
+    timer_at c.args.self.now.names.now c.args.self.now.calculated.now c.args.self.now.second.now _ c.in-Timer.key (timer_view c.in-Timer.timer) (ap row_view c.in-Timer.is) c.args.place c.figure_parts-figure.result c.figure_parts-figure.ensures
     ∙ ap Some (sym c.put_sent.ensures)
 
 pub returns-in-Gauge : goal.returns-in-Gauge

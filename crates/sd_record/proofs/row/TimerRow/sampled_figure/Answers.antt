@@ -1,10 +1,9 @@
-use Rattle.std.proofs.Common.{◌-◌, ◌*◌, ◌/◌, length, slice_get, Some, refl, ap, sym, ◌∙◌, arith}
+use Rattle.std.proofs.Common.{◌-◌, ◌*◌, ◌/◌, length, slice_get, Some, ap, sym, ◌∙◌, arith}
 use Rattle.std.proofs.lemmas.List.{length-map}
 use Rattle.std.proofs.lemmas.Simd.{map-map}
 use Rattle.sd_model_record.specs.Figures.{bin_figure}
 use Rattle.sd_stats.specs.Timer.{part_of, whole_of}
 use Rattle.sd_record.specs.Row.{bin_view, timer_view}
-use Rattle.sd_record.specs.Figures.{entry_view}
 use Rattle.sd_record.proofs.FigureLemmas.{length-sampled, got_at, at_part, at_whole, at_bin}
 use Rattle.sd_record.proofs.row.TimerRow.sampled_figure.Goals as goal
 
@@ -18,9 +17,7 @@ pub returns-then-place-lt-OF_WHOLE : goal.returns-then-place-lt-OF_WHOLE
 returns-then-place-lt-OF_WHOLE c =
     let n = 5 * length c.as_slice-parts.result.now in
     at_whole (timer_view c.args.self.now) (whole_of c.args.whole.now) c.requires.some c.args.i n (omega (arith, length-map c.args.self.now.parts.items part_of, ap length c.as_slice-parts.ensures.value)) c.if-i-of_parts.false c.if-place-lt-OF_WHOLE.true
-    ∙ ap (λ es. slice_get es (c.args.i - n)) (sym c.whole_entries.ensures)
-    ∙ got_at entry_view c.whole_entries.result c.whole_entries.result (c.args.i - n) _ refl (omega (arith, ap length c.whole_entries.ensures, length-map c.whole_entries.result entry_view))
-    ∙ ap Some (sym c.plain.ensures)
+    ∙ c.whole_figure.ensures
 
 pub offset_bounds-as_slice-place : goal.offset_bounds-as_slice-place
 offset_bounds-as_slice-place c =
