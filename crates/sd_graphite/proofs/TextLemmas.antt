@@ -1,17 +1,18 @@
 -- How the parts of Graphite's text stand together.
-use Rattle.std.proofs.Common.{◌≡◌, ℕ, ℤ, ◌<◌, List, [], ◌∷◌, ◌++◌, length, map, true, false, cond, refl, sym, ap, ◌∙◌, append-nil, slice_get, Some, option_map, arith, codes}
+use Rattle.std.proofs.Common.{◌≡◌, ℕ, ℤ, ◌<◌, List, [], ◌∷◌, ◌++◌, length, map, take, Bool, true, false, cond, ◌≢◌, refl, sym, ap, ◌∙◌, append-nil, append_assoc, slice_get, Option, Some, None, option_map, arith, codes}
 use Rattle.std.proofs.lemmas.List.{length-map}
+use Rattle.std.proofs.Math.Seq.{take-append_seam}
 use Rattle.std.proofs.lemmas.Option.{slice_get-map}
 use Rattle.std.specs.List.{concat}
 use Rattle.std.specs.Fmt.{decimal}
-use Rattle.sd_model_text.specs.Numbers.{per_second}
+use Rattle.sd_model_text.specs.Numbers.{per_second, number_text}
 use Rattle.sd_model_settings.specs.Defaults.{Names}
 use Rattle.sd_model_settings.specs.TimerClasses.{sends}
 use Rattle.sd_model_record.specs.Record.{Row, CounterRow, TimerRow, GaugeRow, SetRow, TimerFigures, Tally, Record}
 use Rattle.sd_model_record.specs.Figures.{Figure, whole_number, figures_of}
-use Rattle.sd_model_record.specs.Graphite.{dotted, front, line, figure_line, row_lines, own_counter, rows_front, tail_lines, graphite_text}
+use Rattle.sd_model_record.specs.Graphite.{dotted, front, suffix, line, figure_line, row_lines, own_counter, rows_front, tail_lines, graphite_text}
 use Rattle.sd_graphite.specs.declared.path.Path.{Path}
-use Rattle.sd_graphite.specs.Texts.{path_text, rate_line, count_line, sent_line, gauge_line, set_line, row_texts, row_text, own_text, rows_line, tail_text}
+use Rattle.sd_graphite.specs.Texts.{path_text, timer_front, BeginsWith, rate_line, count_line, sent_line, gauge_line, set_line, row_texts, row_text, own_text, rows_line, tail_text}
 use Rattle.sd_text.specs.Rows.{rows_text}
 use Rattle.sd_text.proofs.RowLemmas.{concat-sent, flat_map-same}
 
@@ -23,6 +24,23 @@ path_text-parts names p legacy prefix key back before of_kind of_key behind =
     ∙ ap (λ xs. front names legacy xs ++ p.key.now ++ p.back.now) of_kind
     ∙ ap (λ (xs : List ℕ). front names legacy prefix ++ xs ++ p.back.now) of_key
     ∙ ap (λ (xs : List ℕ). front names legacy prefix ++ key ++ xs) behind
+
+-- parts behind others that stand together
+regrouped : (a b c d e f g : List ℕ) → a ++ (b ++ c) ++ d ++ e ++ f ++ g ≡ (a ++ b) ++ (c ++ d ++ e ++ f ++ g)
+regrouped a b c d e f g = simp (append_assoc)
+
+-- the line of a figure: what the path of each begins with, and the rest
+figure_line-front : (names : Names) (ts : ℕ) (key : List ℕ) (f : Figure) → figure_line names ts key f ≡ timer_front names key ++ (f.name ++ suffix names ++ 32 ∷ number_text f.value ++ 32 ∷ decimal ts ++ 10 ∷ [])
+unfolding timer_front
+figure_line-front names ts key f =
+    regrouped (front names (codes "stats.timers.") names.namespace.prefix_timer ++ key) (46 ∷ []) f.name (suffix names) (32 ∷ number_text f.value) (32 ∷ decimal ts) (10 ∷ [])
+
+-- the line of a figure that is sent begins with what each does
+sent_line-begins : (names : Names) (calculated : List (List ℕ)) (ts : ℕ) (key : List ℕ) (f : Figure) (text : List ℕ) → text ≡ sent_line names calculated ts key f → text ≢ [] → BeginsWith (timer_front names key) text
+sent_line-begins names calculated ts key f text is some = by_class (sends calculated f.class) is where
+  by_class : (b : Bool) → text ≡ cond b (figure_line names ts key f) [] → BeginsWith (timer_front names key) text
+  by_class true same = ap (take (length (timer_front names key))) (same ∙ figure_line-front names ts key f) ∙ take-append_seam (timer_front names key) _
+  by_class false none = absurd (some none)
 
 -- the lines of a row, joined
 pub row_texts-joined : (names : Names) (calculated : List (List ℕ)) (ts : ℕ) (row : Row) → concat (row_texts names calculated ts row) ≡ row_text names calculated ts row
@@ -57,6 +75,15 @@ module _ (names : Names) (calculated : List (List ℕ)) (ts : ℕ) (row : Row) (
     timer_at place f there =
         ap (λ texts. slice_get texts place) timer_texts ∙ slice_get-map (sent_line names calculated ts key) (figures_of timer) place
         ∙ ap (option_map (sent_line names calculated ts key)) there
+
+    -- a line that isn't empty begins with what each does
+    pub timer_begins : (place : ℕ) (text : List ℕ) → slice_get (row_texts names calculated ts row) place ≡ Some text → text ≢ [] → BeginsWith (timer_front names key) text
+    timer_begins place text there some =
+        by_figure (slice_get (figures_of timer) place) (sym (slice_get-map (sent_line names calculated ts key) (figures_of timer) place) ∙ sym (ap (λ texts. slice_get texts place) timer_texts) ∙ there)
+      where
+        by_figure : (found : Option Figure) → option_map (sent_line names calculated ts key) found ≡ Some text → BeginsWith (timer_front names key) text
+        by_figure None is = absurd (cc)
+        by_figure (Some f) is = let same : text ≡ sent_line names calculated ts key f = cc in sent_line-begins names calculated ts key f text same some
 
   module _ (value : ℤ) (is : row ≡ GaugeRow key value) where
     gauge_texts : row_texts names calculated ts row ≡ gauge_line names ts key value ∷ []

@@ -1,5 +1,5 @@
 -- Graphite's text of a record, line by line.
-use Rattle.std.specs.Prelude.{ℕ, ℤ, List, [], ◌∷◌, ◌++◌, map, if◌then◌else◌, codes, decimal}
+use Rattle.std.specs.Prelude.{◌≡◌, ℕ, ℤ, List, [], ◌∷◌, ◌++◌, length, take, map, if◌then◌else◌, codes, decimal}
 use Rattle.sd_model_text.specs.Numbers.{number_text}
 use Rattle.sd_model_settings.specs.Defaults.{Names}
 use Rattle.sd_model_settings.specs.TimerClasses.{sends}
@@ -11,6 +11,14 @@ use Rattle.sd_graphite.specs.declared.path.Path.{Path}
 -- the text of a path
 unfoldable pub path_text : Names → Path → List ℕ
 path_text names p = front names p.legacy.now p.prefix.now ++ p.key.now ++ p.back.now
+
+-- what the path of each figure of a timer begins with
+unfoldable pub timer_front : Names → List ℕ → List ℕ
+timer_front names key = front names (codes "stats.timers.") names.namespace.prefix_timer ++ key ++ 46 ∷ []
+
+-- a text begins with another
+abbrev pub BeginsWith : List ℕ → List ℕ → Type 0
+BeginsWith start text = take (length start) text ≡ start
 
 -- the line of a counter's count per second
 abbrev pub rate_line : Names → ℕ → List ℕ → ℤ → List ℕ

@@ -2,7 +2,7 @@ ghost use Rattle.std.specs.Prelude.{◌≡◌, ◌+◌, ◌≤◌, ◌++◌, len
 ghost use Rattle.arrayvec.specs.ArrayVec.{array_vec_len};
 ghost use Rattle.sd_model_text.specs.Numbers.{number_text};
 ghost use Rattle.sd_model_record.specs.Graphite.{dotted, suffix, front, line as line_text};
-ghost use Rattle.sd_graphite.specs.Texts.{path_text};
+ghost use Rattle.sd_graphite.specs.Texts.{path_text, BeginsWith};
 
 use crate::path::Path;
 use crate::second::Second;
@@ -63,6 +63,38 @@ pub(crate) fn begin(names: &Names, path: &Path<'_>, line: &mut Line)
     push_front(names, path.legacy, path.prefix, line);
     push_text(path.key, line);
     push_text(path.back, line);
+}
+
+/// How many bytes a part of a path has, with the point behind it.
+fn dotted_len(part: &[u8]) -> usize
+    requires { length part.now ≤ 64 }
+    ensures len { result ≡ length (dotted part.now) }
+    ensures few { result ≤ 65 }
+{
+    if part.is_empty() { 0 } else { part.len() + 1 }
+}
+
+/// How many bytes stand before a key.
+fn front_len(names: &Names, legacy: &[u8], prefix: &[u8]) -> usize
+    requires legacy { length legacy.now ≤ 64 }
+    requires prefix { length prefix.now ≤ 64 }
+    ensures len { result ≡ length (front names.now legacy.now prefix.now) }
+    ensures few { result ≤ 130 }
+{
+    if names.legacy_namespace() {
+        return legacy.len();
+    }
+    dotted_len(names.global_prefix().as_slice()) + dotted_len(prefix)
+}
+
+/// Keeps of a line the path that it begins with.
+pub(crate) fn keep(names: &Names, path: &Path<'_>, line: &mut Line)
+    requires { BeginsWith (path_text names.now path.now) line.old.items }
+    ensures text { line.new.items ≡ path_text names.now path.now }
+    ensures len { array_vec_len line.new ≤ 450 }
+{
+    let front = front_len(names, path.legacy, path.prefix);
+    line.truncate(front + path.key.len() + path.back.len());
 }
 
 /// Ends a line behind its path with the suffix, a number and the second.

@@ -1,8 +1,9 @@
-ghost use Rattle.std.specs.Prelude.{◌≡◌, ◌≤◌, length};
+ghost use Rattle.std.specs.Prelude.{◌≡◌, ◌≢◌, ◌<◌, ◌≤◌, [], length, IsTrue};
+ghost use Rattle.arrayvec.specs.ArrayVec.{array_vec_len};
 ghost use Rattle.sd_model_record.specs.Graphite.{counter_back, figure_line};
-ghost use Rattle.sd_graphite.specs.Texts.{rate_line, count_line, sent_line, gauge_line, set_line};
+ghost use Rattle.sd_graphite.specs.Texts.{path_text, timer_front, BeginsWith, rate_line, count_line, sent_line, gauge_line, set_line};
 
-use crate::line::{begin, end, put_path};
+use crate::line::{begin, end, keep, put_path};
 use crate::path::Path;
 use crate::second::Second;
 use sd_decimal::{Line, Micro, Sum};
@@ -46,10 +47,19 @@ impl<'a> RowText for GraphiteRows<'a> {
             },
             Row::Timer { key, timer } => {
                 let figure = timer.figure_parts(place);
-                put_sent(key, &figure, self.calculated, self.names, self.second, line);
+                put_sent(key, &figure, self, false, line);
             }
             Row::Gauge { key, value } => put_gauge(key, *value, self.names, self.second, line),
             Row::Set { key, count } => put_set(key, *count, self.names, self.second, line),
+        }
+    }
+
+    fn put_next(&self, row: &Row, place: usize, line: &mut Line) {
+        if let Row::Timer { key, timer } = row {
+            let figure = timer.figure_parts(place);
+            put_sent(key, &figure, self, is_begun(place, line), line);
+        } else {
+            self.put_line(row, place, line);
         }
     }
 }
@@ -89,34 +99,71 @@ fn put_count(key: &Key, count: Sum, names: &Names, second: &Second, line: &mut L
     put_path(names, &path, count, second, line);
 }
 
-/// Puts the line of a timer's figure into `line`.
-fn put_figure(key: &Key, figure: &FigureParts, names: &Names, second: &Second, line: &mut Line)
-    ensures { line.new.items ≡ figure_line names.now second.now key.now figure.now }
+/// Whether the line before that of a place begins what is put there: it does where there is one that was sent.
+fn is_begun(place: usize, line: &Line) -> bool
+    ensures { IsTrue result → (0 < place) × (line.now.items ≢ []) }
 {
-    let path = Path {
+    place > 0 && !line.is_empty()
+}
+
+/// What the path of each figure of a timer begins with.
+fn timer_path<'a>(key: &'a Key, names: &'a Names) -> Path<'a>
+    ensures { path_text names.now result ≡ timer_front names.now key.now }
+{
+    Path {
         legacy: b"stats.timers.",
         prefix: names.prefix_timer().as_slice(),
         key: key.as_slice(),
         back: b".",
-    };
-    begin(names, &path, line);
+    }
+}
+
+/// Puts what the path of each figure of a timer begins with into `line`, in place of what it has: where it begins with that
+/// already, the rest goes.
+fn begin_figure(key: &Key, names: &Names, is_begun: bool, line: &mut Line)
+    requires { IsTrue is_begun → BeginsWith (timer_front names.now key.now) line.old.items }
+    ensures text { line.new.items ≡ timer_front names.now key.now }
+    ensures len { array_vec_len line.new ≤ 450 }
+{
+    let path = timer_path(key, names);
+    if is_begun {
+        keep(names, &path, line);
+    } else {
+        begin(names, &path, line);
+    }
+}
+
+/// Puts the line of a timer's figure into `line`, which may begin with what the path of each figure does.
+fn put_figure(
+    key: &Key,
+    figure: &FigureParts,
+    names: &Names,
+    second: &Second,
+    is_begun: bool,
+    line: &mut Line,
+)
+    requires { IsTrue is_begun → BeginsWith (timer_front names.now key.now) line.old.items }
+    ensures { line.new.items ≡ figure_line names.now second.now key.now figure.now }
+{
+    begin_figure(key, names, is_begun, line);
     figure.push_name(line);
     end(names, figure.value(), second, line);
 }
 
-/// Puts the line of a timer's figure into `line`, or nothing where its class isn't sent.
+/// Puts the line of a timer's figure into `line`, or nothing where its class isn't sent. The line may begin with what the
+/// path of each figure does.
 fn put_sent(
     key: &Key,
     figure: &FigureParts,
-    calculated: &Calculated,
-    names: &Names,
-    second: &Second,
+    form: &GraphiteRows<'_>,
+    is_begun: bool,
     line: &mut Line,
 )
-    ensures { line.new.items ≡ sent_line names.now calculated.now second.now key.now figure.now }
+    requires { IsTrue is_begun → BeginsWith (timer_front form.now.names.now key.now) line.old.items }
+    ensures { line.new.items ≡ sent_line form.now.names.now form.now.calculated.now form.now.second.now key.now figure.now }
 {
-    if calculated.sends(figure.class()) {
-        put_figure(key, figure, names, second, line);
+    if form.calculated.sends(figure.class()) {
+        put_figure(key, figure, form.names, form.second, is_begun, line);
     } else {
         line.clear();
     }

@@ -12,7 +12,7 @@ use sd_record::{Record, Row};
 
 /// How a row of a record is written: as lines, one after another.
 pub trait RowText {
-    ghost use Rattle.std.specs.Prelude.{◌≡◌, ◌<◌, ℕ, List, length, slice_get, Some};
+    ghost use Rattle.std.specs.Prelude.{◌≡◌, ◌<◌, ◌-◌, ℕ, List, length, slice_get, Some};
     ghost use Rattle.sd_model_record.specs.Record.{Row as ModelRow};
     ghost use Rattle.sd_record.specs.Row.{row_view};
 
@@ -27,6 +27,16 @@ pub trait RowText {
     fn put_line(&self, row: &Row, place: usize, line: &mut Line)
         requires { place < length (lines_of self.now (row_view row.now)) }
         ensures { slice_get (lines_of self.now (row_view row.now)) place ≡ Some line.new.items };
+
+    /// Puts the line of a row at a place into `line`, which has the line before it, where there is one: what both begin with
+    /// may stay there.
+    fn put_next(&self, row: &Row, place: usize, line: &mut Line)
+        requires place { place < length (lines_of self.now (row_view row.now)) }
+        requires before { 0 < place → slice_get (lines_of self.now (row_view row.now)) (place - 1) ≡ Some line.old.items }
+        ensures { slice_get (lines_of self.now (row_view row.now)) place ≡ Some line.new.items }
+    {
+        self.put_line(row, place, line);
+    }
 }
 
 /// Writes the lines of a row.
@@ -52,7 +62,7 @@ fn write_row_through<T: RowText, K: Sink>(
     ensures failed { OnErr result (HasFailedBehind (concat (T.lines_of form.now (row_view row.now))) (K.seen sink.old) (K.seen sink.new)) }
 {
     for place in 0..form.line_count(row) {
-        form.put_line(row, place, line);
+        form.put_next(row, place, line);
         write_line(line, sink)?;
     }
     Ok(())

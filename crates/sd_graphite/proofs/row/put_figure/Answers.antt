@@ -1,15 +1,15 @@
-use Rattle.std.proofs.Common.{◌∙◌, ap, refl, codes, List, ℕ, [], ◌∷◌, ◌++◌, append_assoc}
+use Rattle.std.proofs.Common.{◌∙◌, ap, codes, List, ℕ, [], ◌∷◌, ◌++◌, append_assoc}
 use Rattle.sd_model_text.specs.Numbers.{number_text}
 use Rattle.sd_model_record.specs.Graphite.{line, front}
-use Rattle.sd_graphite.proofs.TextLemmas.{path_text-parts}
+use Rattle.sd_graphite.specs.Texts.{timer_front}
 use Rattle.sd_graphite.proofs.row.put_figure.Goals as goal
 
 pub returns : goal.returns
+unfolding timer_front
 returns c =
     let names = c.args.names.now in
     let f = c.args.figure.now in
     let before = front names (codes "stats.timers.") names.namespace.prefix_timer ++ c.args.key.now in
-    let path = path_text-parts _ _ (codes "stats.timers.") _ _ (46 ∷ []) refl (c.as_slice.ensures.value ∙ c.prefix_timer.ensures.value) c.as_slice-2.ensures.bytes refl in
-    let whole = c.push_name.ensures.text ∙ ap (λ (xs : List ℕ). xs ++ f.name) (c.begin.ensures.text ∙ path) ∙ append_assoc before (46 ∷ []) f.name in
+    let whole = c.push_name.ensures.text ∙ ap (λ (xs : List ℕ). xs ++ f.name) c.begin_figure.ensures.text ∙ append_assoc before (46 ∷ []) f.name in
     c.end.ensures ∙ ap (λ p. line names p (number_text c.value.result.0) c.args.second.now) whole
     ∙ ap (λ n. line names (before ++ 46 ∷ f.name) (number_text n) c.args.second.now) c.value.ensures
