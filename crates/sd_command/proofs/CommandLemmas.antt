@@ -1,10 +1,11 @@
 -- What the names of a deletion do and get replied, one after another, and what a whole line does.
 use Rattle.std.proofs.Common.{◌≡◌, ℕ, ◌+◌, ◌<◌, ◌≤◌, zero, suc, take, length, Bool, true, false, cond, List, [], ◌∷◌, ◌++◌, map, refl, ap, ◌∙◌, arith, append-nil, sym}
-use Rattle.std.specs.Prelude.{filter, Option, filter_map, flat_map, slice_get, Some, None, Result, Ok, Err, OnOk, OnErr, is_err, not, nat_le, ⊤}
+use Rattle.std.specs.Prelude.{filter, Option, flat_map, slice_get, Some, None, Result, Ok, Err, OnOk, OnErr, not, nat_le, ⊤}
 use Rattle.std.specs.FinMap.{empty, get, get-empty, same_map}
 use Rattle.std.proofs.lemmas.List.{get_or_past}
 use Rattle.std.specs.List.{range_with_len, onto_first, slice_split}
 use Rattle.std.proofs.Math.Seq.{take-nil}
+use Rattle.std.proofs.lemmas.List.Sums.{fold_push}
 use Rattle.std.proofs.lemmas.Grind.{flat_map-append, common_steps}
 use Rattle.std.proofs.lemmas.Bool.Decides.{nat_tests}
 use Rattle.sd_model_text.specs.Lists.{is_white_space}
@@ -13,117 +14,121 @@ use Rattle.sd_model_text.specs.Lines.{is_empty}
 use Rattle.sd_model_outside.specs.Outside.{Object, HasFailedBehind, given}
 use Rattle.sd_model_outside.proofs.WriteLemmas.{given-given, behind-later}
 use Rattle.sd_model_shard.specs.Shard as shard
-use Rattle.sd_model_shard.specs.Shard.{State, empty_state, Limits, Policy, Event, Delete, after_delete, deletion_of}
+use Rattle.sd_model_shard.specs.Shard.{State, empty_state, Event, Delete, Dump, after_delete, deletion_of}
 use Rattle.sd_model_shard.specs.Rows.{Rows as RowMap, Kept, row_cmp}
-use Rattle.sd_model_shard.specs.Commands.{dump_of, is_hit, rows_left}
+use Rattle.sd_model_shard.specs.Commands.{is_hit, rows_left}
 use Rattle.sd_model_shard.proofs.RowLemmas.{rows_total, rows_exact}
 use Rattle.sd_model_shard.proofs.DeletionLemmas.{get-rows_left}
 use Rattle.sd_model_shard.specs.History.{Asked, answered, after_all}
 use Rattle.sd_model_record.specs.Admin as admin
 use Rattle.sd_model_record.specs.Admin.{AdminFault, TooLong, words, command_named, command_of_words, longest_line}
-use Rattle.sd_model_record.specs.Replies.{Reply, Rows, Gone, Finish, reply_text}
-use Rattle.sd_model_replay.specs.Settings.{limits_of, policy_of}
+use Rattle.sd_model_record.specs.Replies.{Reply, Stats, Rows, Gone, Finish, reply_text}
+use Rattle.sd_model_replay.specs.Settings.{Bounds, bounds_of}
 use Rattle.sd_model_replay.specs.Script.{Admin}
 use Rattle.sd_model_record.specs.Callers.{administrator}
-use Rattle.sd_model_record.specs.Replying.{admin_events, keys_told, names_replied, rows_told}
-use Rattle.sd_model_replay.specs.Replay.{Run, acts_in}
-use Rattle.sd_model_replay.specs.Output.{replies_to_line}
+use Rattle.sd_model_record.specs.Desk.{Desk, Facts}
+use Rattle.sd_model_record.specs.Replying.{admin_events, keys_told, names_replied, replies_by, replies_text, rows_told}
+use Rattle.sd_model_serve.specs.Sessions.{Broadcast, replies_at}
+use Rattle.sd_model_replay.specs.Replay.{states_after}
+use Rattle.sd_model_replay.specs.Asked.{broadcasts}
+use Rattle.sd_model_replay.specs.Output.{output_in}
 use Rattle.sd_shards.specs.Shards.{Group, AreAlike, state_at}
-use Rattle.sd_command.specs.Commanded.{IsWritten, deleted, replied, gone, shown, commanded}
+use Rattle.sd_command.specs.Commanded.{IsWritten, deleted}
 use Rattle.sd_model_settings.specs.Settings.{Settings}
-
--- what is there for each number
-all_there : (answer : ℕ → shard.Reply) (numbers : List ℕ) → filter_map (λ i. Some (answer i)) numbers ≡ map answer numbers
-all_there answer [] = refl
-all_there answer (i ∷ numbers) = ap (λ (rs : List shard.Reply). answer i ∷ rs) (all_there answer numbers)
 
 -- events as an administrator asks for them
 abbrev as_asked : List Event → List Asked
 as_asked events = map (λ event. record { who = administrator; event = event }) events
 
--- the n-th answer of each shard to the deletions by names
-abbrev answers : ℕ → Limits → Policy → Kind → (ℕ → State) → List (List ℕ) → ℕ → List shard.Reply
-answers shards limits policy kind states names n =
-    filter_map (λ i. slice_get (map (λ a. a.reply) (answered limits policy (states i) (as_asked (map (Delete kind) names)))) n) (range_with_len 0 shards)
+-- what is replied to a name more
+pub replied-more : (answers : ℕ → List shard.Reply) (names : List (List ℕ)) (name : List ℕ) → names_replied answers (names ++ name ∷ []) ≡ names_replied answers names ++ Gone name (keys_told (answers (length names))) ∷ []
+replied-more answers [] name = refl
+replied-more answers (n ∷ names) name =
+    let next : length names + 1 ≡ suc (length names) = omega arith in
+    ap (λ (replies : List Reply). Gone n (keys_told (answers 0)) ∷ replies)
+    (replied-more (λ k. answers (k + 1)) names name ∙ ap (λ m. names_replied (λ k. answers (k + 1)) names ++ Gone name (keys_told (answers m)) ∷ []) next)
 
-next_answers : (shards : ℕ) (limits : Limits) (policy : Policy) (kind : Kind) (states : ℕ → State) (name : List ℕ) (names : List (List ℕ)) (n : ℕ)
-    → answers shards limits policy kind states (name ∷ names) (n + 1) ≡ answers shards limits policy kind (λ i. after_delete kind name (states i)) names n
-next_answers shards limits policy kind states name names n =
-    let next : n + 1 ≡ suc n = omega arith in
-    ap (answers shards limits policy kind states (name ∷ names)) next
+-- what all shards answer to a name of a deletion
+pub told_at : (bounds : Bounds) (kind : Kind) (states : ℕ → State) (names : List (List ℕ)) (n : ℕ) (name : List ℕ) → slice_get names n ≡ Some name
+    → replies_at bounds.shards (broadcasts bounds states (map (Delete kind) names)) n ≡ map (λ i. deletion_of kind name (deleted kind (states i) (take n names))) (range_with_len 0 bounds.shards)
+told_at bounds kind states [] n name found = absurd (cc)
+told_at bounds kind states (m ∷ names) zero name found = let same : m ≡ name = cc found in ap (λ x. map (λ i. deletion_of kind x (states i)) (range_with_len 0 bounds.shards)) same
+told_at bounds kind states (m ∷ names) (suc n) name found = told_at bounds kind (λ i. after_delete kind m (states i)) names n name found
 
--- the replies of the definitions are those that go name by name
-replied_is : (shards : ℕ) (limits : Limits) (policy : Policy) (kind : Kind) (states : ℕ → State) (names : List (List ℕ))
-    → names_replied (answers shards limits policy kind states names) names ≡ replied shards kind states names
-replied_is shards limits policy kind states [] = refl
-replied_is shards limits policy kind states (name ∷ names) =
-    let later = λ (i : ℕ). after_delete kind name (states i) in
-    ap (λ (told : List shard.Reply). Gone name (keys_told told) ∷ names_replied (λ n. answers shards limits policy kind states (name ∷ names) (n + 1)) names)
-    (all_there (λ i. deletion_of kind name (states i)) (range_with_len 0 shards))
-    ∙ ap (λ (f : ℕ → List shard.Reply). gone shards kind states name ∷ names_replied f names) (λ i n. next_answers shards limits policy kind states name names n i)
-    ∙ ap (λ (replies : List Reply). gone shards kind states name ∷ replies) (replied_is shards limits policy kind later names)
-
-deleted_is : (limits : Limits) (policy : Policy) (kind : Kind) (states : ℕ → State) (names : List (List ℕ)) (i : ℕ)
-    → after_all limits policy (states i) (answered limits policy (states i) (as_asked (map (Delete kind) names))) ≡ deleted kind states names i
-deleted_is limits policy kind states [] i = refl
-deleted_is limits policy kind states (name ∷ names) i = deleted_is limits policy kind (λ j. after_delete kind name (states j)) names i
+-- which doesn't depend on their bounds
+told_alike : (one other : Bounds) (kind : Kind) (states : ℕ → State) (names : List (List ℕ)) → broadcasts one states (map (Delete kind) names) ≡ broadcasts other states (map (Delete kind) names)
+told_alike one other kind states [] = refl
+told_alike one other kind states (name ∷ names) =
+    ap (λ (bs : List Broadcast). record { event = Delete kind name; replies = λ i. deletion_of kind name (states i) } ∷ bs) (told_alike one other kind (λ i. after_delete kind name (states i)) names)
 
 -- a name more
-pub deleted-more : (kind : Kind) (states : ℕ → State) (names : List (List ℕ)) (name : List ℕ) (i : ℕ) → deleted kind states (names ++ name ∷ []) i ≡ after_delete kind name (deleted kind states names i)
-deleted-more kind states [] name i = refl
-deleted-more kind states (n ∷ names) name i = deleted-more kind (λ j. after_delete kind n (states j)) names name i
-
-pub replied-more : (shards : ℕ) (kind : Kind) (states : ℕ → State) (names : List (List ℕ)) (name : List ℕ) → replied shards kind states (names ++ name ∷ []) ≡ replied shards kind states names ++ gone shards kind (deleted kind states names) name ∷ []
-replied-more shards kind states [] name = refl
-replied-more shards kind states (n ∷ names) name = ap (λ (replies : List Reply). gone shards kind states n ∷ replies) (replied-more shards kind (λ j. after_delete kind n (states j)) names name)
+pub deleted-more : (kind : Kind) (state : State) (names : List (List ℕ)) (name : List ℕ) → deleted kind state (names ++ name ∷ []) ≡ after_delete kind name (deleted kind state names)
+deleted-more kind state names name = fold_push (λ st x. after_delete kind x st) state names name
 
 -- the text of a reply more
 pub text-more : (replies : List Reply) (reply : Reply) → flat_map reply_text (replies ++ reply ∷ []) ≡ flat_map reply_text replies ++ reply_text reply
 text-more replies reply = flat_map-append reply_text replies (reply ∷ []) ∙ ap (λ text. flat_map reply_text replies ++ text) (append-nil (reply_text reply))
 
-pub deleted-at : (kind : Kind) (states others : ℕ → State) (names : List (List ℕ)) (i : ℕ) → states i ≡ others i → deleted kind states names i ≡ deleted kind others names i
-deleted-at kind states others [] i same = same
-deleted-at kind states others (name ∷ names) i same = deleted-at kind (λ j. after_delete kind name (states j)) (λ j. after_delete kind name (others j)) names i (ap (after_delete kind name) same)
+-- a deletion leaves an empty shard as it is
+none_left : (b : Bool) (found : Option Kept) → found ≡ None → cond b found None ≡ found
+none_left true found none = refl
+none_left false found none = sym none
 
--- a line does to a shard what doesn't depend on the others
-pub commanded-at : (answer : Result admin.Command AdminFault) (states others : ℕ → State) (i : ℕ) → states i ≡ others i → commanded answer states i ≡ commanded answer others i
-commanded-at (Ok admin.Stats) states others i same = same
-commanded-at (Ok admin.Config) states others i same = same
-commanded-at (Ok admin.Quit) states others i same = same
-commanded-at (Ok (admin.Show kind)) states others i same = same
-commanded-at (Ok (admin.Delete kind names)) states others i same = deleted-at kind states others names i same
-commanded-at (Ok (admin.Health word)) states others i same = same
-commanded-at (Err fault) states others i same = same
+pub idle_delete : (kind : Kind) (name : List ℕ) → after_delete kind name empty_state ≡ empty_state
+idle_delete kind name =
+    ap (λ (live : RowMap). record empty_state { live = live })
+    (same_map rows_total rows_exact (rows_left kind name empty) empty (λ q. get-rows_left kind name empty q ∙ none_left (not (is_hit kind name q)) (get empty q) (get-empty row_cmp q)))
 
--- What a line does to the shards of a replay, by its command or its fault.
-pub line_carried : (settings : Settings) (run : Run) (moment : ℕ) (line : List ℕ) (i : ℕ)
-    → after_all (limits_of settings) (policy_of settings) (run.shards i) (acts_in settings run i (Admin moment line)) ≡ commanded (admin.command line) run.shards i
-line_carried settings run moment line i = by_answer (admin.command line) where
-  by_answer : (answer : Result admin.Command AdminFault)
-      → after_all (limits_of settings) (policy_of settings) (run.shards i) (answered (limits_of settings) (policy_of settings) (run.shards i) (as_asked (admin_events answer))) ≡ commanded answer run.shards i
-  by_answer (Ok admin.Stats) = refl
-  by_answer (Ok admin.Config) = refl
-  by_answer (Ok admin.Quit) = refl
-  by_answer (Ok (admin.Show kind)) = refl
-  by_answer (Ok (admin.Delete kind names)) = deleted_is (limits_of settings) (policy_of settings) kind run.shards names i
-  by_answer (Ok (admin.Health word)) = refl
-  by_answer (Err fault) = refl
+-- what a line does to a shard
+module _ (bounds : Bounds) where
+  -- a shard's state after what a line asks of it
+  abbrev asked_of : Result admin.Command AdminFault → State → State
+  asked_of answer state = after_all bounds.limits bounds.policy state (answered bounds.limits bounds.policy state (as_asked (admin_events answer)))
 
--- what is replied to a deletion, and to a dump
-module _ (settings : Settings) (run : Run) (moment : ℕ) (line : List ℕ) where
-  pub deletion_replied : (kind : Kind) (names : List (List ℕ)) → admin.command line ≡ Ok (admin.Delete kind names)
-      → replies_to_line settings run (Admin moment line) moment (admin.command line) ≡ replied settings.sizes.shards kind run.shards names ++ Finish ∷ []
-  deletion_replied kind names is =
-      ap (replies_to_line settings run (Admin moment line) moment) is
-      ∙ ap (λ (answer : Result admin.Command AdminFault). names_replied (λ n. filter_map (λ i. slice_get (map (λ a. a.reply) (answered (limits_of settings) (policy_of settings) (run.shards i) (as_asked (admin_events answer)))) n) (range_with_len 0 settings.sizes.shards)) names ++ Finish ∷ []) is
-      ∙ ap (λ (replies : List Reply). replies ++ Finish ∷ []) (replied_is settings.sizes.shards (limits_of settings) (policy_of settings) kind run.shards names)
+  names_asked : (kind : Kind) (state : State) (names : List (List ℕ)) → asked_of (Ok (admin.Delete kind names)) state ≡ deleted kind state names
+  names_asked kind state [] = refl
+  names_asked kind state (name ∷ names) = names_asked kind (after_delete kind name state) names
 
-  pub dump_replied : (kind : Kind) → admin.command line ≡ Ok (admin.Show kind)
-      → replies_to_line settings run (Admin moment line) moment (admin.command line) ≡ shown settings.sizes.shards kind run.shards ∷ []
-  dump_replied kind is =
-      ap (replies_to_line settings run (Admin moment line) moment) is
-      ∙ ap (λ (answer : Result admin.Command AdminFault). Rows kind (rows_told (filter_map (λ i. slice_get (map (λ a. a.reply) (answered (limits_of settings) (policy_of settings) (run.shards i) (as_asked (admin_events answer)))) 0) (range_with_len 0 settings.sizes.shards))) ∷ []) is
-      ∙ ap (λ (told : List shard.Reply). Rows kind (rows_told told) ∷ []) (all_there (λ i. shard.Dumped (dump_of kind (run.shards i).live (run.shards i).held)) (range_with_len 0 settings.sizes.shards))
+  pub names_carried : (states : ℕ → State) (moment : ℕ) (line : List ℕ) (kind : Kind) (names : List (List ℕ)) (i : ℕ) → admin.command line ≡ Ok (admin.Delete kind names) → states_after bounds states (Admin moment line) i ≡ deleted kind (states i) names
+  names_carried states moment line kind names i read = ap (λ answer. asked_of answer (states i)) read ∙ names_asked kind (states i) names
+
+  -- it leaves an empty one as it is
+  idle_names : (kind : Kind) (names : List (List ℕ)) → asked_of (Ok (admin.Delete kind names)) empty_state ≡ empty_state
+  idle_names kind [] = refl
+  idle_names kind (name ∷ names) = ap (asked_of (Ok (admin.Delete kind names))) (idle_delete kind name) ∙ idle_names kind names
+
+  pub idle_line : (answer : Result admin.Command AdminFault) → asked_of answer empty_state ≡ empty_state
+  idle_line (Ok admin.Stats) = refl
+  idle_line (Ok admin.Config) = refl
+  idle_line (Ok admin.Quit) = refl
+  idle_line (Ok (admin.Show kind)) = refl
+  idle_line (Ok (admin.Delete kind names)) = idle_names kind names
+  idle_line (Ok (admin.Health word)) = refl
+  idle_line (Err fault) = refl
+
+-- the text of what is replied to a line, as it is written
+module _ (settings : Settings) (states : ℕ → State) (desk : Desk) (moment : ℕ) (line : List ℕ) where
+  abbrev text_by : Result admin.Command AdminFault → List ℕ
+  text_by answer = replies_text (replies_by (replies_at settings.sizes.shards (broadcasts (bounds_of settings) states (admin_events answer))) desk.facts settings moment answer)
+
+  abbrev told : List ℕ
+  told = output_in settings (record { shards = states; desk = desk }) (Admin moment line)
+
+  pub stats_told : (facts : Facts) → facts ≡ desk.facts → admin.command line ≡ Ok admin.Stats → reply_text (Stats facts moment) ≡ told
+  stats_told facts same read =
+      ap (λ f. reply_text (Stats f moment)) same ∙ sym (append-nil (reply_text (Stats desk.facts moment))) ∙ sym (ap text_by read)
+
+  pub rows_shown : (bounds : Bounds) (kind : Kind) → bounds.shards ≡ settings.sizes.shards → admin.command line ≡ Ok (admin.Show kind)
+      → reply_text (Rows kind (rows_told (replies_at bounds.shards (broadcasts bounds states (Dump kind ∷ [])) 0))) ≡ told
+  rows_shown bounds kind count read =
+      let answers : ℕ → List shard.Reply = λ n. replies_at n (broadcasts bounds states (Dump kind ∷ [])) 0 in
+      ap (λ n. reply_text (Rows kind (rows_told (answers n)))) count ∙ sym (append-nil (reply_text (Rows kind (rows_told (answers settings.sizes.shards))))) ∙ sym (ap text_by read)
+
+  pub names_told : (bounds : Bounds) (kind : Kind) (names : List (List ℕ)) → bounds.shards ≡ settings.sizes.shards → admin.command line ≡ Ok (admin.Delete kind names)
+      → replies_text (names_replied (replies_at bounds.shards (broadcasts bounds states (map (Delete kind) names))) names ++ Finish ∷ []) ≡ told
+  names_told bounds kind names count read =
+      let text : ℕ → List Broadcast → List ℕ = λ n bs. replies_text (names_replied (replies_at n bs) names ++ Finish ∷ []) in
+      ap (λ n. text n (broadcasts bounds states (map (Delete kind) names))) count ∙ ap (text settings.sizes.shards) (told_alike bounds (bounds_of settings) kind states names) ∙ sym (ap text_by read)
 
 -- what was written whole, and then this
 pub written-more : {E : Type 0} (text more : List ℕ) (result : Result ⊤ E) (old mid new : Object) → mid ≡ given text old → IsWritten more result mid new → IsWritten (text ++ more) result old new
@@ -135,14 +140,14 @@ pub as_written : {E : Type 0} (text : List ℕ) (result : Result ⊤ E) (old new
 as_written text (Ok whole) old new ok failed = ok
 as_written text (Err fault) old new ok failed = failed
 
--- what was written where a write succeeded, and where it failed
-pub written_of : {E : Type 0} (text : List ℕ) (result : Result ⊤ E) (old new : Object) → is_err result ≡ false → IsWritten text result old new → new ≡ given text old
-written_of text (Ok whole) old new fine written = written
-written_of text (Err fault) old new fine failed = absurd (cc)
+-- and each of them follows
+pub ok_written : {E : Type 0} (text : List ℕ) (result : Result ⊤ E) (old new : Object) → IsWritten text result old new → OnOk result (new ≡ given text old)
+ok_written text (Ok whole) old new written = written
+ok_written text (Err fault) old new failed = tt
 
-pub failed_of : {E : Type 0} (text : List ℕ) (result : Result ⊤ E) (old new : Object) → is_err result ≡ true → IsWritten text result old new → HasFailedBehind text old new
-failed_of text (Ok whole) old new fails written = absurd (cc)
-failed_of text (Err fault) old new fails failed = failed
+pub err_written : {E : Type 0} (text : List ℕ) (result : Result ⊤ E) (old new : Object) → IsWritten text result old new → OnErr result (HasFailedBehind text old new)
+err_written text (Ok whole) old new written = tt
+err_written text (Err fault) old new failed = failed
 
 -- a name more is taken
 pub take-more : (names : List (List ℕ)) (i : ℕ) (name : List ℕ) → slice_get names i ≡ Some name → take (i + 1) names ≡ take i names ++ name ∷ []
@@ -155,16 +160,6 @@ take-more names i name found = ap (λ k. take k names) (let next : i + 1 ≡ suc
 -- beyond the last shard there is none
 pub state_past : (group : Group) (i : ℕ) → length group.states ≤ i → state_at group i ≡ empty_state
 state_past group i past = get_or_past group.states i empty_state past
-
--- a deletion leaves an empty shard as it is
-none_left : (b : Bool) (found : Option Kept) → found ≡ None → cond b found None ≡ found
-none_left true found none = refl
-none_left false found none = sym none
-
-pub idle_delete : (kind : Kind) (name : List ℕ) → after_delete kind name empty_state ≡ empty_state
-idle_delete kind name =
-    ap (λ (live : RowMap). record empty_state { live = live })
-    (same_map rows_total rows_exact (rows_left kind name empty) empty (λ q. get-rows_left kind name empty q ∙ none_left (not (is_hit kind name q)) (get empty q) (get-empty row_cmp q)))
 
 -- shards that are alike, and alike again
 pub both_alike : (one two three : Group) → AreAlike one two → AreAlike two three → AreAlike one three

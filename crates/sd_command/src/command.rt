@@ -1,17 +1,19 @@
-ghost use Rattle.std.specs.Prelude.{◌≡◌, ◌≢◌, ◌≤◌, ◌<◌, ◌^◌, ◌*◌, ℕ, List, [], ◌∷◌, ◌++◌, flat_map, length};
+ghost use Rattle.std.specs.Prelude.{◌≡◌, ◌≢◌, ◌≤◌, ◌<◌, ◌^◌, ◌*◌, ℕ, List, [], ◌∷◌, ◌++◌, length, map, OnOk, OnErr};
 ghost use Rattle.sd_model_text.specs.Names.{Set};
-ghost use Rattle.sd_model_outside.specs.Outside.{Object};
+ghost use Rattle.sd_model_outside.specs.Outside.{Object, HasFailedBehind, given};
+ghost use Rattle.sd_model_shard.specs.Shard.{Delete, Dump as DumpOf};
 ghost use Rattle.sd_model_record.specs.Admin.{command, names_of};
-ghost use Rattle.sd_model_record.specs.Replies.{Finish, IsInOrder, reply_text};
+ghost use Rattle.sd_model_record.specs.Desk.{with_health};
+ghost use Rattle.sd_model_record.specs.Replies.{Finish, IsInOrder, Rows, reply_text};
+ghost use Rattle.sd_model_record.specs.Replying.{health_after, names_replied, replies_text, rows_told};
 ghost use Rattle.sd_model_replay.specs.Script.{Admin};
-ghost use Rattle.sd_model_record.specs.Replying.{health_after};
-ghost use Rattle.sd_model_replay.specs.Replay.{desk_after_line};
+ghost use Rattle.sd_model_replay.specs.Replay.{desk_after_line, states_after};
 ghost use Rattle.sd_model_replay.specs.Output.{output_in};
 ghost use Rattle.sd_key.specs.Kind.{kind_of};
-ghost use Rattle.sd_shards.specs.Shards.{AreAlike, state_at};
+ghost use Rattle.sd_shards.specs.Shards.{AreAlike, group_bounds, state_at};
 ghost use Rattle.sd_admin.specs.Command.{command_view, health_word_view};
 ghost use Rattle.sd_admin.specs.Reply.{reply_view};
-ghost use Rattle.sd_command.specs.Commanded.{IsWritten, commanded, deleted, replied, run_with, shown};
+ghost use Rattle.sd_command.specs.Commanded.{IsWritten, deleted, told_of};
 
 use sd_admin::{Command, HealthWord, Reply, write_reply};
 use sd_config::Settings;
@@ -48,7 +50,7 @@ fn show<O: Sink>(
 ) -> Result<(), WriteFault>
     requires kind { kind_of kind ≢ Set }
     requires room { length (shards.now).states * (shards.now).limits.rows ≤ dump.old.room }
-    ensures written { IsWritten (reply_text (shown (length (shards.now).states) (kind_of kind) (state_at shards.now)))
+    ensures written { IsWritten (reply_text (Rows (kind_of kind) (rows_told (told_of shards.now (DumpOf (kind_of kind) ∷ []) 0))))
         result (O.seen output.old) (O.seen output.new) }
     ensures room { dump.new.room ≡ dump.old.room }
 {
@@ -67,11 +69,11 @@ fn delete<O: Sink>(
 ) -> Result<(), WriteFault>
     requires few { length (names_of (command_view names.now)) < 2 ^ 64 }
     requires room { length shards.old.states * shards.old.limits.rows ≤ keys.old.room }
-    ensures states { (i : ℕ) → state_at shards.new i ≡ deleted (kind_of kind) (state_at shards.old) (names_of (command_view names.now)) i }
+    ensures states { (i : ℕ) → state_at shards.new i ≡ deleted (kind_of kind) (state_at shards.old i) (names_of (command_view names.now)) }
     ensures alike { AreAlike shards.old shards.new }
     ensures room { keys.new.room ≡ keys.old.room }
     ensures written { IsWritten
-        (flat_map reply_text (replied (length shards.old.states) (kind_of kind) (state_at shards.old) (names_of (command_view names.now)) ++ Finish ∷ []))
+        (replies_text (names_replied (told_of shards.old (map (Delete (kind_of kind)) (names_of (command_view names.now)))) (names_of (command_view names.now)) ++ Finish ∷ []))
         result (O.seen output.old) (O.seen output.new) }
 {
     let mut written = Ok(());
@@ -90,8 +92,8 @@ fn delete<O: Sink>(
 
 /// Sets the health, where the word does. Answers how it is then.
 fn health(desk: &mut Desk, word: HealthWord) -> bool
-    ensures desk { desk.new ≡ record desk.old { up = health_after (health_word_view word) (desk.old).up } }
-    ensures up { result ≡ health_after (health_word_view word) (desk.old).up }
+    ensures desk { desk.new ≡ with_health desk.old (health_after (health_word_view word) (desk.old).facts.up) }
+    ensures up { result ≡ health_after (health_word_view word) (desk.old).facts.up }
 {
     match word {
         HealthWord::Up => desk.set_health(true),
@@ -120,13 +122,15 @@ pub fn carry_out<O: Sink>(
     requires count { length shards.old.states ≡ (settings.now).sizes.shards }
     requires keys { length shards.old.states * shards.old.limits.rows ≤ keys.old.room }
     requires dump { length shards.old.states * shards.old.limits.rows ≤ dump.old.room }
-    ensures states { (i : ℕ) → state_at shards.new i ≡ commanded (command line.now) (state_at shards.old) i }
+    ensures states { (i : ℕ) → state_at shards.new i ≡ states_after (group_bounds shards.old) (state_at shards.old) (Admin now line.now) i }
     ensures alike { AreAlike shards.old shards.new }
     ensures desk { desk.new ≡ desk_after_line desk.old (command line.now) }
     ensures keys { keys.new.room ≡ keys.old.room }
     ensures dump { dump.new.room ≡ dump.old.room }
-    ensures written { IsWritten (output_in settings.now (run_with (state_at shards.old) desk.old) (Admin now line.now))
-        result (O.seen output.old) (O.seen output.new) }
+    ensures written { OnOk result (O.seen output.new
+        ≡ given (output_in settings.now (record { shards = state_at shards.old; desk = desk.old }) (Admin now line.now)) (O.seen output.old)) }
+    ensures failed { OnErr result (HasFailedBehind
+        (output_in settings.now (record { shards = state_at shards.old; desk = desk.old }) (Admin now line.now)) (O.seen output.old) (O.seen output.new)) }
 {
     let command = match Command::read(line) {
         Ok(command) => command,

@@ -7,17 +7,19 @@ use Rattle.sd_desk.specs.declared.desk.Desk.TheInside.{Inside}
 abbrev pub desk_of : Inside → model.Desk
 desk_of d =
     record {
-      start = d.start;
-      last = d.last;
-      up = d.up;
+      facts = record {
+        start = d.start;
+        last = d.last;
+        totals = tally_of d.totals;
+        up = d.up;
+        rounds = d.rounds;
+        graphite_faults = d.graphite_faults;
+        console_faults = d.console_faults;
+        repeater_faults = d.repeater_faults;
+        admin_faults = d.admin_faults;
+      };
       tally = tally_of d.tally;
-      totals = tally_of d.totals;
       taken_so_far = tally_of d.taken_so_far;
-      rounds = d.rounds;
-      graphite_faults = d.graphite_faults;
-      console_faults = d.console_faults;
-      repeater_faults = d.repeater_faults;
-      admin_faults = d.admin_faults;
     }
 
 pub record IsDesk (d : Inside) : Type 0 where

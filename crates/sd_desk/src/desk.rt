@@ -1,5 +1,6 @@
 ghost use Rattle.std.specs.Prelude.{◌≡◌};
-ghost use Rattle.sd_model_record.specs.Desk.{new_desk, with_tally, taken, marked, with_health, with_admin_fault, with_repeater_faults, facts_of, AddsUp, IsInRange};
+ghost use Rattle.sd_model_record.specs.Desk.{new_desk, with_tally, taken, marked, with_health, with_admin_fault, with_repeater_faults, AddsUp};
+ghost use Rattle.sd_model_record.specs.Counts.{IsInRange};
 ghost use Rattle.sd_desk.specs.Facts.{facts_view};
 ghost use Rattle.sd_desk.specs.Marks.{marks_of};
 ghost use Rattle.sd_desk.specs.Tally.{tally_of};
@@ -111,7 +112,7 @@ impl Desk {
 
     /// The facts as they stand. The totals are the tallies taken and the tally, and each count is at most 2^63.
     pub fn facts(&self) -> DeskFacts
-        ensures facts { facts_view result ≡ facts_of self.now }
+        ensures facts { facts_view result ≡ (self.now).facts }
         ensures adds_up { AddsUp self.now }
         ensures in_range { IsInRange self.now }
     {

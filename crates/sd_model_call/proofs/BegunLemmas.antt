@@ -12,7 +12,7 @@ use Rattle.sd_model_outside.specs.Turns.{with_interval}
 use Rattle.sd_model_settings.specs.Settings.{Settings, OutOfRange, SettingsFlaw, settings}
 use Rattle.sd_model_call.specs.Opening.{World, Opening, Part, OfSettings, OfScript, OfSource, OfBeat, OfWire, OfGraphite, OfConsole, OfDoor, OfStreams, AreRead, IsAccepted, IsFlawed, IsNotOpenedAt, longest_file, numbered, opened_all, opened_part, part_in, settled, with_part}
 use Rattle.sd_model_call.specs.Call.{Answer, Done, NoMemory, NoForm, Misset, BadScript, NotOpened, NotRead, NotWritten, Worn, IsNotTaken, NotBegun, NotTaken, StopsAmong, cut_answer}
-use Rattle.sd_model_call.specs.ServerOpening.{begun_with}
+use Rattle.sd_model_call.specs.Server.{begun_with}
 use Rattle.sd_model_call.specs.ServerCompleteness.{HasFaultOf}
 use Rattle.sd_model_call.proofs.Openings.{all_behind}
 use Rattle.sd_model_call.proofs.ReplayEnds.{LeftBehind, left_behind}

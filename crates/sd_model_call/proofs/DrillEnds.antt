@@ -5,17 +5,17 @@ use Rattle.std.specs.List.{AllByRecursion, range_with_len}
 use Rattle.std.proofs.lemmas.List.Sums.{sum_by-cons}
 use Rattle.sd_model_outside.specs.Outside.{Number, Object, Rose, HasFailedBehind, appended, begun, ended, given, last_count}
 use Rattle.sd_model_outside.specs.Deliveries.{Mark, NotUsed, Written, Fault, Delivery, AfterMark, AfterDeliveries}
-use Rattle.sd_model_replay.specs.Settings.{is_used}
+use Rattle.sd_model_replay.specs.Settings.{bounds_of, is_used}
 use Rattle.sd_model_record.specs.Backends.{Backend, Graphite, Console}
 use Rattle.sd_model_replay.specs.Script.{Command, Packet, Flush, Admin, end_word}
 use Rattle.sd_model_replay.specs.MadeScript.{made_commands, made_moment, made_packet, flush_behind}
 use Rattle.sd_model_replay.specs.Replay.{Played, Run, first_run, play, deliveries, moments}
+use Rattle.sd_model_call.specs.Faultless.{well, well_mark}
 use Rattle.sd_model_replay.specs.Output.{output_in, output_of}
 use Rattle.sd_model_replay.specs.Totals.{totals_after, totals_text}
 use Rattle.sd_model_replay.specs.AccountingTheorem.{Seen, Course, AccountingTheorem, seen_at}
 use Rattle.sd_model_replay.specs.Ends.{End, Complete, WriteFailed, EndsAs, most_records}
 use Rattle.sd_model_call.specs.Words.{most_packets}
-use Rattle.sd_model_call.specs.Faultless.{well, well_mark}
 use Rattle.sd_model_call.specs.Drill.{bytes_counted, drill_settings, drill_start, drilled}
 use Rattle.sd_model_call.specs.Completeness.{IsSteady, NoneMissed}
 use Rattle.sd_model_replay.proofs.MadeLemmas.{legal_commands}
@@ -57,10 +57,10 @@ made_silent n = silent_from n 0 n
 
 -- records to which nothing is replied write nothing
 module _ (s : Settings) where
-  nothing_from : (run : Run) (played : List Played) → AllByRecursion IsSilent (commands_of played) → flat_map (λ m. output_in s m.before m.played.command) (moments s run played) ≡ []
+  nothing_from : (run : Run) (played : List Played) → AllByRecursion IsSilent (commands_of played) → flat_map (λ m. output_in s m.before m.played.command) (moments (bounds_of s) run played) ≡ []
   nothing_from run [] silent = refl
   nothing_from run (p ∷ played) silent =
-      ap (λ out. out ++ flat_map (λ m. output_in s m.before m.played.command) (moments s (play s run p) played)) (silent_in s run p.command silent.0) ∙ nothing_from (play s run p) played silent.1
+      ap (λ out. out ++ flat_map (λ m. output_in s m.before m.played.command) (moments (bounds_of s) (play (bounds_of s) run p) played)) (silent_in s run p.command silent.0) ∙ nothing_from (play (bounds_of s) run p) played silent.1
 
   nothing_written : (played : List Played) → AllByRecursion IsSilent (commands_of played) → output_of s played ≡ []
   nothing_written played silent = nothing_from (first_run played) played silent
@@ -91,9 +91,9 @@ count_all (d ∷ ds) k old new fits all told (mid, one, others) =
 module _ (s : Settings) (used : is_used s Graphite ≡ true) where
   all_written : (run : Run) (cs : List Command) → AllByRecursion IsWritten (deliveries_from s run Graphite (map (well s) cs))
   all_written run [] = tt
-  all_written run (Packet who moment datagram ∷ cs) = all_written (play s run (well s (Packet who moment datagram))) cs
-  all_written run (Flush ts ∷ cs) = (ap well_mark used, all_written (play s run (well s (Flush ts))) cs)
-  all_written run (Admin moment line ∷ cs) = all_written (play s run (well s (Admin moment line))) cs
+  all_written run (Packet who moment datagram ∷ cs) = all_written (play (bounds_of s) run (well s (Packet who moment datagram))) cs
+  all_written run (Flush ts ∷ cs) = (ap well_mark used, all_written (play (bounds_of s) run (well s (Flush ts))) cs)
+  all_written run (Admin moment line ∷ cs) = all_written (play (bounds_of s) run (well s (Admin moment line))) cs
 
 abbrev pub drill_totals : ℕ → List ℕ
 drill_totals n = totals_text (totals_after drill_settings (drilled n))

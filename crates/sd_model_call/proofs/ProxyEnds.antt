@@ -9,15 +9,14 @@ use Rattle.sd_model_settings.specs.Settings.{Settings, SettingsFlaw, settings}
 use Rattle.sd_model_serve.specs.Ends.{LoopEnd, Spent, Failed, Enough, WornOut, EndsFlusher, most_turns}
 use Rattle.sd_model_proxy.specs.Relays.{Relay, AreRelays}
 use Rattle.sd_model_live.specs.Checker.{EndsChecker}
-use Rattle.sd_model_call.specs.Words.{Form, form}
+use Rattle.sd_model_call.specs.Words.{Form, Proxy, form}
 use Rattle.sd_model_call.specs.Opening.{World, Opening, OfSettings, OfScript, OfSource, OfBeat, OfWire, OfGraphite, OfConsole, OfDoor, OfStreams, IsAccepted, IsFlawed, numbered, repeated, settled, source_at}
 use Rattle.sd_model_call.specs.Call.{Answer, Done, NoMemory, NoForm, Misset, BadScript, NotOpened, NotRead, NotWritten, Worn, WritesTotals}
 use Rattle.sd_model_call.specs.Completeness.{IsBlocked, IsWhole}
-use Rattle.sd_model_call.specs.Server.{is_worn}
-use Rattle.sd_model_call.specs.ServerOpening.{source_openings}
-use Rattle.sd_model_call.specs.ServerCompleteness.{SourceTookMost}
+use Rattle.sd_model_call.specs.Server.{is_worn, source_openings}
+use Rattle.sd_model_call.specs.ServerCompleteness.{AsksFor, SourceTookMost}
 use Rattle.sd_model_call.specs.Proxy.{AnswersProxy, HasProxied, IsUnfit, ProxyAccounts, node_place, proxy_answer, proxy_begun, proxy_flaw, proxy_openings, relay_text}
-use Rattle.sd_model_call.specs.ProxyCompleteness.{AreRelaysSpent, AsksForProxy, IsOpenedToRelay, IsProxyCauseOf, IsRelayed, IsUnhinderedProxy, NoWireFailed, OneLoopTookMost}
+use Rattle.sd_model_call.specs.ProxyCompleteness.{AreRelaysSpent, IsOpenedToRelay, IsProxyCauseOf, IsRelayed, IsUnhinderedProxy, NoWireFailed, OneLoopTookMost}
 use Rattle.sd_model_call.proofs.BegunLemmas.{Same, all_numbered, accepted_so, at_same, has_flaw, not_begun, not_taken, same_start, uncut}
 use Rattle.sd_model_call.proofs.LoopEnds.{AreEnded, ComesFrom, OneSourceTookMost, all_done, comes_from, worn_one}
 use Rattle.sd_model_call.proofs.Openings.{all_append}
@@ -124,7 +123,7 @@ module _ (name : List ℕ) (old new : World) where
   proxy_answer_cause answer (inr (inr (inr proxied))) = proxied_cause name answer old new proxied
 
 -- a call whose words ask for the proxy, by settings with these bytes
-module _ (words : List (List ℕ)) (bytes : List ℕ) (old new : World) (asks : AsksForProxy words old bytes) where
+module _ (words : List (List ℕ)) (bytes : List ℕ) (old new : World) (asks : AsksFor Proxy words old bytes) where
   accounted : (answer : Answer) → AnswersProxy (form words) answer old new → ProxyAccounts asks.name answer old new
   accounted answer h = subst (λ (f : Option Form). AnswersProxy f answer old new) asks.form h
 
@@ -152,29 +151,29 @@ module _ (words : List (List ℕ)) (bytes : List ℕ) (old new : World) (asks : 
       by_cause (Misset flaw) (inl has) = absurd (not_flawed flaw has.0)
       by_cause (Misset flaw) (inr unfit) = absurd (fit flaw unfit)
       by_cause (BadScript at flaw) h = absurd h
-      by_cause (NotOpened OfSettings) h = absurd (steady.settings h.1)
+      by_cause (NotOpened OfSettings) h = absurd (steady.runs.settings h.1)
       by_cause (NotOpened OfScript) h = absurd h.0
-      by_cause (NotOpened (OfSource i)) h = absurd (steady.sources i h.1)
+      by_cause (NotOpened (OfSource i)) h = absurd (steady.runs.sources i h.1)
       by_cause (NotOpened OfBeat) h = absurd h.0
       by_cause (NotOpened (OfWire i)) h = inr (i, refl)
       by_cause (NotOpened OfGraphite) h = absurd h.0
       by_cause (NotOpened OfConsole) h = absurd h.0
       by_cause (NotOpened OfDoor) h = absurd h.0
       by_cause (NotOpened OfStreams) h = absurd h.0
-      by_cause (NotRead OfSettings) h = absurd (steady.settings h.1)
+      by_cause (NotRead OfSettings) h = absurd (steady.runs.settings h.1)
       by_cause (NotRead OfScript) h = absurd h.0
-      by_cause (NotRead (OfSource i)) h = absurd (steady.sources i h.1)
-      by_cause (NotRead OfBeat) h = absurd (steady.beat h.1)
+      by_cause (NotRead (OfSource i)) h = absurd (steady.runs.sources i h.1)
+      by_cause (NotRead OfBeat) h = absurd (steady.runs.beat h.1)
       by_cause (NotRead (OfWire i)) h = absurd h.0
       by_cause (NotRead OfGraphite) h = absurd h.0
       by_cause (NotRead OfConsole) h = absurd h.0
       by_cause (NotRead OfDoor) h = absurd h.0
       by_cause (NotRead OfStreams) h = absurd h.0
-      by_cause NotWritten h = absurd (steady.output h)
+      by_cause NotWritten h = absurd (steady.runs.output h)
       by_cause (Worn turns) h = by_loop h.1 where
         by_loop : OneLoopTookMost old new → IsRelayed (Worn turns)
-        by_loop (inl (i, most)) = let few = steady.source_turns i in let low = steady.uncapped i in absurd (omega (arith, most, few, low))
-        by_loop (inr most) = let few = steady.beat_turns in let low = steady.beat_uncapped in absurd (omega (arith, most, few, low))
+        by_loop (inl (i, most)) = let few = steady.runs.source_turns i in let low = steady.runs.uncapped i in absurd (omega (arith, most, few, low))
+        by_loop (inr most) = let few = steady.runs.beat_turns in let low = steady.beat_uncapped in absurd (omega (arith, most, few, low))
 
       pub relays : (answer : Answer) → AnswersProxy (form words) answer old new → IsRelayed answer
       relays answer h = by_cause answer (caused answer h)

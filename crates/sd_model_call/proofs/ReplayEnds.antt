@@ -6,7 +6,7 @@ use Rattle.std.proofs.lemmas.List.{length-map}
 use Rattle.std.proofs.lemmas.List.Sums.{sum_by-cons}
 use Rattle.sd_model_outside.specs.Outside.{Told, Untold, Left, Number, Bytes, Buffer, Rounds, Packets, Datagrams, Ticks, Sessions, Replies, Rose, put_back, given, last_count}
 use Rattle.sd_model_outside.specs.Deliveries.{Mark, fault_of, Delivery, AfterDeliveries, FitsUse, missed}
-use Rattle.sd_model_replay.specs.Settings.{is_used, targets_of}
+use Rattle.sd_model_replay.specs.Settings.{bounds_of, is_used, targets_of}
 use Rattle.sd_model_record.specs.Backends.{Backend, Graphite, Console, mark_of}
 use Rattle.sd_model_replay.specs.Script.{Command, Packet, Flush, Admin, spelled, end_word, script_text, IsLegal, BeginsEnd, BeginsRecord}
 use Rattle.sd_model_replay.specs.Next.{ScriptFlaw, Next, Carried, Ending, Faulty, Begins}
@@ -15,12 +15,12 @@ use Rattle.sd_model_record.specs.WireSends.{failed_among, wire_at}
 use Rattle.sd_model_record.specs.Repeater.{AreRepeated, sends_on}
 use Rattle.sd_model_shard.specs.Shard.{table_of}
 use Rattle.sd_model_replay.specs.Replay.{Outcome, Played, Run, IsOutcome, first_run, run_of, play, rounds_from, deliveries, sendings}
+use Rattle.sd_model_call.specs.Faultless.{well, well_mark, well_sent}
 use Rattle.sd_model_replay.specs.Output.{output_in, output_of}
 use Rattle.sd_model_replay.specs.Totals.{Total, totals_after, totals_text}
 use Rattle.sd_model_replay.specs.AccountingTheorem.{Seen, Course, AccountingTheorem, seen_at}
 use Rattle.sd_model_replay.specs.Ends.{End, Complete, Faulted, ReadFailed, WriteFailed, WornOut, most_records, StopsFor, IsInReply, IsBrokenOff, EndsAs, Replayed, behind}
 use Rattle.sd_model_call.specs.Completeness.{EndsSo, IsSteady, IsUnhindered, IsCutOff, IsLongest, CarriedOut, CarriedOutWell, NoneMissed}
-use Rattle.sd_model_call.specs.Faultless.{well, well_mark, well_sent}
 use Rattle.sd_model_replay.proofs.ReadingLemmas.{Behind, ended_script, cut_script, one_script, one_end, not_end, begins, begins_record}
 use Rattle.sd_model_replay.proofs.NextLemmas.{one_next, next_stays}
 use Rattle.sd_model_outside.proofs.DeliveryLemmas.{all_counts, none_missed, written_mark}
@@ -126,7 +126,7 @@ no_reply_failed : (settings : Settings) (old new : Seen) (commands behind : List
     → (h : IsBrokenOff settings course old.output new.output) → IsInReply settings course h.before h.text → ⊥
 no_reply_failed settings old new commands behind course silent whole h reply =
     let played = subst (λ ps. AllByRecursion IsSilent (commands_of ps ++ behind)) reply.order (subst (AllByRecursion IsSilent) whole silent) in
-    let nothing = reply.replies ∙ silent_in settings (run_of settings (first_run course.played) h.before) reply.last.command (last_silent h.before reply.last behind played) in
+    let nothing = reply.replies ∙ silent_in settings (run_of (bounds_of settings) (first_run course.played) h.before) reply.last.command (last_silent h.before reply.last behind played) in
     omega (arith, h.failed.front.1, ap length nothing)
 
 -- of a script that ends behind its records
@@ -306,7 +306,7 @@ none_failed (f ∷ failed) [] count none = absurd (omega (arith, count))
 module _ (settings : Settings) where
   -- what rounds have for a backend, from a state on
   abbrev pub deliveries_from : Run → Backend → List Played → List Delivery
-  deliveries_from run back played = map (delivery_of settings back) (rounds_from settings run played)
+  deliveries_from run back played = map (delivery_of settings back) (rounds_from (bounds_of settings) run played)
 
   -- no backend that is used missed one
   abbrev IsMet : Run → List Played → Type 0
@@ -318,10 +318,10 @@ module _ (settings : Settings) where
 
   -- a flush more, before others
   missed-flush : (run : Run) (ts : ℕ) (outcome : Outcome) (played : List Played) (back : Backend) → missed (deliveries_from run back (record { command = Flush ts; outcome = outcome } ∷ played))
-      ≡ fault_of (mark_of back outcome.marks) + missed (deliveries_from (play settings run (record { command = Flush ts; outcome = outcome })) back played)
+      ≡ fault_of (mark_of back outcome.marks) + missed (deliveries_from (play (bounds_of settings) run (record { command = Flush ts; outcome = outcome })) back played)
   missed-flush run ts outcome played back =
       sum_by-cons (λ (d : Delivery). fault_of d.mark) (delivery_of settings back (record { ts = ts; tally = run.desk.tally; tables = λ i. table_of (run.shards i); marks = outcome.marks }))
-      (deliveries_from (play settings run (record { command = Flush ts; outcome = outcome })) back played)
+      (deliveries_from (play (bounds_of settings) run (record { command = Flush ts; outcome = outcome })) back played)
 
   -- no packet was missed on the wire of a target
   abbrev AreAllSent : List Played → Type 0
@@ -329,7 +329,7 @@ module _ (settings : Settings) where
 
   -- one record, before others that were carried out well
   one_well : (run : Run) (c : Command) (outcome : Outcome) (played : List Played) → IsOutcome settings c outcome → IsMet run (record { command = c; outcome = outcome } ∷ played) → AreAllSent (record { command = c; outcome = outcome } ∷ played)
-      → (IsMet (play settings run (record { command = c; outcome = outcome })) played → AreAllSent played → played ≡ map (well settings) (commands_of played))
+      → (IsMet (play (bounds_of settings) run (record { command = c; outcome = outcome })) played → AreAllSent played → played ≡ map (well settings) (commands_of played))
       → record { command = c; outcome = outcome } ∷ played ≡ well settings c ∷ map (well settings) (commands_of played)
   one_well run (Packet who moment datagram) outcome played is met sent others =
       let failed = none_failed outcome.failed (targets_of settings) is.1 (λ i below. omega (arith, sent i below, failed_among-sends_on datagram outcome.failed (sendings played) i)) in
@@ -350,7 +350,7 @@ module _ (settings : Settings) where
 
   all_well : (run : Run) (played : List Played) → AllByRecursion (λ p. IsOutcome settings p.command p.outcome) played → IsMet run played → AreAllSent played → played ≡ map (well settings) (commands_of played)
   all_well run [] used met sent = refl
-  all_well run (p ∷ played) used met sent = one_well run p.command p.outcome played used.0 met sent (all_well (play settings run p) played used.1)
+  all_well run (p ∷ played) used met sent = one_well run p.command p.outcome played used.0 met sent (all_well (play (bounds_of settings) run p) played used.1)
 
 -- records carried out between two times, where no backend that is used missed a flush, and no packet was missed, were
 -- carried out well

@@ -13,14 +13,13 @@ use Rattle.sd_model_serve.specs.Doors.{ServesDoor}
 use Rattle.sd_model_stream.specs.Streams.{AreStreamsOf, any_worn}
 use Rattle.sd_model_run.specs.Course.{Course, Lining, Reception}
 use Rattle.sd_model_run.specs.Run.{AreLined, AreReceptions}
-use Rattle.sd_model_call.specs.Words.{Form, form}
+use Rattle.sd_model_call.specs.Words.{Form, Serve, form}
 use Rattle.sd_model_call.specs.Opening.{World, Opening, Part, OfSettings, OfScript, OfSource, OfBeat, OfWire, OfGraphite, OfConsole, OfDoor, OfStreams, IsAccepted, IsFlawed, opening_where, repeated, settled, source_at, target_place, wire_openings}
 use Rattle.sd_model_call.specs.Call.{Answer, Done, NoMemory, NoForm, Misset, BadScript, NotOpened, NotRead, NotWritten, Worn, WritesTotals}
 use Rattle.sd_model_call.specs.Completeness.{IsWhole, IsBlocked}
 use Rattle.sd_model_replay.specs.Totals.{totals_text}
-use Rattle.sd_model_call.specs.Server.{AnswersServer, HasServed, ServerAccounts, is_worn, run_answer, run_totals}
-use Rattle.sd_model_call.specs.ServerOpening.{begun, door_openings, has_streams, server_openings, source_openings}
-use Rattle.sd_model_call.specs.ServerCompleteness.{AStreamTookMost, AreAllSpent, AsksToServe, HasFaultOf, IsCauseOf, IsOpenedToServe, IsOutermost, IsServed, IsUnhinderedServer, NoneFailed, OneTookMost, TookMost}
+use Rattle.sd_model_call.specs.Server.{AnswersServer, HasServed, ServerAccounts, begun, door_openings, has_streams, is_worn, run_answer, run_totals, server_openings, source_openings}
+use Rattle.sd_model_call.specs.ServerCompleteness.{AStreamTookMost, AreAllSpent, AsksFor, HasFaultOf, IsCauseOf, IsOpenedToServe, IsOutermost, IsServed, IsUnhinderedServer, NoneFailed, OneTookMost, TookMost}
 use Rattle.sd_model_call.proofs.BegunLemmas.{Same, all_numbered, accepted_so, at_same, has_flaw, not_begun, not_taken, same_all, same_start, uncut}
 use Rattle.sd_model_call.proofs.LoopEnds.{AreEnded, ComesFrom, OneSourceTookMost, all_done, both_false, comes_from, whole_done, worn_one}
 use Rattle.sd_model_call.proofs.Openings.{all_append, all_where}
@@ -108,7 +107,7 @@ module _ (name : List ℕ) (says : ℕ → Type 0) (answer : Answer) (old new : 
   turns = same_start (λ o. o.turns) (λ place o. refl) (λ told o. refl) (λ interval o. refl) (server_openings h.values) h.values.server.flush_interval h.values h.settings name old h.taken
 
   loops : AreEnded asked received start.served.sources new.served.sources
-  loops = are_ended asked course.desk.rounds _ course.receptions start.served.sources new.served.sources start.seen.wires new.seen.wires h.theorem.run.received
+  loops = are_ended asked course.desk.facts.rounds _ course.receptions start.served.sources new.served.sources start.seen.wires new.seen.wires h.theorem.run.received
 
   -- what the answer of a run comes from
   ends : (a : Answer) → run_answer course ≡ a → ComesFrom received course.flusher_ended keepers start.served.sources new.served.sources start.served.beat new.served.beat a
@@ -126,7 +125,7 @@ module _ (name : List ℕ) (says : ℕ → Type 0) (answer : Answer) (old new : 
 
     by_keeper : (is_worn course.keeper_ended ≡ true) ⊎ (list_any is_worn (map (λ l. l.ended) course.linings) ≡ true) → OtherTookMost start.served.beat new.served.beat start.served.door new.served.door start.served.streams new.served.streams
     by_keeper (inl worn) = inr (inl (keeper_worn asked course.keeper_ended h.theorem.run.kept.seen h.theorem.run.kept.turned start.served.door new.served.door h.theorem.run.kept.ends h.theorem.run.kept.turns worn))
-    by_keeper (inr worn) = by_lining (lined_worn asked course.desk.rounds (has_streams h.values) course.linings start.served.streams new.served.streams h.theorem.run.lined worn)
+    by_keeper (inr worn) = by_lining (lined_worn asked course.desk.facts.rounds (has_streams h.values) course.linings start.served.streams new.served.streams h.theorem.run.lined worn)
 
     by_flusher : (is_worn course.flusher_ended ≡ true) ⊎ (list_any is_worn keepers ≡ true) → OtherTookMost start.served.beat new.served.beat start.served.door new.served.door start.served.streams new.served.streams
     by_flusher (inl worn) = inl (flusher_worn asked course.flusher_ended (length course.ticked) start.served.beat new.served.beat h.theorem.run.flushed.ends h.theorem.run.flushed.turns worn)
@@ -214,7 +213,7 @@ module _ (name : List ℕ) (says : ℕ → Type 0) (old new : World) (h : HasSer
           sources = λ i below. all.sources i (omega (arith, below, length-map h.course.receptions (λ (r : Reception). r.ended), h.theorem.run.count));
           beat = all.beat;
           door = keeper_spent h.course.keeper_ended kept.seen kept.turned new.served.door (subst (λ (n : ℕ). EndsKeeper n h.course.keeper_ended new.served.door kept.seen kept.turned) asked kept.ends) two.0;
-          streams = lined_spent h.course.desk.rounds (has_streams h.values) h.course.linings begin.served.streams new.served.streams (subst (λ (n : ℕ). AreLined n h.course.desk.rounds (has_streams h.values) h.course.linings begin.served.streams new.served.streams) asked h.theorem.run.lined) two.1;
+          streams = lined_spent h.course.desk.facts.rounds (has_streams h.values) h.course.linings begin.served.streams new.served.streams (subst (λ (n : ℕ). AreLined n h.course.desk.facts.rounds (has_streams h.values) h.course.linings begin.served.streams new.served.streams) asked h.theorem.run.lined) two.1;
         }
 
 -- every answer has its cause
@@ -224,7 +223,7 @@ answer_cause name says old new answer (inr (inl not)) = not_begun name old new (
 answer_cause name says old new answer (inr (inr served)) = served_cause name says answer old new served
 
 -- a call whose words ask to serve, by settings with these bytes
-module _ (words : List (List ℕ)) (bytes : List ℕ) (says : ℕ → Type 0) (old new : World) (asks : AsksToServe words old bytes) where
+module _ (words : List (List ℕ)) (bytes : List ℕ) (says : ℕ → Type 0) (old new : World) (asks : AsksFor Serve words old bytes) where
   caused : (answer : Answer) → AnswersServer (form words) says answer old new → IsCauseOf asks.name answer old new
   caused answer h = answer_cause asks.name says old new answer (subst (λ (f : Option Form). AnswersServer f says answer old new) asks.form h)
 
@@ -235,29 +234,29 @@ module _ (words : List (List ℕ)) (bytes : List ℕ) (says : ℕ → Type 0) (o
     by_cause NoForm h = absurd h
     by_cause (Misset flaw) h = let same : Err flaw ≡ Ok values = sym (has_flaw asks.name bytes old asks.told flaw new.settings h.0) ∙ accepted in absurd (cc)
     by_cause (BadScript at flaw) h = absurd h
-    by_cause (NotOpened OfSettings) h = absurd (steady.settings h.1)
+    by_cause (NotOpened OfSettings) h = absurd (steady.runs.settings h.1)
     by_cause (NotOpened OfScript) h = absurd h.0
-    by_cause (NotOpened (OfSource i)) h = absurd (steady.sources i h.1)
+    by_cause (NotOpened (OfSource i)) h = absurd (steady.runs.sources i h.1)
     by_cause (NotOpened OfBeat) h = absurd h.0
     by_cause (NotOpened (OfWire i)) h = inr (OfWire i, tt, refl)
     by_cause (NotOpened OfGraphite) h = inr (OfGraphite, tt, refl)
     by_cause (NotOpened OfConsole) h = inr (OfConsole, tt, refl)
     by_cause (NotOpened OfDoor) h = inr (OfDoor, tt, refl)
     by_cause (NotOpened OfStreams) h = inr (OfStreams, tt, refl)
-    by_cause (NotRead OfSettings) h = absurd (steady.settings h.1)
+    by_cause (NotRead OfSettings) h = absurd (steady.runs.settings h.1)
     by_cause (NotRead OfScript) h = absurd h.0
-    by_cause (NotRead (OfSource i)) h = absurd (steady.sources i h.1)
-    by_cause (NotRead OfBeat) h = absurd (steady.beat h.1)
+    by_cause (NotRead (OfSource i)) h = absurd (steady.runs.sources i h.1)
+    by_cause (NotRead OfBeat) h = absurd (steady.runs.beat h.1)
     by_cause (NotRead (OfWire i)) h = absurd h.0
     by_cause (NotRead OfGraphite) h = absurd h.0
     by_cause (NotRead OfConsole) h = absurd h.0
     by_cause (NotRead OfDoor) h = absurd h.0
     by_cause (NotRead OfStreams) h = absurd h.0
-    by_cause NotWritten h = absurd (steady.output h)
+    by_cause NotWritten h = absurd (steady.runs.output h)
     by_cause (Worn turns) h = by_loop h.1 where
       by_loop : OneTookMost old new → IsServed (Worn turns)
-      by_loop (inl (i, most)) = let few = steady.source_turns i in let low = steady.uncapped i in absurd (omega (arith, most, few, low))
-      by_loop (inr (inl most)) = let few = steady.beat_turns in absurd (omega (arith, most, few))
+      by_loop (inl (i, most)) = let few = steady.runs.source_turns i in let low = steady.runs.uncapped i in absurd (omega (arith, most, few, low))
+      by_loop (inr (inl most)) = let few = steady.runs.beat_turns in absurd (omega (arith, most, few))
       by_loop (inr (inr (inl most))) = let few = steady.door_turns in absurd (omega (arith, most, few))
       by_loop (inr (inr (inr (inl most)))) = let few = steady.stream_turns in absurd (omega (arith, most, few))
       by_loop (inr (inr (inr (inr worn)))) = absurd (steady.streams worn)

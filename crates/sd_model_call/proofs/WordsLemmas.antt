@@ -10,7 +10,7 @@ use Rattle.std.proofs.lemmas.Bool.Decides.{Decides-eqb, nat_tests}
 use Rattle.std.proofs.lemmas.Fmt.{decimal-digits_value, decimal_digit, digits_decimal, digits_value-decimal, first_decimal}
 use Rattle.std.proofs.lemmas.Slice.Eq.{slice_eq-Decides}
 use Rattle.sd_model_text.proofs.Digits.{numerals}
-use Rattle.sd_model_call.specs.Words.{Replay, Serve, Proxy, Drill, drill_form, form, is_file_word, is_number_word, most_packets, packets_in, proxy_form, replay_form, serve_form}
+use Rattle.sd_model_call.specs.Words.{Replay, Serve, Proxy, Drill, drill_form, form, is_file_word, is_number_word, most_packets, packets_in, replay_form, run_form}
 
 -- a choice that gives something only where its test is passed
 chosen : {A : Type 0} (b : Bool) (x : Option A) (y : A) → (if b then x else None) ≡ Some y → (b ≡ true) × (x ≡ Some y)
@@ -68,13 +68,13 @@ no_replay : (settings script : List ℕ) (n : ℕ) → replay_form settings scri
 no_replay settings script n is =
     let taken = chosen (is_file_word settings && is_file_word script) (Some (Replay settings script)) (Drill n) is in absurd (cc)
 
-no_serve : (settings : List ℕ) (n : ℕ) → serve_form settings ≡ Some (Drill n) → ⊥
+no_serve : (settings : List ℕ) (n : ℕ) → run_form Serve settings ≡ Some (Drill n) → ⊥
 no_serve settings n is = let taken = chosen (is_file_word settings) (Some (Serve settings)) (Drill n) is in absurd (cc)
 
-no_proxy : (settings : List ℕ) (n : ℕ) → proxy_form settings ≡ Some (Drill n) → ⊥
+no_proxy : (settings : List ℕ) (n : ℕ) → run_form Proxy settings ≡ Some (Drill n) → ⊥
 no_proxy settings n is = let taken = chosen (is_file_word settings) (Some (Proxy settings)) (Drill n) is in absurd (cc)
 
-no_other : (b c : Bool) (settings : List ℕ) (n : ℕ) → (if b then serve_form settings else (if c then proxy_form settings else None)) ≡ Some (Drill n) → ⊥
+no_other : (b c : Bool) (settings : List ℕ) (n : ℕ) → (if b then run_form Serve settings else (if c then run_form Proxy settings else None)) ≡ Some (Drill n) → ⊥
 no_other true c settings n is = no_serve settings n is
 no_other false true settings n is = no_proxy settings n is
 no_other false false settings n is = absurd (cc)

@@ -10,11 +10,11 @@ use Rattle.sd_model_replay.specs.Next.{ScriptFlaw, Faulty, Begins}
 use Rattle.sd_model_record.specs.WireSends.{wire_at}
 use Rattle.sd_model_record.specs.Repeater.{AreRepeated}
 use Rattle.sd_model_replay.specs.Replay.{deliveries, sendings}
+use Rattle.sd_model_call.specs.Faultless.{well}
 use Rattle.sd_model_replay.specs.Output.{output_of}
 use Rattle.sd_model_replay.specs.Totals.{totals_after, totals_text}
 use Rattle.sd_model_replay.specs.AccountingTheorem.{Seen, Course, AccountingTheorem, seen_at}
 use Rattle.sd_model_replay.specs.Ends.{End, WriteFailed, most_records, behind}
-use Rattle.sd_model_call.specs.Faultless.{well}
 use Rattle.sd_model_call.specs.Words.{Replay, form}
 use Rattle.sd_model_settings.specs.Settings.{SettingsFlaw, settings, Settings}
 use Rattle.sd_model_call.specs.Opening.{World, Part, OfSettings, OfWire, OfGraphite, OfConsole, settled, started}

@@ -5,9 +5,9 @@ use Rattle.sd_model_settings.specs.Defaults.{default_settings}
 use Rattle.sd_model_record.specs.Backends.{Graphite}
 use Rattle.sd_model_replay.specs.MadeScript.{made_commands, made_script}
 use Rattle.sd_model_replay.specs.Replay.{Played, deliveries}
+use Rattle.sd_model_call.specs.Faultless.{well}
 use Rattle.sd_model_replay.specs.Totals.{totals_after, totals_text}
 use Rattle.sd_model_replay.specs.AccountingTheorem.{Seen}
-use Rattle.sd_model_call.specs.Faultless.{well}
 use Rattle.sd_model_settings.specs.Settings.{Settings}
 
 -- what a drill goes by

@@ -4,7 +4,6 @@ pub mod Drill
 pub mod Faultless
 pub mod Opening
 pub mod Words
-pub mod ServerOpening
 pub mod Server
 pub mod ServerCompleteness
 pub mod Proxy

@@ -11,8 +11,7 @@ use Rattle.sd_model_live.specs.Proxy.{ProxyTheorem}
 use Rattle.sd_model_call.specs.Words.{Form, Proxy}
 use Rattle.sd_model_call.specs.Opening.{Opening, OfWire, World, IsAccepted, OnlySettings, numbered, repeated, settled}
 use Rattle.sd_model_call.specs.Call.{Answer, Misset, NotBegun, NotTaken, WritesTotals}
-use Rattle.sd_model_call.specs.Server.{ends_answer}
-use Rattle.sd_model_call.specs.ServerOpening.{begun_with, source_openings}
+use Rattle.sd_model_call.specs.Server.{begun_with, ends_answer, source_openings}
 
 -- where the wire of a node is opened
 abbrev pub node_place : Node → Place

@@ -1,20 +1,82 @@
--- What the program answers where it is asked to serve, and what was done by then.
-use Rattle.std.specs.Prelude.{◌≡◌, ◌⊎◌, ℕ, ◌+◌, Bool, true, false, List, [], ◌∷◌, ◌++◌, codes, map, min, if◌then◌else◌, Option, Some, ⊤}
+-- What a server opens and begins with, what the program answers where it is asked to serve, and what was done by then.
+use Rattle.std.specs.Prelude.{◌≡◌, ◌⊎◌, ℕ, ◌+◌, nat_lt, Bool, true, false, List, [], ◌∷◌, ◌++◌, length, codes, map, min, if◌then◌else◌, Option, Some, ⊤}
 use Rattle.std.specs.List.{list_any}
-use Rattle.sd_model_outside.specs.Outside.{File, Object, last_count}
+use Rattle.sd_model_outside.specs.Outside.{File, Host, Object, last_count}
 use Rattle.sd_model_outside.specs.Deliveries.{missed}
+use Rattle.sd_model_outside.specs.Turns.{with_interval}
+use Rattle.sd_model_settings.specs.Defaults.{plan_of, names_of}
 use Rattle.sd_model_shard.specs.History.{state_after}
 use Rattle.sd_model_record.specs.Backends.{Backend, Graphite, Console}
 use Rattle.sd_model_serve.specs.Ends.{LoopEnd, Failed, WornOut, most_turns}
-use Rattle.sd_model_run.specs.Course.{Course}
-use Rattle.sd_model_run.specs.Run.{ServerTheorem}
-use Rattle.sd_model_replay.specs.Settings.{limits_of, policy_of}
+use Rattle.sd_model_run.specs.Course.{Course, Terms}
+use Rattle.sd_model_run.specs.Run.{Objects, ServerTheorem}
+use Rattle.sd_model_replay.specs.Settings.{is_used, limits_of, policy_of, targets_of}
 use Rattle.sd_model_replay.specs.Totals.{Total, summed, totals_of, totals_text}
 use Rattle.sd_model_call.specs.Words.{Form, Serve}
-use Rattle.sd_model_call.specs.Opening.{OfSource, OfBeat, World, IsAccepted, flags_of, settled}
+use Rattle.sd_model_call.specs.Opening.{Opening, OfSource, OfBeat, OfGraphite, OfConsole, OfDoor, OfStreams, World, IsAccepted, flags_of, numbered, opened_all, opening_where, repeated, settled, wire_openings}
 use Rattle.sd_model_call.specs.Call.{Answer, Done, NotRead, Worn, NotBegun, NotTaken, WritesTotals}
-use Rattle.sd_model_call.specs.ServerOpening.{begun, has_outlets, objects_in, serves_by, server_openings}
 use Rattle.sd_model_settings.specs.Settings.{Settings}
+
+-- a source for each receiver, at the address that the server listens at
+abbrev pub source_openings : Settings → List Opening
+source_openings s = numbered OfSource 0 (repeated s.sizes.receivers (Host s.addresses.address s.server.port ∷ []))
+
+-- whether lines of streams are read: where they have a port
+abbrev pub has_streams : Settings → Bool
+has_streams s = nat_lt 0 s.transport.tcp_port
+
+-- whether there are outlets before the backends
+abbrev pub has_outlets : Settings → Bool
+has_outlets s = nat_lt 0 s.transport.outlets
+
+-- the admin door, and the door of streams, where it is used
+abbrev pub door_openings : Settings → List Opening
+door_openings s =
+    record { part = OfDoor; place = Host s.addresses.mgmt_address s.server.mgmt_port }
+    ∷ opening_where (has_streams s) (record { part = OfStreams; place = Host s.addresses.address s.transport.tcp_port })
+
+-- What a server opens once the settings are read, in this order: the sources; a run of wires for each receiver; Graphite and the
+-- console, where they are used; and the doors.
+abbrev pub server_openings : Settings → List Opening
+server_openings s =
+    source_openings s
+    ++ (wire_openings s.sizes.receivers s
+    ++ (opening_where (is_used s Graphite) (record { part = OfGraphite; place = Host s.addresses.graphite_host s.addresses.graphite_port })
+    ++ (opening_where (is_used s Console) (record { part = OfConsole; place = File [] })
+    ++ door_openings s)))
+
+-- what a server goes by, as a file's settings say it
+abbrev pub serves_by : Settings → Terms
+serves_by s =
+    record {
+      limits = limits_of s;
+      policy = policy_of s;
+      form = record { shards = s.sizes.shards; plan = plan_of s; names = names_of s };
+      uses = is_used s;
+      outlets = has_outlets s;
+      settings = s;
+      receivers = s.sizes.receivers;
+      wires = length (targets_of s);
+      streams = has_streams s;
+      run_flushes = s.sizes.run_flushes;
+    }
+
+-- what is seen of a backend
+abbrev pub back_in : World → Backend → Object
+back_in w Graphite = w.seen.graphite
+back_in w Console = w.seen.console
+
+-- what is seen of the objects that a server's workers use
+abbrev pub objects_in : World → Objects
+objects_in w = record { sources = w.served.sources; wires = w.seen.wires; beat = w.served.beat; backs = back_in w; door = w.served.door; streams = w.served.streams }
+
+-- once these parts were opened, in their order, and then the beat was started, once, with this interval
+abbrev pub begun_with : List Opening → ℕ → World → World
+begun_with parts interval w = let all = opened_all w parts in record all { served = record all.served { beat = with_interval interval all.served.beat } }
+
+-- once all parts of a server were opened, and the beat was started with the interval of the settings
+abbrev pub begun : Settings → World → World
+begun s w = begun_with (server_openings s) s.server.flush_interval w
 
 -- a loop that took the most turns
 abbrev pub is_worn : LoopEnd → Bool
@@ -53,9 +115,9 @@ outlet_faults back c = min (missed (c.outflows back).queued) last_count
 -- texts each outlet skipped, where there are outlets
 abbrev pub run_totals : Settings → Course → List Total
 run_totals s c =
-    totals_of (summed s.sizes.shards (λ i. state_after (limits_of s) (policy_of s) (c.histories i))) (record c.desk {
-      graphite_faults = c.desk.graphite_faults + outlet_faults Graphite c;
-      console_faults = c.desk.console_faults + outlet_faults Console c;
+    totals_of (summed s.sizes.shards (λ i. state_after (limits_of s) (policy_of s) (c.histories i))) (record c.desk.facts {
+      graphite_faults = c.desk.facts.graphite_faults + outlet_faults Graphite c;
+      console_faults = c.desk.facts.console_faults + outlet_faults Console c;
     })
     ++ (if has_outlets s then (codes "graphite_skipped", (c.outflows Graphite).skipped) ∷ (codes "console_skipped", (c.outflows Console).skipped) ∷ [] else [])
 

@@ -7,15 +7,16 @@ use Rattle.sd_model_record.specs.WireSends.{wire_at}
 use Rattle.sd_model_serve.specs.Doors.{Visit, ServesDoor}
 use Rattle.sd_model_serve.specs.Ends.{most_turns}
 use Rattle.sd_model_stream.specs.Streams.{AreStreamsOf, Stream, any_worn}
-use Rattle.sd_model_call.specs.Words.{Serve, form}
+use Rattle.sd_model_call.specs.Words.{Form, form}
+use Rattle.sd_model_settings.specs.Settings.{SettingsFlaw}
 use Rattle.sd_model_call.specs.Opening.{Part, OfSettings, OfScript, OfSource, OfBeat, OfDoor, OfStreams, World, IsFlawed, OnlySettings, part_in, source_at}
 use Rattle.sd_model_call.specs.Call.{Answer, Done, NoMemory, NoForm, Misset, BadScript, NotOpened, NotRead, NotWritten, Worn}
 use Rattle.sd_model_call.specs.Completeness.{IsOutward, IsWhole}
 
--- The words ask to serve, and the settings tell that they have these bytes.
-pub record AsksToServe (words : List (List ℕ)) (old : World) (bytes : List ℕ) : Type 0 where
+-- The words ask for the server, or the proxy, by a settings file, and the settings tell that they have these bytes.
+pub record AsksFor (by_file : List ℕ → Form) (words : List (List ℕ)) (old : World) (bytes : List ℕ) : Type 0 where
   pub name : List ℕ
-  pub form : form words ≡ Some (Serve name)
+  pub form : form words ≡ Some (by_file name)
   pub told : old.settings.told ≡ Left bytes
 
 -- an object took fewer turns than a loop takes at most
@@ -35,9 +36,9 @@ pub record AStreamTookMost (old new : World) : Type 0 where
   pub went : AreStreamsOf visits streams
   pub worn : any_worn streams ≡ true
 
--- Nothing hinders a server: no fault was counted of the settings, a source, the beat and the output, and no loop took as many turns
--- as there may be.
-pub record IsUnhinderedServer (old new : World) : Type 0 where
+-- Nothing hinders the loops that a server and a proxy have: no fault was counted of the settings, a source, the beat and the output,
+-- and neither a source nor the beat took as many turns as there may be.
+pub record RunsFreely (old new : World) : Type 0 where
   pub settings : ¬ Rose old.settings.faults new.settings.faults
   pub sources : (i : ℕ) → ¬ Rose (source_at i old.served.sources).faults (source_at i new.served.sources).faults
   pub beat : ¬ Rose old.served.beat.faults new.served.beat.faults
@@ -45,6 +46,10 @@ pub record IsUnhinderedServer (old new : World) : Type 0 where
   pub source_turns : (i : ℕ) → TookFew (source_at i old.served.sources) (source_at i new.served.sources)
   pub uncapped : (i : ℕ) → (source_at i new.served.sources).turns < last_count
   pub beat_turns : TookFew old.served.beat new.served.beat
+
+-- Nothing hinders a server: its loops run so, and neither of the doors nor a stream took as many turns as there may be.
+pub record IsUnhinderedServer (old new : World) : Type 0 where
+  pub runs : RunsFreely old new
   pub door_turns : TookFew old.served.door new.served.door
   pub stream_turns : TookFew old.served.streams new.served.streams
   pub streams : ¬ AStreamTookMost old new
@@ -98,27 +103,36 @@ IsOpenedToServe OfScript = ⊥
 IsOpenedToServe OfBeat = ⊥
 IsOpenedToServe part = ⊤
 
--- a part whose read or tick ends a call that serves, where it fails
-abbrev pub IsReadToServe : Part → Type 0
-IsReadToServe OfSettings = ⊤
-IsReadToServe (OfSource i) = ⊤
-IsReadToServe OfBeat = ⊤
-IsReadToServe part = ⊥
+-- a part whose read or tick ends a server, or a proxy, where it fails
+abbrev pub IsReadToRun : Part → Type 0
+IsReadToRun OfSettings = ⊤
+IsReadToRun (OfSource i) = ⊤
+IsReadToRun OfBeat = ⊤
+IsReadToRun part = ⊥
 
 -- a fault of a part was counted
 abbrev pub HasFaultOf : Part → World → World → Type 0
 HasFaultOf part old new = Rose (part_in old part).faults (part_in new part).faults
 
--- What an answer to a call that is asked to serve by a settings file says of the objects: the file has just that flaw; of a part that
--- couldn't be opened or read a fault was counted, and of the output; and a loop is worn out only where it took the most turns. No
--- answer is one of a script, or of words without a form.
+-- What an answer to a call for the server, or the proxy, says of the objects, by which parts it opens and by what is so where all was
+-- done, where the settings have a flaw, and where a loop took the most turns: of a part that couldn't be opened or read a fault was
+-- counted, and of the output; and a loop is worn out only where it took the most turns. No answer is one of a script, or of words
+-- without a form.
+abbrev pub IsCauseBy : (IsOpened : Part → Type 0) → (done : Type 0) → (IsMisset : SettingsFlaw → Type 0) → (worn : Type 0) → Answer → World → World → Type 0
+IsCauseBy IsOpened done IsMisset worn Done old new = done
+IsCauseBy IsOpened done IsMisset worn NoMemory old new = ⊤
+IsCauseBy IsOpened done IsMisset worn NoForm old new = ⊥
+IsCauseBy IsOpened done IsMisset worn (Misset flaw) old new = IsMisset flaw
+IsCauseBy IsOpened done IsMisset worn (BadScript at flaw) old new = ⊥
+IsCauseBy IsOpened done IsMisset worn (NotOpened part) old new = IsOpened part × HasFaultOf part old new
+IsCauseBy IsOpened done IsMisset worn (NotRead part) old new = IsReadToRun part × HasFaultOf part old new
+IsCauseBy IsOpened done IsMisset worn NotWritten old new = Rose old.seen.output.faults new.seen.output.faults
+IsCauseBy IsOpened done IsMisset worn (Worn turns) old new = (turns ≡ most_turns) × worn
+
+-- a settings file has this flaw, and nothing else was opened
+abbrev pub IsMissetBy : List ℕ → World → World → SettingsFlaw → Type 0
+IsMissetBy name old new flaw = IsFlawed flaw (File name) old.settings new.settings × OnlySettings old new
+
+-- what an answer to a call that is asked to serve by a settings file says of the objects
 abbrev pub IsCauseOf : List ℕ → Answer → World → World → Type 0
-IsCauseOf name Done old new = ⊤
-IsCauseOf name NoMemory old new = ⊤
-IsCauseOf name NoForm old new = ⊥
-IsCauseOf name (Misset flaw) old new = IsFlawed flaw (File name) old.settings new.settings × OnlySettings old new
-IsCauseOf name (BadScript at flaw) old new = ⊥
-IsCauseOf name (NotOpened part) old new = IsOpenedToServe part × HasFaultOf part old new
-IsCauseOf name (NotRead part) old new = IsReadToServe part × HasFaultOf part old new
-IsCauseOf name NotWritten old new = Rose old.seen.output.faults new.seen.output.faults
-IsCauseOf name (Worn turns) old new = (turns ≡ most_turns) × OneTookMost old new
+IsCauseOf name answer old new = IsCauseBy IsOpenedToServe ⊤ (IsMissetBy name old new) (OneTookMost old new) answer old new

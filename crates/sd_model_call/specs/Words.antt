@@ -22,13 +22,9 @@ is_file_word (b ∷ bytes) = not (b == 45) && nat_le (length (b ∷ bytes)) 255
 abbrev pub replay_form : List ℕ → List ℕ → Option Form
 replay_form settings script = if is_file_word settings && is_file_word script then Some (Replay settings script) else None
 
--- a server by the file that a word names
-abbrev pub serve_form : List ℕ → Option Form
-serve_form settings = if is_file_word settings then Some (Serve settings) else None
-
--- a proxy by the file that a word names
-abbrev pub proxy_form : List ℕ → Option Form
-proxy_form settings = if is_file_word settings then Some (Proxy settings) else None
+-- a server, or a proxy, by the file that a word names
+abbrev pub run_form : (List ℕ → Form) → List ℕ → Option Form
+run_form by_file settings = if is_file_word settings then Some (by_file settings) else None
 
 -- how many packets a drill has at most
 abbrev pub most_packets : ℕ
@@ -51,8 +47,8 @@ drill_form packets = option_map Drill (packets_in packets)
 abbrev pub word_form : List ℕ → List ℕ → Option Form
 word_form name word =
     if pointwise ◌==◌ name (codes "drill") then drill_form word
-    else (if pointwise ◌==◌ name (codes "serve") then serve_form word
-    else (if pointwise ◌==◌ name (codes "proxy") then proxy_form word else None))
+    else (if pointwise ◌==◌ name (codes "serve") then run_form Serve word
+    else (if pointwise ◌==◌ name (codes "proxy") then run_form Proxy word else None))
 
 -- what a name and two words ask for
 abbrev pub words_form : List ℕ → List ℕ → List ℕ → Option Form
@@ -60,8 +56,6 @@ words_form name settings script = if pointwise ◌==◌ name (codes "replay") th
 
 -- `replay SETTINGS SCRIPT`, `serve SETTINGS`, `proxy SETTINGS` and `drill N`, and nothing else
 abbrev pub form : List (List ℕ) → Option Form
-form [] = None
-form (name ∷ []) = None
 form (name ∷ word ∷ []) = word_form name word
 form (name ∷ settings ∷ script ∷ []) = words_form name settings script
-form (name ∷ settings ∷ script ∷ word ∷ words) = None
+form words = None

@@ -8,12 +8,13 @@ ghost use Rattle.sd_model_replay.specs.AccountingTheorem.{Seen};
 ghost use Rattle.sd_model_replay.specs.Next.{ScriptFlaw};
 ghost use Rattle.sd_model_replay.specs.Ends.{Complete, End, Faulted, Replayed, WornOut, most_records};
 ghost use Rattle.sd_model_call.specs.Opening.{World};
-ghost use Rattle.sd_model_call.specs.Words.{Drill, form};
+ghost use Rattle.sd_model_call.specs.Words.{Drill, Proxy, form};
 ghost use Rattle.sd_model_call.specs.Drill.{drill_text};
 ghost use Rattle.sd_model_call.specs.Call.{Accounts, Answer, BadScript, Done, IsScripted, Misset, OnlyOutput, Worn};
 ghost use Rattle.sd_model_call.specs.Completeness.{Asks, AsksPlainly, CarriedOut, CarriedOutWell, EndsSo, IsBlocked, IsCutOff, IsFull, IsLongest, IsTold, IsUnhindered, IsWhole, NoneMissed, refusal, start_of};
 ghost use Rattle.sd_model_call.specs.Proxy.{AnswersProxy, ProxyAccounts, proxy_flaw};
-ghost use Rattle.sd_model_call.specs.ProxyCompleteness.{AsksForProxy, IsProxyCauseOf, IsRelayed, IsUnhinderedProxy, NoWireFailed};
+ghost use Rattle.sd_model_call.specs.ServerCompleteness.{AsksFor};
+ghost use Rattle.sd_model_call.specs.ProxyCompleteness.{IsProxyCauseOf, IsRelayed, IsUnhinderedProxy, NoWireFailed};
 
 /// A replay that nothing hinders comes to the word that ends the script. One whose script is cut off behind some records, by a
 /// flaw, stops at that place and tells which, and one of as many records as there may be carries these out, and then no more,
@@ -79,15 +80,15 @@ pub fn drills_complete()
 /// beat have nothing left.
 pub fn unhindered_proxies_relay()
     ensures relays { (words : List (List ℕ)) (values : Settings) (old new : World) (bytes : List ℕ) (answer : Answer)
-        → AsksForProxy words old bytes → settings bytes ≡ Ok values → proxy_flaw values ≡ None → IsUnhinderedProxy old new
+        → AsksFor Proxy words old bytes → settings bytes ≡ Ok values → proxy_flaw values ≡ None → IsUnhinderedProxy old new
         → AnswersProxy (form words) answer old new → IsRelayed answer }
     ensures whole { (words : List (List ℕ)) (values : Settings) (old new : World) (bytes : List ℕ) (answer : Answer)
-        → AsksForProxy words old bytes → settings bytes ≡ Ok values → proxy_flaw values ≡ None → IsUnhinderedProxy old new
+        → AsksFor Proxy words old bytes → settings bytes ≡ Ok values → proxy_flaw values ≡ None → IsUnhinderedProxy old new
         → NoWireFailed old new → AnswersProxy (form words) answer old new → IsWhole Done answer }
     ensures blocked { (words : List (List ℕ)) (flaw : SettingsFlaw) (old new : World) (bytes : List ℕ) (answer : Answer)
-        → AsksForProxy words old bytes → settings bytes ≡ Err flaw → AnswersProxy (form words) answer old new → IsBlocked (Misset flaw) answer }
+        → AsksFor Proxy words old bytes → settings bytes ≡ Err flaw → AnswersProxy (form words) answer old new → IsBlocked (Misset flaw) answer }
     ensures unfit { (words : List (List ℕ)) (values : Settings) (flaw : SettingsFlaw) (old new : World) (bytes : List ℕ) (answer : Answer)
-        → AsksForProxy words old bytes → settings bytes ≡ Ok values → proxy_flaw values ≡ Some flaw
+        → AsksFor Proxy words old bytes → settings bytes ≡ Ok values → proxy_flaw values ≡ Some flaw
         → AnswersProxy (form words) answer old new → IsBlocked (Misset flaw) answer }
     ensures causes { (name : List ℕ) (old new : World) (answer : Answer) → ProxyAccounts name answer old new → IsProxyCauseOf name answer old new }
 {}

@@ -1,9 +1,10 @@
 -- What the receivers of a proxy do: each sends the lines of the datagrams of its source on its own run of wires.
-use Rattle.std.specs.Prelude.{◌≡◌, ℕ, ◌+◌, ◌≤◌, min, List, [], ◌∷◌, length, map, take, drop, flat_map}
+use Rattle.std.specs.Prelude.{◌≡◌, ℕ, ◌+◌, ◌≤◌, min, List, length, map, flat_map}
 use Rattle.sd_model_outside.specs.Outside.{Object, last_count}
 use Rattle.sd_model_outside.specs.Turns.{with_datagrams}
 use Rattle.sd_model_settings.specs.Entries.{Node}
 use Rattle.sd_model_serve.specs.Ends.{LoopEnd, EndsReceiver}
+use Rattle.sd_model_serve.specs.Receiving.{HaveRun}
 use Rattle.sd_model_proxy.specs.Routes.{Read, Routed, line_and_set, lines_of_read}
 use Rattle.sd_model_proxy.specs.Sends.{AreForwarded}
 use Rattle.sd_model_replay.specs.Totals.{Total}
@@ -39,12 +40,6 @@ relay_totals nodes r = add_totals no_totals (totals_of_lines nodes (length r.rea
 abbrev pub relays_totals : List Node → List Relay → List Total
 relays_totals nodes relays = sums_of_totals (map (relay_totals nodes) relays)
 
--- The first receiver has the first source and the first wires, one for each node, the next one the next, and so on; the sources
--- and the wires behind theirs are as they were.
+-- each receiver did so with a source of its own, and a run of wires with one for each node
 abbrev pub AreRelays : List Node → List Relay → (sources sources_now wires wires_now : List Object) → Type 0
-AreRelays nodes [] sources sources_now wires wires_now = (sources_now ≡ sources) × (wires_now ≡ wires)
-AreRelays nodes (r ∷ relays) [] sources_now wires wires_now = ⊥
-AreRelays nodes (r ∷ relays) (s ∷ sources) [] wires wires_now = ⊥
-AreRelays nodes (r ∷ relays) (s ∷ sources) (n ∷ sources_now) wires wires_now =
-    IsRelay nodes r s n (take (length nodes) wires) (take (length nodes) wires_now)
-    × AreRelays nodes relays sources sources_now (drop (length nodes) wires) (drop (length nodes) wires_now)
+AreRelays nodes = HaveRun (IsRelay nodes) (length nodes)

@@ -33,9 +33,8 @@ route line nodes up = route_of_key (key_of_line line) nodes up
 
 -- whether a line goes to the node in a place
 abbrev pub goes_to : ℕ → Route → Bool
-goes_to place Bad = false
-goes_to place Unowned = false
 goes_to place (To other) = other == place
+goes_to place other = false
 
 -- A line that was routed: the set of nodes that were up, and whether its send failed, where it was sent.
 pub record Routed : Type 0 where

@@ -2,7 +2,7 @@
 use Rattle.std.specs.Prelude.{◌≡◌, ℕ, ◌+◌, ◌<◌, ◌≤◌, List, [], ◌∷◌, slice_index}
 use Rattle.sd_model_record.specs.Record.{Tally}
 use Rattle.sd_model_outside.specs.Deliveries.{fault_of}
-use Rattle.sd_model_record.specs.Desk.{Desk, Facts, Marks, counted, last_counted}
+use Rattle.sd_model_record.specs.Desk.{AddsUp, Desk, Facts, IsTallyInRange, Marks, counted, last_counted}
 
 -- The thirteen numbers: the four totals, the four sums of the tallies that were taken, the rounds, and the four counts of
 -- faults.
@@ -28,9 +28,9 @@ Amounts = Count → ℕ
 -- the numbers of a desk, in order
 abbrev pub numbers_in : Desk → List ℕ
 numbers_in d =
-    d.totals.packets ∷ d.totals.lines ∷ d.totals.bad ∷ d.totals.dropped
+    d.facts.totals.packets ∷ d.facts.totals.lines ∷ d.facts.totals.bad ∷ d.facts.totals.dropped
     ∷ d.taken_so_far.packets ∷ d.taken_so_far.lines ∷ d.taken_so_far.bad ∷ d.taken_so_far.dropped
-    ∷ d.rounds ∷ d.graphite_faults ∷ d.console_faults ∷ d.repeater_faults ∷ d.admin_faults ∷ []
+    ∷ d.facts.rounds ∷ d.facts.graphite_faults ∷ d.facts.console_faults ∷ d.facts.repeater_faults ∷ d.facts.admin_faults ∷ []
 
 -- the place of a number in that order
 abbrev pub place : Count → ℕ
@@ -55,6 +55,21 @@ amounts_in numbers count = slice_index numbers (place count)
 -- a number of a desk
 abbrev pub number_of : Desk → Amounts
 number_of d = amounts_in (numbers_in d)
+
+-- each count of a desk is at most the last count
+pub record IsInRange (d : Desk) : Type 0 where
+  pub tally : IsTallyInRange d.tally
+  pub numbers : (count : Count) → number_of d count ≤ last_counted
+
+-- no number of a desk has fallen
+abbrev pub HasGrown : Desk → Desk → Type 0
+HasGrown old new = (count : Count) → number_of old count ≤ number_of new count
+
+-- a change of a desk keeps its sums and its range, and lets no number fall
+pub record KeepsCounts (old new : Desk) : Type 0 where
+  pub adds_up : AddsUp old → AddsUp new
+  pub in_range : IsInRange old → IsInRange new
+  pub grown : IsInRange old → HasGrown old new
 
 -- nothing of any
 abbrev pub nothing : Amounts

@@ -1,7 +1,7 @@
 ghost use Rattle.std.specs.Prelude.{ℕ, Bool};
 ghost use Rattle.sd_model_record.specs.Record.{Tally};
-ghost use Rattle.sd_model_record.specs.Desk.{Desk, Marks, new_desk, with_tally, taken, marked, with_round, with_health, with_admin_fault, with_repeater_faults, AddsUp, IsBalanced, IsInRange, KeepsCounts};
-ghost use Rattle.sd_model_record.specs.Counts.{Amounts, GrewBy, HasCounted, Part, nothing, plus, of_tally, of_taken, of_marks, of_sessions, of_sends};
+ghost use Rattle.sd_model_record.specs.Desk.{Desk, Marks, new_desk, with_tally, taken, marked, with_round, with_health, with_admin_fault, with_repeater_faults, AddsUp, IsBalanced};
+ghost use Rattle.sd_model_record.specs.Counts.{Amounts, GrewBy, HasCounted, IsInRange, KeepsCounts, Part, nothing, plus, of_tally, of_taken, of_marks, of_sessions, of_sends};
 
 /// The totals of a new desk are the tallies taken and the tally, and its counts are in range. Each change of a desk
 /// keeps both, and lets no count fall.

@@ -9,23 +9,24 @@ use Rattle.sd_model_shard.specs.Whereabouts.{Arrival}
 use Rattle.sd_model_shard.proofs.HistoryLemmas.{LegalFrom-answered}
 use Rattle.sd_model_serve.specs.Accounting.{AreAccounted}
 use Rattle.sd_model_serve.proofs.AccountLemmas.{account}
-use Rattle.sd_model_replay.specs.Settings.{limits_of, policy_of}
+use Rattle.sd_model_replay.specs.Settings.{Bounds, bounds_of, limits_of, policy_of}
 use Rattle.sd_model_replay.specs.Replay.{Played, events_at, form_of, history_at, home_of, rounds}
 use Rattle.sd_model_replay.proofs.HistoryLemmas.{tables-history_at}
 use Rattle.sd_model_settings.specs.Settings.{Settings}
 
-pub legal : (settings : Settings) (i : ℕ) (played : List Played) → Legal (limits_of settings) (policy_of settings) (history_at settings i played)
-legal settings i played = LegalFrom-answered (limits_of settings) (policy_of settings) empty_state (events_at settings i played)
+pub legal : (bounds : Bounds) (i : ℕ) (played : List Played) → Legal bounds.limits bounds.policy (history_at bounds i played)
+legal bounds i played = LegalFrom-answered bounds.limits bounds.policy empty_state (events_at bounds.shards i played)
 
-pub are_accounted : (settings : Settings) (played : List Played) → AreAccounted (limits_of settings) (policy_of settings) (form_of settings) (λ i. history_at settings i played) (rounds settings played)
+pub are_accounted : (settings : Settings) (played : List Played) → AreAccounted (limits_of settings) (policy_of settings) (form_of settings) (λ i. history_at (bounds_of settings) i played) (rounds (bounds_of settings) played)
 are_accounted settings played =
-    account (limits_of settings) (policy_of settings) (form_of settings) (λ i. history_at settings i played) (rounds settings played) (λ i below. legal settings i played) (λ i below. tables-history_at settings i played)
+    let bounds = bounds_of settings in
+    account bounds.limits bounds.policy (form_of settings) (λ i. history_at bounds i played) (rounds bounds played) (λ i below. legal bounds i played) (λ i below. tables-history_at bounds i played)
 
 -- the shard of a key is one of them
 pub in_range : (shards : ℕ) → 1 ≤ shards → (key : List ℕ) → shard key shards < shards
 in_range shards h key = mod-lt (fnv1a key) (omega arith)
 
 -- each sample's shard is
-pub all_homes : (settings : Settings) → 0 < settings.sizes.shards → (arrivals : List Arrival) → AllByRecursion (λ a. home_of settings a.sample < settings.sizes.shards) arrivals
-all_homes settings some [] = tt
-all_homes settings some (a ∷ arrivals) = (in_range settings.sizes.shards (omega (arith, some)) a.sample.key, all_homes settings some arrivals)
+pub all_homes : (shards : ℕ) → 0 < shards → (arrivals : List Arrival) → AllByRecursion (λ a. home_of shards a.sample < shards) arrivals
+all_homes shards some [] = tt
+all_homes shards some (a ∷ arrivals) = (in_range shards (omega (arith, some)) a.sample.key, all_homes shards some arrivals)

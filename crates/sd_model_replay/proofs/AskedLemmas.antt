@@ -19,13 +19,12 @@ use Rattle.sd_model_serve.specs.Served.{Ran}
 use Rattle.sd_model_serve.specs.Sessions as sessions
 use Rattle.sd_model_serve.specs.Sessions.{Broadcast}
 use Rattle.sd_model_serve.proofs.ActsLemmas.{asks-append}
-use Rattle.sd_model_replay.specs.Settings.{limits_of, policy_of}
+use Rattle.sd_model_replay.specs.Settings.{Bounds}
 use Rattle.sd_model_replay.specs.Script.{Command, Packet, Flush, Admin, IsLegal}
 use Rattle.sd_model_replay.specs.Replay.{Outcome, Played, Run, acts_in, events_at, events_in, first_run, history_at, home_of, play, round_by, rounds, rounds_from, samples_at, samples_in}
 use Rattle.sd_model_replay.specs.Asked.{asked_from, asked_in, broadcasts, broadcasts_in, brought_by, brought_in}
 use Rattle.sd_model_replay.proofs.AccountingLemmas.{legal}
 use Rattle.sd_model_replay.proofs.HistoryLemmas.{tables-history_at}
-use Rattle.sd_model_settings.specs.Settings.{Settings}
 
 apart : (a b : ℕ) → a ≢ b → eqb a b ≡ false
 apart a b other = by_test (eqb_tells a b) where
@@ -75,125 +74,125 @@ module _ (r W : ℕ) where
       ap (λ b. map (λ (a : Arrival). a.sample) (cond b (record { who = W; sample = s } ∷ rest) rest)) other ∙ brought_none other samples
 
 -- what the administrator asks is answered by each shard
-broadcast_acts : (limits : Limits) (policy : Policy) (i : ℕ) (states : ℕ → State) (events : List Event)
-    → answered limits policy (states i) (asked_by (λ e. e) administrator events) ≡ sessions.acts_in (broadcasts limits policy states events) i
-broadcast_acts limits policy i states [] = refl
-broadcast_acts limits policy i states (event ∷ events) =
-    ap (λ (acts : History). act_of limits policy (states i) administrator event ∷ acts)
-    (broadcast_acts limits policy i (λ j. (step limits policy (states j) administrator event).state) events)
+broadcast_acts : (bounds : Bounds) (i : ℕ) (states : ℕ → State) (events : List Event)
+    → answered bounds.limits bounds.policy (states i) (asked_by (λ e. e) administrator events) ≡ sessions.acts_in (broadcasts bounds states events) i
+broadcast_acts bounds i states [] = refl
+broadcast_acts bounds i states (event ∷ events) =
+    ap (λ (acts : History). act_of bounds.limits bounds.policy (states i) administrator event ∷ acts)
+    (broadcast_acts bounds i (λ j. (step bounds.limits bounds.policy (states j) administrator event).state) events)
 
-module _ (settings : Settings) (i : ℕ) where
+module _ (bounds : Bounds) (receivers i : ℕ) where
   abbrev own_samples : List Sample → List Sample
-  own_samples samples = part_of (home_of settings) i samples
+  own_samples samples = part_of (home_of bounds.shards) i samples
 
   abbrev line_events : List ℕ → List Event
   line_events line = admin_events (admin.command line)
 
   -- one record
   of_receiver : (r : ℕ) → r < flusher → (run : Run) (c : Command)
-      → events_by r (acts_in settings run i c) ≡ asks settings.sizes.shards i (map (λ a. a.sample) (part_of (λ a. a.who) r (samples_in c)))
+      → events_by r (acts_in bounds run.shards i c) ≡ asks bounds.shards i (map (λ a. a.sample) (part_of (λ a. a.who) r (samples_in c)))
   of_receiver r small run (Packet who moment datagram) = by_test (eqb_tells r who) where
     samples : List Sample
     samples = samples_of datagram
 
-    by_test : (eqb r who ≡ true) × (r ≡ who) ⊎ (eqb r who ≡ false) × (r ≢ who) → events_by r (acts_in settings run i (Packet who moment datagram)) ≡ asks settings.sizes.shards i (brought_of r who (samples_of datagram))
+    by_test : (eqb r who ≡ true) × (r ≡ who) ⊎ (eqb r who ≡ false) × (r ≢ who) → events_by r (acts_in bounds run.shards i (Packet who moment datagram)) ≡ asks bounds.shards i (brought_of r who (samples_of datagram))
     by_test (inl (same, is)) =
-        ap events_of (all_by Submit who r (limits_of settings) (policy_of settings) same (run.shards i) (own_samples samples))
-        ∙ events_asked Submit who r (limits_of settings) (policy_of settings) (run.shards i) (own_samples samples) ∙ ap (asks settings.sizes.shards i) (sym (brought_all r who same samples))
+        ap events_of (all_by Submit who r bounds.limits bounds.policy same (run.shards i) (own_samples samples))
+        ∙ events_asked Submit who r bounds.limits bounds.policy (run.shards i) (own_samples samples) ∙ ap (asks bounds.shards i) (sym (brought_all r who same samples))
     by_test (inr (other, differ)) =
-        ap events_of (none_by Submit who r (limits_of settings) (policy_of settings) other (run.shards i) (own_samples samples)) ∙ ap (asks settings.sizes.shards i) (sym (brought_none r who other samples))
+        ap events_of (none_by Submit who r bounds.limits bounds.policy other (run.shards i) (own_samples samples)) ∙ ap (asks bounds.shards i) (sym (brought_none r who other samples))
   of_receiver r small run (Flush ts) =
-      ap events_of (none_by (λ e. e) flusher r (limits_of settings) (policy_of settings) (apart r flusher (λ is. omega (arith, is, small))) (run.shards i) (Swap ∷ []))
+      ap events_of (none_by (λ e. e) flusher r bounds.limits bounds.policy (apart r flusher (λ is. omega (arith, is, small))) (run.shards i) (Swap ∷ []))
   of_receiver r small run (Admin moment line) =
-      ap events_of (none_by (λ e. e) administrator r (limits_of settings) (policy_of settings) (apart r administrator (λ is. omega (arith, is, small))) (run.shards i) (line_events line))
+      ap events_of (none_by (λ e. e) administrator r bounds.limits bounds.policy (apart r administrator (λ is. omega (arith, is, small))) (run.shards i) (line_events line))
 
-  of_flusher : (run : Run) (c : Command) (outcome : Outcome) (rest : List Round) → IsLegal settings.sizes.receivers c
-      → acts_by flusher (acts_in settings run i c) ++ swaps_at rest i ≡ swaps_at (cons_option (round_by run c outcome) rest) i
+  of_flusher : (run : Run) (c : Command) (outcome : Outcome) (rest : List Round) → IsLegal receivers c
+      → acts_by flusher (acts_in bounds run.shards i c) ++ swaps_at rest i ≡ swaps_at (cons_option (round_by run c outcome) rest) i
   of_flusher run (Packet who moment datagram) outcome rest is =
       let small = is.0.1 in
-      ap (λ front. front ++ swaps_at rest i) (none_by Submit who flusher (limits_of settings) (policy_of settings) (apart flusher who (λ same. omega (arith, same, small))) (run.shards i) (own_samples (samples_of datagram)))
+      ap (λ front. front ++ swaps_at rest i) (none_by Submit who flusher bounds.limits bounds.policy (apart flusher who (λ same. omega (arith, same, small))) (run.shards i) (own_samples (samples_of datagram)))
   of_flusher run (Flush ts) outcome rest is = refl
   of_flusher run (Admin moment line) outcome rest is =
-      ap (λ front. front ++ swaps_at rest i) (none_by (λ e. e) administrator flusher (limits_of settings) (policy_of settings) refl (run.shards i) (line_events line))
+      ap (λ front. front ++ swaps_at rest i) (none_by (λ e. e) administrator flusher bounds.limits bounds.policy refl (run.shards i) (line_events line))
 
-  of_administrator : (run : Run) (c : Command) → IsLegal settings.sizes.receivers c → acts_by administrator (acts_in settings run i c) ≡ sessions.acts_in (broadcasts_in settings run c) i
+  of_administrator : (run : Run) (c : Command) → IsLegal receivers c → acts_by administrator (acts_in bounds run.shards i c) ≡ sessions.acts_in (broadcasts_in bounds run.shards c) i
   of_administrator run (Packet who moment datagram) is =
       let small = is.0.1 in
-      none_by Submit who administrator (limits_of settings) (policy_of settings) (apart administrator who (λ same. omega (arith, same, small))) (run.shards i) (own_samples (samples_of datagram))
+      none_by Submit who administrator bounds.limits bounds.policy (apart administrator who (λ same. omega (arith, same, small))) (run.shards i) (own_samples (samples_of datagram))
   of_administrator run (Flush ts) is = refl
   of_administrator run (Admin moment line) is =
-      all_by (λ e. e) administrator administrator (limits_of settings) (policy_of settings) refl (run.shards i) (line_events line)
-      ∙ broadcast_acts (limits_of settings) (policy_of settings) i run.shards (line_events line)
+      all_by (λ e. e) administrator administrator bounds.limits bounds.policy refl (run.shards i) (line_events line)
+      ∙ broadcast_acts bounds i run.shards (line_events line)
 
-  of_nobody : (w : ℕ) → settings.sizes.receivers ≤ w → w ≢ flusher → w ≢ administrator → (run : Run) (c : Command) → IsLegal settings.sizes.receivers c → acts_by w (acts_in settings run i c) ≡ []
+  of_nobody : (w : ℕ) → receivers ≤ w → w ≢ flusher → w ≢ administrator → (run : Run) (c : Command) → IsLegal receivers c → acts_by w (acts_in bounds run.shards i c) ≡ []
   of_nobody w many no_flusher no_administrator run (Packet who moment datagram) is =
       let small = is.0.0 in
-      none_by Submit who w (limits_of settings) (policy_of settings) (apart w who (λ same. omega (arith, same, small, many))) (run.shards i) (own_samples (samples_of datagram))
-  of_nobody w many no_flusher no_administrator run (Flush ts) is = none_by (λ e. e) flusher w (limits_of settings) (policy_of settings) (apart w flusher no_flusher) (run.shards i) (Swap ∷ [])
+      none_by Submit who w bounds.limits bounds.policy (apart w who (λ same. omega (arith, same, small, many))) (run.shards i) (own_samples (samples_of datagram))
+  of_nobody w many no_flusher no_administrator run (Flush ts) is = none_by (λ e. e) flusher w bounds.limits bounds.policy (apart w flusher no_flusher) (run.shards i) (Swap ∷ [])
   of_nobody w many no_flusher no_administrator run (Admin moment line) is =
-      none_by (λ e. e) administrator w (limits_of settings) (policy_of settings) (apart w administrator no_administrator) (run.shards i) (line_events line)
+      none_by (λ e. e) administrator w bounds.limits bounds.policy (apart w administrator no_administrator) (run.shards i) (line_events line)
 
   -- records, from a state on
   abbrev history_from : Run → List Played → History
-  history_from run played = answered (limits_of settings) (policy_of settings) (run.shards i) (events_at settings i played)
+  history_from run played = answered bounds.limits bounds.policy (run.shards i) (events_at bounds.shards i played)
 
   abbrev AreLegal : List Played → Type 0
-  AreLegal played = AllByRecursion (λ p. IsLegal settings.sizes.receivers p.command) played
+  AreLegal played = AllByRecursion (λ p. IsLegal receivers p.command) played
 
   -- the acts of a caller in a record's acts, and in those behind them
   parted : (w : ℕ) (run : Run) (p : Played) (played : List Played)
-      → acts_by w (history_from run (p ∷ played)) ≡ acts_by w (acts_in settings run i p.command) ++ acts_by w (history_from (play settings run p) played)
+      → acts_by w (history_from run (p ∷ played)) ≡ acts_by w (acts_in bounds run.shards i p.command) ++ acts_by w (history_from (play bounds run p) played)
   parted w run p played =
-      ap (acts_by w) (answered-append (limits_of settings) (policy_of settings) (run.shards i) (events_in settings i p.command) (events_at settings i played))
-      ∙ filter-append (λ (a : Act). eqb w a.who) (acts_in settings run i p.command) (history_from (play settings run p) played)
+      ap (acts_by w) (answered-append bounds.limits bounds.policy (run.shards i) (events_in bounds.shards i p.command) (events_at bounds.shards i played))
+      ∙ filter-append (λ (a : Act). eqb w a.who) (acts_in bounds run.shards i p.command) (history_from (play bounds run p) played)
 
   brought-cons : (r : ℕ) (p : Played) (played : List Played) → brought_by r (p ∷ played) ≡ map (λ a. a.sample) (part_of (λ a. a.who) r (samples_in p.command)) ++ brought_by r played
   brought-cons r p played =
       ap (map (λ (a : Arrival). a.sample)) (filter-append (λ (a : Arrival). eqb r a.who) (samples_in p.command) (samples_at played))
       ∙ map-append (λ (a : Arrival). a.sample) (part_of (λ a. a.who) r (samples_in p.command)) (part_of (λ a. a.who) r (samples_at played))
 
-  receiver_from : (r : ℕ) → r < flusher → (run : Run) (played : List Played) → events_by r (history_from run played) ≡ asks settings.sizes.shards i (brought_by r played)
+  receiver_from : (r : ℕ) → r < flusher → (run : Run) (played : List Played) → events_by r (history_from run played) ≡ asks bounds.shards i (brought_by r played)
   receiver_from r small run [] = refl
   receiver_from r small run (p ∷ played) =
       let here = map (λ (a : Arrival). a.sample) (part_of (λ a. a.who) r (samples_in p.command)) in
       ap events_of (parted r run p played)
-      ∙ map-append (λ (a : Act). a.event) (acts_by r (acts_in settings run i p.command)) (acts_by r (history_from (play settings run p) played))
-      ∙ (λ j. of_receiver r small run p.command j ++ receiver_from r small (play settings run p) played j)
-      ∙ sym (asks-append settings.sizes.shards i here (brought_by r played)) ∙ ap (asks settings.sizes.shards i) (sym (brought-cons r p played))
+      ∙ map-append (λ (a : Act). a.event) (acts_by r (acts_in bounds run.shards i p.command)) (acts_by r (history_from (play bounds run p) played))
+      ∙ (λ j. of_receiver r small run p.command j ++ receiver_from r small (play bounds run p) played j)
+      ∙ sym (asks-append bounds.shards i here (brought_by r played)) ∙ ap (asks bounds.shards i) (sym (brought-cons r p played))
 
-  flusher_from : (run : Run) (played : List Played) → AreLegal played → acts_by flusher (history_from run played) ≡ swaps_at (rounds_from settings run played) i
+  flusher_from : (run : Run) (played : List Played) → AreLegal played → acts_by flusher (history_from run played) ≡ swaps_at (rounds_from bounds run played) i
   flusher_from run [] are = refl
   flusher_from run (p ∷ played) are =
-      parted flusher run p played ∙ ap (λ rest. acts_by flusher (acts_in settings run i p.command) ++ rest) (flusher_from (play settings run p) played are.1)
-      ∙ of_flusher run p.command p.outcome (rounds_from settings (play settings run p) played) are.0
+      parted flusher run p played ∙ ap (λ rest. acts_by flusher (acts_in bounds run.shards i p.command) ++ rest) (flusher_from (play bounds run p) played are.1)
+      ∙ of_flusher run p.command p.outcome (rounds_from bounds (play bounds run p) played) are.0
 
-  administrator_from : (run : Run) (played : List Played) → AreLegal played → acts_by administrator (history_from run played) ≡ sessions.acts_in (asked_from settings run played) i
+  administrator_from : (run : Run) (played : List Played) → AreLegal played → acts_by administrator (history_from run played) ≡ sessions.acts_in (asked_from bounds run played) i
   administrator_from run [] are = refl
   administrator_from run (p ∷ played) are =
       parted administrator run p played
-      ∙ (λ j. of_administrator run p.command are.0 j ++ administrator_from (play settings run p) played are.1 j)
-      ∙ sym (map-append (λ (b : Broadcast). record { who = administrator; event = b.event; reply = b.replies i }) (broadcasts_in settings run p.command) (asked_from settings (play settings run p) played))
+      ∙ (λ j. of_administrator run p.command are.0 j ++ administrator_from (play bounds run p) played are.1 j)
+      ∙ sym (map-append (λ (b : Broadcast). record { who = administrator; event = b.event; reply = b.replies i }) (broadcasts_in bounds run.shards p.command) (asked_from bounds (play bounds run p) played))
 
-  nobody_from : (w : ℕ) → settings.sizes.receivers ≤ w → w ≢ flusher → w ≢ administrator → (run : Run) (played : List Played) → AreLegal played → acts_by w (history_from run played) ≡ []
+  nobody_from : (w : ℕ) → receivers ≤ w → w ≢ flusher → w ≢ administrator → (run : Run) (played : List Played) → AreLegal played → acts_by w (history_from run played) ≡ []
   nobody_from w many no_flusher no_administrator run [] are = refl
   nobody_from w many no_flusher no_administrator run (p ∷ played) are =
       parted w run p played
-      ∙ (λ j. of_nobody w many no_flusher no_administrator run p.command are.0 j ++ nobody_from w many no_flusher no_administrator (play settings run p) played are.1 j)
+      ∙ (λ j. of_nobody w many no_flusher no_administrator run p.command are.0 j ++ nobody_from w many no_flusher no_administrator (play bounds run p) played are.1 j)
 
   -- a replay's history is one that its callers tell
-  pub replay_ran : (played : List Played) → settings.sizes.receivers ≤ flusher → AreLegal played
-      → Ran (limits_of settings) (policy_of settings) settings.sizes.shards (brought_in settings.sizes.receivers played) (rounds settings played) (asked_in settings played) i (history_at settings i played)
+  pub replay_ran : (played : List Played) → receivers ≤ flusher → AreLegal played
+      → Ran bounds.limits bounds.policy bounds.shards (brought_in receivers played) (rounds bounds played) (asked_in bounds played) i (history_at bounds i played)
   replay_ran played few are =
       let run = first_run played in
-      let count : length (brought_in settings.sizes.receivers played) ≡ settings.sizes.receivers =
-      length-map (range_with_len 0 settings.sizes.receivers) (λ r. brought_by r played) ∙ length-range_with_len 0 settings.sizes.receivers in
+      let count : length (brought_in receivers played) ≡ receivers =
+      length-map (range_with_len 0 receivers) (λ r. brought_by r played) ∙ length-range_with_len 0 receivers in
       record {
-        legal = legal settings i played;
+        legal = legal bounds i played;
         submitted = λ r below.
             receiver_from r (omega (arith, below, count, few)) run played
-            ∙ ap (asks settings.sizes.shards i) (sym (get_or-map-range_with_len (λ n. brought_by n played) 0 settings.sizes.receivers r r [] (omega (arith, below, count)) (omega arith)));
+            ∙ ap (asks bounds.shards i) (sym (get_or-map-range_with_len (λ n. brought_by n played) 0 receivers r r [] (omega (arith, below, count)) (omega arith)));
         swapped = flusher_from run played are;
         commanded = administrator_from run played are;
         others = λ w many no_flusher no_administrator. nobody_from w (omega (arith, many, count)) no_flusher no_administrator run played are;
-        handed_out = tables-history_at settings i played;
+        handed_out = tables-history_at bounds i played;
       }

@@ -4,7 +4,7 @@ use Rattle.std.specs.List.{AllByRecursion}
 use Rattle.sd_model_settings.specs.Earlier.{earlier_settings, earlier_rules}
 use Rattle.sd_model_settings.proofs.EarlierLemmas.{earlier_rules_in_force}
 use Rattle.sd_model_serve.specs.Rounds.{Round, Form, round_record}
-use Rattle.sd_model_replay.specs.Settings.{policy_of}
+use Rattle.sd_model_replay.specs.Settings.{bounds_of, policy_of}
 use Rattle.sd_model_replay.specs.Replay.{Played, form_of, records, rounds}
 
 weaker : {A E : Type 0} (P Q : A → Type 0) (r : Result A E) → ((x : A) → P x → Q x) → IfOk r P → IfOk r Q
@@ -22,4 +22,4 @@ first_swap bytes =
 pub all_lines : (bytes : List ℕ) → IfOk (earlier_settings bytes) (λ v. (played : List Played) → AllByRecursion (λ r. r.calculated ≡ []) (records v played))
 all_lines bytes =
     weaker (λ v. v.rules ≡ earlier_rules) (λ v. (played : List Played) → AllByRecursion (λ r. r.calculated ≡ []) (records v played)) (earlier_settings bytes)
-    (λ v is played. none_chosen (form_of v) (ap (λ r. r.calculated_timer_metrics) is) (rounds v played)) (earlier_rules_in_force bytes)
+    (λ v is played. none_chosen (form_of v) (ap (λ r. r.calculated_timer_metrics) is) (rounds (bounds_of v) played)) (earlier_rules_in_force bytes)

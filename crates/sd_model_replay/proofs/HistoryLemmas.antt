@@ -12,27 +12,26 @@ use Rattle.sd_model_text.specs.Names.{Kind}
 use Rattle.sd_model_record.specs.Admin as admin
 use Rattle.sd_model_record.specs.Admin.{AdminFault}
 use Rattle.sd_model_serve.specs.Rounds.{Round}
-use Rattle.sd_model_replay.specs.Settings.{limits_of, policy_of}
+use Rattle.sd_model_replay.specs.Settings.{Bounds}
 use Rattle.sd_model_replay.specs.Script.{Command, Packet, Flush, Admin}
 use Rattle.sd_model_record.specs.Callers.{administrator}
 use Rattle.sd_model_record.specs.Replying.{admin_events}
 use Rattle.sd_model_replay.specs.Replay.{Outcome, Played, home_of, events_in, events_at, history_at, samples_in, samples_at, Run, first_run, acts_in, play, run_of, Moment, moments, round_by, rounds_from, rounds}
-use Rattle.sd_model_settings.specs.Settings.{Settings}
 
 abbrev arrivals_asked : List Asked → List Arrival
 arrivals_asked asked = filter_map (λ q. arrival_in q.who q.event) asked
 
-abbrev at_shard : Settings → Arrival → ℕ
-at_shard settings a = home_of settings a.sample
+abbrev at_shard : ℕ → Arrival → ℕ
+at_shard shards a = home_of shards a.sample
 
-packet_part : (settings : Settings) (i who : ℕ) (samples : List Sample)
-    → arrivals_asked (map (λ s. record { who = who; event = Submit s }) (part_of (home_of settings) i samples)) ≡ part_of (at_shard settings) i (map (λ s. record { who = who; sample = s }) samples)
-packet_part settings i who [] = refl
-packet_part settings i who (s ∷ samples) = by_test (eqb i (home_of settings s)) (packet_part settings i who samples) where
+packet_part : (bounds : Bounds) (i who : ℕ) (samples : List Sample)
+    → arrivals_asked (map (λ s. record { who = who; event = Submit s }) (part_of (home_of bounds.shards) i samples)) ≡ part_of (at_shard bounds.shards) i (map (λ s. record { who = who; sample = s }) samples)
+packet_part bounds i who [] = refl
+packet_part bounds i who (s ∷ samples) = by_test (eqb i (home_of bounds.shards s)) (packet_part bounds i who samples) where
   by_test : (b : Bool)
-      → arrivals_asked (map (λ s. record { who = who; event = Submit s }) (part_of (home_of settings) i samples)) ≡ part_of (at_shard settings) i (map (λ s. record { who = who; sample = s }) samples)
-      → arrivals_asked (map (λ s. record { who = who; event = Submit s }) (cond b (s ∷ part_of (home_of settings) i samples) (part_of (home_of settings) i samples)))
-      ≡ cond b (record { who = who; sample = s } ∷ part_of (at_shard settings) i (map (λ s. record { who = who; sample = s }) samples)) (part_of (at_shard settings) i (map (λ s. record { who = who; sample = s }) samples))
+      → arrivals_asked (map (λ s. record { who = who; event = Submit s }) (part_of (home_of bounds.shards) i samples)) ≡ part_of (at_shard bounds.shards) i (map (λ s. record { who = who; sample = s }) samples)
+      → arrivals_asked (map (λ s. record { who = who; event = Submit s }) (cond b (s ∷ part_of (home_of bounds.shards) i samples) (part_of (home_of bounds.shards) i samples)))
+      ≡ cond b (record { who = who; sample = s } ∷ part_of (at_shard bounds.shards) i (map (λ s. record { who = who; sample = s }) samples)) (part_of (at_shard bounds.shards) i (map (λ s. record { who = who; sample = s }) samples))
   by_test true h = ap (λ (rest : List Arrival). record { who = who; sample = s } ∷ rest) h
   by_test false h = h
 
@@ -53,23 +52,23 @@ line_part (Ok (admin.Delete kind names)) = no_arrivals kind names
 line_part (Ok (admin.Health word)) = refl
 line_part (Err fault) = refl
 
-command_part : (settings : Settings) (i : ℕ) (c : Command) → arrivals_asked (events_in settings i c) ≡ part_of (at_shard settings) i (samples_in c)
-command_part settings i (Packet who moment datagram) = packet_part settings i who (samples_of datagram)
-command_part settings i (Flush ts) = refl
-command_part settings i (Admin moment line) = line_part (admin.command line)
+command_part : (bounds : Bounds) (i : ℕ) (c : Command) → arrivals_asked (events_in bounds.shards i c) ≡ part_of (at_shard bounds.shards) i (samples_in c)
+command_part bounds i (Packet who moment datagram) = packet_part bounds i who (samples_of datagram)
+command_part bounds i (Flush ts) = refl
+command_part bounds i (Admin moment line) = line_part (admin.command line)
 
-records_part : (settings : Settings) (i : ℕ) (played : List Played) → arrivals_asked (events_at settings i played) ≡ part_of (at_shard settings) i (samples_at played)
-records_part settings i [] = refl
-records_part settings i (p ∷ played) =
-    let here = arrivals_asked (events_in settings i p.command) in
-    filter_map-append (λ (q : Asked). arrival_in q.who q.event) (events_in settings i p.command) (events_at settings i played)
-    ∙ ap (λ (rest : List Arrival). here ++ rest) (records_part settings i played)
-    ∙ ap (λ (front : List Arrival). front ++ part_of (at_shard settings) i (samples_at played)) (command_part settings i p.command)
-    ∙ sym (filter-append (λ (a : Arrival). eqb i (at_shard settings a)) (samples_in p.command) (samples_at played))
+records_part : (bounds : Bounds) (i : ℕ) (played : List Played) → arrivals_asked (events_at bounds.shards i played) ≡ part_of (at_shard bounds.shards) i (samples_at played)
+records_part bounds i [] = refl
+records_part bounds i (p ∷ played) =
+    let here = arrivals_asked (events_in bounds.shards i p.command) in
+    filter_map-append (λ (q : Asked). arrival_in q.who q.event) (events_in bounds.shards i p.command) (events_at bounds.shards i played)
+    ∙ ap (λ (rest : List Arrival). here ++ rest) (records_part bounds i played)
+    ∙ ap (λ (front : List Arrival). front ++ part_of (at_shard bounds.shards) i (samples_at played)) (command_part bounds i p.command)
+    ∙ sym (filter-append (λ (a : Arrival). eqb i (at_shard bounds.shards a)) (samples_in p.command) (samples_at played))
 
 -- the samples submitted to a shard are those of the records that belong there
-pub arrivals-history_at : (settings : Settings) (i : ℕ) (played : List Played) → arrivals (history_at settings i played) ≡ part_of (at_shard settings) i (samples_at played)
-arrivals-history_at settings i played = arrivals-answered (limits_of settings) (policy_of settings) empty_state (events_at settings i played) ∙ records_part settings i played
+pub arrivals-history_at : (bounds : Bounds) (i : ℕ) (played : List Played) → arrivals (history_at bounds i played) ≡ part_of (at_shard bounds.shards) i (samples_at played)
+arrivals-history_at bounds i played = arrivals-answered bounds.limits bounds.policy empty_state (events_at bounds.shards i played) ∙ records_part bounds i played
 
 -- samples are answered with no table
 no_table : (state : State) (who : ℕ) (s : Sample) (answer : Option Cause) (acts : History) → tables (record { who = who; event = Submit s; reply = (admitted state who s answer).reply } ∷ acts) ≡ tables acts
@@ -103,44 +102,44 @@ tables_at i rs = map (λ r. r.tables i) rs
 rounds_of : Run → Command → Outcome → List Moment → List Round
 rounds_of run c outcome ms = filter_map (λ (m : Moment). round_by m.before m.played.command m.played.outcome) (record { before = run; played = record { command = c; outcome = outcome } } ∷ ms)
 
-one_table : (settings : Settings) (i : ℕ) (run : Run) (c : Command) (outcome : Outcome) (ms : List Moment)
-    → tables (acts_in settings run i c) ++ tables_at i (filter_map (λ (m : Moment). round_by m.before m.played.command m.played.outcome) ms) ≡ tables_at i (rounds_of run c outcome ms)
+one_table : (bounds : Bounds) (i : ℕ) (run : Run) (c : Command) (outcome : Outcome) (ms : List Moment)
+    → tables (acts_in bounds run.shards i c) ++ tables_at i (filter_map (λ (m : Moment). round_by m.before m.played.command m.played.outcome) ms) ≡ tables_at i (rounds_of run c outcome ms)
 unfolding rounds_of
-one_table settings i run (Packet who moment datagram) outcome ms =
+one_table bounds i run (Packet who moment datagram) outcome ms =
     ap (λ (ts : List Table). ts ++ tables_at i (filter_map (λ (m : Moment). round_by m.before m.played.command m.played.outcome) ms))
-    (no_tables (limits_of settings) (policy_of settings) (run.shards i) who (part_of (home_of settings) i (samples_of datagram)))
-one_table settings i run (Flush ts) outcome ms = refl
-one_table settings i run (Admin moment line) outcome ms =
+    (no_tables bounds.limits bounds.policy (run.shards i) who (part_of (home_of bounds.shards) i (samples_of datagram)))
+one_table bounds i run (Flush ts) outcome ms = refl
+one_table bounds i run (Admin moment line) outcome ms =
     ap (λ (ts : List Table). ts ++ tables_at i (filter_map (λ (m : Moment). round_by m.before m.played.command m.played.outcome) ms))
-    (no_line_tables (limits_of settings) (policy_of settings) (run.shards i) (admin.command line))
+    (no_line_tables bounds.limits bounds.policy (run.shards i) (admin.command line))
 
-tables_from : (settings : Settings) (i : ℕ) (run : Run) (played : List Played) → tables (answered (limits_of settings) (policy_of settings) (run.shards i) (events_at settings i played)) ≡ tables_at i (rounds_from settings run played)
+tables_from : (bounds : Bounds) (i : ℕ) (run : Run) (played : List Played) → tables (answered bounds.limits bounds.policy (run.shards i) (events_at bounds.shards i played)) ≡ tables_at i (rounds_from bounds run played)
 unfolding rounds_of
-tables_from settings i run [] = refl
-tables_from settings i run (p ∷ played) =
-    let acts = acts_in settings run i p.command in
-    let next = play settings run p in
-    let rest = answered (limits_of settings) (policy_of settings) (next.shards i) (events_at settings i played) in
-    ap tables (answered-append (limits_of settings) (policy_of settings) (run.shards i) (events_in settings i p.command) (events_at settings i played))
+tables_from bounds i run [] = refl
+tables_from bounds i run (p ∷ played) =
+    let acts = acts_in bounds run.shards i p.command in
+    let next = play bounds run p in
+    let rest = answered bounds.limits bounds.policy (next.shards i) (events_at bounds.shards i played) in
+    ap tables (answered-append bounds.limits bounds.policy (run.shards i) (events_in bounds.shards i p.command) (events_at bounds.shards i played))
     ∙ filter_map-append (λ (a : Act). table_in a.reply) acts rest
-    ∙ ap (λ (ts : List Table). tables acts ++ ts) (tables_from settings i next played)
-    ∙ one_table settings i run p.command p.outcome (moments settings next played)
+    ∙ ap (λ (ts : List Table). tables acts ++ ts) (tables_from bounds i next played)
+    ∙ one_table bounds i run p.command p.outcome (moments bounds next played)
 
 -- a shard hands out its table in each round
-pub tables-history_at : (settings : Settings) (i : ℕ) (played : List Played) → tables (history_at settings i played) ≡ tables_at i (rounds settings played)
-tables-history_at settings i played = tables_from settings i (first_run played) played
+pub tables-history_at : (bounds : Bounds) (i : ℕ) (played : List Played) → tables (history_at bounds i played) ≡ tables_at i (rounds bounds played)
+tables-history_at bounds i played = tables_from bounds i (first_run played) played
 
 -- the state of a shard after records, from a state on, is the one after the acts that they ask
-state_from : (settings : Settings) (i : ℕ) (run : Run) (played : List Played)
-    → (run_of settings run played).shards i ≡ after_all (limits_of settings) (policy_of settings) (run.shards i) (answered (limits_of settings) (policy_of settings) (run.shards i) (events_at settings i played))
-state_from settings i run [] = refl
-state_from settings i run (p ∷ played) =
-    let acts = acts_in settings run i p.command in
-    let next = play settings run p in
-    let rest = answered (limits_of settings) (policy_of settings) (next.shards i) (events_at settings i played) in
-    state_from settings i next played
-    ∙ sym (fold-append (after (limits_of settings) (policy_of settings)) (run.shards i) acts rest)
-    ∙ ap (after_all (limits_of settings) (policy_of settings) (run.shards i)) (sym (answered-append (limits_of settings) (policy_of settings) (run.shards i) (events_in settings i p.command) (events_at settings i played)))
+state_from : (bounds : Bounds) (i : ℕ) (run : Run) (played : List Played)
+    → (run_of bounds run played).shards i ≡ after_all bounds.limits bounds.policy (run.shards i) (answered bounds.limits bounds.policy (run.shards i) (events_at bounds.shards i played))
+state_from bounds i run [] = refl
+state_from bounds i run (p ∷ played) =
+    let acts = acts_in bounds run.shards i p.command in
+    let next = play bounds run p in
+    let rest = answered bounds.limits bounds.policy (next.shards i) (events_at bounds.shards i played) in
+    state_from bounds i next played
+    ∙ sym (fold-append (after bounds.limits bounds.policy) (run.shards i) acts rest)
+    ∙ ap (after_all bounds.limits bounds.policy (run.shards i)) (sym (answered-append bounds.limits bounds.policy (run.shards i) (events_in bounds.shards i p.command) (events_at bounds.shards i played)))
 
-pub state-history_at : (settings : Settings) (i : ℕ) (played : List Played) → (run_of settings (first_run played) played).shards i ≡ state_after (limits_of settings) (policy_of settings) (history_at settings i played)
-state-history_at settings i played = state_from settings i (first_run played) played
+pub state-history_at : (bounds : Bounds) (i : ℕ) (played : List Played) → (run_of bounds (first_run played) played).shards i ≡ state_after bounds.limits bounds.policy (history_at bounds i played)
+state-history_at bounds i played = state_from bounds i (first_run played) played

@@ -6,7 +6,7 @@ use Rattle.sd_model_outside.specs.Deliveries.{AfterDeliveries}
 use Rattle.sd_model_shard.specs.History.{part_of, state_after}
 use Rattle.sd_model_shard.specs.Whereabouts.{arrivals}
 use Rattle.sd_model_serve.specs.Accounting.{AreAccounted}
-use Rattle.sd_model_replay.specs.Settings.{limits_of, policy_of}
+use Rattle.sd_model_replay.specs.Settings.{bounds_of, limits_of, policy_of}
 use Rattle.sd_model_record.specs.Backends.{Backend, Graphite, Console}
 use Rattle.sd_model_record.specs.Repeater.{AreRepeated}
 use Rattle.sd_model_replay.specs.Script.{script_text, IsLegal}
@@ -42,11 +42,11 @@ pub record AccountingTheorem (settings : Settings) (course : Course) (old new : 
   pub legal : AllByRecursion (λ p. IsLegal settings.sizes.receivers p.command) course.played
   -- each good sample of their datagrams is in exactly one place, and each flush's record has the documented statistics of its own
   -- journals over the rows carried in
-  pub accounted : AreAccounted (limits_of settings) (policy_of settings) (form_of settings) (λ i. history_at settings i course.played) (rounds settings course.played)
+  pub accounted : AreAccounted (limits_of settings) (policy_of settings) (form_of settings) (λ i. history_at (bounds_of settings) i course.played) (rounds (bounds_of settings) course.played)
   -- the good samples whose keys belong to a shard were submitted there, in order
-  pub submitted : (i : ℕ) → i < settings.sizes.shards → arrivals (history_at settings i course.played) ≡ part_of (λ a. home_of settings a.sample) i (samples_at course.played)
+  pub submitted : (i : ℕ) → i < settings.sizes.shards → arrivals (history_at (bounds_of settings) i course.played) ≡ part_of (λ a. home_of settings.sizes.shards a.sample) i (samples_at course.played)
   -- the state that the totals count is the one after these histories
-  pub state : (i : ℕ) → i < settings.sizes.shards → (run_of settings (first_run course.played) course.played).shards i ≡ state_after (limits_of settings) (policy_of settings) (history_at settings i course.played)
+  pub state : (i : ℕ) → i < settings.sizes.shards → (run_of (bounds_of settings) (first_run course.played) course.played).shards i ≡ state_after (limits_of settings) (policy_of settings) (history_at (bounds_of settings) i course.played)
   -- each flush used just the backends that the settings name, and each packet had a send to each target of the repeater
   pub used : AllByRecursion (λ p. IsOutcome settings p.command p.outcome) course.played
   -- a backend was given just the text of each flush's record, in order, begun and ended, where the flush is marked as written

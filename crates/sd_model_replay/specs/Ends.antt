@@ -1,6 +1,7 @@
 -- How a replay ends, and what was done by then.
 use Rattle.std.specs.Prelude.{◌≡◌, ◌⊎◌, ◌<◌, ◌^◌, ℕ, min, List, [], ◌∷◌, ◌++◌, length, map, ⊤}
 use Rattle.sd_model_outside.specs.Outside.{Told, Object, Used, HasFailedBehind, Rose, given, last_count, put_back}
+use Rattle.sd_model_replay.specs.Settings.{bounds_of}
 use Rattle.sd_model_replay.specs.Script.{script_text, BeginsEnd}
 use Rattle.sd_model_replay.specs.Next.{ScriptFlaw, Next, Faulty, Begins, IsUndecided}
 use Rattle.sd_model_replay.specs.Replay.{Played, first_run, run_of}
@@ -55,10 +56,7 @@ StandsBehind settings (WornOut turns) course new = (turns ≡ most_records) × (
 -- whether a read of the script failed
 abbrev pub ScriptFaults : End → ℕ → ℕ → Type 0
 ScriptFaults ReadFailed had has = Rose had has
-ScriptFaults (Complete totals) had has = has ≡ had
-ScriptFaults (Faulted at flaw) had has = has ≡ had
-ScriptFaults WriteFailed had has = has ≡ had
-ScriptFaults (WornOut turns) had has = has ≡ had
+ScriptFaults end had has = has ≡ had
 
 -- The totals were being written: the word that ends the script stands behind the records, all of which wrote what they
 -- had to.
@@ -71,7 +69,7 @@ pub record IsInTotals (settings : Settings) (course : Course) (before : List Pla
 pub record IsInReply (settings : Settings) (course : Course) (before : List Played) (text : List ℕ) : Type 0 where
   pub last : Played
   pub order : course.played ≡ before ++ last ∷ []
-  pub replies : text ≡ output_in settings (run_of settings (first_run course.played) before) last.command
+  pub replies : text ≡ output_in settings (run_of (bounds_of settings) (first_run course.played) before) last.command
 
 -- A write to the output failed: what the records before write had been written, and then a front of this text.
 pub record IsBrokenOff (settings : Settings) (course : Course) (old new : Object) : Type 0 where
@@ -86,9 +84,7 @@ pub record IsBrokenOff (settings : Settings) (course : Course) (old new : Object
 abbrev pub OutputAfter : Settings → End → Course → Object → Object → Type 0
 OutputAfter settings (Complete totals) course old new = new ≡ given (output_of settings course.played ++ totals_text totals) old
 OutputAfter settings WriteFailed course old new = IsBrokenOff settings course old new
-OutputAfter settings (Faulted at flaw) course old new = new ≡ given (output_of settings course.played) old
-OutputAfter settings ReadFailed course old new = new ≡ given (output_of settings course.played) old
-OutputAfter settings (WornOut turns) course old new = new ≡ given (output_of settings course.played) old
+OutputAfter settings end course old new = new ≡ given (output_of settings course.played) old
 
 -- What stands of a course where a replay ends so.
 pub record EndsAs (settings : Settings) (end : End) (course : Course) (old new : Seen) : Type 0 where

@@ -4,8 +4,8 @@ pub mod Script
 pub mod Next
 pub mod MadeScript
 pub mod Replay
+pub mod Asked
 pub mod Output
 pub mod Totals
 pub mod AccountingTheorem
 pub mod Ends
-pub mod Asked

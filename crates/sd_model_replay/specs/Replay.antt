@@ -16,7 +16,7 @@ use Rattle.sd_model_record.specs.Repeater.{Sending, failures}
 use Rattle.sd_model_record.specs.Callers.{flusher, administrator}
 use Rattle.sd_model_record.specs.Replying.{admin_events, health_after}
 use Rattle.sd_model_serve.specs.Rounds.{Form, Round, round_deliveries, round_record}
-use Rattle.sd_model_replay.specs.Settings.{is_used, limits_of, policy_of, targets_of}
+use Rattle.sd_model_replay.specs.Settings.{Bounds, bounds_of, is_used, targets_of}
 use Rattle.sd_model_replay.specs.Script.{Command, Packet, Flush, Admin}
 use Rattle.sd_model_settings.specs.Settings.{Settings}
 use Rattle.sd_model_settings.specs.Defaults.{plan_of, names_of}
@@ -43,31 +43,30 @@ pub record Played : Type 0 where
   pub command : Command
   pub outcome : Outcome
 
--- the shard of a sample
-abbrev pub home_of : Settings → Sample → ℕ
-home_of settings s = shard s.key settings.sizes.shards
+-- the shard of a sample, of so many
+abbrev pub home_of : ℕ → Sample → ℕ
+home_of shards s = shard s.key shards
 
--- what a record asks of shard i: it is given the samples whose keys belong there, is swapped, or takes the events of an
--- admin line
-abbrev pub events_in : Settings → ℕ → Command → List Asked
-events_in settings i (Packet who moment datagram) =
-    map (λ s. record { who = who; event = Submit s }) (part_of (home_of settings) i (samples_of datagram))
-events_in settings i (Flush ts) = record { who = flusher; event = Swap } ∷ []
-events_in settings i (Admin moment line) = map (λ event. record { who = administrator; event = event }) (admin_events (admin.command line))
+-- what a record asks of shard i of so many: it is given the samples whose keys belong there, is swapped, or takes the events
+-- of an admin line
+abbrev pub events_in : ℕ → ℕ → Command → List Asked
+events_in shards i (Packet who moment datagram) =
+    map (λ s. record { who = who; event = Submit s }) (part_of (home_of shards) i (samples_of datagram))
+events_in shards i (Flush ts) = record { who = flusher; event = Swap } ∷ []
+events_in shards i (Admin moment line) = map (λ event. record { who = administrator; event = event }) (admin_events (admin.command line))
 
--- what records ask of shard i
-abbrev pub events_at : Settings → ℕ → List Played → List Asked
-events_at settings i played = flat_map (λ p. events_in settings i p.command) played
+-- what records ask of shard i of so many
+abbrev pub events_at : ℕ → ℕ → List Played → List Asked
+events_at shards i played = flat_map (λ p. events_in shards i p.command) played
 
 -- the history of shard i: what the records ask of it, with the replies of the step
-abbrev pub history_at : Settings → ℕ → List Played → History
-history_at settings i played = answered (limits_of settings) (policy_of settings) empty_state (events_at settings i played)
+abbrev pub history_at : Bounds → ℕ → List Played → History
+history_at bounds i played = answered bounds.limits bounds.policy empty_state (events_at bounds.shards i played)
 
 -- the good samples of a record, and who brought each
 abbrev pub samples_in : Command → List Arrival
 samples_in (Packet who moment datagram) = map (λ s. record { who = who; sample = s }) (samples_of datagram)
-samples_in (Flush ts) = []
-samples_in (Admin moment line) = []
+samples_in c = []
 
 -- those of records
 abbrev pub samples_at : List Played → List Arrival
@@ -97,13 +96,17 @@ begun_at start = record { shards = λ i. empty_state; desk = new_desk start }
 abbrev pub first_run : List Played → Run
 first_run played = begun_at (start_of played)
 
--- what a record adds to the history of shard i
-abbrev pub acts_in : Settings → Run → ℕ → Command → History
-acts_in settings run i c = answered (limits_of settings) (policy_of settings) (run.shards i) (events_in settings i c)
+-- what a record adds to the history of shard i, where the shards have these states
+abbrev pub acts_in : Bounds → (ℕ → State) → ℕ → Command → History
+acts_in bounds states i c = answered bounds.limits bounds.policy (states i) (events_in bounds.shards i c)
+
+-- the states after a record
+abbrev pub states_after : Bounds → (ℕ → State) → Command → ℕ → State
+states_after bounds states c i = after_all bounds.limits bounds.policy (states i) (acts_in bounds states i c)
 
 -- what all shards answer to a record, shard by shard
-abbrev pub replies_to : Settings → Run → Command → List Reply
-replies_to settings run c = flat_map (λ i. map (λ a. a.reply) (acts_in settings run i c)) (range_with_len 0 settings.sizes.shards)
+abbrev pub replies_to : Bounds → (ℕ → State) → Command → List Reply
+replies_to bounds states c = flat_map (λ i. map (λ a. a.reply) (acts_in bounds states i c)) (range_with_len 0 bounds.shards)
 
 -- what a datagram adds to the tally
 abbrev pub packet_tally : List ℕ → ℕ → Tally
@@ -111,7 +114,7 @@ packet_tally datagram dropped = record { packets = 1; lines = length (pieces dat
 
 -- the desk after an admin line
 abbrev pub desk_after_line : Desk → Result admin.Command AdminFault → Desk
-desk_after_line desk (Ok (admin.Health word)) = with_health desk (health_after word desk.up)
+desk_after_line desk (Ok (admin.Health word)) = with_health desk (health_after word desk.facts.up)
 desk_after_line desk answer = desk
 
 -- the desk after a record, with what the shards answered and what the outside did
@@ -121,17 +124,17 @@ desk_after desk (Packet who moment datagram) replies outcome =
 desk_after desk (Flush ts) replies outcome = with_round desk outcome.marks
 desk_after desk (Admin moment line) replies outcome = desk_after_line desk (admin.command line)
 
--- the state after a record
-abbrev pub play : Settings → Run → Played → Run
-play settings run p =
+-- the state of a replay after a record
+abbrev pub play : Bounds → Run → Played → Run
+play bounds run p =
     record {
-      shards = λ i. after_all (limits_of settings) (policy_of settings) (run.shards i) (acts_in settings run i p.command);
-      desk = desk_after run.desk p.command (replies_to settings run p.command) p.outcome;
+      shards = states_after bounds run.shards p.command;
+      desk = desk_after run.desk p.command (replies_to bounds run.shards p.command) p.outcome;
     }
 
 -- the state after records
-abbrev pub run_of : Settings → Run → List Played → Run
-run_of settings run played = fold (play settings) run played
+abbrev pub run_of : Bounds → Run → List Played → Run
+run_of bounds run played = fold (play bounds) run played
 
 -- a record, and the state before it
 pub record Moment : Type 0 where
@@ -139,9 +142,9 @@ pub record Moment : Type 0 where
   pub played : Played
 
 -- the records, each with the state before it
-abbrev pub moments : Settings → Run → List Played → List Moment
-moments settings run [] = []
-moments settings run (p ∷ played) = record { before = run; played = p } ∷ moments settings (play settings run p) played
+abbrev pub moments : Bounds → Run → List Played → List Moment
+moments bounds run [] = []
+moments bounds run (p ∷ played) = record { before = run; played = p } ∷ moments bounds (play bounds run p) played
 
 -- how records are made and written by these settings
 abbrev pub form_of : Settings → Form
@@ -149,32 +152,30 @@ form_of settings = record { shards = settings.sizes.shards; plan = plan_of setti
 
 -- the round that a record is in this state, if it is a flush: it takes the tally, and each shard hands out its table
 abbrev pub round_by : Run → Command → Outcome → Option Round
-round_by before (Packet who moment datagram) outcome = None
 round_by before (Flush ts) outcome =
     Some (record { ts = ts; tally = before.desk.tally; tables = λ i. table_of (before.shards i); marks = outcome.marks })
-round_by before (Admin moment line) outcome = None
+round_by before c outcome = None
 
 -- the rounds among records, from a state on
-abbrev pub rounds_from : Settings → Run → List Played → List Round
-rounds_from settings run played = filter_map (λ m. round_by m.before m.played.command m.played.outcome) (moments settings run played)
+abbrev pub rounds_from : Bounds → Run → List Played → List Round
+rounds_from bounds run played = filter_map (λ m. round_by m.before m.played.command m.played.outcome) (moments bounds run played)
 
 -- the rounds of a replay
-abbrev pub rounds : Settings → List Played → List Round
-rounds settings played = rounds_from settings (first_run played) played
+abbrev pub rounds : Bounds → List Played → List Round
+rounds bounds played = rounds_from bounds (first_run played) played
 
 -- their records
 abbrev pub records : Settings → List Played → List Record
-records settings played = map (round_record (form_of settings)) (rounds settings played)
+records settings played = map (round_record (form_of settings)) (rounds (bounds_of settings) played)
 
 -- what they have for a backend: the text of each record, with its mark
 abbrev pub deliveries : Settings → Backend → List Played → List Delivery
-deliveries settings back played = round_deliveries (form_of settings) back (rounds settings played)
+deliveries settings back played = round_deliveries (form_of settings) back (rounds (bounds_of settings) played)
 
 -- the packet that a record repeats, if it is one
 abbrev pub sending_by : Command → Outcome → Option Sending
 sending_by (Packet who moment datagram) outcome = Some (record { packet = datagram; failed = outcome.failed })
-sending_by (Flush ts) outcome = None
-sending_by (Admin moment line) outcome = None
+sending_by c outcome = None
 
 -- the packets that records repeat
 abbrev pub sendings : List Played → List Sending

@@ -22,6 +22,16 @@ policy_of s =
       max_ttl = s.rules.gauges_max_ttl;
     }
 
+-- How many shards there are, how much each holds, and which idle rows go.
+pub record Bounds : Type 0 where
+  pub shards : ℕ
+  pub limits : Limits
+  pub policy : Policy
+
+-- the bounds that settings set
+abbrev pub bounds_of : Settings → Bounds
+bounds_of s = record { shards = s.sizes.shards; limits = limits_of s; policy = policy_of s }
+
 -- whether a backend is named
 abbrev pub names_backend : List ℕ → Settings → Bool
 names_backend name s = list_any (bytes_eq name) s.addresses.backends

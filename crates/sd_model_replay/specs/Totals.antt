@@ -3,7 +3,8 @@ use Rattle.std.specs.Prelude.{ℕ, if◌then◌else◌, List, [], ◌∷◌, ◌
 use Rattle.std.specs.List.{range_with_len}
 use Rattle.std.specs.Str.{bytes_eq}
 use Rattle.sd_model_shard.specs.Shard.{State}
-use Rattle.sd_model_record.specs.Desk.{Desk}
+use Rattle.sd_model_record.specs.Desk.{Facts}
+use Rattle.sd_model_replay.specs.Settings.{bounds_of}
 use Rattle.sd_model_replay.specs.Replay.{Played, first_run, run_of}
 use Rattle.sd_model_settings.specs.Settings.{Settings}
 
@@ -28,24 +29,24 @@ number_in (t ∷ totals) name = if bytes_eq t.0 name then t.1 else number_in tot
 abbrev pub summed : ℕ → (ℕ → State) → (State → ℕ) → ℕ
 summed shards states number = sum_by (λ i. number (states i)) (range_with_len 0 shards)
 
--- the totals of shards whose numbers are added up so, and of a desk
-abbrev pub totals_of : ((State → ℕ) → ℕ) → Desk → List Total
-totals_of all desk =
-    (codes "packets", desk.totals.packets)
-    ∷ (codes "lines", desk.totals.lines)
-    ∷ (codes "bad", desk.totals.bad)
+-- the totals of shards whose numbers are added up so, and of a desk with these facts
+abbrev pub totals_of : ((State → ℕ) → ℕ) → Facts → List Total
+totals_of all facts =
+    (codes "packets", facts.totals.packets)
+    ∷ (codes "lines", facts.totals.lines)
+    ∷ (codes "bad", facts.totals.bad)
     ∷ (codes "taken", all (λ state. state.taken))
     ∷ (codes "dropped", all (λ state. state.dropped))
     ∷ (codes "flushed", all (λ state. state.flushed))
     ∷ (codes "held", all (λ state. length state.held))
     ∷ (codes "deleted", all (λ state. state.deleted))
-    ∷ (codes "rounds", desk.rounds)
-    ∷ (codes "graphite_faults", desk.graphite_faults)
-    ∷ (codes "console_faults", desk.console_faults)
-    ∷ (codes "repeater_faults", desk.repeater_faults)
-    ∷ (codes "admin_faults", desk.admin_faults)
+    ∷ (codes "rounds", facts.rounds)
+    ∷ (codes "graphite_faults", facts.graphite_faults)
+    ∷ (codes "console_faults", facts.console_faults)
+    ∷ (codes "repeater_faults", facts.repeater_faults)
+    ∷ (codes "admin_faults", facts.admin_faults)
     ∷ []
 
 -- the totals after these records
 abbrev pub totals_after : Settings → List Played → List Total
-totals_after settings played = let run = run_of settings (first_run played) played in totals_of (summed settings.sizes.shards run.shards) run.desk
+totals_after settings played = let run = run_of (bounds_of settings) (first_run played) played in totals_of (summed settings.sizes.shards run.shards) run.desk.facts

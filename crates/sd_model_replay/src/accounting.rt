@@ -6,7 +6,7 @@ ghost use Rattle.sd_model_record.specs.Record.{record_rows};
 ghost use Rattle.sd_model_record.specs.Callers.{flusher};
 ghost use Rattle.sd_model_serve.specs.Accounting.{AreAccounted};
 ghost use Rattle.sd_model_serve.specs.Served.{Ran};
-ghost use Rattle.sd_model_replay.specs.Settings.{limits_of, policy_of};
+ghost use Rattle.sd_model_replay.specs.Settings.{Bounds, bounds_of, limits_of, policy_of};
 ghost use Rattle.sd_model_replay.specs.Script.{IsLegal};
 ghost use Rattle.sd_model_replay.specs.Asked.{asked_in, brought_in};
 ghost use Rattle.sd_model_replay.specs.Replay.{Played, first_run, form_of, history_at, home_of, records, rounds, run_of, samples_at};
@@ -18,27 +18,26 @@ ghost use Rattle.sd_model_settings.specs.Defaults.{plan_of};
 /// shard is the one after its history.
 pub fn samples_are_accounted()
     ensures accounted { (settings : Settings) (played : List Played)
-        → AreAccounted (limits_of settings) (policy_of settings) (form_of settings) (λ i. history_at settings i played) (rounds settings played) }
-    ensures submitted { (settings : Settings) (played : List Played) (i : ℕ)
-        → arrivals (history_at settings i played) ≡ part_of (λ a. home_of settings a.sample) i (samples_at played) }
-    ensures homes { (settings : Settings) (played : List Played)
-        → 0 < settings.sizes.shards → AllByRecursion (λ a. home_of settings a.sample < settings.sizes.shards) (samples_at played) }
-    ensures state { (settings : Settings) (played : List Played) (i : ℕ)
-        → (run_of settings (first_run played) played).shards i ≡ state_after (limits_of settings) (policy_of settings) (history_at settings i played) }
+        → AreAccounted (limits_of settings) (policy_of settings) (form_of settings) (λ i. history_at (bounds_of settings) i played) (rounds (bounds_of settings) played) }
+    ensures submitted { (bounds : Bounds) (played : List Played) (i : ℕ)
+        → arrivals (history_at bounds i played) ≡ part_of (λ a. home_of bounds.shards a.sample) i (samples_at played) }
+    ensures homes { (shards : ℕ) (played : List Played) → 0 < shards → AllByRecursion (λ a. home_of shards a.sample < shards) (samples_at played) }
+    ensures state { (bounds : Bounds) (played : List Played) (i : ℕ)
+        → (run_of bounds (first_run played) played).shards i ≡ state_after bounds.limits bounds.policy (history_at bounds i played) }
 {}
 
 /// The history of a shard is one that the callers of a run leave: each receiver submitted the samples that it brought, those with
 /// keys of that shard, the flusher swapped once for each round, the administrator asked for what the admin lines ask, each in
 /// its order, and nobody else asked for anything.
 pub fn replays_are_runs()
-    ensures { (settings : Settings) (played : List Played) (i : ℕ)
-        → settings.sizes.receivers ≤ flusher → AllByRecursion (λ p. IsLegal settings.sizes.receivers p.command) played
-        → Ran (limits_of settings) (policy_of settings) settings.sizes.shards (brought_in settings.sizes.receivers played) (rounds settings played) (asked_in settings played) i (history_at settings i played) }
+    ensures { (bounds : Bounds) (receivers : ℕ) (played : List Played) (i : ℕ)
+        → receivers ≤ flusher → AllByRecursion (λ p. IsLegal receivers p.command) played
+        → Ran bounds.limits bounds.policy bounds.shards (brought_in receivers played) (rounds bounds played) (asked_in bounds played) i (history_at bounds i played) }
 {}
 
 /// Each flush's record has the rows of its own tables, and is at the flush's second.
 pub fn records_are_documented()
     ensures statistics { (settings : Settings) (played : List Played)
-        → map (λ r. r.rows) (records settings played) ≡ map (λ r. record_rows (plan_of settings) (map r.tables (range_with_len 0 settings.sizes.shards))) (rounds settings played) }
-    ensures times { (settings : Settings) (played : List Played) → map (λ r. r.ts) (records settings played) ≡ map (λ r. r.ts) (rounds settings played) }
+        → map (λ r. r.rows) (records settings played) ≡ map (λ r. record_rows (plan_of settings) (map r.tables (range_with_len 0 settings.sizes.shards))) (rounds (bounds_of settings) played) }
+    ensures times { (settings : Settings) (played : List Played) → map (λ r. r.ts) (records settings played) ≡ map (λ r. r.ts) (rounds (bounds_of settings) played) }
 {}

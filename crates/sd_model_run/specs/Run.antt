@@ -1,5 +1,5 @@
 -- A run of the server between two times, over the objects that its workers use.
-use Rattle.std.specs.Prelude.{◌≡◌, ℕ, ◌+◌, ◌<◌, ◌≤◌, min, Bool, true, false, List, [], ◌∷◌, length, map, take, drop}
+use Rattle.std.specs.Prelude.{◌≡◌, ℕ, ◌+◌, ◌<◌, ◌≤◌, min, Bool, true, false, List, [], ◌∷◌, length, map}
 use Rattle.std.specs.List.{AllByRecursion}
 use Rattle.sd_model_outside.specs.Outside.{Object, last_count}
 use Rattle.sd_model_outside.specs.Deliveries.{AfterDeliveries}
@@ -10,7 +10,7 @@ use Rattle.sd_model_record.specs.Desk.{IsBalanced, last_counted}
 use Rattle.sd_model_serve.specs.Accounting.{AreAccounted}
 use Rattle.sd_model_serve.specs.Doors.{ServesDoor}
 use Rattle.sd_model_serve.specs.Ends.{LoopEnd, WornOut, EndsReceiver, EndsFlusher, EndsKeeper, most_turns}
-use Rattle.sd_model_serve.specs.Receiving.{PassesOn}
+use Rattle.sd_model_serve.specs.Receiving.{HaveRun, PassesOn}
 use Rattle.sd_model_serve.specs.Rounds.{MarksFit, Round, round_text}
 use Rattle.sd_model_serve.specs.Served.{Ran}
 use Rattle.sd_model_serve.specs.Visits.{AreVisitsOf, asked_by}
@@ -39,15 +39,9 @@ pub record IsReception (asked made : ℕ) (r : Reception) (source source_now : O
   pub known : seen ≤ made
   pub ends : EndsReceiver asked r.ended source source_now seen turned
 
--- The first receiver has the first source and the first so many wires, the next one the next, and so on; the sources and the
--- wires behind theirs are as they were.
+-- each receiver did so with a source and a run of so many wires of its own
 abbrev pub AreReceptions : (asked made run : ℕ) → List Reception → (sources sources_now wires wires_now : List Object) → Type 0
-AreReceptions asked made run [] sources sources_now wires wires_now = (sources_now ≡ sources) × (wires_now ≡ wires)
-AreReceptions asked made run (r ∷ receptions) [] sources_now wires wires_now = ⊥
-AreReceptions asked made run (r ∷ receptions) (s ∷ sources) [] wires wires_now = ⊥
-AreReceptions asked made run (r ∷ receptions) (s ∷ sources) (n ∷ sources_now) wires wires_now =
-    IsReception asked made r s n (take run wires) (take run wires_now)
-    × AreReceptions asked made run receptions sources sources_now (drop run wires) (drop run wires_now)
+AreReceptions asked made run = HaveRun (IsReception asked made) run
 
 -- The flusher made these rounds at the ticks that the beat gave, which is otherwise as it was, and ended so.
 pub record IsFlushed (asked : ℕ) (ended : LoopEnd) (ticked : List Round) (beat beat_now : Object) : Type 0 where
@@ -93,7 +87,7 @@ pub record IsRun (terms : Terms) (says : ℕ → Type 0) (c : Course) (old new :
       → Ran terms.limits terms.policy terms.form.shards (brought_in c) (rounds_in c) (asked_by c.dialogues) i (c.histories i)
   -- each receiver sent on just the datagrams that it read, in order
   pub count : length c.receptions ≡ terms.receivers
-  pub received : AreReceptions terms.run_flushes c.desk.rounds terms.wires c.receptions old.sources new.sources old.wires new.wires
+  pub received : AreReceptions terms.run_flushes c.desk.facts.rounds terms.wires c.receptions old.sources new.sources old.wires new.wires
   -- there was a round at each tick, and a last one at a moment of the clock
   pub flushed : IsFlushed terms.run_flushes c.flusher_ended c.ticked old.beat new.beat
   pub last : says c.last.ts
@@ -107,12 +101,12 @@ pub record IsRun (terms : Terms) (says : ℕ → Type 0) (c : Course) (old new :
   -- the sessions of the door were visited one after another, and each went as its lines ask
   pub visited : ServesDoor c.visits c.failures old.door new.door
   pub went : AreVisitsOf terms.form.shards terms.settings says c.visits c.dialogues
-  pub kept : IsKept terms.run_flushes c.desk.rounds c.keeper_ended old.door new.door
+  pub kept : IsKept terms.run_flushes c.desk.facts.rounds c.keeper_ended old.door new.door
   -- the streams of the other door were read one after another, where they are
-  pub lined : AreLined terms.run_flushes c.desk.rounds terms.streams c.linings old.streams new.streams
+  pub lined : AreLined terms.run_flushes c.desk.facts.rounds terms.streams c.linings old.streams new.streams
   -- the desk began at a moment of the clock; a number of it that hasn't reached the last count is what the run counts; and what
   -- was counted of datagrams is what rounds took of it and what the desk still has
-  pub started : says c.desk.start
+  pub started : says c.desk.facts.start
   pub counted : (count : Count) → number_of c.desk count < last_counted → number_of c.desk count ≡ counts_of terms.form.shards c count
   pub balanced : IsBalanced c.desk
 

@@ -1,5 +1,5 @@
 -- What callers file at shards, and what a receiver does with the datagrams that it reads.
-use Rattle.std.specs.Prelude.{◌≡◌, ℕ, ◌+◌, min, List, length, map, flat_map, sum_by, All}
+use Rattle.std.specs.Prelude.{◌≡◌, ℕ, ◌+◌, min, List, [], ◌∷◌, length, map, take, drop, flat_map, sum_by, All}
 use Rattle.sd_model_text.specs.Lines.{Sample, samples_of, pieces, bad_of}
 use Rattle.sd_model_outside.specs.Outside.{Object}
 use Rattle.sd_model_outside.specs.Turns.{with_datagrams}
@@ -56,3 +56,12 @@ pub record HasReceived (shards : ℕ) (source source_now : Object) (wires wires_
   pub passed : PassesOn read sendings source source_now wires wires_now
   pub filed : FilesDatagrams shards read own own_now tally taken
   pub counted : HasCounted (plus (of_tally tally) (of_sends (failed_sends sendings))) part part_now
+
+-- The first of receivers did what is told of it with the first source and the first so many wires, the next one with the next, and so
+-- on; the sources and the wires behind theirs are as they were.
+abbrev pub HaveRun : {R : Type 0} → (R → (source source_now : Object) → (wires wires_now : List Object) → Type 0) → (run : ℕ) → List R → (sources sources_now wires wires_now : List Object) → Type 0
+HaveRun Did run [] sources sources_now wires wires_now = (sources_now ≡ sources) × (wires_now ≡ wires)
+HaveRun Did run (r ∷ rs) [] sources_now wires wires_now = ⊥
+HaveRun Did run (r ∷ rs) (s ∷ sources) [] wires wires_now = ⊥
+HaveRun Did run (r ∷ rs) (s ∷ sources) (n ∷ sources_now) wires wires_now =
+    Did r s n (take run wires) (take run wires_now) × HaveRun Did run rs sources sources_now (drop run wires) (drop run wires_now)

@@ -133,12 +133,7 @@ IsTooLong rest = HasNoNewline rest × (length rest ≡ too_many)
 -- whether a line's command asks for the end
 abbrev pub is_quit : Result admin.Command AdminFault → Bool
 is_quit (Ok admin.Quit) = true
-is_quit (Ok admin.Stats) = false
-is_quit (Ok admin.Config) = false
-is_quit (Ok (admin.Show kind)) = false
-is_quit (Ok (admin.Delete kind names)) = false
-is_quit (Ok (admin.Health word)) = false
-is_quit (Err fault) = false
+is_quit answer = false
 
 -- A line was carried out whole, at a moment that the clock may say, and doesn't ask for the end.
 pub record GoesOn (says : ℕ → Type 0) (e : Exchange) : Type 0 where

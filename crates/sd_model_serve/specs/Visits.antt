@@ -5,16 +5,14 @@ use Rattle.sd_model_settings.specs.Settings as file
 use Rattle.sd_model_shard.specs.History.{History}
 use Rattle.sd_model_record.specs.Counts.{Part}
 use Rattle.sd_model_serve.specs.Doors.{Visit, KeepsDoor}
-use Rattle.sd_model_serve.specs.Sessions.{Broadcast, Broadcasts, Dialogue, HasTalked, SessionEnd, Quit, AtEnd, ReadFault, WriteFault, LineTooLong, asked_in, events_in, lines_in}
+use Rattle.sd_model_serve.specs.Sessions.{Broadcast, Broadcasts, Dialogue, HasTalked, SessionEnd, ReadFault, WriteFault, asked_in, events_in, lines_in}
 use Rattle.sd_model_serve.specs.Served.{AreCommands}
 
 -- whether a session ended since one of its ends failed
 abbrev pub ends_by_fault : SessionEnd → Bool
-ends_by_fault Quit = false
-ends_by_fault AtEnd = false
 ends_by_fault ReadFault = true
 ends_by_fault WriteFault = true
-ends_by_fault LineTooLong = false
+ends_by_fault ended = false
 
 module _ (shards : ℕ) (settings : file.Settings) (says : ℕ → Type 0) where
   -- a visit of a door's session went so, and is a fault just where the session ended by one

@@ -16,7 +16,7 @@ use Rattle.sd_model_shard.specs.Whereabouts.{causes}
 use Rattle.sd_model_shard.proofs.OrderLemmas.{weighed_once}
 use Rattle.sd_model_record.specs.Admin as admin
 use Rattle.sd_model_record.specs.Admin.{AdminFault}
-use Rattle.sd_model_replay.specs.Settings.{limits_of, policy_of}
+use Rattle.sd_model_replay.specs.Settings.{Bounds}
 use Rattle.sd_model_replay.specs.Script.{Command, Packet, Flush, Admin}
 use Rattle.sd_model_record.specs.Replying.{admin_events}
 use Rattle.sd_model_replay.specs.Replay.{Played, Run, first_run, home_of, events_in, play, run_of}
@@ -25,7 +25,6 @@ use Rattle.sd_model_shards.specs.Shards.{NoneDropped}
 use Rattle.sd_model_shards.proofs.ViewLemmas.{after_asked}
 use Rattle.sd_model_shards.proofs.EventsLemmas.{submits, asks, events_of}
 use Rattle.sd_model_shards.proofs.ShownLemmas.{NoneFrom, none_first, none_behind, none_summed}
-use Rattle.sd_model_settings.specs.Settings.{Settings}
 
 -- the samples that came, and where they are
 pub record Books : Type 0 where
@@ -129,44 +128,44 @@ filter-swap {X} p q (x ∷ xs) = by_tests (p x) (q x) refl refl (filter-swap p q
   by_tests false false is it h = h
 
 -- Each shard's books are its part of the books of all.
-abbrev part : Settings → ℕ → Books → Books
-part settings i b =
-    record { came = part_of (home_of settings) i b.came; flushed = part_of (home_of settings) i b.flushed; deleted = part_of (home_of settings) i b.deleted; held = part_of (home_of settings) i b.held }
+abbrev part : Bounds → ℕ → Books → Books
+part bounds i b =
+    record { came = part_of (home_of bounds.shards) i b.came; flushed = part_of (home_of bounds.shards) i b.flushed; deleted = part_of (home_of bounds.shards) i b.deleted; held = part_of (home_of bounds.shards) i b.held }
 
-module _ (settings : Settings) (i : ℕ) where
+module _ (bounds : Bounds) (i : ℕ) where
   abbrev here : Sample → Bool
-  here s = eqb i (home_of settings s)
+  here s = eqb i (home_of bounds.shards s)
 
-  part-push : (xs : List Sample) (s : Sample) (b : Bool) → here s ≡ b → part_of (home_of settings) i (xs ++ s ∷ []) ≡ cond b (part_of (home_of settings) i xs ++ s ∷ []) (part_of (home_of settings) i xs)
-  part-push xs s b is = filter-append here xs (s ∷ []) ∙ ap (λ t. part_of (home_of settings) i xs ++ cond t (s ∷ []) []) is ∙ by_test b where
-    by_test : (b : Bool) → part_of (home_of settings) i xs ++ cond b (s ∷ []) [] ≡ cond b (part_of (home_of settings) i xs ++ s ∷ []) (part_of (home_of settings) i xs)
+  part-push : (xs : List Sample) (s : Sample) (b : Bool) → here s ≡ b → part_of (home_of bounds.shards) i (xs ++ s ∷ []) ≡ cond b (part_of (home_of bounds.shards) i xs ++ s ∷ []) (part_of (home_of bounds.shards) i xs)
+  part-push xs s b is = filter-append here xs (s ∷ []) ∙ ap (λ t. part_of (home_of bounds.shards) i xs ++ cond t (s ∷ []) []) is ∙ by_test b where
+    by_test : (b : Bool) → part_of (home_of bounds.shards) i xs ++ cond b (s ∷ []) [] ≡ cond b (part_of (home_of bounds.shards) i xs ++ s ∷ []) (part_of (home_of bounds.shards) i xs)
     by_test true = refl
-    by_test false = append-nil (part_of (home_of settings) i xs)
+    by_test false = append-nil (part_of (home_of bounds.shards) i xs)
 
-  part-sample : (b : Books) (s : Sample) (t : Bool) → here s ≡ t → part settings i (books_event b (Submit s)) ≡ cond t (books_event (part settings i b) (Submit s)) (part settings i b)
+  part-sample : (b : Books) (s : Sample) (t : Bool) → here s ≡ t → part bounds i (books_event b (Submit s)) ≡ cond t (books_event (part bounds i b) (Submit s)) (part bounds i b)
   part-sample b s true is = same_books (part-push b.came s true is) refl refl (part-push b.held s true is)
   part-sample b s false is = same_books (part-push b.came s false is) refl refl (part-push b.held s false is)
 
-  part-packet : (b : Books) (who : ℕ) (samples : List Sample) → fold books_step (part settings i b) (submits who (part_of (home_of settings) i samples)) ≡ part settings i (fold books_step b (submits who samples))
+  part-packet : (b : Books) (who : ℕ) (samples : List Sample) → fold books_step (part bounds i b) (submits who (part_of (home_of bounds.shards) i samples)) ≡ part bounds i (fold books_step b (submits who samples))
   part-packet b who [] = refl
   part-packet b who (s ∷ samples) = by_test (here s) refl (part-packet (books_event b (Submit s)) who samples) where
     by_test : (t : Bool) → here s ≡ t
-        → fold books_step (part settings i (books_event b (Submit s))) (submits who (part_of (home_of settings) i samples)) ≡ part settings i (fold books_step (books_event b (Submit s)) (submits who samples))
-        → fold books_step (part settings i b) (submits who (cond t (s ∷ part_of (home_of settings) i samples) (part_of (home_of settings) i samples))) ≡ part settings i (fold books_step (books_event b (Submit s)) (submits who samples))
-    by_test true is rest = ap (λ (c : Books). fold books_step c (submits who (part_of (home_of settings) i samples))) (sym (part-sample b s true is)) ∙ rest
-    by_test false is rest = ap (λ (c : Books). fold books_step c (submits who (part_of (home_of settings) i samples))) (sym (part-sample b s false is)) ∙ rest
+        → fold books_step (part bounds i (books_event b (Submit s))) (submits who (part_of (home_of bounds.shards) i samples)) ≡ part bounds i (fold books_step (books_event b (Submit s)) (submits who samples))
+        → fold books_step (part bounds i b) (submits who (cond t (s ∷ part_of (home_of bounds.shards) i samples) (part_of (home_of bounds.shards) i samples))) ≡ part bounds i (fold books_step (books_event b (Submit s)) (submits who samples))
+    by_test true is rest = ap (λ (c : Books). fold books_step c (submits who (part_of (home_of bounds.shards) i samples))) (sym (part-sample b s true is)) ∙ rest
+    by_test false is rest = ap (λ (c : Books). fold books_step c (submits who (part_of (home_of bounds.shards) i samples))) (sym (part-sample b s false is)) ∙ rest
 
-  part-delete : (b : Books) (kind : Kind) (pattern : List ℕ) → books_event (part settings i b) (Delete kind pattern) ≡ part settings i (books_event b (Delete kind pattern))
+  part-delete : (b : Books) (kind : Kind) (pattern : List ℕ) → books_event (part bounds i b) (Delete kind pattern) ≡ part bounds i (books_event b (Delete kind pattern))
   part-delete b kind pattern =
       same_books refl refl
-      (ap (λ (back : List Sample). part_of (home_of settings) i b.deleted ++ back) (filter-swap (is_hit_by kind pattern) here b.held) ∙ sym (filter-append here b.deleted (filter (is_hit_by kind pattern) b.held)))
+      (ap (λ (back : List Sample). part_of (home_of bounds.shards) i b.deleted ++ back) (filter-swap (is_hit_by kind pattern) here b.held) ∙ sym (filter-append here b.deleted (filter (is_hit_by kind pattern) b.held)))
       (filter-swap (is_left_by kind pattern) here b.held)
 
-  part-names : (b : Books) (kind : Kind) (names : List (List ℕ)) → fold books_step (part settings i b) (asks (map (Delete kind) names)) ≡ part settings i (fold books_step b (asks (map (Delete kind) names)))
+  part-names : (b : Books) (kind : Kind) (names : List (List ℕ)) → fold books_step (part bounds i b) (asks (map (Delete kind) names)) ≡ part bounds i (fold books_step b (asks (map (Delete kind) names)))
   part-names b kind [] = refl
   part-names b kind (name ∷ names) = ap (λ (c : Books). fold books_step c (asks (map (Delete kind) names))) (part-delete b kind name) ∙ part-names (books_event b (Delete kind name)) kind names
 
-  part-line : (b : Books) (answer : Result admin.Command AdminFault) → fold books_step (part settings i b) (asks (admin_events answer)) ≡ part settings i (fold books_step b (asks (admin_events answer)))
+  part-line : (b : Books) (answer : Result admin.Command AdminFault) → fold books_step (part bounds i b) (asks (admin_events answer)) ≡ part bounds i (fold books_step b (asks (admin_events answer)))
   part-line b (Ok admin.Stats) = refl
   part-line b (Ok admin.Config) = refl
   part-line b (Ok admin.Quit) = refl
@@ -175,25 +174,25 @@ module _ (settings : Settings) (i : ℕ) where
   part-line b (Ok (admin.Health word)) = refl
   part-line b (Err fault) = refl
 
-  part-command : (b : Books) (c : Command) → fold books_step (part settings i b) (events_in settings i c) ≡ part settings i (fold books_step b (events_of c))
+  part-command : (b : Books) (c : Command) → fold books_step (part bounds i b) (events_in bounds.shards i c) ≡ part bounds i (fold books_step b (events_of c))
   part-command b (Packet who moment datagram) = part-packet b who (samples_of datagram)
   part-command b (Flush ts) = same_books refl (sym (filter-append here b.flushed b.held)) refl refl
   part-command b (Admin moment line) = part-line b (admin.command line)
 
-abbrev Shares : Settings → Run → Books → Type 0
-Shares settings run b = (i : ℕ) → i < settings.sizes.shards → Tells (run.shards i) (part settings i b)
+abbrev Shares : Bounds → Run → Books → Type 0
+Shares bounds run b = (i : ℕ) → i < bounds.shards → Tells (run.shards i) (part bounds i b)
 
 -- the books of all after records
 abbrev pub books_of : Books → List Played → Books
 books_of b played = fold (λ now p. fold books_step now (events_of p.command)) b played
 
-shares_after : (settings : Settings) (run : Run) (b : Books) (played : List Played) → Shares settings run b → NoneFrom settings run played → Shares settings (run_of settings run played) (books_of b played)
-shares_after settings run b [] h none = h
-shares_after settings run b (p ∷ played) h none =
-    shares_after settings (play settings run p) (fold books_step b (events_of p.command)) played
-    (λ i below. subst (Tells (after_asked (limits_of settings) (policy_of settings) (run.shards i) (events_in settings i p.command))) (part-command settings i b p.command)
-    (tells_asked (limits_of settings) (policy_of settings) (run.shards i) (part settings i b) (events_in settings i p.command) (h i below) (none_first settings run p played none i below)))
-    (none_behind settings run p played none)
+shares_after : (bounds : Bounds) (run : Run) (b : Books) (played : List Played) → Shares bounds run b → NoneFrom bounds run played → Shares bounds (run_of bounds run played) (books_of b played)
+shares_after bounds run b [] h none = h
+shares_after bounds run b (p ∷ played) h none =
+    shares_after bounds (play bounds run p) (fold books_step b (events_of p.command)) played
+    (λ i below. subst (Tells (after_asked bounds.limits bounds.policy (run.shards i) (events_in bounds.shards i p.command))) (part-command bounds i b p.command)
+    (tells_asked bounds.limits bounds.policy (run.shards i) (part bounds i b) (events_in bounds.shards i p.command) (h i below) (none_first bounds run p played none i below)))
+    (none_behind bounds run p played none)
 
 -- sums over all shards
 sum_alike : (f g : ℕ → ℕ) (shards start count : ℕ) → start + count ≤ shards → ((i : ℕ) → i < shards → f i ≡ g i) → sum_by f (range_with_len start count) ≡ sum_by g (range_with_len start count)
@@ -218,35 +217,35 @@ one_more home s xs (i ∷ is) =
       here false = omega arith
 
 -- the parts of a list together have all of it
-parts_summed : (settings : Settings) → 1 ≤ settings.sizes.shards → (xs : List Sample) → sum_by (λ i. length (part_of (home_of settings) i xs)) (range_with_len 0 settings.sizes.shards) ≡ length xs
-parts_summed settings some [] = none_summed (λ i. 0) settings.sizes.shards 0 settings.sizes.shards (omega arith) (λ i below. refl)
-parts_summed settings some (s ∷ xs) =
-    let within : home_of settings s < settings.sizes.shards = mod-lt (fnv1a s.key) (omega arith) in
-    omega (arith, one_more (home_of settings) s xs (range_with_len 0 settings.sizes.shards), weighed_once (home_of settings s) 1 0 settings.sizes.shards (omega arith) (omega arith), parts_summed settings some xs)
+parts_summed : (bounds : Bounds) → 1 ≤ bounds.shards → (xs : List Sample) → sum_by (λ i. length (part_of (home_of bounds.shards) i xs)) (range_with_len 0 bounds.shards) ≡ length xs
+parts_summed bounds some [] = none_summed (λ i. 0) bounds.shards 0 bounds.shards (omega arith) (λ i below. refl)
+parts_summed bounds some (s ∷ xs) =
+    let within : home_of bounds.shards s < bounds.shards = mod-lt (fnv1a s.key) (omega arith) in
+    omega (arith, one_more (home_of bounds.shards) s xs (range_with_len 0 bounds.shards), weighed_once (home_of bounds.shards s) 1 0 bounds.shards (omega arith) (omega arith), parts_summed bounds some xs)
 
-sum_of_parts : (settings : Settings) → 1 ≤ settings.sizes.shards → (f : ℕ → ℕ) (xs : List Sample) → ((i : ℕ) → i < settings.sizes.shards → f i ≡ length (part_of (home_of settings) i xs)) → sum_by f (range_with_len 0 settings.sizes.shards) ≡ length xs
-sum_of_parts settings some f xs h = sum_alike f (λ i. length (part_of (home_of settings) i xs)) settings.sizes.shards 0 settings.sizes.shards (omega arith) h ∙ parts_summed settings some xs
+sum_of_parts : (bounds : Bounds) → 1 ≤ bounds.shards → (f : ℕ → ℕ) (xs : List Sample) → ((i : ℕ) → i < bounds.shards → f i ≡ length (part_of (home_of bounds.shards) i xs)) → sum_by f (range_with_len 0 bounds.shards) ≡ length xs
+sum_of_parts bounds some f xs h = sum_alike f (λ i. length (part_of (home_of bounds.shards) i xs)) bounds.shards 0 bounds.shards (omega arith) h ∙ parts_summed bounds some xs
 
 abbrev no_books : Books
 no_books = record { came = []; flushed = []; deleted = []; held = [] }
 
 -- the numbers of all shards after a script, by its books
-pub record AreSummed (settings : Settings) (run : Run) (b : Books) : Type 0 where
-  pub taken : summed settings.sizes.shards run.shards (λ state. state.taken) ≡ length b.came
-  pub dropped : summed settings.sizes.shards run.shards (λ state. state.dropped) ≡ 0
-  pub flushed : summed settings.sizes.shards run.shards (λ state. state.flushed) ≡ length b.flushed
-  pub held : summed settings.sizes.shards run.shards (λ state. length state.held) ≡ length b.held
-  pub deleted : summed settings.sizes.shards run.shards (λ state. state.deleted) ≡ length b.deleted
+pub record AreSummed (bounds : Bounds) (run : Run) (b : Books) : Type 0 where
+  pub taken : summed bounds.shards run.shards (λ state. state.taken) ≡ length b.came
+  pub dropped : summed bounds.shards run.shards (λ state. state.dropped) ≡ 0
+  pub flushed : summed bounds.shards run.shards (λ state. state.flushed) ≡ length b.flushed
+  pub held : summed bounds.shards run.shards (λ state. length state.held) ≡ length b.held
+  pub deleted : summed bounds.shards run.shards (λ state. state.deleted) ≡ length b.deleted
 
-pub books_summed : (settings : Settings) → 1 ≤ settings.sizes.shards → (played : List Played) → NoneDropped settings played → AreSummed settings (run_of settings (first_run played) played) (books_of no_books played)
-books_summed settings some played none =
+pub books_summed : (bounds : Bounds) → 1 ≤ bounds.shards → (played : List Played) → NoneDropped bounds played → AreSummed bounds (run_of bounds (first_run played) played) (books_of no_books played)
+books_summed bounds some played none =
     let b = books_of no_books played in
-    let last = (run_of settings (first_run played) played).shards in
-    let h = shares_after settings (first_run played) no_books played (λ i below. record { taken = refl; dropped = refl; flushed = refl; deleted = refl; held = refl }) none in
+    let last = (run_of bounds (first_run played) played).shards in
+    let h = shares_after bounds (first_run played) no_books played (λ i below. record { taken = refl; dropped = refl; flushed = refl; deleted = refl; held = refl }) none in
     record {
-      taken = sum_of_parts settings some (λ i. (last i).taken) b.came (λ i below. (h i below).taken);
-      dropped = none_summed (λ i. (last i).dropped) settings.sizes.shards 0 settings.sizes.shards (omega arith) (λ i below. (h i below).dropped);
-      flushed = sum_of_parts settings some (λ i. (last i).flushed) b.flushed (λ i below. (h i below).flushed);
-      held = sum_of_parts settings some (λ i. length (last i).held) b.held (λ i below. sym (length-map (last i).held sample_in) ∙ ap length (h i below).held);
-      deleted = sum_of_parts settings some (λ i. (last i).deleted) b.deleted (λ i below. (h i below).deleted);
+      taken = sum_of_parts bounds some (λ i. (last i).taken) b.came (λ i below. (h i below).taken);
+      dropped = none_summed (λ i. (last i).dropped) bounds.shards 0 bounds.shards (omega arith) (λ i below. (h i below).dropped);
+      flushed = sum_of_parts bounds some (λ i. (last i).flushed) b.flushed (λ i below. (h i below).flushed);
+      held = sum_of_parts bounds some (λ i. length (last i).held) b.held (λ i below. sym (length-map (last i).held sample_in) ∙ ap length (h i below).held);
+      deleted = sum_of_parts bounds some (λ i. (last i).deleted) b.deleted (λ i below. (h i below).deleted);
     }

@@ -13,13 +13,12 @@ use Rattle.sd_model_shard.proofs.AnsweredLemmas.{answered-append}
 use Rattle.sd_model_shard.proofs.DeletionLemmas.{same_row}
 use Rattle.sd_model_record.specs.Admin as admin
 use Rattle.sd_model_record.specs.Admin.{AdminFault}
-use Rattle.sd_model_replay.specs.Settings.{limits_of, policy_of}
+use Rattle.sd_model_replay.specs.Settings.{Bounds}
 use Rattle.sd_model_replay.specs.Script.{Command, Packet, Flush, Admin}
 use Rattle.sd_model_record.specs.Replying.{admin_events}
 use Rattle.sd_model_record.specs.Callers.{administrator, flusher}
 use Rattle.sd_model_replay.specs.Replay.{home_of, events_in, acts_in, Run}
 use Rattle.sd_model_shards.proofs.ViewLemmas.{View, nothing, view, row_event, row_step, view-asked, view-delete, after_asked}
-use Rattle.sd_model_settings.specs.Settings.{Settings}
 
 abbrev pub submits : ℕ → List Sample → List Asked
 submits who samples = map (λ s. record { who = who; event = Submit s }) samples
@@ -50,33 +49,33 @@ module _ (shards i : ℕ) (id : RowId) where
     by_tie true is = absurd (both b (sym mine ∙ ap (λ (r : RowId). eqb i (shard r.key shards)) (same_row id (row_of s) is) ∙ here))
     by_tie false is = refl
 
-module _ (settings : Settings) (i : ℕ) (id : RowId) where
+module _ (bounds : Bounds) (i : ℕ) (id : RowId) where
   module _ (policy : Policy) where
     -- which it leaves
     unmoved : (s : Sample) (v : View) → is_same_row id (row_of s) ≡ false → row_event policy id v (Submit s) ≡ v
     unmoved s v h = rw h refl
 
-    packet_mine : (who : ℕ) (samples : List Sample) (v : View) → eqb i (shard id.key settings.sizes.shards) ≡ true
-        → fold (row_step policy id) v (submits who (part_of (home_of settings) i samples)) ≡ fold (row_step policy id) v (submits who samples)
+    packet_mine : (who : ℕ) (samples : List Sample) (v : View) → eqb i (shard id.key bounds.shards) ≡ true
+        → fold (row_step policy id) v (submits who (part_of (home_of bounds.shards) i samples)) ≡ fold (row_step policy id) v (submits who samples)
     packet_mine who [] v mine = refl
-    packet_mine who (s ∷ samples) v mine = by_test (eqb i (home_of settings s)) refl (λ w. packet_mine who samples w mine) where
-      by_test : (b : Bool) → eqb i (home_of settings s) ≡ b
-          → ((w : View) → fold (row_step policy id) w (submits who (part_of (home_of settings) i samples)) ≡ fold (row_step policy id) w (submits who samples))
-          → fold (row_step policy id) v (submits who (cond b (s ∷ part_of (home_of settings) i samples) (part_of (home_of settings) i samples))) ≡ fold (row_step policy id) (row_event policy id v (Submit s)) (submits who samples)
+    packet_mine who (s ∷ samples) v mine = by_test (eqb i (home_of bounds.shards s)) refl (λ w. packet_mine who samples w mine) where
+      by_test : (b : Bool) → eqb i (home_of bounds.shards s) ≡ b
+          → ((w : View) → fold (row_step policy id) w (submits who (part_of (home_of bounds.shards) i samples)) ≡ fold (row_step policy id) w (submits who samples))
+          → fold (row_step policy id) v (submits who (cond b (s ∷ part_of (home_of bounds.shards) i samples) (part_of (home_of bounds.shards) i samples))) ≡ fold (row_step policy id) (row_event policy id v (Submit s)) (submits who samples)
       by_test true here rest = rest (row_event policy id v (Submit s))
-      by_test false here rest = rest v ∙ ap (λ (w : View). fold (row_step policy id) w (submits who samples)) (sym (unmoved s v (other_row settings.sizes.shards i id s true mine here)))
+      by_test false here rest = rest v ∙ ap (λ (w : View). fold (row_step policy id) w (submits who samples)) (sym (unmoved s v (other_row bounds.shards i id s true mine here)))
 
-    packet_other : (who : ℕ) (samples : List Sample) (v : View) → eqb i (shard id.key settings.sizes.shards) ≡ false
-        → fold (row_step policy id) v (submits who (part_of (home_of settings) i samples)) ≡ v
+    packet_other : (who : ℕ) (samples : List Sample) (v : View) → eqb i (shard id.key bounds.shards) ≡ false
+        → fold (row_step policy id) v (submits who (part_of (home_of bounds.shards) i samples)) ≡ v
     packet_other who [] v mine = refl
-    packet_other who (s ∷ samples) v mine = by_test (eqb i (home_of settings s)) refl (packet_other who samples v mine) where
-      by_test : (b : Bool) → eqb i (home_of settings s) ≡ b
-          → fold (row_step policy id) v (submits who (part_of (home_of settings) i samples)) ≡ v
-          → fold (row_step policy id) v (submits who (cond b (s ∷ part_of (home_of settings) i samples) (part_of (home_of settings) i samples))) ≡ v
-      by_test true here rest = ap (λ (w : View). fold (row_step policy id) w (submits who (part_of (home_of settings) i samples))) (unmoved s v (other_row settings.sizes.shards i id s false mine here)) ∙ rest
+    packet_other who (s ∷ samples) v mine = by_test (eqb i (home_of bounds.shards s)) refl (packet_other who samples v mine) where
+      by_test : (b : Bool) → eqb i (home_of bounds.shards s) ≡ b
+          → fold (row_step policy id) v (submits who (part_of (home_of bounds.shards) i samples)) ≡ v
+          → fold (row_step policy id) v (submits who (cond b (s ∷ part_of (home_of bounds.shards) i samples) (part_of (home_of bounds.shards) i samples))) ≡ v
+      by_test true here rest = ap (λ (w : View). fold (row_step policy id) w (submits who (part_of (home_of bounds.shards) i samples))) (unmoved s v (other_row bounds.shards i id s false mine here)) ∙ rest
       by_test false here rest = rest
 
-    command_mine : (c : Command) (v : View) → eqb i (shard id.key settings.sizes.shards) ≡ true → fold (row_step policy id) v (events_in settings i c) ≡ fold (row_step policy id) v (events_of c)
+    command_mine : (c : Command) (v : View) → eqb i (shard id.key bounds.shards) ≡ true → fold (row_step policy id) v (events_in bounds.shards i c) ≡ fold (row_step policy id) v (events_of c)
     command_mine (Packet who moment datagram) v mine = packet_mine who (samples_of datagram) v mine
     command_mine (Flush ts) v mine = refl
     command_mine (Admin moment line) v mine = refl
@@ -96,7 +95,7 @@ module _ (settings : Settings) (i : ℕ) (id : RowId) where
     line_other (Ok (admin.Health word)) = refl
     line_other (Err fault) = refl
 
-    command_other : (c : Command) → eqb i (shard id.key settings.sizes.shards) ≡ false → fold (row_step policy id) nothing (events_in settings i c) ≡ nothing
+    command_other : (c : Command) → eqb i (shard id.key bounds.shards) ≡ false → fold (row_step policy id) nothing (events_in bounds.shards i c) ≡ nothing
     command_other (Packet who moment datagram) mine = packet_other who (samples_of datagram) nothing mine
     command_other (Flush ts) mine = refl
     command_other (Admin moment line) mine = line_other (admin.command line)
@@ -110,18 +109,18 @@ abbrev pub seen_after : Policy → (RowId → View) → Command → RowId → Vi
 seen_after policy seen c id = fold (row_step policy id) (seen id) (events_of c)
 
 -- no shard drops a sample of a record
-abbrev pub NoneIn : Settings → Run → Command → Type 0
-NoneIn settings run c = (i : ℕ) → i < settings.sizes.shards → causes (acts_in settings run i c) ≡ []
+abbrev pub NoneIn : Bounds → Run → Command → Type 0
+NoneIn bounds run c = (i : ℕ) → i < bounds.shards → causes (acts_in bounds run.shards i c) ≡ []
 
-pub Reflects-command : (settings : Settings) (run : Run) (seen : RowId → View) (c : Command) → NoneIn settings run c → Reflects settings.sizes.shards run.shards seen
-    → Reflects settings.sizes.shards (λ i. after_asked (limits_of settings) (policy_of settings) (run.shards i) (events_in settings i c)) (seen_after (policy_of settings) seen c)
-Reflects-command settings run seen c none h i below id =
-    view-asked (limits_of settings) (policy_of settings) (run.shards i) id (events_in settings i c) (none i below)
-    ∙ ap (λ (v : View). fold (row_step (policy_of settings) id) v (events_in settings i c)) (h i below id)
-    ∙ by_shard (eqb i (shard id.key settings.sizes.shards)) refl where
-      by_shard : (b : Bool) → eqb i (shard id.key settings.sizes.shards) ≡ b → fold (row_step (policy_of settings) id) (cond b (seen id) nothing) (events_in settings i c) ≡ cond b (seen_after (policy_of settings) seen c id) nothing
-      by_shard true mine = command_mine settings i id (policy_of settings) c (seen id) mine
-      by_shard false mine = command_other settings i id (policy_of settings) c mine
+pub Reflects-command : (bounds : Bounds) (run : Run) (seen : RowId → View) (c : Command) → NoneIn bounds run c → Reflects bounds.shards run.shards seen
+    → Reflects bounds.shards (λ i. after_asked bounds.limits bounds.policy (run.shards i) (events_in bounds.shards i c)) (seen_after bounds.policy seen c)
+Reflects-command bounds run seen c none h i below id =
+    view-asked bounds.limits bounds.policy (run.shards i) id (events_in bounds.shards i c) (none i below)
+    ∙ ap (λ (v : View). fold (row_step bounds.policy id) v (events_in bounds.shards i c)) (h i below id)
+    ∙ by_shard (eqb i (shard id.key bounds.shards)) refl where
+      by_shard : (b : Bool) → eqb i (shard id.key bounds.shards) ≡ b → fold (row_step bounds.policy id) (cond b (seen id) nothing) (events_in bounds.shards i c) ≡ cond b (seen_after bounds.policy seen c id) nothing
+      by_shard true mine = command_mine bounds i id bounds.policy c (seen id) mine
+      by_shard false mine = command_other bounds i id bounds.policy c mine
 
 -- what is seen of a row after a deletion
 abbrev pub seen_left : Kind → List ℕ → (RowId → View) → RowId → View

@@ -1,7 +1,7 @@
 -- A shard has rows of its own keys alone, whether or not samples are dropped. So no row and no key stands twice in what all
 -- shards tell.
-use Rattle.std.proofs.Common.{◌≡◌, ℕ, zero, suc, ◌<◌, Bool, true, false, cond, ◌||◌, eqb, List, [], ◌∷◌, ◌++◌, map, refl, sym, ap, subst, ◌∙◌}
-use Rattle.std.specs.Prelude.{⊤, Option, Some, None, not, option_map, option_and_then, is_some, flat_map, filter_map, Result, Ok, Err}
+use Rattle.std.proofs.Common.{◌≡◌, ℕ, ◌<◌, Bool, true, false, cond, ◌||◌, eqb, List, [], ◌∷◌, ◌++◌, map, refl, sym, ap, subst, ◌∙◌}
+use Rattle.std.specs.Prelude.{⊤, Option, Some, None, not, option_map, option_and_then, is_some, flat_map, Result, Ok, Err}
 use Rattle.std.specs.List.{AllByRecursion, IsDistinct, list_any, range_with_len}
 use Rattle.std.specs.Ordering.{nat_cmp, eq_by_cmp}
 use Rattle.std.specs.Cmp.Lexicographic.{slice_cmp}
@@ -9,13 +9,11 @@ use Rattle.std.specs.FinMap.{contains_key, entries, entries_sorted, find, get, g
 use Rattle.std.specs.FinMap.Entries.{is_some-find}
 use Rattle.std.proofs.lemmas.Bool.{eqb-true}
 use Rattle.std.proofs.lemmas.List.{map-append}
-use Rattle.sd_model_text.specs.Names.{Kind, Counter, shard}
+use Rattle.sd_model_text.specs.Names.{Kind, shard}
 use Rattle.sd_model_text.specs.Lines.{Sample, samples_of}
-use Rattle.sd_model_settings.specs.Defaults.{Plan}
 use Rattle.sd_model_shard.specs.Rows.{RowId, row_cmp, Kept, row_of, base_of, is_same_row}
 use Rattle.sd_model_shard.specs.Commands.{DumpRow, dump_of, dump_row, is_hit, is_of_kind, keys_of, rows_taken_out}
-use Rattle.sd_model_shard.specs.Shard as at_shard
-use Rattle.sd_model_shard.specs.Shard.{State, Cause, Limits, Policy, Event, Submit, Swap, Delete, Dump, Dumped, step, admitted, refusal, left_of, after_swap, after_delete, deletion_of, empty_state, table_of, Table}
+use Rattle.sd_model_shard.specs.Shard.{State, Cause, Limits, Policy, Event, Submit, Swap, Delete, Dump, step, admitted, refusal, left_of, after_swap, after_delete, empty_state, Table}
 use Rattle.sd_model_shard.specs.History.{Asked, part_of}
 use Rattle.sd_model_shard.proofs.RowLemmas.{rows_total}
 use Rattle.sd_model_shard.proofs.CarriedLemmas.{get-carried}
@@ -23,21 +21,18 @@ use Rattle.sd_model_shard.proofs.DeletionLemmas.{get-rows_left}
 use Rattle.sd_model_shard.proofs.EntryLemmas.{StandApart, StandApart-sorted}
 use Rattle.sd_model_record.specs.Admin as admin
 use Rattle.sd_model_record.specs.Admin.{AdminFault}
-use Rattle.sd_model_record.specs.Record.{Row, row_value, table_rows}
 use Rattle.sd_model_serve.specs.Rounds.{Round}
-use Rattle.sd_model_replay.specs.Settings.{limits_of, policy_of}
+use Rattle.sd_model_replay.specs.Settings.{Bounds}
 use Rattle.sd_model_replay.specs.Script.{Command, Packet, Flush, Admin}
-use Rattle.sd_model_record.specs.Replying.{admin_events, keys_in, rows_in}
-use Rattle.sd_model_replay.specs.Replay.{Outcome, Played, Run, first_run, events_in, play, run_of, moments, rounds, rounds_from}
-use Rattle.sd_model_replay.specs.Output.{answers_to}
+use Rattle.sd_model_record.specs.Replying.{admin_events}
+use Rattle.sd_model_replay.specs.Replay.{Outcome, Played, Run, first_run, events_in, states_after, play, run_of, moments, rounds, rounds_from}
 use Rattle.sd_model_shard.proofs.ToldLemmas.{by_key}
 use Rattle.sd_model_record.proofs.OrderLemmas.{StandOnce, StandOnce-shards, StandApart-shards, keys_once, rows_once, hit_of_kind}
 use Rattle.sd_model_shards.specs.Shards.{AtHome, rows_taken}
 use Rattle.sd_model_shards.proofs.ViewLemmas.{after_asked}
 use Rattle.sd_model_shards.proofs.EventsLemmas.{asks, submits, other_row}
-use Rattle.sd_model_shards.proofs.ToldLemmas.{find_retained, find_value}
-use Rattle.sd_model_shards.proofs.ShownLemmas.{answers_at, told_by_all, none_there, rounds_with}
-use Rattle.sd_model_settings.specs.Settings.{Settings}
+use Rattle.sd_model_shards.proofs.ToldLemmas.{find_retained}
+use Rattle.sd_model_shards.proofs.ShownLemmas.{rounds_with}
 
 -- an event that isn't a sample of this row
 abbrev pub IsForeign : RowId → Event → Type 0
@@ -79,7 +74,7 @@ foreign_samples shards i id away who (s ∷ samples) = by_test (eqb i (shard s.k
   by_test true here rest = (other_row shards i id s false away here, rest)
   by_test false here rest = rest
 
-module _ (settings : Settings) (i : ℕ) (id : RowId) (away : eqb i (shard id.key settings.sizes.shards) ≡ false) where
+module _ (bounds : Bounds) (i : ℕ) (id : RowId) (away : eqb i (shard id.key bounds.shards) ≡ false) where
   foreign_names : (kind : Kind) (names : List (List ℕ)) → AreForeign id (asks (map (Delete kind) names))
   foreign_names kind [] = tt
   foreign_names kind (name ∷ names) = (tt, foreign_names kind names)
@@ -93,32 +88,27 @@ module _ (settings : Settings) (i : ℕ) (id : RowId) (away : eqb i (shard id.ke
   foreign_line (Ok (admin.Health word)) = tt
   foreign_line (Err fault) = tt
 
-  foreign_command : (c : Command) → AreForeign id (events_in settings i c)
-  foreign_command (Packet who moment datagram) = foreign_samples settings.sizes.shards i id away who (samples_of datagram)
+  foreign_command : (c : Command) → AreForeign id (events_in bounds.shards i c)
+  foreign_command (Packet who moment datagram) = foreign_samples bounds.shards i id away who (samples_of datagram)
   foreign_command (Flush ts) = (tt, tt)
   foreign_command (Admin moment line) = foreign_line (admin.command line)
 
-pub AtHome-play : (settings : Settings) (run : Run) (p : Played) → AtHome settings.sizes.shards run.shards → AtHome settings.sizes.shards (play settings run p).shards
-AtHome-play settings run p h i id away = absent_asked (limits_of settings) (policy_of settings) (run.shards i) (events_in settings i p.command) id (foreign_command settings i id away p.command) (h i id away)
+-- nor does one get such a row by a record
+pub AtHome-after : (bounds : Bounds) (states : ℕ → State) (c : Command) → AtHome bounds.shards states → AtHome bounds.shards (states_after bounds states c)
+AtHome-after bounds states c h i id away = absent_asked bounds.limits bounds.policy (states i) (events_in bounds.shards i c) id (foreign_command bounds i id away c) (h i id away)
 
 pub AtHome-first : (shards : ℕ) (played : List Played) → AtHome shards (first_run played).shards
 AtHome-first shards played i id away = get-empty row_cmp id
 
-at_home_from : (settings : Settings) (run : Run) (played : List Played) → AtHome settings.sizes.shards run.shards → AtHome settings.sizes.shards (run_of settings run played).shards
-at_home_from settings run [] h = h
-at_home_from settings run (p ∷ played) h = at_home_from settings (play settings run p) played (AtHome-play settings run p h)
+at_home_from : (bounds : Bounds) (run : Run) (played : List Played) → AtHome bounds.shards run.shards → AtHome bounds.shards (run_of bounds run played).shards
+at_home_from bounds run [] h = h
+at_home_from bounds run (p ∷ played) h = at_home_from bounds (play bounds run p) played (AtHome-after bounds run.shards p.command h)
 
-pub AtHome-run : (settings : Settings) (played : List Played) → AtHome settings.sizes.shards (run_of settings (first_run played) played).shards
-AtHome-run settings played = at_home_from settings (first_run played) played (AtHome-first settings.sizes.shards played)
+pub AtHome-run : (bounds : Bounds) (played : List Played) → AtHome bounds.shards (run_of bounds (first_run played) played).shards
+AtHome-run bounds played = at_home_from bounds (first_run played) played (AtHome-first bounds.shards played)
 
 pub AtHome-delete : (kind : Kind) (name : List ℕ) (shards : ℕ) (states : ℕ → State) → AtHome shards states → AtHome shards (λ i. after_delete kind name (states i))
 AtHome-delete kind name shards states h i id away = absent_delete kind name (states i) id (h i id away)
-
--- nor does one get such a row by its samples, or by a swap
-pub AtHome-samples : (limits : Limits) (policy : Policy) (who : ℕ) (samples : List Sample) (shards : ℕ) (states : ℕ → State) → AtHome shards states
-    → AtHome shards (λ i. after_asked limits policy (states i) (submits who (part_of (λ s. shard s.key shards) i samples)))
-AtHome-samples limits policy who samples shards states h i id away =
-    absent_asked limits policy (states i) (submits who (part_of (λ s. shard s.key shards) i samples)) id (foreign_samples shards i id away who samples) (h i id away)
 
 pub AtHome-swap : (policy : Policy) (shards : ℕ) (states : ℕ → State) → AtHome shards states → AtHome shards (λ i. after_swap policy (states i))
 AtHome-swap policy shards states h i id away = get-carried policy (states i).live (states i).held id ∙ ap (option_and_then (left_of policy (states i).held id)) (h i id away)
@@ -157,22 +147,6 @@ module _ (shards : ℕ) (states : ℕ → State) (h : AtHome shards states) wher
       (λ i below. StandApart-sorted row_cmp (entries (states i).live) (entries_sorted (states i).live))
       (λ i below q has. home_of_row shards states h i q (ap is_some (get-entries (states i).live q) ∙ is_found q (entries (states i).live) has))
 
-  valued : (plan : Plan) (i : ℕ) (es : List (RowId × Kept)) → StandApart row_cmp es → StandApart row_cmp (map (λ e. (e.0, row_value plan (states i).held e.0 e.1)) es)
-  valued plan i [] apart = tt
-  valued plan i (e ∷ es) apart = (any_valued es ∙ apart.0, valued plan i es apart.1) where
-    any_valued : (ds : List (RowId × Kept)) → list_any (λ (other : RowId × Row). eq_by_cmp row_cmp e.0 other.0) (map (λ d. (d.0, row_value plan (states i).held d.0 d.1)) ds) ≡ list_any (λ (other : RowId × Kept). eq_by_cmp row_cmp e.0 other.0) ds
-    any_valued [] = refl
-    any_valued (d ∷ ds) = ap (λ b. eq_by_cmp row_cmp e.0 d.0 || b) (any_valued ds)
-
-  -- nor in the rows of their record
-  pub record_rows_apart : (plan : Plan) → StandApart row_cmp (flat_map (λ i. table_rows plan (table_of (states i))) (range_with_len 0 shards))
-  record_rows_apart plan =
-      StandApart-shards row_cmp rows_total (λ id. shard id.key shards) (λ i. table_rows plan (table_of (states i))) shards
-      (λ i below. valued plan i (entries (states i).live) (StandApart-sorted row_cmp (entries (states i).live) (entries_sorted (states i).live)))
-      (λ i below q has. home_of_row shards states h i q (
-      ap is_some (get-entries (states i).live q)
-      ∙ some_mapped (row_value plan (states i).held q) (find row_cmp q (entries (states i).live)) (ap is_some (sym (find_value plan (states i).held q (entries (states i).live))) ∙ is_found q (table_rows plan (table_of (states i))) has)))
-
   -- no key stands twice in what all shards tell of rows of one kind
   told_apart : {X : Type 0} (key : X → List ℕ) (kind : Kind) (p : RowId → Bool) → ((id : RowId) → p id ≡ true → is_of_kind kind id ≡ true) → (f : State → RowId × Kept → X)
       → ((state : State) (e : RowId × Kept) → key (f state e) ≡ e.0.key) → ((i : ℕ) → i < shards → StandOnce key (map (f (states i)) (entries (retain_keys (states i).live p))))
@@ -194,77 +168,22 @@ module _ (shards : ℕ) (states : ℕ → State) (h : AtHome shards states) wher
   all_rows_once kind =
       told_apart (λ (row : DumpRow). row.key) kind (is_of_kind kind) (λ id is. is) (λ state. dump_row state.held) (λ state e. refl) (λ i below. rows_once kind (states i).live (states i).held)
 
-none_flat : {X : Type 0} (is : List ℕ) → flat_map {A = X} (λ i. []) is ≡ []
-none_flat [] = refl
-none_flat (i ∷ is) = none_flat is
-
--- what shards that have no answer tell
-module _ {X : Type 0} (key : X → List ℕ) (tell : at_shard.Reply → List X) where
-  once_none : (is : List ℕ) → StandOnce key (flat_map tell (filter_map (λ i. None) is))
-  once_none is = subst (λ answers. StandOnce key (flat_map tell answers)) (sym (none_there is)) tt
-
-  once_told : (answer : ℕ → at_shard.Reply) (is : List ℕ) → StandOnce key (flat_map (λ i. tell (answer i)) is) → StandOnce key (flat_map tell (filter_map (λ i. Some (answer i)) is))
-  once_told answer is once = subst (StandOnce key) (sym (told_by_all tell answer is)) once
-
-  once_flat : (is : List ℕ) → StandOnce key (flat_map {A = X} (λ i. []) is)
-  once_flat is = subst (StandOnce key) (sym (none_flat is)) tt
-
-abbrev one_key : List ℕ → List ℕ
-one_key key = key
-
-abbrev key_in : DumpRow → List ℕ
-key_in row = row.key
-
-module _ (limits : Limits) (policy : Policy) (shards : ℕ) where
-  abbrev answers : (ℕ → State) → List Event → ℕ → List at_shard.Reply
-  answers states events k = answers_at limits policy shards states events k
-
-  names_once : (states : ℕ → State) → AtHome shards states → (kind : Kind) (names : List (List ℕ)) (k : ℕ)
-      → StandOnce one_key (flat_map keys_in (answers states (map (Delete kind) names) k)) × StandOnce key_in (flat_map rows_in (answers states (map (Delete kind) names) k))
-  names_once states h kind [] k = (once_none one_key keys_in (range_with_len 0 shards), once_none key_in rows_in (range_with_len 0 shards))
-  names_once states h kind (name ∷ names) zero = (
-    once_told one_key keys_in (λ i. deletion_of kind name (states i)) (range_with_len 0 shards) (all_keys_once shards states h kind name),
-    once_told key_in rows_in (λ i. deletion_of kind name (states i)) (range_with_len 0 shards) (once_flat key_in rows_in (range_with_len 0 shards)),
-  )
-  names_once states h kind (name ∷ names) (suc k) = names_once (λ i. after_delete kind name (states i)) (AtHome-delete kind name shards states h) kind names k
-
-  line_once : (states : ℕ → State) → AtHome shards states → (answer : Result admin.Command AdminFault) (k : ℕ)
-      → StandOnce one_key (flat_map keys_in (answers states (admin_events answer) k)) × StandOnce key_in (flat_map rows_in (answers states (admin_events answer) k))
-  line_once states h (Ok admin.Stats) k = names_once states h Counter [] k
-  line_once states h (Ok admin.Config) k = names_once states h Counter [] k
-  line_once states h (Ok admin.Quit) k = names_once states h Counter [] k
-  line_once states h (Ok (admin.Show kind)) zero = (
-    once_told one_key keys_in (λ i. Dumped (dump_of kind (states i).live (states i).held)) (range_with_len 0 shards) (once_flat one_key keys_in (range_with_len 0 shards)),
-    once_told key_in rows_in (λ i. Dumped (dump_of kind (states i).live (states i).held)) (range_with_len 0 shards) (all_rows_once shards states h kind),
-  )
-  line_once states h (Ok (admin.Show kind)) (suc k) = names_once states h kind [] k
-  line_once states h (Ok (admin.Delete kind names)) k = names_once states h kind names k
-  line_once states h (Ok (admin.Health word)) k = names_once states h Counter [] k
-  line_once states h (Err fault) k = names_once states h Counter [] k
-
--- No key stands twice in the answers of all shards to an event of an admin line.
-pub keys_answered_once : (settings : Settings) (run : Run) → AtHome settings.sizes.shards run.shards → (moment : ℕ) (line : List ℕ) (k : ℕ) → StandOnce (λ key. key) (flat_map keys_in (answers_to settings run (Admin moment line) k))
-keys_answered_once settings run h moment line k = (line_once (limits_of settings) (policy_of settings) settings.sizes.shards run.shards h (admin.command line) k).0
-
-pub rows_answered_once : (settings : Settings) (run : Run) → AtHome settings.sizes.shards run.shards → (moment : ℕ) (line : List ℕ) (k : ℕ) → StandOnce (λ (row : DumpRow). row.key) (flat_map rows_in (answers_to settings run (Admin moment line) k))
-rows_answered_once settings run h moment line k = (line_once (limits_of settings) (policy_of settings) settings.sizes.shards run.shards h (admin.command line) k).1
-
 -- the tables of a round are at home, as states are
 abbrev pub TablesAtHome : ℕ → (ℕ → Table) → Type 0
 TablesAtHome shards tables = AtHome shards (λ i. record empty_state { live = (tables i).live })
 
 -- in each round the rows are at home
-rounds_at_home : (settings : Settings) (run : Run) (played : List Played) → AtHome settings.sizes.shards run.shards → AllByRecursion (λ r. TablesAtHome settings.sizes.shards r.tables) (rounds_from settings run played)
-rounds_at_home settings run [] h = tt
-rounds_at_home settings run (p ∷ played) h = by_command p.command p.outcome (rounds_at_home settings (play settings run p) played (AtHome-play settings run p h)) where
-  by_command : (c : Command) (outcome : Outcome) → AllByRecursion (λ r. TablesAtHome settings.sizes.shards r.tables) (rounds_from settings (play settings run p) played)
-      → AllByRecursion (λ r. TablesAtHome settings.sizes.shards r.tables) (rounds_with run c outcome (moments settings (play settings run p) played))
+rounds_at_home : (bounds : Bounds) (run : Run) (played : List Played) → AtHome bounds.shards run.shards → AllByRecursion (λ r. TablesAtHome bounds.shards r.tables) (rounds_from bounds run played)
+rounds_at_home bounds run [] h = tt
+rounds_at_home bounds run (p ∷ played) h = by_command p.command p.outcome (rounds_at_home bounds (play bounds run p) played (AtHome-after bounds run.shards p.command h)) where
+  by_command : (c : Command) (outcome : Outcome) → AllByRecursion (λ r. TablesAtHome bounds.shards r.tables) (rounds_from bounds (play bounds run p) played)
+      → AllByRecursion (λ r. TablesAtHome bounds.shards r.tables) (rounds_with run c outcome (moments bounds (play bounds run p) played))
   by_command (Packet who moment datagram) outcome rest = rest
   by_command (Flush ts) outcome rest = (h, rest)
   by_command (Admin moment line) outcome rest = rest
 
-pub AtHome-rounds : (settings : Settings) (played : List Played) → AllByRecursion (λ r. TablesAtHome settings.sizes.shards r.tables) (rounds settings played)
-AtHome-rounds settings played = rounds_at_home settings (first_run played) played (AtHome-first settings.sizes.shards played)
+pub AtHome-rounds : (bounds : Bounds) (played : List Played) → AllByRecursion (λ r. TablesAtHome bounds.shards r.tables) (rounds bounds played)
+AtHome-rounds bounds played = rounds_at_home bounds (first_run played) played (AtHome-first bounds.shards played)
 
 -- ids of rows that stand apart
 distinct_ids : (es : List (RowId × Kept)) → StandApart row_cmp es → IsDistinct is_same_row (map (λ (e : RowId × Kept). e.0) es)
@@ -285,7 +204,7 @@ ids_listed : (g : ℕ → List (RowId × Kept)) (is : List ℕ) → map (λ (e :
 ids_listed g [] = refl
 ids_listed g (i ∷ is) = map-append (λ (e : RowId × Kept). e.0) (g i) (flat_map g is) ∙ ap (λ (rest : List RowId). map (λ (e : RowId × Kept). e.0) (g i) ++ rest) (ids_listed g is)
 
-pub rows_distinct : (settings : Settings) (r : Round) → TablesAtHome settings.sizes.shards r.tables → IsDistinct is_same_row (rows_taken settings r)
-rows_distinct settings r h =
-    subst (IsDistinct is_same_row) (ids_listed (λ i. entries (r.tables i).live) (range_with_len 0 settings.sizes.shards))
-    (distinct_ids (flat_map (λ i. entries (r.tables i).live) (range_with_len 0 settings.sizes.shards)) (rows_apart settings.sizes.shards (λ i. record empty_state { live = (r.tables i).live }) h))
+pub rows_distinct : (shards : ℕ) (r : Round) → TablesAtHome shards r.tables → IsDistinct is_same_row (rows_taken shards r)
+rows_distinct shards r h =
+    subst (IsDistinct is_same_row) (ids_listed (λ i. entries (r.tables i).live) (range_with_len 0 shards))
+    (distinct_ids (flat_map (λ i. entries (r.tables i).live) (range_with_len 0 shards)) (rows_apart shards (λ i. record empty_state { live = (r.tables i).live }) h))

@@ -6,6 +6,7 @@ use Rattle.std.specs.List.{range_with_len}
 use Rattle.std.proofs.lemmas.List.Sums.{sum_by-cons}
 use Rattle.sd_model_shard.specs.Shard.{State, Cause}
 use Rattle.sd_model_shard.specs.Whereabouts.{causes}
+use Rattle.sd_model_replay.specs.Settings.{bounds_of}
 use Rattle.sd_model_replay.specs.Replay.{Played, first_run, run_of, history_at}
 use Rattle.sd_model_replay.specs.Totals.{number_in, totals_after}
 use Rattle.sd_model_replay.proofs.AccountingLemmas.{are_accounted}
@@ -23,9 +24,9 @@ no_causes : (cs : List Cause) → length cs ≡ 0 → cs ≡ []
 no_causes [] h = refl
 no_causes (c ∷ cs) h = absurd (omega arith)
 
-pub none_told : (settings : Settings) (played : List Played) → number_in (totals_after settings played) (codes "dropped") ≡ 0 → NoneDropped settings played
+pub none_told : (settings : Settings) (played : List Played) → number_in (totals_after settings played) (codes "dropped") ≡ 0 → NoneDropped (bounds_of settings) played
 none_told settings played told i below =
     let places = (are_accounted settings played).places i below in
-    let zero_here = none_of_sum (λ j. ((run_of settings (first_run played) played).shards j).dropped) i 0 settings.sizes.shards told (omega arith) (omega arith) in
-    let dropped = ap (λ (s : State). s.dropped) (state-history_at settings i played) in
-    no_causes (causes (history_at settings i played)) (omega (arith, zero_here, dropped, places.dropped))
+    let zero_here = none_of_sum (λ j. ((run_of (bounds_of settings) (first_run played) played).shards j).dropped) i 0 settings.sizes.shards told (omega arith) (omega arith) in
+    let dropped = ap (λ (s : State). s.dropped) (state-history_at (bounds_of settings) i played) in
+    no_causes (causes (history_at (bounds_of settings) i played)) (omega (arith, zero_here, dropped, places.dropped))

@@ -1,6 +1,6 @@
 -- What a script shows over two numbers of shards: both show what is seen of the rows.
 use Rattle.std.proofs.Common.{◌≡◌, ℕ, zero, suc, ◌+◌, ◌<◌, ◌≤◌, Bool, true, false, cond, eqb, List, [], ◌∷◌, ◌++◌, map, refl, sym, ap, ◌∙◌, arith}
-use Rattle.std.specs.Prelude.{Option, Some, None, flat_map, filter_map, sum_by, slice_get, Result, Ok, Err}
+use Rattle.std.specs.Prelude.{Option, Some, None, flat_map, filter_map, sum_by, Result, Ok, Err}
 use Rattle.std.specs.FinMap.{entries, from_entries}
 use Rattle.std.specs.List.{range_with_len}
 use Rattle.std.proofs.lemmas.List.Folds.{flat_map-map}
@@ -17,21 +17,23 @@ use Rattle.sd_model_shard.specs.Whereabouts.{causes, dropped_in}
 use Rattle.sd_model_shard.proofs.OrderLemmas.{sum_by-flat_map}
 use Rattle.sd_model_record.specs.Admin as admin
 use Rattle.sd_model_record.specs.Admin.{AdminFault}
-use Rattle.sd_model_record.specs.Desk.{Desk, Marks, facts_of, with_tally, with_repeater_faults, with_round}
+use Rattle.sd_model_record.specs.Desk.{Desk, Marks, with_tally, with_repeater_faults, with_round}
 use Rattle.sd_model_record.specs.Record.{Record, record_rows, table_rows}
-use Rattle.sd_model_record.specs.Replies.{Stats, Rows, Gone, Finish, Health, reply_text}
-use Rattle.sd_model_replay.specs.Settings.{limits_of, policy_of}
+use Rattle.sd_model_record.specs.Replies.{Reply, Stats, Rows, Gone, Finish, Health, reply_text}
+use Rattle.sd_model_replay.specs.Settings.{Bounds, bounds_of, policy_of, limits_of}
 use Rattle.sd_model_replay.specs.Script.{Command, Packet, Flush, Admin}
 use Rattle.sd_model_outside.specs.Deliveries.{Delivery}
 use Rattle.sd_model_record.specs.Backends.{Backend, text_of, mark_of}
 use Rattle.sd_model_record.specs.Repeater.{failures}
-use Rattle.sd_model_record.specs.Replying.{admin_events, health_after, keys_in, rows_in, keys_told, rows_told, names_replied}
+use Rattle.sd_model_record.specs.Replying.{admin_events, health_after, keys_in, rows_in, keys_told, rows_told, names_replied, replies_by}
 use Rattle.sd_model_serve.specs.Rounds.{Round, round_record}
+use Rattle.sd_model_serve.specs.Sessions.{replies_at}
 use Rattle.sd_model_replay.specs.Replay.{Outcome, Played, Run, first_run, events_in, events_at, acts_in, replies_to, packet_tally, desk_after, desk_after_line, play, run_of, Moment, moments, form_of, round_by, rounds, rounds_from, records, deliveries}
-use Rattle.sd_model_replay.specs.Output.{answers_to, replies_to_line, replies_in, output_in, output_of}
+use Rattle.sd_model_replay.specs.Asked.{broadcasts}
+use Rattle.sd_model_replay.specs.Output.{replies_in, output_in, output_of}
 use Rattle.sd_model_shards.specs.Shards.{NoneDropped, with_shards, ShowsNone, ShowsNoSettings}
 use Rattle.sd_model_shards.proofs.ViewLemmas.{View, nothing, view-empty}
-use Rattle.sd_model_shards.proofs.EventsLemmas.{asks, Reflects, Reflects-command, Reflects-delete, seen_after, seen_left, NoneIn, none_cut}
+use Rattle.sd_model_shards.proofs.EventsLemmas.{Reflects, Reflects-command, Reflects-delete, seen_after, seen_left, NoneIn, none_cut}
 use Rattle.sd_model_shards.proofs.ToldLemmas.{keys_alike, rows_alike, values_alike}
 use Rattle.sd_model_settings.specs.Settings.{Settings}
 use Rattle.sd_model_settings.specs.Defaults.{plan_of, names_of}
@@ -65,34 +67,28 @@ none_summed f shards start zero within none = refl
 none_summed f shards start (suc count) within none =
     omega (arith, none start (omega arith), none_summed f shards (start + 1) count (omega arith) none, sum_by-cons f start (range_with_len (start + 1) count))
 
-none_replied : (settings : Settings) (run : Run) (c : Command) → NoneIn settings run c → sum_by dropped_in (replies_to settings run c) ≡ 0
-none_replied settings run c none =
-    sum_by-flat_map dropped_in (λ i. map (λ (a : Act). a.reply) (acts_in settings run i c)) (range_with_len 0 settings.sizes.shards)
-    ∙ none_summed (λ i. sum_by dropped_in (map (λ (a : Act). a.reply) (acts_in settings run i c))) settings.sizes.shards 0 settings.sizes.shards (omega arith)
-    (λ i below. none_answered (limits_of settings) (policy_of settings) (run.shards i) (events_in settings i c) (none i below))
-
--- what all shards tell in answers that each has
-pub told_by_all : {X : Type 0} (tell : at_shard.Reply → List X) (answer : ℕ → at_shard.Reply) (is : List ℕ) → flat_map tell (filter_map (λ i. Some (answer i)) is) ≡ flat_map (λ i. tell (answer i)) is
-told_by_all tell answer [] = refl
-told_by_all tell answer (i ∷ is) = ap (λ rest. tell (answer i) ++ rest) (told_by_all tell answer is)
+none_replied : (bounds : Bounds) (run : Run) (c : Command) → NoneIn bounds run c → sum_by dropped_in (replies_to bounds run.shards c) ≡ 0
+none_replied bounds run c none =
+    sum_by-flat_map dropped_in (λ i. map (λ (a : Act). a.reply) (acts_in bounds run.shards i c)) (range_with_len 0 bounds.shards)
+    ∙ none_summed (λ i. sum_by dropped_in (map (λ (a : Act). a.reply) (acts_in bounds run.shards i c))) bounds.shards 0 bounds.shards (omega arith)
+    (λ i below. none_answered bounds.limits bounds.policy (run.shards i) (events_in bounds.shards i c) (none i below))
 
 -- the answers of all shards to the n-th of events
-abbrev pub answers_at : Limits → Policy → ℕ → (ℕ → State) → List Event → ℕ → List at_shard.Reply
-answers_at limits policy shards states events n = filter_map (λ i. slice_get (map (λ (a : Act). a.reply) (answered limits policy (states i) (asks events))) n) (range_with_len 0 shards)
-
-pub none_there : (is : List ℕ) → filter_map {X = ℕ} {Y = at_shard.Reply} (λ i. None) is ≡ []
-none_there [] = refl
-none_there (i ∷ is) = none_there is
+abbrev pub answers_at : Bounds → (ℕ → State) → List Event → ℕ → List at_shard.Reply
+answers_at bounds states events n = replies_at bounds.shards (broadcasts bounds states events) n
 
 module _ (limits : Limits) (policy : Policy) (n m : ℕ) (some_n : 1 ≤ n) (some_m : 1 ≤ m) where
+  abbrev answers : ℕ → (ℕ → State) → List Event → ℕ → List at_shard.Reply
+  answers shards states events k = answers_at (record { shards = shards; limits = limits; policy = policy }) states events k
+
   -- what a name deletes in all shards
   names_alike : (states others : ℕ → State) (seen : RowId → View) → Reflects n states seen → Reflects m others seen → (kind : Kind) (names : List (List ℕ)) (k : ℕ)
-      → keys_told (answers_at limits policy n states (map (Delete kind) names) k) ≡ keys_told (answers_at limits policy m others (map (Delete kind) names) k)
-  names_alike states others seen h g kind [] k = ap keys_told (none_there (range_with_len 0 n)) ∙ sym (ap keys_told (none_there (range_with_len 0 m)))
+      → keys_told (answers n states (map (Delete kind) names) k) ≡ keys_told (answers m others (map (Delete kind) names) k)
+  names_alike states others seen h g kind [] k = refl
   names_alike states others seen h g kind (name ∷ names) zero =
-      ap (in_key_order (λ (key : List ℕ). key)) (told_by_all keys_in (λ i. deletion_of kind name (states i)) (range_with_len 0 n))
+      ap (in_key_order (λ (key : List ℕ). key)) (flat_map-map keys_in (λ i. deletion_of kind name (states i)) (range_with_len 0 n))
       ∙ keys_alike n m some_n some_m states others seen h g kind name
-      ∙ sym (ap (in_key_order (λ (key : List ℕ). key)) (told_by_all keys_in (λ i. deletion_of kind name (others i)) (range_with_len 0 m)))
+      ∙ sym (ap (in_key_order (λ (key : List ℕ). key)) (flat_map-map keys_in (λ i. deletion_of kind name (others i)) (range_with_len 0 m)))
   names_alike states others seen h g kind (name ∷ names) (suc k) =
       names_alike (λ i. after_delete kind name (states i)) (λ i. after_delete kind name (others i)) (seen_left kind name seen) (Reflects-delete kind name n states seen h) (Reflects-delete kind name m others seen g) kind names k
 
@@ -113,15 +109,15 @@ alike_first n m played = record { left = start n; right = start m; desk = refl }
   start shards i below id = view-empty id ∙ sym (either_nothing (eqb i (shard id.key shards)))
 
 -- no shard drops a sample of records, from a state on
-abbrev pub NoneFrom : Settings → Run → List Played → Type 0
-NoneFrom settings run played = (i : ℕ) → i < settings.sizes.shards → causes (answered (limits_of settings) (policy_of settings) (run.shards i) (events_at settings i played)) ≡ []
+abbrev pub NoneFrom : Bounds → Run → List Played → Type 0
+NoneFrom bounds run played = (i : ℕ) → i < bounds.shards → causes (answered bounds.limits bounds.policy (run.shards i) (events_at bounds.shards i played)) ≡ []
 
 -- no drop in a record and those behind it
-pub none_first : (settings : Settings) (run : Run) (p : Played) (played : List Played) → NoneFrom settings run (p ∷ played) → NoneIn settings run p.command
-none_first settings run p played none i below = (none_cut (limits_of settings) (policy_of settings) (run.shards i) (events_in settings i p.command) (events_at settings i played) (none i below)).0
+pub none_first : (bounds : Bounds) (run : Run) (p : Played) (played : List Played) → NoneFrom bounds run (p ∷ played) → NoneIn bounds run p.command
+none_first bounds run p played none i below = (none_cut bounds.limits bounds.policy (run.shards i) (events_in bounds.shards i p.command) (events_at bounds.shards i played) (none i below)).0
 
-pub none_behind : (settings : Settings) (run : Run) (p : Played) (played : List Played) → NoneFrom settings run (p ∷ played) → NoneFrom settings (play settings run p) played
-none_behind settings run p played none i below = (none_cut (limits_of settings) (policy_of settings) (run.shards i) (events_in settings i p.command) (events_at settings i played) (none i below)).1
+pub none_behind : (bounds : Bounds) (run : Run) (p : Played) (played : List Played) → NoneFrom bounds run (p ∷ played) → NoneFrom bounds (play bounds run p) played
+none_behind bounds run p played none i below = (none_cut bounds.limits bounds.policy (run.shards i) (events_in bounds.shards i p.command) (events_at bounds.shards i played) (none i below)).1
 
 -- the rounds among a record and the moments behind it
 abbrev pub rounds_with : Run → Command → Outcome → List Moment → List Round
@@ -134,19 +130,19 @@ module _ (settings : Settings) (n m : ℕ) (some_n : 1 ≤ n) (some_m : 1 ≤ m)
   abbrev T : Settings
   T = with_shards m settings
 
-  desk_alike : (one another : Run) (c : Command) (outcome : Outcome) → one.desk ≡ another.desk → NoneIn S one c → NoneIn T another c
-      → desk_after one.desk c (replies_to S one c) outcome ≡ desk_after another.desk c (replies_to T another c) outcome
+  desk_alike : (one another : Run) (c : Command) (outcome : Outcome) → one.desk ≡ another.desk → NoneIn (bounds_of S) one c → NoneIn (bounds_of T) another c
+      → desk_after one.desk c (replies_to (bounds_of S) one.shards c) outcome ≡ desk_after another.desk c (replies_to (bounds_of T) another.shards c) outcome
   desk_alike one another (Packet who moment datagram) outcome same none_n none_m =
-      let drops = none_replied S one (Packet who moment datagram) none_n ∙ sym (none_replied T another (Packet who moment datagram) none_m) in
+      let drops = none_replied (bounds_of S) one (Packet who moment datagram) none_n ∙ sym (none_replied (bounds_of T) another (Packet who moment datagram) none_m) in
       λ k. with_repeater_faults (with_tally (same k) (packet_tally datagram (drops k)) moment) (failures outcome.failed)
   desk_alike one another (Flush ts) outcome same none_n none_m = ap (λ (desk : Desk). with_round desk outcome.marks) same
   desk_alike one another (Admin moment line) outcome same none_n none_m = ap (λ (desk : Desk). desk_after_line desk (admin.command line)) same
 
-  alike_after : (one another : Run) (seen : RowId → View) (p : Played) → AreAlike n m one another seen → NoneIn S one p.command → NoneIn T another p.command
-      → AreAlike n m (play S one p) (play T another p) (seen_after (policy_of settings) seen p.command)
+  alike_after : (one another : Run) (seen : RowId → View) (p : Played) → AreAlike n m one another seen → NoneIn (bounds_of S) one p.command → NoneIn (bounds_of T) another p.command
+      → AreAlike n m (play (bounds_of S) one p) (play (bounds_of T) another p) (seen_after (policy_of settings) seen p.command)
   alike_after one another seen p h none_n none_m = record {
-    left = Reflects-command S one seen p.command none_n h.left;
-    right = Reflects-command T another seen p.command none_m h.right;
+    left = Reflects-command (bounds_of S) one seen p.command none_n h.left;
+    right = Reflects-command (bounds_of T) another seen p.command none_m h.right;
     desk = desk_alike one another p.command p.outcome h.desk none_n none_m;
   }
 
@@ -170,55 +166,58 @@ module _ (settings : Settings) (n m : ℕ) (some_n : 1 ≤ n) (some_m : 1 ≤ m)
   abbrev recorded : Settings → Round → Record × Marks
   recorded settings r = (round_record (form_of settings) r, r.marks)
 
-  rounds_alike : (one another : Run) (seen : RowId → View) (played : List Played) → AreAlike n m one another seen → NoneFrom S one played → NoneFrom T another played
-      → map (recorded S) (rounds_from S one played) ≡ map (recorded T) (rounds_from T another played)
+  rounds_alike : (one another : Run) (seen : RowId → View) (played : List Played) → AreAlike n m one another seen → NoneFrom (bounds_of S) one played → NoneFrom (bounds_of T) another played
+      → map (recorded S) (rounds_from (bounds_of S) one played) ≡ map (recorded T) (rounds_from (bounds_of T) another played)
   rounds_alike one another seen [] h none_n none_m = refl
   rounds_alike one another seen (p ∷ played) h none_n none_m =
       by_command p.command p.outcome
-      (rounds_alike (play S one p) (play T another p) (seen_after (policy_of settings) seen p.command) played (alike_after one another seen p h (none_first S one p played none_n) (none_first T another p played none_m))
-      (none_behind S one p played none_n) (none_behind T another p played none_m)) where
+      (rounds_alike (play (bounds_of S) one p) (play (bounds_of T) another p) (seen_after (policy_of settings) seen p.command) played (alike_after one another seen p h (none_first (bounds_of S) one p played none_n) (none_first (bounds_of T) another p played none_m))
+      (none_behind (bounds_of S) one p played none_n) (none_behind (bounds_of T) another p played none_m)) where
         by_command : (c : Command) (outcome : Outcome)
-            → map (recorded S) (rounds_from S (play S one p) played) ≡ map (recorded T) (rounds_from T (play T another p) played)
-            → map (recorded S) (rounds_with one c outcome (moments S (play S one p) played)) ≡ map (recorded T) (rounds_with another c outcome (moments T (play T another p) played))
+            → map (recorded S) (rounds_from (bounds_of S) (play (bounds_of S) one p) played) ≡ map (recorded T) (rounds_from (bounds_of T) (play (bounds_of T) another p) played)
+            → map (recorded S) (rounds_with one c outcome (moments (bounds_of S) (play (bounds_of S) one p) played)) ≡ map (recorded T) (rounds_with another c outcome (moments (bounds_of T) (play (bounds_of T) another p) played))
         by_command (Packet who moment datagram) outcome rest = rest
         by_command (Flush ts) outcome rest = λ k. (record_alike one another seen ts outcome.marks h k, outcome.marks) ∷ rest k
         by_command (Admin moment line) outcome rest = rest
 
-  pub records_alike : (played : List Played) → NoneDropped S played → NoneDropped T played → records S played ≡ records T played
+  pub records_alike : (played : List Played) → NoneDropped (bounds_of S) played → NoneDropped (bounds_of T) played → records S played ≡ records T played
   records_alike played none_n none_m =
-      sym (map-map (λ (r : Record × Marks). r.0) (recorded S) (rounds S played))
+      sym (map-map (λ (r : Record × Marks). r.0) (recorded S) (rounds (bounds_of S) played))
       ∙ ap (map (λ (r : Record × Marks). r.0)) (rounds_alike (first_run played) (first_run played) (λ id. nothing) played (alike_first n m played) none_n none_m)
-      ∙ map-map (λ (r : Record × Marks). r.0) (recorded T) (rounds T played)
+      ∙ map-map (λ (r : Record × Marks). r.0) (recorded T) (rounds (bounds_of T) played)
 
-  pub deliveries_alike : (played : List Played) → NoneDropped S played → NoneDropped T played → (back : Backend) → deliveries S back played ≡ deliveries T back played
+  pub deliveries_alike : (played : List Played) → NoneDropped (bounds_of S) played → NoneDropped (bounds_of T) played → (back : Backend) → deliveries S back played ≡ deliveries T back played
   deliveries_alike played none_n none_m back =
       let deliver : Settings → Record × Marks → Delivery = λ s r. record { text = text_of (names_of s) back r.0; mark = mark_of back r.1 } in
-      sym (map-map (deliver S) (recorded S) (rounds S played))
+      sym (map-map (deliver S) (recorded S) (rounds (bounds_of S) played))
       ∙ ap (map (deliver S)) (rounds_alike (first_run played) (first_run played) (λ id. nothing) played (alike_first n m played) none_n none_m)
-      ∙ map-map (deliver T) (recorded T) (rounds T played)
+      ∙ map-map (deliver T) (recorded T) (rounds (bounds_of T) played)
 
   -- the replies to a line, by its command
   names_told : (names : List (List ℕ)) (answers others : ℕ → List at_shard.Reply) → ((k : ℕ) → keys_told (answers k) ≡ keys_told (others k)) → names_replied answers names ≡ names_replied others names
   names_told [] answers others same = refl
   names_told (name ∷ names) answers others same = λ k. Gone name (same 0 k) ∷ names_told names (λ j. answers (j + 1)) (λ j. others (j + 1)) (λ j. same (j + 1)) k
 
+  abbrev line_replied : Settings → Run → ℕ → List ℕ → Result admin.Command AdminFault → List Reply
+  line_replied s run moment line answer = replies_by (answers_at (bounds_of s) run.shards (admin_events (admin.command line))) run.desk.facts s moment answer
+
   line_alike : (one another : Run) (seen : RowId → View) (moment : ℕ) (line : List ℕ) (answer : Result admin.Command AdminFault) → admin.command line ≡ answer → (answer ≡ Ok admin.Config → ⊥) → AreAlike n m one another seen
-      → replies_to_line S one (Admin moment line) moment answer ≡ replies_to_line T another (Admin moment line) moment answer
-  line_alike one another seen moment line (Ok admin.Stats) is shows h = ap (λ (desk : Desk). Stats (facts_of desk) moment ∷ []) h.desk
+      → line_replied S one moment line answer ≡ line_replied T another moment line answer
+  line_alike one another seen moment line (Ok admin.Stats) is shows h = ap (λ (desk : Desk). Stats desk.facts moment ∷ []) h.desk
   line_alike one another seen moment line (Ok admin.Config) is shows h = absurd (shows refl)
   line_alike one another seen moment line (Ok admin.Quit) is shows h = refl
   line_alike one another seen moment line (Ok (admin.Show kind)) is shows h = ap (λ rows. Rows kind rows ∷ []) (
-      ap (λ answer. rows_told (answers_at (limits_of S) (policy_of S) n one.shards (admin_events answer) 0)) is
-      ∙ ap (in_key_order (λ row. row.key)) (told_by_all rows_in (λ i. Dumped (dump_of kind (one.shards i).live (one.shards i).held)) (range_with_len 0 n))
+      ap (λ answer. rows_told (answers_at (bounds_of S) one.shards (admin_events answer) 0)) is
+      ∙ ap (in_key_order (λ row. row.key)) (flat_map-map rows_in (λ i. Dumped (dump_of kind (one.shards i).live (one.shards i).held)) (range_with_len 0 n))
       ∙ rows_alike n m some_n some_m one.shards another.shards seen h.left h.right kind
-      ∙ sym (ap (in_key_order (λ row. row.key)) (told_by_all rows_in (λ i. Dumped (dump_of kind (another.shards i).live (another.shards i).held)) (range_with_len 0 m)))
-      ∙ sym (ap (λ answer. rows_told (answers_at (limits_of T) (policy_of T) m another.shards (admin_events answer) 0)) is))
+      ∙ sym (ap (in_key_order (λ row. row.key)) (flat_map-map rows_in (λ i. Dumped (dump_of kind (another.shards i).live (another.shards i).held)) (range_with_len 0 m)))
+      ∙ sym (ap (λ answer. rows_told (answers_at (bounds_of T) another.shards (admin_events answer) 0)) is))
   line_alike one another seen moment line (Ok (admin.Delete kind names)) is shows h = ap (λ replies. replies ++ Finish ∷ []) (
-      names_told names (answers_to S one (Admin moment line)) (answers_to T another (Admin moment line)) (λ k.
-      ap (λ answer. keys_told (answers_at (limits_of S) (policy_of S) n one.shards (admin_events answer) k)) is
+      names_told names (answers_at (bounds_of S) one.shards (admin_events (admin.command line))) (answers_at (bounds_of T) another.shards (admin_events (admin.command line))) (λ k.
+      ap (λ answer. keys_told (answers_at (bounds_of S) one.shards (admin_events answer) k)) is
       ∙ names_alike (limits_of settings) (policy_of settings) n m some_n some_m one.shards another.shards seen h.left h.right kind names k
-      ∙ sym (ap (λ answer. keys_told (answers_at (limits_of T) (policy_of T) m another.shards (admin_events answer) k)) is)))
-  line_alike one another seen moment line (Ok (admin.Health word)) is shows h = ap (λ (desk : Desk). Health (health_after word desk.up) ∷ []) h.desk
+      ∙ sym (ap (λ answer. keys_told (answers_at (bounds_of T) another.shards (admin_events answer) k)) is)))
+  line_alike one another seen moment line (Ok (admin.Health word)) is shows h = ap (λ (desk : Desk). Health (health_after word desk.facts.up) ∷ []) h.desk
   line_alike one another seen moment line (Err fault) is shows h = refl
 
   replies_alike : (one another : Run) (seen : RowId → View) (c : Command) → ShowsNone c → AreAlike n m one another seen → replies_in S one c ≡ replies_in T another c
@@ -226,23 +225,23 @@ module _ (settings : Settings) (n m : ℕ) (some_n : 1 ≤ n) (some_m : 1 ≤ m)
   replies_alike one another seen (Flush ts) shows h = refl
   replies_alike one another seen (Admin moment line) shows h = line_alike one another seen moment line (admin.command line) refl shows h
 
-  outputs_alike : (one another : Run) (seen : RowId → View) (played : List Played) → AreAlike n m one another seen → NoneFrom S one played → NoneFrom T another played → ShowsNoSettings played
-      → flat_map (λ (m : Moment). output_in S m.before m.played.command) (moments S one played) ≡ flat_map (λ (m : Moment). output_in T m.before m.played.command) (moments T another played)
+  outputs_alike : (one another : Run) (seen : RowId → View) (played : List Played) → AreAlike n m one another seen → NoneFrom (bounds_of S) one played → NoneFrom (bounds_of T) another played → ShowsNoSettings played
+      → flat_map (λ (m : Moment). output_in S m.before m.played.command) (moments (bounds_of S) one played) ≡ flat_map (λ (m : Moment). output_in T m.before m.played.command) (moments (bounds_of T) another played)
   outputs_alike one another seen [] h none_n none_m shows = refl
   outputs_alike one another seen (p ∷ played) h none_n none_m shows =
       let here = ap (flat_map reply_text) (replies_alike one another seen p.command shows.0 h) in
-      let rest = outputs_alike (play S one p) (play T another p) (seen_after (policy_of settings) seen p.command) played (alike_after one another seen p h (none_first S one p played none_n) (none_first T another p played none_m))
-      (none_behind S one p played none_n) (none_behind T another p played none_m) shows.1 in
+      let rest = outputs_alike (play (bounds_of S) one p) (play (bounds_of T) another p) (seen_after (policy_of settings) seen p.command) played (alike_after one another seen p h (none_first (bounds_of S) one p played none_n) (none_first (bounds_of T) another p played none_m))
+      (none_behind (bounds_of S) one p played none_n) (none_behind (bounds_of T) another p played none_m) shows.1 in
       λ k. here k ++ rest k
 
-  pub output_alike : (played : List Played) → NoneDropped S played → NoneDropped T played → ShowsNoSettings played → output_of S played ≡ output_of T played
+  pub output_alike : (played : List Played) → NoneDropped (bounds_of S) played → NoneDropped (bounds_of T) played → ShowsNoSettings played → output_of S played ≡ output_of T played
   output_alike played none_n none_m shows = outputs_alike (first_run played) (first_run played) (λ id. nothing) played (alike_first n m played) none_n none_m shows
 
-  desks_alike : (one another : Run) (seen : RowId → View) (played : List Played) → AreAlike n m one another seen → NoneFrom S one played → NoneFrom T another played → (run_of S one played).desk ≡ (run_of T another played).desk
+  desks_alike : (one another : Run) (seen : RowId → View) (played : List Played) → AreAlike n m one another seen → NoneFrom (bounds_of S) one played → NoneFrom (bounds_of T) another played → (run_of (bounds_of S) one played).desk ≡ (run_of (bounds_of T) another played).desk
   desks_alike one another seen [] h none_n none_m = h.desk
   desks_alike one another seen (p ∷ played) h none_n none_m =
-      desks_alike (play S one p) (play T another p) (seen_after (policy_of settings) seen p.command) played (alike_after one another seen p h (none_first S one p played none_n) (none_first T another p played none_m))
-      (none_behind S one p played none_n) (none_behind T another p played none_m)
+      desks_alike (play (bounds_of S) one p) (play (bounds_of T) another p) (seen_after (policy_of settings) seen p.command) played (alike_after one another seen p h (none_first (bounds_of S) one p played none_n) (none_first (bounds_of T) another p played none_m))
+      (none_behind (bounds_of S) one p played none_n) (none_behind (bounds_of T) another p played none_m)
 
-  pub desk_at_end : (played : List Played) → NoneDropped S played → NoneDropped T played → (run_of S (first_run played) played).desk ≡ (run_of T (first_run played) played).desk
+  pub desk_at_end : (played : List Played) → NoneDropped (bounds_of S) played → NoneDropped (bounds_of T) played → (run_of (bounds_of S) (first_run played) played).desk ≡ (run_of (bounds_of T) (first_run played) played).desk
   desk_at_end played none_n none_m = desks_alike (first_run played) (first_run played) (λ id. nothing) played (alike_first n m played) none_n none_m

@@ -8,7 +8,8 @@ use Rattle.sd_model_shard.specs.Shard.{State}
 use Rattle.sd_model_shard.specs.Whereabouts.{causes}
 use Rattle.sd_model_record.specs.Admin as admin
 use Rattle.sd_model_serve.specs.Rounds.{Round}
-use Rattle.sd_model_replay.specs.Script.{Command, Packet, Flush, Admin}
+use Rattle.sd_model_replay.specs.Settings.{Bounds}
+use Rattle.sd_model_replay.specs.Script.{Command, Admin}
 use Rattle.sd_model_record.specs.Backends.{Backend}
 use Rattle.sd_model_replay.specs.Replay.{Played, history_at, records, deliveries}
 use Rattle.sd_model_replay.specs.Output.{output_of}
@@ -20,14 +21,13 @@ abbrev pub with_shards : ℕ → Settings → Settings
 with_shards n settings = record settings { sizes = record settings.sizes { shards = n } }
 
 -- No shard drops a sample.
-abbrev pub NoneDropped : Settings → List Played → Type 0
-NoneDropped settings played = (i : ℕ) → i < settings.sizes.shards → causes (history_at settings i played) ≡ []
+abbrev pub NoneDropped : Bounds → List Played → Type 0
+NoneDropped bounds played = (i : ℕ) → i < bounds.shards → causes (history_at bounds i played) ≡ []
 
 -- a record that doesn't ask for the settings
 abbrev pub ShowsNone : Command → Type 0
-ShowsNone (Packet who moment datagram) = ⊤
-ShowsNone (Flush ts) = ⊤
 ShowsNone (Admin moment line) = admin.command line ≢ Ok admin.Config
+ShowsNone c = ⊤
 
 -- No record asks for the settings, which tell the number of shards.
 abbrev pub ShowsNoSettings : List Played → Type 0
@@ -41,9 +41,9 @@ pub record ShowTheSame (one other : Settings) (played : List Played) : Type 0 wh
   pub output : ShowsNoSettings played → output_of one played ≡ output_of other played
   pub totals : totals_after one played ≡ totals_after other played
 
--- the rows of the tables that a round took, shard by shard
-abbrev pub rows_taken : Settings → Round → List RowId
-rows_taken settings r = flat_map (λ i. map (λ row. row.0) (entries (r.tables i).live)) (range_with_len 0 settings.sizes.shards)
+-- the rows of the tables that a round took of so many shards, shard by shard
+abbrev pub rows_taken : ℕ → Round → List RowId
+rows_taken shards r = flat_map (λ i. map (λ row. row.0) (entries (r.tables i).live)) (range_with_len 0 shards)
 
 -- No shard of so many has a row of another one's key.
 abbrev pub AtHome : ℕ → (ℕ → State) → Type 0

@@ -55,15 +55,13 @@ pub record HasStreamed (shards : ℕ) (s : Stream) (source source_now : Object) 
 
 -- whether the reading of a stream ended since its source failed
 abbrev pub ends_by_failure : StreamEnd → Bool
-ends_by_failure AtEnd = false
 ends_by_failure Failed = true
-ends_by_failure (WornOut turns) = false
+ends_by_failure ended = false
 
 -- whether it ended after the most reads
 abbrev pub is_worn : StreamEnd → Bool
-is_worn AtEnd = false
-is_worn Failed = false
 is_worn (WornOut turns) = true
+is_worn ended = false
 
 -- whether any of streams was worn
 abbrev pub any_worn : List Stream → Bool

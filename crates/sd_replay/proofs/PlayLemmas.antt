@@ -4,15 +4,14 @@ use Rattle.std.proofs.lemmas.Bool.{cases_lt, eqb-true}
 use Rattle.std.specs.FinMap.{empty, get, get-empty, same_map}
 use Rattle.std.specs.List.{range_with_len, AllByRecursion}
 use Rattle.std.proofs.Common.{◌≡◌, ◌≢◌, inl, inr, ℕ, Bool, true, false, cond, ◌+◌, ◌<◌, ◌≤◌, ◌^◌, min, eqb, List, [], ◌∷◌, ◌++◌, length, map, refl, sym, ap, subst, ◌∙◌, append-nil, length-append, arith}
-use Rattle.std.specs.Prelude.{sum_by, Option, Some, None, option_and_then, Result, Ok, Err}
+use Rattle.std.specs.Prelude.{sum_by, Option, Some, None, option_and_then}
 use Rattle.std.proofs.lemmas.List.{map-append}
-use Rattle.sd_model_text.specs.Names.{Kind}
 use Rattle.sd_model_text.specs.Lines.{Sample, samples_of}
 use Rattle.sd_model_outside.specs.Outside.{Told, Object, Reads, Used, Rose, HasFailedBehind, FitsLastCount, given, last_count, put_back, telling}
 use Rattle.sd_model_outside.specs.Deliveries.{FitsUse, AfterMark, AfterDeliveries}
 use Rattle.sd_model_outside.proofs.OutsideLemmas.{appended-nil, Reads-append, put_back-append}
 use Rattle.sd_model_outside.proofs.WriteLemmas.{given-given}
-use Rattle.sd_model_shard.specs.Shard.{State, empty_state, Limits, Policy, Submit, after_swap, after_delete, carried, left_of, table_of}
+use Rattle.sd_model_shard.specs.Shard.{State, empty_state, Policy, Submit, after_swap, carried, left_of, table_of}
 use Rattle.sd_model_shard.specs.Rows.{Rows, Kept, row_cmp}
 use Rattle.sd_model_shard.proofs.RowLemmas.{rows_total, rows_exact}
 use Rattle.sd_model_shard.proofs.CarriedLemmas.{get-carried}
@@ -21,17 +20,15 @@ use Rattle.sd_model_shard.specs.Whereabouts.{dropped_in}
 use Rattle.sd_model_record.specs.Desk.{Desk, Marks, new_desk, with_tally, with_repeater_faults, with_round}
 use Rattle.sd_model_record.specs.Record.{Record, record_of}
 use Rattle.sd_model_record.specs.Admin as admin
-use Rattle.sd_model_record.specs.Admin.{AdminFault}
-use Rattle.sd_command.specs.Commanded.{commanded, deleted, run_with}
-use Rattle.sd_command.proofs.CommandLemmas.{deleted-at, idle_delete, line_carried, state_past}
+use Rattle.sd_command.proofs.CommandLemmas.{idle_line, state_past}
 use Rattle.sd_model_settings.specs.Settings.{Settings}
-use Rattle.sd_model_replay.specs.Settings.{is_used, limits_of, policy_of, targets_of}
+use Rattle.sd_model_replay.specs.Settings.{Bounds, bounds_of, is_used, targets_of}
 use Rattle.sd_model_record.specs.Backends.{Backend, mark_of, text_of}
 use Rattle.sd_model_record.specs.Repeater.{AreRepeated, failures}
 use Rattle.sd_model_replay.specs.Script.{Command, Packet, Flush, Admin, end_word, spelled, script_text, IsLegal}
 use Rattle.sd_model_replay.specs.Next.{ScriptFlaw, Faulty, Begins, IsUndecided}
 use Rattle.sd_model_serve.specs.Rounds.{Round, round_text}
-use Rattle.sd_model_replay.specs.Replay.{Played, IsOutcome, no_marks, home_of, events_in, replies_to, packet_tally, moment_of, desk_after_line, Run, begun_at, first_run, form_of, play, run_of, deliveries, sendings}
+use Rattle.sd_model_replay.specs.Replay.{Played, IsOutcome, no_marks, home_of, replies_to, states_after, packet_tally, moment_of, desk_after_line, Run, first_run, form_of, play, run_of, deliveries, sendings}
 use Rattle.sd_model_replay.specs.Output.{output_in, output_of}
 use Rattle.sd_model_replay.specs.Totals.{Total, summed, totals_of, totals_after, totals_text}
 use Rattle.sd_model_replay.specs.AccountingTheorem.{Seen, Course, AccountingTheorem, seen_at}
@@ -41,8 +38,7 @@ use Rattle.sd_model_replay.proofs.HistoryLemmas.{arrivals-history_at, state-hist
 use Rattle.sd_model_outside.proofs.DeliveryLemmas.{AfterDeliveries-push}
 use Rattle.sd_model_record.proofs.WireLemmas.{AreRepeated-next, AreRepeated-none}
 use Rattle.sd_model_replay.proofs.ReplayLemmas.{run_before, run_of-push, output_of-push, deliveries-push, delivery_of, sendings-push, script_text-end, AllByRecursion-push}
-use Rattle.sd_shards.specs.Shards.{Group, AreAlike, numbers, state_at}
-use Rattle.sd_shards.specs.Filed.{filed_of, filed_at, replies_of, replies_at}
+use Rattle.sd_shards.specs.Shards.{Group, AreAlike, group_bounds, numbers, state_at}
 use Rattle.sd_replay.specs.Totals.{totals_of_group}
 use Rattle.sd_model_settings.specs.Defaults.{plan_of, names_of}
 
@@ -58,8 +54,8 @@ pub record Progress (settings : Settings) (script left : Told) (old new : Backen
   pub used : AllByRecursion (λ p. IsOutcome settings p.command p.outcome) played
   pub texts : (back : Backend) → AfterDeliveries (deliveries settings back played) (old back) (new back)
   pub sends : AreRepeated (sendings played) had has
-  pub same_states : states ≡ (run_of settings (first_run played) played).shards
-  pub same_desk : desk ≡ (run_of settings (first_run played) played).desk
+  pub same_states : states ≡ (run_of (bounds_of settings) (first_run played) played).shards
+  pub same_desk : desk ≡ (run_of (bounds_of settings) (first_run played) played).desk
   pub same_place : at ≡ text_length played
   pub turns : length played ≡ turn
 
@@ -84,13 +80,16 @@ pub given-nil : (o : Object) → FitsLastCount o.told → given [] o ≡ o
 given-nil o fits = ap (λ told. telling told o) (appended-nil o.told fits)
 
 -- shards that go by the settings
-pub record GoBy (settings : Settings) (group : Group) : Type 0 where
-  pub count : length group.states ≡ settings.sizes.shards
-  pub limits : group.limits ≡ limits_of settings
-  pub policy : group.policy ≡ policy_of settings
+abbrev pub GoBy : Settings → Group → Type 0
+GoBy settings group = group_bounds group ≡ bounds_of settings
+
+-- so they are as many as these say
+pub count_by : (settings : Settings) (group : Group) → GoBy settings group → length group.states ≡ settings.sizes.shards
+count_by settings group by = ap (λ (b : Bounds). b.shards) by
 
 pub still_go : (settings : Settings) (old new : Group) → GoBy settings old → AreAlike old new → GoBy settings new
-still_go settings old new by alike = record { count = alike.count ∙ by.count; limits = alike.limits ∙ by.limits; policy = alike.policy ∙ by.policy }
+still_go settings old new by alike =
+    let same : group_bounds new ≡ group_bounds old = λ k. record { shards = alike.count k; limits = alike.limits k; policy = alike.policy k } in same ∙ by
 
 none_there : (f : Kept → Option Kept) (found : Option Kept) → found ≡ None → option_and_then f found ≡ found
 none_there f None none = refl
@@ -102,67 +101,40 @@ idle_swap policy =
     ap (λ (live : Rows). record empty_state { live = live })
     (same_map rows_total rows_exact (carried policy empty []) empty (λ q. get-carried policy empty [] q ∙ none_there (left_of policy [] q) (get empty q) (get-empty row_cmp q)))
 
--- and so do the deletions of a line
-idle_deletes : (kind : Kind) (names : List (List ℕ)) (i : ℕ) → deleted kind (λ j. empty_state) names i ≡ empty_state
-idle_deletes kind [] i = refl
-idle_deletes kind (name ∷ names) i = deleted-at kind (λ j. after_delete kind name empty_state) (λ j. empty_state) names i (idle_delete kind name) ∙ idle_deletes kind names i
-
-idle_line : (answer : Result admin.Command AdminFault) (i : ℕ) → commanded answer (λ j. empty_state) i ≡ empty_state
-idle_line (Ok admin.Stats) i = refl
-idle_line (Ok admin.Config) i = refl
-idle_line (Ok admin.Quit) i = refl
-idle_line (Ok (admin.Show kind)) i = refl
-idle_line (Ok (admin.Delete kind names)) i = idle_deletes kind names i
-idle_line (Ok (admin.Health word)) i = refl
-idle_line (Err fault) i = refl
-
 -- What a record does to shards. Beyond the last of them it does nothing.
-module _ (settings : Settings) (some : 0 < settings.sizes.shards) where
-  not_there : (i : ℕ) (s : Sample) (b : Bool) → eqb i (home_of settings s) ≡ b → settings.sizes.shards ≤ i → b ≡ false
+module _ (bounds : Bounds) (some : 0 < bounds.shards) where
+  not_there : (i : ℕ) (s : Sample) (b : Bool) → eqb i (home_of bounds.shards s) ≡ b → bounds.shards ≤ i → b ≡ false
   not_there i s false is past = refl
-  not_there i s true is past = let same : i ≡ home_of settings s = eqb-true i (home_of settings s) is in let below : home_of settings s < settings.sizes.shards = mod-lt _ some in absurd (omega (arith, same, below, past))
+  not_there i s true is past =
+      let same : i ≡ home_of bounds.shards s = eqb-true i (home_of bounds.shards s) is in let below : home_of bounds.shards s < bounds.shards = mod-lt _ some in absurd (omega (arith, same, below, past))
 
-  none_of : (i : ℕ) (samples : List Sample) → settings.sizes.shards ≤ i → part_of (home_of settings) i samples ≡ []
+  none_of : (i : ℕ) (samples : List Sample) → bounds.shards ≤ i → part_of (home_of bounds.shards) i samples ≡ []
   none_of i [] past = refl
-  none_of i (s ∷ samples) past = kept (eqb i (home_of settings s)) (not_there i s (eqb i (home_of settings s)) refl past) (none_of i samples past) where
-    kept : (b : Bool) → b ≡ false → part_of (home_of settings) i samples ≡ [] → cond b (s ∷ part_of (home_of settings) i samples) (part_of (home_of settings) i samples) ≡ []
+  none_of i (s ∷ samples) past = kept (eqb i (home_of bounds.shards s)) (not_there i s (eqb i (home_of bounds.shards s)) refl past) (none_of i samples past) where
+    kept : (b : Bool) → b ≡ false → part_of (home_of bounds.shards) i samples ≡ [] → cond b (s ∷ part_of (home_of bounds.shards) i samples) (part_of (home_of bounds.shards) i samples) ≡ []
     kept true is h = absurd (cc)
     kept false is h = h
 
   -- a shard's state after what a record asks of it
   abbrev asked_by : Command → ℕ → State → State
-  asked_by c i state = after_all (limits_of settings) (policy_of settings) state (answered (limits_of settings) (policy_of settings) state (events_in settings i c))
+  asked_by c i state = states_after bounds (λ j. state) c i
 
-  idle : (c : Command) (i : ℕ) → settings.sizes.shards ≤ i → asked_by c i empty_state ≡ empty_state
+  idle : (c : Command) (i : ℕ) → bounds.shards ≤ i → asked_by c i empty_state ≡ empty_state
   idle (Packet who moment datagram) i past =
-      ap (λ (samples : List Sample). after_all (limits_of settings) (policy_of settings) empty_state (answered (limits_of settings) (policy_of settings) empty_state (map (λ s. record { who = who; event = Submit s }) samples))) (none_of i (samples_of datagram) past)
-  idle (Flush ts) i past = idle_swap (policy_of settings)
-  idle (Admin moment line) i past = line_carried settings (begun_at 0) moment line i ∙ idle_line (admin.command line) i
+      ap (λ (samples : List Sample). after_all bounds.limits bounds.policy empty_state (answered bounds.limits bounds.policy empty_state (map (λ s. record { who = who; event = Submit s }) samples))) (none_of i (samples_of datagram) past)
+  idle (Flush ts) i past = idle_swap bounds.policy
+  idle (Admin moment line) i past = idle_line bounds (admin.command line)
 
   -- the states after a record, by those of the shards that there are
-  pub stepped : (run : Run) (p : Played) (old new : Group) → length old.states ≡ settings.sizes.shards → length new.states ≡ length old.states → state_at old ≡ run.shards
-      → ((i : ℕ) → i < settings.sizes.shards → state_at new i ≡ asked_by p.command i (state_at old i)) → state_at new ≡ (play settings run p).shards
+  pub stepped : (run : Run) (p : Played) (old new : Group) → length old.states ≡ bounds.shards → length new.states ≡ length old.states → state_at old ≡ run.shards
+      → ((i : ℕ) → i < bounds.shards → state_at new i ≡ states_after bounds (state_at old) p.command i) → state_at new ≡ (play bounds run p).shards
   stepped run p old new count alike same each = λ t i. at i t where
-    at : (i : ℕ) → state_at new i ≡ (play settings run p).shards i
-    at i = elim (cases_lt i settings.sizes.shards) [
-      | inl below ↦ each i below ∙ ap (λ (states : ℕ → State). asked_by p.command i (states i)) same
+    at : (i : ℕ) → state_at new i ≡ (play bounds run p).shards i
+    at i = elim (cases_lt i bounds.shards) [
+      | inl below ↦ each i below ∙ ap (λ (states : ℕ → State). states_after bounds states p.command i) same
       | inr past ↦ state_past new i (omega (arith, past, count, alike)) ∙ sym (idle p.command i past)
-          ∙ ap (asked_by p.command i) (sym (state_past old i (omega (arith, past, count)))) ∙ ap (λ (states : ℕ → State). asked_by p.command i (states i)) same
+          ∙ ap (asked_by p.command i) (sym (state_past old i (omega (arith, past, count)))) ∙ ap (λ (states : ℕ → State). states_after bounds states p.command i) same
     ]
-
--- a datagram's samples in shards that go by the settings
-filed_by : (settings : Settings) (group : Group) (who moment : ℕ) (datagram : List ℕ) (i : ℕ) → GoBy settings group
-    → filed_at group who datagram i ≡ after_all (limits_of settings) (policy_of settings) (state_at group i) (answered (limits_of settings) (policy_of settings) (state_at group i) (events_in settings i (Packet who moment datagram)))
-filed_by settings group who moment datagram i by =
-    let filed : Limits → Policy → ℕ → State = λ limits policy n. filed_of limits policy who (samples_of datagram) n (state_at group) i in
-    ap (λ limits. filed limits group.policy (length group.states)) by.limits ∙ ap (λ policy. filed (limits_of settings) policy (length group.states)) by.policy ∙ ap (filed (limits_of settings) (policy_of settings)) by.count
-
-replied_by : (settings : Settings) (run : Run) (group : Group) (who moment : ℕ) (datagram : List ℕ) → GoBy settings group → state_at group ≡ run.shards
-    → sum_by dropped_in (replies_at group who datagram) ≡ sum_by dropped_in (replies_to settings run (Packet who moment datagram))
-replied_by settings run group who moment datagram by same =
-    let told : Limits → Policy → ℕ → (ℕ → State) → ℕ = λ limits policy n states. sum_by dropped_in (replies_of limits policy who (samples_of datagram) n states) in
-    ap (λ limits. told limits group.policy (length group.states) (state_at group)) by.limits ∙ ap (λ policy. told (limits_of settings) policy (length group.states) (state_at group)) by.policy
-    ∙ ap (λ n. told (limits_of settings) (policy_of settings) n (state_at group)) by.count ∙ ap (told (limits_of settings) (policy_of settings) settings.sizes.shards) same
 
 longer : (commands : List Command) (c : Command) (at : ℕ) → at ≡ min (length (script_text commands)) last_count → min (at + length (spelled c)) last_count ≡ min (length (script_text (commands ++ c ∷ []))) last_count
 longer commands c at e =
@@ -174,21 +146,21 @@ abbrev pub line_played : ℕ → List ℕ → Played
 line_played moment line = record { command = Admin moment line; outcome = record { marks = no_marks; failed = [] } }
 
 -- where records stand before a record, it tells no start
-same_shards : (settings : Settings) (played : List Played) (p : Played) → (run_of settings (first_run played) played).shards ≡ (run_before settings played p).shards
+same_shards : (settings : Settings) (played : List Played) (p : Played) → (run_of (bounds_of settings) (first_run played) played).shards ≡ (run_before (bounds_of settings) played p).shards
 same_shards settings [] p = refl
 same_shards settings (q ∷ played) p = refl
 
 -- a record that replies nothing writes nothing
-pub quiet : (settings : Settings) (played : List Played) (p : Played) → output_in settings (run_before settings played p) p.command ≡ [] → output_of settings (played ++ p ∷ []) ≡ output_of settings played
+pub quiet : (settings : Settings) (played : List Played) (p : Played) → output_in settings (run_before (bounds_of settings) played p) p.command ≡ [] → output_of settings (played ++ p ∷ []) ≡ output_of settings played
 quiet settings played p none = output_of-push settings played p ∙ ap (λ text. output_of settings played ++ text) none ∙ append-nil (output_of settings played)
 
 -- the desk before a record that stands next, which begins anew at the first
-pub desk_before : (settings : Settings) (played : List Played) (p : Played) (desk begun : Desk) → desk ≡ (run_of settings (first_run played) played).desk → (length played ≡ 0 → begun ≡ new_desk (moment_of p.command)) → (length played ≢ 0 → begun ≡ desk) → begun ≡ (run_before settings played p).desk
+pub desk_before : (settings : Settings) (played : List Played) (p : Played) (desk begun : Desk) → desk ≡ (run_of (bounds_of settings) (first_run played) played).desk → (length played ≡ 0 → begun ≡ new_desk (moment_of p.command)) → (length played ≢ 0 → begun ≡ desk) → begun ≡ (run_before (bounds_of settings) played p).desk
 desk_before settings [] p desk begun same first later = first refl
 desk_before settings (q ∷ played) p desk begun same first later = later (λ none. absurd (omega (arith, none))) ∙ same
 
 -- and the desk where the end stands next
-pub desk_at_end : (settings : Settings) (played : List Played) (desk begun : Desk) → desk ≡ (run_of settings (first_run played) played).desk → (length played ≡ 0 → begun ≡ new_desk 0) → (length played ≢ 0 → begun ≡ desk) → begun ≡ (run_of settings (first_run played) played).desk
+pub desk_at_end : (settings : Settings) (played : List Played) (desk begun : Desk) → desk ≡ (run_of (bounds_of settings) (first_run played) played).desk → (length played ≡ 0 → begun ≡ new_desk 0) → (length played ≢ 0 → begun ≡ desk) → begun ≡ (run_of (bounds_of settings) (first_run played) played).desk
 desk_at_end settings [] desk begun same first later = first refl
 desk_at_end settings (q ∷ played) desk begun same first later = later (λ none. absurd (omega (arith, none))) ∙ same
 
@@ -200,7 +172,7 @@ module _ (settings : Settings) (some : 0 < settings.sizes.shards) (script left l
   More p = (progress : Progress settings script left' old new' had has' (state_at group') desk' at' (turn + 1)) × (progress.played ≡ so_far.played ++ p ∷ [])
 
   abbrev pub before : Played → Run
-  before p = run_before settings so_far.played p
+  before p = run_before (bounds_of settings) so_far.played p
 
   -- the shards before it
   states_before : (p : Played) → state_at group ≡ (before p).shards
@@ -210,7 +182,7 @@ module _ (settings : Settings) (some : 0 < settings.sizes.shards) (script left l
   one_more : (p : Played) → Reads left (spelled p.command) left' → IsLegal settings.sizes.receivers p.command → IsOutcome settings p.command p.outcome
       → ((back : Backend) → AfterDeliveries (deliveries settings back (so_far.played ++ p ∷ [])) (old back) (new' back))
       → AreRepeated (sendings (so_far.played ++ p ∷ [])) had has'
-      → ((i : ℕ) → i < settings.sizes.shards → state_at group' i ≡ asked_by settings some p.command i (state_at group i)) → desk' ≡ (play settings (before p) p).desk
+      → ((i : ℕ) → i < settings.sizes.shards → state_at group' i ≡ states_after (bounds_of settings) (state_at group) p.command i) → desk' ≡ (play (bounds_of settings) (before p) p).desk
       → at' ≡ min (at + length (spelled p.command)) last_count → More p
   one_more p text legal used after sent each d a =
       let ps = so_far.played in
@@ -224,8 +196,8 @@ module _ (settings : Settings) (some : 0 < settings.sizes.shards) (script left l
           used = AllByRecursion-push (λ (q : Played). IsOutcome settings q.command q.outcome) ps p so_far.used used;
           texts = after;
           sends = sent;
-          same_states = stepped settings some (before p) p group group' by.count alike.count (states_before p) each ∙ ap (λ (r : Run). r.shards) (sym (run_of-push settings ps p));
-          same_desk = d ∙ ap (λ (r : Run). r.desk) (sym (run_of-push settings ps p));
+          same_states = stepped (bounds_of settings) some (before p) p group group' (count_by settings group by) alike.count (states_before p) each ∙ ap (λ (r : Run). r.shards) (sym (run_of-push (bounds_of settings) ps p));
+          same_desk = d ∙ ap (λ (r : Run). r.desk) (sym (run_of-push (bounds_of settings) ps p));
           same_place = a ∙ longer (commands_of ps) p.command at so_far.same_place ∙ ap (λ cs. min (length (script_text cs)) last_count) (sym commands);
           turns = omega (arith, so_far.turns, length-append ps (p ∷ []));
         },
@@ -247,18 +219,20 @@ module _ (settings : Settings) (some : 0 < settings.sizes.shards) (script left l
   pub packet_more : (who moment : ℕ) (datagram : List ℕ) (failed : List Bool) → Reads left (spelled (Packet who moment datagram)) left' → IsLegal settings.sizes.receivers (Packet who moment datagram)
       → begun ≡ (before (record { command = Packet who moment datagram; outcome = record { marks = no_marks; failed = failed } })).desk
       → length failed ≡ length (targets_of settings) → AreRepeated (record { packet = datagram; failed = failed } ∷ []) has has'
-      → ((i : ℕ) → i < length group.states → state_at group' i ≡ filed_at group who datagram i)
-      → desk' ≡ with_repeater_faults (with_tally begun (packet_tally datagram (sum_by dropped_in (replies_at group who datagram))) moment) (failures failed)
+      → ((i : ℕ) → i < length group.states → state_at group' i ≡ states_after (group_bounds group) (state_at group) (Packet who moment datagram) i)
+      → desk' ≡ with_repeater_faults (with_tally begun (packet_tally datagram (sum_by dropped_in (replies_to (group_bounds group) (state_at group) (Packet who moment datagram)))) moment) (failures failed)
       → at' ≡ min (at + length (spelled (Packet who moment datagram))) last_count → new' ≡ new
       → More (record { command = Packet who moment datagram; outcome = record { marks = no_marks; failed = failed } })
   packet_more who moment datagram failed text legal same_desk count sent each d a kept =
       let p : Played = record { command = Packet who moment datagram; outcome = record { marks = no_marks; failed = failed } } in
+      let dropped : Bounds → (ℕ → State) → ℕ = λ b states. sum_by dropped_in (replies_to b states p.command) in
       let counted_by : Desk → ℕ → Desk = λ e n. with_repeater_faults (with_tally e (packet_tally datagram n) moment) (failures failed) in
       one_more p text legal (refl, count)
       (no_delivery p (λ back. deliveries-push settings back so_far.played p ∙ append-nil (deliveries settings back so_far.played)) kept)
       (subst (λ ss. AreRepeated ss had has') (sym (sendings-push so_far.played p)) (AreRepeated-next (sendings so_far.played) (record { packet = datagram; failed = failed } ∷ []) had has has' so_far.sends sent))
-      (λ i below. each i (omega (arith, below, by.count)) ∙ filed_by settings group who moment datagram i by)
-      (d ∙ ap (counted_by begun) (replied_by settings (before p) group who moment datagram by (states_before p)) ∙ ap (λ e. counted_by e (sum_by dropped_in (replies_to settings (before p) p.command))) same_desk)
+      (λ i below. each i (omega (arith, below, count_by settings group by)) ∙ ap (λ b. states_after b (state_at group) p.command i) by)
+      (d ∙ ap (λ b. counted_by begun (dropped b (state_at group))) by ∙ ap (λ states. counted_by begun (dropped (bounds_of settings) states)) (states_before p)
+      ∙ ap (λ e. counted_by e (dropped (bounds_of settings) (before p).shards)) same_desk)
       a
 
   -- a flush more: the shards are swapped, the tally is taken, and each backend was given the text, as its mark says
@@ -274,37 +248,37 @@ module _ (settings : Settings) (some : 0 < settings.sizes.shards) (script left l
       let r : Round = record { ts = ts; tally = run.desk.tally; tables = λ i. table_of (run.shards i); marks = marks } in
       let record_in : ℕ → (ℕ → State) → Desk → Record = λ n states e. record_of (plan_of settings) (map (λ i. table_of (states i)) (range_with_len 0 n)) e.tally ts in
       let same_record : record_in (length group.states) (state_at group) begun ≡ record_in settings.sizes.shards run.shards run.desk =
-      ap (λ n. record_in n (state_at group) begun) by.count ∙ ap (λ states. record_in settings.sizes.shards states begun) (states_before p) ∙ ap (record_in settings.sizes.shards run.shards) same_desk in
+      ap (λ n. record_in n (state_at group) begun) (count_by settings group by) ∙ ap (λ states. record_in settings.sizes.shards states begun) (states_before p) ∙ ap (record_in settings.sizes.shards run.shards) same_desk in
       let delivered : (back : Backend) → AfterMark (mark_of back marks) (round_text (form_of settings) back r) (new back) (new' back) =
       λ back. subst (λ x. AfterMark (mark_of back marks) (text_of (names_of settings) back x) (new back) (new' back)) same_record (after back) in
       one_more p text legal (refl, uses)
       (λ back. subst (λ ds. AfterDeliveries ds (old back) (new' back)) (sym (deliveries-push settings back so_far.played p))
       (AfterDeliveries-push (deliveries settings back so_far.played) (delivery_of settings back r) (old back) (new back) (new' back) (so_far.texts back) (delivered back)))
       (no_sending p (sendings-push so_far.played p ∙ append-nil (sendings so_far.played)) kept)
-      (λ i below. each i (omega (arith, below, by.count)) ∙ ap (λ policy. after_swap policy (state_at group i)) by.policy)
+      (λ i below. each i (omega (arith, below, count_by settings group by)) ∙ ap (λ (b : Bounds). after_swap b.policy (state_at group i)) by)
       (d ∙ ap (λ (e : Desk). with_round e marks) same_desk)
       a
 
   -- an admin line more: its command is carried out
   pub line_more : (moment : ℕ) (line : List ℕ) → Reads left (spelled (Admin moment line)) left' → IsLegal settings.sizes.receivers (Admin moment line)
       → begun ≡ (before (line_played moment line)).desk
-      → ((i : ℕ) → state_at group' i ≡ commanded (admin.command line) (state_at group) i) → desk' ≡ desk_after_line begun (admin.command line)
+      → ((i : ℕ) → state_at group' i ≡ states_after (group_bounds group) (state_at group) (Admin moment line) i) → desk' ≡ desk_after_line begun (admin.command line)
       → at' ≡ min (at + length (spelled (Admin moment line))) last_count → new' ≡ new → has' ≡ has → More (line_played moment line)
   line_more moment line text legal same_desk each d a kept_backs kept_wires =
       let p = line_played moment line in
       one_more p text legal (refl, refl)
       (no_delivery p (λ back. deliveries-push settings back so_far.played p ∙ append-nil (deliveries settings back so_far.played)) kept_backs)
       (no_sending p (sendings-push so_far.played p ∙ append-nil (sendings so_far.played)) kept_wires)
-      (λ i below. each i ∙ sym (line_carried settings (run_with (state_at group) begun) moment line i))
+      (λ i below. each i ∙ ap (λ b. states_after b (state_at group) (Admin moment line) i) by)
       (d ∙ ap (λ (e : Desk). desk_after_line e (admin.command line)) same_desk)
       a
 
   -- the text of what is replied to it
   pub line_replied : (moment : ℕ) (line : List ℕ) → begun ≡ (before (line_played moment line)).desk
-      → output_in settings (run_with (state_at group) begun) (Admin moment line) ≡ output_in settings (before (line_played moment line)) (Admin moment line)
+      → output_in settings (record { shards = state_at group; desk = begun }) (Admin moment line) ≡ output_in settings (before (line_played moment line)) (Admin moment line)
   line_replied moment line same_desk =
-      ap (λ (states : ℕ → State). output_in settings (run_with states begun) (Admin moment line)) (states_before (line_played moment line))
-      ∙ ap (λ (e : Desk). output_in settings (run_with (before (line_played moment line)).shards e) (Admin moment line)) same_desk
+      ap (λ (states : ℕ → State). output_in settings (record { shards = states; desk = begun }) (Admin moment line)) (states_before (line_played moment line))
+      ∙ ap (λ (e : Desk). output_in settings (record { shards = (before (line_played moment line)).shards; desk = e }) (Admin moment line)) same_desk
 
 -- How a replay ends, where these bytes were read behind what it has carried out.
 module _ (settings : Settings) (old new : Seen) (left : Told) (group : Group) (desk : Desk) (at turn : ℕ) (had has : Backend → Object) (before : (back : Backend) → had back ≡ seen_at back old) (now : (back : Backend) → has back ≡ seen_at back new)
@@ -321,25 +295,25 @@ module _ (settings : Settings) (old new : Seen) (left : Told) (group : Group) (d
     read = Reads-append old.script.told left new.script.told (script_text (commands_of so_far.played)) ahead so_far.read behind;
     legal = so_far.legal;
     accounted = are_accounted settings so_far.played;
-    submitted = λ i below. arrivals-history_at settings i so_far.played;
-    state = λ i below. state-history_at settings i so_far.played;
+    submitted = λ i below. arrivals-history_at (bounds_of settings) i so_far.played;
+    state = λ i below. state-history_at (bounds_of settings) i so_far.played;
     used = so_far.used;
     texts = λ back. subst (λ o. AfterDeliveries (deliveries settings back so_far.played) (seen_at back old) o) (now back)
         (subst (λ o. AfterDeliveries (deliveries settings back so_far.played) o (has back)) (before back) (so_far.texts back));
     sends = so_far.sends;
   }
 
-  same_totals : (begun : Desk) → length group.states ≡ settings.sizes.shards → begun ≡ (run_of settings (first_run so_far.played) so_far.played).desk → totals_of_group group begun ≡ totals_after settings so_far.played
+  same_totals : (begun : Desk) → length group.states ≡ settings.sizes.shards → begun ≡ (run_of (bounds_of settings) (first_run so_far.played) so_far.played).desk → totals_of_group group begun ≡ totals_after settings so_far.played
   same_totals begun count same_desk =
-      let run = run_of settings (first_run so_far.played) so_far.played in
-      ap (λ n. totals_of (summed n (state_at group)) begun) count
-      ∙ ap (λ (states : ℕ → State). totals_of (summed settings.sizes.shards states) begun) so_far.same_states
-      ∙ ap (λ (e : Desk). totals_of (summed settings.sizes.shards run.shards) e) same_desk
+      let run = run_of (bounds_of settings) (first_run so_far.played) so_far.played in
+      ap (λ n. totals_of (summed n (state_at group)) begun.facts) count
+      ∙ ap (λ (states : ℕ → State). totals_of (summed settings.sizes.shards states) begun.facts) so_far.same_states
+      ∙ ap (λ (e : Desk). totals_of (summed settings.sizes.shards run.shards) e.facts) same_desk
 
   -- the script counted no fault
   module _ (script_faults : new.script.faults ≡ old.script.faults) where
     -- the word was read, and these totals were written
-    pub completes : length group.states ≡ settings.sizes.shards → (begun : Desk) (totals : List Total) (rest : List ℕ) (output : Object) → begun ≡ (run_of settings (first_run so_far.played) so_far.played).desk → turn < 2 ^ 62 → ahead ≡ end_word ++ rest → totals ≡ totals_of_group group begun
+    pub completes : length group.states ≡ settings.sizes.shards → (begun : Desk) (totals : List Total) (rest : List ℕ) (output : Object) → begun ≡ (run_of (bounds_of settings) (first_run so_far.played) so_far.played).desk → turn < 2 ^ 62 → ahead ≡ end_word ++ rest → totals ≡ totals_of_group group begun
         → HasWritten so_far.played output → new.output ≡ given (totals_text totals) output → Replayed settings (Complete totals) old new
     completes group_count begun totals rest output same_desk few word counts front written = record {
       course = course;
@@ -353,7 +327,7 @@ module _ (settings : Settings) (old new : Seen) (left : Told) (group : Group) (d
     }
 
     -- the word was read, and a write of the totals failed
-    pub writes_part : length group.states ≡ settings.sizes.shards → (begun : Desk) (rest : List ℕ) (output : Object) → begun ≡ (run_of settings (first_run so_far.played) so_far.played).desk → turn < 2 ^ 62 → ahead ≡ end_word ++ rest
+    pub writes_part : length group.states ≡ settings.sizes.shards → (begun : Desk) (rest : List ℕ) (output : Object) → begun ≡ (run_of (bounds_of settings) (first_run so_far.played) so_far.played).desk → turn < 2 ^ 62 → ahead ≡ end_word ++ rest
         → HasWritten so_far.played output → HasFailedBehind (totals_text (totals_of_group group begun)) output new.output → Replayed settings WriteFailed old new
     writes_part group_count begun rest output same_desk few word front failed = record {
       course = course;
@@ -375,9 +349,9 @@ module _ (settings : Settings) (old new : Seen) (left : Told) (group : Group) (d
 
     -- a write of a reply to the last record failed
     pub replies_part : (front : List Played) (p : Played) (output : Object) → so_far.played ≡ front ++ p ∷ [] → length front < 2 ^ 62
-        → HasWritten front output → HasFailedBehind (output_in settings (run_before settings front p) p.command) output new.output → Replayed settings WriteFailed old new
+        → HasWritten front output → HasFailedBehind (output_in settings (run_before (bounds_of settings) front p) p.command) output new.output → Replayed settings WriteFailed old new
     replies_part front p output order few written failed =
-        let text = output_in settings (run_before settings front p) p.command in
+        let text = output_in settings (run_before (bounds_of settings) front p) p.command in
         record {
           course = course;
           theorem = theorem;
@@ -389,7 +363,7 @@ module _ (settings : Settings) (old new : Seen) (left : Told) (group : Group) (d
               before = front;
               text = text;
               few = few;
-              writing = inr (record { last = p; order = order; replies = ap (λ ps. output_in settings (run_of settings (first_run ps) front) p.command) (sym order) });
+              writing = inr (record { last = p; order = order; replies = ap (λ ps. output_in settings (run_of (bounds_of settings) (first_run ps) front) p.command) (sym order) });
               failed = subst (λ (o : Object). HasFailedBehind text o new.output) written failed;
             };
           };

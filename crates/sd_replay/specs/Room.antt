@@ -1,20 +1,18 @@
 -- What a replay's room is opened for; and room for what shards tell at once.
 use Rattle.std.specs.Prelude.{◌≤◌, ◌*◌, ℕ}
-use Rattle.sd_model_shard.specs.Shard.{Limits, Policy}
+use Rattle.sd_model_shard.specs.Shard.{Limits}
 use Rattle.sd_record.specs.Rows.{Room}
 use Rattle.sd_model_settings.specs.Settings.{Settings}
-use Rattle.sd_model_replay.specs.Settings.{limits_of, policy_of}
+use Rattle.sd_model_replay.specs.Settings.{Bounds, bounds_of}
 
 -- what the room of a replay depends on
 pub record Sizing : Type 0 where
-  pub shards : ℕ
-  pub limits : Limits
-  pub policy : Policy
+  pub bounds : Bounds
   pub receivers : ℕ
 
 -- that of settings
 abbrev pub sizing_of : Settings → Sizing
-sizing_of s = record { shards = s.sizes.shards; limits = limits_of s; policy = policy_of s; receivers = s.sizes.receivers }
+sizing_of s = record { bounds = bounds_of s; receivers = s.sizes.receivers }
 
 -- room for the rows of so many shards of these limits
 abbrev pub HoldsRows : ℕ → Limits → ℕ → Type 0

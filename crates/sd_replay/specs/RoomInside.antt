@@ -1,19 +1,13 @@
 -- What a replay works on, before the first record.
 use Rattle.std.specs.Prelude.{◌≡◌, ◌<◌, ℕ, [], length}
 use Rattle.sd_model_shard.specs.Shard.{empty_state}
-use Rattle.sd_shards.specs.Shards.{state_at}
+use Rattle.sd_shards.specs.Shards.{group_bounds, state_at}
 use Rattle.sd_replay.specs.Room.{Sizing, HoldsRows, HasRoom}
 use Rattle.sd_replay.specs.declared.room.ReplayRoom.TheInside.{Inside}
 
 -- what it was opened for
 abbrev pub sizing_in : Inside → Sizing
-sizing_in room =
-    record {
-      shards = length room.shards.states;
-      limits = room.shards.limits;
-      policy = room.shards.policy;
-      receivers = room.reader.receivers;
-    }
+sizing_in room = record { bounds = group_bounds room.shards; receivers = room.reader.receivers }
 
 -- nothing was done yet
 pub record IsFresh (room : Inside) : Type 0 where

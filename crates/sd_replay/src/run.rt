@@ -3,11 +3,11 @@ ghost use Rattle.sd_model_outside.specs.Outside.{HasFailedBehind, given};
 ghost use Rattle.sd_model_shard.specs.Whereabouts.{dropped_in};
 ghost use Rattle.sd_model_record.specs.Desk.{new_desk};
 ghost use Rattle.sd_model_replay.specs.Settings.{targets_of, is_used};
-ghost use Rattle.sd_model_replay.specs.Replay.{packet_tally};
+ghost use Rattle.sd_model_replay.specs.Script.{Packet};
+ghost use Rattle.sd_model_replay.specs.Replay.{packet_tally, replies_to, states_after};
 ghost use Rattle.sd_model_replay.specs.Totals.{totals_text};
 ghost use Rattle.sd_model_replay.specs.Ends.{Replayed};
-ghost use Rattle.sd_shards.specs.Shards.{AreAlike, state_at};
-ghost use Rattle.sd_shards.specs.Filed.{filed_at, replies_at};
+ghost use Rattle.sd_shards.specs.Shards.{AreAlike, group_bounds, state_at};
 ghost use Rattle.sd_replay.specs.Ends.{end_of};
 ghost use Rattle.sd_replay.specs.Room.{sizing_of};
 ghost use Rattle.sd_replay.specs.Seen.{seen_of};
@@ -67,8 +67,10 @@ fn play_packet<L: Wire>(
 )
     requires datagram { length datagram.now ≤ 65507 }
     requires wires { length wires.old < 2 ^ 32 }
-    ensures states { (i : ℕ) → i < length shards.old.states → state_at shards.new i ≡ filed_at shards.old who datagram.now i }
-    ensures played { IsPlayed datagram.now (packet_tally datagram.now (sum_by dropped_in (replies_at shards.old who datagram.now)))
+    ensures states { (i : ℕ) → i < length shards.old.states
+        → state_at shards.new i ≡ states_after (group_bounds shards.old) (state_at shards.old) (Packet who moment datagram.now) i }
+    ensures played { IsPlayed datagram.now
+        (packet_tally datagram.now (sum_by dropped_in (replies_to (group_bounds shards.old) (state_at shards.old) (Packet who moment datagram.now))))
         moment (map L.seen wires.old) (map L.seen wires.new) desk.old desk.new }
     ensures alike { AreAlike shards.old shards.new }
 {

@@ -30,7 +30,7 @@ pub struct Totals {
 impl Totals {
     /// The totals of shards with these numbers all together, and of a desk.
     pub fn new(book: &ShardsBook, desk: &Desk) -> Totals
-        ensures { totals_view result ≡ totals_by book.now desk.now }
+        ensures { totals_view result ≡ totals_by book.now (desk.now).facts }
     {
         let facts = desk.facts();
         Totals {

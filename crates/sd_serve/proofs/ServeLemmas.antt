@@ -334,7 +334,7 @@ module _ {D L : Type 0} (seen : D → Object) (wire_seen : L → Object) (pool :
     is_run = record {
       ran = ran;
       count = receptions_count seen wire_seen pool desk asked t.xs t.ys t.all ∙ t.count;
-      received = all_receptions seen wire_seen pool desk asked t.after.rounds run t.more t.rest t.xs t.ys t.all (in_front Sees (λ o. (part_of o).seen RoundsMade ≤ t.after.rounds) (map own_in t.ys) (line_owns t.line_now) front_sees (λ o h. h RoundsMade)) t.fitted;
+      received = all_receptions seen wire_seen pool desk asked t.after.facts.rounds run t.more t.rest t.xs t.ys t.all (in_front Sees (λ o. (part_of o).seen RoundsMade ≤ t.after.facts.rounds) (map own_in t.ys) (line_owns t.line_now) front_sees (λ o h. h RoundsMade)) t.fitted;
       flushed = record {
         given = t.flushes.given;
         turns = t.flushes.turns;
@@ -355,7 +355,7 @@ module _ {D L : Type 0} (seen : D → Object) (wire_seen : L → Object) (pool :
         known = last_sees.1.0 RoundsMade;
         ends = keeper_as asked t.door_end t.door_now (part_of t.admin_own) t.keeps.turns t.keeps.ends;
       };
-      lined = is_lined pool desk asked t.after.rounds streams t.line t.line_now t.line_end t.stream_door t.stream_door_now t.lines t.there (each_of Sees (λ o. (part_of o).seen RoundsMade ≤ t.after.rounds) (line_owns t.line_now) line_sees (λ o h. h RoundsMade));
+      lined = is_lined pool desk asked t.after.facts.rounds streams t.line t.line_now t.line_end t.stream_door t.stream_door_now t.lines t.there (each_of Sees (λ o. (part_of o).seen RoundsMade ≤ t.after.facts.rounds) (line_owns t.line_now) line_sees (λ o h. h RoundsMade));
       started = subst says (sym t.closed.start) t.start;
       counted = counted;
       balanced = balanced;

@@ -32,7 +32,7 @@ module _ {D L : Type 0} where
 pub record IsClosed (pool : Pool) (desk : SharedDesk) (seats : List Seat) (owns : List DeskSeat) (books : List ShardBook) (d : Desk) : Type 0 where
   pub shards : length books ≡ shards_of pool
   pub histories : (i : ℕ) → i < shards_of pool → ShardHistory pool seats i (get_or books i no_book)
-  pub start : d.start ≡ start_of desk
+  pub start : d.facts.start ≡ start_of desk
   pub sums : (count : Count) → number_of d count ≡ all_added count owns
   pub seen : All (λ s. (count : Count) → (part_of s).seen count ≤ number_of d count) owns
   pub conserved : IsConserved owns d

@@ -7,8 +7,8 @@ use Rattle.std.proofs.lemmas.List.Folds.{flat_map-map}
 use Rattle.std.proofs.lemmas.List.FromFn.{fill_by_all}
 use Rattle.std.proofs.lemmas.List.Sums.{sum-map}
 use Rattle.sd_model_shard.specs.Shard.{State, empty_state}
+use Rattle.sd_model_replay.specs.Totals.{summed}
 use Rattle.sd_shard.specs.Shard.{Standing, state_of}
-use Rattle.sd_shards.specs.Book.{summed}
 use Rattle.sd_shards.specs.Shards.{Group, numbers, state_at}
 use Rattle.sd_shards.specs.Standings.{state_in}
 
@@ -43,7 +43,7 @@ module _ (group : Group) (shards : List Standing) (is : group.states ≡ map sta
       ap (λ (states : List State). map (λ i. f (get_or states i empty_state)) (range_with_len 0 (length states))) is
       ∙ ap (λ n. map (λ i. f (state_in shards i)) (range_with_len 0 n)) (length-map shards state_of)
 
-  pub summed-group : (f : State → ℕ) → summed group f ≡ sum_by (λ s. f (state_of s)) shards
+  pub summed-group : (f : State → ℕ) → summed (length group.states) (state_at group) f ≡ sum_by (λ s. f (state_of s)) shards
   summed-group f =
       sym (sum-map (λ i. f (state_at group i)) (numbers group)) ∙ ap sum (map-group f)
       ∙ sum-map (λ i. f (state_in shards i)) (range_with_len 0 (length shards)) ∙ sum_by-states shards f

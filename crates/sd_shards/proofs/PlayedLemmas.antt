@@ -7,17 +7,18 @@ use Rattle.std.proofs.lemmas.List.{length-set}
 use Rattle.std.proofs.lemmas.List.Elements.{All-head, All-tail, All-get_or, All-set}
 use Rattle.std.proofs.lemmas.List.Sums.{sum_by-cons}
 use Rattle.sd_model_text.specs.Names.{shard}
-use Rattle.sd_model_text.specs.Lines.{Sample}
+use Rattle.sd_model_text.specs.Lines.{Sample, samples_of}
 use Rattle.sd_model_shard.specs.Shard.{State, Stepped, Limits, Policy, Submit, Reply, step}
 use Rattle.sd_model_shard.specs.History.{Act, History, LegalFrom, after_all, answered, part_of}
 use Rattle.sd_model_shard.specs.Whereabouts.{dropped_in, told_by}
 use Rattle.sd_model_shard.proofs.HistoryLemmas.{asked_in, legal_is_answered}
 use Rattle.sd_model_shard.proofs.OrderLemmas.{sum_by-flat_map, sum_by-map}
 use Rattle.sd_model_serve.specs.Acts.{asks, events_of, one_at, told_in}
+use Rattle.sd_model_replay.specs.Script.{Packet}
+use Rattle.sd_model_replay.specs.Replay.{acts_in, home_of, replies_to, states_after}
 use Rattle.sd_shard.specs.Shard.{Standing, state_of}
-use Rattle.sd_shards.specs.Filed.{acts_of, filed_of, replies_of}
 use Rattle.sd_shards.specs.Played.{AreReady, HavePlayed}
-use Rattle.sd_shards.specs.Standings.{state_in, limits_in, policy_in, GoBy, GoTogether}
+use Rattle.sd_shards.specs.Standings.{state_in, bounds_in, limits_in, policy_in, GoBy, GoTogether}
 use Rattle.sd_shards.proofs.StandingLemmas.{GoBy-first, GoTogether-by, state_in-at, state_in-here, state_in-other}
 
 -- the shard of a sample's key took its step
@@ -85,20 +86,22 @@ sums_agree f g start zero most within same = refl
 sums_agree f g start (suc count) most within same =
     omega (arith, sum_by-cons f start (range_with_len (start + 1) count), sum_by-cons g start (range_with_len (start + 1) count), same start (omega arith), sums_agree f g (start + 1) count most (omega arith) same)
 
--- the samples of a caller, in shards that took them
-module _ (who : ℕ) (samples : List Sample) (old new : List Standing) (acts : ℕ → History) (played : HavePlayed old new acts)
-    (asked : (i : ℕ) → events_of (acts i) ≡ asks (length old) i samples) (whose : (i : ℕ) → All (λ a. a.who ≡ who) (acts i)) where
-  acts_are : (i : ℕ) → i < length old → acts i ≡ acts_of (limits_in old) (policy_in old) who samples (length old) (state_in old) i
+-- a datagram of a caller, in shards that took its samples
+module _ (who moment : ℕ) (datagram : List ℕ) (old new : List Standing) (acts : ℕ → History) (played : HavePlayed old new acts)
+    (asked : (i : ℕ) → events_of (acts i) ≡ asks (length old) i (samples_of datagram)) (whose : (i : ℕ) → All (λ a. a.who ≡ who) (acts i)) where
+  abbrev mine : ℕ → History
+  mine i = acts_in (bounds_in old) (state_in old) i (Packet who moment datagram)
+
+  acts_are : (i : ℕ) → i < length old → acts i ≡ mine i
   acts_are i below =
       sym (legal_is_answered (limits_in old) (policy_in old) (state_in old i) (acts i) (played.legal i below))
-      ∙ ap (answered (limits_in old) (policy_in old) (state_in old i)) (asked_by_samples who (acts i) (part_of (λ s. shard s.key (length old)) i samples) (asked i) (whose i))
+      ∙ ap (answered (limits_in old) (policy_in old) (state_in old i)) (asked_by_samples who (acts i) (part_of (home_of (length old)) i (samples_of datagram)) (asked i) (whose i))
 
-  pub filed_are : (i : ℕ) → i < length old → state_in new i ≡ filed_of (limits_in old) (policy_in old) who samples (length old) (state_in old) i
+  pub filed_are : (i : ℕ) → i < length old → state_in new i ≡ states_after (bounds_in old) (state_in old) (Packet who moment datagram) i
   filed_are i below = played.states i below ∙ ap (after_all (limits_in old) (policy_in old) (state_in old i)) (acts_are i below)
 
-  pub drops_are : told_in dropped_in (length old) acts ≡ sum_by dropped_in (replies_of (limits_in old) (policy_in old) who samples (length old) (state_in old))
+  pub drops_are : told_in dropped_in (length old) acts ≡ sum_by dropped_in (replies_to (bounds_in old) (state_in old) (Packet who moment datagram))
   drops_are =
-      let mine : ℕ → History = acts_of (limits_in old) (policy_in old) who samples (length old) (state_in old) in
       sums_agree (λ i. told_by dropped_in (acts i)) (λ i. sum_by dropped_in (map (λ (a : Act). a.reply) (mine i))) 0 (length old) (length old) (omega arith)
       (λ i below. ap (told_by dropped_in) (acts_are i below) ∙ sym (sum_by-map dropped_in (λ (a : Act). a.reply) (mine i)))
       ∙ sym (sum_by-flat_map dropped_in (λ i. map (λ (a : Act). a.reply) (mine i)) (range_with_len 0 (length old)))

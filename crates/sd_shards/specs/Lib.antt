@@ -1,5 +1,3 @@
-pub mod Book
-pub mod Filed
 pub mod GroupCode
 pub mod Inside
 pub mod Played

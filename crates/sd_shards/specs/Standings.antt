@@ -1,6 +1,7 @@
 -- Shards of the code one beside another.
-use Rattle.std.specs.Prelude.{◌≡◌, ℕ, List, [], ◌∷◌, false, map, get_or, All}
+use Rattle.std.specs.Prelude.{◌≡◌, ℕ, List, [], ◌∷◌, false, length, map, get_or, All}
 use Rattle.sd_model_shard.specs.Shard.{Limits, Policy, State, empty_state}
+use Rattle.sd_model_replay.specs.Settings.{Bounds}
 use Rattle.sd_shard.specs.Shard.{Standing, state_of}
 
 -- the state of shard i
@@ -16,6 +17,10 @@ limits_in (s ∷ shards) = s.table.limits
 abbrev pub policy_in : List Standing → Policy
 policy_in [] = record { counters = false; timers = false; gauges = false; sets = false; max_ttl = 0 }
 policy_in (s ∷ shards) = s.policy
+
+-- how many there are, and what the first goes by
+abbrev pub bounds_in : List Standing → Bounds
+bounds_in shards = record { shards = length shards; limits = limits_in shards; policy = policy_in shards }
 
 -- each has these limits and this policy
 abbrev pub GoBy : Limits → Policy → List Standing → Type 0

@@ -7,14 +7,15 @@ ghost use Rattle.sd_model_shard.specs.Shard.{Dumped, empty_state, after_swap, af
 ghost use Rattle.sd_model_shard.specs.Commands.{dump_of};
 ghost use Rattle.sd_model_shard.specs.Whereabouts.{dropped_in};
 ghost use Rattle.sd_model_record.specs.Replying.{keys_told, rows_told};
+ghost use Rattle.sd_model_replay.specs.Script.{Packet};
+ghost use Rattle.sd_model_replay.specs.Replay.{replies_to, states_after};
+ghost use Rattle.sd_model_replay.specs.Totals.{summed};
 ghost use Rattle.sd_key.specs.Kind.{kind_of};
 ghost use Rattle.sd_epoch.specs.Limits.{limits_of, AreLimits};
 ghost use Rattle.sd_epoch.specs.Table.{table_of as table_seen};
 ghost use Rattle.sd_shard.specs.Policy.{policy_of};
 ghost use Rattle.sd_record.specs.Rows.{AreDisjoint};
-ghost use Rattle.sd_shards.specs.Book.{summed};
-ghost use Rattle.sd_shards.specs.Filed.{filed_at, replies_at};
-ghost use Rattle.sd_shards.specs.Shards.{AreAlike, numbers, state_at};
+ghost use Rattle.sd_shards.specs.Shards.{AreAlike, group_bounds, numbers, state_at};
 
 use crate::book::{ShardsBook, book_of};
 use crate::commands::{delete_all, dump_all};
@@ -83,8 +84,10 @@ impl Shards {
     /// Files the good samples of a datagram of a caller, in order, each in the shard of its key.
     pub fn file(&mut self, who: Who, datagram: &[u8]) -> Filed
         requires { length datagram.now ≤ 65507 }
-        ensures states { (i : ℕ) → i < length self.old.states → state_at self.new i ≡ filed_at self.old who.0 datagram.now i }
-        ensures dropped { result.dropped ≡ sum_by dropped_in (replies_at self.old who.0 datagram.now) }
+        ensures states { (moment i : ℕ) → i < length self.old.states
+            → state_at self.new i ≡ states_after (group_bounds self.old) (state_at self.old) (Packet who.0 moment datagram.now) i }
+        ensures dropped { (moment : ℕ) → result.dropped
+            ≡ sum_by dropped_in (replies_to (group_bounds self.old) (state_at self.old) (Packet who.0 moment datagram.now)) }
         ensures lines { result.lines ≡ length (pieces datagram.now) }
         ensures bad { result.bad ≡ bad_of datagram.now }
         ensures few { result.dropped + result.bad ≤ result.lines }
@@ -148,11 +151,11 @@ impl Shards {
 
     /// The numbers of all shards together, as they stand.
     pub fn book(&self) -> ShardsBook
-        ensures taken { result.taken ≡ summed self.now (λ s. s.taken) }
-        ensures flushed { result.flushed ≡ summed self.now (λ s. s.flushed) }
-        ensures deleted { result.deleted ≡ summed self.now (λ s. s.deleted) }
-        ensures dropped { result.dropped ≡ summed self.now (λ s. s.dropped) }
-        ensures held { result.held ≡ summed self.now (λ s. length s.held) }
+        ensures taken { result.taken ≡ summed (length self.now.states) (state_at self.now) (λ s. s.taken) }
+        ensures flushed { result.flushed ≡ summed (length self.now.states) (state_at self.now) (λ s. s.flushed) }
+        ensures deleted { result.deleted ≡ summed (length self.now.states) (state_at self.now) (λ s. s.deleted) }
+        ensures dropped { result.dropped ≡ summed (length self.now.states) (state_at self.now) (λ s. s.dropped) }
+        ensures held { result.held ≡ summed (length self.now.states) (state_at self.now) (λ s. length s.held) }
         ensures conserved { result.taken ≡ result.flushed + result.deleted + result.held }
     {
         book_of(&self.shards)

@@ -1,6 +1,6 @@
 -- What a call of a shared desk comes to.
 use Rattle.std.proofs.Common.{◌≡◌, ℕ, ◌+◌, ◌-◌, List, sym, ap, ◌∙◌, arith}
-use Rattle.sd_model_record.specs.Desk.{Desk, Facts as ToldFacts, AddsUp, IsWhole, counted, facts_of}
+use Rattle.sd_model_record.specs.Desk.{Desk, Facts as ToldFacts, AddsUp, IsWhole, counted}
 use Rattle.sd_model_record.specs.Counts.{Count, TotalPackets, TotalLines, TotalBad, TotalDropped, TakenPackets, TakenLines, TakenBad, TakenDropped, RoundsMade, GraphiteFaults, ConsoleFaults, RepeaterFaults, AdminFaults, Amounts, GrewBy, HasCounted, AreSeen, place, amounts_in, number_of, numbers_in}
 use Rattle.sd_ledger.specs.Lists.{growth}
 use Rattle.sd_ledger.specs.Booked.{Booking, shares}
@@ -42,7 +42,7 @@ module _ {shared : SharedDesk} {old new : OwnSeat} {change : Desk → Desk} {tel
   }
 
 -- the facts of the desk that was found and left are those that the caller has seen
-facts_seen : (shared : SharedDesk) (old new : OwnSeat) (f : ToldFacts) → Changes shared old new (λ d. d) (λ d. f ≡ facts_of d) → AreSeen f (part_of new).seen
+facts_seen : (shared : SharedDesk) (old new : OwnSeat) (f : ToldFacts) → Changes shared old new (λ d. d) (λ d. f ≡ d.facts) → AreSeen f (part_of new).seen
 facts_seen shared old new f c = record {
   packets = ap (λ x. x.totals.packets) c.told ∙ sym (c.sees TotalPackets);
   lines = ap (λ x. x.totals.lines) c.told ∙ sym (c.sees TotalLines);
@@ -79,8 +79,8 @@ whole total taken since a b is_total is_taken is few = omega arith
 -- what was added is what was taken and what is left
 pub conserved : (seats : List OwnSeat) (d : Desk) → AddsUp d → ((count : Count) → number_of d count ≡ all_added count seats) → IsConserved seats d
 conserved seats d adds sums = record {
-  packets = whole d.totals.packets d.taken_so_far.packets d.tally.packets (all_added TotalPackets seats) (all_added TakenPackets seats) (sums TotalPackets) (sums TakenPackets) (ap (λ t. t.packets) adds);
-  lines = whole d.totals.lines d.taken_so_far.lines d.tally.lines (all_added TotalLines seats) (all_added TakenLines seats) (sums TotalLines) (sums TakenLines) (ap (λ t. t.lines) adds);
-  bad = whole d.totals.bad d.taken_so_far.bad d.tally.bad (all_added TotalBad seats) (all_added TakenBad seats) (sums TotalBad) (sums TakenBad) (ap (λ t. t.bad) adds);
-  dropped = whole d.totals.dropped d.taken_so_far.dropped d.tally.dropped (all_added TotalDropped seats) (all_added TakenDropped seats) (sums TotalDropped) (sums TakenDropped) (ap (λ t. t.dropped) adds);
+  packets = whole d.facts.totals.packets d.taken_so_far.packets d.tally.packets (all_added TotalPackets seats) (all_added TakenPackets seats) (sums TotalPackets) (sums TakenPackets) (ap (λ t. t.packets) adds);
+  lines = whole d.facts.totals.lines d.taken_so_far.lines d.tally.lines (all_added TotalLines seats) (all_added TakenLines seats) (sums TotalLines) (sums TakenLines) (ap (λ t. t.lines) adds);
+  bad = whole d.facts.totals.bad d.taken_so_far.bad d.tally.bad (all_added TotalBad seats) (all_added TakenBad seats) (sums TotalBad) (sums TakenBad) (ap (λ t. t.bad) adds);
+  dropped = whole d.facts.totals.dropped d.taken_so_far.dropped d.tally.dropped (all_added TotalDropped seats) (all_added TakenDropped seats) (sums TotalDropped) (sums TakenDropped) (ap (λ t. t.dropped) adds);
 }

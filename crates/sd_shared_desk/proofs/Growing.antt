@@ -1,8 +1,7 @@
 -- The numbers of a desk grow at each ask.
-use Rattle.std.proofs.Common.{◌≡◌, ℕ, zero, suc, ◌≤◌, ◌∙◌, get_or, refl, ap, le_refl, arith}
-use Rattle.std.specs.Prelude.{replicate}
-use Rattle.sd_model_record.specs.Desk.{Desk, IsInRange, counted, last_counted, new_desk}
-use Rattle.sd_model_record.specs.Counts.{Count, TotalPackets, TotalLines, TotalBad, TotalDropped, TakenPackets, TakenLines, TakenBad, TakenDropped, RoundsMade, GraphiteFaults, ConsoleFaults, RepeaterFaults, AdminFaults, GrewBy, number_of, numbers_in}
+use Rattle.std.proofs.Common.{◌≡◌, ℕ, zero, suc, ◌≤◌, ◌∙◌, refl, ap, le_refl, arith}
+use Rattle.sd_model_record.specs.Desk.{Desk, counted, last_counted}
+use Rattle.sd_model_record.specs.Counts.{Count, TotalPackets, TotalLines, TotalBad, TotalDropped, TakenPackets, TakenLines, TakenBad, TakenDropped, RoundsMade, GraphiteFaults, ConsoleFaults, RepeaterFaults, AdminFaults, GrewBy, IsInRange, number_of, numbers_in}
 use Rattle.sd_model_record.proofs.CountLemmas.{grew_tally, grew_taken, grew_marks, grew_health, grew_sessions, grew_sends}
 use Rattle.sd_ledger.specs.Lists.{NoneFalls}
 use Rattle.sd_desk.specs.Marks.{marks_of}
@@ -20,23 +19,7 @@ grew_asked d (SetHealth up) h = grew_health d up h
 grew_asked d (Mark m) h = grew_marks d (marks_of m) h
 grew_asked d AdminFault h = grew_sessions d h
 grew_asked d (FailedSends n) h = grew_sends d n h
-grew_asked d Facts h = grew_health d d.up h
-
--- each number is in range
-in_range : (d : Desk) → IsInRange d → (count : Count) → number_of d count ≤ last_counted
-in_range d h TotalPackets = h.totals.packets
-in_range d h TotalLines = h.totals.lines
-in_range d h TotalBad = h.totals.bad
-in_range d h TotalDropped = h.totals.dropped
-in_range d h TakenPackets = h.taken_so_far.packets
-in_range d h TakenLines = h.taken_so_far.lines
-in_range d h TakenBad = h.taken_so_far.bad
-in_range d h TakenDropped = h.taken_so_far.dropped
-in_range d h RoundsMade = h.rounds
-in_range d h GraphiteFaults = h.graphite_faults
-in_range d h ConsoleFaults = h.console_faults
-in_range d h RepeaterFaults = h.repeater_faults
-in_range d h AdminFaults = h.admin_faults
+grew_asked d Facts h = grew_health d d.facts.up h
 
 -- numbers that don't fall by name don't fall by place
 by_place : (old new : Desk) → ((count : Count) → number_of old count ≤ number_of new count) → NoneFalls (numbers_in old) (numbers_in new)
@@ -61,13 +44,13 @@ grown_to n a m most is = omega arith
 -- no number falls
 pub none_falls : (before after : Desk) (ask : DeskAsk) (answer : DeskReply) → Does before ask after answer → NoneFalls (numbers_in before) (numbers_in after)
 none_falls before after ask answer does =
-    by_place before after (λ count. grown_to (number_of before count) (added_by before ask count) (number_of after count) (in_range before does.in_range count)
+    by_place before after (λ count. grown_to (number_of before count) (added_by before ask count) (number_of after count) (does.in_range.numbers count)
     (ap (λ d. number_of d count) does.changed ∙ grew_asked before ask does.in_range count))
 
 -- the start stays
-pub same_start : (before after : Desk) (ask : DeskAsk) (answer : DeskReply) → Does before ask after answer → after.start ≡ before.start
-same_start before after ask answer does = ap (λ d. d.start) does.changed ∙ by_ask before ask where
-  by_ask : (d : Desk) (ask : DeskAsk) → (asked_of d ask).start ≡ d.start
+pub same_start : (before after : Desk) (ask : DeskAsk) (answer : DeskReply) → Does before ask after answer → after.facts.start ≡ before.facts.start
+same_start before after ask answer does = ap (λ d. d.facts.start) does.changed ∙ by_ask before ask where
+  by_ask : (d : Desk) (ask : DeskAsk) → (asked_of d ask).facts.start ≡ d.facts.start
   by_ask d (Add t now) = refl
   by_ask d Take = refl
   by_ask d (SetHealth up) = refl
@@ -75,13 +58,3 @@ same_start before after ask answer does = ap (λ d. d.start) does.changed ∙ by
   by_ask d AdminFault = refl
   by_ask d (FailedSends n) = refl
   by_ask d Facts = refl
-
--- zeros alone
-none_in : (n k : ℕ) → get_or {A = ℕ} (replicate n 0) k 0 ≡ 0
-none_in zero k = refl
-none_in (suc n) zero = refl
-none_in (suc n) (suc k) = none_in n k
-
--- a new desk has counted nothing
-pub starts_at_none : (start k : ℕ) → get_or (numbers_in (new_desk start)) k 0 ≡ 0
-starts_at_none start k = none_in 13 k

@@ -1,7 +1,7 @@
 -- What a shared desk is asked for, and what it does.
 use Rattle.std.specs.Prelude.{◌≡◌}
-use Rattle.sd_model_record.specs.Desk.{Desk, IsInRange, with_tally, taken, with_health, marked, with_admin_fault, with_repeater_faults, facts_of}
-use Rattle.sd_model_record.specs.Counts.{Amounts, nothing, of_tally, of_taken, of_marks, of_sessions, of_sends}
+use Rattle.sd_model_record.specs.Desk.{Desk, with_tally, taken, with_health, marked, with_admin_fault, with_repeater_faults}
+use Rattle.sd_model_record.specs.Counts.{Amounts, IsInRange, nothing, of_tally, of_taken, of_marks, of_sessions, of_sends}
 use Rattle.sd_desk.specs.Facts.{facts_view}
 use Rattle.sd_desk.specs.Marks.{marks_of}
 use Rattle.sd_desk.specs.Tally.{tally_of}
@@ -40,7 +40,7 @@ Answers d (SetHealth up) answer = answer ≡ reply.SetHealth
 Answers d (Mark m) answer = answer ≡ reply.Mark
 Answers d AdminFault answer = answer ≡ reply.AdminFault
 Answers d (RepeaterFaults n) answer = answer ≡ reply.RepeaterFaults
-Answers d Facts answer = (f : DeskFacts) × (answer ≡ reply.Facts f) × (facts_view f ≡ facts_of d)
+Answers d Facts answer = (f : DeskFacts) × (answer ≡ reply.Facts f) × (facts_view f ≡ d.facts)
 
 -- a desk was asked, and left and answered as the call of that name does
 pub record Does (before : Desk) (ask : DeskAsk) (after : Desk) (answer : DeskReply) : Type 0 where

@@ -1,7 +1,7 @@
 -- What contracts read of a shared desk and of its seats.
 use Rattle.std.specs.Prelude.{◌≡◌, ℕ, ◌+◌, ◌-◌, ◌≤◌, List, sum_by}
-use Rattle.sd_model_record.specs.Desk.{Desk, IsInRange, IsWhole}
-use Rattle.sd_model_record.specs.Counts.{Count, TotalPackets, TotalLines, TotalBad, TotalDropped, TakenPackets, TakenLines, TakenBad, TakenDropped, Part, amounts_in, number_of}
+use Rattle.sd_model_record.specs.Desk.{Desk, IsWhole}
+use Rattle.sd_model_record.specs.Counts.{Count, TotalPackets, TotalLines, TotalBad, TotalDropped, TakenPackets, TakenLines, TakenBad, TakenDropped, IsInRange, Part, amounts_in, number_of}
 use Rattle.sd_ledger.specs.declared.book_seat.BookSeat.{BookSeat}
 use Rattle.sd_ledger.specs.Booked as booked
 use Rattle.sd_shared_desk.specs.contracts.value.BookedDeskSums.TheImpl.{ghosts}
@@ -19,7 +19,7 @@ opened_with shared = booked.opened_with shared.book
 
 -- when the server started
 abbrev pub start_of : SharedDesk → ℕ
-start_of shared = (opened_with shared).start
+start_of shared = (opened_with shared).facts.start
 
 -- how many seats it has
 abbrev pub seats_of : SharedDesk → ℕ
@@ -48,7 +48,7 @@ pub record IsNewSeatOf (shared : SharedDesk) (seat : OwnSeat) : Type 0 where
 -- desk that was found.
 pub record Changes (shared : SharedDesk) (old new : OwnSeat) (change : Desk → Desk) (tells : Desk → Type 0) : Type 0 where
   pub found : Desk
-  pub started : found.start ≡ start_of shared
+  pub started : found.facts.start ≡ start_of shared
   pub in_range : IsInRange found
   pub told : tells found
   pub known : (count : Count) → (part_of old).seen count ≤ number_of found count

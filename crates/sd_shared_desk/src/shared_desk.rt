@@ -1,6 +1,6 @@
 ghost use Rattle.std.specs.Prelude.{◌≡◌, ◌<◌, ◌≤◌, ⊤, length, map, IfOk, IfSome, IfNone, All};
 ghost use Rattle.sd_seats.specs.Lists.{span};
-ghost use Rattle.sd_model_record.specs.Desk.{new_desk, with_tally, taken, with_health, marked, with_admin_fault, with_repeater_faults, facts_of};
+ghost use Rattle.sd_model_record.specs.Desk.{new_desk, with_tally, taken, with_health, marked, with_admin_fault, with_repeater_faults};
 ghost use Rattle.sd_model_record.specs.Counts.{Count, RoundsMade, HasCounted, AreSeen, nothing, number_of, of_tally, of_taken, of_marks, of_sessions, of_sends};
 ghost use Rattle.sd_desk.specs.Facts.{facts_view};
 ghost use Rattle.sd_desk.specs.Marks.{marks_of};
@@ -136,7 +136,7 @@ impl SharedDesk {
         ensures seat { IsSeatOf self.now own.new × (number_of_seat own.new ≡ number_of_seat own.old) }
         ensures start { result.start ≡ start_of self.now }
         ensures seen { AreSeen (facts_view result) (part_of own.new).seen }
-        ensures changes { Changes self.now own.old own.new (λ d. d) (λ d. facts_view result ≡ facts_of d) }
+        ensures changes { Changes self.now own.old own.new (λ d. d) (λ d. facts_view result ≡ d.facts) }
         ensures counted { HasCounted nothing (part_of own.old) (part_of own.new) }
     {
         match self.ask(rt, own, DeskAsk::Facts) {
@@ -166,7 +166,7 @@ impl SharedDesk {
     pub fn close(self, seats: Vec<DeskSeat>) -> Desk
         requires all { length seats.items ≡ seats_of self }
         requires seats { All (IsSeatOf self) seats.items }
-        ensures start { result.start ≡ start_of self }
+        ensures start { result.facts.start ≡ start_of self }
         ensures sums { (count : Count) → number_of result count ≡ all_added count seats.items }
         ensures seen { All (λ s. (count : Count) → (part_of s).seen count ≤ number_of result count) seats.items }
         ensures conserved { IsConserved seats.items result }

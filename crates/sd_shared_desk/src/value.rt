@@ -78,7 +78,7 @@ impl Sums for BookedDesk {
 
     ghost numbers = { numbers_in };
 
-    ghost fixed = { λ d. d.start };
+    ghost fixed = { λ d. d.facts.start };
 
     ghost allows = { λ start ask. Unit {0} };
 

@@ -5,6 +5,7 @@ use Rattle.sd_model_outside.proofs.OutsideLemmas.{Reads-nil}
 use Rattle.sd_model_settings.specs.Settings as file
 use Rattle.sd_model_settings.specs.Defaults.{default_settings}
 use Rattle.sd_model_record.proofs.WireLemmas.{AreRepeated-none}
+use Rattle.sd_model_replay.specs.Settings.{bounds_of}
 use Rattle.sd_model_replay.specs.AccountingTheorem.{Seen, Course, AccountingTheorem}
 use Rattle.sd_model_replay.specs.Ends.{End, Replayed}
 use Rattle.sd_model_replay.proofs.AccountingLemmas.{are_accounted}
@@ -30,8 +31,8 @@ nothing_done now =
       read = Reads-nil now.script.told;
       legal = tt;
       accounted = are_accounted plain [];
-      submitted = λ i below. arrivals-history_at plain i [];
-      state = λ i below. state-history_at plain i [];
+      submitted = λ i below. arrivals-history_at (bounds_of plain) i [];
+      state = λ i below. state-history_at (bounds_of plain) i [];
       used = tt;
       texts = λ back. refl;
       sends = AreRepeated-none now.wires;

@@ -19,8 +19,7 @@ use Rattle.sd_model_run.specs.Course.{Course}
 use Rattle.sd_model_run.specs.Run.{ServerTheorem}
 use Rattle.sd_model_call.specs.Call.{Answer, WritesTotals}
 use Rattle.sd_model_call.specs.Opening.{IsAccepted, World, flags_of, settled}
-use Rattle.sd_model_call.specs.Server.{HasServed, ends_answer, is_worn, run_answer, run_totals}
-use Rattle.sd_model_call.specs.ServerOpening.{begun, has_outlets, objects_in, serves_by}
+use Rattle.sd_model_call.specs.Server.{HasServed, begun, ends_answer, has_outlets, is_worn, objects_in, run_answer, run_totals, serves_by}
 use Rattle.sd_outside.specs.declared.datagrams.Ended.{Ended}
 use Rattle.sd_pool.specs.Books.{IsBookOf, no_book}
 use Rattle.sd_replay.specs.Totals.{totals_by}
@@ -65,9 +64,9 @@ totals_are s c books desk outs left has counts count are =
     let held = summed_books (λ b. b.held) (λ i. length (state i).held) books s.sizes.shards count (λ i h. (are i h).held) in
     let deleted = summed_books (λ b. b.deleted) (λ i. (state i).deleted) books s.sizes.shards count (λ i h. (are i h).deleted) in
     let skips = skips_are s c outs has counts in
-    λ i. totals_by (record { taken = taken i; flushed = flushed i; deleted = deleted i; dropped = dropped i; held = held i }) (record (left i) {
-      graphite_faults = (left i).graphite_faults + counts.faults Graphite i;
-      console_faults = (left i).console_faults + counts.faults Console i;
+    λ i. totals_by (record { taken = taken i; flushed = flushed i; deleted = deleted i; dropped = dropped i; held = held i }) (record (left i).facts {
+      graphite_faults = (left i).facts.graphite_faults + counts.faults Graphite i;
+      console_faults = (left i).facts.console_faults + counts.faults Console i;
     })
     ++ skips i
 

@@ -7,8 +7,7 @@ use Rattle.sd_model_settings.specs.Settings as file
 use Rattle.sd_model_replay.specs.Settings.{limits_of, policy_of, targets_of}
 use Rattle.sd_model_replay.specs.Totals.{Total, totals_text}
 use Rattle.sd_model_call.specs.Call.{Answer}
-use Rattle.sd_model_call.specs.Server.{ends_answer}
-use Rattle.sd_model_call.specs.ServerOpening.{has_streams}
+use Rattle.sd_model_call.specs.Server.{ends_answer, has_streams}
 use Rattle.sd_outside.specs.declared.datagrams.Ended.{Ended}
 use Rattle.sd_shard.specs.declared.shard.ShardBook.{ShardBook}
 use Rattle.sd_shards.specs.declared.book.ShardsBook.{ShardsBook}
@@ -41,9 +40,9 @@ sums_of books =
 -- the totals of shards with these numbers and a desk, with what outlets counted, if there were any
 abbrev pub totals_in : List ShardBook → Desk → Option OutCounts → List Total
 totals_in books desk outs =
-    totals_by (sums_of books) (record desk {
-      graphite_faults = desk.graphite_faults + faults_at outs Graphite;
-      console_faults = desk.console_faults + faults_at outs Console;
+    totals_by (sums_of books) (record desk.facts {
+      graphite_faults = desk.facts.graphite_faults + faults_at outs Graphite;
+      console_faults = desk.facts.console_faults + faults_at outs Console;
     })
 
 -- how many texts each outlet skipped, if there were any

@@ -2,13 +2,12 @@
 ghost use Rattle.std.specs.Prelude.{◌≡◌, ℕ, List, Ok, Err};
 ghost use Rattle.sd_model_settings.specs.Settings as file;
 ghost use Rattle.sd_model_settings.specs.Settings.{SettingsFlaw, settings};
-ghost use Rattle.sd_model_call.specs.Words.{form};
+ghost use Rattle.sd_model_call.specs.Words.{Serve, form};
 ghost use Rattle.sd_model_call.specs.Opening.{World};
 ghost use Rattle.sd_model_call.specs.Call.{Answer, Done, Misset};
 ghost use Rattle.sd_model_call.specs.Completeness.{IsBlocked, IsWhole};
-ghost use Rattle.sd_model_call.specs.Server.{AnswersServer, HasServed, ServerAccounts};
-ghost use Rattle.sd_model_call.specs.ServerOpening.{has_streams};
-ghost use Rattle.sd_model_call.specs.ServerCompleteness.{AreAllSpent, AsksToServe, IsCauseOf, IsServed, IsUnhinderedServer, NoneFailed};
+ghost use Rattle.sd_model_call.specs.Server.{AnswersServer, HasServed, ServerAccounts, has_streams};
+ghost use Rattle.sd_model_call.specs.ServerCompleteness.{AreAllSpent, AsksFor, IsCauseOf, IsServed, IsUnhinderedServer, NoneFailed};
 
 use sd_outside::Clock;
 
@@ -17,13 +16,13 @@ use sd_outside::Clock;
 /// its beat and its doors to their ends.
 pub fn unhindered_servers_serve<T: Clock>(clock: &T)
     ensures serves { (words : List (List ℕ)) (values : file.Settings) (old new : World) (bytes : List ℕ) (answer : Answer)
-        → AsksToServe words old bytes → settings bytes ≡ Ok values → IsUnhinderedServer old new
+        → AsksFor Serve words old bytes → settings bytes ≡ Ok values → IsUnhinderedServer old new
         → AnswersServer (form words) (T.may_say clock.now) answer old new → IsServed answer }
     ensures whole { (words : List (List ℕ)) (values : file.Settings) (old new : World) (bytes : List ℕ) (answer : Answer)
-        → AsksToServe words old bytes → settings bytes ≡ Ok values → IsUnhinderedServer old new → NoneFailed old new
+        → AsksFor Serve words old bytes → settings bytes ≡ Ok values → IsUnhinderedServer old new → NoneFailed old new
         → AnswersServer (form words) (T.may_say clock.now) answer old new → IsWhole Done answer }
     ensures blocked { (words : List (List ℕ)) (flaw : SettingsFlaw) (old new : World) (bytes : List ℕ) (answer : Answer)
-        → AsksToServe words old bytes → settings bytes ≡ Err flaw
+        → AsksFor Serve words old bytes → settings bytes ≡ Err flaw
         → AnswersServer (form words) (T.may_say clock.now) answer old new → IsBlocked (Misset flaw) answer }
     ensures causes { (name : List ℕ) (old new : World) (answer : Answer)
         → ServerAccounts name (T.may_say clock.now) answer old new → IsCauseOf name answer old new }

@@ -2,9 +2,8 @@
 ghost use Rattle.std.specs.Prelude.{◌≡◌, ◌<◌, ◌≤◌, ◌^◌, false, length, IfOk, IfErr};
 ghost use Rattle.sd_model_replay.specs.Settings.{limits_of, policy_of, targets_of};
 ghost use Rattle.sd_model_call.specs.Opening.{flags_of};
-ghost use Rattle.sd_model_call.specs.Server.{ServerAccounts};
+ghost use Rattle.sd_model_call.specs.Server.{ServerAccounts, begun, objects_in, server_openings, serves_by};
 ghost use Rattle.sd_model_call.specs.Call.{StopsAmong};
-ghost use Rattle.sd_model_call.specs.ServerOpening.{begun, objects_in, server_openings, serves_by};
 ghost use Rattle.sd_serve.specs.Room.{AreSizes, sizing_of};
 ghost use Rattle.sd_serve.specs.Serving.{HasServed};
 ghost use Rattle.sd_top.specs.Answers.{answer_of};

@@ -3,7 +3,7 @@ ghost use Rattle.std.specs.Prelude.{◌≡◌, ◌+◌, ◌<◌, ◌≤◌, ◌^
 ghost use Rattle.sd_model_outside.specs.Outside.{Host, opened};
 ghost use Rattle.sd_model_call.specs.Call.{StopsAmong};
 ghost use Rattle.sd_model_call.specs.Opening.{OfSource, flags_of, opened_all, repeated};
-ghost use Rattle.sd_model_call.specs.ServerOpening.{door_openings, has_streams, server_openings, source_openings};
+ghost use Rattle.sd_model_call.specs.Server.{door_openings, has_streams, server_openings, source_openings};
 ghost use Rattle.sd_outside.specs.Places.{place_of};
 ghost use Rattle.sd_top.specs.Answers.{answer_of};
 ghost use Rattle.sd_top.specs.Causes.{EachStops, opened_each};

@@ -1,5 +1,5 @@
 ghost use Rattle.std.specs.Prelude.{◌≡◌, ◌≤◌, ◌<◌, length, map, string_bytes, option_map, true, IsTrue, IfSome};
-ghost use Rattle.sd_model_call.specs.Words.{drill_form, form, is_file_word as names_file, packets_in, proxy_form, replay_form, serve_form, word_form, words_form};
+ghost use Rattle.sd_model_call.specs.Words.{drill_form, form, is_file_word as names_file, packets_in, replay_form, run_form, word_form, words_form, Proxy, Serve};
 ghost use Rattle.sd_top.specs.Words.{form_view};
 
 use arrayvec::ArrayVec;
@@ -56,7 +56,7 @@ fn replay_of(settings: &str, script: &str) -> Option<Form>
 
 /// A server by the file that a word names.
 fn server_of(settings: &str) -> Option<Form>
-    ensures { option_map form_view result ≡ serve_form settings.now }
+    ensures { option_map form_view result ≡ run_form Serve settings.now }
 {
     if !is_file_word(settings) {
         return None;
@@ -68,7 +68,7 @@ fn server_of(settings: &str) -> Option<Form>
 
 /// A proxy by the file that a word names.
 fn proxy_of(settings: &str) -> Option<Form>
-    ensures { option_map form_view result ≡ proxy_form settings.now }
+    ensures { option_map form_view result ≡ run_form Proxy settings.now }
 {
     if !is_file_word(settings) {
         return None;

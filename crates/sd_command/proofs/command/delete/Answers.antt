@@ -1,16 +1,16 @@
-use Rattle.std.proofs.Common.{◌≡◌, ◌<◌, map, inl, inr, ℕ, ◌+◌, ◌++◌, take, sym, ap, subst, ◌∙◌, arith, Some, None, slice_get, flat_map, List, length}
+use Rattle.std.proofs.Common.{◌≡◌, ◌<◌, map, inl, inr, ℕ, ◌+◌, ◌++◌, take, sym, ap, subst, ◌∙◌, arith, Some, None, slice_get, List, [], ◌∷◌, length, length-take}
 use Rattle.std.proofs.lemmas.Bool.{cases_lt}
 use Rattle.std.specs.List.{range_with_len}
 use Rattle.sd_model_text.specs.Names.{Kind}
 use Rattle.sd_model_record.specs.Admin.{names_of}
 use Rattle.sd_model_record.specs.Replies.{Finish, Gone, reply_text}
-use Rattle.sd_model_shard.specs.Shard.{State, after_delete, deletion_of}
-use Rattle.sd_model_record.specs.Replying.{keys_told}
+use Rattle.sd_model_shard.specs.Shard.{State, Delete, after_delete, deletion_of}
+use Rattle.sd_model_record.specs.Replying.{keys_told, names_replied, replies_text}
 use Rattle.sd_key.specs.Kind.{kind_of}
-use Rattle.sd_shards.specs.Shards.{Group, AreAlike, state_at}
+use Rattle.sd_shards.specs.Shards.{Group, AreAlike, group_bounds, state_at}
 use Rattle.sd_admin.specs.Command.{command_view}
-use Rattle.sd_command.specs.Commanded.{IsWritten, deleted, replied, gone}
-use Rattle.sd_command.proofs.CommandLemmas.{deleted-more, replied-more, text-more, take-more, found_below, none_found, state_past, idle_delete, both_alike}
+use Rattle.sd_command.specs.Commanded.{IsWritten, deleted, told_of}
+use Rattle.sd_command.proofs.CommandLemmas.{deleted-more, told_at, replied-more, text-more, take-more, found_below, none_found, state_past, idle_delete, both_alike}
 use Rattle.sd_command.proofs.command.delete.Goals as goal
 
 pub overflow_add-i : goal.overflow_add-i
@@ -36,24 +36,26 @@ pub loop-name-preserved : goal.loop-name-preserved
 loop-name-preserved g c =
     let names = names_of (command_view c.args.names.now) in
     let kind = kind_of c.args.kind in
-    let shards = length c.args.shards.now.states in
-    let first = state_at c.args.shards.now in
+    let first = c.args.shards.now in
     let i = c.loop-name.i in
     let name = c.in-Some.name in
     let so_far = take i names in
     let stands = c.loop-name.invariant in
+    let answers = told_of first (map (Delete kind) names) in
     let found : slice_get names i ≡ Some name = sym c.name.ensures ∙ c.in-Some.is in
     let more = take-more names i name found in
-    let text = flat_map reply_text (replied shards kind first so_far) in
-    let here : state_at c.loop-name.shards ≡ deleted kind first so_far = λ t k. stands.1 k t in
-    let told : text ++ reply_text (Gone name c.delete.new.keys.keys) ≡ flat_map reply_text (replied shards kind first (take (i + 1) names)) =
+    let text = replies_text (names_replied answers so_far) in
+    let here : state_at c.loop-name.shards ≡ (λ k. deleted kind (state_at first k) so_far) = λ t k. stands.1 k t in
+    let count : length so_far ≡ i = omega (arith, length-take i names, found_below names i name found) in
+    let told : text ++ reply_text (Gone name c.delete.new.keys.keys) ≡ replies_text (names_replied answers (take (i + 1) names)) =
     ap (λ keys. text ++ reply_text (Gone name keys)) (
     c.delete.ensures.keys ∙ ap (λ n. keys_told (map (λ k. deletion_of kind name (state_at c.loop-name.shards k)) (range_with_len 0 n))) stands.3.count
-    ∙ ap (λ (states : ℕ → State). keys_told (map (λ k. deletion_of kind name (states k)) (range_with_len 0 shards))) here)
-    ∙ sym (text-more (replied shards kind first so_far) (gone shards kind (deleted kind first so_far) name))
-    ∙ ap (flat_map reply_text) (sym (replied-more shards kind first so_far name) ∙ ap (replied shards kind first) (sym more)) in (
+    ∙ ap (λ (states : ℕ → State). keys_told (map (λ k. deletion_of kind name (states k)) (range_with_len 0 (length first.states)))) here
+    ∙ ap keys_told (sym (told_at (group_bounds first) kind (state_at first) names i name found)))
+    ∙ sym (text-more (names_replied answers so_far) (Gone name (keys_told (answers i))))
+    ∙ ap replies_text (ap (λ n. names_replied answers so_far ++ Gone name (keys_told (answers n)) ∷ []) (sym count) ∙ sym (replied-more answers so_far name) ∙ ap (names_replied answers) (sym more)) in (
       omega (arith, found_below names i name found),
-      (λ k. left_by kind name c.loop-name.shards c.delete.new.self c.delete.ensures.states c.delete.ensures.alike k ∙ ap (after_delete kind name) (stands.1 k) ∙ sym (deleted-more kind first so_far name k) ∙ ap (λ ns. deleted kind first ns k) (sym more)),
+      (λ k. left_by kind name c.loop-name.shards c.delete.new.self c.delete.ensures.states c.delete.ensures.alike k ∙ ap (after_delete kind name) (stands.1 k) ∙ sym (deleted-more kind (state_at first k) so_far name) ∙ ap (deleted kind (state_at first k)) (sym more)),
       subst (λ t. IsWritten t c.tell-written.result (g.O.Faulty.seen c.args.output.now) (g.O.Faulty.seen c.tell-written.new.output)) told (c.tell-written.ensures text (g.O.Faulty.seen c.args.output.now) stands.2),
       both_alike c.args.shards.now c.loop-name.shards c.delete.new.self stands.3 c.delete.ensures.alike,
       c.delete.ensures.room ∙ stands.4,
@@ -63,13 +65,13 @@ pub returns-clause-states : goal.returns-clause-states
 returns-clause-states g c k =
     let names = names_of (command_view c.args.names.now) in
     let none : slice_get names c.loop-name.i ≡ None = sym c.name.ensures ∙ c.in_default.is in
-    c.loop-name.invariant.1 k ∙ ap (λ ns. deleted (kind_of c.args.kind) (state_at c.args.shards.now) ns k) (none_found names c.loop-name.i none)
+    c.loop-name.invariant.1 k ∙ ap (deleted (kind_of c.args.kind) (state_at c.args.shards.now k)) (none_found names c.loop-name.i none)
 
 pub returns-clause-written : goal.returns-clause-written
 returns-clause-written g c =
     let names = names_of (command_view c.args.names.now) in
-    let replies = replied (length c.args.shards.now.states) (kind_of c.args.kind) (state_at c.args.shards.now) in
+    let replies = names_replied (told_of c.args.shards.now (map (Delete (kind_of c.args.kind)) names)) in
     let none : slice_get names c.loop-name.i ≡ None = sym c.name.ensures ∙ c.in_default.is in
     let old = g.O.Faulty.seen c.args.output.now in
-    let written = subst (λ ns. IsWritten (flat_map reply_text (replies ns)) c.loop-name.written old (g.O.Faulty.seen c.loop-name.output)) (none_found names c.loop-name.i none) c.loop-name.invariant.2 in
-    subst (λ t. IsWritten t c.tell.result old (g.O.Faulty.seen c.tell.new.output)) (sym (text-more (replies names) Finish)) (c.tell.ensures (flat_map reply_text (replies names)) old written)
+    let written = subst (λ ns. IsWritten (replies_text (replies ns)) c.loop-name.written old (g.O.Faulty.seen c.loop-name.output)) (none_found names c.loop-name.i none) c.loop-name.invariant.2 in
+    subst (λ t. IsWritten t c.tell.result old (g.O.Faulty.seen c.tell.new.output)) (sym (text-more (replies names) Finish)) (c.tell.ensures (replies_text (replies names)) old written)

@@ -7,10 +7,10 @@ pub returns-clause-accounted : goal.returns-clause-accounted
 returns-clause-accounted c settings played = are_accounted settings played
 
 pub returns-clause-submitted : goal.returns-clause-submitted
-returns-clause-submitted c settings played i = arrivals-history_at settings i played
+returns-clause-submitted c bounds played i = arrivals-history_at bounds i played
 
 pub returns-clause-homes : goal.returns-clause-homes
-returns-clause-homes c settings played some = all_homes settings some (samples_at played)
+returns-clause-homes c shards played some = all_homes shards some (samples_at played)
 
 pub returns-clause-state : goal.returns-clause-state
-returns-clause-state c settings played i = state-history_at settings i played
+returns-clause-state c bounds played i = state-history_at bounds i played

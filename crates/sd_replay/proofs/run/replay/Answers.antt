@@ -4,27 +4,24 @@ use Rattle.sd_model_outside.specs.Wires.{AreSent}
 use Rattle.sd_model_outside.specs.Deliveries.{AfterMark, FitsUse}
 use Rattle.sd_model_outside.proofs.OutsideLemmas.{Reads-append, Reads-nil}
 use Rattle.sd_model_outside.proofs.WriteLemmas.{given-given}
-use Rattle.std.specs.Prelude.{sum_by}
+use Rattle.std.specs.Prelude.{sum_by, true, false, is_err, Result, Ok, Err, OnOk, OnErr}
 use Rattle.sd_model_shard.specs.Shard.{table_of}
 use Rattle.sd_model_record.specs.Console.{console_text}
 use Rattle.sd_model_record.specs.Desk.{Desk, Marks, new_desk, with_tally, with_repeater_faults}
 use Rattle.sd_model_record.specs.Admin as admin
 use Rattle.sd_model_settings.specs.Defaults.{Plan, plan_of, names_of}
-use Rattle.sd_model_replay.specs.Settings.{is_used, limits_of, targets_of}
+use Rattle.sd_model_replay.specs.Settings.{bounds_of, is_used, limits_of, targets_of}
 use Rattle.sd_model_record.specs.Graphite.{graphite_text}
 use Rattle.sd_model_record.specs.Record.{Record, record_of}
 use Rattle.sd_model_record.specs.Backends.{Backend, Graphite, Console, text_of, mark_of as mark_at}
 use Rattle.sd_model_record.specs.Repeater.{AreRepeated, Sending, failures}
-use Rattle.sd_model_replay.specs.Replay.{packet_tally, Played, moment_of, desk_after_line, first_run, run_of}
+use Rattle.sd_model_replay.specs.Replay.{packet_tally, replies_to, states_after, Played, moment_of, desk_after_line, first_run, run_of}
 use Rattle.sd_model_replay.specs.Script.{Packet, Flush, Admin, IsLegal, end_word}
 use Rattle.sd_model_replay.specs.Next.{Faulty, Begins, IsUndecided}
 use Rattle.sd_model_replay.specs.Output.{output_in, output_of}
-use Rattle.sd_command.specs.Commanded.{commanded, run_with}
-use Rattle.sd_command.proofs.CommandLemmas.{failed_of, written_of}
 use Rattle.sd_model_replay.specs.AccountingTheorem.{Seen, seen_at}
 use Rattle.sd_model_replay.specs.Ends.{Replayed}
-use Rattle.sd_shards.specs.Shards.{Group, AreAlike, numbers, state_at}
-use Rattle.sd_shards.specs.Filed.{filed_at, replies_at}
+use Rattle.sd_shards.specs.Shards.{Group, AreAlike, group_bounds, numbers, state_at}
 use Rattle.sd_model_shard.specs.Whereabouts.{dropped_in}
 use Rattle.sd_replay.specs.Ends.{end_of}
 use Rattle.sd_desk.specs.Marks.{marks_of}
@@ -44,7 +41,7 @@ use Rattle.sd_model_replay.proofs.ReplayLemmas.{run_before, output_of-push}
 use Rattle.sd_shard.specs.Keys.{KeyList}
 use Rattle.sd_shard.specs.Dump.{DumpList}
 use Rattle.sd_replay.specs.Start.{start_in}
-use Rattle.sd_replay.proofs.PlayLemmas.{still_go, given-nil, nothing_played, completes, writes_part, replies_part, finds_flaw, fails_to_read, wears_out, desk_before, desk_at_end, packet_more, flush_more, line_more, line_played, line_replied, quiet}
+use Rattle.sd_replay.proofs.PlayLemmas.{count_by, still_go, given-nil, nothing_played, completes, writes_part, replies_part, finds_flaw, fails_to_read, wears_out, desk_before, desk_at_end, packet_more, flush_more, line_more, line_played, line_replied, quiet}
 use Rattle.sd_replay.proofs.run.replay.Goals as goal
 use Rattle.sd_replay.proofs.run.replay.Goals.{in-Ok-finish, in-Err, in-Packet, in-Flush, in-Admin+else-is_err}
 use Rattle.sd_model_settings.specs.Settings.{Settings}
@@ -54,6 +51,15 @@ back_seen : {R O B L : Type 0} (of_script : R → Object) (of_output : O → Obj
     → back_of of_back backs back ≡ seen_at back (seen_of of_script of_output of_back of_wire script output backs wires)
 back_seen of_script of_output of_back of_wire script output backs wires Graphite = refl
 back_seen of_script of_output of_back of_wire script output backs wires Console = refl
+
+-- what was written where a write succeeded, and where it failed
+written_of : {A E P : Type 0} (result : Result A E) → is_err result ≡ false → OnOk result P → P
+written_of (Ok value) fine written = written
+written_of (Err fault) fine written = absurd (cc)
+
+failed_of : {A E P : Type 0} (result : Result A E) → is_err result ≡ true → OnErr result P → P
+failed_of (Ok value) fails failed = absurd (cc)
+failed_of (Err fault) fails failed = failed
 
 -- what holds of Graphite and of the console holds of each backend
 both_fit : (s : Settings) (marks : Marks) → FitsUse (is_used s Graphite) marks.graphite → FitsUse (is_used s Console) marks.console → (back : Backend) → FitsUse (is_used s back) (mark_at back marks)
@@ -76,7 +82,7 @@ record IsBegun (turn : ℕ) (item : Item) (desk begun : Desk) : Type 0 where
 
 -- the desk before a record
 before_record : (settings : Settings) (played : List Played) (p : Played) (turn : ℕ) (item : Item) (desk now : Desk) → length played ≡ turn → start_in item ≡ moment_of p.command → IsBegun turn item desk now
-    → desk ≡ (run_of settings (first_run played) played).desk → now ≡ (run_before settings played p).desk
+    → desk ≡ (run_of (bounds_of settings) (first_run played) played).desk → now ≡ (run_before (bounds_of settings) played p).desk
 before_record settings played p turn item desk now turns start b same =
     desk_before settings played p desk now same (λ none. b.first (sym turns ∙ none) ∙ ap new_desk start) (λ some. b.later (λ none. some (turns ∙ none)))
 
@@ -118,10 +124,10 @@ returns-in-End-clause-end g c =
     let output = g.O.Faulty.seen c.loop-turn.output in
     elim c.match-finish.branch [
       | in-Ok-finish w ↦ subst (λ r. Replayed settings (end_of r) old new) (sym w.result-is)
-          (completes settings old new _ c.loop-turn.shards _ _ _ _ _ before now stands.progress (end_word ++ pending) behind used faults stands.by.count desk (totals_view w.in-Ok-finish.totals) pending output same_desk c.loop-turn-test.true refl
+          (completes settings old new _ c.loop-turn.shards _ _ _ _ _ before now stands.progress (end_word ++ pending) behind used faults (count_by settings c.loop-turn.shards stands.by) desk (totals_view w.in-Ok-finish.totals) pending output same_desk c.loop-turn-test.true refl
           w.in-Ok-finish.ensures.totals stands.written w.in-Ok-finish.ensures.written)
       | in-Err w ↦ subst (λ r. Replayed settings (end_of r) old new) (sym w.result-is)
-          (writes_part settings old new _ c.loop-turn.shards _ _ _ _ _ before now stands.progress (end_word ++ pending) behind used faults stands.by.count desk pending output same_desk c.loop-turn-test.true refl
+          (writes_part settings old new _ c.loop-turn.shards _ _ _ _ _ before now stands.progress (end_word ++ pending) behind used faults (count_by settings c.loop-turn.shards stands.by) desk pending output same_desk c.loop-turn-test.true refl
           stands.written w.in-Err.ensures.failed)
     ]
 
@@ -147,15 +153,15 @@ returns-then-is_err-clause-end g c =
     let group = c.loop-turn.shards in
     let more = line_more settings stands.some _ _ (left c.next.new.self has) _ _ (back_of g.B.Faulty.seen c.loop-turn.backs) _ _ (map g.L.Faulty.seen c.loop-turn.wires) group c.carry_out-told.new.shards _ desk c.carry_out-told.new.desk _ c.next.new.self.at _ stands.progress stands.by c.carry_out-told.ensures.alike
     moment line read.stands.reads (subst (λ k. IsLegal k (Admin moment line)) stands.receivers read.stands.begins.0) same_desk
-    (λ i. c.carry_out-told.ensures.states i ∙ ap (λ bytes. commanded (admin.command bytes) (state_at group) i) c.body-in-Admin.ensures)
+    (λ i. c.carry_out-told.ensures.states i ∙ ap (λ bytes. states_after (group_bounds group) (state_at group) (Admin moment bytes) i) c.body-in-Admin.ensures)
     (c.carry_out-told.ensures.desk ∙ ap (λ bytes. desk_after_line desk (admin.command bytes)) c.body-in-Admin.ensures)
     read.at refl refl in
     let replied = line_replied settings stands.some _ _ (left c.next.new.self has) _ _ (back_of g.B.Faulty.seen c.loop-turn.backs) _ _ (map g.L.Faulty.seen c.loop-turn.wires) group c.carry_out-told.new.shards _ desk c.carry_out-told.new.desk _ c.next.new.self.at _ stands.progress stands.by c.carry_out-told.ensures.alike moment line same_desk in
-    let failed = failed_of _ c.carry_out-told.result _ _ (sym c.is_err.ensures.value ∙ c.if-is_err.true) c.carry_out-told.ensures.written in
+    let failed = failed_of c.carry_out-told.result (sym c.is_err.ensures.value ∙ c.if-is_err.true) c.carry_out-told.ensures.failed in
     replies_part settings old new _ c.carry_out-told.new.shards _ _ _ _ _ before now more.0 pending refl
     (used_since old.script (g.R.Faulty.seen c.loop-turn.script) new.script stands.faults stands.place c.in-Ok.ensures.used)
     (c.in-Ok.ensures.steady ∙ stands.faults) stands.progress.played p (g.O.Faulty.seen c.loop-turn.output) more.1 (omega (arith, c.loop-turn-test.true, stands.progress.turns)) stands.written
-    (subst (λ text. HasFailedBehind text (g.O.Faulty.seen c.loop-turn.output) new.output) (ap (λ bytes. output_in settings (run_with (state_at group) desk) (Admin moment bytes)) c.body-in-Admin.ensures ∙ replied) failed)
+    (subst (λ text. HasFailedBehind text (g.O.Faulty.seen c.loop-turn.output) new.output) (ap (λ bytes. output_in settings (record { shards = state_at group; desk = desk }) (Admin moment bytes)) c.body-in-Admin.ensures ∙ replied) failed)
 
 pub returns-in-Fault-clause-end : goal.returns-in-Fault-clause-end
 returns-in-Fault-clause-end g c =
@@ -197,8 +203,8 @@ loop-turn-init g c =
     let fresh = c.room.invariant in
     let settings = c.args.settings.now in
     let opened : sizing_in c.room.inside ≡ sizing_of settings = c.room.view_is ∙ c.requires.room in
-    let limits = ap (λ (s : Sizing). s.limits) opened in
-    let shards = ap (λ (s : Sizing). s.shards) opened in
+    let limits = ap (λ (s : Sizing). s.bounds.limits) opened in
+    let shards = ap (λ (s : Sizing). s.bounds.shards) opened in
     let told = (g.R.Faulty.seen c.args.script.now).told in
     let backs = back_of g.B.Faulty.seen c.args.backs.now in
     let wires = map g.L.Faulty.seen c.args.wires.now in
@@ -208,7 +214,7 @@ loop-turn-init g c =
         progress = nothing_played settings told (left c.room.inside.reader told) backs wires (state_at group) c.new-desk.result at (Reads-nil told ∙ ap (put_back []) (Reads-nil told ∙ ap (λ pending. put_back pending told) (sym fresh.pending))) (λ t i. fresh.states i t) c.new-desk.ensures fresh.start;
         written = sym (given-nil (g.O.Faulty.seen c.args.output.now) (g.met.O.Sink.number_fits c.args.output.now));
         some = subst (λ n. 0 < n) shards fresh.some;
-        by = record { count = shards; limits = limits; policy = ap (λ (s : Sizing). s.policy) opened };
+        by = ap (λ (s : Sizing). s.bounds) opened;
         room = subst (λ n. HasRoom n (limits_of settings) c.room.inside.scratch.room) shards (subst (λ most. HasRoom (length group.states) most c.room.inside.scratch.room) limits fresh.scratch);
         keys = subst (λ n. HoldsRows n (limits_of settings) c.room.inside.keys.room) shards (subst (λ most. HoldsRows (length group.states) most c.room.inside.keys.room) limits fresh.keys);
         dump = subst (λ n. HoldsRows n (limits_of settings) c.room.inside.dump.room) shards (subst (λ most. HoldsRows (length group.states) most c.room.inside.dump.room) limits fresh.dump);
@@ -263,8 +269,8 @@ loop-turn-preserved g c =
           let more = packet_more settings stands.some _ _ (left c.next.new.self has) _ _ (back_of g.B.Faulty.seen c.match-item.backs) _ _ (map g.L.Faulty.seen c.match-item.wires) group c.match-item.shards _ begun_desk c.match-item.desk _ c.next.new.self.at _ stands.progress stands.by alike
           who moment datagram failed read.stands.reads (subst (λ k. IsLegal k (Packet who moment datagram)) stands.receivers read.stands.begins.0)
           (before_record settings played _ c.loop-turn.turn c.in-Ok.item c.loop-turn.desk begun_desk stands.progress.turns (ap start_in w.in-Packet.is) b stands.progress.same_desk) count repeated
-          (λ i below. ap (λ (gr : Group). state_at gr i) w.shards-is ∙ w.play_packet.ensures.states i below ∙ ap (λ bytes. filed_at group who bytes i) w.body.ensures)
-          (w.desk-is ∙ w.play_packet.ensures.played.counted ∙ ap (λ bytes. with_repeater_faults (with_tally begun_desk (packet_tally bytes (sum_by dropped_in (replies_at group who bytes))) moment) (failures failed)) w.body.ensures)
+          (λ i below. ap (λ (gr : Group). state_at gr i) w.shards-is ∙ w.play_packet.ensures.states i below ∙ ap (λ bytes. states_after (group_bounds group) (state_at group) (Packet who moment bytes) i) w.body.ensures)
+          (w.desk-is ∙ w.play_packet.ensures.played.counted ∙ ap (λ bytes. with_repeater_faults (with_tally begun_desk (packet_tally bytes (sum_by dropped_in (replies_to (group_bounds group) (state_at group) (Packet who moment bytes)))) moment) (failures failed)) w.body.ensures)
           read.at (ap (back_of g.B.Faulty.seen) w.backs-is) in (
             record {
               progress = more.0;
@@ -328,17 +334,17 @@ loop-turn-preserved g c =
           let alike = subst (AreAlike group) (sym w.shards-is) w.carry_out-told.ensures.alike in
           let more = line_more settings stands.some _ _ (left c.next.new.self has) _ _ (back_of g.B.Faulty.seen c.match-item.backs) _ _ (map g.L.Faulty.seen c.match-item.wires) group c.match-item.shards _ begun_desk c.match-item.desk _ c.next.new.self.at _ stands.progress stands.by alike
           moment line read.stands.reads (subst (λ k. IsLegal k (Admin moment line)) stands.receivers read.stands.begins.0) same_desk
-          (λ i. ap (λ (gr : Group). state_at gr i) w.shards-is ∙ w.carry_out-told.ensures.states i ∙ ap (λ bytes. commanded (admin.command bytes) (state_at group) i) w.body-in-Admin.ensures)
+          (λ i. ap (λ (gr : Group). state_at gr i) w.shards-is ∙ w.carry_out-told.ensures.states i ∙ ap (λ bytes. states_after (group_bounds group) (state_at group) (Admin moment bytes) i) w.body-in-Admin.ensures)
           (w.desk-is ∙ w.carry_out-told.ensures.desk ∙ ap (λ bytes. desk_after_line begun_desk (admin.command bytes)) w.body-in-Admin.ensures)
           read.at (ap (back_of g.B.Faulty.seen) w.backs-is) (ap (map g.L.Faulty.seen) w.wires-is) in
           let replied = line_replied settings stands.some _ _ (left c.next.new.self has) _ _ (back_of g.B.Faulty.seen c.match-item.backs) _ _ (map g.L.Faulty.seen c.match-item.wires) group c.match-item.shards _ begun_desk c.match-item.desk _ c.next.new.self.at _ stands.progress stands.by alike moment line same_desk in
-          let told = written_of _ w.carry_out-told.result _ _ (sym w.is_err.ensures.value ∙ w.if-is_err.false) w.carry_out-told.ensures.written in
+          let told = written_of w.carry_out-told.result (sym w.is_err.ensures.value ∙ w.if-is_err.false) w.carry_out-told.ensures.written in
           let output = g.O.Faulty.seen c.loop-turn.output in
-          let text = output_in settings (run_before settings played p) (Admin moment line) in (
+          let text = output_in settings (run_before (bounds_of settings) played p) (Admin moment line) in (
             record {
               progress = more.0;
               written = ap g.O.Faulty.seen w.output-is ∙ told
-                  ∙ ap (λ bytes. given (output_in settings (run_with (state_at group) begun_desk) (Admin moment bytes)) output) w.body-in-Admin.ensures
+                  ∙ ap (λ bytes. given (output_in settings (record { shards = state_at group; desk = begun_desk }) (Admin moment bytes)) output) w.body-in-Admin.ensures
                   ∙ ap (λ t. given t output) replied ∙ ap (given text) stands.written ∙ given-given (output_of settings played) text first
                   ∙ ap (λ t. given t first) (sym (ap (output_of settings) more.1 ∙ output_of-push settings played p));
               some = stands.some;

@@ -6,7 +6,7 @@ use Rattle.sd_model_outside.specs.Outside.{Place}
 use Rattle.sd_model_call.specs.Call.{StopsAmong}
 use Rattle.sd_model_call.specs.Opening.{OfWire, Opening, numbered, opened_all, repeated}
 use Rattle.sd_model_call.specs.Proxy.{node_place}
-use Rattle.sd_model_call.specs.ServerOpening.{source_openings}
+use Rattle.sd_model_call.specs.Server.{source_openings}
 use Rattle.sd_plan.specs.Entries.{node_view}
 use Rattle.sd_top.specs.Answers.{answer_of}
 use Rattle.sd_top.specs.World.{world_of}

@@ -8,7 +8,7 @@ use Rattle.sd_model_record.specs.Backends.{Backend, Graphite, Console}
 use Rattle.sd_model_run.specs.Course.{Terms}
 use Rattle.sd_model_run.specs.Run.{Objects}
 use Rattle.sd_model_call.specs.Opening.{Flags, World}
-use Rattle.sd_model_call.specs.ServerOpening.{back_in, begun, has_streams, objects_in, server_openings, serves_by}
+use Rattle.sd_model_call.specs.Server.{back_in, begun, has_streams, objects_in, server_openings, serves_by}
 use Rattle.sd_flush.specs.Flushing.{back_of, uses_by}
 use Rattle.sd_outside.specs.declared.backend.Backs.{Backs}
 use Rattle.sd_serve.specs.Room.{sizing_in, start_in, with_outlets}

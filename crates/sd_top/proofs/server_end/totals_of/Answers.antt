@@ -12,8 +12,8 @@ returns-in_default c =
     let book = c.add_up.ensures in
     let desk = c.args.desk.now in
     c.new-totals.ensures
-    ∙ (λ i. totals_by (record { taken = book.taken i; flushed = book.flushed i; deleted = book.deleted i; dropped = book.dropped i; held = book.held i }) (record desk {
-      graphite_faults = none_more desk.graphite_faults i;
-      console_faults = none_more desk.console_faults i;
+    ∙ (λ i. totals_by (record { taken = book.taken i; flushed = book.flushed i; deleted = book.deleted i; dropped = book.dropped i; held = book.held i }) (record desk.facts {
+      graphite_faults = none_more desk.facts.graphite_faults i;
+      console_faults = none_more desk.facts.console_faults i;
     }))
     ∙ ap (totals_in c.args.books.now desk) (sym c.in_default.is)

@@ -3,7 +3,7 @@ use Rattle.std.proofs.lemmas.Result.{err_from_is_err_and, IfErr-weaker}
 use Rattle.sd_model_outside.specs.Outside.{Host, Place, opened}
 use Rattle.sd_model_call.specs.Call.{StopsAmong}
 use Rattle.sd_model_call.specs.Opening.{Opening, OfDoor, OfStreams, opened_all, opening_where, with_part}
-use Rattle.sd_model_call.specs.ServerOpening.{has_streams}
+use Rattle.sd_model_call.specs.Server.{has_streams}
 use Rattle.sd_outside.specs.Places.{place_of}
 use Rattle.sd_top.specs.Answers.{answer_of}
 use Rattle.sd_top.specs.World.{world_of}

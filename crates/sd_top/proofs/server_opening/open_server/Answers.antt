@@ -6,7 +6,7 @@ use Rattle.sd_model_call.specs.Opening.{Flags, Opening, OfGraphite, OfConsole, f
 use Rattle.std.specs.Prelude.{if◌then◌else◌}
 use Rattle.sd_outside.specs.Places.{place_of}
 use Rattle.sd_model_call.specs.Call.{StopsAmong}
-use Rattle.sd_model_call.specs.ServerOpening.{door_openings, source_openings}
+use Rattle.sd_model_call.specs.Server.{door_openings, source_openings}
 use Rattle.sd_top.specs.Answers.{answer_of}
 use Rattle.sd_top.specs.World.{world_of}
 use Rattle.sd_top.proofs.OpeningLemmas.{opened_behind, stops_behind, stops_in_front, where_opened, where_stops}

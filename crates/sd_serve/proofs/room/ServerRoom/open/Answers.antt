@@ -21,7 +21,7 @@ returns-clause-room g c =
       commands = pool.callers.2;
       seats = pool.seats;
       closing = pool.room;
-      desk = desk.desk.0 ∙ ap new_desk (sym (ap (λ (d : Desk). d.start) desk.desk.0));
+      desk = desk.desk.0 ∙ ap new_desk (sym (ap (λ (d : Desk). d.facts.start) desk.desk.0));
       desk_seats = desk.desk.1 ∙ ap (λ n. n + 2) many;
       numbers = desk.numbers ∙ ap (λ n. span 0 (n + 2)) many;
       owns = desk.seats;
@@ -38,4 +38,4 @@ returns-clause-room g c =
     }
 
 pub returns-clause-start : goal.returns-clause-start
-returns-clause-start g c = ap (λ (d : Desk). d.start) c.in_ok-desk.ensures.desk.0
+returns-clause-start g c = ap (λ (d : Desk). d.facts.start) c.in_ok-desk.ensures.desk.0

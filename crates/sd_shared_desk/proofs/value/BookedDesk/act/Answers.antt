@@ -1,5 +1,6 @@
 use Rattle.std.proofs.Common.{refl, sym, ap, subst, ◌∙◌}
-use Rattle.sd_model_record.specs.Desk.{IsInRange, taken, facts_of}
+use Rattle.sd_model_record.specs.Desk.{taken}
+use Rattle.sd_model_record.specs.Counts.{IsInRange}
 use Rattle.sd_shared_desk.specs.declared.ask.DeskReply.TheVariants.{Take, Facts}
 use Rattle.sd_shared_desk.specs.Asks.{Does}
 use Rattle.sd_shared_desk.proofs.value.BookedDesk.act.Goals as goal
@@ -18,6 +19,6 @@ returns-in-Facts c =
     let f = c.facts-facts.result in
     subst (λ ask. Does c.args.self.now ask c.args.self.now (Facts f)) (sym c.in-Facts.is) (record {
       changed = refl;
-      answered = (f, refl, c.facts-facts.ensures.facts ∙ ap facts_of c.self.view_is);
+      answered = (f, refl, c.facts-facts.ensures.facts ∙ ap (λ d. d.facts) c.self.view_is);
       in_range = subst IsInRange c.self.view_is c.facts-facts.ensures.in_range;
     })

@@ -1,0 +1,29 @@
+use Rattle.std.proofs.Common.{◌≤◌, subst}
+use Rattle.sd_model_record.specs.Desk.{last_counted}
+use Rattle.sd_model_record.specs.Counts.{Count, TotalPackets, TotalLines, TotalBad, TotalDropped, TakenPackets, TakenLines, TakenBad, TakenDropped, RoundsMade, GraphiteFaults, ConsoleFaults, RepeaterFaults, AdminFaults, IsInRange, number_of}
+use Rattle.sd_desk.specs.Desk.{IsDesk, desk_of}
+use Rattle.sd_desk.specs.declared.desk.Desk.TheInside.{Inside}
+use Rattle.sd_desk.proofs.desk.Desk.facts.Goals as goal
+
+numbers : (d : Inside) → IsDesk d → (count : Count) → number_of (desk_of d) count ≤ last_counted
+numbers d h TotalPackets = d.totals.few_packets
+numbers d h TotalLines = d.totals.few_lines
+numbers d h TotalBad = d.totals.few_bad
+numbers d h TotalDropped = d.totals.few_dropped
+numbers d h TakenPackets = d.taken_so_far.few_packets
+numbers d h TakenLines = d.taken_so_far.few_lines
+numbers d h TakenBad = d.taken_so_far.few_bad
+numbers d h TakenDropped = d.taken_so_far.few_dropped
+numbers d h RoundsMade = h.rounds
+numbers d h GraphiteFaults = h.graphite_faults
+numbers d h ConsoleFaults = h.console_faults
+numbers d h RepeaterFaults = h.repeater_faults
+numbers d h AdminFaults = h.admin_faults
+
+pub returns-clause-in_range : goal.returns-clause-in_range
+returns-clause-in_range c =
+    let d = c.self.inside in
+    subst IsInRange c.self.view_is (record {
+      tally = record { packets = d.tally.few_packets; lines = d.tally.few_lines; bad = d.tally.few_bad; dropped = d.tally.few_dropped };
+      numbers = numbers d c.self.invariant;
+    })
