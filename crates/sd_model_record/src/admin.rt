@@ -1,8 +1,13 @@
-ghost use Rattle.std.specs.Prelude.{◌≡◌, ◌≢◌, ℕ, ◌<◌, ◌≤◌, true, List, ◌∷◌, length, All, Ok};
+ghost use Rattle.std.specs.Prelude.{◌≡◌, ◌≢◌, ℕ, ◌<◌, ◌≤◌, true, List, [], ◌∷◌, ◌++◌, length, flat_map, All, Result, Ok, codes};
 ghost use Rattle.std.specs.List.{join_with_byte};
 ghost use Rattle.sd_model_text.specs.Lists.{is_white_space, trim_end};
 ghost use Rattle.sd_model_text.specs.Names.{Kind, Set};
-ghost use Rattle.sd_model_record.specs.Admin.{Command, Show, Delete, IsWord, words, command, longest_line};
+ghost use Rattle.sd_model_settings.specs.Settings.{Settings};
+ghost use Rattle.sd_model_shard.specs.Shard.{Reply};
+ghost use Rattle.sd_model_record.specs.Admin.{AdminFault, Command, Show, Delete, IsWord, words, command, longest_line};
+ghost use Rattle.sd_model_record.specs.Desk.{Facts};
+ghost use Rattle.sd_model_record.specs.Replies.{reply_lines};
+ghost use Rattle.sd_model_record.specs.Replying.{replies_by};
 
 /// The words of a line have no white space, and words with a space between them are the words of the line that they make.
 /// White space at a line's ends doesn't change its words.
@@ -24,4 +29,12 @@ pub fn deletions_have_names()
 /// No command shows sets.
 pub fn sets_are_not_shown()
     ensures { (line : List ℕ) (kind : Kind) → command line ≡ Ok (Show kind) → kind ≢ Set }
+{}
+
+/// Among the lines of what is replied to an admin line, behind `END` stands the empty line alone. So who reads a reply knows
+/// its end, and it has one end at most.
+pub fn ends_stand_last()
+    ensures { (answers : ℕ → List Reply) (facts : Facts) (settings : Settings) (now : ℕ) (asked : Result Command AdminFault) (front back : List (List ℕ))
+        → flat_map reply_lines (replies_by answers facts settings now asked) ≡ front ++ codes "END\n" ∷ back
+        → back ≡ codes "\n" ∷ [] }
 {}

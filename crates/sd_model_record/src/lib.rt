@@ -11,7 +11,7 @@ mod desk;
 mod texts;
 mod wires;
 
-pub use admin::{deletions_have_names, lines_have_words, sets_are_not_shown};
+pub use admin::{deletions_have_names, ends_stand_last, lines_have_words, sets_are_not_shown};
 pub use desk::{desks_are_balanced, desks_count, desks_keep_counts, parts_add_up};
 pub use texts::empty_lists_send_all;
 pub use wires::sends_are_packets;
