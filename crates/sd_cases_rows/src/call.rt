@@ -1,22 +1,23 @@
 use sd_decimal::Micro;
 use sd_key::{Key, Kind};
+use std::str::Split;
 
 /// A kind and a key as a case names them, as `c:a`.
-#[derive(Debug, Drop)]
+#[derive(Drop)]
 pub struct Name {
     pub kind: Kind,
     pub key: Key,
 }
 
 /// The keys of one home in the index, or keys as they come.
-#[derive(Clone, Copy, Debug)]
+#[derive(Clone, Copy)]
 pub enum Family {
     Any,
     OneHome,
 }
 
 /// The counters with the keys of a family from one number up to another.
-#[derive(Clone, Copy, Debug)]
+#[derive(Clone, Copy)]
 pub struct Range {
     pub family: Family,
     pub from: u32,
@@ -24,7 +25,7 @@ pub struct Range {
 }
 
 /// A call of a case.
-#[derive(Debug, Drop)]
+#[derive(Drop)]
 pub enum Call {
     Find(Name),
     Add(Name),
@@ -72,35 +73,39 @@ pub fn read_call(word: &str) -> Option<Call> {
         "len" => Some(Call::Len),
         "copy" => Some(Call::Copy),
         "swap" => Some(Call::Swap),
-        "find" => Some(Call::Find(read_name(parts.next(), parts.next())?)),
-        "add" => Some(Call::Add(read_name(parts.next(), parts.next())?)),
-        "remove" => Some(Call::Remove(read_name(parts.next(), parts.next())?)),
-        "set" => {
-            let name = read_name(parts.next(), parts.next())?;
-            let base = read_number(parts.next())?;
-            Some(Call::Set(name, Micro(i64::from(base)), read_number(parts.next())?))
-        }
-        "fill" => Some(Call::Fill(read_range(parts.next(), parts.next(), parts.next())?)),
-        "count" => Some(Call::Count(read_range(parts.next(), parts.next(), parts.next())?)),
-        "drain" => {
-            let range = read_range(parts.next(), parts.next(), parts.next())?;
-            Some(Call::Drain(range, read_number(parts.next())?))
-        }
+        "find" => read_name(&mut parts).map(|name| Call::Find(name)),
+        "add" => read_name(&mut parts).map(|name| Call::Add(name)),
+        "remove" => read_name(&mut parts).map(|name| Call::Remove(name)),
+        "set" => read_set(&mut parts),
+        "fill" => read_range(&mut parts).map(|range| Call::Fill(range)),
+        "count" => read_range(&mut parts).map(|range| Call::Count(range)),
+        "drain" => read_drain(&mut parts),
         _ => None,
     }
 }
 
-fn read_name(letter: Option<&str>, key: Option<&str>) -> Option<Name> {
+fn read_set(parts: &mut Split<'_, char>) -> Option<Call> {
+    let name = read_name(parts)?;
+    let base = read_number(parts.next())?;
+    Some(Call::Set(name, Micro(i64::from(base)), read_number(parts.next())?))
+}
+
+fn read_drain(parts: &mut Split<'_, char>) -> Option<Call> {
+    let range = read_range(parts)?;
+    Some(Call::Drain(range, read_number(parts.next())?))
+}
+
+fn read_name(parts: &mut Split<'_, char>) -> Option<Name> {
     Some(Name {
-        kind: read_kind(letter?)?,
-        key: Key::of(key?.as_bytes())?,
+        kind: read_kind(parts.next()?)?,
+        key: Key::of(parts.next()?.as_bytes())?,
     })
 }
 
-fn read_range(word: Option<&str>, from: Option<&str>, to: Option<&str>) -> Option<Range> {
+fn read_range(parts: &mut Split<'_, char>) -> Option<Range> {
     Some(Range {
-        family: read_family(word?)?,
-        from: read_number(from)?,
-        to: read_number(to)?,
+        family: read_family(parts.next()?)?,
+        from: read_number(parts.next())?,
+        to: read_number(parts.next())?,
     })
 }

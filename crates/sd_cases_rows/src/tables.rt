@@ -1,11 +1,13 @@
 use crate::bulk::{copy_all, count, drain, fill};
 use crate::call::{Call, Name, read_call};
+use sd_decimal::Micro;
 use sd_rows::Rows;
 use std::alloc::{AllocError, Global};
 use std::mem;
+use std::str::Split;
 
 /// The rows that a case calls, and spare ones of the same size.
-#[derive(Debug, Drop)]
+#[derive(Drop)]
 pub struct Tables {
     rows: Rows,
     spare: Rows,
@@ -22,33 +24,35 @@ impl Tables {
             rows: Rows::open(alloc, n)?,
             spare: Rows::open(alloc, n)?,
         };
+        tables.answer_all(alloc, words)
+    }
+
+    /// What the calls of these words answer, one after another.
+    fn answer_all(&mut self, alloc: Global, words: Split<'_, char>) -> Result<String, AllocError> {
         let mut answers = String::new(alloc);
         for word in words {
-            let answer = match read_call(word) {
-                Some(call) => tables.answer(alloc, call)?,
-                None => format!(in alloc; "unknown")?,
-            };
             if !answers.is_empty() {
                 answers.push_str(", ")?;
             }
-            answers.push_str(answer.as_str())?;
+            answers.push_str(self.answer_word(alloc, word)?.as_str())?;
         }
         Ok(answers)
     }
 
+    fn answer_word(&mut self, alloc: Global, word: &str) -> Result<String, AllocError> {
+        match read_call(word) {
+            Some(call) => self.answer(alloc, &call),
+            None => format!(in alloc; "unknown"),
+        }
+    }
+
     /// Makes a call, and says what it answered.
-    fn answer(&mut self, alloc: Global, call: Call) -> Result<String, AllocError> {
+    fn answer(&mut self, alloc: Global, call: &Call) -> Result<String, AllocError> {
         match call {
-            Call::Find(name) => self.find(alloc, &name),
-            Call::Add(name) => format!(in alloc; "{}", self.add(&name)),
-            Call::Remove(name) => format!(in alloc; "{}", self.remove(&name)),
-            Call::Set(name, base, swaps) => match self.rows.find(name.kind, &name.key) {
-                Some(at) => {
-                    self.rows.set(at, base, swaps);
-                    format!(in alloc; "set")
-                }
-                None => format!(in alloc; "absent"),
-            },
+            Call::Find(name) => self.find(alloc, name),
+            Call::Add(name) => format!(in alloc; "{}", self.add(name)),
+            Call::Remove(name) => format!(in alloc; "{}", self.remove(name)),
+            Call::Set(name, base, swaps) => format!(in alloc; "{}", self.set(name, *base, *swaps)),
             Call::Free => format!(in alloc; "{}", self.rows.free()),
             Call::Len => format!(in alloc; "{}", self.rows.len()),
             Call::Copy => format!(in alloc; "{} copied", copy_all(&self.rows, &mut self.spare)),
@@ -56,11 +60,11 @@ impl Tables {
                 mem::swap(&mut self.rows, &mut self.spare);
                 format!(in alloc; "swapped")
             }
-            Call::Fill(range) => format!(in alloc; "{}", fill(alloc, &mut self.rows, range)?),
-            Call::Count(range) => format!(in alloc; "{}", count(alloc, &self.rows, range)?),
-            Call::Drain(range, stride) => format!(in alloc;
-                "{}",
-                drain(alloc, &mut self.rows, range, stride)?
+            Call::Fill(range) => number(alloc, fill(alloc, &mut self.rows, *range)),
+            Call::Count(range) => number(alloc, count(alloc, &self.rows, *range)),
+            Call::Drain(range, stride) => number(
+                alloc,
+                drain(alloc, &mut self.rows, *range, *stride),
             ),
         }
     }
@@ -87,6 +91,16 @@ impl Tables {
         "added"
     }
 
+    fn set(&mut self, name: &Name, base: Micro, swaps: u32) -> &'static str {
+        match self.rows.find(name.kind, &name.key) {
+            Some(at) => {
+                self.rows.set(at, base, swaps);
+                "set"
+            }
+            None => "absent",
+        }
+    }
+
     fn remove(&mut self, name: &Name) -> &'static str {
         match self.rows.find(name.kind, &name.key) {
             Some(at) => {
@@ -96,4 +110,9 @@ impl Tables {
             None => "absent",
         }
     }
+}
+
+/// The text of a number, where there is one.
+fn number(alloc: Global, n: Result<u32, AllocError>) -> Result<String, AllocError> {
+    format!(in alloc; "{}", n?)
 }
