@@ -1,11 +1,13 @@
 pub mod ChainLemmas
 pub mod ForgetLemmas
+pub mod ForgottenLemmas
 pub mod HeldLemmas
 pub mod JoinedLemmas
 pub mod LeftLemmas
 pub mod ListingLemmas
 pub mod MemberLemmas
 pub mod OrderLemmas
+pub mod OwnLemmas
 pub mod PlaceLemmas
 pub mod TableLemmas
 pub mod TurnLemmas

@@ -1,6 +1,7 @@
 pub mod Chain
 pub mod Entries
 pub mod EntriesInside
+pub mod Forget
 pub mod Held
 pub mod Limits
 pub mod Order

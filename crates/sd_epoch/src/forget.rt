@@ -5,6 +5,7 @@ ghost use Rattle.sd_key.specs.Kind.{kind_of};
 ghost use Rattle.sd_rows.specs.Rows.{row_at};
 ghost use Rattle.sd_epoch.specs.Chain.{IsChain};
 ghost use Rattle.sd_epoch.specs.Entries.{left_by, AreLeft, AreRows, places_of};
+ghost use Rattle.sd_epoch.specs.Forget.{IsClosedUp};
 ghost use Rattle.sd_epoch.specs.Order.{IsRanked};
 ghost use Rattle.sd_epoch.specs.Table.{id_of};
 
@@ -32,17 +33,7 @@ pub(crate) fn close_up(
     requires places { length chain.old.last.items ≡ length rows.now }
     requires room { length entries.old.items ≤ vec_capacity chain.old.before }
     requires few { length entries.old.items ≤ 2 ^ 20 }
-    ensures order { order.new.places.items ≡ filter (λ place. is_some (row_at rows.now place)) order.old.places.items }
-    ensures ranked { IsRanked order.new.places.items order.new.rank.items }
-    ensures ranks { length order.new.rank.items ≡ length order.old.rank.items }
-    ensures order_few { vec_len order.new.places ≤ vec_len order.old.places }
-    ensures order_capacity { vec_capacity order.new.places ≡ vec_capacity order.old.places }
-    ensures entries { entries.new.items ≡ filter (λ e. is_some (row_at rows.now e.place)) entries.old.items }
-    ensures entry_room { entries.new.room ≡ entries.old.room }
-    ensures count { result + length entries.new.items ≡ length entries.old.items }
-    ensures chain { IsChain (places_of entries.new.items) chain.new.last.items chain.new.before.items }
-    ensures chain_places { length chain.new.last.items ≡ length chain.old.last.items }
-    ensures link_capacity { vec_capacity chain.new.before ≡ vec_capacity chain.old.before }
+    ensures { IsClosedUp rows.now order.old order.new entries.old entries.new chain.old chain.new result }
 {
     let before = entries.len();
     order.retain_live(rows);

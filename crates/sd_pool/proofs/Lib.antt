@@ -2,6 +2,7 @@ pub mod AlongLemmas
 mod CallLemmas
 mod CloseLemmas
 pub mod DealLemmas
+mod FirstLemmas
 pub mod JoinLemmas
 pub mod OwnLemmas
 mod SeatLemmas

@@ -9,67 +9,63 @@ use Rattle.sd_rows.proofs.IndexLemmas.{Differs, set_differs}
 pub rank_apart : (order rank : List ℕ) (p q : ℕ) → IsRanking order rank → p < length order → q < length order → get_or rank p 0 ≡ get_or rank q 0 → p ≡ q
 rank_apart order rank p q w lp lq e = sym (w.back p lp) ∙ ap (λ i. get_or order i 0) e ∙ w.back q lq
 
-pub exchange_back :
+-- what stands in two places of a ranking is exchanged
+module _
     (n : ℕ) (O M O' R N R' : ℕ → ℕ) (place to from other : ℕ)
-    → ((p : ℕ) → p < n → O (R p) ≡ p) → ((i : ℕ) → i < n → R (O i) ≡ i)
-    → place < n → to < n → from ≡ R place → other ≡ O to
-    → Differs O M from other → Differs M O' to place → Differs R N other from → Differs N R' place to
-    → (p : ℕ) → p < n → O' (R' p) ≡ p
-exchange_back n O M O' R N R' place to from other back forth within inside f o m o' r r' p lt =
-    grind (
-      arith,
-      cases_eq p place,
-      cases_eq p other,
-      cases_eq (R p) to,
-      cases_eq (R p) from,
-      cases_eq from to,
-      back p lt,
-      back place within,
-      forth to inside,
-      f,
-      o,
-      m.at,
-      m.other (R p),
-      m.other from,
-      o'.at,
-      o'.other (R p),
-      o'.other from,
-      r.at,
-      r.other p,
-      r'.at,
-      r'.other p,
-    )
+    (back : (p : ℕ) → p < n → O (R p) ≡ p) (forth : (i : ℕ) → i < n → R (O i) ≡ i)
+    (within : place < n) (inside : to < n) (f : from ≡ R place) (o : other ≡ O to)
+    (m : Differs O M from other) (o' : Differs M O' to place) (r : Differs R N other from) (r' : Differs N R' place to) where
+  pub exchange_back : (p : ℕ) → p < n → O' (R' p) ≡ p
+  exchange_back p lt =
+      grind (
+        arith,
+        cases_eq p place,
+        cases_eq p other,
+        cases_eq (R p) to,
+        cases_eq (R p) from,
+        cases_eq from to,
+        back p lt,
+        back place within,
+        forth to inside,
+        f,
+        o,
+        m.at,
+        m.other (R p),
+        m.other from,
+        o'.at,
+        o'.other (R p),
+        o'.other from,
+        r.at,
+        r.other p,
+        r'.at,
+        r'.other p,
+      )
 
-pub exchange_forth :
-    (n : ℕ) (O M O' R N R' : ℕ → ℕ) (place to from other : ℕ)
-    → ((p : ℕ) → p < n → O (R p) ≡ p) → ((i : ℕ) → i < n → R (O i) ≡ i)
-    → place < n → to < n → from ≡ R place → other ≡ O to
-    → Differs O M from other → Differs M O' to place → Differs R N other from → Differs N R' place to
-    → (i : ℕ) → i < n → R' (O' i) ≡ i
-exchange_forth n O M O' R N R' place to from other back forth within inside f o m o' r r' i lt =
-    grind (
-      arith,
-      cases_eq i to,
-      cases_eq i from,
-      cases_eq (O i) place,
-      cases_eq (O i) other,
-      cases_eq other place,
-      forth i lt,
-      back place within,
-      forth to inside,
-      f,
-      o,
-      m.at,
-      m.other i,
-      o'.at,
-      o'.other i,
-      r.at,
-      r.other (O i),
-      r.other other,
-      r'.at,
-      r'.other (O i),
-      r'.other other,
-    )
+  pub exchange_forth : (i : ℕ) → i < n → R' (O' i) ≡ i
+  exchange_forth i lt =
+      grind (
+        arith,
+        cases_eq i to,
+        cases_eq i from,
+        cases_eq (O i) place,
+        cases_eq (O i) other,
+        cases_eq other place,
+        forth i lt,
+        back place within,
+        forth to inside,
+        f,
+        o,
+        m.at,
+        m.other i,
+        o'.at,
+        o'.other i,
+        r.at,
+        r.other (O i),
+        r.other other,
+        r'.at,
+        r'.other (O i),
+        r'.other other,
+      )
 
 pub exchange_ranking :
     (order rank : List ℕ) (place to from other : ℕ)

@@ -1,10 +1,9 @@
-use Rattle.std.proofs.Common.{◌≡◌, length, map, ap, subst, sym, ◌∙◌, arith, All, true}
+use Rattle.std.proofs.Common.{◌≡◌, length, ap, subst, sym, ◌∙◌, arith, All, true}
 use Rattle.std.specs.Prelude.{IfSome, Option}
 use Rattle.std.specs.List.{slice_get}
 use Rattle.std.proofs.lemmas.List.{length-map}
 use Rattle.sd_model_shard.specs.Rows as model
 use Rattle.sd_model_shard.specs.Rows.{RowId, Kept, is_same_row, row_of, entries_of}
-use Rattle.sd_model_shard.specs.Statistics.{values_of}
 use Rattle.sd_rows.specs.Rows.{row_at}
 use Rattle.sd_rows.proofs.IndexLemmas.{some_of}
 use Rattle.sd_epoch.specs.Entries.{entry_view, entries_at, IsTimed, id_in}
@@ -16,31 +15,22 @@ use Rattle.sd_model_text.specs.Names as text
 use Rattle.std.proofs.lemmas.List.Elements.{All-filter, filter_passes}
 use Rattle.sd_epoch.proofs.HeldLemmas.{entries_here, few_own}
 use Rattle.sd_epoch.proofs.PlaceLemmas.{id_here}
-use Rattle.sd_epoch.proofs.TableLemmas.{place_live, place_within, at_place, values_same, timed_values}
+use Rattle.sd_epoch.proofs.OwnLemmas.{place_chained, told_here}
+use Rattle.sd_epoch.proofs.TableLemmas.{place_live, at_place, values_same, timed_values}
 use Rattle.sd_epoch.proofs.table.Table.values_of.Goals as goal
 
 pub put_values-requires-clause-room : goal.put_values-requires-clause-room
 put_values-requires-clause-room c = omega (arith, c.requires.room, ap (λ (s : Listing). length s.held) c.self.view_is, length-map c.self.inside.entries.items (entry_view c.self.inside.rows))
 
 pub put_values-requires-clause-within : goal.put_values-requires-clause-within
-put_values-requires-clause-within c =
-    let w = c.self.invariant in
-    omega (arith, place_within c.self.inside w c.args.self.now c.self.view_is c.args.i c.index.result.now c.requires.place c.index.ensures, w.places, w.chain_places)
+put_values-requires-clause-within c = place_chained c.self.inside c.self.invariant c.args.self.now c.self.view_is c.args.i c.index.result.now c.requires.place c.index.ensures
 
 pub returns-clause-values : goal.returns-clause-values
 returns-clause-values c =
     let t = c.self.inside in
-    let w = c.self.invariant in
     let place = c.index.result.now in
-    let live = place_live t w c.args.self.now c.self.view_is c.args.i place c.requires.place c.index.ensures in
-    let there = some_of (row_at t.rows place) live in
-    let at = at_place t w c.args.self.now c.self.view_is c.args.i place c.requires.place c.index.ensures there.0 there.1 in
-    let own = entries_here t.rows place t.entries.items w.rows.apart live w.owned in
-    let are : micros c.put_values.new.self.values ≡ values_of (row_view there.0).0 (listing_of t).held =
-    ap micros c.put_values.ensures.values ∙ values_same t.rows (entries_at place t.entries.items) ∙ ap (map (λ (e : model.Entry). e.sample.value)) own
-    ∙ ap (λ (id : RowId). values_of id (listing_of t).held) (id_here t.rows place there.0 there.1) in
-    subst (λ (s : Listing). IfSome (slice_get s.listed c.args.i) (λ row. micros c.put_values.new.self.values ≡ values_of row.0 s.held)) c.self.view_is
-    (subst (λ (o : Option (RowId × Kept)). IfSome o (λ row. micros c.put_values.new.self.values ≡ values_of row.0 (listing_of t).held)) (sym at.listed) are)
+    told_here t c.self.invariant c.args.self.now c.self.view_is c.args.i place c.requires.place c.index.ensures (λ (e : model.Entry). e.sample.value) (micros c.put_values.new.self.values)
+    (ap micros c.put_values.ensures.values ∙ values_same t.rows (entries_at place t.entries.items))
 
 pub returns-clause-range : goal.returns-clause-range
 returns-clause-range c =
