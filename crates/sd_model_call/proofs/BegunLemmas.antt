@@ -13,7 +13,7 @@ use Rattle.sd_model_settings.specs.Settings.{Settings, OutOfRange, SettingsFlaw,
 use Rattle.sd_model_call.specs.Opening.{World, Opening, Part, OfSettings, OfScript, OfSource, OfBeat, OfWire, OfGraphite, OfConsole, OfDoor, OfStreams, AreRead, IsAccepted, IsFlawed, IsNotOpenedAt, longest_file, numbered, opened_all, opened_part, part_in, settled, with_part}
 use Rattle.sd_model_call.specs.Call.{Answer, Done, NoMemory, NoForm, Misset, BadScript, NotOpened, NotRead, NotWritten, Worn, IsNotTaken, NotBegun, NotTaken, StopsAmong, cut_answer}
 use Rattle.sd_model_call.specs.Server.{begun_with}
-use Rattle.sd_model_call.specs.ServerCompleteness.{HasFaultOf}
+use Rattle.sd_model_call.specs.ServerCompleteness.{HasFaultOf, IsReadToRun, RunsFreely}
 use Rattle.sd_model_call.proofs.Openings.{all_behind}
 use Rattle.sd_model_call.proofs.ReplayEnds.{LeftBehind, left_behind}
 
@@ -202,3 +202,15 @@ uncut (NotOpened part) answer is = inr (sym is)
 uncut (NotRead part) answer is = inr (sym is)
 uncut NotWritten answer is = inl is
 uncut (Worn turns) answer is = inr (sym is)
+
+-- where nothing hinders the loops, no read or tick that ends a run failed
+pub none_failed : (old new : World) → RunsFreely old new → (part : Part) → IsReadToRun part → HasFaultOf part old new → ⊥
+none_failed old new runs OfSettings read rose = runs.settings rose
+none_failed old new runs OfScript read rose = absurd read
+none_failed old new runs (OfSource i) read rose = runs.sources i rose
+none_failed old new runs OfBeat read rose = runs.beat rose
+none_failed old new runs (OfWire i) read rose = absurd read
+none_failed old new runs OfGraphite read rose = absurd read
+none_failed old new runs OfConsole read rose = absurd read
+none_failed old new runs OfDoor read rose = absurd read
+none_failed old new runs OfStreams read rose = absurd read

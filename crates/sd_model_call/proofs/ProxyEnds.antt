@@ -17,7 +17,7 @@ use Rattle.sd_model_call.specs.Server.{is_worn, source_openings}
 use Rattle.sd_model_call.specs.ServerCompleteness.{AsksFor, SourceTookMost}
 use Rattle.sd_model_call.specs.Proxy.{AnswersProxy, HasProxied, IsUnfit, ProxyAccounts, node_place, proxy_answer, proxy_begun, proxy_flaw, proxy_openings, relay_text}
 use Rattle.sd_model_call.specs.ProxyCompleteness.{AreRelaysSpent, IsOpenedToRelay, IsProxyCauseOf, IsRelayed, IsUnhinderedProxy, NoWireFailed, OneLoopTookMost}
-use Rattle.sd_model_call.proofs.BegunLemmas.{Same, all_numbered, accepted_so, at_same, has_flaw, not_begun, not_taken, same_start, uncut}
+use Rattle.sd_model_call.proofs.BegunLemmas.{Same, all_numbered, accepted_so, at_same, has_flaw, none_failed, not_begun, not_taken, same_start, uncut}
 use Rattle.sd_model_call.proofs.LoopEnds.{AreEnded, ComesFrom, OneSourceTookMost, all_done, comes_from, worn_one}
 use Rattle.sd_model_call.proofs.Openings.{all_append}
 
@@ -160,15 +160,7 @@ module _ (words : List (List ℕ)) (bytes : List ℕ) (old new : World) (asks : 
       by_cause (NotOpened OfConsole) h = absurd h.0
       by_cause (NotOpened OfDoor) h = absurd h.0
       by_cause (NotOpened OfStreams) h = absurd h.0
-      by_cause (NotRead OfSettings) h = absurd (steady.runs.settings h.1)
-      by_cause (NotRead OfScript) h = absurd h.0
-      by_cause (NotRead (OfSource i)) h = absurd (steady.runs.sources i h.1)
-      by_cause (NotRead OfBeat) h = absurd (steady.runs.beat h.1)
-      by_cause (NotRead (OfWire i)) h = absurd h.0
-      by_cause (NotRead OfGraphite) h = absurd h.0
-      by_cause (NotRead OfConsole) h = absurd h.0
-      by_cause (NotRead OfDoor) h = absurd h.0
-      by_cause (NotRead OfStreams) h = absurd h.0
+      by_cause (NotRead part) h = absurd (none_failed old new steady.runs part h.0 h.1)
       by_cause NotWritten h = absurd (steady.runs.output h)
       by_cause (Worn turns) h = by_loop h.1 where
         by_loop : OneLoopTookMost old new → IsRelayed (Worn turns)

@@ -20,7 +20,7 @@ use Rattle.sd_model_call.specs.Completeness.{IsWhole, IsBlocked}
 use Rattle.sd_model_replay.specs.Totals.{totals_text}
 use Rattle.sd_model_call.specs.Server.{AnswersServer, HasServed, ServerAccounts, begun, door_openings, has_streams, is_worn, run_answer, run_totals, server_openings, source_openings}
 use Rattle.sd_model_call.specs.ServerCompleteness.{AStreamTookMost, AreAllSpent, AsksFor, HasFaultOf, IsCauseOf, IsOpenedToServe, IsOutermost, IsServed, IsUnhinderedServer, NoneFailed, OneTookMost, TookMost}
-use Rattle.sd_model_call.proofs.BegunLemmas.{Same, all_numbered, accepted_so, at_same, has_flaw, not_begun, not_taken, same_all, same_start, uncut}
+use Rattle.sd_model_call.proofs.BegunLemmas.{Same, all_numbered, accepted_so, at_same, has_flaw, none_failed, not_begun, not_taken, same_all, same_start, uncut}
 use Rattle.sd_model_call.proofs.LoopEnds.{AreEnded, ComesFrom, OneSourceTookMost, all_done, both_false, comes_from, whole_done, worn_one}
 use Rattle.sd_model_call.proofs.Openings.{all_append, all_where}
 use Rattle.sd_model_record.specs.Backends.{Graphite, Console}
@@ -243,15 +243,7 @@ module _ (words : List (List ℕ)) (bytes : List ℕ) (says : ℕ → Type 0) (o
     by_cause (NotOpened OfConsole) h = inr (OfConsole, tt, refl)
     by_cause (NotOpened OfDoor) h = inr (OfDoor, tt, refl)
     by_cause (NotOpened OfStreams) h = inr (OfStreams, tt, refl)
-    by_cause (NotRead OfSettings) h = absurd (steady.runs.settings h.1)
-    by_cause (NotRead OfScript) h = absurd h.0
-    by_cause (NotRead (OfSource i)) h = absurd (steady.runs.sources i h.1)
-    by_cause (NotRead OfBeat) h = absurd (steady.runs.beat h.1)
-    by_cause (NotRead (OfWire i)) h = absurd h.0
-    by_cause (NotRead OfGraphite) h = absurd h.0
-    by_cause (NotRead OfConsole) h = absurd h.0
-    by_cause (NotRead OfDoor) h = absurd h.0
-    by_cause (NotRead OfStreams) h = absurd h.0
+    by_cause (NotRead part) h = absurd (none_failed old new steady.runs part h.0 h.1)
     by_cause NotWritten h = absurd (steady.runs.output h)
     by_cause (Worn turns) h = by_loop h.1 where
       by_loop : OneTookMost old new → IsServed (Worn turns)
