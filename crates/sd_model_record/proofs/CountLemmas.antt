@@ -171,3 +171,19 @@ counted_next a b old mid new first second = record {
   grows = λ c few. omega (arith, first.grows c (omega (arith, second.rises c)), second.grows c few);
   adds = λ c few. omega (arith, first.adds c (omega (arith, second.rises c)), second.adds c few);
 }
+
+-- no tally, no send and no session that failed count nothing
+pub nothing_counted : (count : Count) → plus (of_tally no_tally) (plus (of_sends 0) (of_sessions 0)) count ≡ nothing count
+nothing_counted TotalPackets = refl
+nothing_counted TotalLines = refl
+nothing_counted TotalBad = refl
+nothing_counted TotalDropped = refl
+nothing_counted TakenPackets = refl
+nothing_counted TakenLines = refl
+nothing_counted TakenBad = refl
+nothing_counted TakenDropped = refl
+nothing_counted RoundsMade = refl
+nothing_counted GraphiteFaults = refl
+nothing_counted ConsoleFaults = refl
+nothing_counted RepeaterFaults = refl
+nothing_counted AdminFaults = refl

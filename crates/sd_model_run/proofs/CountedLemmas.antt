@@ -11,6 +11,7 @@ use Rattle.sd_model_shard.specs.Whereabouts.{dropped_in, told_by}
 use Rattle.sd_model_record.specs.Backends.{Graphite, Console, mark_of}
 use Rattle.sd_model_record.specs.Counts.{Count, TotalPackets, TotalLines, TotalBad, TotalDropped, TakenPackets, TakenLines, TakenBad, TakenDropped, RoundsMade, GraphiteFaults, ConsoleFaults, RepeaterFaults, AdminFaults, Amounts, Part, HasCounted, plus, of_tally, of_sends, of_sessions}
 use Rattle.sd_model_record.specs.Desk.{last_counted}
+use Rattle.sd_model_record.proofs.CountLemmas.{nothing_counted}
 use Rattle.sd_model_serve.specs.Acts.{acts_by, events_by, events_of, told_in}
 use Rattle.sd_model_serve.specs.Doors.{faults_among}
 use Rattle.sd_model_serve.specs.Receiving.{failed_sends, tally_of}
@@ -131,19 +132,7 @@ one_by r drops =
 
 -- no receiver counts nothing
 pub none_received : (count : Count) → received_by [] 0 count ≡ 0
-none_received TotalPackets = refl
-none_received TotalLines = refl
-none_received TotalBad = refl
-none_received TotalDropped = refl
-none_received TakenPackets = refl
-none_received TakenLines = refl
-none_received TakenBad = refl
-none_received TakenDropped = refl
-none_received RoundsMade = refl
-none_received GraphiteFaults = refl
-none_received ConsoleFaults = refl
-none_received RepeaterFaults = refl
-none_received AdminFaults = refl
+none_received count = omega (arith, nothing_counted count)
 
 -- one receiver more
 pub received_next : (r : Reception) (receptions : List Reception) (drops others : ℕ) (count : Count)

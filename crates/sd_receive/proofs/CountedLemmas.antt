@@ -3,7 +3,7 @@ use Rattle.std.proofs.Common.{◌≡◌, ℕ, ◌+◌, ◌<◌, refl, sym, subst
 use Rattle.sd_model_record.specs.Record.{Tally}
 use Rattle.sd_model_record.specs.Desk.{last_counted, add_tally, no_tally}
 use Rattle.sd_model_record.specs.Counts.{Count, TotalPackets, TotalLines, TotalBad, TotalDropped, TakenPackets, TakenLines, TakenBad, TakenDropped, RoundsMade, GraphiteFaults, ConsoleFaults, RepeaterFaults, AdminFaults, Amounts, Part, HasCounted, plus, of_tally, of_sends}
-use Rattle.sd_model_record.proofs.CountLemmas.{counted_next}
+use Rattle.sd_model_record.proofs.CountLemmas.{counted_next, nothing_counted}
 
 -- the same amounts in other words
 pub counted_as : (a b : Amounts) (old new : Part) → ((c : Count) → old.seen c + a c < last_counted → b c ≡ a c) → HasCounted a old new → HasCounted b old new
@@ -31,19 +31,7 @@ merged s t m n seen AdminFaults few = omega arith
 
 -- nothing was counted
 pub no_counts : (c : Count) → plus (of_tally no_tally) (of_sends 0) c ≡ 0
-no_counts TotalPackets = refl
-no_counts TotalLines = refl
-no_counts TotalBad = refl
-no_counts TotalDropped = refl
-no_counts TakenPackets = refl
-no_counts TakenLines = refl
-no_counts TakenBad = refl
-no_counts TakenDropped = refl
-no_counts RoundsMade = refl
-no_counts GraphiteFaults = refl
-no_counts ConsoleFaults = refl
-no_counts RepeaterFaults = refl
-no_counts AdminFaults = refl
+no_counts c = omega (arith, nothing_counted c)
 
 -- a tally was counted, and then sends that failed
 pub sends_counted : (t : Amounts) (k n : ℕ) (old mid new : Part) → k ≡ n → HasCounted t old mid → HasCounted (of_sends n) mid new → HasCounted (plus t (of_sends k)) old new

@@ -9,6 +9,7 @@ use Rattle.sd_model_shard.specs.Whereabouts.{dropped_in, told_by}
 use Rattle.sd_model_record.specs.Counts.{Count, TotalPackets, TotalLines, TotalBad, TotalDropped, TakenPackets, TakenLines, TakenBad, TakenDropped, RoundsMade, GraphiteFaults, ConsoleFaults, RepeaterFaults, AdminFaults, Part, HasCounted, plus, of_sessions, of_tally}
 use Rattle.sd_model_record.specs.Desk.{last_counted}
 use Rattle.sd_model_record.specs.Record.{Tally}
+use Rattle.sd_model_record.proofs.CountLemmas.{nothing_counted}
 use Rattle.sd_model_serve.specs.Acts.{asks, events_of, told_in}
 use Rattle.sd_model_serve.specs.Ends.{EndsKeeper}
 use Rattle.sd_model_serve.specs.Receiving.{tally_of}
@@ -50,19 +51,7 @@ one_lined l drops count =
 
 -- none counts nothing
 none_lined : (count : Count) → lined_by [] 0 count ≡ 0
-none_lined TotalPackets = refl
-none_lined TotalLines = refl
-none_lined TotalBad = refl
-none_lined TotalDropped = refl
-none_lined TakenPackets = refl
-none_lined TakenLines = refl
-none_lined TakenBad = refl
-none_lined TakenDropped = refl
-none_lined RoundsMade = refl
-none_lined GraphiteFaults = refl
-none_lined ConsoleFaults = refl
-none_lined RepeaterFaults = refl
-none_lined AdminFaults = refl
+none_lined count = omega (arith, nothing_counted count)
 
 module _ (pool : Pool) (desk : SharedDesk) (asked : ℕ) where
   -- a post was run, if there is one
