@@ -1,10 +1,10 @@
 use crate::received::Received;
 use crate::receiving::receive;
 use crate::shared::Shared;
-use sd_outside::{Clock, Datagrams, Gate, Wire};
+use sd_outside::{Clock, Datagrams, Ended, Gate, Wire};
 use sd_pool::{Pool, Seat};
 use sd_shared_desk::{DeskSeat, SharedDesk};
-use sd_workers::Worker;
+use sd_workers::{Reports, Worker};
 use std::sync::Wait;
 
 /// The work of one receiver in one value, and what it did, once it was run.
@@ -67,5 +67,22 @@ impl<'a, D: Datagrams, L: Wire, G: Gate, C: Clock> Worker<Shared<'a, G, C>> for 
             shared.clock,
             shared.run_flushes,
         );
+    }
+}
+
+impl<D, L> Reports for Post<D, L> {
+    ghost use Rattle.sd_receive.specs.Posts.{WasRun, ended_in};
+
+    type End = Ended;
+
+    ghost was_run = { WasRun };
+
+    ghost ended_in = { ended_in };
+
+    fn end(&self) -> Ended {
+        match &self.got {
+            Some(got) => got.ended,
+            None => unreachable!(),
+        }
     }
 }

@@ -1,3 +1,2 @@
-pub mod PartsLemmas
 pub mod PostLemmas
 pub mod SumLemmas

@@ -8,10 +8,8 @@ use sd_outside::{Datagrams, Wire};
 use sd_plan::Node;
 use sd_proxy::UpPass;
 use sd_ring::Ring;
+use sd_workers::{datagram_room, put_first, put_run, take_first, take_run};
 use std::alloc::{AllocError, Global};
-
-// The most bytes of a datagram.
-const LONGEST_DATAGRAM: usize = 65_507;
 
 /// The room of a receiver: its ring, and room for its wires and for a datagram.
 #[derive(Drop)]
@@ -19,13 +17,6 @@ pub(crate) struct PostRoom<L> {
     pub ring: Ring,
     pub wires: Vec<L>,
     pub buf: Vec<u8>,
-}
-
-// A buffer of so many bytes.
-fn buffer(alloc: Global, size: usize) -> Result<Vec<u8>, AllocError>
-    ensures { IfOk result (λ v. vec_len v ≡ size) }
-{
-    Ok(vec![in alloc; 0; size]?)
 }
 
 /// Room for so many receivers, each with a ring of these nodes, which remembers so many keys, and a wire for each.
@@ -49,54 +40,10 @@ pub(crate) fn open_rooms<L: Drop>(
         rooms.push_reserved(PostRoom {
             ring: Ring::open(alloc, nodes, cache)?,
             wires: Vec::with_capacity(alloc, nodes.len())?,
-            buf: buffer(alloc, LONGEST_DATAGRAM)?,
+            buf: datagram_room(alloc)?,
         });
     }
     Ok(rooms)
-}
-
-/// Takes the first away, and the others keep their order.
-fn take_first<T>(items: &mut Vec<T>) -> T
-    requires { 0 < length items.old.items }
-    ensures items { items.old.items ≡ result ∷ items.new.items }
-    ensures capacity { vec_capacity items.new ≡ vec_capacity items.old }
-{
-    items.remove(0)
-}
-
-/// Puts it before the others, within the room that there is.
-fn put_first<T: Drop>(items: &mut Vec<T>, item: T)
-    requires { length items.old.items < vec_capacity items.old }
-    ensures items { items.new.items ≡ item ∷ items.old.items }
-    ensures capacity { vec_capacity items.new ≡ vec_capacity items.old }
-{
-    items.insert(0, item).unwrap();
-}
-
-// The first so many wires, in order, in room for them.
-fn take_run<L>(wires: &mut Vec<L>, mut room: Vec<L>, run: usize) -> Vec<L>
-    requires few { run ≤ length wires.old.items }
-    requires room { run ≤ vec_capacity room }
-    requires none { room.items ≡ [] }
-    ensures items { wires.old.items ≡ result.items ++ wires.new.items }
-    ensures len { length result.items ≡ run }
-    ensures capacity { vec_capacity wires.new ≡ vec_capacity wires.old }
-{
-    for _wire in 0..run {
-        room.push_reserved(take_first(wires));
-    }
-    room
-}
-
-// They stand before the others again.
-fn put_run<L: Drop>(wires: &mut Vec<L>, mut run: Vec<L>)
-    requires { length run.items + length wires.old.items ≤ vec_capacity wires.old }
-    ensures items { wires.new.items ≡ run.items ++ wires.old.items }
-    ensures capacity { vec_capacity wires.new ≡ vec_capacity wires.old }
-{
-    while let Some(wire) = run.pop() {
-        put_first(wires, wire);
-    }
 }
 
 /// Moves the first of the sources, each with a run of wires, one for each of so many nodes, and the first of the passes into posts:

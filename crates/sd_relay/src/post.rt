@@ -1,8 +1,8 @@
 use crate::live::Live;
-use sd_outside::{Datagrams, Wire};
+use sd_outside::{Datagrams, Ended, Wire};
 use sd_proxy::{Proxied, UpCell, UpPass, proxy_part};
 use sd_ring::Ring;
-use sd_workers::Worker;
+use sd_workers::{Reports, Worker};
 use std::sync::Wait;
 
 /// The work of one receiver of a proxy in one value, and what it did, once it was run.
@@ -47,5 +47,23 @@ impl<'a, D: Datagrams, L: Wire, G> Worker<Live<'a, G>> for Post<D, L> {
 
     fn run<R: Wait>(&mut self, rt: &R, live: &Live<'a, G>) {
         self.run(rt, live.cell);
+    }
+}
+
+impl<D, L> Reports for Post<D, L> {
+    ghost use Rattle.sd_relay.specs.Relaying.{ended_in};
+    ghost use Rattle.sd_relay.specs.Sums.{WasRun};
+
+    type End = Ended;
+
+    ghost was_run = { WasRun };
+
+    ghost ended_in = { ended_in };
+
+    fn end(&self) -> Ended {
+        match &self.got {
+            Some(got) => got.ended,
+            None => unreachable!(),
+        }
     }
 }

@@ -4,9 +4,8 @@ ghost use Rattle.sd_model_live.specs.Looks.{Begins};
 ghost use Rattle.sd_plan.specs.Entries.{node_view};
 ghost use Rattle.sd_live.specs.Live.{IsCheckerOf, IsPassOf, seen};
 ghost use Rattle.sd_relay.specs.Parts.{pass_in, source_in, wires_in};
-ghost use Rattle.sd_relay.specs.Relaying.{HasRelayed, ended_in, receivers_in};
+ghost use Rattle.sd_relay.specs.Relaying.{HasRelayed, receivers_in};
 ghost use Rattle.sd_relay.specs.Room.{IsRoomFor};
-ghost use Rattle.sd_relay.specs.Sums.{WasRun};
 
 use crate::live::Live;
 use crate::parts::{gather, give_back};
@@ -17,6 +16,7 @@ use crate::workers::run_relays;
 use sd_outside::{Beat, Datagrams, Ended, Gate, Probe, Wire};
 use sd_plan::Node;
 use sd_proxy::{Checked, UpCell, UpPass, UpPasses};
+use sd_workers::ends_in;
 use std::sync::Wait;
 use std::thread::Threads;
 
@@ -26,30 +26,6 @@ pub struct Relayed {
     pub received: Vec<Ended>,
     pub checked: Checked,
     pub sums: ProxySums,
-}
-
-// How the receiver of a post that was run ended.
-fn end_of_post<D, L>(post: &Post<D, L>) -> Ended
-    requires { WasRun post.now }
-    ensures { result ≡ ended_in post.now }
-{
-    match &post.got {
-        Some(got) => got.ended,
-        None => unreachable!(),
-    }
-}
-
-// How each receiver ended, in order, in room for that.
-fn ends_in<D, L>(posts: &[Post<D, L>], mut room: Vec<Ended>) -> Vec<Ended>
-    requires run { All WasRun posts.now }
-    requires room { length posts.now ≤ vec_capacity room }
-    requires none { room.items ≡ [] }
-    ensures { result.items ≡ map ended_in posts.now }
-{
-    for post in posts {
-        room.push_reserved(end_of_post(post));
-    }
-    room
 }
 
 // Puts sources and wires back to where they stood, and closes the cell over all passes.

@@ -1,5 +1,4 @@
 mod LineLemmas
-mod PartsLemmas
 mod PostLemmas
 mod RoomLemmas
 mod ServeLemmas

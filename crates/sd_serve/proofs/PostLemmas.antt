@@ -22,12 +22,11 @@ use Rattle.sd_pool.specs.Along.{Pairs}
 use Rattle.sd_pool.specs.Pool.{IsSeatOf, own_at, shards_of, who_is}
 use Rattle.sd_pool.specs.declared.pool.Pool.{Pool}
 use Rattle.sd_pool.specs.declared.seat.Seat.{Seat}
-use Rattle.sd_receive.specs.Posts.{HasRun}
 use Rattle.sd_receive.specs.Receiving.{EndsSo}
 use Rattle.sd_receive.specs.declared.post.Post.{Post}
 use Rattle.sd_shared_desk.specs.Shared.{IsSeatOf as IsDeskSeatOf, OwnSeat as DeskSeat, part_of}
 use Rattle.sd_shared_desk.specs.declared.shared_desk.SharedDesk.{SharedDesk}
-use Rattle.sd_serve.specs.Closing.{WasRun, ended_by, ended_in}
+use Rattle.sd_receive.specs.Posts.{HasRun, WasRun, ended_by, ended_in}
 use Rattle.sd_serve.specs.Parts.{IsFitted, own_in, seat_in, source_in, wires_in}
 use Rattle.sd_serve.specs.Serving.{end_of}
 

@@ -2,12 +2,12 @@
 ghost use Rattle.std.specs.Prelude.{◌≡◌, ◌+◌, ◌<◌, ◌≤◌, ◌^◌, ◌++◌, false, IfOk, length, vec_capacity};
 ghost use Rattle.sd_serve.specs.LinePost.{HasLineRoom, line_owns, line_rooms, line_seats, lines_in};
 
-use crate::parts::{LONGEST_DATAGRAM, buffer, put_first, take_first};
 use sd_outside::{Clock, Door, DoorEnd, Gate};
 use sd_pool::Seat;
 use sd_receive::{Shared, linekeep};
 use sd_shared_desk::DeskSeat;
 use sd_tcp::Cutter;
+use sd_workers::{datagram_room, put_first, take_first};
 use std::alloc::{AllocError, Global};
 use std::sync::Wait;
 
@@ -71,7 +71,7 @@ pub(crate) fn open_line_room(alloc: Global, streams: bool) -> Result<Option<Line
     }
     Ok(Some(LineRoom {
         cutter: Cutter::open(alloc)?,
-        buf: buffer(alloc, LONGEST_DATAGRAM)?,
+        buf: datagram_room(alloc)?,
     }))
 }
 

@@ -3,14 +3,14 @@ ghost use Rattle.std.specs.Prelude.{◌≡◌, ◌+◌, ◌*◌, ◌<◌, ◌≤
 ghost use Rattle.std.specs.List.{AllByRecursion};
 ghost use Rattle.sd_pool.specs.Pool.{IsRoomOf, IsSeatOf, receivers_of};
 ghost use Rattle.sd_shared_desk.specs.Shared.{IsSeatOf as IsDeskSeatOf, seats_of};
-ghost use Rattle.sd_serve.specs.Closing.{IsClosed, WasRun, ended_in};
+ghost use Rattle.sd_serve.specs.Closing.{IsClosed};
 ghost use Rattle.sd_serve.specs.LinePost.{line_owns, line_seats};
 ghost use Rattle.sd_serve.specs.Parts.{own_in, seat_in, source_in, wires_in};
 ghost use Rattle.sd_serve.specs.Room.{IsRoom, sizing_in, start_in};
 ghost use Rattle.sd_serve.specs.Serving.{HasServed, objects_of, terms_of};
 
 use crate::line_post::{LinePost, put_line_post, take_line_post};
-use crate::parts::{gather, give_back, put_first, take_first};
+use crate::parts::{gather, give_back};
 use crate::room::ServerRoom;
 use crate::running::run_all;
 use crate::workers::Ends;
@@ -23,6 +23,7 @@ use sd_plan::{Names, Reckoning};
 use sd_pool::{Books, Pool, Seats};
 use sd_receive::{Post, Shared};
 use sd_shared_desk::{DeskSeat, SharedDesk};
+use sd_workers::{ends_in, put_first, take_first};
 use std::sync::Wait;
 use std::thread::Threads;
 
@@ -35,30 +36,6 @@ pub struct Served {
     pub outs: Option<OutCounts>,
     pub books: Books,
     pub desk: Desk,
-}
-
-// How the receiver of a post that was run ended.
-fn end_of_post<D, L>(post: &Post<D, L>) -> Ended
-    requires { WasRun post.now }
-    ensures { result ≡ ended_in post.now }
-{
-    match &post.got {
-        Some(got) => got.ended,
-        None => unreachable!(),
-    }
-}
-
-// How each receiver ended, in order, in room for that.
-fn ends_in<D, L>(posts: &[Post<D, L>], mut room: Vec<Ended>) -> Vec<Ended>
-    requires run { All WasRun posts.now }
-    requires room { length posts.now ≤ vec_capacity room }
-    requires none { room.items ≡ [] }
-    ensures { result.items ≡ map ended_in posts.now }
-{
-    for post in posts {
-        room.push_reserved(end_of_post(post));
-    }
-    room
 }
 
 // Puts sources and wires back to where they stood, and closes the pool and the desk over all seats.

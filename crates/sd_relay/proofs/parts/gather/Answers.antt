@@ -4,7 +4,7 @@ use Rattle.std.proofs.Math.Nat.{suc-mul}
 use Rattle.std.proofs.lemmas.List.Elements.{All-pop, All-push, All-same}
 use Rattle.sd_plan.specs.Entries.{node_view}
 use Rattle.sd_relay.specs.Parts.{HasPlace, IsFitted, pass_in, source_in, wires_in}
-use Rattle.sd_relay.proofs.PartsLemmas.{part-moved, run-moved}
+use Rattle.sd_workers.proofs.MovingLemmas.{part-moved, run-moved}
 use Rattle.sd_relay.proofs.parts.gather.Goals as goal
 
 pub loop-room-preserved : goal.loop-room-preserved
@@ -27,7 +27,7 @@ loop-room-preserved g c =
       wires = run-moved wires_in _ _ _ _ _ _ loop.wires wires.items push.items;
       passes = part-moved pass_in _ _ _ _ _ _ loop.passes pass.items push.items;
       sources = let a = loop.sources in let b = ap length source.items in omega arith;
-      runs = let a = subst (λ n. n * length c.args.nodes.now ≤ length c.loop-room.wires.items) less loop.runs in let b = ap length wires.items ∙ length-append c.take_run.result.items c.take_run.new.wires.items in let d = wires.len in let e = suc-mul (length c.pop.new.self.items) (length c.args.nodes.now) in omega arith;
+      runs = let a = subst (λ n. n * length c.args.nodes.now ≤ length c.loop-room.wires.items) less loop.runs in let b = ap length wires.items ∙ length-append c.take_run.result.items c.take_run.new.items.items in let d = wires.len in let e = suc-mul (length c.pop.new.self.items) (length c.args.nodes.now) in omega arith;
       passes_left = let a = loop.passes_left in let b = ap length pass.items in omega arith;
       packets_room = source.capacity ∙ loop.packets_room;
       wires_room = wires.capacity ∙ loop.wires_room;

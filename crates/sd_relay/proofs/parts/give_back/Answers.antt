@@ -1,7 +1,7 @@
 use Rattle.std.proofs.Common.{◌≡◌, ◌∙◌, ◌+◌, ap, arith, length, length-append}
 use Rattle.std.proofs.lemmas.List.{length_push}
 use Rattle.sd_relay.specs.Parts.{pass_in, source_in, wires_in}
-use Rattle.sd_relay.proofs.PartsLemmas.{part-back, run-back, run-length}
+use Rattle.sd_workers.proofs.MovingLemmas.{part-back, run-back, run-length}
 use Rattle.sd_relay.proofs.parts.give_back.Goals as goal
 
 pub put_run-requires : goal.put_run-requires

@@ -11,10 +11,10 @@ loop-preserved g c =
     let push = c.push_reserved.ensures in
     let nodes = map node_view c.args.nodes.now in
     let wires = c.in_ok-with_capacity.ensures in
-    let buf = c.in_ok-buffer.ensures in
+    let buf = c.in_ok-datagram_room.ensures in
     record {
       len = ap length push.items ∙ length_push _ _ ∙ ap (λ n. n + 1) loop.len;
       room = let a = loop.room in let b = push.capacity in omega arith;
       each = All-same (HasPlace nodes) _ _ push.items (All-push (HasPlace nodes) _ _ loop.each
-          (c.in_ok-open.ensures, wires.items, omega (arith, wires.capacity, length-map c.args.nodes.now node_view), omega (arith, buf, c.in_ok-buffer.field-0.ok.0)));
+          (c.in_ok-open.ensures, wires.items, omega (arith, wires.capacity, length-map c.args.nodes.now node_view), omega (arith, buf, c.in_ok-datagram_room.field-0.ok.0)));
     }

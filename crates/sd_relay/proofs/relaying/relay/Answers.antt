@@ -14,7 +14,7 @@ use Rattle.sd_relay.specs.Posts.{IsReady}
 use Rattle.sd_relay.specs.Relaying.{ended_in}
 use Rattle.sd_relay.specs.Room.{IsFreshPass}
 use Rattle.sd_relay.specs.Sums.{WasRun, totals_in}
-use Rattle.sd_relay.proofs.PartsLemmas.{none_left}
+use Rattle.sd_workers.proofs.MovingLemmas.{none_left}
 use Rattle.sd_relay.proofs.PostLemmas.{AreFresh, all_ran, all_relays, all_were_run, by_recursion, fresh_posts, ran_passes, ran_wires, ready_posts, relays_count, relays_counted, relays_ended, relays_looked, relays_of}
 use Rattle.sd_relay.proofs.relaying.relay.Goals as goal
 

@@ -3,7 +3,7 @@ use Rattle.std.proofs.lemmas.List.{length_push}
 use Rattle.std.proofs.Math.Nat.{suc-mul}
 use Rattle.std.proofs.lemmas.List.Elements.{All-pop, All-push, All-same}
 use Rattle.sd_serve.specs.Parts.{HasPlace, IsFitted, own_in, seat_in, source_in, wires_in}
-use Rattle.sd_serve.proofs.PartsLemmas.{part-moved, run-moved}
+use Rattle.sd_workers.proofs.MovingLemmas.{part-moved, run-moved}
 use Rattle.sd_serve.proofs.parts.gather.Goals as goal
 
 pub loop-room-preserved : goal.loop-room-preserved
@@ -27,7 +27,7 @@ loop-room-preserved g c =
       seats = part-moved seat_in _ _ _ _ _ _ loop.seats seat.items push.items;
       owns = part-moved own_in _ _ _ _ _ _ loop.owns own.items push.items;
       sources = let a = loop.sources in let b = ap length source.items in omega arith;
-      runs = let a = subst (λ n. n * c.args.run ≤ length c.loop-room.wires.items) less loop.runs in let b = ap length wires.items ∙ length-append c.take_run.result.items c.take_run.new.wires.items in let d = wires.len in let e = suc-mul (length c.pop.new.self.items) c.args.run in omega arith;
+      runs = let a = subst (λ n. n * c.args.run ≤ length c.loop-room.wires.items) less loop.runs in let b = ap length wires.items ∙ length-append c.take_run.result.items c.take_run.new.items.items in let d = wires.len in let e = suc-mul (length c.pop.new.self.items) c.args.run in omega arith;
       seats_left = let a = loop.seats_left in let b = ap length seat.items in omega arith;
       owns_left = let a = loop.owns_left in let b = ap length own.items in omega arith;
       packets_room = source.capacity ∙ loop.packets_room;

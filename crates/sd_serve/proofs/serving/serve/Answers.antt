@@ -10,8 +10,8 @@ use Rattle.sd_pool.proofs.AlongLemmas.{AllByRecursion-append, AllByRecursion-bac
 use Rattle.sd_shared_desk.specs.Shared.{IsNewSeatOf as IsNewDeskSeatOf, IsSeatOf as IsDeskSeatOf, number_of_seat, part_of}
 use Rattle.sd_flush.specs.Flushing.{MakesRoundAt, back_of, form_of, uses, uses_by}
 use Rattle.sd_flush.specs.Tables.{waiting_in}
-use Rattle.sd_receive.specs.Posts.{IsReady}
-use Rattle.sd_serve.specs.Closing.{IsClosed, WasRun, ended_in}
+use Rattle.sd_receive.specs.Posts.{IsReady, WasRun, ended_in}
+use Rattle.sd_serve.specs.Closing.{IsClosed}
 use Rattle.sd_serve.specs.LinePost.{line_keepers, line_owns, line_seats}
 use Rattle.sd_serve.specs.OutRoom.{has_rooms}
 use Rattle.sd_serve.specs.Parts.{IsFitted, own_in, seat_in, source_in, wires_in}
