@@ -1,6 +1,7 @@
 ghost use Rattle.std.specs.Prelude.{◌≤◌, All, IfOk, vec_len};
 
 use crate::sources::{fail_on, open, show_address};
+use crate::steps::each_step;
 use sd_case::{Answer, Refusal, bytes_of, number};
 use sd_outside::{
     Beat, Clock, Datagrams, Gate, MemBeat, MemClock, MemDatagrams, Next, NoGate, Tick,
@@ -107,11 +108,11 @@ pub(crate) fn steps_on_datagrams(
     out: &mut Answer,
 ) -> Result<(), Refusal> {
     let mut source = MemDatagrams::of(datagrams_of(alloc, texts)?);
-    for word in steps {
-        out.step(word);
-        step_on_datagrams(alloc, &mut source, word, out)?;
-    }
-    Ok(())
+    each_step(
+        steps,
+        out,
+        |word, out| step_on_datagrams(alloc, &mut source, word, out),
+    )
 }
 
 /// Appends the ticks that a beat has left.
@@ -186,11 +187,7 @@ pub(crate) fn steps_on_beat(
     out: &mut Answer,
 ) -> Result<(), Refusal> {
     let mut beat = MemBeat::of(ticks_of(alloc, ticks)?);
-    for word in steps {
-        out.step(word);
-        step_on_beat(&mut beat, word, out)?;
-    }
-    Ok(())
+    each_step(steps, out, |word, out| step_on_beat(&mut beat, word, out))
 }
 
 /// `clock MOMENT`: what a clock that stands still answers, twice.

@@ -3,6 +3,7 @@ ghost use Rattle.sd_outside.specs.MemSessions.{HasNoFaults};
 
 use crate::sinks::show_answer;
 use crate::sources::{fail_on, open, show_address};
+use crate::steps::each_step;
 use sd_case::{Answer, Refusal, bytes_of, number};
 use sd_outside::{Door, Entry, Failed, MemDoor, MemSink, MemSource, Source, write_all};
 use std::alloc::Global;
@@ -151,9 +152,9 @@ pub(crate) fn steps_on_door(
         door: MemDoor::open(sessions_of(alloc, sessions)?)?,
         ends: None,
     };
-    for word in steps {
-        out.step(word);
-        step(alloc, &mut attended, word, out)?;
-    }
-    Ok(())
+    each_step(
+        steps,
+        out,
+        |word, out| step(alloc, &mut attended, word, out),
+    )
 }

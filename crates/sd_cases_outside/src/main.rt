@@ -10,6 +10,7 @@ mod repeats;
 mod scripts;
 mod sinks;
 mod sources;
+mod steps;
 mod wires;
 
 use sd_case::{Answer, Refusal, answer_cases};

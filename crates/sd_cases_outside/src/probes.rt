@@ -1,5 +1,6 @@
 use crate::arrivals::{show_texts, texts_of};
 use crate::sources::{address_of, fail_on, show_address};
+use crate::steps::each_step;
 use arrayvec::ArrayVec;
 use sd_case::{Answer, Refusal, number};
 use sd_outside::{Failed, MemProbe, Probe};
@@ -66,9 +67,9 @@ pub(crate) fn steps_on_probe(
     out: &mut Answer,
 ) -> Result<(), Refusal> {
     let mut probe = MemProbe::open(texts_of(alloc, replies)?, number(asks)?)?;
-    for word in steps {
-        out.step(word);
-        step_on_probe(alloc, &mut probe, word, out)?;
-    }
-    Ok(())
+    each_step(
+        steps,
+        out,
+        |word, out| step_on_probe(alloc, &mut probe, word, out),
+    )
 }

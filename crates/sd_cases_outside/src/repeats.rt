@@ -1,4 +1,5 @@
 use crate::sources::fail_on;
+use crate::steps::each_step;
 use crate::wires::show_packets;
 use sd_case::{Answer, Refusal, bytes_of, number};
 use sd_outside::MemWire;
@@ -60,9 +61,5 @@ pub(crate) fn steps_on_wires(
     for _ in 0..number::<u16>(count)? {
         wires.push(MemWire::open(alloc, number(bytes)?, number(packets)?)?)?;
     }
-    for word in steps {
-        out.step(word);
-        step(alloc, &mut wires, word, out)?;
-    }
-    Ok(())
+    each_step(steps, out, |word, out| step(alloc, &mut wires, word, out))
 }

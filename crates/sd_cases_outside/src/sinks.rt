@@ -1,4 +1,5 @@
 use crate::sources::{fail_on, most_of, open, show_address};
+use crate::steps::each_step;
 use sd_case::{Answer, Refusal, bytes_of, number};
 use sd_outside::{Backend, CountSink, Failed, MemBackend, MemSink, Sink, write_all};
 use std::alloc::Global;
@@ -77,11 +78,11 @@ pub(crate) fn steps_on_sink(
     out: &mut Answer,
 ) -> Result<(), Refusal> {
     let mut sink = MemSink::open(alloc, number(room)?)?;
-    for word in steps {
-        out.step(word);
-        step_on_sink(alloc, &mut sink, word, out)?;
-    }
-    Ok(())
+    each_step(
+        steps,
+        out,
+        |word, out| step_on_sink(alloc, &mut sink, word, out),
+    )
 }
 
 /// Carries out a step on a backend.
@@ -144,11 +145,11 @@ pub(crate) fn steps_on_backend(
     out: &mut Answer,
 ) -> Result<(), Refusal> {
     let mut backend = MemBackend::open(alloc, number(bytes)?, number(lists)?)?;
-    for word in steps {
-        out.step(word);
-        step_on_backend(alloc, &mut backend, word, out)?;
-    }
-    Ok(())
+    each_step(
+        steps,
+        out,
+        |word, out| step_on_backend(alloc, &mut backend, word, out),
+    )
 }
 
 /// Carries out a step on a sink that counts.
@@ -177,9 +178,9 @@ pub(crate) fn steps_on_count(
     out: &mut Answer,
 ) -> Result<(), Refusal> {
     let mut sink = CountSink::new();
-    for word in steps {
-        out.step(word);
-        step_on_count(alloc, &mut sink, word, out)?;
-    }
-    Ok(())
+    each_step(
+        steps,
+        out,
+        |word, out| step_on_count(alloc, &mut sink, word, out),
+    )
 }

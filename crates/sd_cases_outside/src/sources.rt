@@ -1,5 +1,6 @@
 ghost use Rattle.std.specs.Prelude.{◌<◌, IfOk};
 
+use crate::steps::each_step;
 use sd_case::{Answer, Refusal, bytes_of, number};
 use sd_outside::{Address, Failed, MemSource, Name, OpenRefusal, Opens, Source, fault};
 use std::alloc::Global;
@@ -140,11 +141,7 @@ pub(crate) fn steps_on_source(
     out: &mut Answer,
 ) -> Result<(), Refusal> {
     let mut source = MemSource::of(bytes_of(alloc, text)?);
-    for word in steps {
-        out.step(word);
-        step(alloc, &mut source, word, out)?;
-    }
-    Ok(())
+    each_step(steps, out, |word, out| step(alloc, &mut source, word, out))
 }
 
 /// `fault COUNT`: the count of faults after one more.

@@ -1,5 +1,6 @@
 use crate::sinks::show_answer;
 use crate::sources::{fail_on, open, show_address};
+use crate::steps::each_step;
 use sd_case::{Answer, Refusal, bytes_of, number};
 use sd_outside::{MemWire, Wire};
 use std::alloc::Global;
@@ -52,9 +53,5 @@ pub(crate) fn steps_on_wire(
     out: &mut Answer,
 ) -> Result<(), Refusal> {
     let mut wire = MemWire::open(alloc, number(bytes)?, number(packets)?)?;
-    for word in steps {
-        out.step(word);
-        step(alloc, &mut wire, word, out)?;
-    }
-    Ok(())
+    each_step(steps, out, |word, out| step(alloc, &mut wire, word, out))
 }
