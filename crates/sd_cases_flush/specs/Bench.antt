@@ -1,7 +1,7 @@
 -- What the callers of a bench, and its tables, need.
 use Rattle.std.specs.Prelude.{◌≡◌, ℕ, ◌+◌, length}
 use Rattle.std.specs.Option.{ForSome}
-use Rattle.sd_model_record.specs.Callers.{flusher}
+use Rattle.sd_model_serve.specs.Receiving.{flusher}
 use Rattle.sd_spares.specs.Spares.{Stock}
 use Rattle.sd_pool.specs.Pool.{IsSeatOf, limits_of, shards_of, who_is}
 use Rattle.sd_pool.specs.declared.pool.Pool.{Pool}

@@ -1,6 +1,6 @@
 //! One checker publishes while receivers look.
 ghost use Rattle.std.specs.Prelude.{◌≡◌, ℕ, ◌+◌, ◌^◌, ◌<◌, ◌≤◌, ◌++◌, [], ◌∷◌, length, map, slice_index_or, IfOk, All};
-ghost use Rattle.sd_model_live.specs.Looks.{all_of, HaveAnswered};
+ghost use Rattle.sd_model_live.specs.Proxy.{all_of, HaveAnswered};
 ghost use Rattle.sd_live.specs.Live.{nodes_of, seen, IsPassOf, IsCheckerOf, IsReceiverOf};
 ghost use Rattle.sd_cases_live.specs.Lookers.{HasLooked, IsNew, HasSeen};
 

@@ -10,8 +10,7 @@ use Rattle.sd_model_outside.specs.Turns.{GivesTick, IsSpent, with_ticks}
 use Rattle.sd_model_outside.specs.Probes.{AreAsked}
 use Rattle.sd_model_outside.proofs.TurnLemmas.{with_ticks-append}
 use Rattle.sd_model_serve.specs.Ends.{most_turns}
-use Rattle.sd_model_live.specs.Checks.{Check, IsCheck, admin_place, answers_of, failed_in, is_failed, places_asked}
-use Rattle.sd_model_live.specs.Checker.{EndsChecker}
+use Rattle.sd_model_live.specs.Checks.{Check, IsCheck, admin_place, answers_of, failed_in, is_failed, places_asked, EndsChecker}
 use Rattle.sd_model_live.proofs.QuestionLemmas.{AreAsked-append, failed-append}
 use Rattle.sd_check.specs.Questions.{HasAskedAll}
 use Rattle.sd_check.specs.Checking.{Checks, end_view}

@@ -3,8 +3,7 @@ use Rattle.std.specs.Prelude.{◌≡◌, ℕ, ◌^◌, min, List, length}
 use Rattle.sd_model_settings.specs.Entries.{Node}
 use Rattle.sd_model_outside.specs.Outside.{Object}
 use Rattle.sd_model_serve.specs.Ends as ends
-use Rattle.sd_model_live.specs.Checks.{Check, failed_in}
-use Rattle.sd_model_live.specs.Checker.{HasChecked}
+use Rattle.sd_model_live.specs.Checks.{Check, failed_in, HasChecked}
 use Rattle.sd_check.specs.declared.checked.CheckEnd.{CheckEnd}
 use Rattle.sd_check.specs.declared.checked.CheckEnd.TheVariants.{End, Failed, Worn}
 use Rattle.sd_check.specs.declared.checked.Checked.{Checked}

@@ -22,16 +22,14 @@ use Rattle.sd_model_shard.proofs.DeletionLemmas.{get-rows_left}
 use Rattle.sd_model_shard.specs.History.{Asked, answered, after_all}
 use Rattle.sd_model_record.specs.Admin as admin
 use Rattle.sd_model_record.specs.Admin.{AdminFault, TooLong, words, command_named, command_of_words, longest_line}
-use Rattle.sd_model_record.specs.Replies.{Reply, Stats, Rows, Gone, Finish, reply_text}
+use Rattle.sd_model_record.specs.Replies.{Reply, Stats, Rows, Gone, Finish, reply_text, admin_events, keys_told, names_replied, replies_by, replies_text, rows_told}
 use Rattle.sd_model_replay.specs.Settings.{Bounds, bounds_of}
 use Rattle.sd_model_replay.specs.Script.{Admin}
-use Rattle.sd_model_record.specs.Callers.{administrator}
+use Rattle.sd_model_serve.specs.Receiving.{administrator}
 use Rattle.sd_model_record.specs.Desk.{Desk, Facts}
-use Rattle.sd_model_record.specs.Replying.{admin_events, keys_told, names_replied, replies_by, replies_text, rows_told}
 use Rattle.sd_model_serve.specs.Sessions.{Broadcast, replies_at}
 use Rattle.sd_model_replay.specs.Replay.{states_after}
-use Rattle.sd_model_replay.specs.Asked.{broadcasts}
-use Rattle.sd_model_replay.specs.Output.{output_in}
+use Rattle.sd_model_replay.specs.Asked.{broadcasts, output_in}
 use Rattle.sd_shards.specs.Shards.{Group, AreAlike, state_at}
 use Rattle.sd_command.specs.Commanded.{IsWritten, deleted}
 use Rattle.sd_model_settings.specs.Settings.{Settings}

@@ -4,11 +4,10 @@ ghost use Rattle.sd_model_outside.specs.Outside.{Object, HasFailedBehind, given}
 ghost use Rattle.sd_model_shard.specs.Shard.{Delete, Dump as DumpOf};
 ghost use Rattle.sd_model_record.specs.Admin.{command, names_of};
 ghost use Rattle.sd_model_record.specs.Desk.{with_health};
-ghost use Rattle.sd_model_record.specs.Replies.{Finish, IsInOrder, Rows, reply_text};
-ghost use Rattle.sd_model_record.specs.Replying.{health_after, names_replied, replies_text, rows_told};
+ghost use Rattle.sd_model_record.specs.Replies.{Finish, IsInOrder, Rows, reply_text, health_after, names_replied, replies_text, rows_told};
 ghost use Rattle.sd_model_replay.specs.Script.{Admin};
 ghost use Rattle.sd_model_replay.specs.Replay.{desk_after_line, states_after};
-ghost use Rattle.sd_model_replay.specs.Output.{output_in};
+ghost use Rattle.sd_model_replay.specs.Asked.{output_in};
 ghost use Rattle.sd_key.specs.Kind.{kind_of};
 ghost use Rattle.sd_shards.specs.Shards.{AreAlike, group_bounds, state_at};
 ghost use Rattle.sd_admin.specs.Command.{command_view, health_word_view};

@@ -12,7 +12,7 @@ use Rattle.toml.specs.declared.value.Value.{Value}
 use Rattle.toml.specs.View.{members_view}
 use Rattle.arrayvec.specs.ArrayVec.{ArrayVec}
 use Rattle.sd_model_settings.specs.Values.{are_distinct}
-use Rattle.sd_model_settings.specs.KnownNames.{names, first_unknown}
+use Rattle.sd_model_settings.specs.Settings.{names, first_unknown}
 use Rattle.sd_plan.specs.Values.{name_bytes}
 
 pub list_any-map : {X Y : Type 0} (f : X → Y) (p : Y → Bool) (xs : List X) → list_any p (map f xs) ≡ list_any (λ x. p (f x)) xs

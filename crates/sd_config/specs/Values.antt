@@ -7,8 +7,7 @@ use Rattle.toml.specs.declared.value.Value.{Value}
 use Rattle.toml.specs.Data.{Members, no_members}
 use Rattle.toml.specs.View.{table_view}
 use Rattle.sd_model_settings.specs.Values.{is_prefix, is_filled_prefix, is_metric, is_host}
-use Rattle.sd_model_settings.specs.Entries.{is_backend}
-use Rattle.sd_model_settings.specs.TimerClasses.{is_class_name}
+use Rattle.sd_model_settings.specs.Entries.{is_backend, is_class_name}
 use Rattle.sd_model_settings.specs.Settings as model
 use Rattle.sd_config.specs.declared.values.TextRule.{TextRule}
 use Rattle.sd_config.specs.declared.values.TextRule.TheVariants.{Prefix, FilledPrefix, Host, Backend, ClassName, Metric}

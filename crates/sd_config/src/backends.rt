@@ -1,7 +1,6 @@
 ghost use Rattle.std.specs.Prelude.{◌≡◌};
 ghost use Rattle.toml.specs.View.{view};
-ghost use Rattle.sd_model_settings.specs.Entries.{backends};
-ghost use Rattle.sd_model_settings.specs.TimerClasses.{class_names};
+ghost use Rattle.sd_model_settings.specs.Entries.{backends, class_names};
 ghost use Rattle.sd_config.specs.Answers.{seen_by};
 ghost use Rattle.sd_plan.specs.Values.{name_bytes};
 

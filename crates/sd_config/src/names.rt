@@ -1,5 +1,5 @@
 ghost use Rattle.std.specs.Prelude.{◌≡◌};
-ghost use Rattle.sd_model_settings.specs.Defaults.{names_of};
+ghost use Rattle.sd_model_settings.specs.Settings.{names_of};
 
 use crate::settings::Settings;
 use sd_plan::{Names, Namespace, copied};

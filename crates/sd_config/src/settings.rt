@@ -1,7 +1,6 @@
 ghost use Rattle.std.specs.Prelude.{◌≡◌, ◌*◌, ◌<◌, ◌≤◌, length, map};
 ghost use Rattle.toml.specs.View.{table_view};
-ghost use Rattle.sd_model_settings.specs.Settings.{top, settings_in, document, settings};
-ghost use Rattle.sd_model_settings.specs.Defaults.{plan_of};
+ghost use Rattle.sd_model_settings.specs.Settings.{top, settings_in, document, settings, plan_of};
 ghost use Rattle.sd_model_settings.specs.Ranges.{IsWithin, IsPrefix, IsHost, AreThresholds, AreBackends, AreClassNames, AreHistograms, AreTargets, AreNodes, InRange};
 ghost use Rattle.sd_config.specs.Answers.{Gives};
 ghost use Rattle.sd_plan.specs.Values.{micros, name_bytes};

@@ -4,10 +4,9 @@ use Rattle.std.proofs.lemmas.List.{length-map}
 use Rattle.std.proofs.lemmas.Option.{slice_get-map}
 use Rattle.std.specs.List.{concat}
 use Rattle.std.specs.Fmt.{decimal}
-use Rattle.sd_model_settings.specs.TimerClasses.{sends}
-use Rattle.sd_model_record.specs.Record.{Row, CounterRow, TimerRow, GaugeRow, SetRow, TimerFigures, Record}
-use Rattle.sd_model_record.specs.Figures.{Figure, figures_of}
-use Rattle.sd_model_record.specs.Console.{console_figure, console_row, console_count, console_text}
+use Rattle.sd_model_settings.specs.Entries.{sends}
+use Rattle.sd_model_record.specs.Record.{Row, CounterRow, TimerRow, GaugeRow, SetRow, TimerFigures, Record, Figure, figures_of}
+use Rattle.sd_model_record.specs.Backends.{console_figure, console_row, console_count, console_text}
 use Rattle.sd_text.specs.Rows.{rows_text}
 use Rattle.sd_text.proofs.RowLemmas.{concat-sent, flat_map-same}
 use Rattle.sd_console.specs.Texts.{counter_line, sent_line, gauge_line, set_line, row_texts, count_texts}

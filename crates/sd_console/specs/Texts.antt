@@ -1,10 +1,9 @@
 -- The console's text of a record, line by line.
 use Rattle.std.specs.Prelude.{ℕ, ℤ, List, [], ◌∷◌, ◌++◌, length, map, if◌then◌else◌, codes, decimal}
 use Rattle.sd_model_text.specs.Numbers.{number_text}
-use Rattle.sd_model_settings.specs.TimerClasses.{sends}
-use Rattle.sd_model_record.specs.Record.{Row, CounterRow, TimerRow, GaugeRow, SetRow, Record}
-use Rattle.sd_model_record.specs.Figures.{Figure, figures_of}
-use Rattle.sd_model_record.specs.Console.{console_figure, console_count}
+use Rattle.sd_model_settings.specs.Entries.{sends}
+use Rattle.sd_model_record.specs.Record.{Row, CounterRow, TimerRow, GaugeRow, SetRow, Record, Figure, figures_of}
+use Rattle.sd_model_record.specs.Backends.{console_figure, console_count}
 
 -- the line of a counter
 abbrev pub counter_line : List ℕ → ℤ → ℤ → List ℕ

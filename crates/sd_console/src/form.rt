@@ -8,7 +8,7 @@ use sd_text::RecordText;
 pub struct ConsoleText;
 
 impl RecordText for ConsoleText {
-    ghost use Rattle.sd_model_record.specs.Console.{console_text};
+    ghost use Rattle.sd_model_record.specs.Backends.{console_text};
 
     ghost text_of = { λ _. console_text };
 

@@ -1,5 +1,5 @@
 ghost use Rattle.std.specs.Prelude.{◌≡◌, ◌≤◌, ◌∷◌, ◌++◌, [], length, map, codes, decimal};
-ghost use Rattle.sd_model_record.specs.Console.{console_count};
+ghost use Rattle.sd_model_record.specs.Backends.{console_count};
 ghost use Rattle.sd_record.specs.Record.{record_view};
 ghost use Rattle.sd_console.specs.Texts.{count_texts};
 

@@ -1,6 +1,6 @@
 ghost use Rattle.std.specs.Prelude.{◌≡◌, OnOk, OnErr};
 ghost use Rattle.sd_model_outside.specs.Outside.{HasFailedBehind, given};
-ghost use Rattle.sd_model_record.specs.Console.{console_text};
+ghost use Rattle.sd_model_record.specs.Backends.{console_text};
 ghost use Rattle.sd_record.specs.Record.{record_view, room_of, SameScratch};
 
 use crate::line::{count_lines, second_line};

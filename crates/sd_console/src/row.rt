@@ -1,6 +1,6 @@
 ghost use Rattle.std.specs.Prelude.{◌≡◌, ◌≤◌, ◌∷◌, ◌++◌, [], length, codes, decimal};
 ghost use Rattle.sd_model_text.specs.Numbers.{number_text};
-ghost use Rattle.sd_model_record.specs.Console.{console_figure};
+ghost use Rattle.sd_model_record.specs.Backends.{console_figure};
 ghost use Rattle.sd_console.specs.Texts.{counter_line, sent_line, gauge_line, set_line};
 
 use sd_decimal::{Line, Micro, Sum};

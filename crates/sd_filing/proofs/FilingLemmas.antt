@@ -10,7 +10,7 @@ use Rattle.sd_model_text.proofs.PieceCounts.{length-pieces}
 use Rattle.sd_model_shard.specs.Shard.{Submit}
 use Rattle.sd_model_shard.specs.History.{Act, History}
 use Rattle.sd_model_shard.specs.Whereabouts.{taken_in, dropped_in}
-use Rattle.sd_model_serve.specs.Acts.{asks, events_of, one_at, told_in}
+use Rattle.sd_model_serve.specs.Receiving.{asks, events_of, one_at, told_in}
 use Rattle.sd_filing.specs.declared.filing.Filed.{Filed}
 use Rattle.sd_filing.specs.Filing.{FilesDatagram, SubmitsOne}
 use Rattle.sd_filing.proofs.ToldLemmas.{ArePlaced, ArePlaced-append, asks-cons, events_of-append, one_by, one_placed, told_in-none, told_in-one}

@@ -11,7 +11,7 @@ use Rattle.sd_model_shard.specs.Shard.{Submit, Reply}
 use Rattle.sd_model_shard.specs.History.{Act, History, part_of}
 use Rattle.sd_model_shard.specs.Whereabouts.{taken_in, dropped_in, told_by}
 use Rattle.sd_model_shard.proofs.OrderLemmas.{weighed_once}
-use Rattle.sd_model_serve.specs.Acts.{asks, events_of, one_at, told_in}
+use Rattle.sd_model_serve.specs.Receiving.{asks, events_of, one_at, told_in}
 use Rattle.sd_filing.proofs.SumLemmas.{sum_by-plus, sum_by-none}
 
 pub events_of-append : (xs ys : History) → events_of (xs ++ ys) ≡ events_of xs ++ events_of ys

@@ -5,7 +5,7 @@ use Rattle.sd_model_text.specs.Lines.{Sample, pieces, samples_of, bad_of}
 use Rattle.sd_model_shard.specs.Shard.{Reply, Submit}
 use Rattle.sd_model_shard.specs.History.{History}
 use Rattle.sd_model_shard.specs.Whereabouts.{taken_in, dropped_in, told_by}
-use Rattle.sd_model_serve.specs.Acts.{asks, events_of, one_at, told_in}
+use Rattle.sd_model_serve.specs.Receiving.{asks, events_of, one_at, told_in}
 use Rattle.sd_filing.specs.declared.filing.Filed.{Filed}
 
 -- A sample was submitted once, by this caller, to the shard of its key, and counted as dropped or as taken.

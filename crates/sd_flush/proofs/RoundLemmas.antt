@@ -12,7 +12,7 @@ use Rattle.sd_model_record.specs.Desk.{Marks}
 use Rattle.sd_model_record.specs.Counts.{Count, Amounts, Part, HasCounted, nothing, plus}
 use Rattle.sd_model_record.specs.Backends.{Backend, Graphite, Console, mark_of}
 use Rattle.sd_model_record.proofs.CountLemmas.{counted_none, counted_next}
-use Rattle.sd_model_serve.specs.Acts.{Adds}
+use Rattle.sd_model_serve.specs.Receiving.{Adds}
 use Rattle.sd_model_serve.specs.Rounds.{Round, Form, MakesRound, MakesRounds, MarksFit, round_deliveries, round_text, swap_of, swaps_at, of_round, of_rounds}
 use Rattle.sd_model_serve.proofs.ActsLemmas.{Adds-none, Adds-next}
 use Rattle.sd_rows.specs.declared.row.Row.{Row}

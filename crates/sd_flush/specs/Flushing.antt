@@ -3,7 +3,7 @@ use Rattle.std.specs.Prelude.{◌≡◌, ℕ, ◌+◌, Bool, List, length, map, 
 use Rattle.std.specs.List.{range_with_len}
 use Rattle.sd_model_outside.specs.Outside.{Object}
 use Rattle.sd_model_outside.specs.Turns.{with_ticks}
-use Rattle.sd_model_settings.specs.Defaults.{Names}
+use Rattle.sd_model_settings.specs.Settings.{Names}
 use Rattle.sd_model_shard.specs.History.{History}
 use Rattle.sd_model_record.specs.Desk.{Marks}
 use Rattle.sd_model_record.specs.Counts.{Part}

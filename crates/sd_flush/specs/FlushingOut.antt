@@ -8,7 +8,7 @@ use Rattle.sd_model_shard.specs.History.{History}
 use Rattle.sd_model_record.specs.Desk.{Marks}
 use Rattle.sd_model_record.specs.Counts.{Part, HasCounted}
 use Rattle.sd_model_record.specs.Backends.{Backend, Graphite, Console}
-use Rattle.sd_model_serve.specs.Acts.{Adds}
+use Rattle.sd_model_serve.specs.Receiving.{Adds}
 use Rattle.sd_model_serve.specs.Rounds.{Round, Form, of_round, of_rounds, round_text, swaps_at}
 use Rattle.sd_outside.specs.declared.datagrams.Ended.{Ended}
 use Rattle.sd_rows.specs.declared.row.Row.{Row}

@@ -1,8 +1,7 @@
 //! The texts of a record go to the outlets of the backends that are used.
 ghost use Rattle.std.specs.Prelude.{◌≡◌, ◌≤◌, length, map, min, IfSome};
 ghost use Rattle.sd_model_outside.specs.Outside.{last_count};
-ghost use Rattle.sd_model_record.specs.Console.{console_text};
-ghost use Rattle.sd_model_record.specs.Graphite.{graphite_text};
+ghost use Rattle.sd_model_record.specs.Backends.{console_text, graphite_text};
 ghost use Rattle.sd_model_record.specs.Record.{record_of};
 ghost use Rattle.sd_plan.specs.Plan.{plan_view};
 ghost use Rattle.sd_epoch.specs.Table.{table_of};

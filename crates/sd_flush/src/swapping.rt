@@ -1,5 +1,5 @@
 ghost use Rattle.std.specs.Prelude.{◌≡◌, ◌+◌, ◌<◌, ◌≤◌, [], length};
-ghost use Rattle.sd_model_record.specs.Callers.{flusher};
+ghost use Rattle.sd_model_serve.specs.Receiving.{flusher};
 ghost use Rattle.sd_pool.specs.Pool.{IsSeatOf, limits_of, shards_of, who_is};
 ghost use Rattle.sd_flush.specs.Swapping.{SwapsOne, SwapsAll};
 

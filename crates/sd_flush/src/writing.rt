@@ -1,8 +1,7 @@
 ghost use Rattle.std.specs.Prelude.{◌≡◌, ◌*◌, ◌≤◌, IsTrue, length, map, sum_by, All};
 ghost use Rattle.sd_model_outside.specs.Outside.{Rose};
 ghost use Rattle.sd_model_outside.specs.Deliveries.{AfterMark, FitsUse};
-ghost use Rattle.sd_model_record.specs.Console.{console_text};
-ghost use Rattle.sd_model_record.specs.Graphite.{graphite_text};
+ghost use Rattle.sd_model_record.specs.Backends.{console_text, graphite_text};
 ghost use Rattle.sd_model_record.specs.Record.{record_of};
 ghost use Rattle.sd_plan.specs.Plan.{plan_view};
 ghost use Rattle.sd_epoch.specs.Table.{table_of};

@@ -6,11 +6,10 @@ use Rattle.std.proofs.lemmas.Option.{slice_get-map}
 use Rattle.std.specs.List.{concat}
 use Rattle.std.specs.Fmt.{decimal}
 use Rattle.sd_model_text.specs.Numbers.{per_second, number_text}
-use Rattle.sd_model_settings.specs.Defaults.{Names}
-use Rattle.sd_model_settings.specs.TimerClasses.{sends}
-use Rattle.sd_model_record.specs.Record.{Row, CounterRow, TimerRow, GaugeRow, SetRow, TimerFigures, Tally, Record}
-use Rattle.sd_model_record.specs.Figures.{Figure, whole_number, figures_of}
-use Rattle.sd_model_record.specs.Graphite.{dotted, front, suffix, line, figure_line, row_lines, own_counter, rows_front, tail_lines, graphite_text}
+use Rattle.sd_model_settings.specs.Settings.{Names}
+use Rattle.sd_model_settings.specs.Entries.{sends}
+use Rattle.sd_model_record.specs.Record.{Row, CounterRow, TimerRow, GaugeRow, SetRow, TimerFigures, Tally, Record, Figure, whole_number, figures_of}
+use Rattle.sd_model_record.specs.Backends.{dotted, front, suffix, line, figure_line, row_lines, own_counter, rows_front, tail_lines, graphite_text}
 use Rattle.sd_graphite.specs.declared.path.Path.{Path}
 use Rattle.sd_graphite.specs.Texts.{path_text, timer_front, BeginsWith, rate_line, count_line, sent_line, gauge_line, set_line, row_texts, row_text, own_text, rows_line, tail_text}
 use Rattle.sd_text.specs.Rows.{rows_text}

@@ -1,11 +1,10 @@
 -- Graphite's text of a record, line by line.
 use Rattle.std.specs.Prelude.{◌≡◌, ℕ, ℤ, List, [], ◌∷◌, ◌++◌, length, take, map, if◌then◌else◌, codes, decimal}
 use Rattle.sd_model_text.specs.Numbers.{number_text}
-use Rattle.sd_model_settings.specs.Defaults.{Names}
-use Rattle.sd_model_settings.specs.TimerClasses.{sends}
-use Rattle.sd_model_record.specs.Record.{Row, CounterRow, TimerRow, GaugeRow, SetRow, Record}
-use Rattle.sd_model_record.specs.Figures.{Figure, figures_of}
-use Rattle.sd_model_record.specs.Graphite.{front, line, counter_back, figure_line, row_lines, own_counter, rows_front, tail_lines}
+use Rattle.sd_model_settings.specs.Settings.{Names}
+use Rattle.sd_model_settings.specs.Entries.{sends}
+use Rattle.sd_model_record.specs.Record.{Row, CounterRow, TimerRow, GaugeRow, SetRow, Record, Figure, figures_of}
+use Rattle.sd_model_record.specs.Backends.{front, line, counter_back, figure_line, row_lines, own_counter, rows_front, tail_lines}
 use Rattle.sd_graphite.specs.declared.path.Path.{Path}
 
 -- the text of a path

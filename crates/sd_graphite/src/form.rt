@@ -11,7 +11,7 @@ pub struct GraphiteText<'a> {
 }
 
 impl<'a> RecordText for GraphiteText<'a> {
-    ghost use Rattle.sd_model_record.specs.Graphite.{graphite_text};
+    ghost use Rattle.sd_model_record.specs.Backends.{graphite_text};
 
     ghost text_of = { λ s. graphite_text s.names.now };
 

@@ -1,7 +1,7 @@
 ghost use Rattle.std.specs.Prelude.{◌≡◌, ◌+◌, ◌≤◌, ◌++◌, length};
 ghost use Rattle.arrayvec.specs.ArrayVec.{array_vec_len};
 ghost use Rattle.sd_model_text.specs.Numbers.{number_text};
-ghost use Rattle.sd_model_record.specs.Graphite.{dotted, suffix, front, line as line_text};
+ghost use Rattle.sd_model_record.specs.Backends.{dotted, suffix, front, line as line_text};
 ghost use Rattle.sd_graphite.specs.Texts.{path_text, BeginsWith};
 
 use crate::path::Path;

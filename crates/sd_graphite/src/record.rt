@@ -1,5 +1,5 @@
 ghost use Rattle.std.specs.Prelude.{◌≡◌, OnOk, OnErr};
-ghost use Rattle.sd_model_record.specs.Graphite.{graphite_text};
+ghost use Rattle.sd_model_record.specs.Backends.{graphite_text};
 ghost use Rattle.sd_model_outside.specs.Outside.{HasFailedBehind, given};
 ghost use Rattle.sd_record.specs.Record.{record_view, room_of, SameScratch};
 

@@ -1,6 +1,6 @@
 ghost use Rattle.std.specs.Prelude.{◌≡◌, ◌≢◌, ◌<◌, ◌≤◌, [], length, IsTrue};
 ghost use Rattle.arrayvec.specs.ArrayVec.{array_vec_len};
-ghost use Rattle.sd_model_record.specs.Graphite.{counter_back, figure_line};
+ghost use Rattle.sd_model_record.specs.Backends.{counter_back, figure_line};
 ghost use Rattle.sd_graphite.specs.Texts.{path_text, timer_front, BeginsWith, rate_line, count_line, sent_line, gauge_line, set_line};
 
 use crate::line::{begin, end, keep, put_path};

@@ -1,8 +1,7 @@
 ghost use Rattle.std.specs.Prelude.{◌≡◌, ◌≤◌, ◌∷◌, ◌++◌, length, OnOk, OnErr};
 ghost use Rattle.sd_model_text.specs.Numbers.{per_second};
 ghost use Rattle.sd_model_outside.specs.Outside.{HasFailedBehind, given};
-ghost use Rattle.sd_model_record.specs.Record.{CounterRow};
-ghost use Rattle.sd_model_record.specs.Figures.{whole_number};
+ghost use Rattle.sd_model_record.specs.Record.{CounterRow, whole_number};
 ghost use Rattle.sd_record.specs.Record.{record_view};
 ghost use Rattle.sd_record.specs.Row.{row_view};
 ghost use Rattle.sd_graphite.specs.Texts.{own_text, rows_line, tail_text};

@@ -1,7 +1,7 @@
 -- The first set has all nodes.
 use Rattle.std.proofs.Common.{◌≡◌, ℕ, ◌+◌, ◌-◌, ◌*◌, ◌/◌, ◌^◌, ◌≤◌, sym, ap, ◌∙◌, arith}
 use Rattle.std.proofs.lemmas.Nat.{div-mul-add, pow-add, pow_pos}
-use Rattle.sd_model_live.specs.Looks.{all_of}
+use Rattle.sd_model_live.specs.Proxy.{all_of}
 use Rattle.sd_model_live.proofs.Bits.{less_one}
 
 shifted : (n k : ℕ) → n + k ≡ 64 → 18446744073709551615 / 2 ^ k ≡ 2 ^ n - 1

@@ -1,7 +1,7 @@
 -- What clauses read of the cell of the nodes that are up, and of its passes.
 use Rattle.std.specs.Prelude.{◌≡◌, ℕ, ◌≤◌, Bool, true, false, List, ◌∷◌}
 use Rattle.crossbeam_utils.specs.Seq.{cell_view}
-use Rattle.sd_model_live.specs.Looks.{all_of}
+use Rattle.sd_model_live.specs.Proxy.{all_of}
 use Rattle.sd_live.specs.declared.pass.UpPass.{UpPass}
 use Rattle.sd_live.specs.declared.up_cell.UpCell.{UpCell}
 

@@ -2,7 +2,7 @@
 ghost use Rattle.std.specs.Prelude.{◌≡◌, ◌<◌, ◌≤◌, ◌^◌, ◌++◌, [], ◌∷◌, length, map, Some, None, IfOk, All, true};
 ghost use Rattle.std.specs.List.{last_or};
 ghost use Rattle.crossbeam_utils.specs.Seq.{cell_view};
-ghost use Rattle.sd_model_live.specs.Looks.{Begins, all_of};
+ghost use Rattle.sd_model_live.specs.Proxy.{Begins, all_of};
 
 use crate::pass::{UpPass, UpPasses};
 use crate::rule::{Another, Gather, Look, Publish, SetCell, SetPass, Whole};

@@ -5,8 +5,7 @@ use Rattle.sd_model_settings.specs.Settings.{SettingsFlaw, settings, Settings}
 use Rattle.sd_model_replay.specs.Settings.{is_used, targets_of}
 use Rattle.sd_model_record.specs.Backends.{Backend, Graphite, Console}
 use Rattle.sd_model_record.specs.WireSends.{wire_at}
-use Rattle.sd_model_replay.specs.Script.{Command, end_word}
-use Rattle.sd_model_replay.specs.Next.{ScriptFlaw}
+use Rattle.sd_model_replay.specs.Script.{Command, end_word, ScriptFlaw}
 use Rattle.sd_model_replay.specs.Totals.{totals_after}
 use Rattle.sd_model_replay.specs.AccountingTheorem.{Seen, Course, AccountingTheorem, seen_at}
 use Rattle.sd_model_replay.specs.Ends.{End, Complete, Faulted, ReadFailed, WriteFailed, WornOut, EndsAs, Replayed}

@@ -10,18 +10,18 @@ use Rattle.sd_model_record.specs.Backends.{Backend, Graphite, Console}
 use Rattle.sd_model_replay.specs.Script.{Command, Packet, Flush, Admin, end_word}
 use Rattle.sd_model_replay.specs.MadeScript.{made_commands, made_moment, made_packet, flush_behind}
 use Rattle.sd_model_replay.specs.Replay.{Played, Run, first_run, play, deliveries, moments}
-use Rattle.sd_model_call.specs.Faultless.{well, well_mark}
-use Rattle.sd_model_replay.specs.Output.{output_in, output_of}
+use Rattle.sd_model_settings.specs.Settings.{default_settings, Settings}
+use Rattle.sd_model_settings.proofs.OnLiterals.{defaults_on_literals}
+use Rattle.sd_model_call.specs.Drill.{well, well_mark, bytes_counted, drill_start, drilled}
+use Rattle.sd_model_replay.specs.Asked.{output_in, output_of}
 use Rattle.sd_model_replay.specs.Totals.{totals_after, totals_text}
 use Rattle.sd_model_replay.specs.AccountingTheorem.{Seen, Course, AccountingTheorem, seen_at}
 use Rattle.sd_model_replay.specs.Ends.{End, Complete, WriteFailed, EndsAs, most_records}
 use Rattle.sd_model_call.specs.Words.{most_packets}
-use Rattle.sd_model_call.specs.Drill.{bytes_counted, drill_settings, drill_start, drilled}
 use Rattle.sd_model_call.specs.Completeness.{IsSteady, NoneMissed}
 use Rattle.sd_model_replay.proofs.MadeLemmas.{legal_commands}
 use Rattle.sd_model_outside.proofs.WriteLemmas.{behind-later}
 use Rattle.sd_model_call.proofs.ReplayEnds.{IsSilent, all_carried_out, commands_of, deliveries_from, ends_whole, no_reply, played_well, silent_in}
-use Rattle.sd_model_settings.specs.Settings.{Settings}
 
 -- the flush behind a packet, before others: one record more at most, to which nothing is replied
 flush_by_length : (b : Bool) (ts n : ℕ) (behind : List Command) → length behind ≤ n → length ((if b then Flush ts ∷ [] else []) ++ behind) ≤ n + 1
@@ -96,84 +96,84 @@ module _ (s : Settings) (used : is_used s Graphite ≡ true) where
   all_written run (Admin moment line ∷ cs) = all_written (play (bounds_of s) run (well s (Admin moment line))) cs
 
 abbrev pub drill_totals : ℕ → List ℕ
-drill_totals n = totals_text (totals_after drill_settings (drilled n))
+drill_totals n = totals_text (totals_after default_settings (drilled n))
 
 -- How a replay of a made script ended: all records were carried out with no fault, Graphite's bytes were counted, and the
 -- totals were written, or a front of them before a write that failed.
 pub record DrillEnd (n : ℕ) (end : End) (course : Course) (output : Object) (new : Seen) : Type 0 where
   pub played : course.played ≡ drilled n
-  pub counted : new.graphite.told ≡ Number (bytes_counted drill_settings (drilled n))
-  pub ends : (end ≡ Complete (totals_after drill_settings (drilled n))) × (new.output ≡ given (drill_totals n) output)
+  pub counted : new.graphite.told ≡ Number (bytes_counted default_settings (drilled n))
+  pub ends : (end ≡ Complete (totals_after default_settings (drilled n))) × (new.output ≡ given (drill_totals n) output)
       ⊎ (end ≡ WriteFailed) × HasFailedBehind (drill_totals n) output new.output
 
-uses_graphite : is_used drill_settings Graphite ≡ true
-unfolding drill_settings
+uses_graphite : is_used default_settings Graphite ≡ true
+unfolding defaults_on_literals
 uses_graphite = refl
 
 module _ (n : ℕ) (few : n ≤ most_packets) (output : Object) (new : Seen) (script_faults : new.script.faults ≡ 0) (graphite_faults : new.graphite.faults ≡ 0) (course : Course)
-    (theorem : AccountingTheorem drill_settings course (drill_start n output) new) where
-  steady : IsSteady drill_settings (drill_start n output) new (made_commands n) (end_word ++ [])
-  unfolding drill_settings
+    (theorem : AccountingTheorem default_settings course (drill_start n output) new) where
+  steady : IsSteady default_settings (drill_start n output) new (made_commands n) (end_word ++ [])
+  unfolding defaults_on_literals
   steady = record { script = refl; legal = legal_commands n (omega (arith, few)); script_faults = λ rose. absurd (omega (arith, rose, script_faults)) }
 
   few_records : length (made_commands n) < most_records
   few_records = omega (arith, few, length-made n)
 
-  none_missed : NoneMissed drill_settings (drill_start n output) new
-  unfolding drill_settings
+  none_missed : NoneMissed default_settings (drill_start n output) new
+  unfolding defaults_on_literals
   none_missed = record { backends = backends; wires = λ i below. absurd (omega (arith, below)) } where
-    backends : (back : Backend) → IsTrue (is_used drill_settings back) → ¬ Rose (seen_at back (drill_start n output)).faults (seen_at back new).faults
+    backends : (back : Backend) → IsTrue (is_used default_settings back) → ¬ Rose (seen_at back (drill_start n output)).faults (seen_at back new).faults
     backends Graphite used rose = absurd (omega (arith, rose, graphite_faults))
     backends Console used rose = absurd (cc)
 
   all_played : commands_of course.played ≡ made_commands n → course.played ≡ drilled n
   unfolding drilled
-  all_played is = played_well drill_settings (drill_start n output) new course theorem none_missed ∙ ap (map (well drill_settings)) is
+  all_played is = played_well default_settings (drill_start n output) new course theorem none_missed ∙ ap (map (well default_settings)) is
 
   all_silent : AllByRecursion IsSilent (commands_of (drilled n))
   unfolding drilled
   all_silent = subst (AllByRecursion IsSilent) (commands_well (made_commands n)) (made_silent n) where
-    command_well : (c : Command) → c ≡ (well drill_settings c).command
+    command_well : (c : Command) → c ≡ (well default_settings c).command
     command_well (Packet who moment datagram) = refl
     command_well (Flush ts) = refl
     command_well (Admin moment line) = refl
 
-    commands_well : (cs : List Command) → cs ≡ commands_of (map (well drill_settings) cs)
+    commands_well : (cs : List Command) → cs ≡ commands_of (map (well default_settings) cs)
     commands_well [] = refl
     commands_well (c ∷ cs) = λ i. command_well c i ∷ commands_well cs i
 
-  nothing : output_of drill_settings (drilled n) ≡ []
-  nothing = nothing_written drill_settings (drilled n) all_silent
+  nothing : output_of default_settings (drilled n) ≡ []
+  nothing = nothing_written default_settings (drilled n) all_silent
 
-  counts : course.played ≡ drilled n → new.graphite.told ≡ Number (bytes_counted drill_settings (drilled n))
+  counts : course.played ≡ drilled n → new.graphite.told ≡ Number (bytes_counted default_settings (drilled n))
   unfolding drilled
   counts is =
-      count_all (deliveries drill_settings Graphite (drilled n)) 0 (drill_start n output).graphite new.graphite (omega arith)
-      (all_written drill_settings uses_graphite (first_run (drilled n)) (made_commands n)) refl
-      (subst (λ ps. AfterDeliveries (deliveries drill_settings Graphite ps) (drill_start n output).graphite new.graphite) is (theorem.texts Graphite))
+      count_all (deliveries default_settings Graphite (drilled n)) 0 (drill_start n output).graphite new.graphite (omega arith)
+      (all_written default_settings uses_graphite (first_run (drilled n)) (made_commands n)) refl
+      (subst (λ ps. AfterDeliveries (deliveries default_settings Graphite ps) (drill_start n output).graphite new.graphite) is (theorem.texts Graphite))
       ∙ ap Number (omega arith)
 
-  pub drill_ends : (end : End) → EndsAs drill_settings end course (drill_start n output) new → DrillEnd n end course output new
-  drill_ends end ends = elim (ends_whole drill_settings (drill_start n output) new (made_commands n) [] steady few_records course theorem end ends) [
+  pub drill_ends : (end : End) → EndsAs default_settings end course (drill_start n output) new → DrillEnd n end course output new
+  drill_ends end ends = elim (ends_whole default_settings (drill_start n output) new (made_commands n) [] steady few_records course theorem end ends) [
     | inl complete ↦
-        let h = subst (λ (e : End). EndsAs drill_settings e course (drill_start n output) new) complete.1 ends in
-        let is = all_played (all_carried_out drill_settings (drill_start n output) new (made_commands n) [] steady few_records course theorem h.read.1) in
-        let totals = h.read.2 ∙ ap (totals_after drill_settings) is in
+        let h = subst (λ (e : End). EndsAs default_settings e course (drill_start n output) new) complete.1 ends in
+        let is = all_played (all_carried_out default_settings (drill_start n output) new (made_commands n) [] steady few_records course theorem h.read.1) in
+        let totals = h.read.2 ∙ ap (totals_after default_settings) is in
         record {
           played = is;
           counted = counts is;
           ends = inl (
             complete.1 ∙ ap Complete totals,
-            h.output ∙ ap (λ out. given (out ++ totals_text complete.0) output) (ap (output_of drill_settings) is ∙ nothing) ∙ ap (λ t. given (totals_text t) output) totals,
+            h.output ∙ ap (λ out. given (out ++ totals_text complete.0) output) (ap (output_of default_settings) is ∙ nothing) ∙ ap (λ t. given (totals_text t) output) totals,
           );
         }
     | inr failed ↦
-        let h = (subst (λ (e : End). EndsAs drill_settings e course (drill_start n output) new) failed ends).output in
+        let h = (subst (λ (e : End). EndsAs default_settings e course (drill_start n output) new) failed ends).output in
         elim h.writing [
           | inl totals ↦
-              let is = all_played (all_carried_out drill_settings (drill_start n output) new (made_commands n) [] steady few_records course theorem totals.ends) in
-              let text = totals.totals ∙ ap (λ ps. totals_text (totals_after drill_settings ps)) is in
-              let before = ap (output_of drill_settings) (totals.all ∙ is) ∙ nothing in
+              let is = all_played (all_carried_out default_settings (drill_start n output) new (made_commands n) [] steady few_records course theorem totals.ends) in
+              let text = totals.totals ∙ ap (λ ps. totals_text (totals_after default_settings ps)) is in
+              let before = ap (output_of default_settings) (totals.all ∙ is) ∙ nothing in
               record {
                 played = is;
                 counted = counts is;
@@ -183,6 +183,6 @@ module _ (n : ℕ) (few : n ≤ most_packets) (output : Object) (new : Seen) (sc
                       (subst (λ t. HasFailedBehind t (given [] output) new.output) text (subst (λ out. HasFailedBehind h.text (given out output) new.output) before h.failed)),
                 );
               }
-          | inr reply ↦ absurd (no_reply drill_settings (drill_start n output) new (made_commands n) [] steady few_records course theorem (made_silent n) h reply)
+          | inr reply ↦ absurd (no_reply default_settings (drill_start n output) new (made_commands n) [] steady few_records course theorem (made_silent n) h reply)
         ]
   ]

@@ -2,8 +2,7 @@
 use Rattle.std.proofs.Common.{◌≡◌, ℕ, zero, suc, ◌≤◌, List, [], ◌∷◌, set, refl, sym, ap, subst, ◌∙◌, arith, Option, Some, None, inl, inr}
 use Rattle.sd_model_outside.specs.Outside.{Place, File, Object, Used, HasRead, opened}
 use Rattle.sd_model_record.specs.Backends.{Graphite, Console}
-use Rattle.sd_model_record.specs.WireSends.{wire_at}
-use Rattle.sd_model_record.specs.Repeater.{sends_on}
+use Rattle.sd_model_record.specs.WireSends.{wire_at, sends_on}
 use Rattle.sd_model_replay.specs.Replay.{deliveries, sendings}
 use Rattle.sd_model_replay.specs.AccountingTheorem.{Course, AccountingTheorem}
 use Rattle.sd_model_replay.specs.Ends.{End, Complete, Faulted, ReadFailed, WriteFailed, WornOut, OutputAfter}

@@ -8,15 +8,14 @@ use Rattle.sd_model_settings.specs.Entries.{Node}
 use Rattle.sd_model_settings.specs.Settings.{Settings, SettingsFlaw, settings}
 use Rattle.sd_model_serve.specs.Ends.{LoopEnd, Spent, Failed, Enough, WornOut, EndsFlusher, most_turns}
 use Rattle.sd_model_proxy.specs.Relays.{Relay, AreRelays}
-use Rattle.sd_model_live.specs.Checker.{EndsChecker}
+use Rattle.sd_model_live.specs.Checks.{EndsChecker}
 use Rattle.sd_model_call.specs.Words.{Form, Proxy, form}
 use Rattle.sd_model_call.specs.Opening.{World, Opening, OfSettings, OfScript, OfSource, OfBeat, OfWire, OfGraphite, OfConsole, OfDoor, OfStreams, IsAccepted, IsFlawed, numbered, repeated, settled, source_at}
 use Rattle.sd_model_call.specs.Call.{Answer, Done, NoMemory, NoForm, Misset, BadScript, NotOpened, NotRead, NotWritten, Worn, WritesTotals}
 use Rattle.sd_model_call.specs.Completeness.{IsBlocked, IsWhole}
 use Rattle.sd_model_call.specs.Server.{is_worn, source_openings}
-use Rattle.sd_model_call.specs.ServerCompleteness.{AsksFor, SourceTookMost}
+use Rattle.sd_model_call.specs.ServerCompleteness.{AsksFor, SourceTookMost, AreRelaysSpent, IsOpenedToRelay, IsProxyCauseOf, IsRelayed, IsUnhinderedProxy, NoWireFailed, OneLoopTookMost}
 use Rattle.sd_model_call.specs.Proxy.{AnswersProxy, HasProxied, IsUnfit, ProxyAccounts, node_place, proxy_answer, proxy_begun, proxy_flaw, proxy_openings, relay_text}
-use Rattle.sd_model_call.specs.ProxyCompleteness.{AreRelaysSpent, IsOpenedToRelay, IsProxyCauseOf, IsRelayed, IsUnhinderedProxy, NoWireFailed, OneLoopTookMost}
 use Rattle.sd_model_call.proofs.BegunLemmas.{Same, all_numbered, accepted_so, at_same, has_flaw, none_failed, not_begun, not_taken, same_start, uncut}
 use Rattle.sd_model_call.proofs.LoopEnds.{AreEnded, ComesFrom, OneSourceTookMost, all_done, comes_from, worn_one}
 use Rattle.sd_model_call.proofs.Openings.{all_append}

@@ -8,15 +8,13 @@ use Rattle.sd_model_outside.specs.Outside.{Told, Untold, Left, Number, Bytes, Bu
 use Rattle.sd_model_outside.specs.Deliveries.{Mark, fault_of, Delivery, AfterDeliveries, FitsUse, missed}
 use Rattle.sd_model_replay.specs.Settings.{bounds_of, is_used, targets_of}
 use Rattle.sd_model_record.specs.Backends.{Backend, Graphite, Console, mark_of}
-use Rattle.sd_model_replay.specs.Script.{Command, Packet, Flush, Admin, spelled, end_word, script_text, IsLegal, BeginsEnd, BeginsRecord}
-use Rattle.sd_model_replay.specs.Next.{ScriptFlaw, Next, Carried, Ending, Faulty, Begins}
+use Rattle.sd_model_replay.specs.Script.{Command, Packet, Flush, Admin, spelled, end_word, script_text, IsLegal, BeginsEnd, BeginsRecord, ScriptFlaw, Next, Carried, Ending, Faulty, Begins}
 use Rattle.sd_model_settings.specs.Entries.{Target}
-use Rattle.sd_model_record.specs.WireSends.{failed_among, wire_at}
-use Rattle.sd_model_record.specs.Repeater.{AreRepeated, sends_on}
+use Rattle.sd_model_record.specs.WireSends.{failed_among, wire_at, AreRepeated, sends_on}
 use Rattle.sd_model_shard.specs.Shard.{table_of}
 use Rattle.sd_model_replay.specs.Replay.{Outcome, Played, Run, IsOutcome, first_run, run_of, play, rounds_from, deliveries, sendings}
-use Rattle.sd_model_call.specs.Faultless.{well, well_mark, well_sent}
-use Rattle.sd_model_replay.specs.Output.{output_in, output_of}
+use Rattle.sd_model_call.specs.Drill.{well, well_mark, well_sent}
+use Rattle.sd_model_replay.specs.Asked.{output_in, output_of}
 use Rattle.sd_model_replay.specs.Totals.{Total, totals_after, totals_text}
 use Rattle.sd_model_replay.specs.AccountingTheorem.{Seen, Course, AccountingTheorem, seen_at}
 use Rattle.sd_model_replay.specs.Ends.{End, Complete, Faulted, ReadFailed, WriteFailed, WornOut, most_records, StopsFor, IsInReply, IsBrokenOff, EndsAs, Replayed, behind}

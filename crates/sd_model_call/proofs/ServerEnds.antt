@@ -10,9 +10,9 @@ use Rattle.sd_model_settings.specs.Settings.{Settings, SettingsFlaw, settings}
 use Rattle.sd_model_replay.specs.Settings.{targets_of, is_used}
 use Rattle.sd_model_serve.specs.Ends.{LoopEnd, Spent, Failed, Enough, WornOut, EndsFlusher, EndsKeeper, most_turns}
 use Rattle.sd_model_serve.specs.Doors.{ServesDoor}
-use Rattle.sd_model_stream.specs.Streams.{AreStreamsOf, any_worn}
-use Rattle.sd_model_run.specs.Course.{Course, Lining, Reception}
-use Rattle.sd_model_run.specs.Run.{AreLined, AreReceptions}
+use Rattle.sd_model_stream.specs.Streams.{AreStreamsOf, any_worn, Lining}
+use Rattle.sd_model_run.specs.Run.{Course, AreLined, AreReceptions}
+use Rattle.sd_model_serve.specs.Receiving.{Reception}
 use Rattle.sd_model_call.specs.Words.{Form, Serve, form}
 use Rattle.sd_model_call.specs.Opening.{World, Opening, Part, OfSettings, OfScript, OfSource, OfBeat, OfWire, OfGraphite, OfConsole, OfDoor, OfStreams, IsAccepted, IsFlawed, opening_where, repeated, settled, source_at, target_place, wire_openings}
 use Rattle.sd_model_call.specs.Call.{Answer, Done, NoMemory, NoForm, Misset, BadScript, NotOpened, NotRead, NotWritten, Worn, WritesTotals}

@@ -1,12 +1,12 @@
 -- What the program answers to its words, and what was done by then.
 use Rattle.std.specs.Prelude.{◌≡◌, ◌⊎◌, ℕ, List, [], Option, Some, None, ⊤}
 use Rattle.sd_model_outside.specs.Outside.{File, Number, Object, Place, HasFailed, HasFailedBehind, given}
-use Rattle.sd_model_settings.specs.Settings.{SettingsFlaw, Settings}
+use Rattle.sd_model_settings.specs.Settings.{SettingsFlaw, Settings, default_settings}
 use Rattle.sd_model_replay.specs.Totals.{totals_after}
 use Rattle.sd_model_replay.specs.AccountingTheorem.{Seen, Course, AccountingTheorem}
-use Rattle.sd_model_replay.specs.Next.{ScriptFlaw}
+use Rattle.sd_model_replay.specs.Script.{ScriptFlaw}
 use Rattle.sd_model_replay.specs.Ends.{End, Complete, Faulted, ReadFailed, WriteFailed, WornOut, EndsAs}
-use Rattle.sd_model_call.specs.Drill.{bytes_counted, drill_settings, drill_start, drill_text, drilled}
+use Rattle.sd_model_call.specs.Drill.{bytes_counted, drill_start, drill_text, drilled}
 use Rattle.sd_model_call.specs.Words.{Form, Replay, Serve, Proxy, Drill, form}
 use Rattle.sd_model_call.specs.Opening.{Part, OfSettings, OfScript, World, Opening, IsFlawed, IsAccepted, FailsBehind, IsLeftOff, IsNotOpenedAt, IsPartlyOpened, OnlySettings, replay_openings, settled, started}
 
@@ -103,16 +103,16 @@ AnswersReplay name script answer a old new =
 
 -- how the replay of a drill of n packets ends where its totals are written
 abbrev pub drill_end : ℕ → End
-drill_end n = Complete (totals_after drill_settings (drilled n))
+drill_end n = Complete (totals_after default_settings (drilled n))
 
 -- All records of the made script of n packets were carried out by the settings of an empty file, none with a fault, over
 -- objects of the program's own and this output; Graphite's bytes were counted; and the replay ended so: its totals were
 -- written, or a write of them failed.
 pub record Drilled (n : ℕ) (a : Account) (output : Object) : Type 0 where
-  pub force : a.force ≡ drill_settings
+  pub force : a.force ≡ default_settings
   pub since : a.start ≡ drill_start n output
   pub played : a.course.played ≡ drilled n
-  pub counted : a.end.graphite.told ≡ Number (bytes_counted drill_settings (drilled n))
+  pub counted : a.end.graphite.told ≡ Number (bytes_counted default_settings (drilled n))
   pub end : End
   pub ends : EndsAs a.force end a.course a.start a.end
   pub told : (end ≡ drill_end n) ⊎ (end ≡ WriteFailed)

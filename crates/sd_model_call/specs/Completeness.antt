@@ -5,13 +5,11 @@ use Rattle.sd_model_outside.specs.Outside.{Left, Rose, given}
 use Rattle.sd_model_outside.specs.Deliveries.{AfterDeliveries}
 use Rattle.sd_model_replay.specs.Settings.{is_used, targets_of}
 use Rattle.sd_model_record.specs.Backends.{Backend}
-use Rattle.sd_model_replay.specs.Script.{Command, end_word, script_text, IsLegal}
-use Rattle.sd_model_replay.specs.Next.{ScriptFlaw, Faulty, Begins}
-use Rattle.sd_model_record.specs.WireSends.{wire_at}
-use Rattle.sd_model_record.specs.Repeater.{AreRepeated}
+use Rattle.sd_model_replay.specs.Script.{Command, end_word, script_text, IsLegal, ScriptFlaw, Faulty, Begins}
+use Rattle.sd_model_record.specs.WireSends.{wire_at, AreRepeated}
 use Rattle.sd_model_replay.specs.Replay.{deliveries, sendings}
-use Rattle.sd_model_call.specs.Faultless.{well}
-use Rattle.sd_model_replay.specs.Output.{output_of}
+use Rattle.sd_model_call.specs.Drill.{well}
+use Rattle.sd_model_replay.specs.Asked.{output_of}
 use Rattle.sd_model_replay.specs.Totals.{totals_after, totals_text}
 use Rattle.sd_model_replay.specs.AccountingTheorem.{Seen, Course, AccountingTheorem, seen_at}
 use Rattle.sd_model_replay.specs.Ends.{End, WriteFailed, most_records, behind}

@@ -1,10 +1,8 @@
 pub mod Call
 pub mod Completeness
 pub mod Drill
-pub mod Faultless
 pub mod Opening
 pub mod Words
 pub mod Server
 pub mod ServerCompleteness
 pub mod Proxy
-pub mod ProxyCompleteness

@@ -4,18 +4,16 @@ use Rattle.std.specs.List.{list_any}
 use Rattle.sd_model_outside.specs.Outside.{File, Host, Object, last_count}
 use Rattle.sd_model_outside.specs.Deliveries.{missed}
 use Rattle.sd_model_outside.specs.Turns.{with_interval}
-use Rattle.sd_model_settings.specs.Defaults.{plan_of, names_of}
+use Rattle.sd_model_settings.specs.Settings.{plan_of, names_of, Settings}
 use Rattle.sd_model_shard.specs.History.{state_after}
 use Rattle.sd_model_record.specs.Backends.{Backend, Graphite, Console}
 use Rattle.sd_model_serve.specs.Ends.{LoopEnd, Failed, WornOut, most_turns}
-use Rattle.sd_model_run.specs.Course.{Course, Terms}
-use Rattle.sd_model_run.specs.Run.{Objects, ServerTheorem}
+use Rattle.sd_model_run.specs.Run.{Course, Terms, Objects, ServerTheorem}
 use Rattle.sd_model_replay.specs.Settings.{is_used, limits_of, policy_of, targets_of}
 use Rattle.sd_model_replay.specs.Totals.{Total, summed, totals_of, totals_text}
 use Rattle.sd_model_call.specs.Words.{Form, Serve}
 use Rattle.sd_model_call.specs.Opening.{Opening, OfSource, OfBeat, OfGraphite, OfConsole, OfDoor, OfStreams, World, IsAccepted, flags_of, numbered, opened_all, opening_where, repeated, settled, wire_openings}
 use Rattle.sd_model_call.specs.Call.{Answer, Done, NotRead, Worn, NotBegun, NotTaken, WritesTotals}
-use Rattle.sd_model_settings.specs.Settings.{Settings}
 
 -- a source for each receiver, at the address that the server listens at
 abbrev pub source_openings : Settings → List Opening

@@ -1,11 +1,10 @@
 ghost use Rattle.std.specs.Prelude.{◌≡◌, ◌<◌, ◌≤◌, ℕ, List, [], ◌∷◌, length, min, codes, decimal, Some, None, Ok, Err};
 ghost use Rattle.sd_model_outside.specs.Outside.{Rose, Used, given, last_count};
 ghost use Rattle.sd_model_settings.specs.Settings.{SettingsFlaw, settings, Settings};
-ghost use Rattle.sd_model_replay.specs.Script.{Command, script_text};
+ghost use Rattle.sd_model_replay.specs.Script.{Command, script_text, ScriptFlaw};
 ghost use Rattle.sd_model_replay.specs.Totals.{Total};
 ghost use Rattle.sd_model_record.specs.WireSends.{wire_at};
 ghost use Rattle.sd_model_replay.specs.AccountingTheorem.{Seen};
-ghost use Rattle.sd_model_replay.specs.Next.{ScriptFlaw};
 ghost use Rattle.sd_model_replay.specs.Ends.{Complete, End, Faulted, Replayed, WornOut, most_records};
 ghost use Rattle.sd_model_call.specs.Opening.{World};
 ghost use Rattle.sd_model_call.specs.Words.{Drill, Proxy, form};
@@ -13,8 +12,7 @@ ghost use Rattle.sd_model_call.specs.Drill.{drill_text};
 ghost use Rattle.sd_model_call.specs.Call.{Accounts, Answer, BadScript, Done, IsScripted, Misset, OnlyOutput, Worn};
 ghost use Rattle.sd_model_call.specs.Completeness.{Asks, AsksPlainly, CarriedOut, CarriedOutWell, EndsSo, IsBlocked, IsCutOff, IsFull, IsLongest, IsTold, IsUnhindered, IsWhole, NoneMissed, refusal, start_of};
 ghost use Rattle.sd_model_call.specs.Proxy.{AnswersProxy, ProxyAccounts, proxy_flaw};
-ghost use Rattle.sd_model_call.specs.ServerCompleteness.{AsksFor};
-ghost use Rattle.sd_model_call.specs.ProxyCompleteness.{IsProxyCauseOf, IsRelayed, IsUnhinderedProxy, NoWireFailed};
+ghost use Rattle.sd_model_call.specs.ServerCompleteness.{AsksFor, IsProxyCauseOf, IsRelayed, IsUnhinderedProxy, NoWireFailed};
 
 /// A replay that nothing hinders comes to the word that ends the script. One whose script is cut off behind some records, by a
 /// flaw, stops at that place and tells which, and one of as many records as there may be carries these out, and then no more,

@@ -4,7 +4,7 @@ use Rattle.std.proofs.Math.Nat.{div-eq_of_lt, add-mul-div_right}
 use Rattle.std.proofs.Math.Pow.{pow_mono}
 use Rattle.std.proofs.lemmas.Nat.{div-mul-add, pow-add, pow_pos}
 use Rattle.sd_model_ring.specs.Ring.{is_up}
-use Rattle.sd_model_live.specs.Looks.{all_of}
+use Rattle.sd_model_live.specs.Proxy.{all_of}
 
 -- no bit of a number from a place on that the number doesn't reach
 pub is_up-beyond : (up n i : ℕ) → up < 2 ^ n → n ≤ i → is_up up i ≡ false

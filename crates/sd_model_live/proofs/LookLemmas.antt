@@ -2,7 +2,7 @@
 use Rattle.std.proofs.Common.{◌≡◌, ℕ, zero, suc, ◌≤◌, List, [], ◌∷◌, ◌++◌, length, Some, None, sym, ap, ◌∙◌, subst, arith, length-append, append_assoc, append-nil, le_refl, le_trans}
 use Rattle.std.specs.Prelude.{slice_get}
 use Rattle.std.specs.List.{last_or}
-use Rattle.sd_model_live.specs.Looks.{Begins, last_place, NeverFall, HaveAnswered}
+use Rattle.sd_model_live.specs.Proxy.{Begins, last_place, NeverFall, HaveAnswered}
 
 get_front : (xs ys : List ℕ) (k x : ℕ) → slice_get xs k ≡ Some x → slice_get (xs ++ ys) k ≡ Some x
 get_front [] ys k x e = absurd (cc)

@@ -1,4 +1,2 @@
-pub mod Looks
 pub mod Checks
-pub mod Checker
 pub mod Proxy

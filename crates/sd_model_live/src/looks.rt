@@ -1,6 +1,6 @@
 ghost use Rattle.std.specs.Prelude.{◌≡◌, ℕ, ◌<◌, ◌≤◌, List, [], ◌++◌, true, false};
 ghost use Rattle.sd_model_ring.specs.Ring.{is_up};
-ghost use Rattle.sd_model_live.specs.Looks.{Begins, HaveAnswered, all_of};
+ghost use Rattle.sd_model_live.specs.Proxy.{Begins, HaveAnswered, all_of};
 
 /// The set of all of so many nodes has each of them, and no other.
 pub fn all_nodes_are_up()

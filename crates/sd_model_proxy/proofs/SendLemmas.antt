@@ -6,8 +6,7 @@ use Rattle.sd_model_outside.specs.Outside.{Object}
 use Rattle.sd_model_outside.specs.Wires.{HasSent}
 use Rattle.sd_model_settings.specs.Entries.{Node}
 use Rattle.sd_model_record.proofs.WireLemmas.{AfterSendsOn-next, AfterSendsOn-none, AfterSendsOn-one}
-use Rattle.sd_model_proxy.specs.Routes.{Routed, To, goes_to, route_of}
-use Rattle.sd_model_proxy.specs.Sends.{AreForwarded, send_of, sends_to}
+use Rattle.sd_model_proxy.specs.Routes.{Routed, To, goes_to, route_of, AreForwarded, send_of, sends_to}
 
 pub sends_to-append : (nodes : List Node) (place : ℕ) (xs ys : List Routed) → sends_to nodes place (xs ++ ys) ≡ sends_to nodes place xs ++ sends_to nodes place ys
 sends_to-append nodes place xs ys =

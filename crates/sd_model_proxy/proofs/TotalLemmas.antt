@@ -4,9 +4,8 @@ use Rattle.std.specs.Str.{bytes_eq}
 use Rattle.std.proofs.lemmas.List.Sums.{sum_by-append, sum_by-cons}
 use Rattle.sd_model_settings.specs.Entries.{Node}
 use Rattle.sd_model_record.specs.Desk.{counted, last_counted}
-use Rattle.sd_model_proxy.specs.Routes.{Routed, Fate, WasBad, WasUnowned, WasSent, WasNotSent, fate_of}
+use Rattle.sd_model_proxy.specs.Routes.{Routed, Fate, WasBad, WasUnowned, WasSent, WasNotSent, fate_of, add_totals, how_many, is_bad, is_not_sent, is_sent, is_unowned, no_totals, sums_of_totals, totals_of_lines}
 use Rattle.sd_model_replay.specs.Totals.{Total, number_in}
-use Rattle.sd_model_proxy.specs.Totals.{add_totals, how_many, is_bad, is_not_sent, is_sent, is_unowned, no_totals, sums_of_totals, totals_of_lines}
 
 how_many-cons : (nodes : List Node) (is : Fate → Bool) (r : Routed) (routed : List Routed) → how_many nodes is (r ∷ routed) ≡ cond (is (fate_of nodes r)) 1 0 + how_many nodes is routed
 how_many-cons nodes is r routed = sum_by-cons (λ (x : Routed). cond (is (fate_of nodes x)) 1 0) r routed

@@ -5,9 +5,7 @@ use Rattle.std.proofs.lemmas.List.{length-map}
 use Rattle.std.proofs.lemmas.List.Sums.{length-filter, sum_by-append, sum_by-cons}
 use Rattle.sd_model_settings.specs.Entries.{Node}
 use Rattle.sd_model_record.specs.WireSends.{WireSend, failed_among, packets_of}
-use Rattle.sd_model_proxy.specs.Routes.{Route, Bad, Unowned, To, Routed, fate_by, fate_of, goes_to, route_of}
-use Rattle.sd_model_proxy.specs.Sends.{send_of, sends_to}
-use Rattle.sd_model_proxy.specs.Totals.{how_many, is_not_sent, is_sent, over_wires}
+use Rattle.sd_model_proxy.specs.Routes.{Route, Bad, Unowned, To, Routed, fate_by, fate_of, goes_to, route_of, send_of, sends_to, how_many, is_not_sent, is_sent, over_wires}
 use Rattle.sd_model_proxy.proofs.RouteLemmas.{goes-node}
 use Rattle.sd_model_proxy.proofs.SendLemmas.{sends_to-append, sends_to-one}
 

@@ -1,4 +1,2 @@
 pub mod Routes
-pub mod Sends
-pub mod Totals
 pub mod Relays

@@ -5,10 +5,8 @@ use Rattle.sd_model_outside.specs.Turns.{with_datagrams}
 use Rattle.sd_model_settings.specs.Entries.{Node}
 use Rattle.sd_model_serve.specs.Ends.{LoopEnd, EndsReceiver}
 use Rattle.sd_model_serve.specs.Receiving.{HaveRun}
-use Rattle.sd_model_proxy.specs.Routes.{Read, Routed, line_and_set, lines_of_read}
-use Rattle.sd_model_proxy.specs.Sends.{AreForwarded}
+use Rattle.sd_model_proxy.specs.Routes.{Read, Routed, line_and_set, lines_of_read, AreForwarded, add_totals, no_totals, sums_of_totals, totals_of_lines}
 use Rattle.sd_model_replay.specs.Totals.{Total}
-use Rattle.sd_model_proxy.specs.Totals.{add_totals, no_totals, sums_of_totals, totals_of_lines}
 
 -- What a receiver of a proxy did: the datagrams that it read, each with the nodes that were up; the lines that it routed; and
 -- how it ended.

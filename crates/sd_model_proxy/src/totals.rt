@@ -3,9 +3,8 @@ ghost use Rattle.sd_model_settings.specs.Entries.{Node};
 ghost use Rattle.sd_model_record.specs.Desk.{last_counted};
 ghost use Rattle.sd_model_replay.specs.Totals.{number_in};
 ghost use Rattle.sd_model_record.specs.WireSends.{failed_among, packets_of};
-ghost use Rattle.sd_model_proxy.specs.Routes.{Routed};
+ghost use Rattle.sd_model_proxy.specs.Routes.{Routed, how_many, is_not_sent, is_sent, over_wires, sums_of_totals, totals_of_lines};
 ghost use Rattle.sd_model_proxy.specs.Relays.{Relay, relay_totals, relays_totals};
-ghost use Rattle.sd_model_proxy.specs.Totals.{how_many, is_not_sent, is_sent, over_wires, sums_of_totals, totals_of_lines};
 
 /// Each line was bad, was sent, had no owner, or its send failed. So the number of lines is the sum of these, in a receiver's
 /// totals too, where it hasn't reached the last count.

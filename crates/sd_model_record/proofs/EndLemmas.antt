@@ -13,8 +13,7 @@ use Rattle.sd_model_shard.specs.Shard as shard
 use Rattle.sd_model_record.specs.Admin as admin
 use Rattle.sd_model_record.specs.Admin.{AdminFault, UnknownWord, MissingName, TooLong}
 use Rattle.sd_model_record.specs.Desk.{Facts}
-use Rattle.sd_model_record.specs.Replies.{Finish, end_lines, stats_lines, row_line, row_value, gone_lines, health_line, fault_line, reply_lines}
-use Rattle.sd_model_record.specs.Replying.{replies_by, names_replied, rows_told, keys_told, health_after}
+use Rattle.sd_model_record.specs.Replies.{Finish, end_lines, stats_lines, row_line, row_value, gone_lines, health_line, fault_line, reply_lines, replies_by, names_replied, rows_told, keys_told, health_after}
 
 -- a line isn't `END`
 abbrev IsOther : List ℕ → Type 0

@@ -1,9 +1,8 @@
 -- Which figures of a timer are sent.
 use Rattle.std.proofs.Common.{◌≡◌, List, [], ◌∷◌, refl, ap}
 use Rattle.std.specs.Prelude.{filter}
-use Rattle.sd_model_settings.specs.TimerClasses.{sends}
-use Rattle.sd_model_record.specs.Record.{TimerFigures}
-use Rattle.sd_model_record.specs.Figures.{Figure, figures_of, sent_figures}
+use Rattle.sd_model_settings.specs.Entries.{sends}
+use Rattle.sd_model_record.specs.Record.{TimerFigures, Figure, figures_of, sent_figures}
 
 all_pass : (fs : List Figure) → filter (λ f. sends [] f.class) fs ≡ fs
 all_pass [] = refl

@@ -10,8 +10,7 @@ use Rattle.std.proofs.lemmas.Option.{slice_get_past}
 use Rattle.sd_model_outside.specs.Outside.{Object, Packets, Told, Untold, fresh, sent}
 use Rattle.sd_model_outside.specs.Wires.{HasSent, AreSent}
 use Rattle.sd_model_outside.proofs.DeliveryLemmas.{Counts, joined_counts, same_counts}
-use Rattle.sd_model_record.specs.WireSends.{AfterSends, AfterSendsOn, WireSend, failed_among, packets_of, wire_at}
-use Rattle.sd_model_record.specs.Repeater.{AreRepeated, Sending, sends_on}
+use Rattle.sd_model_record.specs.WireSends.{AfterSends, AfterSendsOn, WireSend, failed_among, packets_of, wire_at, AreRepeated, Sending, sends_on}
 
 -- the packets of one send
 abbrev packets_by : Bool → List ℕ → List (List ℕ)

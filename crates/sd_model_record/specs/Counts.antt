@@ -61,15 +61,11 @@ pub record IsInRange (d : Desk) : Type 0 where
   pub tally : IsTallyInRange d.tally
   pub numbers : (count : Count) → number_of d count ≤ last_counted
 
--- no number of a desk has fallen
-abbrev pub HasGrown : Desk → Desk → Type 0
-HasGrown old new = (count : Count) → number_of old count ≤ number_of new count
-
 -- a change of a desk keeps its sums and its range, and lets no number fall
 pub record KeepsCounts (old new : Desk) : Type 0 where
   pub adds_up : AddsUp old → AddsUp new
   pub in_range : IsInRange old → IsInRange new
-  pub grown : IsInRange old → HasGrown old new
+  pub grown : IsInRange old → (count : Count) → number_of old count ≤ number_of new count
 
 -- nothing of any
 abbrev pub nothing : Amounts

@@ -1,13 +1,7 @@
-pub mod Figures
 pub mod Record
 pub mod Desk
-pub mod Graphite
-pub mod Console
 pub mod Admin
 pub mod Replies
 pub mod Counts
 pub mod Backends
 pub mod WireSends
-pub mod Repeater
-pub mod Callers
-pub mod Replying

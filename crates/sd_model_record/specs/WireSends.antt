@@ -1,5 +1,5 @@
--- What sends do to wires: to one, one after another, and to several, each wire's by its number.
-use Rattle.std.specs.Prelude.{◌≡◌, ℕ, ◌≤◌, Bool, not, List, [], ◌∷◌, length, map, filter, count_by, get_or}
+-- What sends do to wires: to one, one after another, and to several, each wire's by its number; and packets that are repeated on all.
+use Rattle.std.specs.Prelude.{◌≡◌, ℕ, ◌≤◌, Bool, not, List, [], ◌∷◌, length, map, filter, count_by, get_or, filter_map, option_map, slice_get}
 use Rattle.sd_model_outside.specs.Outside.{Object, Untold, fresh}
 use Rattle.sd_model_outside.specs.Wires.{HasSent}
 
@@ -30,3 +30,20 @@ pub record AfterSendsOn (sends : ℕ → List WireSend) (old new : List Object) 
   pub each : (i : ℕ) → AfterSends (sends i) (wire_at i old) (wire_at i new)
   pub no_others : (i : ℕ) → length old ≤ i → sends i ≡ []
   pub count : length new ≡ length old
+
+-- A packet that was repeated, and of each of its sends whether it failed.
+pub record Sending : Type 0 where
+  pub packet : List ℕ
+  pub failed : List Bool
+
+-- how many sends failed
+abbrev pub failures : List Bool → ℕ
+failures failed = count_by (λ f. f) failed
+
+-- the sends on wire i: of the packets that had one there, in order
+abbrev pub sends_on : ℕ → List Sending → List WireSend
+sends_on i sendings = filter_map (λ s. option_map (λ f. record { packet = s.packet; is_failed = f }) (slice_get s.failed i)) sendings
+
+-- each wire got the sends on it, and nothing else
+abbrev pub AreRepeated : List Sending → List Object → List Object → Type 0
+AreRepeated sendings old new = AfterSendsOn (λ i. sends_on i sendings) old new

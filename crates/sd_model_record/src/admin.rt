@@ -6,8 +6,7 @@ ghost use Rattle.sd_model_settings.specs.Settings.{Settings};
 ghost use Rattle.sd_model_shard.specs.Shard.{Reply};
 ghost use Rattle.sd_model_record.specs.Admin.{AdminFault, Command, Show, Delete, IsWord, words, command, longest_line};
 ghost use Rattle.sd_model_record.specs.Desk.{Facts};
-ghost use Rattle.sd_model_record.specs.Replies.{reply_lines};
-ghost use Rattle.sd_model_record.specs.Replying.{replies_by};
+ghost use Rattle.sd_model_record.specs.Replies.{replies_by, reply_lines};
 
 /// The words of a line have no white space, and words with a space between them are the words of the line that they make.
 /// White space at a line's ends doesn't change its words.

@@ -1,9 +1,7 @@
 ghost use Rattle.std.specs.Prelude.{◌≡◌, ℕ, List, [], flat_map};
-ghost use Rattle.sd_model_settings.specs.Defaults.{Names};
-ghost use Rattle.sd_model_record.specs.Record.{TimerRow, TimerFigures};
-ghost use Rattle.sd_model_record.specs.Figures.{figures_of};
-ghost use Rattle.sd_model_record.specs.Graphite.{figure_line, row_lines};
-ghost use Rattle.sd_model_record.specs.Console.{console_figure, console_row};
+ghost use Rattle.sd_model_settings.specs.Settings.{Names};
+ghost use Rattle.sd_model_record.specs.Record.{TimerRow, TimerFigures, figures_of};
+ghost use Rattle.sd_model_record.specs.Backends.{figure_line, row_lines, console_figure, console_row};
 
 /// Where no class of lines is chosen, both backends get all figures of each timer.
 #[tactic(auto, using(crate::proofs::SentLemmas::all_sent))]

@@ -7,7 +7,7 @@ use Rattle.sd_model_shard.specs.Shard.{empty_state}
 use Rattle.sd_model_shard.specs.History.{Legal}
 use Rattle.sd_model_shard.specs.Whereabouts.{Arrival}
 use Rattle.sd_model_shard.proofs.HistoryLemmas.{LegalFrom-answered}
-use Rattle.sd_model_serve.specs.Accounting.{AreAccounted}
+use Rattle.sd_model_serve.specs.Rounds.{AreAccounted}
 use Rattle.sd_model_serve.proofs.AccountLemmas.{account}
 use Rattle.sd_model_replay.specs.Settings.{Bounds, bounds_of, limits_of, policy_of}
 use Rattle.sd_model_replay.specs.Replay.{Played, events_at, form_of, history_at, home_of, rounds}

@@ -11,11 +11,9 @@ use Rattle.sd_model_shard.specs.History.{Act, History, Asked, act_of, answered, 
 use Rattle.sd_model_shard.specs.Whereabouts.{Arrival}
 use Rattle.sd_model_shard.proofs.AnsweredLemmas.{answered-append}
 use Rattle.sd_model_record.specs.Admin as admin
-use Rattle.sd_model_record.specs.Callers.{flusher, administrator}
-use Rattle.sd_model_record.specs.Replying.{admin_events}
-use Rattle.sd_model_serve.specs.Acts.{acts_by, asks, events_by, events_of}
-use Rattle.sd_model_serve.specs.Rounds.{Round, swaps_at}
-use Rattle.sd_model_serve.specs.Served.{Ran}
+use Rattle.sd_model_serve.specs.Receiving.{flusher, administrator, acts_by, asks, events_by, events_of}
+use Rattle.sd_model_record.specs.Replies.{admin_events}
+use Rattle.sd_model_serve.specs.Rounds.{Round, swaps_at, Ran}
 use Rattle.sd_model_serve.specs.Sessions as sessions
 use Rattle.sd_model_serve.specs.Sessions.{Broadcast}
 use Rattle.sd_model_serve.proofs.ActsLemmas.{asks-append}

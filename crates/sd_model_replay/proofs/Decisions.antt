@@ -10,8 +10,7 @@ use Rattle.sd_model_text.specs.Lists.{Lacks}
 use Rattle.sd_model_text.proofs.Cuts.{same_cut}
 use Rattle.sd_model_text.proofs.Digits.{Lacks-decimal}
 use Rattle.sd_model_outside.specs.Outside.{Told, IsAtEnd}
-use Rattle.sd_model_replay.specs.Heads.{Head, PacketHead, FlushHead, AdminHead, EndHead, Body, head_line, body_of, IsReceiver, IsMoment, IsCount, IsForm}
-use Rattle.sd_model_replay.specs.Next.{BadWord, BadLength, CutShort, Next, Faulty, HasBody, IsOver, IsPart, IsWrong, IsWhole, IsUndecided, Begins}
+use Rattle.sd_model_replay.specs.Script.{Head, PacketHead, FlushHead, AdminHead, EndHead, Body, head_line, body_of, IsReceiver, IsMoment, IsCount, IsForm, BadWord, BadLength, CutShort, Next, Faulty, HasBody, IsOver, IsPart, IsWrong, IsWhole, IsUndecided, Begins}
 use Rattle.sd_model_replay.proofs.LineLemmas.{Lacks-cons, uncut, first_byte}
 use Rattle.sd_model_replay.proofs.NextLemmas.{whole_next, body_stands, line_stands, begins_in_front}
 use Rattle.sd_model_replay.proofs.Numbers.{IsWritten, IsWritten-from, number_written}

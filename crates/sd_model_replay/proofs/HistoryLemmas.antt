@@ -14,8 +14,8 @@ use Rattle.sd_model_record.specs.Admin.{AdminFault}
 use Rattle.sd_model_serve.specs.Rounds.{Round}
 use Rattle.sd_model_replay.specs.Settings.{Bounds}
 use Rattle.sd_model_replay.specs.Script.{Command, Packet, Flush, Admin}
-use Rattle.sd_model_record.specs.Callers.{administrator}
-use Rattle.sd_model_record.specs.Replying.{admin_events}
+use Rattle.sd_model_serve.specs.Receiving.{administrator}
+use Rattle.sd_model_record.specs.Replies.{admin_events}
 use Rattle.sd_model_replay.specs.Replay.{Outcome, Played, home_of, events_in, events_at, history_at, samples_in, samples_at, Run, first_run, acts_in, play, run_of, Moment, moments, round_by, rounds_from, rounds}
 
 abbrev arrivals_asked : List Asked → List Arrival

@@ -6,7 +6,7 @@ use Rattle.std.proofs.lemmas.List.{get_or-take, get_or_append_left, get_or-appen
 use Rattle.sd_model_text.specs.Lists.{Lacks}
 use Rattle.sd_model_text.proofs.Cuts.{same_cut, at_cut}
 use Rattle.sd_model_text.proofs.Digits.{Lacks-decimal}
-use Rattle.sd_model_replay.specs.Heads.{Head, PacketHead, FlushHead, AdminHead, EndHead, head_line, IsForm}
+use Rattle.sd_model_replay.specs.Script.{Head, PacketHead, FlushHead, AdminHead, EndHead, head_line, IsForm}
 
 pub Lacks-cons : (byte x : ℕ) (xs : List ℕ) → x ≢ byte → Lacks byte xs → Lacks byte (x ∷ xs)
 Lacks-cons byte x xs other lacks zero inside = other

@@ -5,9 +5,7 @@ use Rattle.std.proofs.lemmas.List.{take_at, take-append-le, take-append-drop, dr
 use Rattle.sd_model_text.specs.Lists.{Lacks}
 use Rattle.sd_model_text.proofs.Cuts.{same_cut, at_cut}
 use Rattle.sd_model_outside.specs.Outside.{Told, Left}
-use Rattle.sd_model_replay.specs.Heads.{Head, PacketHead, FlushHead, AdminHead, EndHead, Body, head_line, body_of, IsForm}
-use Rattle.sd_model_replay.specs.Script.{Packet, Flush, Admin, spelled}
-use Rattle.sd_model_replay.specs.Next.{BadWord, BadLength, CutShort, Next, Carried, Ending, Faulty, IsPartOfLine, HasNoLine, HasNoForm, HasBody, IsOver, IsPart, IsMisfit, IsWrong, IsWhole, IsUndecided, Begins, next_text}
+use Rattle.sd_model_replay.specs.Script.{Head, PacketHead, FlushHead, AdminHead, EndHead, Body, head_line, body_of, IsForm, Packet, Flush, Admin, spelled, BadWord, BadLength, CutShort, Next, Carried, Ending, Faulty, IsPartOfLine, HasNoLine, HasNoForm, HasBody, IsOver, IsPart, IsMisfit, IsWrong, IsWhole, IsUndecided, Begins, next_text}
 use Rattle.sd_model_replay.proofs.LineLemmas.{Lacks-line, length-line, same_front, uncut, newline_soon, longer}
 
 -- what stands next by a body, where this does if it is whole

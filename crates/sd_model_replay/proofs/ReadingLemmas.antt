@@ -1,9 +1,8 @@
 -- A script has one reading.
 use Rattle.std.proofs.Common.{◌≡◌, ◌⊎◌, ℕ, ◌<◌, List, [], ◌∷◌, ◌++◌, length, drop, refl, sym, ap, ◌∙◌, arith, append_assoc, append-nil, inl, inr}
 use Rattle.std.specs.List.{AllByRecursion}
-use Rattle.sd_model_replay.specs.Script.{Command, Packet, Flush, Admin, spelled, end_word, script_text, IsLegal, BeginsRecord}
+use Rattle.sd_model_replay.specs.Script.{Command, Packet, Flush, Admin, spelled, end_word, script_text, IsLegal, BeginsRecord, Carried, Ending, Begins}
 use Rattle.sd_model_outside.specs.Outside.{Told, Left}
-use Rattle.sd_model_replay.specs.Next.{Carried, Ending, Begins}
 use Rattle.sd_model_replay.proofs.LineLemmas.{first_byte}
 use Rattle.sd_model_replay.proofs.NextLemmas.{one_next}
 use Rattle.sd_model_text.proofs.Cuts.{same_parts}

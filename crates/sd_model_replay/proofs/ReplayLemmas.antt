@@ -12,7 +12,7 @@ use Rattle.sd_model_record.specs.Backends.{Backend, mark_of}
 use Rattle.sd_model_replay.specs.Settings.{Bounds, bounds_of}
 use Rattle.sd_model_replay.specs.Script.{Command, spelled, script_text}
 use Rattle.sd_model_replay.specs.Replay.{Played, Run, first_run, play, run_of, Moment, moments, form_of, round_by, rounds, deliveries, sending_by, sendings}
-use Rattle.sd_model_replay.specs.Output.{output_in, output_of}
+use Rattle.sd_model_replay.specs.Asked.{output_in, output_of}
 use Rattle.sd_model_settings.specs.Settings.{Settings}
 
 -- The state before a record that comes behind others, whose first one, or else itself, tells the start.

@@ -5,10 +5,10 @@ use Rattle.sd_model_outside.specs.Outside.{Object, Reads}
 use Rattle.sd_model_outside.specs.Deliveries.{AfterDeliveries}
 use Rattle.sd_model_shard.specs.History.{part_of, state_after}
 use Rattle.sd_model_shard.specs.Whereabouts.{arrivals}
-use Rattle.sd_model_serve.specs.Accounting.{AreAccounted}
+use Rattle.sd_model_serve.specs.Rounds.{AreAccounted}
 use Rattle.sd_model_replay.specs.Settings.{bounds_of, limits_of, policy_of}
 use Rattle.sd_model_record.specs.Backends.{Backend, Graphite, Console}
-use Rattle.sd_model_record.specs.Repeater.{AreRepeated}
+use Rattle.sd_model_record.specs.WireSends.{AreRepeated}
 use Rattle.sd_model_replay.specs.Script.{script_text, IsLegal}
 use Rattle.sd_model_replay.specs.Replay.{Played, IsOutcome, home_of, first_run, form_of, run_of, history_at, samples_at, rounds, deliveries, sendings}
 use Rattle.sd_model_settings.specs.Settings.{Settings}

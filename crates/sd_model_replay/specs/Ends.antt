@@ -2,10 +2,9 @@
 use Rattle.std.specs.Prelude.{◌≡◌, ◌⊎◌, ◌<◌, ◌^◌, ℕ, min, List, [], ◌∷◌, ◌++◌, length, map, ⊤}
 use Rattle.sd_model_outside.specs.Outside.{Told, Object, Used, HasFailedBehind, Rose, given, last_count, put_back}
 use Rattle.sd_model_replay.specs.Settings.{bounds_of}
-use Rattle.sd_model_replay.specs.Script.{script_text, BeginsEnd}
-use Rattle.sd_model_replay.specs.Next.{ScriptFlaw, Next, Faulty, Begins, IsUndecided}
+use Rattle.sd_model_replay.specs.Script.{script_text, BeginsEnd, ScriptFlaw, Next, Faulty, Begins, IsUndecided}
 use Rattle.sd_model_replay.specs.Replay.{Played, first_run, run_of}
-use Rattle.sd_model_replay.specs.Output.{output_in, output_of}
+use Rattle.sd_model_replay.specs.Asked.{output_in, output_of}
 use Rattle.sd_model_replay.specs.Totals.{Total, totals_after, totals_text}
 use Rattle.sd_model_replay.specs.AccountingTheorem.{Seen, Course, AccountingTheorem}
 use Rattle.sd_model_settings.specs.Settings.{Settings}

@@ -1,11 +1,8 @@
 pub mod Settings
-pub mod Heads
 pub mod Script
-pub mod Next
 pub mod MadeScript
 pub mod Replay
 pub mod Asked
-pub mod Output
 pub mod Totals
 pub mod AccountingTheorem
 pub mod Ends

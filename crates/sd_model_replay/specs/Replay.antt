@@ -12,14 +12,13 @@ use Rattle.sd_model_record.specs.Admin.{AdminFault}
 use Rattle.sd_model_outside.specs.Deliveries.{NotUsed, Delivery, FitsUse}
 use Rattle.sd_model_record.specs.Desk.{Desk, new_desk, with_tally, with_repeater_faults, with_round, with_health, Marks}
 use Rattle.sd_model_record.specs.Backends.{Backend, mark_of}
-use Rattle.sd_model_record.specs.Repeater.{Sending, failures}
-use Rattle.sd_model_record.specs.Callers.{flusher, administrator}
-use Rattle.sd_model_record.specs.Replying.{admin_events, health_after}
+use Rattle.sd_model_record.specs.WireSends.{Sending, failures}
+use Rattle.sd_model_serve.specs.Receiving.{flusher, administrator}
+use Rattle.sd_model_record.specs.Replies.{admin_events, health_after}
 use Rattle.sd_model_serve.specs.Rounds.{Form, Round, round_deliveries, round_record}
 use Rattle.sd_model_replay.specs.Settings.{Bounds, bounds_of, is_used, targets_of}
 use Rattle.sd_model_replay.specs.Script.{Command, Packet, Flush, Admin}
-use Rattle.sd_model_settings.specs.Settings.{Settings}
-use Rattle.sd_model_settings.specs.Defaults.{plan_of, names_of}
+use Rattle.sd_model_settings.specs.Settings.{Settings, plan_of, names_of}
 
 -- What the outside did to a record: how each backend took part, which is told of a flush; and of each send of a packet
 -- whether it failed.
@@ -88,13 +87,9 @@ abbrev pub start_of : List Played → ℕ
 start_of [] = 0
 start_of (p ∷ played) = moment_of p.command
 
--- a replay that starts now: nothing was carried out
-abbrev pub begun_at : ℕ → Run
-begun_at start = record { shards = λ i. empty_state; desk = new_desk start }
-
--- the state before the first of records
+-- the state before the first of records, when nothing was carried out
 abbrev pub first_run : List Played → Run
-first_run played = begun_at (start_of played)
+first_run played = record { shards = λ i. empty_state; desk = new_desk (start_of played) }
 
 -- what a record adds to the history of shard i, where the shards have these states
 abbrev pub acts_in : Bounds → (ℕ → State) → ℕ → Command → History

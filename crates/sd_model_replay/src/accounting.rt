@@ -3,15 +3,13 @@ ghost use Rattle.std.specs.List.{AllByRecursion, range_with_len};
 ghost use Rattle.sd_model_shard.specs.History.{part_of, state_after};
 ghost use Rattle.sd_model_shard.specs.Whereabouts.{arrivals};
 ghost use Rattle.sd_model_record.specs.Record.{record_rows};
-ghost use Rattle.sd_model_record.specs.Callers.{flusher};
-ghost use Rattle.sd_model_serve.specs.Accounting.{AreAccounted};
-ghost use Rattle.sd_model_serve.specs.Served.{Ran};
+ghost use Rattle.sd_model_serve.specs.Receiving.{flusher};
+ghost use Rattle.sd_model_serve.specs.Rounds.{AreAccounted, Ran};
 ghost use Rattle.sd_model_replay.specs.Settings.{Bounds, bounds_of, limits_of, policy_of};
 ghost use Rattle.sd_model_replay.specs.Script.{IsLegal};
 ghost use Rattle.sd_model_replay.specs.Asked.{asked_in, brought_in};
 ghost use Rattle.sd_model_replay.specs.Replay.{Played, first_run, form_of, history_at, home_of, records, rounds, run_of, samples_at};
-ghost use Rattle.sd_model_settings.specs.Settings.{Settings};
-ghost use Rattle.sd_model_settings.specs.Defaults.{plan_of};
+ghost use Rattle.sd_model_settings.specs.Settings.{Settings, plan_of};
 
 /// The histories that records make account for each good sample: it is submitted to the shard of its key and to no other, and
 /// stands there in one place: the journal of one flush, what one deletion took out, the entries held, or a drop. The state of a

@@ -1,8 +1,7 @@
 ghost use Rattle.std.specs.Prelude.{◌≡◌, ◌⊎◌, ℕ, List, [], ◌++◌};
 ghost use Rattle.std.specs.List.{AllByRecursion};
 ghost use Rattle.sd_model_outside.specs.Outside.{IsAtEnd, Left, Told};
-ghost use Rattle.sd_model_replay.specs.Script.{BeginsRecord, Command, IsLegal, end_word, script_text, spelled};
-ghost use Rattle.sd_model_replay.specs.Next.{Begins, CutShort, Faulty, IsUndecided, Next};
+ghost use Rattle.sd_model_replay.specs.Script.{BeginsRecord, Command, IsLegal, end_word, script_text, spelled, Begins, CutShort, Faulty, IsUndecided, Next};
 
 /// A script has one reading: bytes begin with one legal record at most, and legal records that stand at the
 /// front of a script that is legal as far as its end, or as far as bytes that begin with no legal record, are the first

@@ -12,14 +12,11 @@ use Rattle.sd_model_record.specs.Backends.{Graphite, Console, mark_of}
 use Rattle.sd_model_record.specs.Counts.{Count, TotalPackets, TotalLines, TotalBad, TotalDropped, TakenPackets, TakenLines, TakenBad, TakenDropped, RoundsMade, GraphiteFaults, ConsoleFaults, RepeaterFaults, AdminFaults, Amounts, Part, HasCounted, plus, of_tally, of_sends, of_sessions}
 use Rattle.sd_model_record.specs.Desk.{last_counted}
 use Rattle.sd_model_record.proofs.CountLemmas.{nothing_counted}
-use Rattle.sd_model_serve.specs.Acts.{acts_by, events_by, events_of, told_in}
+use Rattle.sd_model_serve.specs.Receiving.{acts_by, events_by, events_of, told_in, failed_sends, tally_of, Reception}
 use Rattle.sd_model_serve.specs.Doors.{faults_among}
-use Rattle.sd_model_serve.specs.Receiving.{failed_sends, tally_of}
-use Rattle.sd_model_serve.specs.Rounds.{Form, Round, of_round, of_rounds, swaps_at}
-use Rattle.sd_model_serve.specs.Served.{AreCommands}
-use Rattle.sd_model_stream.specs.Stream.{bad_of_line, pieces_of_line}
-use Rattle.sd_model_stream.specs.Streams.{lines_in}
-use Rattle.sd_model_run.specs.Course.{Course, Lining, Reception, counts_of, faults_in_lines, rounds_in}
+use Rattle.sd_model_serve.specs.Rounds.{Form, Round, of_round, of_rounds, swaps_at, AreCommands}
+use Rattle.sd_model_stream.specs.Streams.{bad_of_line, pieces_of_line, lines_in, Lining, faults_in_lines}
+use Rattle.sd_model_run.specs.Run.{Course, counts_of, rounds_in}
 
 -- two ways to count each element alike add up alike
 pub sum_by-alike : {X : Type 0} (f g : X → ℕ) (xs : List X) → ((x : X) → f x ≡ g x) → sum_by f xs ≡ sum_by g xs

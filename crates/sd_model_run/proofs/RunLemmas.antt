@@ -1,8 +1,7 @@
 -- Runs are accounted for.
 use Rattle.std.proofs.Common.{ℕ}
 use Rattle.sd_model_serve.proofs.AccountLemmas.{account}
-use Rattle.sd_model_run.specs.Course.{Course, Terms, rounds_in}
-use Rattle.sd_model_run.specs.Run.{IsRun, Objects, ServerTheorem}
+use Rattle.sd_model_run.specs.Run.{Course, Terms, rounds_in, IsRun, Objects, ServerTheorem}
 
 pub run_accounted : (terms : Terms) (says : ℕ → Type 0) (c : Course) (old new : Objects) → IsRun terms says c old new → ServerTheorem terms says c old new
 run_accounted terms says c old new run = record {

@@ -1,3 +1,2 @@
-pub mod Course
 pub mod Outlets
 pub mod Run

@@ -1,7 +1,7 @@
 ghost use Rattle.std.specs.Prelude.{◌≡◌, ◌+◌, length, map};
 ghost use Rattle.sd_model_record.specs.Backends.{Backend};
 ghost use Rattle.sd_model_serve.specs.Rounds.{Form, round_text};
-ghost use Rattle.sd_model_run.specs.Course.{Course, rounds_in};
+ghost use Rattle.sd_model_run.specs.Run.{Course, rounds_in};
 ghost use Rattle.sd_model_run.specs.Outlets.{WentThrough};
 
 /// Where the texts of a run's ticks went through a backend's outlet, its rounds are one more than the texts that were queued and

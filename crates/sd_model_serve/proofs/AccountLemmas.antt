@@ -7,8 +7,7 @@ use Rattle.sd_model_shard.specs.Whereabouts.{tables}
 use Rattle.sd_model_shard.proofs.HistoryLemmas.{accounted}
 use Rattle.sd_model_shard.proofs.CarriedLemmas.{rows_carried}
 use Rattle.sd_model_record.specs.Record.{record_rows}
-use Rattle.sd_model_serve.specs.Accounting.{AreAccounted}
-use Rattle.sd_model_serve.specs.Rounds.{Form, Round, round_record}
+use Rattle.sd_model_serve.specs.Rounds.{AreAccounted, Form, Round, round_record}
 
 all_documented : (form : Form) (rounds : List Round) → AllByRecursion (λ r. (round_record form r).rows ≡ record_rows form.plan (map r.tables (range_with_len 0 form.shards))) rounds
 all_documented form [] = tt

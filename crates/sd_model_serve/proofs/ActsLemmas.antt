@@ -6,7 +6,7 @@ use Rattle.sd_model_text.specs.Names.{shard}
 use Rattle.sd_model_text.specs.Lines.{Sample}
 use Rattle.sd_model_shard.specs.Shard.{Submit}
 use Rattle.sd_model_shard.specs.History.{History, part_of}
-use Rattle.sd_model_serve.specs.Acts.{Adds, asks}
+use Rattle.sd_model_serve.specs.Receiving.{Adds, asks}
 
 -- nothing was added
 pub Adds-none : (shards : ℕ) (own : ℕ → History) → Adds shards (λ i. []) own own

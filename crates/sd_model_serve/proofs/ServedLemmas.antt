@@ -11,12 +11,10 @@ use Rattle.sd_model_shard.specs.History.{Act, History, LegalFrom, after, part_of
 use Rattle.sd_model_shard.specs.Whereabouts.{tables, table_in}
 use Rattle.sd_model_record.specs.Admin as admin
 use Rattle.sd_model_record.specs.Admin.{AdminFault}
-use Rattle.sd_model_record.specs.Callers.{flusher, administrator}
-use Rattle.sd_model_record.specs.Replying.{admin_events}
-use Rattle.sd_model_serve.specs.Acts.{acts_by, events_by, events_of, asks}
-use Rattle.sd_model_serve.specs.Rounds.{Round, swaps_at}
+use Rattle.sd_model_serve.specs.Receiving.{flusher, administrator, acts_by, events_by, events_of, asks}
+use Rattle.sd_model_record.specs.Replies.{admin_events}
+use Rattle.sd_model_serve.specs.Rounds.{Round, swaps_at, Ran, JoinsAs, AreCommands, IsCommand}
 use Rattle.sd_model_serve.specs.Sessions.{Broadcast, acts_in, events_in}
-use Rattle.sd_model_serve.specs.Served.{Ran, JoinsAs, AreCommands, IsCommand}
 
 -- none of the events is a swap
 abbrev AsksNoSwap : List Event → Type 0

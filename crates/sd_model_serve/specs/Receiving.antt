@@ -1,15 +1,58 @@
--- What callers file at shards, and what a receiver does with the datagrams that it reads.
-use Rattle.std.specs.Prelude.{◌≡◌, ℕ, ◌+◌, min, List, [], ◌∷◌, length, map, take, drop, flat_map, sum_by, All}
+-- Who did what at shards; what callers file there, and what a receiver does with the datagrams that it reads.
+use Rattle.std.specs.Prelude.{◌≡◌, ℕ, ◌+◌, min, List, [], ◌∷◌, length, map, take, drop, flat_map, sum_by, All, ◌<◌, ◌==◌, if◌then◌else◌, ◌++◌}
 use Rattle.sd_model_text.specs.Lines.{Sample, samples_of, pieces, bad_of}
 use Rattle.sd_model_outside.specs.Outside.{Object}
 use Rattle.sd_model_outside.specs.Turns.{with_datagrams}
-use Rattle.sd_model_shard.specs.History.{History}
+use Rattle.sd_model_shard.specs.History.{History, Act, part_of}
 use Rattle.sd_model_shard.specs.Whereabouts.{taken_in, dropped_in, told_by}
 use Rattle.sd_model_record.specs.Record.{Tally}
 use Rattle.sd_model_record.specs.Desk.{last_counted}
 use Rattle.sd_model_record.specs.Counts.{Part, HasCounted, plus, of_tally, of_sends}
-use Rattle.sd_model_record.specs.Repeater.{Sending, AreRepeated, failures}
-use Rattle.sd_model_serve.specs.Acts.{Adds, events_of, asks, told_in}
+use Rattle.sd_model_serve.specs.Ends.{LoopEnd}
+use Rattle.sd_model_record.specs.WireSends.{Sending, AreRepeated, failures}
+use Rattle.std.specs.List.{range_with_len}
+use Rattle.sd_model_text.specs.Names.{shard}
+use Rattle.sd_model_shard.specs.Shard.{Event, Submit, Reply}
+
+-- the number of the caller that flushes; those of receivers are below it
+abbrev pub flusher : ℕ
+flusher = 100
+
+-- the number of the caller of admin commands
+abbrev pub administrator : ℕ
+administrator = 101
+
+-- the acts of a caller, in order
+abbrev pub acts_by : ℕ → History → History
+acts_by who acts = part_of (λ a. a.who) who acts
+
+-- what acts asked for
+abbrev pub events_of : History → List Event
+events_of acts = map (λ a. a.event) acts
+
+-- what a caller asked for, in order
+abbrev pub events_by : ℕ → History → List Event
+events_by who acts = events_of (acts_by who acts)
+
+-- At each of so many shards, by its number, a caller made these acts behind those that it had made.
+abbrev pub Adds : ℕ → (ℕ → History) → (ℕ → History) → (ℕ → History) → Type 0
+Adds shards acts old new = (i : ℕ) → i < shards → new i ≡ old i ++ acts i
+
+-- an act at one shard, and none at the others
+abbrev pub one_at : ℕ → Act → ℕ → History
+one_at home a i = if i == home then a ∷ [] else []
+
+-- what good samples ask of shard i of so many: that those whose keys belong there are taken, in order
+abbrev pub asks : ℕ → ℕ → List Sample → List Event
+asks shards i samples = map Submit (part_of (λ s. shard s.key shards) i samples)
+
+-- what datagrams ask of shard i of so many: that the good samples whose keys belong there are taken, in order
+abbrev pub submits : ℕ → ℕ → List (List ℕ) → List Event
+submits shards i read = asks shards i (flat_map samples_of read)
+
+-- the replies at so many shards, each weighed, added up
+abbrev pub told_in : (Reply → ℕ) → ℕ → (ℕ → History) → ℕ
+told_in weigh shards acts = sum_by (λ i. told_by weigh (acts i)) (range_with_len 0 shards)
 
 -- what so many packets and pieces count for, with the pieces that are bad and the samples that were dropped; each number
 -- stops at the last count
@@ -56,6 +99,16 @@ pub record HasReceived (shards : ℕ) (source source_now : Object) (wires wires_
   pub passed : PassesOn read sendings source source_now wires wires_now
   pub filed : FilesDatagrams shards read own own_now tally taken
   pub counted : HasCounted (plus (of_tally tally) (of_sends (failed_sends sendings))) part part_now
+
+-- What a receiver did: the datagrams that it read, their sends on its wires, and how it ended.
+pub record Reception : Type 0 where
+  pub read : List (List ℕ)
+  pub sendings : List Sending
+  pub ended : LoopEnd
+
+-- the good samples that it brought
+abbrev pub brought_by : Reception → List Sample
+brought_by r = flat_map samples_of r.read
 
 -- The first of receivers did what is told of it with the first source and the first so many wires, the next one with the next, and so
 -- on; the sources and the wires behind theirs are as they were.

@@ -1,18 +1,21 @@
--- The rounds of a flusher: what each took out of the shards and the desk, and what it wrote.
-use Rattle.std.specs.Prelude.{◌≡◌, ℕ, Bool, true, List, [], ◌∷◌, map, get_or, sum_by}
+-- The rounds of a flusher: what each took out of the shards and the desk, and what it wrote; the account of histories and rounds; and
+-- the history of each shard that a run leaves, from the side of its callers.
+use Rattle.std.specs.Prelude.{◌≡◌, ℕ, Bool, true, List, [], ◌∷◌, map, get_or, sum_by, ◌<◌, ◌≢◌, ◌≤◌, length, ⊤}
 use Rattle.std.specs.FinMap.{empty}
 use Rattle.std.specs.List.{AllByRecursion, range_with_len}
 use Rattle.sd_model_outside.specs.Outside.{Object, Rose}
 use Rattle.sd_model_outside.specs.Deliveries.{Written, Delivery, AfterMark, AfterDeliveries, FitsUse}
-use Rattle.sd_model_settings.specs.Defaults.{Plan, Names}
-use Rattle.sd_model_shard.specs.Shard.{Table, Swap, Swapped}
-use Rattle.sd_model_shard.specs.History.{Act, History}
-use Rattle.sd_model_record.specs.Record.{Tally, Record, record_of}
+use Rattle.sd_model_settings.specs.Settings.{Plan, Names}
+use Rattle.sd_model_shard.specs.Shard.{Table, Swap, Swapped, Limits, Policy, Event, Submit, Delete, Dump}
+use Rattle.sd_model_shard.specs.History.{Act, History, Legal}
+use Rattle.sd_model_record.specs.Record.{Tally, Record, record_of, record_rows}
 use Rattle.sd_model_record.specs.Desk.{Marks}
 use Rattle.sd_model_record.specs.Counts.{Amounts, Part, HasCounted, plus, of_taken, of_marks}
 use Rattle.sd_model_record.specs.Backends.{Backend, mark_of, text_of}
-use Rattle.sd_model_record.specs.Callers.{flusher}
-use Rattle.sd_model_serve.specs.Acts.{Adds}
+use Rattle.sd_model_serve.specs.Receiving.{flusher, administrator, Adds, acts_by, events_by, asks}
+use Rattle.sd_model_shard.specs.Whereabouts.{Accounted, RowsAreCarried, tables}
+use Rattle.sd_model_text.specs.Lines.{Sample}
+use Rattle.sd_model_serve.specs.Sessions.{Broadcast, acts_in}
 
 -- A round: its Unix second, the tally that it took, the table that each shard handed out, by the shard's number, and how the
 -- backends took part.
@@ -80,3 +83,49 @@ pub record MakesRounds (form : Form) (uses : Backend → Bool) (rounds : List Ro
   pub used : AllByRecursion (MarksFit uses) rounds
   pub delivered : (b : Backend) → AfterDeliveries (round_deliveries form b rounds) (back b) (back_now b)
   pub counted : HasCounted (of_rounds rounds) part part_now
+
+-- The account of shards with these histories, one a number, and of these rounds.
+pub record AreAccounted (limits : Limits) (policy : Policy) (form : Form) (histories : ℕ → History) (rounds : List Round) : Type 0 where
+  -- each history is one that a shard can have
+  pub legal : (i : ℕ) → i < form.shards → Legal limits policy (histories i)
+  -- each good sample that was submitted to a shard is in exactly one place: the journal of one round, what one deletion took out,
+  -- the entries held, or a drop at the full shard
+  pub places : (i : ℕ) → i < form.shards → Accounted limits policy (histories i)
+  -- the swaps of each shard handed out the tables of the rounds, in order
+  pub handed_out : (i : ℕ) → i < form.shards → tables (histories i) ≡ map (λ r. r.tables i) rounds
+  -- the rows of these tables are those that the swap before left and those of their own journals
+  pub carried : (i : ℕ) → i < form.shards → RowsAreCarried policy empty (histories i)
+  -- the record of a round has the rows of its tables, with the documented statistics over their journals
+  pub statistics : AllByRecursion (λ r. (round_record form r).rows ≡ record_rows form.plan (map r.tables (range_with_len 0 form.shards))) rounds
+
+-- The one history of a shard, as its callers' own acts tell it: it is legal, it has just the acts that each receiver, the
+-- flusher and the administrator made, in the order of each, and nobody else's.
+pub record JoinsAs (limits : Limits) (policy : Policy) (receivers : List History) (swaps commands : History) (acts : History) : Type 0 where
+  pub legal : Legal limits policy acts
+  pub submitted : (r : ℕ) → r < length receivers → acts_by r acts ≡ get_or receivers r []
+  pub swapped : acts_by flusher acts ≡ swaps
+  pub commanded : acts_by administrator acts ≡ commands
+  pub others : (who : ℕ) → length receivers ≤ who → who ≢ flusher → who ≢ administrator → acts_by who acts ≡ []
+
+-- The history of shard i of so many that a run left: it is legal; each receiver submitted the samples that it brought, those
+-- with keys of that shard, in order; the flusher swapped once for each round, in order, and got the round's table; the admin
+-- sessions asked for what they broadcast, in order, and got those replies; and nobody else asked for anything. So the tables
+-- that the history hands out are those of the rounds.
+pub record Ran (limits : Limits) (policy : Policy) (shards : ℕ) (brought : List (List Sample)) (rounds : List Round) (asked : List Broadcast) (i : ℕ) (acts : History) : Type 0 where
+  pub legal : Legal limits policy acts
+  pub submitted : (r : ℕ) → r < length brought → events_by r acts ≡ asks shards i (get_or brought r [])
+  pub swapped : acts_by flusher acts ≡ swaps_at rounds i
+  pub commanded : acts_by administrator acts ≡ acts_in asked i
+  pub others : (who : ℕ) → length brought ≤ who → who ≢ flusher → who ≢ administrator → acts_by who acts ≡ []
+  pub handed_out : tables acts ≡ map (λ round. round.tables i) rounds
+
+-- an event is one that an admin line asks for: a deletion or a dump
+abbrev pub IsCommand : Event → Type 0
+IsCommand (Submit sample) = ⊥
+IsCommand Swap = ⊥
+IsCommand (Delete kind pattern) = ⊤
+IsCommand (Dump kind) = ⊤
+
+-- all of the events are
+abbrev pub AreCommands : List Event → Type 0
+AreCommands events = AllByRecursion IsCommand events

@@ -8,11 +8,9 @@ use Rattle.sd_model_shard.specs.Shard.{Event}
 use Rattle.sd_model_shard.specs.History.{History}
 use Rattle.sd_model_record.specs.Admin as admin
 use Rattle.sd_model_record.specs.Admin.{AdminFault, TooLong, command, longest_line}
-use Rattle.sd_model_record.specs.Callers.{administrator}
+use Rattle.sd_model_serve.specs.Receiving.{administrator, Adds}
 use Rattle.sd_model_record.specs.Desk.{Facts}
-use Rattle.sd_model_record.specs.Replies.{Reply, fault_line, reply_text}
-use Rattle.sd_model_record.specs.Replying.{admin_events, replies_by, replies_text}
-use Rattle.sd_model_serve.specs.Acts.{Adds}
+use Rattle.sd_model_record.specs.Replies.{Reply, fault_line, reply_text, admin_events, replies_by, replies_text}
 
 -- An event that each shard was asked for, and what each replied, by the shard's number.
 pub record Broadcast : Type 0 where

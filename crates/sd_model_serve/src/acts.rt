@@ -1,7 +1,7 @@
 ghost use Rattle.std.specs.Prelude.{◌≡◌, ℕ, List, [], ◌++◌};
 ghost use Rattle.sd_model_text.specs.Lines.{Sample};
 ghost use Rattle.sd_model_shard.specs.History.{History};
-ghost use Rattle.sd_model_serve.specs.Acts.{Adds, asks, submits};
+ghost use Rattle.sd_model_serve.specs.Receiving.{Adds, asks, submits};
 
 /// Acts behind acts are acts together; and what lists of samples, and of datagrams, ask one after the other is what they ask
 /// together.

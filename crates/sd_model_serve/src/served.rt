@@ -4,12 +4,10 @@ ghost use Rattle.sd_model_shard.specs.Shard.{Limits, Policy};
 ghost use Rattle.sd_model_shard.specs.History.{History, Legal};
 ghost use Rattle.sd_model_shard.specs.Whereabouts.{tables};
 ghost use Rattle.sd_model_record.specs.Admin.{AdminFault, Command};
-ghost use Rattle.sd_model_record.specs.Replying.{admin_events};
-ghost use Rattle.sd_model_serve.specs.Accounting.{AreAccounted};
-ghost use Rattle.sd_model_serve.specs.Acts.{asks, events_of};
-ghost use Rattle.sd_model_serve.specs.Rounds.{Form, Round, swaps_at};
+ghost use Rattle.sd_model_record.specs.Replies.{admin_events};
+ghost use Rattle.sd_model_serve.specs.Rounds.{AreAccounted, Form, Round, swaps_at, AreCommands, JoinsAs, Ran};
+ghost use Rattle.sd_model_serve.specs.Receiving.{asks, events_of};
 ghost use Rattle.sd_model_serve.specs.Sessions.{Broadcast, acts_in, events_in};
-ghost use Rattle.sd_model_serve.specs.Served.{AreCommands, JoinsAs, Ran};
 
 /// Where the callers' own acts ask for what they brought, the history that they join as is that of the run. It is enough that
 /// the administrator asks for deletions and dumps alone, as admin lines do.

@@ -1,8 +1,7 @@
 -- The defaults are in range.
 use Rattle.std.proofs.Common.{◌≡◌, [], Ok, refl}
 use Rattle.std.proofs.lemmas.Result.{IfOk-at_ok}
-use Rattle.sd_model_settings.specs.Settings.{settings}
-use Rattle.sd_model_settings.specs.Defaults.{default_settings}
+use Rattle.sd_model_settings.specs.Settings.{settings, default_settings}
 use Rattle.sd_model_settings.specs.Ranges.{InRange}
 use Rattle.sd_model_settings.proofs.OnLiterals.{settings_on_literals}
 use Rattle.sd_model_settings.proofs.SettingsInRange.{settings_in_range}

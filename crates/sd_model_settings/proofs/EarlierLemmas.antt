@@ -16,9 +16,8 @@ use Rattle.std.proofs.lemmas.Slice.Eq.{bytes_eq-Decides}
 use Rattle.std.proofs.lemmas.Result.{IfOk-at_ok}
 use Rattle.toml.specs.Data.{Data, integer, Members, no_members, member, get_member}
 use Rattle.sd_model_settings.specs.Values.{ValueFlaw, whole}
-use Rattle.sd_model_settings.specs.TimerClasses.{class_names}
-use Rattle.sd_model_settings.specs.KnownNames.{top_names, names, first_unknown, unknown_inside, unknown_by, unknown}
-use Rattle.sd_model_settings.specs.Settings.{SettingsFlaw, ◌>>=◌, in_force, Section, setting, within_product, top, server, deletions, addresses, namespace, entry_lists, Sizes, sizes, FlushRules, flush_rules, transport, Settings, settings_in, unless_unknown, document, settings}
+use Rattle.sd_model_settings.specs.Entries.{class_names}
+use Rattle.sd_model_settings.specs.Settings.{top_names, names, first_unknown, unknown_inside, unknown_by, unknown, SettingsFlaw, ◌>>=◌, in_force, Section, setting, within_product, top, server, deletions, addresses, namespace, entry_lists, Sizes, sizes, FlushRules, flush_rules, transport, Settings, settings_in, unless_unknown, document, settings}
 use Rattle.sd_model_settings.specs.Earlier.{earlier_rules, earlier_transport, earlier_sizes, values_by, settings_by, earlier_settings, settings_before_outlets}
 use Rattle.sd_model_settings.specs.Ranges.{IsWithin}
 use Rattle.sd_model_settings.proofs.ValuesInRange.{bind_in_range, anything_in_range, setting_in_range, whole_in_range}

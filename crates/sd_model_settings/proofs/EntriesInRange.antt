@@ -11,8 +11,7 @@ use Rattle.toml.specs.Data.{Data, array, table, Items, Members, get_member}
 use Rattle.sd_model_text.specs.Names.{is_name_byte}
 use Rattle.sd_model_settings.specs.Values.{text, whole, is_prefix, is_filled_prefix, is_host, is_host_byte, is_metric, decimal, each, are_at_most, listed, one_or_list, are_distinct, ranged, both, required}
 use Rattle.sd_model_text.specs.Numbers.{Limit}
-use Rattle.sd_model_settings.specs.Entries.{is_threshold, are_thresholds, thresholds, is_backend, backends, limit, is_limit, are_limits, has_early_inf, bins_of, bins, classes_of, classes, target, node}
-use Rattle.sd_model_settings.specs.TimerClasses.{class_name, timer_classes, is_class_name, class_names}
+use Rattle.sd_model_settings.specs.Entries.{is_threshold, are_thresholds, thresholds, is_backend, backends, limit, is_limit, are_limits, has_early_inf, bins_of, bins, classes_of, classes, target, node, class_name, timer_classes, is_class_name, class_names}
 use Rattle.sd_model_settings.specs.Ranges.{IsWithin, IsPrefix, IsHost, IsThreshold, AreThresholds, AreBackends, AreClassNames, AreLimits, IsClasses, AreHistograms, IsTarget, AreTargets, IsNode, AreNodes}
 use Rattle.sd_model_settings.proofs.ValuesInRange.{anything_in_range, ranged_in_range, mapped_in_range, both_in_range, whole_in_range, text_in_range, each_in_range, few, listed_in_range, required_in_range, optional_in_range}
 

@@ -3,14 +3,18 @@ use Rattle.std.specs.Prelude.{⊤}
 use Rattle.std.specs.Fmt.{digits}
 use Rattle.std.specs.Str.{is_utf8, chars}
 use Rattle.toml.proofs.OnLiterals.{toml_on_literals}
-use Rattle.sd_model_settings.specs.KnownNames.{unknown}
-use Rattle.sd_model_settings.specs.Settings.{document, settings, settings_in, server, deletions, addresses, namespace, entry_lists, sizes, flush_rules, transport}
+use Rattle.sd_model_settings.specs.Settings.{unknown, document, settings, settings_in, server, deletions, addresses, namespace, entry_lists, sizes, flush_rules, transport, default_settings}
 
 unfoldable pub settings_on_literals : ⊤
-unfolding toml_on_literals is_utf8 chars unknown document settings settings_in server deletions addresses namespace entry_lists sizes flush_rules transport
+unfolding toml_on_literals is_utf8 chars unknown document settings settings_in server deletions addresses namespace entry_lists sizes flush_rules transport default_settings
 settings_on_literals = tt
 
--- what to unfold, so that the digits of a literal number compute
+-- what to unfold, so that the defaults compute
+unfoldable pub defaults_on_literals : ⊤
+unfolding default_settings settings_in server deletions addresses namespace entry_lists sizes flush_rules transport
+defaults_on_literals = tt
+
+-- what to unfold, so that the digits of a literal number compute, and the defaults
 unfoldable pub digits_on_literals : ⊤
-unfolding digits
+unfolding digits defaults_on_literals
 digits_on_literals = tt

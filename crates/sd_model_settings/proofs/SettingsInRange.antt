@@ -6,10 +6,8 @@ use Rattle.std.proofs.lemmas.Bool.Decides.{nat_tests}
 use Rattle.std.proofs.lemmas.Result.{IfOk-at_ok}
 use Rattle.toml.specs.Data.{no_members}
 use Rattle.sd_model_settings.specs.Values.{flag, text, whole, is_prefix, is_filled_prefix, is_host, members, listed}
-use Rattle.sd_model_settings.specs.Entries.{thresholds, backends, classes, target, node}
-use Rattle.sd_model_settings.specs.TimerClasses.{class_names}
-use Rattle.sd_model_settings.specs.KnownNames.{unknown}
-use Rattle.sd_model_settings.specs.Settings.{SettingsFlaw, ◌>>=◌, Section, setting, within_product, Server, Addresses, Namespace, EntryLists, Sizes, FlushRules, Transport, top, inside_graphite, server, deletions, addresses, namespace, entry_lists, sizes, flush_rules, transport, Settings, settings_in, unless_unknown, document, settings}
+use Rattle.sd_model_settings.specs.Entries.{thresholds, backends, classes, target, node, class_names}
+use Rattle.sd_model_settings.specs.Settings.{unknown, SettingsFlaw, ◌>>=◌, Section, setting, within_product, Server, Addresses, Namespace, EntryLists, Sizes, FlushRules, Transport, top, inside_graphite, server, deletions, addresses, namespace, entry_lists, sizes, flush_rules, transport, Settings, settings_in, unless_unknown, document, settings}
 use Rattle.sd_model_settings.specs.Ranges.{IsWithin, IsPrefix, IsHost, AreThresholds, AreBackends, AreClassNames, AreHistograms, AreTargets, AreNodes, ServerInRange, AddressesInRange, NamespaceInRange, EntryListsInRange, SizesInRange, FlushRulesInRange, TransportInRange, InRange}
 use Rattle.sd_model_settings.proofs.ValuesInRange.{anything_in_range, bind_in_range, setting_in_range, whole_in_range}
 use Rattle.sd_model_settings.proofs.EntriesInRange.{is_prefix-prefix, is_host-host, prefix_in_range, filled_prefix_in_range, host_in_range, thresholds_in_range, backends_in_range, class_names_in_range, histogram_in_range, repeater_in_range, nodes_in_range}

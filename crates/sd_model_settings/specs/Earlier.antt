@@ -2,8 +2,7 @@
 -- shard had more than 65,536 entries; and then before backends had outlets and lines came in streams.
 use Rattle.std.specs.Prelude.{ℕ, nat_lt, if◌then◌else◌, List, [], take, length, codes, Result, Ok, Err}
 use Rattle.sd_model_settings.specs.Values.{whole}
-use Rattle.sd_model_settings.specs.KnownNames.{top_names, unknown_by}
-use Rattle.sd_model_settings.specs.Settings.{SettingsFlaw, OutOfRange, ◌>>=◌, Section, setting, top, server, deletions, addresses, namespace, entry_lists, Sizes, sizes, FlushRules, flush_rules, Transport, Settings, unless_unknown, document}
+use Rattle.sd_model_settings.specs.Settings.{top_names, unknown_by, SettingsFlaw, OutOfRange, ◌>>=◌, Section, setting, top, server, deletions, addresses, namespace, entry_lists, Sizes, sizes, FlushRules, flush_rules, Transport, Settings, unless_unknown, document}
 
 -- a gauge that goes when idle goes at the first swap, and no class of lines is chosen
 abbrev pub earlier_rules : FlushRules

@@ -1,10 +1,64 @@
--- The settings of a file, in their groups.
-use Rattle.std.specs.Prelude.{ℕ, Bool, true, false, ℤ, pos, List, [], ◌∷◌, codes, Result, Ok}
-use Rattle.toml.specs.Data.{no_members}
-use Rattle.sd_model_settings.specs.Values.{flag, whole, text, is_prefix, is_filled_prefix, is_host, listed, members}
-use Rattle.sd_model_settings.specs.Entries.{Classes, Target, Node, thresholds, backends, classes, target, node}
-use Rattle.sd_model_settings.specs.TimerClasses.{class_names}
-use Rattle.sd_model_settings.specs.Reading.{SettingsFlaw, ◌>>=◌, Section, inside_graphite, setting, within_product}
+-- How a value of a settings file is read, and the settings of a file, in their groups.
+use Rattle.std.specs.Prelude.{ℕ, Bool, true, false, ℤ, pos, List, [], ◌∷◌, codes, Result, Ok, ◌*◌, nat_le, if◌then◌else◌, ◌++◌, take, Option, Some, None, Err, IfErr}
+use Rattle.toml.specs.Data.{no_members, Data, Members, get_member}
+use Rattle.sd_model_settings.specs.Values.{flag, whole, text, is_prefix, is_filled_prefix, is_host, listed, members, ValueFlaw, OtherKind, OutsideRange}
+use Rattle.sd_model_settings.specs.Entries.{Classes, Target, Node, thresholds, backends, classes, target, node, class_names}
+
+-- Why a file sets nothing, with the name of a setting.
+pub data SettingsFlaw : Type 0 where
+  NotToml : SettingsFlaw
+  Unknown : (name : List ℕ) → SettingsFlaw
+  WrongKind : (name : List ℕ) → SettingsFlaw
+  OutOfRange : (name : List ℕ) → SettingsFlaw
+
+-- what follows a value that was read; the first fault decides
+infixl 10 ◌>>=◌
+abbrev pub ◌>>=◌ : {A B : Type 0} → Result A SettingsFlaw → (A → Result B SettingsFlaw) → Result B SettingsFlaw
+(Ok x) >>= f = f x
+(Err flaw) >>= f = Err flaw
+
+-- a name as a fault has it: its first 64 bytes
+abbrev pub shown : List ℕ → List ℕ
+shown name = take 64 name
+
+-- a value that was read, with the name of its setting beside what is wrong
+abbrev pub named : {A : Type 0} → List ℕ → Result A ValueFlaw → Result A SettingsFlaw
+named name (Ok x) = Ok x
+named name (Err OtherKind) = Err (WrongKind (shown name))
+named name (Err OutsideRange) = Err (OutOfRange (shown name))
+
+-- the value, where no flaw was read
+abbrev pub value_read : {A : Type 0} (r : Result A SettingsFlaw) → IfErr r (λ flaw. ⊥) → A
+value_read (Ok x) none = x
+value_read (Err flaw) none = absurd none
+
+-- The members of a table, and what stands before their names in a fault.
+pub record Section : Type 0 where
+  pub prefix : List ℕ
+  pub members : Members
+
+-- the whole file
+abbrev pub top : Members → Section
+top ms = record { prefix = []; members = ms }
+
+-- its table `graphite`
+abbrev pub inside_graphite : Members → Section
+inside_graphite ms = record { prefix = codes "graphite."; members = ms }
+
+-- the value in force: the one that is given, as it is read, or else the default
+abbrev pub in_force : {A : Type 0} → List ℕ → (Data → Result A ValueFlaw) → A → Option Data → Result A SettingsFlaw
+in_force name read default None = Ok default
+in_force name read default (Some d) = named name (read d)
+
+-- the value of the setting with this name
+abbrev pub setting : {A : Type 0} → Section → List ℕ → (Data → Result A ValueFlaw) → A → Result A SettingsFlaw
+setting s name read default = in_force (s.prefix ++ name) read default (get_member name s.members)
+
+-- the value in force of the setting with this name, out of range where its product with that of an earlier setting is
+-- above the most that the two may have
+abbrev pub within_product : Section → List ℕ → ℕ → ℕ → ℕ → Result ℕ SettingsFlaw
+within_product s name most earlier value =
+    if nat_le (earlier * value) most then Ok value else Err (OutOfRange (shown (s.prefix ++ name)))
 
 -- The settings in the order in which they are tested, each on one line: its name, what it is read as with its
 -- range, and its default. They stand in eight groups in that order.

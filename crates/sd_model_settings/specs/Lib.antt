@@ -1,11 +1,7 @@
 pub mod Values
 pub mod Entries
-pub mod TimerClasses
-pub mod KnownNames
-pub mod Reading
 pub mod Groups
 pub mod Settings
-pub mod Defaults
 pub mod Ranges
 pub mod ConfigText
 pub mod Earlier

@@ -6,8 +6,7 @@ use Rattle.std.specs.Str.{bytes_eq}
 use Rattle.sd_model_text.specs.Names.{is_name_byte}
 use Rattle.sd_model_settings.specs.Values.{is_host_byte, are_distinct}
 use Rattle.sd_model_text.specs.Numbers.{Limit, ascends}
-use Rattle.sd_model_settings.specs.Entries.{is_backend, is_limit, Classes, Target, Node}
-use Rattle.sd_model_settings.specs.TimerClasses.{is_class_name}
+use Rattle.sd_model_settings.specs.Entries.{is_backend, is_limit, Classes, Target, Node, is_class_name}
 use Rattle.sd_model_settings.specs.Settings.{Server, Addresses, Namespace, EntryLists, Sizes, FlushRules, Transport, Settings}
 
 -- a number from least to most

@@ -1,7 +1,6 @@
 ghost use Rattle.std.specs.Prelude.{◌≡◌, ◌∷◌, [], pos, codes, Ok, Err, true, false};
 ghost use Rattle.sd_model_text.specs.Numbers.{Below, Infinite};
-ghost use Rattle.sd_model_settings.specs.Settings.{settings, Unknown, WrongKind, OutOfRange, NotToml};
-ghost use Rattle.sd_model_settings.specs.Defaults.{default_settings};
+ghost use Rattle.sd_model_settings.specs.Settings.{settings, Unknown, WrongKind, OutOfRange, NotToml, default_settings};
 ghost use Rattle.sd_model_settings.specs.ConfigText.{server_lines, deletion_lines, address_lines, namespace_lines, size_lines, rule_lines, transport_lines, histogram_line, repeater_line, node_line};
 
 /// What files set.

@@ -18,7 +18,7 @@ use Rattle.sd_model_record.specs.Admin as admin
 use Rattle.sd_model_record.specs.Admin.{AdminFault}
 use Rattle.sd_model_replay.specs.Settings.{Bounds}
 use Rattle.sd_model_replay.specs.Script.{Command, Packet, Flush, Admin}
-use Rattle.sd_model_record.specs.Replying.{admin_events}
+use Rattle.sd_model_record.specs.Replies.{admin_events}
 use Rattle.sd_model_replay.specs.Replay.{Played, Run, first_run, home_of, events_in, play, run_of}
 use Rattle.sd_model_replay.specs.Totals.{summed}
 use Rattle.sd_model_shards.specs.Shards.{NoneDropped}

@@ -15,8 +15,8 @@ use Rattle.sd_model_record.specs.Admin as admin
 use Rattle.sd_model_record.specs.Admin.{AdminFault}
 use Rattle.sd_model_replay.specs.Settings.{Bounds}
 use Rattle.sd_model_replay.specs.Script.{Command, Packet, Flush, Admin}
-use Rattle.sd_model_record.specs.Replying.{admin_events}
-use Rattle.sd_model_record.specs.Callers.{administrator, flusher}
+use Rattle.sd_model_record.specs.Replies.{admin_events}
+use Rattle.sd_model_serve.specs.Receiving.{administrator, flusher}
 use Rattle.sd_model_replay.specs.Replay.{home_of, events_in, acts_in, Run}
 use Rattle.sd_model_shards.proofs.ViewLemmas.{View, nothing, view, row_event, row_step, view-asked, view-delete, after_asked}
 

@@ -24,7 +24,7 @@ use Rattle.sd_model_record.specs.Admin.{AdminFault}
 use Rattle.sd_model_serve.specs.Rounds.{Round}
 use Rattle.sd_model_replay.specs.Settings.{Bounds}
 use Rattle.sd_model_replay.specs.Script.{Command, Packet, Flush, Admin}
-use Rattle.sd_model_record.specs.Replying.{admin_events}
+use Rattle.sd_model_record.specs.Replies.{admin_events}
 use Rattle.sd_model_replay.specs.Replay.{Outcome, Played, Run, first_run, events_in, states_after, play, run_of, moments, rounds, rounds_from}
 use Rattle.sd_model_shard.proofs.ToldLemmas.{by_key}
 use Rattle.sd_model_record.proofs.OrderLemmas.{StandOnce, StandOnce-shards, StandApart-shards, keys_once, rows_once, hit_of_kind}

@@ -19,24 +19,21 @@ use Rattle.sd_model_record.specs.Admin as admin
 use Rattle.sd_model_record.specs.Admin.{AdminFault}
 use Rattle.sd_model_record.specs.Desk.{Desk, Marks, with_tally, with_repeater_faults, with_round}
 use Rattle.sd_model_record.specs.Record.{Record, record_rows, table_rows}
-use Rattle.sd_model_record.specs.Replies.{Reply, Stats, Rows, Gone, Finish, Health, reply_text}
+use Rattle.sd_model_record.specs.Replies.{Reply, Stats, Rows, Gone, Finish, Health, reply_text, admin_events, health_after, keys_in, rows_in, keys_told, rows_told, names_replied, replies_by}
 use Rattle.sd_model_replay.specs.Settings.{Bounds, bounds_of, policy_of, limits_of}
 use Rattle.sd_model_replay.specs.Script.{Command, Packet, Flush, Admin}
 use Rattle.sd_model_outside.specs.Deliveries.{Delivery}
 use Rattle.sd_model_record.specs.Backends.{Backend, text_of, mark_of}
-use Rattle.sd_model_record.specs.Repeater.{failures}
-use Rattle.sd_model_record.specs.Replying.{admin_events, health_after, keys_in, rows_in, keys_told, rows_told, names_replied, replies_by}
+use Rattle.sd_model_record.specs.WireSends.{failures}
 use Rattle.sd_model_serve.specs.Rounds.{Round, round_record}
 use Rattle.sd_model_serve.specs.Sessions.{replies_at}
 use Rattle.sd_model_replay.specs.Replay.{Outcome, Played, Run, first_run, events_in, events_at, acts_in, replies_to, packet_tally, desk_after, desk_after_line, play, run_of, Moment, moments, form_of, round_by, rounds, rounds_from, records, deliveries}
-use Rattle.sd_model_replay.specs.Asked.{broadcasts}
-use Rattle.sd_model_replay.specs.Output.{replies_in, output_in, output_of}
+use Rattle.sd_model_replay.specs.Asked.{broadcasts, replies_in, output_in, output_of}
 use Rattle.sd_model_shards.specs.Shards.{NoneDropped, with_shards, ShowsNone, ShowsNoSettings}
 use Rattle.sd_model_shards.proofs.ViewLemmas.{View, nothing, view-empty}
 use Rattle.sd_model_shards.proofs.EventsLemmas.{Reflects, Reflects-command, Reflects-delete, seen_after, seen_left, NoneIn, none_cut}
 use Rattle.sd_model_shards.proofs.ToldLemmas.{keys_alike, rows_alike, values_alike}
-use Rattle.sd_model_settings.specs.Settings.{Settings}
-use Rattle.sd_model_settings.specs.Defaults.{plan_of, names_of}
+use Rattle.sd_model_settings.specs.Settings.{Settings, plan_of, names_of}
 
 -- events of which none is dropped are answered with no drop
 sample_answered : (limits : Limits) (policy : Policy) (state : State) (who : ℕ) (s : Sample) (answer : Option Cause) (asked : List Asked)

@@ -12,7 +12,7 @@ use Rattle.std.proofs.lemmas.Simd.{map-map}
 use Rattle.sd_model_text.specs.Names.{Kind, Counter, Timer, Gauge, Set, rank, shard}
 use Rattle.sd_model_text.specs.Lines.{Sample}
 use Rattle.sd_model_text.specs.Numbers.{per_second}
-use Rattle.sd_model_settings.specs.Defaults.{Plan}
+use Rattle.sd_model_settings.specs.Settings.{Plan}
 use Rattle.sd_model_shard.specs.Rows.{RowId, row_cmp, Kept, Rows, Entry, entries_of}
 use Rattle.sd_model_shard.specs.Values.{total, distinct}
 use Rattle.sd_model_shard.specs.Statistics.{sample_weight, weight_of, values_of, members_of, gauge_value, gauge_after, amount_by}

@@ -12,7 +12,7 @@ use Rattle.sd_model_replay.specs.Settings.{Bounds}
 use Rattle.sd_model_replay.specs.Script.{Command, Admin}
 use Rattle.sd_model_record.specs.Backends.{Backend}
 use Rattle.sd_model_replay.specs.Replay.{Played, history_at, records, deliveries}
-use Rattle.sd_model_replay.specs.Output.{output_of}
+use Rattle.sd_model_replay.specs.Asked.{output_of}
 use Rattle.sd_model_replay.specs.Totals.{totals_after}
 use Rattle.sd_model_settings.specs.Settings.{Settings}
 

@@ -3,8 +3,7 @@ use Rattle.std.proofs.Common.{◌≡◌, ℕ, suc, ◌+◌, ◌<◌, ◌≤◌, 
 use Rattle.std.proofs.lemmas.Bool.{leb-false, le-leb, lt-leb, or_parts}
 use Rattle.sd_model_outside.specs.Turns.{most_datagram}
 use Rattle.sd_model_text.specs.Lines.{has_byte}
-use Rattle.sd_model_stream.specs.Stream.{Cut, Line, Long, cut_of, rest_of, stream_lines}
-use Rattle.sd_model_stream.specs.Cutting.{Cutting, CutsOn, HasCut, longer, nothing_cut, ready_in, through_newline}
+use Rattle.sd_model_stream.specs.Streams.{Cut, Line, Long, cut_of, rest_of, stream_lines, Cutting, CutsOn, HasCut, longer, nothing_cut, ready_in, through_newline}
 use Rattle.sd_model_stream.proofs.SplitLemmas.{lines-grown, lines-ended, rest-grown, rest-ended}
 
 -- few bytes are a line

@@ -5,7 +5,7 @@ use Rattle.std.proofs.lemmas.Bool.{or_from}
 use Rattle.std.proofs.lemmas.List.Elements.{All-nil, All-cons, All-head, All-tail}
 use Rattle.sd_model_text.specs.Lists.{split, onto_first}
 use Rattle.sd_model_text.specs.Lines.{has_byte}
-use Rattle.sd_model_stream.specs.Stream.{but_last, last_part}
+use Rattle.sd_model_stream.specs.Streams.{but_last, last_part}
 use Rattle.sd_model_stream.proofs.SplitLemmas.{some_parts}
 
 -- parts with newlines between them

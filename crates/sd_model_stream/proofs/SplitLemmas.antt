@@ -4,7 +4,7 @@ use Rattle.std.proofs.lemmas.List.{map-append}
 use Rattle.sd_model_text.specs.Lists.{split, onto_first}
 use Rattle.sd_model_text.specs.Lines.{has_byte}
 use Rattle.sd_model_text.proofs.CutLemmas.{split-none}
-use Rattle.sd_model_stream.specs.Stream.{Cut, but_last, cut_of, last_part, rest_of, stream_lines}
+use Rattle.sd_model_stream.specs.Streams.{Cut, but_last, cut_of, last_part, rest_of, stream_lines}
 
 -- bytes behind the last of parts
 abbrev onto_last : List ℕ → List (List ℕ) → List (List ℕ)

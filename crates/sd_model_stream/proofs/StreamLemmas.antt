@@ -3,8 +3,7 @@ use Rattle.std.proofs.Common.{◌≡◌, ℕ, List, [], ◌∷◌, ◌++◌, ref
 use Rattle.std.specs.Prelude.{flat_map}
 use Rattle.std.specs.List.{concat}
 use Rattle.std.proofs.lemmas.Grind.{flat_map-append}
-use Rattle.sd_model_stream.specs.Stream.{samples_in, stream_lines, stream_samples}
-use Rattle.sd_model_stream.specs.Streams.{Stream, bytes_in, lines_in}
+use Rattle.sd_model_stream.specs.Streams.{samples_in, stream_lines, stream_samples, Stream, bytes_in, lines_in}
 
 -- one read more
 pub concat-push : (reads : List (List ℕ)) (bytes : List ℕ) → concat (reads ++ bytes ∷ []) ≡ concat reads ++ bytes

@@ -1,9 +1,7 @@
 ghost use Rattle.std.specs.Prelude.{◌≡◌, ℕ, false, List, [], ◌∷◌, ◌++◌, flat_map, All};
 ghost use Rattle.sd_model_text.specs.Lists.{split};
 ghost use Rattle.sd_model_text.specs.Lines.{has_byte};
-ghost use Rattle.sd_model_stream.specs.Stream.{Cut, but_last, cut_of, rest_of, samples_in, stream_lines, stream_samples};
-ghost use Rattle.sd_model_stream.specs.Cutting.{Cutting, CutsOn, HasCut, nothing_cut};
-ghost use Rattle.sd_model_stream.specs.Streams.{Stream, bytes_in, lines_in};
+ghost use Rattle.sd_model_stream.specs.Streams.{Cut, but_last, cut_of, rest_of, samples_in, stream_lines, stream_samples, Stream, bytes_in, lines_in, Cutting, CutsOn, HasCut, nothing_cut};
 
 /// A stream that has no byte has no line and no rest. Bytes without a newline go to the rest, and one behind them ends it as a
 /// line.

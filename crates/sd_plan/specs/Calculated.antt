@@ -1,5 +1,5 @@
 -- The classes of timers' lines, as the definitions have them.
-use Rattle.sd_model_settings.specs.TimerClasses as model
+use Rattle.sd_model_settings.specs.Entries as model
 use Rattle.sd_plan.specs.declared.timer_class.TimerClass.{TimerClass}
 use Rattle.sd_plan.specs.declared.timer_class.TimerClass.TheVariants.{Std, Upper, Lower, Count, CountPs, Sum, SumSquares, Mean, Median, Histogram, CountPercent, MeanPercent, UpperPercent, LowerPercent, SumPercent, SumSquaresPercent}
 

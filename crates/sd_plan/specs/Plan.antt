@@ -1,5 +1,5 @@
 -- What a record is reckoned by, as the definitions have it.
-use Rattle.sd_model_settings.specs.Defaults.{Plan}
+use Rattle.sd_model_settings.specs.Settings.{Plan}
 use Rattle.sd_plan.specs.declared.reckoning.Reckoning.{Reckoning}
 
 abbrev pub plan_view : Reckoning → Plan

@@ -35,7 +35,7 @@ fn is_among(name: &[u8], names: &[Name]) -> bool
 }
 
 impl Calculated {
-    ghost use Rattle.sd_model_settings.specs.TimerClasses.{sends};
+    ghost use Rattle.sd_model_settings.specs.Entries.{sends};
     ghost use Rattle.sd_plan.specs.Calculated.{class_of};
 
     /// Names that are in range.

@@ -1,5 +1,5 @@
 ghost use Rattle.std.specs.Prelude.{◌≡◌, ◌<◌, length};
-ghost use Rattle.sd_model_settings.specs.Defaults.{names_of, default_settings};
+ghost use Rattle.sd_model_settings.specs.Settings.{names_of, default_settings};
 ghost use Rattle.sd_model_settings.specs.Ranges.{IsPrefix, NamespaceInRange};
 ghost use Rattle.sd_plan.specs.Names.{namespace_view};
 
@@ -28,7 +28,7 @@ pub struct Names {
 
 impl Model for Names {
     ghost use Rattle.std.specs.Prelude.{◌<◌, length};
-    ghost use Rattle.sd_model_settings.specs.Defaults.{Names as ModelNames};
+    ghost use Rattle.sd_model_settings.specs.Settings.{Names as ModelNames};
     ghost use Rattle.sd_model_settings.specs.Ranges.{IsPrefix, NamespaceInRange};
     ghost use Rattle.sd_plan.specs.Names.{namespace_view};
 
@@ -54,7 +54,7 @@ impl Names {
     }
 
     /// The names that the defaults make.
-    #[tactic(auto, using(sd_model_settings::proofs::DefaultsInRange::defaults_in_range))]
+    #[tactic(auto, using(sd_model_settings::proofs::DefaultsInRange::defaults_in_range), unfolding(sd_model_settings::proofs::OnLiterals::defaults_on_literals))]
     pub fn plain() -> Names
         ensures { result ≡ names_of default_settings }
     {

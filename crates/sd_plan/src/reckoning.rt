@@ -61,11 +61,11 @@ pub struct Reckoning {
 
 impl Reckoning {
     ghost use Rattle.std.specs.Prelude.{◌≡◌};
-    ghost use Rattle.sd_model_settings.specs.Defaults.{plan_of, default_settings};
+    ghost use Rattle.sd_model_settings.specs.Settings.{plan_of, default_settings};
     ghost use Rattle.sd_plan.specs.Plan.{plan_view};
 
     /// What the defaults make: 10 seconds, the threshold 90, no bins, and all lines of timers.
-    #[tactic(auto, using(sd_model_settings::proofs::DefaultsInRange::defaults_in_range))]
+    #[tactic(auto, using(sd_model_settings::proofs::DefaultsInRange::defaults_in_range), unfolding(sd_model_settings::proofs::OnLiterals::defaults_on_literals))]
     pub fn plain() -> Reckoning
         ensures { plan_view result ≡ plan_of default_settings }
     {

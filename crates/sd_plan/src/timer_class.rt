@@ -1,7 +1,7 @@
 ghost use Rattle.std.specs.Prelude.{◌≡◌};
 ghost use Rattle.std.specs.List.{list_any};
 ghost use Rattle.std.specs.Str.{bytes_eq};
-ghost use Rattle.sd_model_settings.specs.TimerClasses.{class_name, is_class_name};
+ghost use Rattle.sd_model_settings.specs.Entries.{class_name, is_class_name};
 ghost use Rattle.sd_plan.specs.Calculated.{class_of};
 
 /// A class of a timer's lines: one of the statistics of all values, all bins, or one of the statistics of the parts that

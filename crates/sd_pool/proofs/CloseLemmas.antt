@@ -9,7 +9,7 @@ use Rattle.std.proofs.lemmas.List.Elements.{recursion_from_All}
 use Rattle.sd_model_shard.specs.Shard.{Reply}
 use Rattle.sd_model_shard.specs.History.{Act, History, Legal, state_after}
 use Rattle.sd_model_shard.specs.Whereabouts.{told_by}
-use Rattle.sd_model_serve.specs.Acts.{acts_by}
+use Rattle.sd_model_serve.specs.Receiving.{acts_by}
 use Rattle.sd_shard.specs.declared.shard.ShardBook.{ShardBook}
 use Rattle.sd_seats.specs.Lists.{total, span}
 use Rattle.sd_seats.proofs.Totals.{total-map}

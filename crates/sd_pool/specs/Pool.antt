@@ -3,7 +3,7 @@ use Rattle.std.specs.Prelude.{◌≡◌, ◌≢◌, ℕ, ◌+◌, ◌<◌, ◌�
 use Rattle.std.specs.List.{AllByRecursion}
 use Rattle.sd_model_shard.specs.Shard.{Limits, Policy, Event, Reply}
 use Rattle.sd_model_shard.specs.History.{Act, History, Legal, state_after}
-use Rattle.sd_model_serve.specs.Acts.{acts_by}
+use Rattle.sd_model_serve.specs.Receiving.{acts_by}
 use Rattle.sd_shard.specs.declared.shard.ShardBook.{ShardBook}
 use Rattle.sd_model_shard.specs.Whereabouts.{told_by}
 use Rattle.sd_turn.specs.declared.turn.Turn.{Turn}

@@ -4,7 +4,7 @@ use Rattle.std.specs.FinMap.{get}
 use Rattle.sd_model_text.specs.Names as names
 use Rattle.sd_model_shard.specs.Rows.{RowId, Rows}
 use Rattle.sd_model_shard.specs.Shard.{Limits, Policy, Event, Submit}
-use Rattle.sd_model_record.specs.Callers.{flusher, administrator}
+use Rattle.sd_model_serve.specs.Receiving.{flusher, administrator}
 
 -- its limits and policy, its number among so many shards, and how many receivers there are
 pub record Setup : Type 0 where

@@ -4,11 +4,9 @@ use Rattle.std.proofs.lemmas.List.{map-append, map-set, length-map, get_or-map}
 use Rattle.sd_model_outside.specs.Outside.{Object}
 use Rattle.sd_model_outside.specs.Wires.{HasSent}
 use Rattle.sd_model_settings.specs.Entries.{Node}
-use Rattle.sd_model_proxy.specs.Routes.{Fate, WasBad, WasUnowned, WasSent, WasNotSent, Route, Routed, To, fate_by, fate_of, goes_to, line_and_set, lines_of_read, route}
+use Rattle.sd_model_proxy.specs.Routes.{Fate, WasBad, WasUnowned, WasSent, WasNotSent, Route, Routed, To, fate_by, fate_of, goes_to, line_and_set, lines_of_read, route, AreForwarded, add_totals, is_bad, is_not_sent, is_sent, is_unowned, totals_of_lines}
 use Rattle.sd_model_text.specs.Lines.{lines}
-use Rattle.sd_model_proxy.specs.Sends.{AreForwarded}
 use Rattle.sd_model_replay.specs.Totals.{Total}
-use Rattle.sd_model_proxy.specs.Totals.{add_totals, is_bad, is_not_sent, is_sent, is_unowned, totals_of_lines}
 use Rattle.sd_model_proxy.proofs.SendLemmas.{AreForwarded-next, AreForwarded-none, AreForwarded-nowhere, AreForwarded-somewhere}
 use Rattle.sd_model_proxy.proofs.TotalLemmas.{add_totals-next}
 use Rattle.sd_proxy.specs.Forwarding.{Forwards, SendsLine}

@@ -10,11 +10,10 @@ use Rattle.sd_model_outside.specs.Turns.{GivesDatagram, IsSpent, turned, with_da
 use Rattle.sd_model_outside.proofs.TurnLemmas.{with_datagrams-append}
 use Rattle.sd_model_settings.specs.Entries.{Node}
 use Rattle.sd_model_serve.specs.Ends.{EndsReceiver, most_turns}
-use Rattle.sd_model_proxy.specs.Routes.{Read, lines_of_read}
+use Rattle.sd_model_proxy.specs.Routes.{Read, lines_of_read, no_totals}
 use Rattle.sd_model_proxy.specs.Relays.{IsRelay, Relay, relay_totals}
 use Rattle.sd_model_replay.specs.Totals.{Total}
-use Rattle.sd_model_proxy.specs.Totals.{no_totals}
-use Rattle.sd_model_live.specs.Looks.{Begins, HaveAnswered}
+use Rattle.sd_model_live.specs.Proxy.{Begins, HaveAnswered}
 use Rattle.sd_model_live.proofs.LookLemmas.{answered_more, one_answered}
 use Rattle.sd_proxy.specs.Forwarding.{Forwards}
 use Rattle.sd_proxy.specs.Proxying.{Proxies, ProxiesByLooks}

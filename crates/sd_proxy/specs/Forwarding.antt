@@ -2,10 +2,8 @@
 use Rattle.std.specs.Prelude.{◌≡◌, ℕ, Bool, List, [], ◌∷◌, map}
 use Rattle.sd_model_outside.specs.Outside.{Object}
 use Rattle.sd_model_settings.specs.Entries.{Node}
-use Rattle.sd_model_proxy.specs.Routes.{Fate, Routed, fate_of, line_and_set}
-use Rattle.sd_model_proxy.specs.Sends.{AreForwarded}
+use Rattle.sd_model_proxy.specs.Routes.{Fate, Routed, fate_of, line_and_set, AreForwarded, add_totals, totals_of_lines}
 use Rattle.sd_model_replay.specs.Totals.{Total}
-use Rattle.sd_model_proxy.specs.Totals.{add_totals, totals_of_lines}
 
 -- A line was routed among the nodes that were up, and this became of it.
 pub record SendsLine (nodes : List Node) (line : List ℕ) (up : ℕ) (wires wires_now : List Object) (fate : Fate) : Type 0 where

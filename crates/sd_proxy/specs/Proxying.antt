@@ -3,7 +3,7 @@ use Rattle.std.specs.Prelude.{◌≡◌, ℕ, List, All, map}
 use Rattle.sd_model_outside.specs.Outside.{Object}
 use Rattle.sd_model_settings.specs.Entries.{Node}
 use Rattle.sd_model_proxy.specs.Relays.{IsRelay, Relay, relay_totals}
-use Rattle.sd_model_live.specs.Looks.{HaveAnswered}
+use Rattle.sd_model_live.specs.Proxy.{HaveAnswered}
 use Rattle.sd_proxy.specs.Views.{end_view, totals_view}
 use Rattle.sd_proxy.specs.declared.proxied.Proxied.{Proxied}
 

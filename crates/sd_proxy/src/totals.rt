@@ -56,7 +56,7 @@ fn push_total(name: &[u8], count: u64, line: &mut Line)
 }
 
 impl ProxyTotals {
-    ghost use Rattle.sd_model_proxy.specs.Totals.{add_totals, no_totals, totals_of_lines};
+    ghost use Rattle.sd_model_proxy.specs.Routes.{add_totals, no_totals, totals_of_lines};
     ghost use Rattle.sd_proxy.specs.Views.{fate_view, totals_of_fate, totals_view};
 
     /// Nothing was counted.

@@ -5,8 +5,7 @@ use Rattle.sd_model_record.specs.Record.{Tally}
 use Rattle.sd_model_record.specs.Desk.{add_tally, last_counted, no_tally}
 use Rattle.sd_model_record.specs.Counts.{Amounts, Count, Part, HasCounted, nothing, of_tally, plus}
 use Rattle.sd_model_serve.specs.Doors.{Visit}
-use Rattle.sd_model_stream.specs.Stream.{Cut, stream_lines}
-use Rattle.sd_model_stream.specs.Streams.{AreStreamsOf, FilesLines, Stream, any_worn, bytes_in, is_worn, lines_in}
+use Rattle.sd_model_stream.specs.Streams.{Cut, stream_lines, AreStreamsOf, FilesLines, Stream, any_worn, bytes_in, is_worn, lines_in}
 use Rattle.sd_desk.specs.Tally.{tally_of}
 use Rattle.sd_door.specs.Keeping.{Visited}
 use Rattle.sd_pool.specs.Pool.{own_at, shards_of}

@@ -8,8 +8,7 @@ use Rattle.sd_model_shard.specs.History.{History}
 use Rattle.sd_model_shard.specs.Whereabouts.{taken_in, dropped_in}
 use Rattle.sd_model_record.specs.Record.{Tally}
 use Rattle.sd_model_record.specs.Desk.{last_counted, add_tally, no_tally, counted}
-use Rattle.sd_model_serve.specs.Acts.{Adds, asks, events_of, told_in}
-use Rattle.sd_model_serve.specs.Receiving.{HasFiled, FilesDatagrams, tally_of}
+use Rattle.sd_model_serve.specs.Receiving.{Adds, asks, events_of, told_in, HasFiled, FilesDatagrams, tally_of}
 use Rattle.sd_model_serve.proofs.ActsLemmas.{Adds-none, Adds-next, asks-append}
 use Rattle.sd_filing.specs.declared.filing.Filed.{Filed}
 use Rattle.sd_filing.specs.Filing.{FilesDatagram}

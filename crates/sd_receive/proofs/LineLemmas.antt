@@ -8,12 +8,9 @@ use Rattle.sd_model_shard.specs.History.{History}
 use Rattle.sd_model_shard.specs.Whereabouts.{taken_in, dropped_in}
 use Rattle.sd_model_record.specs.Record.{Tally}
 use Rattle.sd_model_record.specs.Desk.{add_tally, counted, no_tally}
-use Rattle.sd_model_serve.specs.Acts.{Adds, asks, told_in}
-use Rattle.sd_model_serve.specs.Receiving.{HasFiled, tally_of}
+use Rattle.sd_model_serve.specs.Receiving.{Adds, asks, told_in, HasFiled, tally_of}
 use Rattle.sd_model_serve.proofs.ActsLemmas.{Adds-none}
-use Rattle.sd_model_stream.specs.Stream.{Cut, Line, Long, samples_in, pieces_of_line, bad_of_line}
-use Rattle.sd_model_stream.specs.Cutting.{Cutting, CutsOn}
-use Rattle.sd_model_stream.specs.Streams.{FilesLines}
+use Rattle.sd_model_stream.specs.Streams.{Cut, Line, Long, samples_in, pieces_of_line, bad_of_line, FilesLines, Cutting, CutsOn}
 use Rattle.sd_model_stream.proofs.CutLemmas.{CutsOn-none, CutsOn-next}
 use Rattle.sd_filing.specs.declared.filing.Filed.{Filed}
 use Rattle.sd_filing.specs.Filing.{FilesDatagram}

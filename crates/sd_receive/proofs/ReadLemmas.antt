@@ -10,7 +10,7 @@ use Rattle.sd_model_shard.specs.History.{History}
 use Rattle.sd_model_record.specs.Record.{Tally}
 use Rattle.sd_model_record.specs.Desk.{add_tally, no_tally, counted}
 use Rattle.sd_model_record.specs.Counts.{Part, HasCounted, plus, nothing, of_tally, of_sends}
-use Rattle.sd_model_record.specs.Repeater.{Sending, AreRepeated, failures}
+use Rattle.sd_model_record.specs.WireSends.{Sending, AreRepeated, failures}
 use Rattle.sd_model_record.proofs.CountLemmas.{counted_next}
 use Rattle.sd_model_record.proofs.WireLemmas.{AreRepeated-next, AreRepeated-none, AreRepeated-one, length-sent}
 use Rattle.sd_model_serve.specs.Ends.{most_turns}

@@ -12,9 +12,7 @@ use Rattle.sd_model_record.specs.Desk.{add_tally, counted, last_counted, no_tall
 use Rattle.sd_model_record.specs.Counts.{Count, Part, HasCounted, nothing, plus, of_sends, of_tally}
 use Rattle.sd_model_record.proofs.CountLemmas.{counted_next, counted_none}
 use Rattle.sd_model_serve.specs.Ends.{most_turns}
-use Rattle.sd_model_stream.specs.Stream.{Cut, stream_lines}
-use Rattle.sd_model_stream.specs.Cutting.{Cutting, HasCut, nothing_cut}
-use Rattle.sd_model_stream.specs.Streams.{FilesLines, HasStreamed, ReadsStream, Stream, WornOut}
+use Rattle.sd_model_stream.specs.Streams.{Cut, stream_lines, FilesLines, HasStreamed, ReadsStream, Stream, WornOut, Cutting, HasCut, nothing_cut}
 use Rattle.sd_model_stream.proofs.CutLemmas.{HasCut-none, all_given}
 use Rattle.sd_model_stream.proofs.StreamLemmas.{concat-push}
 use Rattle.sd_outside.proofs.ReadLemmas.{reads_on}

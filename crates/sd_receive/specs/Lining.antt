@@ -7,8 +7,7 @@ use Rattle.sd_model_record.specs.Desk.{add_tally, counted, no_tally}
 use Rattle.sd_model_record.specs.Record.{Tally}
 use Rattle.sd_model_serve.specs.Doors.{Visit}
 use Rattle.sd_model_serve.specs.Ends.{most_turns}
-use Rattle.sd_model_stream.specs.Stream.{stream_lines}
-use Rattle.sd_model_stream.specs.Streams.{FilesLines, IsStreamOf, ServesStreams, Stream, any_worn, bytes_in, is_worn}
+use Rattle.sd_model_stream.specs.Streams.{stream_lines, FilesLines, IsStreamOf, ServesStreams, Stream, any_worn, bytes_in, is_worn}
 use Rattle.sd_desk.specs.Tally.{tally_of}
 use Rattle.sd_outside.specs.declared.door.DoorEnd.TheVariants.{Worn}
 use Rattle.sd_pool.specs.Pool.{IsSeatOf, own_at, shards_of, who_is}

@@ -5,7 +5,7 @@ use Rattle.sd_model_outside.specs.Wires.{AreSent}
 use Rattle.sd_model_shard.specs.History.{History}
 use Rattle.sd_model_record.specs.Counts.{Part, RoundsMade, HasCounted, plus, of_tally, of_sends}
 use Rattle.sd_model_record.specs.Record.{Tally}
-use Rattle.sd_model_record.specs.Repeater.{failures}
+use Rattle.sd_model_record.specs.WireSends.{failures}
 use Rattle.sd_model_serve.specs.Ends as model
 use Rattle.sd_model_serve.specs.Ends.{EndsReceiver, Spent, Enough, WornOut}
 use Rattle.sd_model_serve.specs.Receiving.{FilesDatagrams, HasReceived}

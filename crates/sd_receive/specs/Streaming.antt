@@ -4,10 +4,8 @@ use Rattle.sd_model_outside.specs.Outside.{Object, HasFailed, HasRead, IsAtEnd}
 use Rattle.sd_model_shard.specs.History.{History}
 use Rattle.sd_model_record.specs.Counts.{Part, HasCounted, of_tally}
 use Rattle.sd_model_record.specs.Record.{Tally}
-use Rattle.sd_model_stream.specs.Stream.{Cut}
-use Rattle.sd_model_stream.specs.Cutting.{Cutting, CutsOn}
+use Rattle.sd_model_stream.specs.Streams.{Cut, FilesLines, HasStreamed, Stream, Cutting, CutsOn}
 use Rattle.sd_model_stream.specs.Streams as model
-use Rattle.sd_model_stream.specs.Streams.{FilesLines, HasStreamed, Stream}
 use Rattle.sd_desk.specs.Tally.{tally_of}
 use Rattle.sd_receive.specs.declared.streamed.StreamEnd.{StreamEnd}
 use Rattle.sd_receive.specs.declared.streamed.StreamEnd.TheVariants.{End, Failed, Worn}

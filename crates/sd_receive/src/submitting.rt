@@ -14,7 +14,7 @@ pub(crate) struct Submitting<'a, G, R> {
 }
 
 impl<'a, G: Gate, R: Wait> Submit<Seat> for Submitting<'a, G, R> {
-    ghost use Rattle.sd_model_serve.specs.Acts.{Adds};
+    ghost use Rattle.sd_model_serve.specs.Receiving.{Adds};
     ghost use Rattle.sd_model_serve.proofs.ActsLemmas.{Adds-none, Adds-next};
     ghost use Rattle.sd_pool.specs.Pool.{IsSeatOf, own_at, shards_of, who_is};
 

@@ -3,8 +3,7 @@ use Rattle.std.proofs.Common.{◌≡◌, ℕ, zero, suc, ◌+◌, ◌-◌, ◌*�
 use Rattle.std.proofs.lemmas.List.{length-map}
 use Rattle.std.proofs.lemmas.Option.{slice_get-map, slice_get-get_or}
 use Rattle.sd_model_shard.specs.Values.{Part, Whole}
-use Rattle.sd_model_record.specs.Record.{TimerFigures}
-use Rattle.sd_model_record.specs.Figures.{part_figures, whole_figures, bin_figure, idle_figures, figures_with, figures_of}
+use Rattle.sd_model_record.specs.Record.{TimerFigures, part_figures, whole_figures, bin_figure, idle_figures, figures_with, figures_of}
 use Rattle.sd_model_text.proofs.Places.{get_front, get_behind}
 
 -- the figures of a timer without samples

@@ -11,7 +11,7 @@ use Rattle.std.proofs.lemmas.List.Elements.{All-nil, All-cons, All-head, All-tai
 use Rattle.std.proofs.lemmas.List.Sorted.{IsPermutation-map, All-permutation}
 use Rattle.std.proofs.Math.Bool.{or-true}
 use Rattle.std.proofs.lemmas.Simd.{map-map}
-use Rattle.sd_model_settings.specs.Defaults.{Plan}
+use Rattle.sd_model_settings.specs.Settings.{Plan}
 use Rattle.sd_model_shard.specs.Rows.{RowId, row_cmp, Kept, is_same_row}
 use Rattle.sd_model_shard.proofs.RowLemmas.{rows_total, rows_exact}
 use Rattle.sd_model_shard.proofs.EntryLemmas.{StandApart, entries-sorted}

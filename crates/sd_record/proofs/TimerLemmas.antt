@@ -10,7 +10,7 @@ use Rattle.sd_model_text.specs.Numbers.{per_second}
 use Rattle.sd_model_text.proofs.PartLemmas.{found_part, part_found}
 use Rattle.sd_model_settings.specs.Ranges.{IsThreshold}
 use Rattle.sd_model_shard.specs.Values.{Bin, Part, Whole, bin, bins, pct, timer_of, whole}
-use Rattle.sd_model_settings.specs.Defaults.{Plan}
+use Rattle.sd_model_settings.specs.Settings.{Plan}
 use Rattle.sd_model_record.specs.Record.{limits_for, timer_figures}
 use Rattle.sd_epoch.proofs.ListingLemmas.{left_from}
 use Rattle.sd_decimal.specs.declared.number.Micro.{Micro}

@@ -1,7 +1,7 @@
 -- A figure in parts, as the definitions have it.
 use Rattle.std.specs.Prelude.{ℕ, ◌≤◌, List, [], ◌++◌, length}
 use Rattle.sd_model_text.specs.Numbers.{number_text}
-use Rattle.sd_model_record.specs.Figures as model
+use Rattle.sd_model_record.specs.Record as model
 use Rattle.sd_plan.specs.Calculated.{class_of}
 use Rattle.sd_record.specs.declared.figure_parts.Tail.{Tail}
 use Rattle.sd_record.specs.declared.figure_parts.Tail.TheVariants.{Nothing, Threshold, Number}

@@ -1,5 +1,5 @@
 -- A figure of the code, as the definitions have it.
-use Rattle.sd_model_record.specs.Figures as model
+use Rattle.sd_model_record.specs.Record as model
 use Rattle.sd_plan.specs.Calculated.{class_of}
 use Rattle.sd_record.specs.declared.figures.Figure.{Figure}
 

@@ -2,7 +2,7 @@
 use Rattle.std.specs.Prelude.{◌≡◌, ◌≤◌, pos, List, [], map, length, All, Option, IsSome, slice_get, option_and_then, unwrap_or}
 use Rattle.std.specs.declared.cmp.Ordering.TheVariants.{Less}
 use Rattle.sd_model_text.specs.Names.{Counter}
-use Rattle.sd_model_settings.specs.Defaults.{Plan}
+use Rattle.sd_model_settings.specs.Settings.{Plan}
 use Rattle.sd_model_record.specs.Record as model
 use Rattle.sd_model_shard.specs.Rows.{RowId, row_cmp}
 use Rattle.sd_epoch.specs.Table.{Listing, table_of}

@@ -1,7 +1,7 @@
 -- The rows of several tables, and when these make a record.
 use Rattle.std.specs.Prelude.{◌≡◌, ℕ, true, false, List, [], ◌∷◌, map, flat_map, All, ⊤}
 use Rattle.std.specs.FinMap.{contains_key}
-use Rattle.sd_model_settings.specs.Defaults.{Plan}
+use Rattle.sd_model_settings.specs.Settings.{Plan}
 use Rattle.sd_model_record.specs.Record as model
 use Rattle.sd_model_shard.specs.Rows.{RowId, Kept, Entry}
 use Rattle.sd_epoch.specs.Table.{Listing, live_of}

@@ -2,7 +2,7 @@ ghost use Rattle.std.specs.Prelude.{◌≡◌, ◌+◌, ◌≤◌, ◌++◌, ◌
 ghost use Rattle.arrayvec.specs.ArrayVec.{array_vec_len};
 ghost use Rattle.sd_model_text.specs.Numbers.{number_text};
 ghost use Rattle.sd_model_shard.specs.Values.{is_upper};
-ghost use Rattle.sd_model_record.specs.Figures.{figure, underlined, label};
+ghost use Rattle.sd_model_record.specs.Record.{figure, underlined, label};
 ghost use Rattle.sd_plan.specs.Calculated.{class_of};
 ghost use Rattle.sd_record.specs.FigureInside.{tail_text};
 
@@ -30,7 +30,7 @@ pub struct FigureParts {
 }
 
 impl Model for FigureParts {
-    ghost use Rattle.sd_model_record.specs.Figures.{Figure as Value'};
+    ghost use Rattle.sd_model_record.specs.Record.{Figure as Value'};
 
     ghost Value = { Value' };
 

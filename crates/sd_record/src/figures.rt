@@ -1,7 +1,7 @@
 ghost use Rattle.std.specs.Prelude.{◌≡◌, ◌<◌, ◌≤◌, ◌++◌, length, slice_get, option_map, Some, codes, if◌then◌else◌};
-ghost use Rattle.sd_model_settings.specs.TimerClasses.{UpperPercent, LowerPercent};
+ghost use Rattle.sd_model_settings.specs.Entries.{UpperPercent, LowerPercent};
 ghost use Rattle.sd_model_shard.specs.Values.{is_upper};
-ghost use Rattle.sd_model_record.specs.Figures.{figure, whole_number, part_figures, whole_figures, bin_figure, idle_figures, figures_of, label};
+ghost use Rattle.sd_model_record.specs.Record.{figure, whole_number, part_figures, whole_figures, bin_figure, idle_figures, figures_of, label};
 ghost use Rattle.sd_plan.specs.Calculated.{class_of};
 ghost use Rattle.sd_stats.specs.Timer.{part_of, whole_of};
 ghost use Rattle.sd_record.specs.Row.{bin_view, timer_view};

@@ -6,8 +6,7 @@ use Rattle.std.proofs.lemmas.List.Elements.{All-nil, All-cons, All-head, All-tai
 use Rattle.sd_model_outside.specs.Outside.{Object}
 use Rattle.sd_model_settings.specs.Entries.{Node}
 use Rattle.sd_model_proxy.specs.Relays.{IsRelay, Relay, AreRelays, relay_totals}
-use Rattle.sd_model_live.specs.Looks.{Begins, HaveAnswered, all_of}
-use Rattle.sd_model_live.specs.Proxy.{LookedIn, first_history}
+use Rattle.sd_model_live.specs.Proxy.{Begins, HaveAnswered, all_of, LookedIn, first_history}
 use Rattle.sd_model_live.proofs.LookLemmas.{answered_on}
 use Rattle.sd_live.specs.Live.{IsPassOf, IsReceiverOf, seen as history_in}
 use Rattle.sd_live.specs.declared.pass.UpPass.{UpPass}

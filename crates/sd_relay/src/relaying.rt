@@ -1,6 +1,6 @@
 //! A proxy from its room to its totals.
 ghost use Rattle.std.specs.Prelude.{◌≡◌, ◌+◌, ◌*◌, ◌≤◌, ℕ, [], ◌++◌, All, flat_map, length, map, vec_capacity};
-ghost use Rattle.sd_model_live.specs.Looks.{Begins};
+ghost use Rattle.sd_model_live.specs.Proxy.{Begins};
 ghost use Rattle.sd_plan.specs.Entries.{node_view};
 ghost use Rattle.sd_live.specs.Live.{IsCheckerOf, IsPassOf, seen};
 ghost use Rattle.sd_relay.specs.Parts.{pass_in, source_in, wires_in};

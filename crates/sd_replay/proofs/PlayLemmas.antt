@@ -21,15 +21,14 @@ use Rattle.sd_model_record.specs.Desk.{Desk, Marks, new_desk, with_tally, with_r
 use Rattle.sd_model_record.specs.Record.{Record, record_of}
 use Rattle.sd_model_record.specs.Admin as admin
 use Rattle.sd_command.proofs.CommandLemmas.{idle_line, state_past}
-use Rattle.sd_model_settings.specs.Settings.{Settings}
+use Rattle.sd_model_settings.specs.Settings.{Settings, plan_of, names_of}
 use Rattle.sd_model_replay.specs.Settings.{Bounds, bounds_of, is_used, targets_of}
 use Rattle.sd_model_record.specs.Backends.{Backend, mark_of, text_of}
-use Rattle.sd_model_record.specs.Repeater.{AreRepeated, failures}
-use Rattle.sd_model_replay.specs.Script.{Command, Packet, Flush, Admin, end_word, spelled, script_text, IsLegal}
-use Rattle.sd_model_replay.specs.Next.{ScriptFlaw, Faulty, Begins, IsUndecided}
+use Rattle.sd_model_record.specs.WireSends.{AreRepeated, failures}
+use Rattle.sd_model_replay.specs.Script.{Command, Packet, Flush, Admin, end_word, spelled, script_text, IsLegal, ScriptFlaw, Faulty, Begins, IsUndecided}
 use Rattle.sd_model_serve.specs.Rounds.{Round, round_text}
 use Rattle.sd_model_replay.specs.Replay.{Played, IsOutcome, no_marks, home_of, replies_to, states_after, packet_tally, moment_of, desk_after_line, Run, first_run, form_of, play, run_of, deliveries, sendings}
-use Rattle.sd_model_replay.specs.Output.{output_in, output_of}
+use Rattle.sd_model_replay.specs.Asked.{output_in, output_of}
 use Rattle.sd_model_replay.specs.Totals.{Total, summed, totals_of, totals_after, totals_text}
 use Rattle.sd_model_replay.specs.AccountingTheorem.{Seen, Course, AccountingTheorem, seen_at}
 use Rattle.sd_model_replay.specs.Ends.{Complete, Faulted, ReadFailed, WriteFailed, WornOut, Replayed, text_length}
@@ -40,7 +39,6 @@ use Rattle.sd_model_record.proofs.WireLemmas.{AreRepeated-next, AreRepeated-none
 use Rattle.sd_model_replay.proofs.ReplayLemmas.{run_before, run_of-push, output_of-push, deliveries-push, delivery_of, sendings-push, script_text-end, AllByRecursion-push}
 use Rattle.sd_shards.specs.Shards.{Group, AreAlike, group_bounds, numbers, state_at}
 use Rattle.sd_replay.specs.Totals.{totals_of_group}
-use Rattle.sd_model_settings.specs.Defaults.{plan_of, names_of}
 
 -- the records that were carried out
 abbrev commands_of : List Played → List Command

@@ -1,5 +1,5 @@
 -- How a replay of the code ends, as the definitions have it.
-use Rattle.sd_model_replay.specs.Next.{BadWord, BadLength, CutShort}
+use Rattle.sd_model_replay.specs.Script.{BadWord, BadLength, CutShort}
 use Rattle.sd_model_replay.specs.Ends.{End, Complete, Faulted, ReadFailed, WriteFailed, WornOut}
 use Rattle.sd_replay.specs.Totals.{totals_view}
 use Rattle.sd_replay.specs.declared.fault.ScriptFault.{ScriptFault}

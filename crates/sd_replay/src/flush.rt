@@ -1,7 +1,6 @@
 ghost use Rattle.std.specs.Prelude.{◌≡◌, ℕ, ◌<◌, length, map};
-ghost use Rattle.sd_model_record.specs.Console.{console_text};
+ghost use Rattle.sd_model_record.specs.Backends.{console_text, graphite_text};
 ghost use Rattle.sd_model_record.specs.Desk.{with_round};
-ghost use Rattle.sd_model_record.specs.Graphite.{graphite_text};
 ghost use Rattle.sd_model_record.specs.Record.{record_of};
 ghost use Rattle.sd_model_outside.specs.Deliveries.{AfterMark, FitsUse};
 ghost use Rattle.sd_model_shard.specs.Shard.{after_swap, table_of};

@@ -4,9 +4,8 @@ use Rattle.std.specs.Prelude.{MatchOption}
 use Rattle.std.proofs.lemmas.Option.{MatchOption-at_some}
 use Rattle.std.proofs.lemmas.List.{get_or-take, take-append-drop, drop_more, drop-append-le}
 use Rattle.sd_model_outside.specs.Outside.{Told, IsAtEnd}
-use Rattle.sd_model_replay.specs.Heads as model
-use Rattle.sd_model_replay.specs.Heads.{Body, head_line, body_of, IsForm}
-use Rattle.sd_model_replay.specs.Next.{ScriptFlaw, BadWord, BadLength, CutShort, HasBody, IsOver, IsPart, IsWrong, IsUndecided, HasFlaw}
+use Rattle.sd_model_replay.specs.Script as model
+use Rattle.sd_model_replay.specs.Script.{Body, head_line, body_of, IsForm, ScriptFlaw, BadWord, BadLength, CutShort, HasBody, IsOver, IsPart, IsWrong, IsUndecided, HasFlaw}
 use Rattle.sd_model_replay.proofs.LineLemmas.{inside_cut, longer}
 use Rattle.sd_script.specs.Ahead.{Grows}
 use Rattle.sd_script.specs.Fields.{Lacks, IsFirstPlace}

@@ -1,6 +1,6 @@
 -- The fields of a packet's first line, and of what it has in common with an admin command's.
 use Rattle.std.proofs.Common.{◌≡◌, ℕ, List, ◌∷◌, ◌++◌, ◌∙◌, decimal, arith, append_assoc}
-use Rattle.sd_model_replay.specs.Heads.{IsMoment, IsReceiver}
+use Rattle.sd_model_replay.specs.Script.{IsMoment, IsReceiver}
 use Rattle.sd_script.specs.Fields.{IsCut, Lacks}
 use Rattle.sd_model_replay.proofs.LineLemmas.{uncut}
 use Rattle.sd_script.proofs.Cuts.{cut_is}

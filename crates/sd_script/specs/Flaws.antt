@@ -1,8 +1,7 @@
 -- What is wrong with a record in the code, as the definitions have it.
 use Rattle.std.specs.Prelude.{◌⊎◌, ℕ, List}
 use Rattle.sd_model_outside.specs.Outside.{Told, IsAtEnd}
-use Rattle.sd_model_replay.specs.Heads.{Body}
-use Rattle.sd_model_replay.specs.Next.{ScriptFlaw, BadWord, BadLength, CutShort, IsPartOfLine, HasNoLine, IsOver, IsPart, IsWrong}
+use Rattle.sd_model_replay.specs.Script.{Body, ScriptFlaw, BadWord, BadLength, CutShort, IsPartOfLine, HasNoLine, IsOver, IsPart, IsWrong}
 use Rattle.sd_script.specs.declared.flaw.Flaw.{Flaw}
 use Rattle.sd_script.specs.declared.flaw.Flaw.TheVariants.{Word, Length, Truncated}
 

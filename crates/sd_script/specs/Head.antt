@@ -1,7 +1,7 @@
 -- First lines of the code, as the definitions have them.
 use Rattle.std.specs.Prelude.{◌≡◌, ℕ, List}
-use Rattle.sd_model_replay.specs.Heads as model
-use Rattle.sd_model_replay.specs.Heads.{PacketHead, FlushHead, AdminHead, EndHead, head_line, IsForm}
+use Rattle.sd_model_replay.specs.Script as model
+use Rattle.sd_model_replay.specs.Script.{PacketHead, FlushHead, AdminHead, EndHead, head_line, IsForm}
 use Rattle.sd_script.specs.declared.head.Body.{Body}
 use Rattle.sd_script.specs.declared.head.Head.{Head}
 use Rattle.sd_script.specs.declared.head.Head.TheVariants.{Packet, Flush, Admin, End}

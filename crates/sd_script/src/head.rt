@@ -1,6 +1,6 @@
 ghost use Rattle.std.specs.Prelude.{◌≡◌, ◌≢◌, ◌≤◌, ℕ, ◌∷◌, ◌++◌, decimal, option_map, IfSome, IfNone};
-ghost use Rattle.sd_model_replay.specs.Heads.{PacketHead, body_of, head_line, IsCount, IsForm, IsMoment};
-ghost use Rattle.sd_model_replay.specs.Heads as model;
+ghost use Rattle.sd_model_replay.specs.Script.{PacketHead, body_of, head_line, IsCount, IsForm, IsMoment};
+ghost use Rattle.sd_model_replay.specs.Script as model;
 ghost use Rattle.sd_script.specs.Head.{body_view, head_of, IsLineOf};
 
 use crate::fields::{first_field, number};

@@ -1,6 +1,6 @@
 ghost use Rattle.std.specs.Prelude.{◌≡◌, ◌+◌, ◌≤◌, drop, length, min, option_map};
 ghost use Rattle.sd_model_outside.specs.Outside.{last_count};
-ghost use Rattle.sd_model_replay.specs.Heads.{body_of};
+ghost use Rattle.sd_model_replay.specs.Script.{body_of};
 ghost use Rattle.sd_script.specs.Ahead.{held_in};
 ghost use Rattle.sd_script.specs.Found.{size_of};
 ghost use Rattle.sd_script.specs.Head.{head_of, item_of};
@@ -79,7 +79,7 @@ impl Model for Reader {
 impl Reader {
     ghost use Rattle.std.specs.Prelude.{◌≡◌, ◌≤◌, [], IfOk, OnOk, OnErr};
     ghost use Rattle.sd_model_outside.specs.Outside.{Rose, Used};
-    ghost use Rattle.sd_model_replay.specs.Next.{IsUndecided};
+    ghost use Rattle.sd_model_replay.specs.Script.{IsUndecided};
     ghost use Rattle.sd_script.specs.Reads.{ReadsItem, Stays};
 
     /// A reader that has read nothing yet, of the datagrams of so many receivers, which are counted from 0.

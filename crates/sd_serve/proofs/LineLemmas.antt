@@ -10,12 +10,9 @@ use Rattle.sd_model_record.specs.Counts.{Count, TotalPackets, TotalLines, TotalB
 use Rattle.sd_model_record.specs.Desk.{last_counted}
 use Rattle.sd_model_record.specs.Record.{Tally}
 use Rattle.sd_model_record.proofs.CountLemmas.{nothing_counted}
-use Rattle.sd_model_serve.specs.Acts.{asks, events_of, told_in}
+use Rattle.sd_model_serve.specs.Receiving.{asks, events_of, told_in, tally_of}
 use Rattle.sd_model_serve.specs.Ends.{EndsKeeper}
-use Rattle.sd_model_serve.specs.Receiving.{tally_of}
-use Rattle.sd_model_stream.specs.Stream.{Cut, bad_of_line, pieces_of_line}
-use Rattle.sd_model_stream.specs.Streams.{lines_in}
-use Rattle.sd_model_run.specs.Course.{Lining, brought_in_lines, faults_in_lines}
+use Rattle.sd_model_stream.specs.Streams.{Cut, bad_of_line, pieces_of_line, lines_in, Lining, brought_in_lines, faults_in_lines}
 use Rattle.sd_model_run.specs.Run.{AreLined}
 use Rattle.sd_model_run.proofs.CountedLemmas.{exact_share, lined_by, sum_by-range}
 use Rattle.sd_outside.specs.declared.door.DoorEnd.{DoorEnd}

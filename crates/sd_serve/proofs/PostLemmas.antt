@@ -10,10 +10,8 @@ use Rattle.sd_model_shard.specs.Whereabouts.{dropped_in, told_by}
 use Rattle.sd_model_record.specs.Counts.{Count, RoundsMade, Part, HasCounted, plus, of_tally, of_sends}
 use Rattle.sd_model_record.specs.Desk.{last_counted}
 use Rattle.sd_model_record.specs.Record.{Tally}
-use Rattle.sd_model_serve.specs.Acts.{asks, events_of, told_in}
+use Rattle.sd_model_serve.specs.Receiving.{asks, events_of, told_in, failed_sends, tally_of, Reception, brought_by}
 use Rattle.sd_model_serve.specs.Ends.{EndsReceiver}
-use Rattle.sd_model_serve.specs.Receiving.{failed_sends, tally_of}
-use Rattle.sd_model_run.specs.Course.{Reception, brought_by}
 use Rattle.sd_model_run.specs.Run.{AreReceptions, IsReception}
 use Rattle.sd_model_run.proofs.CountedLemmas.{exact_share, none_received, one_by, received_by, received_next, sum_by-range}
 use Rattle.sd_outside.specs.declared.datagrams.Ended.{Ended}

@@ -9,24 +9,22 @@ use Rattle.sd_seats.specs.Lists.{span}
 use Rattle.sd_model_outside.specs.Deliveries.{Delivery, AfterDeliveries}
 use Rattle.sd_model_outside.specs.Outside.{Object}
 use Rattle.sd_model_outside.proofs.DeliveryLemmas.{AfterDeliveries-push}
-use Rattle.sd_model_settings.specs.Defaults.{Names}
+use Rattle.sd_model_settings.specs.Settings.{Names}
 use Rattle.sd_model_settings.specs.Settings as file
 use Rattle.sd_model_shard.specs.History.{History, state_after}
 use Rattle.sd_model_shard.specs.Shard.{empty_state}
 use Rattle.sd_model_shard.specs.Whereabouts.{dropped_in, told_by}
 use Rattle.sd_model_record.specs.Backends.{Backend, mark_of}
-use Rattle.sd_model_record.specs.Callers.{administrator, flusher}
+use Rattle.sd_model_serve.specs.Receiving.{administrator, flusher, Adds, events_by, events_of, told_in, brought_by}
 use Rattle.sd_model_record.specs.Counts.{Count, RoundsMade, TotalPackets, TotalLines, TotalBad, TotalDropped, TakenPackets, TakenLines, TakenBad, TakenDropped, HasCounted, Part, number_of}
 use Rattle.sd_model_record.specs.Desk.{Desk, IsBalanced, Marks, last_counted}
-use Rattle.sd_model_serve.specs.Acts.{Adds, events_by, events_of, told_in}
 use Rattle.sd_model_serve.specs.Ends.{EndsFlusher}
-use Rattle.sd_model_serve.specs.Rounds.{Round, of_rounds, round_deliveries, round_text, swaps_at}
-use Rattle.sd_model_serve.specs.Served.{AreCommands, JoinsAs, Ran}
+use Rattle.sd_model_serve.specs.Rounds.{Round, of_rounds, round_deliveries, round_text, swaps_at, AreCommands, JoinsAs, Ran}
 use Rattle.sd_model_serve.specs.Sessions.{acts_in, events_in}
-use Rattle.sd_model_serve.specs.Visits.{ServesSessions, asked_by}
+use Rattle.sd_model_serve.specs.Doors.{ServesSessions, asked_by}
 use Rattle.sd_model_serve.proofs.ServedLemmas.{events_of_acts, ran_by_callers}
-use Rattle.sd_model_run.specs.Course.{Course, Terms, brought_by, brought_in, brought_in_lines, counts_of}
-use Rattle.sd_model_run.specs.Run.{IsRun, Objects, ServerTheorem}
+use Rattle.sd_model_run.specs.Run.{Course, Terms, brought_in, counts_of, IsRun, Objects, ServerTheorem}
+use Rattle.sd_model_stream.specs.Streams.{brought_in_lines}
 use Rattle.sd_model_run.proofs.CountedLemmas.{counts_add_up, no_drops, sum_by-across, sum_by-range, swaps_drop_nothing}
 use Rattle.sd_model_run.proofs.RunLemmas.{run_accounted}
 use Rattle.sd_outside.specs.declared.datagrams.Ended.{Ended}

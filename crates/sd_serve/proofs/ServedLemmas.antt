@@ -2,11 +2,11 @@
 use Rattle.std.proofs.Common.{◌≡◌, ℕ, List, ◌++◌, length, map, flat_map, sym, ap, subst, ◌∙◌}
 use Rattle.std.specs.Prelude.{Option, get_or, option_to_list}
 use Rattle.sd_model_outside.specs.Outside.{Object}
-use Rattle.sd_model_settings.specs.Defaults.{Names}
+use Rattle.sd_model_settings.specs.Settings.{Names}
 use Rattle.sd_model_settings.specs.Settings as file
 use Rattle.sd_model_shard.specs.History.{state_after}
-use Rattle.sd_model_run.specs.Course.{Course, Reception, Terms}
-use Rattle.sd_model_run.specs.Run.{Objects}
+use Rattle.sd_model_run.specs.Run.{Course, Terms, Objects}
+use Rattle.sd_model_serve.specs.Receiving.{Reception}
 use Rattle.sd_outside.specs.declared.backend.Backs.{Backs}
 use Rattle.sd_outside.specs.declared.door.DoorEnd.{DoorEnd}
 use Rattle.sd_plan.specs.Plan.{plan_view}

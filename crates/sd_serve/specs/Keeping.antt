@@ -1,13 +1,13 @@
 -- What the work of a door's keeper needs, and what it leaves.
 use Rattle.std.specs.Prelude.{◌≡◌, ℕ, ◌<◌, ◌^◌, false}
 use Rattle.sd_model_outside.specs.Outside.{Object}
-use Rattle.sd_model_record.specs.Callers.{administrator}
+use Rattle.sd_model_serve.specs.Receiving.{administrator}
 use Rattle.sd_pool.specs.declared.pool.Pool.{Pool}
 use Rattle.sd_pool.specs.Pool.{IsSeatOf, limits_of, own_at, shards_of, who_is}
 use Rattle.sd_shared_desk.specs.declared.shared_desk.SharedDesk.{SharedDesk}
 use Rattle.sd_shared_desk.specs.Shared.{IsSeatOf as IsDeskSeatOf, number_of_seat, part_of}
 use Rattle.sd_door.specs.Keeping.{EndsKeeping}
-use Rattle.sd_model_serve.specs.Visits.{ServesSessions}
+use Rattle.sd_model_serve.specs.Doors.{ServesSessions}
 use Rattle.sd_session.specs.Space.{IsSpaceFor}
 use Rattle.sd_serve.specs.declared.keeping.Keeping.{Keeping}
 

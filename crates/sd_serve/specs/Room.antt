@@ -2,7 +2,7 @@
 use Rattle.std.specs.Prelude.{◌≡◌, ℕ, ◌+◌, ◌≤◌, nat_lt, Bool, [], All, length, map, vec_capacity}
 use Rattle.std.specs.List.{AllByRecursion}
 use Rattle.sd_model_shard.specs.Shard as model
-use Rattle.sd_model_record.specs.Callers.{administrator, flusher}
+use Rattle.sd_model_serve.specs.Receiving.{administrator, flusher}
 use Rattle.sd_model_record.specs.Desk.{new_desk}
 use Rattle.sd_epoch.specs.Limits.{AreLimits, limits_of as limits_seen}
 use Rattle.sd_shard.specs.Policy.{policy_of as policy_seen}

@@ -1,13 +1,12 @@
 -- What a server goes by, and what its run leaves.
 use Rattle.std.specs.Prelude.{◌≡◌, ℕ, ◌<◌, List, length, map, get_or, option_to_list}
 use Rattle.sd_model_outside.specs.Outside.{Object}
-use Rattle.sd_model_settings.specs.Defaults.{Names}
+use Rattle.sd_model_settings.specs.Settings.{Names}
 use Rattle.sd_model_settings.specs.Settings as file
 use Rattle.sd_model_shard.specs.History.{state_after}
 use Rattle.sd_model_serve.specs.Ends as model
 use Rattle.sd_model_serve.specs.Ends.{LoopEnd, Spent, Enough, WornOut}
-use Rattle.sd_model_run.specs.Course.{Course, Terms}
-use Rattle.sd_model_run.specs.Run.{ServerTheorem, Objects}
+use Rattle.sd_model_run.specs.Run.{Course, Terms, ServerTheorem, Objects}
 use Rattle.sd_outside.specs.declared.backend.Backs.{Backs}
 use Rattle.sd_outside.specs.declared.datagrams.Ended.{Ended}
 use Rattle.sd_outside.specs.declared.datagrams.Ended.TheVariants as ended

@@ -7,7 +7,7 @@ use Rattle.sd_model_outside.specs.Turns.{with_ticks}
 use Rattle.sd_model_shard.specs.History.{History}
 use Rattle.sd_model_record.specs.Backends.{Backend, Graphite, Console}
 use Rattle.sd_model_record.specs.Counts.{Part, HasCounted}
-use Rattle.sd_model_serve.specs.Acts.{Adds}
+use Rattle.sd_model_serve.specs.Receiving.{Adds}
 use Rattle.sd_model_serve.specs.Rounds.{Form, MarksFit, Round, of_rounds, round_deliveries, round_text, swaps_at}
 use Rattle.sd_model_run.specs.Outlets.{HasFlowed, Outflow, has_outlet, uses_at_ticks}
 use Rattle.sd_outside.specs.declared.datagrams.Ended.{Ended}

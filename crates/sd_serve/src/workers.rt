@@ -1,12 +1,12 @@
 ghost use Rattle.std.specs.Prelude.{◌≡◌, ℕ, ◌<◌, ◌^◌, false, All, IfSome, length, slice_index_or};
-ghost use Rattle.sd_model_record.specs.Callers.{administrator, flusher};
+ghost use Rattle.sd_model_serve.specs.Receiving.{administrator, flusher};
 ghost use Rattle.sd_pool.specs.Pool.{IsSeatOf, limits_of, own_at, shards_of, who_is};
 ghost use Rattle.sd_shared_desk.specs.Shared.{IsSeatOf as IsDeskSeatOf, number_of_seat, part_of};
 ghost use Rattle.sd_receive.specs.Posts.{HasRun, IsReady};
 ghost use Rattle.sd_flush.specs.Flushing.{Flushes, back_of, form_of, uses};
 ghost use Rattle.sd_flush.specs.Tables.{AreTablesFor};
 ghost use Rattle.sd_door.specs.Keeping.{EndsKeeping};
-ghost use Rattle.sd_model_serve.specs.Visits.{ServesSessions};
+ghost use Rattle.sd_model_serve.specs.Doors.{ServesSessions};
 ghost use Rattle.sd_session.specs.Space.{IsSpaceFor};
 ghost use Rattle.sd_serve.specs.LinePost.{AreLinedBy, IsLineReady};
 

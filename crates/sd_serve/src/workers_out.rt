@@ -1,8 +1,8 @@
 //! The server's workers with outlets between the flusher and the backends.
 ghost use Rattle.std.specs.Prelude.{◌≡◌, ◌⊎◌, ℕ, ◌<◌, ◌^◌, [], false, All, IfSome, IsNone, IsSome, length, slice_index_or};
 ghost use Rattle.sd_model_outside.specs.Outside.{Object};
-ghost use Rattle.sd_model_record.specs.Callers.{administrator, flusher};
-ghost use Rattle.sd_model_serve.specs.Visits.{ServesSessions};
+ghost use Rattle.sd_model_serve.specs.Receiving.{administrator, flusher};
+ghost use Rattle.sd_model_serve.specs.Doors.{ServesSessions};
 ghost use Rattle.sd_pool.specs.Pool.{IsSeatOf, limits_of, own_at, shards_of, who_is};
 ghost use Rattle.sd_shared_desk.specs.Shared.{IsSeatOf as IsDeskSeatOf, number_of_seat, part_of};
 ghost use Rattle.sd_receive.specs.Posts.{HasRun, IsReady};

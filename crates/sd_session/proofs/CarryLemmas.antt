@@ -15,8 +15,7 @@ use Rattle.sd_model_shard.specs.Shard.{Event, Delete, Dump}
 use Rattle.sd_model_shard.specs.History.{History}
 use Rattle.sd_model_record.specs.Admin.{AdminFault, Command, command}
 use Rattle.sd_model_record.specs.Desk.{Facts}
-use Rattle.sd_model_record.specs.Replies.{Reply, Rows, Gone, Finish, reply_text}
-use Rattle.sd_model_record.specs.Replying.{admin_events, keys_told, names_replied, replies_by, replies_text, rows_told}
+use Rattle.sd_model_record.specs.Replies.{Reply, Rows, Gone, Finish, reply_text, admin_events, keys_told, names_replied, replies_by, replies_text, rows_told}
 use Rattle.sd_model_serve.specs.Sessions.{Broadcast, Broadcasts, AreReplied, IsCut, acts_in, all_replies, events_in, replies_at}
 use Rattle.sd_model_serve.proofs.ActsLemmas.{Adds-none, Adds-next}
 use Rattle.sd_command.proofs.CommandLemmas.{none_found, take-more, text-more}

@@ -6,13 +6,12 @@ use Rattle.sd_model_outside.specs.Outside.{Object}
 use Rattle.sd_model_settings.specs.Settings as file
 use Rattle.sd_model_shard.specs.Shard.{Event}
 use Rattle.sd_model_record.specs.Admin.{command}
-use Rattle.sd_model_record.specs.Replying.{admin_events}
-use Rattle.sd_model_serve.specs.Doors.{Visit}
+use Rattle.sd_model_record.specs.Replies.{admin_events}
+use Rattle.sd_model_serve.specs.Doors.{Visit, AreVisitsOf, asked_by}
 use Rattle.sd_model_serve.specs.Sessions as model
 use Rattle.sd_model_serve.specs.Sessions.{Broadcast, Dialogue, EndsSession, Exchange, GoesOn, HasTalked, SessionEnd, asked_in, events_in, lines_in}
 use Rattle.sd_pool.proofs.AlongLemmas.{AllByRecursion-append}
-use Rattle.sd_model_serve.specs.Visits.{AreVisitsOf, asked_by}
-use Rattle.sd_model_serve.specs.Served.{AreCommands, IsCommand}
+use Rattle.sd_model_serve.specs.Rounds.{AreCommands, IsCommand}
 use Rattle.sd_model_serve.proofs.ServedLemmas.{line_commands}
 
 -- commands alone were asked of all shards

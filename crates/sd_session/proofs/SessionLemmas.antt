@@ -8,7 +8,7 @@ use Rattle.sd_model_outside.proofs.WriteLemmas.{given-given}
 use Rattle.sd_model_settings.specs.Settings as file
 use Rattle.sd_model_shard.specs.History.{History}
 use Rattle.sd_model_record.specs.Desk.{Facts, no_tally}
-use Rattle.sd_model_record.specs.Replying.{replies_text}
+use Rattle.sd_model_record.specs.Replies.{replies_text}
 use Rattle.sd_model_serve.specs.Sessions as model
 use Rattle.sd_model_serve.specs.Sessions.{Broadcasts, Dialogue, EndsSession, Exchange, GoesOn, HasNoNewline, HasTalked, asked_in, bytes_of, replied, replies_of, too_many}
 use Rattle.sd_outside.proofs.ReadLemmas.{reads_on}

@@ -2,12 +2,11 @@
 use Rattle.std.proofs.Common.{◌≡◌, ℕ, ◌+◌, List, [], ◌∷◌, ap, subst, sym, ◌∙◌, arith}
 use Rattle.sd_model_settings.specs.Settings as file
 use Rattle.sd_model_record.specs.Counts.{Amounts, Count, HasCounted, Part, nothing, plus}
-use Rattle.sd_model_serve.specs.Doors.{Visit}
+use Rattle.sd_model_serve.specs.Doors.{Visit, AreVisitsOf, asked_by}
 use Rattle.sd_model_serve.specs.Sessions.{Broadcasts, Dialogue, asked_in, lines_in}
 use Rattle.sd_pool.specs.Pool.{own_at, shards_of}
 use Rattle.sd_pool.specs.declared.pool.Pool.{Pool}
 use Rattle.sd_door.specs.Keeping.{Visited}
-use Rattle.sd_model_serve.specs.Visits.{AreVisitsOf, asked_by}
 use Rattle.sd_session.specs.Visiting.{HasVisited, WorksOn}
 use Rattle.sd_session.specs.declared.visiting.AdminVisitor.{AdminVisitor}
 use Rattle.sd_session.proofs.CarryLemmas.{Broadcasts-none, Broadcasts-next}

@@ -7,8 +7,7 @@ use Rattle.sd_model_shard.specs.Commands.{DumpRow}
 use Rattle.sd_model_shard.specs.History.{History}
 use Rattle.sd_model_shard.specs.Shard.{Delete, Dump}
 use Rattle.sd_model_record.specs.Desk.{Facts}
-use Rattle.sd_model_record.specs.Replies.{Finish}
-use Rattle.sd_model_record.specs.Replying.{keys_told, rows_told, names_replied}
+use Rattle.sd_model_record.specs.Replies.{Finish, keys_told, rows_told, names_replied}
 use Rattle.sd_model_serve.specs.Sessions.{Broadcast, Broadcasts, AreReplied, IsCarriedOut, all_replies, events_in, replies_at}
 
 module _ (shards : ℕ) where

@@ -4,7 +4,7 @@ use Rattle.sd_model_outside.specs.Outside.{Object, given}
 use Rattle.sd_model_settings.specs.Settings as file
 use Rattle.sd_model_shard.specs.History.{History}
 use Rattle.sd_model_record.specs.Admin.{command}
-use Rattle.sd_model_record.specs.Replying.{replies_text}
+use Rattle.sd_model_record.specs.Replies.{replies_text}
 use Rattle.sd_model_serve.specs.Sessions.{Exchange, Broadcasts, GoesOn, IsCut, events_in, events_of_line, is_quit, replies_of}
 use Rattle.sd_session.specs.declared.line.Told.{Told}
 use Rattle.sd_session.specs.declared.line.Told.TheVariants.{Whole, Quit, Cut}

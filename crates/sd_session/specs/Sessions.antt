@@ -5,7 +5,7 @@ use Rattle.sd_model_settings.specs.Settings as file
 use Rattle.sd_model_shard.specs.History.{History}
 use Rattle.sd_model_serve.specs.Sessions as model
 use Rattle.sd_model_serve.specs.Sessions.{Broadcasts, Dialogue, HasTalked, asked_in, events_in, lines_in}
-use Rattle.sd_model_serve.specs.Served.{AreCommands}
+use Rattle.sd_model_serve.specs.Rounds.{AreCommands}
 use Rattle.sd_session.specs.declared.sessions.SessionEnd.{SessionEnd}
 use Rattle.sd_session.specs.declared.sessions.SessionEnd.TheVariants.{Quit, End, ReadFault, WriteFault, LineTooLong}
 

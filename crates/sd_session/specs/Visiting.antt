@@ -1,11 +1,10 @@
 -- The visitor of admin sessions: what it needs, and what a visit leaves.
 use Rattle.std.specs.Prelude.{◌≡◌, ℕ}
-use Rattle.sd_model_record.specs.Callers.{administrator}
+use Rattle.sd_model_serve.specs.Receiving.{administrator}
 use Rattle.sd_model_record.specs.Counts.{Amounts, nothing}
-use Rattle.sd_model_serve.specs.Doors.{Visit}
+use Rattle.sd_model_serve.specs.Doors.{Visit, IsVisitOf}
 use Rattle.sd_model_serve.specs.Sessions.{Dialogue, Broadcasts, asked_in, lines_in}
 use Rattle.sd_pool.specs.Pool.{IsSeatOf, limits_of, own_at, shards_of, who_is}
-use Rattle.sd_model_serve.specs.Visits.{IsVisitOf}
 use Rattle.sd_session.specs.Space.{IsSpaceFor}
 use Rattle.sd_session.specs.declared.visiting.AdminVisitor.{AdminVisitor}
 

@@ -1,7 +1,7 @@
 ghost use Rattle.std.specs.Prelude.{◌≡◌, ◌*◌, ◌<◌, ◌≤◌, ◌^◌, length};
 ghost use Rattle.sd_model_record.specs.Admin.{names_of};
-ghost use Rattle.sd_model_record.specs.Callers.{administrator};
-ghost use Rattle.sd_model_record.specs.Replying.{health_after as health_left};
+ghost use Rattle.sd_model_serve.specs.Receiving.{administrator};
+ghost use Rattle.sd_model_record.specs.Replies.{health_after as health_left};
 ghost use Rattle.sd_key.specs.Kind.{kind_of};
 ghost use Rattle.sd_desk.specs.Facts.{facts_view};
 ghost use Rattle.sd_admin.specs.Command.{command_view, health_word_view};

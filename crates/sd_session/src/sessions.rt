@@ -1,6 +1,6 @@
 ghost use Rattle.std.specs.Prelude.{◌≡◌, ℕ, ◌+◌, ◌<◌, ◌≤◌, List, ◌∷◌, ◌++◌, length, take, drop, MatchOption, IfNone, IfSome};
 ghost use Rattle.sd_model_outside.specs.Outside.{HasRead};
-ghost use Rattle.sd_model_record.specs.Callers.{administrator};
+ghost use Rattle.sd_model_serve.specs.Receiving.{administrator};
 ghost use Rattle.sd_model_record.specs.Counts.{HasCounted, nothing};
 ghost use Rattle.sd_model_serve.specs.Sessions.{HasNoNewline, too_many};
 ghost use Rattle.sd_pool.specs.Pool.{IsSeatOf, limits_of, own_at, shards_of, who_is};

@@ -13,7 +13,7 @@ use Rattle.sd_model_shard.specs.History.{Act, History, LegalFrom, after_all, ans
 use Rattle.sd_model_shard.specs.Whereabouts.{dropped_in, told_by}
 use Rattle.sd_model_shard.proofs.HistoryLemmas.{asked_in, legal_is_answered}
 use Rattle.sd_model_shard.proofs.OrderLemmas.{sum_by-flat_map, sum_by-map}
-use Rattle.sd_model_serve.specs.Acts.{asks, events_of, one_at, told_in}
+use Rattle.sd_model_serve.specs.Receiving.{asks, events_of, one_at, told_in}
 use Rattle.sd_model_replay.specs.Script.{Packet}
 use Rattle.sd_model_replay.specs.Replay.{acts_in, home_of, replies_to, states_after}
 use Rattle.sd_shard.specs.Shard.{Standing, state_of}

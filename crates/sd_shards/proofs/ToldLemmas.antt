@@ -9,7 +9,7 @@ use Rattle.std.proofs.lemmas.List.Sorted.{IsPermutation-append, IsPermutation-sy
 use Rattle.sd_model_text.specs.Names.{Kind}
 use Rattle.sd_model_shard.specs.Shard.{State, Dumped, deletion_of}
 use Rattle.sd_model_shard.specs.Commands.{DumpRow, dump_of, in_key_order}
-use Rattle.sd_model_record.specs.Replying.{keys_in, keys_told, rows_in, rows_told}
+use Rattle.sd_model_record.specs.Replies.{keys_in, keys_told, rows_in, rows_told}
 use Rattle.sd_model_record.proofs.OrderLemmas.{in_key_order_is, keys_in_order}
 use Rattle.sd_model_shards.specs.Shards.{AtHome}
 use Rattle.sd_model_shards.proofs.HomeLemmas.{all_keys_once, all_rows_once}

@@ -6,7 +6,7 @@ ghost use Rattle.sd_model_text.specs.Lines.{pieces, bad_of};
 ghost use Rattle.sd_model_shard.specs.Shard.{Dumped, empty_state, after_swap, after_delete, deletion_of, table_of};
 ghost use Rattle.sd_model_shard.specs.Commands.{dump_of};
 ghost use Rattle.sd_model_shard.specs.Whereabouts.{dropped_in};
-ghost use Rattle.sd_model_record.specs.Replying.{keys_told, rows_told};
+ghost use Rattle.sd_model_record.specs.Replies.{keys_told, rows_told};
 ghost use Rattle.sd_model_replay.specs.Script.{Packet};
 ghost use Rattle.sd_model_replay.specs.Replay.{replies_to, states_after};
 ghost use Rattle.sd_model_replay.specs.Totals.{summed};

@@ -1,7 +1,7 @@
 -- Lines of the code.
 use Rattle.std.specs.Prelude.{◌≤◌, length, ⊤}
 use Rattle.sd_model_outside.specs.Turns.{most_datagram}
-use Rattle.sd_model_stream.specs.Stream as model
+use Rattle.sd_model_stream.specs.Streams as model
 use Rattle.sd_tcp.specs.declared.cut.Cut.{Cut}
 use Rattle.sd_tcp.specs.declared.cut.Cut.TheVariants.{Line, Long}
 

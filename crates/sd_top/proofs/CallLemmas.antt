@@ -3,7 +3,7 @@ use Rattle.std.proofs.Common.{◌≡◌, ◌⊎◌, List, ℕ, ◌<◌, ◌≤�
 use Rattle.sd_model_outside.specs.Outside.{File, Object}
 use Rattle.sd_model_outside.proofs.OutsideLemmas.{Reads-nil}
 use Rattle.sd_model_settings.specs.Settings as file
-use Rattle.sd_model_settings.specs.Defaults.{default_settings}
+use Rattle.sd_model_settings.specs.Settings.{default_settings, Settings}
 use Rattle.sd_model_record.proofs.WireLemmas.{AreRepeated-none}
 use Rattle.sd_model_replay.specs.Settings.{bounds_of}
 use Rattle.sd_model_replay.specs.AccountingTheorem.{Seen, Course, AccountingTheorem}
@@ -14,7 +14,6 @@ use Rattle.sd_model_call.specs.Words.{Form, Replay, Drill, form}
 use Rattle.sd_model_call.specs.Opening.{World, IsAccepted, replay_openings, settled, started}
 use Rattle.sd_model_call.specs.Call.{Account, Answer, NoForm, Answers, AnswersReplay, Accounts, IsIdle, IsNotTaken, StopsAmong, ending}
 use Rattle.sd_top.specs.Causes.{IsDrill, IsReplay}
-use Rattle.sd_model_settings.specs.Settings.{Settings}
 
 -- no record and no byte
 abbrev nothing : Course

@@ -3,14 +3,14 @@ use Rattle.std.proofs.Common.{◌≡◌, ℕ, ◌≤◌, List, [], ◌∷◌, �
 use Rattle.sd_model_outside.specs.Outside.{Object, Number, HasFailedBehind, given}
 use Rattle.sd_model_outside.proofs.WriteLemmas.{behind-later, behind-longer, given-given}
 use Rattle.sd_model_settings.specs.Settings as file
-use Rattle.sd_model_settings.specs.Defaults.{default_settings}
+use Rattle.sd_model_settings.specs.Settings.{default_settings}
 use Rattle.sd_model_settings.proofs.OnLiterals.{settings_on_literals}
 use Rattle.sd_model_replay.specs.Totals.{Total, total_line, totals_after, totals_text}
 use Rattle.sd_model_replay.proofs.TotalLemmas.{totals_text-snoc}
 use Rattle.sd_model_replay.specs.AccountingTheorem.{Seen}
 use Rattle.sd_model_replay.specs.Ends.{End, Complete, WriteFailed, Replayed}
 use Rattle.sd_model_call.specs.Words.{most_packets}
-use Rattle.sd_model_call.specs.Drill.{bytes_counted, drill_settings, drill_start, drill_text, drilled}
+use Rattle.sd_model_call.specs.Drill.{bytes_counted, drill_start, drill_text, drilled}
 use Rattle.sd_model_call.specs.Call.{Account, Answer, Done, Drilled, WritesTotals, drill_end, NotWritten, ending}
 use Rattle.sd_model_call.proofs.DrillEnds.{DrillEnd, drill_ends, drill_totals}
 use Rattle.sd_replay.specs.Ends.{end_of}
@@ -40,12 +40,11 @@ not_complete (code.Worn turns) other totals is = absurd (cc)
 
 module _ (n : ℕ) (few : n ≤ most_packets) (values : file.Settings) (is : values ≡ default_settings) (output : Object) (start end : Seen) (began : start ≡ drill_start n output)
     (script_faults : end.script.faults ≡ 0) (graphite_faults : end.graphite.faults ≡ 0) (e : End) (replayed : Replayed values e start end) where
-  ran : Replayed drill_settings e (drill_start n output) end
-  unfolding drill_settings
-  ran = subst (λ (from : Seen). Replayed drill_settings e from end) began (subst (λ (v : file.Settings). Replayed v e start end) is replayed)
+  ran : Replayed default_settings e (drill_start n output) end
+  ran = subst (λ (from : Seen). Replayed default_settings e from end) began (subst (λ (v : file.Settings). Replayed v e start end) is replayed)
 
   abbrev account : Account
-  account = record { force = drill_settings; course = ran.course; start = drill_start n output; end = end }
+  account = record { force = default_settings; course = ran.course; start = drill_start n output; end = end }
 
   ended : DrillEnd n e ran.course output end
   ended = drill_ends n few output end script_faults graphite_faults ran.course ran.theorem e ran.ends
@@ -76,8 +75,8 @@ module _ (n : ℕ) (few : n ≤ most_packets) (values : file.Settings) (is : val
   -- a front of the totals is one of the text
   in_front : HasFailedBehind (drill_totals n) output end.output → HasFailedBehind (drill_text n) output end.output
   in_front failed =
-      let bytes : Total = (codes "bytes", bytes_counted drill_settings (drilled n)) in
-      subst (λ (text : List ℕ). HasFailedBehind text output end.output) (sym (totals_text-snoc (totals_after drill_settings (drilled n)) bytes))
+      let bytes : Total = (codes "bytes", bytes_counted default_settings (drilled n)) in
+      subst (λ (text : List ℕ). HasFailedBehind text output end.output) (sym (totals_text-snoc (totals_after default_settings (drilled n)) bytes))
       (behind-longer (drill_totals n) (total_line bytes) output end.output failed)
 
   -- a replay that isn't complete failed to write the totals
@@ -99,9 +98,9 @@ module _ (n : ℕ) (few : n ≤ most_packets) (values : file.Settings) (is : val
     ]
 
     text : drill_totals n ++ bytes_line ≡ drill_text n
-    text = let both : Number count ≡ Number (bytes_counted drill_settings (drilled n)) = sym counted ∙ ended.counted in
-        let same : count ≡ bytes_counted drill_settings (drilled n) = cc in
-        let totals : List Total = totals_after drill_settings (drilled n) in
+    text = let both : Number count ≡ Number (bytes_counted default_settings (drilled n)) = sym counted ∙ ended.counted in
+        let same : count ≡ bytes_counted default_settings (drilled n) = cc in
+        let totals : List Total = totals_after default_settings (drilled n) in
         sym (totals_text-snoc totals (codes "bytes", count)) ∙ ap (λ m. totals_text (totals ++ (codes "bytes", m) ∷ [])) same
 
     pub by_bytes : (new : Object) → new ≡ given bytes_line end.output → IsDrill n Done output new

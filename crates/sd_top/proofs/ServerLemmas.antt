@@ -15,8 +15,7 @@ use Rattle.sd_model_record.specs.Desk.{Desk}
 use Rattle.sd_model_replay.specs.Settings.{limits_of, policy_of}
 use Rattle.sd_model_replay.specs.Totals.{Total, totals_text}
 use Rattle.sd_model_serve.specs.Ends.{LoopEnd}
-use Rattle.sd_model_run.specs.Course.{Course}
-use Rattle.sd_model_run.specs.Run.{ServerTheorem}
+use Rattle.sd_model_run.specs.Run.{Course, ServerTheorem}
 use Rattle.sd_model_call.specs.Call.{Answer, WritesTotals}
 use Rattle.sd_model_call.specs.Opening.{IsAccepted, World, flags_of, settled}
 use Rattle.sd_model_call.specs.Server.{HasServed, begun, ends_answer, has_outlets, is_worn, objects_in, run_answer, run_totals, serves_by}

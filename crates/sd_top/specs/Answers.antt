@@ -11,7 +11,7 @@ use Rattle.sd_config.specs.declared.fault.ConfigFault.TheVariants as config
 use Rattle.sd_replay.specs.declared.fault.ScriptFault.{ScriptFault}
 use Rattle.sd_replay.specs.declared.fault.ScriptFault.TheVariants.{Word, Length, Truncated}
 use Rattle.sd_model_settings.specs.Settings as settings
-use Rattle.sd_model_replay.specs.Next.{BadWord, BadLength, CutShort}
+use Rattle.sd_model_replay.specs.Script.{BadWord, BadLength, CutShort}
 
 abbrev pub part_of : Part → opening.Part
 part_of Settings = opening.OfSettings

@@ -1,6 +1,6 @@
 use Rattle.std.proofs.Common.{◌≡◌, All, [], ◌∷◌, sym, subst}
 use Rattle.sd_live.specs.declared.pass.UpPass.{UpPass}
-use Rattle.sd_model_live.specs.Looks.{all_of}
+use Rattle.sd_model_live.specs.Proxy.{all_of}
 use Rattle.sd_live.specs.Live.{seen, IsReceiverOf}
 use Rattle.sd_cases_live.proofs.Answered.{all_new}
 use Rattle.sd_cases_live.proofs.lookers.new_lookers.Goals as goal

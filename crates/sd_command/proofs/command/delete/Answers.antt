@@ -3,9 +3,8 @@ use Rattle.std.proofs.lemmas.Bool.{cases_lt}
 use Rattle.std.specs.List.{range_with_len}
 use Rattle.sd_model_text.specs.Names.{Kind}
 use Rattle.sd_model_record.specs.Admin.{names_of}
-use Rattle.sd_model_record.specs.Replies.{Finish, Gone, reply_text}
+use Rattle.sd_model_record.specs.Replies.{Finish, Gone, reply_text, keys_told, names_replied, replies_text}
 use Rattle.sd_model_shard.specs.Shard.{State, Delete, after_delete, deletion_of}
-use Rattle.sd_model_record.specs.Replying.{keys_told, names_replied, replies_text}
 use Rattle.sd_key.specs.Kind.{kind_of}
 use Rattle.sd_shards.specs.Shards.{Group, AreAlike, group_bounds, state_at}
 use Rattle.sd_admin.specs.Command.{command_view}

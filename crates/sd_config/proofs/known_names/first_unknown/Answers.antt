@@ -2,8 +2,7 @@ use Rattle.std.proofs.Common.{◌≡◌, ◌∷◌, map, string_bytes, false, tr
 use Rattle.std.proofs.lemmas.Map.Iter.{rest_more}
 use Rattle.std.specs.Map.Iter.{deref}
 use Rattle.std.specs.Option.{option_map}
-use Rattle.sd_model_settings.specs.Settings.{shown}
-use Rattle.sd_model_settings.specs.KnownNames.{first_unknown}
+use Rattle.sd_model_settings.specs.Settings.{shown, first_unknown}
 use Rattle.sd_config.proofs.NameLists.{names-members, first_unknown-known, first_unknown-here, tells}
 use Rattle.sd_config.proofs.known_names.first_unknown.Goals as goal
 

@@ -1,6 +1,6 @@
 use Rattle.std.proofs.Common.{◌≡◌, map, string_bytes}
 use Rattle.toml.specs.View.{table_view}
-use Rattle.sd_model_settings.specs.KnownNames.{names, first_unknown}
+use Rattle.sd_model_settings.specs.Settings.{names, first_unknown}
 use Rattle.sd_config.proofs.known_names.first_unknown.Given as goal
 
 abbrev pub invariant-loop-name : goal.invariant-loop-name

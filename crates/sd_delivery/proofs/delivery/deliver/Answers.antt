@@ -1,5 +1,5 @@
 use Rattle.std.proofs.Common.{subst}
-use Rattle.sd_model_record.specs.Console.{console_text}
+use Rattle.sd_model_record.specs.Backends.{console_text}
 use Rattle.sd_model_record.specs.Record.{Record}
 use Rattle.sd_model_outside.specs.Deliveries.{AfterMark}
 use Rattle.sd_desk.specs.Marks.{mark_of}

@@ -1,5 +1,5 @@
 use Rattle.std.proofs.Common.{subst}
-use Rattle.sd_model_record.specs.Console.{console_text}
+use Rattle.sd_model_record.specs.Backends.{console_text}
 use Rattle.sd_model_record.specs.Record.{Record}
 use Rattle.sd_flush.specs.Outs.{AfterText}
 use Rattle.sd_flush.proofs.queueing.offer_texts.Goals as goal

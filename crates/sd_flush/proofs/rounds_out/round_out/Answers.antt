@@ -2,8 +2,7 @@ use Rattle.std.proofs.Common.{◌≡◌, List, map, refl, sym, subst, ◌∙◌}
 use Rattle.std.specs.List.{range_with_len}
 use Rattle.std.proofs.lemmas.List.{length-map}
 use Rattle.sd_model_shard.specs.Shard.{Table}
-use Rattle.sd_model_record.specs.Console.{console_text}
-use Rattle.sd_model_record.specs.Graphite.{graphite_text}
+use Rattle.sd_model_record.specs.Backends.{console_text, graphite_text}
 use Rattle.sd_model_record.specs.Record.{record_of}
 use Rattle.sd_model_record.proofs.CountLemmas.{counted_next}
 use Rattle.sd_model_serve.specs.Rounds.{Round, table_at}

@@ -1,5 +1,5 @@
 use Rattle.std.proofs.Common.{ap, ◌∙◌, ℕ, List, ◌++◌}
-use Rattle.sd_model_record.specs.Graphite.{front}
+use Rattle.sd_model_record.specs.Backends.{front}
 use Rattle.sd_graphite.specs.Texts.{path_text}
 use Rattle.sd_graphite.proofs.line.begin.Goals as goal
 

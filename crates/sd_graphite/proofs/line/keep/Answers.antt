@@ -1,5 +1,5 @@
 use Rattle.std.proofs.Common.{◌≡◌, ◌+◌, ◌++◌, ◌∙◌, length, length-append, take, ap, sym, arith}
-use Rattle.sd_model_record.specs.Graphite.{front}
+use Rattle.sd_model_record.specs.Backends.{front}
 use Rattle.sd_graphite.specs.Texts.{path_text}
 use Rattle.sd_graphite.proofs.line.keep.Goals as goal
 

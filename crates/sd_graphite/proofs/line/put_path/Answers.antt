@@ -1,6 +1,6 @@
 use Rattle.std.proofs.Common.{ap, ◌∙◌}
 use Rattle.sd_model_text.specs.Numbers.{number_text}
-use Rattle.sd_model_record.specs.Graphite.{line}
+use Rattle.sd_model_record.specs.Backends.{line}
 use Rattle.sd_graphite.proofs.line.put_path.Goals as goal
 
 pub returns : goal.returns

@@ -1,6 +1,6 @@
 use Rattle.std.proofs.Common.{◌∙◌, ap, codes, List, ℕ, [], ◌∷◌, ◌++◌, append_assoc}
 use Rattle.sd_model_text.specs.Numbers.{number_text}
-use Rattle.sd_model_record.specs.Graphite.{line, front}
+use Rattle.sd_model_record.specs.Backends.{line, front}
 use Rattle.sd_graphite.specs.Texts.{timer_front}
 use Rattle.sd_graphite.proofs.row.put_figure.Goals as goal
 

@@ -1,6 +1,6 @@
 use Rattle.std.proofs.Common.{◌∙◌, ap, refl, codes}
 use Rattle.sd_model_text.specs.Numbers.{number_text}
-use Rattle.sd_model_record.specs.Graphite.{line}
+use Rattle.sd_model_record.specs.Backends.{line}
 use Rattle.sd_graphite.proofs.TextLemmas.{path_text-parts}
 use Rattle.sd_graphite.proofs.row.put_rate.Goals as goal
 

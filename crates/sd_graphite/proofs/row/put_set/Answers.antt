@@ -1,6 +1,6 @@
 use Rattle.std.proofs.Common.{◌∙◌, ap, refl, codes, ◌++◌}
 use Rattle.sd_model_text.specs.Numbers.{number_text}
-use Rattle.sd_model_record.specs.Graphite.{line, front}
+use Rattle.sd_model_record.specs.Backends.{line, front}
 use Rattle.sd_decimal.proofs.NumberTexts.{number_text-whole}
 use Rattle.sd_graphite.proofs.TextLemmas.{path_text-parts}
 use Rattle.sd_graphite.proofs.row.put_set.Goals as goal

@@ -1,5 +1,5 @@
 use Rattle.std.proofs.Common.{length}
-use Rattle.sd_model_proxy.specs.Totals.{how_many, is_bad, is_not_sent, is_sent, is_unowned}
+use Rattle.sd_model_proxy.specs.Routes.{how_many, is_bad, is_not_sent, is_sent, is_unowned}
 use Rattle.sd_model_proxy.proofs.TotalLemmas.{all_fates, counted_fates}
 use Rattle.sd_model_proxy.proofs.totals.lines_have_one_fate.Goals as goal
 

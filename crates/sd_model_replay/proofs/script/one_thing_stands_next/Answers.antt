@@ -1,6 +1,6 @@
 use Rattle.std.proofs.Common.{[], refl, subst, inl, inr}
 use Rattle.sd_model_outside.specs.Outside.{Left}
-use Rattle.sd_model_replay.specs.Next.{Next, Faulty, CutShort, Begins}
+use Rattle.sd_model_replay.specs.Script.{Next, Faulty, CutShort, Begins}
 use Rattle.sd_model_replay.proofs.Decisions.{decided, decided_at_end}
 use Rattle.sd_model_replay.proofs.NextLemmas.{one_next, next_stays}
 use Rattle.sd_model_replay.proofs.script.one_thing_stands_next.Goals as goal

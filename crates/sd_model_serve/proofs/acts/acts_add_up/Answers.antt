@@ -2,7 +2,7 @@ use Rattle.std.proofs.Common.{ap, ◌∙◌}
 use Rattle.std.proofs.lemmas.Grind.{flat_map-append}
 use Rattle.std.specs.Prelude.{flat_map}
 use Rattle.sd_model_text.specs.Lines.{samples_of}
-use Rattle.sd_model_serve.specs.Acts.{asks}
+use Rattle.sd_model_serve.specs.Receiving.{asks}
 use Rattle.sd_model_serve.proofs.ActsLemmas.{Adds-none, Adds-next, asks-append}
 use Rattle.sd_model_serve.proofs.acts.acts_add_up.Goals as goal
 

@@ -1,6 +1,5 @@
 use Rattle.std.proofs.Common.{[], ◌∷◌, sym, subst}
-use Rattle.sd_model_stream.specs.Stream.{Cut}
-use Rattle.sd_model_stream.specs.Cutting.{CutsOn}
+use Rattle.sd_model_stream.specs.Streams.{Cut, CutsOn}
 use Rattle.sd_tcp.specs.Cut.{cut_view}
 use Rattle.sd_receive.proofs.LineLemmas.{TakesBytes-none}
 use Rattle.sd_receive.proofs.lines.file_ready.Goals as goal

@@ -1,6 +1,5 @@
 use Rattle.std.proofs.Common.{ℕ, List, [], ◌∷◌, sym, subst}
-use Rattle.sd_model_stream.specs.Stream.{Line}
-use Rattle.sd_model_stream.specs.Cutting.{CutsOn}
+use Rattle.sd_model_stream.specs.Streams.{Line, CutsOn}
 use Rattle.sd_receive.proofs.LineLemmas.{TakesBytes-push}
 use Rattle.sd_receive.proofs.lines.take_line.Goals as goal
 

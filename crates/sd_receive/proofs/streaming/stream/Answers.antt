@@ -1,8 +1,7 @@
 use Rattle.std.proofs.Common.{refl, ap, ◌∙◌, rules}
-use Rattle.sd_model_stream.specs.Cutting.{Cutting}
+use Rattle.sd_model_stream.specs.Streams.{Cutting, WornOut}
 use Rattle.sd_pool.specs.Pool.{shards_of}
 use Rattle.sd_model_serve.specs.Ends.{most_turns}
-use Rattle.sd_model_stream.specs.Streams.{WornOut}
 use Rattle.sd_receive.specs.Streaming.{end_of}
 use Rattle.sd_receive.proofs.StreamLemmas.{SoFar-none, SoFar-next, SoFar-ended, SoFar-worn}
 use Rattle.sd_receive.proofs.streaming.stream.Goals as goal

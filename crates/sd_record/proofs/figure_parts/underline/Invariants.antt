@@ -1,5 +1,5 @@
 use Rattle.std.proofs.Common.{◌≡◌, ◌++◌, take, drop}
-use Rattle.sd_model_record.specs.Figures.{underlined}
+use Rattle.sd_model_record.specs.Record.{underlined}
 use Rattle.sd_record.proofs.figure_parts.underline.Given as goal
 
 abbrev pub invariant-loop-byte : goal.invariant-loop-byte

@@ -1,5 +1,5 @@
 use Rattle.std.proofs.Common.{◌∙◌, List, ◌++◌, All, map, sym, ap, subst, append-nil}
-use Rattle.sd_model_live.specs.Looks.{Begins}
+use Rattle.sd_model_live.specs.Proxy.{Begins}
 use Rattle.sd_live.specs.Live.{IsPassOf, seen}
 use Rattle.sd_live.specs.declared.pass.UpPass.{UpPass}
 use Rattle.sd_relay.specs.Parts.{pass_in}

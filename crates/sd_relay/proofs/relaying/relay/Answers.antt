@@ -1,9 +1,9 @@
 use Rattle.std.proofs.Common.{◌∙◌, ◌++◌, All, length, map, flat_map, sym, ap, subst, arith, length-append}
 use Rattle.std.specs.List.{AllByRecursion}
 use Rattle.std.proofs.lemmas.List.{with_items_is, length-map}
-use Rattle.sd_model_proxy.specs.Totals.{sums_of_totals}
-use Rattle.sd_model_live.specs.Looks.{Begins}
-use Rattle.sd_model_live.specs.Checker.{HasChecked}
+use Rattle.sd_model_proxy.specs.Routes.{sums_of_totals}
+use Rattle.sd_model_live.specs.Proxy.{Begins}
+use Rattle.sd_model_live.specs.Checks.{HasChecked}
 use Rattle.sd_plan.specs.Entries.{node_view}
 use Rattle.sd_live.specs.Live.{IsPassOf, seen}
 use Rattle.sd_live.specs.declared.pass.UpPass.{UpPass}

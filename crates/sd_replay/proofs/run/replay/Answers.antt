@@ -6,19 +6,16 @@ use Rattle.sd_model_outside.proofs.OutsideLemmas.{Reads-append, Reads-nil}
 use Rattle.sd_model_outside.proofs.WriteLemmas.{given-given}
 use Rattle.std.specs.Prelude.{sum_by, true, false, is_err, Result, Ok, Err, OnOk, OnErr}
 use Rattle.sd_model_shard.specs.Shard.{table_of}
-use Rattle.sd_model_record.specs.Console.{console_text}
+use Rattle.sd_model_record.specs.Backends.{console_text, graphite_text, Backend, Graphite, Console, text_of, mark_of as mark_at}
 use Rattle.sd_model_record.specs.Desk.{Desk, Marks, new_desk, with_tally, with_repeater_faults}
 use Rattle.sd_model_record.specs.Admin as admin
-use Rattle.sd_model_settings.specs.Defaults.{Plan, plan_of, names_of}
+use Rattle.sd_model_settings.specs.Settings.{Plan, plan_of, names_of, Settings}
 use Rattle.sd_model_replay.specs.Settings.{bounds_of, is_used, limits_of, targets_of}
-use Rattle.sd_model_record.specs.Graphite.{graphite_text}
 use Rattle.sd_model_record.specs.Record.{Record, record_of}
-use Rattle.sd_model_record.specs.Backends.{Backend, Graphite, Console, text_of, mark_of as mark_at}
-use Rattle.sd_model_record.specs.Repeater.{AreRepeated, Sending, failures}
+use Rattle.sd_model_record.specs.WireSends.{AreRepeated, Sending, failures}
 use Rattle.sd_model_replay.specs.Replay.{packet_tally, replies_to, states_after, Played, moment_of, desk_after_line, first_run, run_of}
-use Rattle.sd_model_replay.specs.Script.{Packet, Flush, Admin, IsLegal, end_word}
-use Rattle.sd_model_replay.specs.Next.{Faulty, Begins, IsUndecided}
-use Rattle.sd_model_replay.specs.Output.{output_in, output_of}
+use Rattle.sd_model_replay.specs.Script.{Packet, Flush, Admin, IsLegal, end_word, Faulty, Begins, IsUndecided}
+use Rattle.sd_model_replay.specs.Asked.{output_in, output_of}
 use Rattle.sd_model_replay.specs.AccountingTheorem.{Seen, seen_at}
 use Rattle.sd_model_replay.specs.Ends.{Replayed}
 use Rattle.sd_shards.specs.Shards.{Group, AreAlike, group_bounds, numbers, state_at}
@@ -44,7 +41,6 @@ use Rattle.sd_replay.specs.Start.{start_in}
 use Rattle.sd_replay.proofs.PlayLemmas.{count_by, still_go, given-nil, nothing_played, completes, writes_part, replies_part, finds_flaw, fails_to_read, wears_out, desk_before, desk_at_end, packet_more, flush_more, line_more, line_played, line_replied, quiet}
 use Rattle.sd_replay.proofs.run.replay.Goals as goal
 use Rattle.sd_replay.proofs.run.replay.Goals.{in-Ok-finish, in-Err, in-Packet, in-Flush, in-Admin+else-is_err}
-use Rattle.sd_model_settings.specs.Settings.{Settings}
 
 -- a backend is seen as the one of its name
 back_seen : {R O B L : Type 0} (of_script : R → Object) (of_output : O → Object) (of_back : B → Object) (of_wire : L → Object) (script : R) (output : O) (backs : Backs B) (wires : List L) (back : Backend)

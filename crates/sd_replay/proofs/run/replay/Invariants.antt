@@ -4,7 +4,7 @@ use Rattle.sd_model_settings.specs.Settings as file
 use Rattle.sd_model_record.specs.Desk.{Desk}
 use Rattle.sd_model_replay.specs.Settings.{limits_of}
 use Rattle.sd_model_record.specs.Backends.{Backend}
-use Rattle.sd_model_replay.specs.Output.{output_of}
+use Rattle.sd_model_replay.specs.Asked.{output_of}
 use Rattle.sd_shards.specs.Shards.{Group, state_at}
 use Rattle.sd_script.specs.Reading.{Reading, left}
 use Rattle.sd_record.specs.Rows.{Room}

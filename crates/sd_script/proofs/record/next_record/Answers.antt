@@ -1,7 +1,7 @@
 use Rattle.std.proofs.Common.{◌≢◌, ◌+◌, take, length, subst, sym, ap, arith, length-take}
 use Rattle.std.proofs.lemmas.Result.{err_from_is_err_and}
-use Rattle.sd_model_replay.specs.Heads as model
-use Rattle.sd_model_replay.specs.Heads.{head_line, IsForm}
+use Rattle.sd_model_replay.specs.Script as model
+use Rattle.sd_model_replay.specs.Script.{head_line, IsForm}
 use Rattle.sd_script.specs.Ahead.{held_in}
 use Rattle.sd_script.specs.Flaws.{flaw_of}
 use Rattle.sd_script.specs.Head.{body_view}

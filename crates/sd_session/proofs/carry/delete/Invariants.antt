@@ -1,6 +1,6 @@
 use Rattle.std.proofs.Common.{◌≡◌, ◌-◌, length}
 use Rattle.sd_model_record.specs.Admin.{names_of}
-use Rattle.sd_model_record.specs.Callers.{administrator}
+use Rattle.sd_model_serve.specs.Receiving.{administrator}
 use Rattle.sd_key.specs.Kind.{kind_of}
 use Rattle.sd_admin.specs.Command.{command_view}
 use Rattle.sd_pool.specs.Pool.{IsSeatOf, own_at, shards_of, who_is}

@@ -1,5 +1,5 @@
 use Rattle.std.proofs.Common.{◌≡◌, ◌≤◌, [], take}
-use Rattle.sd_model_record.specs.Callers.{administrator}
+use Rattle.sd_model_serve.specs.Receiving.{administrator}
 use Rattle.sd_model_record.specs.Counts.{HasCounted, nothing}
 use Rattle.sd_model_serve.specs.Sessions.{too_many}
 use Rattle.sd_pool.specs.Pool.{IsSeatOf, limits_of, own_at, shards_of, who_is}

@@ -1,7 +1,7 @@
 use Rattle.std.proofs.Common.{rules, ◌≡◌, [], ◌∷◌, ◌++◌, refl, subst, ◌∙◌, arith}
 use Rattle.sd_model_shard.specs.Shard as shard
 use Rattle.sd_model_shard.specs.Shard.{deletion_of}
-use Rattle.sd_model_record.specs.Replying.{keys_in}
+use Rattle.sd_model_record.specs.Replies.{keys_in}
 use Rattle.sd_key.specs.Kind.{kind_of}
 use Rattle.sd_shard.specs.Shard.{IsDeletion}
 use Rattle.sd_pool.specs.Pool.{act_by, own_at, shards_of}

@@ -2,7 +2,7 @@ use Rattle.std.proofs.Common.{◌≡◌, ◌*◌, ◌≤◌, [], List, length}
 use Rattle.std.specs.Prelude.{flat_map}
 use Rattle.sd_model_shard.specs.Commands.{dump_of}
 use Rattle.sd_model_shard.specs.Shard.{State, Dump, Dumped}
-use Rattle.sd_model_record.specs.Callers.{administrator}
+use Rattle.sd_model_serve.specs.Receiving.{administrator}
 use Rattle.sd_key.specs.Kind.{kind_of}
 use Rattle.sd_shard.specs.Shard.{Appends}
 use Rattle.sd_pool.specs.Pool.{IsSeatOf, limits_of, own_at, shards_of, who_is}

@@ -1,7 +1,7 @@
 use Rattle.std.proofs.Common.{◌≡◌, ℕ, ◌+◌, ◌<◌, List, ◌++◌, length, get_or, take, ap, subst, ◌∙◌, arith}
 use Rattle.std.specs.Prelude.{flat_map}
 use Rattle.sd_model_shard.specs.Shard.{Limits, after_delete, deletion_of}
-use Rattle.sd_model_record.specs.Replying.{keys_in}
+use Rattle.sd_model_record.specs.Replies.{keys_in}
 use Rattle.sd_key.specs.Kind.{kind_of}
 use Rattle.sd_shard.specs.Shard.{Standing, state_of, Appends}
 use Rattle.sd_shards.specs.Standings.{limits_in, policy_in}

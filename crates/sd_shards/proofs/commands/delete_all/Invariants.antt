@@ -1,7 +1,7 @@
 use Rattle.std.proofs.Common.{◌≡◌, ◌+◌, ◌*◌, ◌<◌, ◌≤◌, ℕ, length, take, drop}
 use Rattle.std.specs.Prelude.{flat_map}
 use Rattle.sd_model_shard.specs.Shard.{after_delete, deletion_of}
-use Rattle.sd_model_record.specs.Replying.{keys_in}
+use Rattle.sd_model_record.specs.Replies.{keys_in}
 use Rattle.sd_key.specs.Kind.{kind_of}
 use Rattle.sd_shard.specs.Shard.{state_of, Appends}
 use Rattle.sd_shards.specs.Standings.{state_in, limits_in, policy_in, GoBy}

@@ -5,8 +5,7 @@ use Rattle.sd_model_outside.specs.Outside.{Host, Object, Place, opened}
 use Rattle.sd_model_outside.specs.Turns.{with_interval}
 use Rattle.sd_model_replay.specs.Settings.{is_used}
 use Rattle.sd_model_record.specs.Backends.{Backend, Graphite, Console}
-use Rattle.sd_model_run.specs.Course.{Terms}
-use Rattle.sd_model_run.specs.Run.{Objects}
+use Rattle.sd_model_run.specs.Run.{Terms, Objects}
 use Rattle.sd_model_call.specs.Opening.{Flags, World}
 use Rattle.sd_model_call.specs.Server.{back_in, begun, has_streams, objects_in, server_openings, serves_by}
 use Rattle.sd_flush.specs.Flushing.{back_of, uses_by}

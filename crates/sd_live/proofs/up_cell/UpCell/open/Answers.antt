@@ -3,7 +3,7 @@ use Rattle.std.proofs.lemmas.List.Elements.{All-nil, All-push}
 use Rattle.crossbeam_utils.specs.Seq.{cell_view}
 use Rattle.sd_live.specs.declared.pass.UpPass.{UpPass}
 use Rattle.sd_live.specs.declared.up_cell.UpCell.{UpCell}
-use Rattle.sd_model_live.specs.Looks.{all_of}
+use Rattle.sd_model_live.specs.Proxy.{all_of}
 use Rattle.sd_live.specs.Live.{seen, IsReceiverOf}
 use Rattle.sd_live.proofs.AllNodes.{is_all}
 use Rattle.sd_live.proofs.Steps.{begins}

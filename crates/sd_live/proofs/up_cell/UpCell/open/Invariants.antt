@@ -1,5 +1,5 @@
 use Rattle.std.proofs.Common.{◌≡◌, length, All, [], ◌∷◌}
-use Rattle.sd_model_live.specs.Looks.{all_of}
+use Rattle.sd_model_live.specs.Proxy.{all_of}
 use Rattle.sd_live.specs.Live.{seen, IsCheckerOf, IsReceiverOf}
 use Rattle.sd_live.proofs.up_cell.UpCell.open.Given as goal
 

@@ -2,7 +2,7 @@ use Rattle.std.proofs.Common.{◌≡◌, ◌∙◌, ◌≤◌, ℕ, Bool, List, 
 use Rattle.std.specs.List.{list_any}
 use Rattle.std.specs.Str.{bytes_eq}
 use Rattle.arrayvec.specs.ArrayVec.{ArrayVec}
-use Rattle.sd_model_settings.specs.TimerClasses.{TimerClass, class_name, sends}
+use Rattle.sd_model_settings.specs.Entries.{TimerClass, class_name, sends}
 use Rattle.sd_plan.specs.Values.{name_bytes}
 use Rattle.sd_plan.specs.Calculated.{class_of}
 use Rattle.sd_plan.proofs.calculated.Calculated.sends.Goals as goal

@@ -1,6 +1,6 @@
 use Rattle.std.proofs.Common.{◌≡◌, ◌∙◌, [], ◌∷◌, length, map, sym, ap, arith}
 use Rattle.std.proofs.lemmas.List.{length-map}
-use Rattle.sd_model_live.specs.Looks.{all_of}
+use Rattle.sd_model_live.specs.Proxy.{all_of}
 use Rattle.sd_plan.specs.Entries.{node_view}
 use Rattle.sd_live.specs.Live.{nodes_of}
 use Rattle.sd_relay.proofs.PostLemmas.{fresh_passes}

@@ -1,6 +1,6 @@
 use Rattle.std.proofs.Common.{refl, sym, ap, ◌∙◌, rules}
 use Rattle.sd_model_record.specs.Counts.{nothing}
-use Rattle.sd_model_serve.specs.Visits.{ends_by_fault}
+use Rattle.sd_model_serve.specs.Doors.{ends_by_fault}
 use Rattle.sd_session.proofs.visiting.AdminVisitorVisitor.visit.Goals as goal
 
 pub returns-clause-visited : goal.returns-clause-visited

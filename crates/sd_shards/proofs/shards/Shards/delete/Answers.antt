@@ -2,7 +2,7 @@ use Rattle.std.proofs.Common.{List, length, map, refl, sym, ap, subst, ◌∙◌
 use Rattle.std.specs.Prelude.{flat_map}
 use Rattle.std.specs.Vec.{with_items}
 use Rattle.sd_model_shard.specs.Shard.{State, after_delete, deletion_of}
-use Rattle.sd_model_record.specs.Replying.{keys_in, keys_told}
+use Rattle.sd_model_record.specs.Replies.{keys_in, keys_told}
 use Rattle.sd_model_shards.specs.Shards.{AtHome}
 use Rattle.sd_model_shards.proofs.HomeLemmas.{AtHome-delete}
 use Rattle.sd_key.specs.Kind.{kind_of}
