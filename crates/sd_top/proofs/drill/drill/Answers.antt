@@ -9,12 +9,15 @@ use Rattle.sd_top.proofs.DrillLemmas.{in_force, not_complete, by_failure, by_byt
 use Rattle.sd_top.proofs.drill.drill.Goals as goal
 
 pub replay-requires-clause-graphite_used : goal.replay-requires-clause-graphite_used
+unfolding file.default_settings
 replay-requires-clause-graphite_used g c = sym (ap (names_backend (codes "graphite")) (in_force c.in-Ok.settings c.in-Ok.ensures.exact))
 
 pub replay-requires-clause-console_used : goal.replay-requires-clause-console_used
+unfolding file.default_settings
 replay-requires-clause-console_used g c = sym (ap (names_backend (codes "console")) (in_force c.in-Ok.settings c.in-Ok.ensures.exact))
 
 pub replay-requires-clause-wires : goal.replay-requires-clause-wires
+unfolding file.default_settings
 replay-requires-clause-wires g c =
     let none : length (targets_of c.in-Ok.settings) ≡ 0 = ap (λ (values : file.Settings). length (targets_of values)) (in_force c.in-Ok.settings c.in-Ok.ensures.exact) in omega (arith, none)
 
