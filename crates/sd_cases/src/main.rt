@@ -1,12 +1,16 @@
-//! Cases of numbers, names, datagrams, statistics and rings: reads a call and its arguments from each line, makes the call, and
-//! prints the line with its answer, as in `read 0.0000005 = 1`. Quantities are whole millionths.
+//! Cases of numbers, names, datagrams, statistics, rings and the rows of a table: reads a call and its arguments from each line,
+//! makes the call, and prints the line with its answer, as in `read 0.0000005 = 1`. Quantities are whole millionths. A line that
+//! begins with a number is a table of so many places, with the calls on it.
 #![tactic(auto)]
 
 mod datagrams;
+mod many_rows;
 mod members;
 mod names;
 mod numbers;
 mod rings;
+mod row_calls;
+mod tables;
 mod timers;
 mod values;
 
@@ -20,6 +24,9 @@ fn call(alloc: Global, words: &[&str], out: &mut Answer) -> Result<(), Refusal> 
         ["nodes", nodes] => rings::nodes(alloc, nodes, out),
         ["owners", nodes, cache, ups, keys @ ..] => {
             rings::owners(alloc, nodes, cache, ups, keys, out)
+        }
+        [places, calls @ ..] if let Ok(places) = places.parse::<u32>() => {
+            tables::calls_of(alloc, places, calls, out)
         }
         _ => {
             out.text(" = ");

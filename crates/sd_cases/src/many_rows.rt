@@ -1,7 +1,7 @@
 ghost use Rattle.std.specs.Prelude.{◌≡◌, ◌<◌, ℕ, length, set};
 ghost use Rattle.sd_rows.specs.Rows.{row_at, Holds, StandsNowhereElse};
 
-use crate::call::{Family, Range};
+use crate::row_calls::{Family, Range};
 use sd_key::{Key, Kind, fnv1a};
 use sd_rows::{Rows, Steps};
 use std::alloc::{AllocError, Global};

@@ -1,4 +1,4 @@
-use Rattle.sd_cases_rows.proofs.bulk.copy_place.Given as goal
+use Rattle.sd_cases.proofs.many_rows.copy_place.Given as goal
 
 -- the steps are counted in a ledger of their own
 abbrev pub ghosts-copy_counted : goal.ghosts-copy_counted

@@ -1,7 +1,7 @@
 use Rattle.std.proofs.Common.{subst, sym, ◌∙◌}
 use Rattle.sd_rows.specs.Rows.{IsAbsent}
 use Rattle.sd_rows.proofs.RowsLemmas.{removed_absent}
-use Rattle.sd_cases_rows.proofs.bulk.make_room.Goals as goal
+use Rattle.sd_cases.proofs.many_rows.make_room.Goals as goal
 
 pub returns-in-Some-clause-apart : goal.returns-in-Some-clause-apart
 returns-in-Some-clause-apart c p h =
