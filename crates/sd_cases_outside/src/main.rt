@@ -1,24 +1,50 @@
-//! Cases of the outside: reads a call and its arguments from each line, makes the call on an object in memory, on several wires
-//! or on the reader of a script, and prints the line with its answer. A line of an object reads as in
-//! `source abcde read=2 faults`: what it holds, and then steps, each of which is answered on a line.
+//! Cases of the outside: reads a call and its arguments from each line, makes the call on an object in memory, on several wires,
+//! on the reader of a script or on an outlet, and prints the line with its answer. A line of an object reads as in
+//! `source abcde read=2 faults`: what it holds, and then steps, each of which is answered on a line. An outlet is used by one
+//! thread, or by a feeder and a worker side by side, and its answers are the same whatever the order of the threads.
 #![tactic(auto)]
 
 mod arrivals;
+mod count_gate;
 mod doors;
+mod outlets;
 mod probes;
+mod relay;
 mod repeats;
+mod report;
 mod scripts;
 mod sinks;
 mod sources;
 mod steps;
+mod tape;
 mod wires;
 
 use sd_case::{Answer, Refusal, answer_cases};
 use std::alloc::Global;
 use std::io;
+use std::sync::Wait;
+use std::thread::Threads;
 
 /// Makes the call of a case.
-fn call(alloc: Global, words: &[&str], out: &mut Answer) -> Result<(), Refusal> {
+fn call<R: Threads + Wait + Sync>(
+    rt: &R,
+    alloc: Global,
+    words: &[&str],
+    out: &mut Answer,
+) -> Result<(), Refusal> {
+    match words {
+        ["outlet", n, bytes, steps @ ..] => {
+            outlets::steps_on_outlet(rt, alloc, n, bytes, steps, out)
+        }
+        ["order", count] => tape::order_of_calls(rt, alloc, count, out),
+        ["relay", n, count, fail] => report::relay_case(rt, alloc, [n, count, fail], false, out),
+        ["follow", n, count, fail] => report::relay_case(rt, alloc, [n, count, fail], true, out),
+        _ => call_in_memory(alloc, words, out),
+    }
+}
+
+/// Makes the call of a case on objects in memory.
+fn call_in_memory(alloc: Global, words: &[&str], out: &mut Answer) -> Result<(), Refusal> {
     match words {
         ["source", text, steps @ ..] => sources::steps_on_source(alloc, text, steps, out),
         ["sink", room, steps @ ..] => sinks::steps_on_sink(alloc, room, steps, out),
@@ -59,5 +85,9 @@ fn call(alloc: Global, words: &[&str], out: &mut Answer) -> Result<(), Refusal> 
 }
 
 fn main(rt: HostRuntime) -> io::Result<()> {
-    answer_cases(&rt, rt.alloc(), call)
+    answer_cases(
+        &rt,
+        rt.alloc(),
+        |alloc: Global, words: &[&str], out: &mut Answer| { call(&rt, alloc, words, out) },
+    )
 }

@@ -1,5 +1,5 @@
 use Rattle.std.proofs.Common.{◌≡◌, ◌≤◌, length, All}
-use Rattle.sd_cases_outlet.proofs.report.made.Given as goal
+use Rattle.sd_cases_outside.proofs.report.made.Given as goal
 
 abbrev pub invariant-loop-k : goal.invariant-loop-k
 invariant-loop-k l = record {

@@ -1,5 +1,5 @@
 //! A gate and a backend that note on one tape how they are used.
-use crate::steps::{parts_of, send_parts};
+use crate::outlets::{parts_of, send_parts};
 use sd_case::{Answer, Refusal, number};
 use sd_outlet::Outlet;
 use sd_outside::{Address, Backend, Failed, Faulty, Gate, OpenRefusal, Opens, Sink};

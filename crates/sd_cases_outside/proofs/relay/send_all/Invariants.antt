@@ -1,7 +1,7 @@
 use Rattle.std.proofs.Common.{◌≡◌, false, take, map}
 use Rattle.std.specs.Prelude.{None}
 use Rattle.sd_outlet.specs.Feed.{sent, is_out, stopped_at, IsFeedOf}
-use Rattle.sd_cases_outlet.proofs.relay.send_all.Given as goal
+use Rattle.sd_cases_outside.proofs.relay.send_all.Given as goal
 
 abbrev pub invariant-loop-text : goal.invariant-loop-text
 invariant-loop-text g l = record {

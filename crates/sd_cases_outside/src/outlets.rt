@@ -4,7 +4,8 @@ ghost use Rattle.sd_outlet.specs.Feed.{is_out, IsFeedOf};
 ghost use Rattle.sd_outlet.specs.OutBuf.{size_in};
 
 use crate::count_gate::CountGate;
-use crate::report::{fail_on, show_lists, show_worked};
+use crate::report::{show_lists, show_worked};
+use crate::sources::fail_on;
 use sd_case::{Answer, Refusal, bytes_of, number};
 use sd_outlet::{Drain, Feed, OutBuf, Outlet, QueueFull, buffers_keep_what_fits};
 use sd_outside::{MemBackend, write_all};
@@ -74,7 +75,7 @@ pub fn parts_of(alloc: Global, text: &str) -> Result<Vec<Vec<u8>>, Refusal> {
 }
 
 impl Ends {
-    ghost use Rattle.sd_cases_outlet.specs.Steps.{AreReady};
+    ghost use Rattle.sd_cases_outside.specs.Outlets.{AreReady};
 
     /// Carries out a step with an argument.
     fn step_with<R: Wait>(

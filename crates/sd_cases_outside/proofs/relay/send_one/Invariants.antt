@@ -1,6 +1,6 @@
 use Rattle.std.proofs.Common.{◌≡◌, false, ◌<◌, ◌^◌}
 use Rattle.sd_outlet.specs.Feed.{sent, sends_of, is_out, stopped_at, IsFeedOf}
-use Rattle.sd_cases_outlet.proofs.relay.send_one.Given as goal
+use Rattle.sd_cases_outside.proofs.relay.send_one.Given as goal
 
 abbrev pub invariant-loop : goal.invariant-loop
 invariant-loop g l = record {

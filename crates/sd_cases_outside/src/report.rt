@@ -13,15 +13,6 @@ use std::thread::Threads;
 // How many bytes a buffer of a relay holds.
 const BYTES: u32 = 64;
 
-/// Has calls fail by their numbers, which stand between commas.
-pub fn fail_on(listed: &mut Vec<u64>, calls: &str, out: &mut Answer) -> Result<(), Refusal> {
-    for call in calls.split(',') {
-        listed.push(number(call)?)?;
-    }
-    out.text("set");
-    Ok(())
-}
-
 /// Appends a count of rounds.
 pub fn show_worked(worked: Worked, out: &mut Answer) {
     out.count("written ", worked.written);
