@@ -1,8 +1,8 @@
-//! The source, the wires and the output of a run.
+//! The objects of a case by its steps: the source, the wires and the output of a run, the beat and the probe of a check.
 ghost use Rattle.std.specs.Prelude.{◌≡◌, ◌≤◌, All, IfOk, vec_len};
 
 use sd_case::{Refusal, bytes_of, number};
-use sd_outside::{MemDatagrams, MemSink, MemWire};
+use sd_outside::{MemBeat, MemDatagrams, MemProbe, MemSink, MemWire};
 use std::alloc::Global;
 
 /// How many bytes a datagram has at most.
@@ -14,6 +14,9 @@ const BYTES: usize = 1 << 12;
 const PACKETS: usize = 1 << 6;
 
 const OUTPUT: usize = 1 << 10;
+
+/// For how many questions a probe has room, if no step says otherwise.
+const ASKS: usize = 1 << 8;
 
 /// What stands behind the name of a step, where it has this name.
 fn value_in<'a>(step: &'a str, name: &str) -> Option<&'a str> {
@@ -39,21 +42,21 @@ fn datagrams_of(alloc: Global, steps: &[&str]) -> Result<Vec<Vec<u8>>, Refusal>
     }
 }
 
-/// The numbers of the calls that the steps of this name say fail.
-fn calls_of(alloc: Global, steps: &[&str], name: &str) -> Result<Vec<u64>, Refusal> {
-    let mut calls = Vec::new(alloc);
+/// The numbers of the steps of this name.
+fn numbers_in(alloc: Global, steps: &[&str], name: &str) -> Result<Vec<u64>, Refusal> {
+    let mut numbers = Vec::new(alloc);
     for step in steps {
-        if let Some(call) = value_in(step, name) {
-            calls.push(number(call)?)?;
+        if let Some(text) = value_in(step, name) {
+            numbers.push(number(text)?)?;
         }
     }
-    Ok(calls)
+    Ok(numbers)
 }
 
 /// The source of the datagrams of the steps `get=TEXT`, whose calls of the numbers of `fail_get=NUMBER` fail.
 pub fn source_of(alloc: Global, steps: &[&str]) -> Result<MemDatagrams, Refusal> {
     let mut source = MemDatagrams::of(datagrams_of(alloc, steps)?);
-    source.fail_call = calls_of(alloc, steps, "fail_get")?;
+    source.fail_call = numbers_in(alloc, steps, "fail_get")?;
     Ok(source)
 }
 
@@ -65,7 +68,7 @@ pub fn wires_of(alloc: Global, nodes: usize, steps: &[&str]) -> Result<Vec<MemWi
     for place in 0..nodes {
         let mut wire = MemWire::open(alloc, BYTES, PACKETS)?;
         let name = format!(in alloc; "fail_send{place}")?;
-        wire.fail_call = calls_of(alloc, steps, &name)?;
+        wire.fail_call = numbers_in(alloc, steps, &name)?;
         wires.push(wire)?;
     }
     Ok(wires)
@@ -80,4 +83,29 @@ pub fn output_of(alloc: Global, steps: &[&str]) -> Result<MemSink, Refusal> {
         }
     }
     Ok(MemSink::open(alloc, bytes)?)
+}
+
+/// The beat of the ticks `tick=SECOND`, whose calls of the numbers `fail_tick=NUMBER` fail.
+pub fn beat_of(alloc: Global, steps: &[&str]) -> Result<MemBeat, Refusal> {
+    let mut beat = MemBeat::of(numbers_in(alloc, steps, "tick")?);
+    beat.fail_call = numbers_in(alloc, steps, "fail_tick")?;
+    Ok(beat)
+}
+
+/// The probe of the replies `reply=TEXT`, with room for `asks=COUNT` questions, of which those of the numbers `fail_ask=NUMBER`
+/// fail.
+pub fn probe_of(alloc: Global, steps: &[&str]) -> Result<MemProbe, Refusal> {
+    let mut replies = Vec::new(alloc);
+    let mut asks = ASKS;
+    for step in steps {
+        if let Some(text) = value_in(step, "reply") {
+            replies.push(bytes_of(alloc, text)?)?;
+        }
+        if let Some(count) = value_in(step, "asks") {
+            asks = number(count)?;
+        }
+    }
+    let mut probe = MemProbe::open(replies, asks)?;
+    probe.fail_call = numbers_in(alloc, steps, "fail_ask")?;
+    Ok(probe)
 }

@@ -1,6 +1,6 @@
 //! The ring of a case.
-use sd_case::{Refusal, bytes_of, number};
-use sd_outside::Name;
+use crate::nodes::host_of;
+use sd_case::{Refusal, number};
 use sd_plan::Node;
 use sd_ring::Ring;
 use std::alloc::Global;
@@ -39,12 +39,4 @@ fn push_nodes(alloc: Global, part: &str, nodes: &mut Vec<Node>) -> Result<(), Re
         })?;
     }
     Ok(())
-}
-
-fn host_of(alloc: Global, word: &str) -> Result<Name, Refusal> {
-    let mut host = Name::new();
-    match host.try_extend_from_slice(&bytes_of(alloc, word)?) {
-        Ok(()) => Ok(host),
-        Err(_) => Err(Refusal::Malformed),
-    }
 }

@@ -1,5 +1,0 @@
-use Rattle.sd_cases_live.specs.Bench.{AreFit}
-use Rattle.sd_cases_live.proofs.parts.part.Given as goal
-
-abbrev pub invariant-loop-word : goal.invariant-loop-word
-invariant-loop-word g l = AreFit l.cell l.bench
