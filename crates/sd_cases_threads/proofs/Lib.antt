@@ -1,1 +1,2 @@
 mod PutLists
+mod ToldLemmas

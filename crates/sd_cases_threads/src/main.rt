@@ -1,18 +1,23 @@
-//! Cases of values behind a turn: each line of the input names one and one number or two, and is printed with its answer, which
-//! is the same whatever the order of the threads. A line reads as in `ledger 20000 30000`; the others are `turn`, `seats`, `desk`
-//! and `facts`.
+//! Cases of values behind a turn, and of a pool among threads: each line of the input names one, and is printed with its answer,
+//! which is the same whatever the order of the threads. A line reads as in `ledger 20000 30000`; the others with one number or two
+//! are `turn`, `seats`, `desk` and `facts`. Those of a pool read `shared LINE` or `held LINE`, with the line of one sample.
 #![tactic(auto)]
 
 mod book;
 mod desk;
+mod held;
 mod meter;
 mod puts;
 mod register;
+mod shared;
 
 use book::add_both;
 use desk::{Counted, add_and_take, each_call};
+use held::hold_one;
 use puts::{Done, open_many, put_both};
 use sd_desk::Tally;
+use sd_line::{Lines, Sample};
+use shared::submit_and_swap;
 use std::alloc::{AllocError, Global};
 use std::io;
 use std::sync::Wait;
@@ -139,6 +144,46 @@ fn facts_case<R: Wait>(rt: &R, alloc: Global, lines: u32, bad: u32) -> Result<St
     )
 }
 
+// The sample of a line.
+fn sample_of(line: &[u8]) -> Option<Sample> {
+    match Lines::new(line).next() {
+        Some(Ok(sample)) => Some(sample),
+        _ => None,
+    }
+}
+
+// Two threads submit a sample while a third swaps its shard.
+fn shared_case<R: Threads + Wait + Sync>(
+    rt: &R,
+    alloc: Global,
+    line: &str,
+) -> Result<String, AllocError> {
+    let Some(sample) = sample_of(line.as_bytes()) else {
+        return format!(in alloc; "no sample");
+    };
+    let book = submit_and_swap(rt, alloc, &sample)?;
+    format!(in alloc;
+        "taken {}, flushed and held {}, dropped {}, deleted {}",
+        book.taken,
+        book.flushed.saturating_add(book.held),
+        book.dropped,
+        book.deleted
+    )
+}
+
+// One thread has the turn of a shard, and another submits a sample meanwhile.
+fn held_case<R: Threads + Wait + Sync>(
+    rt: &R,
+    alloc: Global,
+    line: &str,
+) -> Result<String, AllocError> {
+    let Some(sample) = sample_of(line.as_bytes()) else {
+        return format!(in alloc; "no sample");
+    };
+    let held = hold_one(rt, alloc, &sample)?;
+    format!(in alloc; "answered inside {}, taken {}", held.inside, held.taken)
+}
+
 fn answer<R: Threads + Wait + Sync>(
     rt: &R,
     alloc: Global,
@@ -146,7 +191,8 @@ fn answer<R: Threads + Wait + Sync>(
 ) -> Result<String, AllocError> {
     let mut words = line.split(' ');
     let name = words.next().unwrap_or("");
-    let first = words.next().unwrap_or("").parse::<u32>();
+    let word = words.next().unwrap_or("");
+    let first = word.parse::<u32>();
     let second = words.next().unwrap_or("").parse::<u32>();
     match (name, first, second) {
         ("ledger", Ok(first), Ok(second)) => ledger_case(rt, alloc, first, second),
@@ -154,6 +200,8 @@ fn answer<R: Threads + Wait + Sync>(
         ("seats", Ok(seats), _) => seats_case(alloc, seats),
         ("desk", Ok(first), Ok(second)) => desk_case(rt, alloc, first, second),
         ("facts", Ok(lines), Ok(bad)) => facts_case(rt, alloc, lines, bad),
+        ("shared", _, _) => shared_case(rt, alloc, word),
+        ("held", _, _) => held_case(rt, alloc, word),
         _ => format!(in alloc; "no such case"),
     }
 }

@@ -1,9 +1,9 @@
 use Rattle.std.proofs.Common.{ap, ◌∙◌, arith}
 use Rattle.sd_model_shard.specs.Whereabouts.{told_by}
 use Rattle.sd_pool.specs.Pool.{own_at}
-use Rattle.sd_cases_pool.specs.Counts.{answered_in}
-use Rattle.sd_cases_pool.proofs.ToldLemmas.{told_by-push}
-use Rattle.sd_cases_pool.proofs.shared.swap_often.Goals as goal
+use Rattle.sd_cases_threads.specs.Submitted.{answered_in}
+use Rattle.sd_cases_threads.proofs.ToldLemmas.{told_by-push}
+use Rattle.sd_cases_threads.proofs.shared.swap_often.Goals as goal
 
 pub loop-preserved : goal.loop-preserved
 loop-preserved g c =

@@ -3,7 +3,7 @@ ghost use Rattle.std.specs.Prelude.{◌≡◌, ℕ, ◌+◌, ◌<◌, IfOk, get_
 ghost use Rattle.sd_model_text.specs.Names.{shard};
 ghost use Rattle.sd_spares.specs.Tables.{IsSpare};
 ghost use Rattle.sd_pool.specs.Pool.{IsSeatOf, limits_of, own_at, shards_of};
-ghost use Rattle.sd_cases_pool.specs.Counts.{submitted};
+ghost use Rattle.sd_cases_threads.specs.Submitted.{submitted};
 
 use sd_epoch::{Limits, Table};
 use sd_line::Sample;

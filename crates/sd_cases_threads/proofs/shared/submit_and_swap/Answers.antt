@@ -4,7 +4,7 @@ use Rattle.std.proofs.lemmas.List.{length-map, length-append, length_push}
 use Rattle.sd_pool.specs.Pool.{IsSeatOf, seats_in, who_is}
 use Rattle.sd_pool.proofs.AlongLemmas.{AllByRecursion-front, AllByRecursion-back, AllByRecursion-append, span_long}
 use Rattle.sd_pool.proofs.DealLemmas.{AllByRecursion-seats}
-use Rattle.sd_cases_pool.proofs.shared.submit_and_swap.Goals as goal
+use Rattle.sd_cases_threads.proofs.shared.submit_and_swap.Goals as goal
 
 pub join-one-requires-after_bounds : goal.join-one-requires-after_bounds
 join-one-requires-after_bounds g c κs within =
