@@ -1,11 +1,14 @@
-//! Cases of tables: reads a call and its arguments from each line, makes the call on a shard or a table, and prints the line with
-//! its answer. A line reads as in `shard 2/3 none a:1|c swap book`: the limits on rows and entries, what else it is opened with,
-//! and then steps, each of which is answered on a line.
+//! Cases of settings and tables: reads a call and its arguments from each line, makes the call, and prints the line with its
+//! answer. A line of a shard or a table reads as in `shard 2/3 none a:1|c swap book`: the limits on rows and entries, what else it
+//! is opened with, and then steps, each of which is answered on a line. A line of settings has a file, and asks for values, as in
+//! `read FILE CALLS`, `all FILE` and `config FILE`.
 #![tactic(auto)]
 
+mod read_calls;
 mod records;
 mod rooms;
 mod samples;
+mod settings;
 mod shards;
 mod tables;
 mod turns;
@@ -28,6 +31,12 @@ fn call(alloc: Global, words: &[&str], out: &mut Answer) -> Result<(), Refusal> 
             shards::goes_idle(kinds, kind, swaps, out)
         }
         ["room", file] => rooms::open_room(alloc, file, out),
+        ["plain"] => settings::show_plain(out),
+        [
+            call @ ("read" | "all" | "config" | "config_text" | "plan" | "names"),
+            file,
+            calls @ ..,
+        ] => settings::ask(alloc, call, file, calls, out),
         _ => Err(Refusal::UnknownCall),
     }
 }

@@ -1,27 +1,25 @@
-//! Cases of settings: reads a call and its arguments from each line, makes the call, and prints the line with its answer. Most
-//! read a settings file, which stands on the line, and ask for values, as in `read FILE CALLS`, `all FILE` and `config FILE`.
-#![tactic(auto)]
-
-mod values;
-
-use sd_case::{Answer, Refusal, answer_cases, bytes_of, number};
+//! What is asked for of settings.
+use crate::read_calls::{
+    CALLS, show_histogram, show_names, show_texts, show_thresholds, show_value,
+};
+use sd_case::{Answer, Refusal, bytes_of, number};
 use sd_config::{ConfigFault, NamesOf, Settings};
 use sd_config_text::{ConfigText, config_line};
 use sd_outside::{Failed, MemSink, Name};
 use sd_plan::{Names, Reckoning};
 use std::alloc::Global;
-use std::io;
-use values::{CALLS, show_histogram, show_names, show_texts, show_thresholds, show_value};
 
-/// Makes the call of a case.
-fn call(alloc: Global, words: &[&str], out: &mut Answer) -> Result<(), Refusal> {
-    match words {
-        ["plain"] => show_plain(out),
-        [call, file, calls @ ..] => match Settings::read(alloc, &bytes_of(alloc, file)?) {
-            Ok(settings) => show_settings(alloc, &settings, call, calls, out),
-            Err(fault) => show_fault(&fault, out),
-        },
-        _ => Err(Refusal::UnknownCall),
+/// `CALL FILE ..`: what is asked for of the settings of a file, or its fault.
+pub(crate) fn ask(
+    alloc: Global,
+    call: &str,
+    file: &str,
+    calls: &[&str],
+    out: &mut Answer,
+) -> Result<(), Refusal> {
+    match Settings::read(alloc, &bytes_of(alloc, file)?) {
+        Ok(settings) => show_settings(alloc, &settings, call, calls, out),
+        Err(fault) => show_fault(&fault, out),
     }
 }
 
@@ -123,8 +121,8 @@ fn show_plan(plan: &Reckoning, out: &mut Answer) {
     show_texts(plan.calculated.as_slice(), out);
 }
 
-/// Appends what the defaults make.
-fn show_plain(out: &mut Answer) -> Result<(), Refusal> {
+/// `plain`: what the defaults make.
+pub(crate) fn show_plain(out: &mut Answer) -> Result<(), Refusal> {
     out.text(" = ");
     show_plan(&Reckoning::plain(), out);
     out.text("; ");
@@ -148,8 +146,4 @@ fn show_fault(fault: &ConfigFault, out: &mut Answer) -> Result<(), Refusal> {
 fn show_name(fault: &str, name: &Name, out: &mut Answer) {
     out.text(fault);
     out.bytes(name.as_slice());
-}
-
-fn main(rt: HostRuntime) -> io::Result<()> {
-    answer_cases(&rt, rt.alloc(), call)
 }
