@@ -1,1 +1,3 @@
 pub mod Arrivals
+pub mod Pieces
+pub mod StreamHouse

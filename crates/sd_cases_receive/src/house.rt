@@ -20,8 +20,8 @@ use std::alloc::Global;
 use std::sync::Wait;
 use std::thread::Threads;
 
-// No kind is deleted when idle.
-const POLICY: Policy = Policy {
+/// No kind is deleted when idle.
+pub(crate) const KEEPS_ALL: Policy = Policy {
     counters: false,
     timers: false,
     gauges: false,
@@ -37,8 +37,8 @@ pub struct Served<L> {
     pub tables: Vec<Table>,
 }
 
-// Counts so many flushes.
-fn mark_often<R: Wait>(rt: &R, desk: &SharedDesk, own: &mut DeskSeat, times: u16)
+/// Counts so many flushes.
+pub(crate) fn mark_often<R: Wait>(rt: &R, desk: &SharedDesk, own: &mut DeskSeat, times: u16)
     requires { IsDeskSeatOf desk.now own.old }
     ensures { IsDeskSeatOf desk.now own.new }
 {
@@ -51,8 +51,8 @@ fn mark_often<R: Wait>(rt: &R, desk: &SharedDesk, own: &mut DeskSeat, times: u16
     }
 }
 
-// The tables of all shards, which get empty ones for them.
-fn tables_of<R: Wait>(
+/// The tables of all shards, which get empty ones for them.
+pub(crate) fn tables_of<R: Wait>(
     rt: &R,
     alloc: Global,
     pool: &Pool,
@@ -86,7 +86,7 @@ pub fn serve<L: Wire + Send + Drop, G: Gate + Sync, C: Clock + Sync, R: Threads 
     };
     let shards = setup.shards.clamp(1, 16);
     let receivers = setup.posts.clamp(1, 17);
-    let (pool, seats) = Pool::open(alloc, limits, POLICY, shards, receivers)?;
+    let (pool, seats) = Pool::open(alloc, limits, KEEPS_ALL, shards, receivers)?;
     let Seats {
         receivers: seats,
         mut flusher,

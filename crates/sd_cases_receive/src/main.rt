@@ -1,13 +1,21 @@
-//! Cases of receivers: each line of the input says what a house of receivers is opened with and what their sources answer, and is
-//! printed with what the receivers did and left. A line reads `receive` or, for the order of what one does, `order`, with words
-//! as `shards=4`, `get=DATAGRAM`, `idle` and `fail`.
+//! Cases of receivers and of streams of lines. A line says what a house of receivers is opened with and what their sources answer,
+//! and is printed with what the receivers did and left: it reads `receive` or, for the order of what one does, `order`, with words
+//! as `shards=4`, `get=DATAGRAM`, `idle` and `fail`. Or it says in which pieces a stream comes, or the sessions of a door, and is
+//! printed with which lines were cut out of it, how its reading ended, and what that left: it reads `cut PIECES`, `cuts STREAM`,
+//! `stream STEPS`, `streams STREAM STEPS` or `door SESSIONS STEPS`.
 #![tactic(auto)]
 
 mod arrivals;
+mod cuts;
 mod house;
+mod kept;
+mod pieces;
+mod plan;
 mod posts;
+mod read;
 mod setup;
 mod shown;
+mod stream_house;
 mod tape;
 
 use house::{Served, serve};
@@ -89,6 +97,11 @@ fn call<R: Threads + Wait + Sync>(
     match words {
         ["receive", words @ ..] => receive_case(rt, alloc, words, out),
         ["order", words @ ..] => order_case(rt, alloc, words, out),
+        ["cut", pieces @ ..] => cuts::cut_pieces(alloc, pieces, out),
+        ["cuts", stream] => cuts::cut_everywhere(alloc, stream, out),
+        ["stream", steps @ ..] => read::read_one(rt, alloc, steps, out),
+        ["streams", stream, steps @ ..] => read::read_everywhere(rt, alloc, stream, steps, out),
+        ["door", sessions, steps @ ..] => kept::keep(rt, alloc, sessions, steps, out),
         _ => Err(Refusal::UnknownCall),
     }
 }

@@ -1,4 +1,4 @@
-//! What the words of a case say.
+//! What the words of a receiver's case say.
 use crate::arrivals::{Arrivals, Step};
 use sd_case::{Refusal, bytes_of, number, push_number, set_number};
 use std::alloc::Global;

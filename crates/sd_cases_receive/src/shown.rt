@@ -1,10 +1,10 @@
-//! How what receivers left is printed.
+//! How what receivers and streams left is printed.
 ghost use Rattle.std.specs.Prelude.{◌<◌, length};
 
 use crate::arrivals::Arrivals;
 use crate::house::Served;
 use sd_case::{Answer, Refusal};
-use sd_desk::Tally;
+use sd_desk::{DeskFacts, Tally};
 use sd_epoch::Table;
 use sd_outside::{Ended, MemWire};
 use sd_receive::Post;
@@ -81,13 +81,8 @@ fn row_text(alloc: Global, table: &Table, i: u32) -> Result<String, Refusal>
     text.finish()
 }
 
-// How many samples and rows a table has, and few rows, by their keys.
-fn show_table(alloc: Global, table: &Table, out: &mut Answer) -> Result<(), Refusal> {
-    out.count("samples ", u64::from(table.entries()));
-    out.count(" rows ", u64::from(table.rows()));
-    if table.rows() > FEW {
-        return Ok(());
-    }
+// The rows of a table, by their keys.
+fn show_rows(alloc: Global, table: &Table, out: &mut Answer) -> Result<(), Refusal> {
     let mut rows = Vec::new(alloc);
     for i in 0..table.rows() {
         rows.push(row_text(alloc, table, i)?)?;
@@ -98,6 +93,16 @@ fn show_table(alloc: Global, table: &Table, out: &mut Answer) -> Result<(), Refu
         out.text(row);
     }
     Ok(())
+}
+
+// How many samples and rows a table has, and few rows, by their keys.
+fn show_table(alloc: Global, table: &Table, out: &mut Answer) -> Result<(), Refusal> {
+    out.count("samples ", u64::from(table.entries()));
+    out.count(" rows ", u64::from(table.rows()));
+    if table.rows() > FEW {
+        return Ok(());
+    }
+    show_rows(alloc, table, out)
 }
 
 /// Appends what receivers left. Of several shards those that have samples are shown.
@@ -122,6 +127,32 @@ pub fn show_served(
             out.count("\n  shard ", i as u64);
             out.text(": ");
             show_table(alloc, table, out)?;
+        }
+    }
+    Ok(())
+}
+
+/// Appends what the lines of streams came to, and what the desk counted, where that is something else.
+pub(crate) fn show_counts(tally: Tally, taken: u64, facts: &DeskFacts, out: &mut Answer) {
+    out.text(": ");
+    show_tally(tally, out);
+    out.count(" taken ", taken);
+    if tally != facts.totals {
+        out.text("; desk ");
+        show_tally(facts.totals, out);
+    }
+}
+
+/// Appends the rows of the tables that have any, each table behind its shard's number.
+pub(crate) fn show_tables(
+    alloc: Global,
+    tables: &[Table],
+    out: &mut Answer,
+) -> Result<(), Refusal> {
+    for (shard, table) in tables.iter().enumerate() {
+        if table.rows() > 0 {
+            out.count("; shard ", shard as u64);
+            show_rows(alloc, table, out)?;
         }
     }
     Ok(())

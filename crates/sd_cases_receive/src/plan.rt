@@ -1,4 +1,4 @@
-//! What the words of a case say.
+//! What the words of a stream's case say.
 ghost use Rattle.std.specs.Prelude.{◌<◌, ◌≤◌};
 
 use crate::pieces::Step;

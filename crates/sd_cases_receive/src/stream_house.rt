@@ -2,15 +2,14 @@
 ghost use Rattle.std.specs.Prelude.{◌≡◌, ◌<◌, ◌^◌, false, IfOk};
 ghost use Rattle.sd_shared_desk.specs.Shared.{IsSeatOf as IsDeskSeatOf};
 
+use crate::house::{KEEPS_ALL, tables_of};
 use crate::plan::Plan;
 use crate::shown::show_tables;
 use sd_case::{Answer, Refusal};
-use sd_desk::{Mark, RoundMarks};
-use sd_epoch::{Limits, Table};
+use sd_epoch::Limits;
 use sd_outside::{Door, MemClock, NoGate, Source};
 use sd_pool::{Pool, Seat, Seats};
 use sd_receive::{Lined, Streamed, linekeep, stream};
-use sd_shard::Policy;
 use sd_shared_desk::{DeskSeat, SharedDesk};
 use sd_tcp::Cutter;
 use std::alloc::Global;
@@ -19,14 +18,6 @@ use std::sync::Wait;
 const LIMITS: Limits = Limits {
     rows: 8,
     entries: 8,
-};
-
-const KEEPS_ALL: Policy = Policy {
-    counters: false,
-    timers: false,
-    gauges: false,
-    sets: false,
-    max_ttl: 1,
 };
 
 /// A desk, and two seats of it.
@@ -44,20 +35,6 @@ pub(crate) fn open_desk(alloc: Global) -> Result<(SharedDesk, DeskSeat, DeskSeat
     Ok((desk, own, other))
 }
 
-/// Counts the flushes of a plan.
-pub(crate) fn mark_often<R: Wait>(rt: &R, desk: &SharedDesk, own: &mut DeskSeat, times: u16)
-    requires { IsDeskSeatOf desk.now own.old }
-    ensures { IsDeskSeatOf desk.now own.new }
-{
-    let marks = RoundMarks {
-        graphite: Mark::NotUsed,
-        console: Mark::NotUsed,
-    };
-    for _ in 0..times {
-        desk.mark(rt, marks, own);
-    }
-}
-
 /// What streams are read with.
 #[derive(Drop)]
 pub(crate) struct House {
@@ -69,7 +46,7 @@ pub(crate) struct House {
 }
 
 impl House {
-    ghost use Rattle.sd_cases_stream.specs.House.{IsReady};
+    ghost use Rattle.sd_cases_receive.specs.StreamHouse.{IsReady};
 
     /// The house of a plan.
     pub fn open(alloc: Global, plan: &Plan) -> Result<House, Refusal>
@@ -153,19 +130,6 @@ impl House {
         )
     }
 
-    /// The tables of all shards, which get empty ones for them.
-    fn tables<R: Wait>(&mut self, rt: &R, alloc: Global) -> Result<Vec<Table>, Refusal>
-        requires { IsReady self.old }
-    {
-        let (pool, flusher) = (&self.pool, &mut self.flusher);
-        let mut tables = Vec::new(alloc);
-        for i in 0..pool.shards() {
-            let spare = Table::open(alloc, LIMITS)?;
-            tables.push(pool.swap(rt, i, flusher, spare))?;
-        }
-        Ok(tables)
-    }
-
     /// Appends the rows of the shards.
     pub fn show_rows<R: Wait>(
         &mut self,
@@ -175,6 +139,7 @@ impl House {
     ) -> Result<(), Refusal>
         requires { IsReady self.old }
     {
-        show_tables(alloc, &self.tables(rt, alloc)?, out)
+        let tables = tables_of(rt, alloc, &self.pool, &mut self.flusher, LIMITS)?;
+        show_tables(alloc, &tables, out)
     }
 }

@@ -1,10 +1,10 @@
 //! Streams that come in pieces.
-ghost use Rattle.sd_cases_stream.specs.House.{IsReady};
+ghost use Rattle.sd_cases_receive.specs.StreamHouse.{IsReady};
 
-use crate::house::{House, open_desk};
 use crate::pieces::{Pieces, Step};
 use crate::plan::{Plan, steps_of};
 use crate::shown::show_counts;
+use crate::stream_house::{House, open_desk};
 use sd_case::{Answer, Refusal, bytes_of};
 use sd_receive::StreamEnd;
 use std::alloc::Global;

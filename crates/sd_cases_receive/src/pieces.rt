@@ -31,7 +31,7 @@ pub(crate) struct Pieces<'a, R> {
 
 impl<'a, R: Wait> Pieces<'a, R> {
     ghost use Rattle.std.specs.Prelude.{◌≡◌};
-    ghost use Rattle.sd_cases_stream.specs.Pieces.{seen_of};
+    ghost use Rattle.sd_cases_receive.specs.Pieces.{seen_of};
 
     /// A source that answers by these steps.
     pub fn of(
@@ -75,7 +75,7 @@ impl<'a, R: Wait> Pieces<'a, R> {
 
 impl<'a, R: Wait> Faulty for Pieces<'a, R> {
     ghost use Rattle.std.proofs.Common.{arith};
-    ghost use Rattle.sd_cases_stream.specs.Pieces.{seen_of};
+    ghost use Rattle.sd_cases_receive.specs.Pieces.{seen_of};
 
     ghost seen = { seen_of };
 

@@ -2,11 +2,12 @@
 ghost use Rattle.std.specs.Prelude.{◌≡◌, All, IfOk, false};
 ghost use Rattle.sd_outside.specs.MemDoor.{seen_of as door_seen};
 ghost use Rattle.sd_outside.specs.MemSessions.{HasNoFaults};
-ghost use Rattle.sd_cases_stream.specs.House.{IsReady};
+ghost use Rattle.sd_cases_receive.specs.StreamHouse.{IsReady};
 
-use crate::house::{House, mark_often, open_desk};
+use crate::house::mark_often;
 use crate::plan::Plan;
 use crate::shown::show_counts;
+use crate::stream_house::{House, open_desk};
 use sd_case::{Answer, Refusal, bytes_of, number};
 use sd_outside::{DoorEnd, MemDoor, MemSink, MemSource};
 use std::alloc::Global;

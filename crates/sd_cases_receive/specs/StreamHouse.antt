@@ -1,7 +1,7 @@
 -- A house of the cases.
 use Rattle.std.specs.Prelude.{◌≡◌, ◌<◌, vec_len}
 use Rattle.sd_pool.specs.Pool.{IsSeatOf, limits_of}
-use Rattle.sd_cases_stream.specs.declared.house.House.{House}
+use Rattle.sd_cases_receive.specs.declared.stream_house.House.{House}
 
 -- its seats are those of its pool, and there is room to read into
 pub record IsReady (house : House) : Type 0 where
