@@ -41,11 +41,24 @@ pub(crate) struct Plan {
     ghost some_at_most: { 0 < most },
 }
 
+/// The settings of a file.
+pub(crate) fn settings_of(alloc: Global, file: &str) -> Result<Settings, Refusal> {
+    Settings::read(alloc, &bytes_of(alloc, file)?).map_err(|_| Refusal::Condition)
+}
+
+/// The sample that a word writes, in the form of StatsD.
+pub(crate) fn sample_of(piece: &str) -> Result<Sample, Refusal> {
+    match Lines::new(piece.as_bytes()).next() {
+        Some(Ok(sample)) => Ok(sample),
+        _ => Err(Refusal::Malformed),
+    }
+}
+
 impl Plan {
     /// One shard and no samples, with the default settings, at Unix second 0.
     fn new(alloc: Global) -> Result<Plan, Refusal> {
         Ok(Plan {
-            settings: Settings::read(alloc, b"").map_err(|_| Refusal::Condition)?,
+            settings: settings_of(alloc, "")?,
             shards: 1,
             samples: Vec::new(alloc),
             start: 0,
@@ -104,8 +117,7 @@ impl Plan {
 
     /// Takes the settings of a file.
     fn read_settings(&mut self, alloc: Global, file: &str) -> Result<(), Refusal> {
-        let file = bytes_of(alloc, file)?;
-        self.settings = Settings::read(alloc, &file).map_err(|_| Refusal::Condition)?;
+        self.settings = settings_of(alloc, file)?;
         Ok(())
     }
 
@@ -137,13 +149,8 @@ impl Plan {
 
     /// Adds the sample that a word writes, in the form of StatsD.
     fn add_sample(&mut self, piece: &str) -> Result<(), Refusal> {
-        match Lines::new(piece.as_bytes()).next() {
-            Some(Ok(sample)) => {
-                self.samples.push(sample)?;
-                Ok(())
-            }
-            _ => Err(Refusal::Malformed),
-        }
+        self.samples.push(sample_of(piece)?)?;
+        Ok(())
     }
 
     /// The end of a session that asks these bytes.

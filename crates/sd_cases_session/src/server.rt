@@ -14,12 +14,12 @@ use sd_shared_desk::{DeskSeat, SharedDesk};
 use std::alloc::Global;
 use std::sync::Wait;
 
-const LIMITS: Limits = Limits {
+pub(crate) const LIMITS: Limits = Limits {
     rows: 16,
     entries: 64,
 };
 
-const KEEPS_ALL: Policy = Policy {
+pub(crate) const KEEPS_ALL: Policy = Policy {
     counters: false,
     timers: false,
     gauges: false,

@@ -1,26 +1,15 @@
+//! A server with one shard, which is asked a line.
+use crate::plan::{sample_of, settings_of};
+use crate::server::{KEEPS_ALL, LIMITS};
 use sd_admin::{Command, HealthWord, Reply, write_reply};
 use sd_case::{Answer, Refusal, bytes_of, number};
 use sd_config::Settings;
 use sd_desk::{Desk, Tally};
-use sd_epoch::{Limits, Who};
+use sd_epoch::Who;
 use sd_key::{Kind, Pattern};
-use sd_line::Lines;
 use sd_outside::{MemSink, WriteFault};
-use sd_shard::{Dump, Keys, Policy, Shard};
+use sd_shard::{Dump, Keys, Shard};
 use std::alloc::Global;
-
-const LIMITS: Limits = Limits {
-    rows: 16,
-    entries: 64,
-};
-
-const KEEPS_ALL: Policy = Policy {
-    counters: false,
-    timers: false,
-    gauges: false,
-    sets: false,
-    max_ttl: 1,
-};
 
 // the room of the output where a case says nothing
 const ROOM: usize = 4096;
@@ -33,11 +22,6 @@ struct Server {
     settings: Settings,
     desk: Desk,
     now: u64,
-}
-
-/// The settings of a file.
-fn settings_of(alloc: Global, file: &str) -> Result<Settings, Refusal> {
-    Settings::read(alloc, &bytes_of(alloc, file)?).map_err(|_| Refusal::Condition)
 }
 
 /// A desk that a word writes as `START`, or as `START/LAST/BAD` where a datagram with so many bad pieces came.
@@ -111,13 +95,8 @@ impl Server {
 
     /// Takes the sample that a word writes, in the form of StatsD.
     fn sample(&mut self, piece: &str) -> Result<(), Refusal> {
-        match Lines::new(piece.as_bytes()).next() {
-            Some(Ok(sample)) => {
-                self.shard.sample(Who(0), &sample);
-                Ok(())
-            }
-            _ => Err(Refusal::Malformed),
-        }
+        self.shard.sample(Who(0), &sample_of(piece)?);
+        Ok(())
     }
 
     /// Carries out steps and then a line, and appends what came of the line.
