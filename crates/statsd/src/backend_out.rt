@@ -1,38 +1,18 @@
+use crate::adapter::Adapter;
 use crate::standard_out::StandardOut;
 use sd_net::GraphiteLink;
-use sd_outside::{
-    Address, Backend, Failed, Faulty, OpenRefusal, Opens, Sink, fault, opening_fault,
-};
+use sd_outside::{Address, Backend, Failed, OpenRefusal, Opens, Sink, fault};
 
 /// Where a backend's text goes.
 #[derive(Drop)]
-enum Destination<'a> {
-    Nowhere,
+pub(crate) enum Destination<'a> {
     Standard(StandardOut<'a>),
     Graphite(GraphiteLink<'a, HostRuntime>),
 }
 
 /// A backend that writes to standard output, where it doesn't set the lists apart, if it is opened at the file with the empty
 /// name, and to Graphite if it is opened at a host. It doesn't tell what it was given.
-#[derive(Drop)]
-pub(crate) struct BackendOut<'a> {
-    rt: &'a HostRuntime,
-    destination: Destination<'a>,
-    opened_at: Option<Address>,
-    faults: u64,
-}
-
-impl<'a> BackendOut<'a> {
-    /// It is opened later.
-    pub(crate) fn new(rt: &'a HostRuntime) -> BackendOut<'a> {
-        BackendOut {
-            rt,
-            destination: Destination::Nowhere,
-            opened_at: None,
-            faults: 0,
-        }
-    }
-}
+pub(crate) type BackendOut<'a> = Adapter<'a, Destination<'a>>;
 
 /// The destination at an address.
 fn destination_at<'a>(rt: &'a HostRuntime, at: &Address) -> Result<Destination<'a>, OpenRefusal> {
@@ -50,37 +30,19 @@ fn destination_at<'a>(rt: &'a HostRuntime, at: &Address) -> Result<Destination<'
     }
 }
 
-impl<'a> Faulty for BackendOut<'a> {
-    ghost use Rattle.std.specs.Prelude.{min};
-    ghost use Rattle.std.proofs.Common.{arith};
-    ghost use Rattle.sd_model_outside.specs.Outside.{Untold, last_count, object_of};
-    ghost use Rattle.sd_outside.specs.Places.{last_place};
-
-    ghost seen = { λ s. object_of Untold (min s.faults last_count) (last_place s.opened_at) };
-
-    ghost faults_fit = { λ s. omega arith };
-}
-
-impl<'a> Opens for BackendOut<'a> {
+impl<'a> Opens for Adapter<'a, Destination<'a>> {
     fn open_at(&mut self, at: &Address) -> Result<(), OpenRefusal> {
-        match destination_at(self.rt, at) {
-            Ok(destination) => {
-                self.destination = destination;
-                self.opened_at = Some(at.copied());
-                Ok(())
-            }
-            Err(OpenRefusal::OutOfMemory) => Err(OpenRefusal::OutOfMemory),
-            Err(OpenRefusal::Failed) => Err(opening_fault(&mut self.faults)),
-        }
+        let destination = destination_at(self.rt, at);
+        self.keep(at, destination)
     }
 }
 
-impl<'a> Sink for BackendOut<'a> {
+impl<'a> Sink for Adapter<'a, Destination<'a>> {
     fn write(&mut self, bytes: &[u8]) -> Result<usize, Failed> {
-        let written = match &mut self.destination {
-            Destination::Nowhere => Err(Failed),
-            Destination::Standard(output) => output.write(bytes),
-            Destination::Graphite(link) => link.write(bytes),
+        let written = match &mut self.object {
+            None => Err(Failed),
+            Some(Destination::Standard(output)) => output.write(bytes),
+            Some(Destination::Graphite(link)) => link.write(bytes),
         };
         match written {
             Ok(n) => Ok(n),
@@ -91,12 +53,12 @@ impl<'a> Sink for BackendOut<'a> {
     ghost number_fits = { λ s. tt };
 }
 
-impl<'a> Backend for BackendOut<'a> {
+impl<'a> Backend for Adapter<'a, Destination<'a>> {
     fn begin(&mut self) -> Result<(), Failed> {
-        let begun = match &mut self.destination {
-            Destination::Nowhere => Err(Failed),
-            Destination::Standard(_) => Ok(()),
-            Destination::Graphite(link) => link.begin(),
+        let begun = match &mut self.object {
+            None => Err(Failed),
+            Some(Destination::Standard(_)) => Ok(()),
+            Some(Destination::Graphite(link)) => link.begin(),
         };
         match begun {
             Ok(()) => Ok(()),
@@ -105,10 +67,10 @@ impl<'a> Backend for BackendOut<'a> {
     }
 
     fn finish(&mut self) -> Result<(), Failed> {
-        let finished = match &mut self.destination {
-            Destination::Nowhere => Err(Failed),
-            Destination::Standard(_) => Ok(()),
-            Destination::Graphite(link) => link.finish(),
+        let finished = match &mut self.object {
+            None => Err(Failed),
+            Some(Destination::Standard(_)) => Ok(()),
+            Some(Destination::Graphite(link)) => link.finish(),
         };
         match finished {
             Ok(()) => Ok(()),

@@ -10,6 +10,7 @@ ghost use Rattle.std.specs.Prelude.{◌≡◌, drop, length, IfOk};
 ghost use Rattle.std.specs.Process.{exit_status};
 ghost use Rattle.sd_top.specs.Status.{exit_code};
 
+mod adapter;
 mod backend_out;
 mod file_source;
 mod standard_out;

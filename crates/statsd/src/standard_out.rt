@@ -2,8 +2,16 @@ ghost use Rattle.std.specs.Prelude.{◌≡◌, ◌↔◌, [], IsTrue};
 ghost use Rattle.sd_model_outside.specs.Outside.{File};
 ghost use Rattle.sd_outside.specs.Places.{place_of};
 
-use sd_outside::{Address, Failed, Faulty, OpenRefusal, Opens, Sink, fault, opening_fault};
+use crate::adapter::Adapter;
+use sd_outside::{Address, Failed, OpenRefusal, Opens, Sink, fault};
 use std::io::{self, Write};
+
+/// What stands for standard output: the runtime has it, so nothing.
+#[derive(Clone, Copy, Drop)]
+pub(crate) struct Standard;
+
+/// Standard output. It doesn't tell what it was given.
+pub(crate) type StandardOut<'a> = Adapter<'a, Standard>;
 
 /// Whether an address is that of standard output, the file with the empty name.
 fn is_standard(at: &Address) -> bool
@@ -15,47 +23,19 @@ fn is_standard(at: &Address) -> bool
     }
 }
 
-/// Standard output. It doesn't tell what it was given.
-#[derive(Drop)]
-pub(crate) struct StandardOut<'a> {
-    rt: &'a HostRuntime,
-    opened_at: Option<Address>,
-    faults: u64,
-}
-
-impl<'a> StandardOut<'a> {
-    pub(crate) fn new(rt: &'a HostRuntime) -> StandardOut<'a> {
-        StandardOut {
-            rt,
-            opened_at: None,
-            faults: 0,
-        }
-    }
-}
-
-impl<'a> Faulty for StandardOut<'a> {
-    ghost use Rattle.std.specs.Prelude.{min};
-    ghost use Rattle.std.proofs.Common.{arith};
-    ghost use Rattle.sd_model_outside.specs.Outside.{Untold, last_count, object_of};
-    ghost use Rattle.sd_outside.specs.Places.{last_place};
-
-    ghost seen = { λ s. object_of Untold (min s.faults last_count) (last_place s.opened_at) };
-
-    ghost faults_fit = { λ s. omega arith };
-}
-
-impl<'a> Opens for StandardOut<'a> {
+impl<'a> Opens for Adapter<'a, Standard> {
     /// Opens at the file with the empty name, and nowhere else.
     fn open_at(&mut self, at: &Address) -> Result<(), OpenRefusal> {
-        if !is_standard(at) {
-            return Err(opening_fault(&mut self.faults));
-        }
-        self.opened_at = Some(at.copied());
-        Ok(())
+        let standard = if is_standard(at) {
+            Ok(Standard)
+        } else {
+            Err(OpenRefusal::Failed)
+        };
+        self.keep(at, standard)
     }
 }
 
-impl<'a> Sink for StandardOut<'a> {
+impl<'a> Sink for Adapter<'a, Standard> {
     fn write(&mut self, bytes: &[u8]) -> Result<usize, Failed> {
         match self.rt.stdout().write(bytes) {
             Ok(0) | Err(_) => Err(fault(&mut self.faults)),

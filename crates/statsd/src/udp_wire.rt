@@ -1,5 +1,5 @@
-use sd_outside::{Address, Failed, Faulty, OpenRefusal, Opens, Wire, fault, opening_fault};
-use std::io::ErrorKind;
+use crate::adapter::{Adapter, refusal_of};
+use sd_outside::{Address, Failed, OpenRefusal, Opens, Wire, fault};
 use std::net::UdpSocket;
 use std::str;
 
@@ -7,64 +7,31 @@ use std::str;
 const ANY: (&str, u16) = ("0.0.0.0", 0);
 
 /// A UDP socket that datagrams are sent on, to one host and port. It doesn't tell what was sent.
-#[derive(Drop)]
-pub(crate) struct UdpWire<'a> {
-    rt: &'a HostRuntime,
-    socket: Option<UdpSocket>,
-    opened_at: Option<Address>,
-    faults: u64,
+pub(crate) type UdpWire<'a> = Adapter<'a, UdpSocket>;
+
+/// A socket that is connected to the host and port of an address. No datagram is sent by that.
+fn socket_to(rt: &HostRuntime, at: &Address) -> Result<UdpSocket, OpenRefusal> {
+    let Address::Host { host, port } = at else {
+        return Err(OpenRefusal::Failed);
+    };
+    let Ok(host) = str::from_utf8(host.as_slice()) else {
+        return Err(OpenRefusal::Failed);
+    };
+    let socket = UdpSocket::bind(rt, ANY).map_err(refusal_of)?;
+    socket.connect((host, *port)).map_err(refusal_of)?;
+    Ok(socket)
 }
 
-impl<'a> UdpWire<'a> {
-    /// It is opened later.
-    pub(crate) fn new(rt: &'a HostRuntime) -> UdpWire<'a> {
-        UdpWire {
-            rt,
-            socket: None,
-            opened_at: None,
-            faults: 0,
-        }
-    }
-}
-
-impl<'a> Faulty for UdpWire<'a> {
-    ghost use Rattle.std.specs.Prelude.{min};
-    ghost use Rattle.std.proofs.Common.{arith};
-    ghost use Rattle.sd_model_outside.specs.Outside.{Untold, last_count, object_of};
-    ghost use Rattle.sd_outside.specs.Places.{last_place};
-
-    ghost seen = { λ s. object_of Untold (min s.faults last_count) (last_place s.opened_at) };
-
-    ghost faults_fit = { λ s. omega arith };
-}
-
-impl<'a> Opens for UdpWire<'a> {
-    /// Opens at a host and a port, to which the socket is connected. No datagram is sent by that.
+impl<'a> Opens for Adapter<'a, UdpSocket> {
     fn open_at(&mut self, at: &Address) -> Result<(), OpenRefusal> {
-        let Address::Host { host, port } = at else {
-            return Err(opening_fault(&mut self.faults));
-        };
-        let Ok(host) = str::from_utf8(host.as_slice()) else {
-            return Err(opening_fault(&mut self.faults));
-        };
-        let connected = UdpSocket::bind(self.rt, ANY).and_then(|socket| socket
-            .connect((host, *port))
-            .map(|()| socket));
-        match connected {
-            Ok(socket) => {
-                self.socket = Some(socket);
-                self.opened_at = Some(at.copied());
-                Ok(())
-            }
-            Err(e) if e.kind() == ErrorKind::OutOfMemory => Err(OpenRefusal::OutOfMemory),
-            Err(_) => Err(opening_fault(&mut self.faults)),
-        }
+        let socket = socket_to(self.rt, at);
+        self.keep(at, socket)
     }
 }
 
-impl<'a> Wire for UdpWire<'a> {
+impl<'a> Wire for Adapter<'a, UdpSocket> {
     fn send(&mut self, packet: &[u8]) -> Result<(), Failed> {
-        let Some(socket) = &self.socket else {
+        let Some(socket) = &self.object else {
             return Err(fault(&mut self.faults));
         };
         match socket.send(packet) {

@@ -1,0 +1,69 @@
+//! What the program's own adapters are made of.
+ghost use Rattle.std.specs.Prelude.{◌≡◌, OnOk, IsErrOf};
+ghost use Rattle.sd_model_outside.specs.Outside.{HasFailed, opened};
+ghost use Rattle.sd_outside.specs.Places.{place_of};
+ghost use Rattle.statsd.specs.Adapter.{seen_of};
+
+use sd_outside::{Address, Faulty, OpenRefusal, opening_fault};
+use std::io::{Error, ErrorKind};
+
+/// An object of the system: what stands for it once it is opened, where it was last opened, and how often it failed. It tells
+/// nothing of its content.
+#[derive(Drop)]
+pub(crate) struct Adapter<'a, T> {
+    pub rt: &'a HostRuntime,
+    pub object: Option<T>,
+    pub faults: u64,
+    opened_at: Option<Address>,
+}
+
+impl<'a, T: Drop> Adapter<'a, T> {
+    /// It is opened later.
+    pub(crate) fn new(rt: &'a HostRuntime) -> Adapter<'a, T> {
+        Adapter {
+            rt,
+            object: None,
+            faults: 0,
+            opened_at: None,
+        }
+    }
+
+    /// Keeps what was opened at an address, or counts that it wasn't.
+    pub(crate) fn keep(
+        &mut self,
+        at: &Address,
+        object: Result<T, OpenRefusal>,
+    ) -> Result<(), OpenRefusal>
+        ensures ok { OnOk result (seen_of self.new ≡ opened (place_of at.now) (seen_of self.old)) }
+        ensures failed { IsErrOf result OpenRefusal.Failed → HasFailed (seen_of self.old) (seen_of self.new) }
+        ensures out_of_memory { IsErrOf result OpenRefusal.OutOfMemory → seen_of self.new ≡ seen_of self.old }
+    {
+        match object {
+            Ok(object) => {
+                self.object = Some(object);
+                self.opened_at = Some(at.copied());
+                Ok(())
+            }
+            Err(OpenRefusal::OutOfMemory) => Err(OpenRefusal::OutOfMemory),
+            Err(OpenRefusal::Failed) => Err(opening_fault(&mut self.faults)),
+        }
+    }
+}
+
+impl<'a, T> Faulty for Adapter<'a, T> {
+    ghost use Rattle.std.proofs.Common.{arith};
+    ghost use Rattle.statsd.specs.Adapter.{seen_of};
+
+    ghost seen = { seen_of };
+
+    ghost faults_fit = { λ s. omega arith };
+}
+
+/// Why the system opened nothing.
+pub(crate) fn refusal_of(error: Error) -> OpenRefusal {
+    if error.kind() == ErrorKind::OutOfMemory {
+        OpenRefusal::OutOfMemory
+    } else {
+        OpenRefusal::Failed
+    }
+}
