@@ -2,20 +2,15 @@
 use Rattle.std.specs.Prelude.{min}
 use Rattle.sd_model_outside.specs.Outside.{Object, last_count}
 use Rattle.sd_outside.specs.MemDatagrams as source
-use Rattle.sd_outside.specs.MemBackend as back
 use Rattle.sd_outside.specs.MemDoor as door
+use Rattle.sd_outside.specs.declared.mem_door.MemDoor.{MemDoor}
 use Rattle.sd_cases_serve.specs.declared.meeting.MeetSource.{MeetSource}
-use Rattle.sd_cases_serve.specs.declared.meeting.MeetBack.{MeetBack}
-use Rattle.sd_cases_serve.specs.declared.meeting.MeetDoor.{MeetDoor}
+use Rattle.sd_cases_serve.specs.declared.meeting.Comer.{Comer}
 
 -- the source in memory, with turns of its own
 abbrev pub source_seen : MeetSource → Object
 source_seen s = record (source.seen_of s.source) { turns = min s.turns last_count }
 
--- the backend in memory
-abbrev pub back_seen : MeetBack → Object
-back_seen b = back.seen_of b.back
-
 -- the door in memory
-abbrev pub door_seen : MeetDoor → Object
-door_seen d = door.seen_of d.door
+abbrev pub door_seen : Comer MemDoor → Object
+door_seen d = door.seen_of d.object

@@ -96,77 +96,80 @@ impl<'a> Datagrams for MeetSource<'a> {
     ghost turns_fit = { λ s. Prim.omega arith };
 }
 
-/// A backend whose first write comes to the meeting, and returns once the samples are submitted.
+/// An object whose first use comes to the meeting.
 #[derive(Drop)]
-struct MeetBack<'a> {
-    back: MemBackend,
+struct Comer<'a, T> {
+    object: T,
     plan: Plan<'a>,
     has_come: bool,
 }
 
-impl<'a> Faulty for MeetBack<'a> {
-    ghost use Rattle.std.proofs.Common.{arith};
-    ghost use Rattle.sd_cases_serve.specs.Meeting.{back_seen};
+impl<'a, T> Comer<'a, T> {
+    ghost use Rattle.std.specs.Prelude.{◌≡◌};
 
-    ghost seen = { back_seen };
+    fn new(object: T, plan: Plan<'a>) -> Comer<'a, T>
+        ensures { result.object ≡ object }
+    {
+        Comer {
+            object,
+            plan,
+            has_come: false,
+        }
+    }
 
-    ghost faults_fit = { λ s. Prim.omega arith };
-}
-
-impl<'a> Opens for MeetBack<'a> {
-    fn open_at(&mut self, at: &Address) -> Result<(), OpenRefusal> {
-        self.back.open_at(at)
+    // Comes to the meeting and waits for the others, unless it came before, and answers whether it did.
+    fn comes(&mut self) -> bool
+        ensures { self.new.object ≡ self.old.object }
+    {
+        if self.has_come {
+            return false;
+        }
+        self.has_come = true;
+        self.plan.order.come(MEETING);
+        self.plan.order.wait(MEETING, self.plan.parties);
+        true
     }
 }
 
-impl<'a> Sink for MeetBack<'a> {
+impl<'a, T: Faulty> Faulty for Comer<'a, T> {
+    ghost seen = { λ c. T.seen c.object };
+
+    ghost faults_fit = { λ c. T.faults_fit c.object };
+}
+
+impl<'a, T: Opens> Opens for Comer<'a, T> {
+    fn open_at(&mut self, at: &Address) -> Result<(), OpenRefusal> {
+        self.object.open_at(at)
+    }
+}
+
+/// A backend whose first write returns once the samples are submitted.
+type MeetBack<'a> = Comer<'a, MemBackend>;
+
+impl<'a> Sink for Comer<'a, MemBackend> {
     fn write(&mut self, bytes: &[u8]) -> Result<usize, Failed> {
-        if !self.has_come {
-            self.has_come = true;
-            self.plan.order.come(MEETING);
-            self.plan.order.wait(MEETING, self.plan.parties);
+        if self.comes() {
             self.plan.order.wait(1, self.plan.samples);
         }
-        self.back.write(bytes)
+        self.object.write(bytes)
     }
 
     ghost number_fits = { λ _. tt };
 }
 
-impl<'a> Backend for MeetBack<'a> {
+impl<'a> Backend for Comer<'a, MemBackend> {
     fn begin(&mut self) -> Result<(), Failed> {
-        self.back.begin()
+        self.object.begin()
     }
 
     fn finish(&mut self) -> Result<(), Failed> {
-        self.back.finish()
+        self.object.finish()
     }
 }
 
-/// A door whose first call comes to the meeting.
-#[derive(Drop)]
-struct MeetDoor<'a> {
-    door: MemDoor,
-    plan: Plan<'a>,
-    has_come: bool,
-}
+type MeetDoor<'a> = Comer<'a, MemDoor>;
 
-impl<'a> Faulty for MeetDoor<'a> {
-    ghost use Rattle.std.proofs.Common.{arith};
-    ghost use Rattle.sd_cases_serve.specs.Meeting.{door_seen};
-
-    ghost seen = { door_seen };
-
-    ghost faults_fit = { λ s. Prim.omega arith };
-}
-
-impl<'a> Opens for MeetDoor<'a> {
-    fn open_at(&mut self, at: &Address) -> Result<(), OpenRefusal> {
-        self.door.open_at(at)
-    }
-}
-
-impl<'a> Door for MeetDoor<'a> {
+impl<'a> Door for Comer<'a, MemDoor> {
     type Asking = MemSource;
 
     type Telling = MemSink;
@@ -174,16 +177,12 @@ impl<'a> Door for MeetDoor<'a> {
     ghost use Rattle.std.proofs.Common.{arith};
 
     fn next_session(&mut self) -> Entry<MemSource, MemSink> {
-        if !self.has_come {
-            self.has_come = true;
-            self.plan.order.come(MEETING);
-            self.plan.order.wait(MEETING, self.plan.parties);
-        }
-        self.door.next_session()
+        self.comes();
+        self.object.next_session()
     }
 
     fn leave(&mut self, asking: MemSource, telling: MemSink) {
-        self.door.leave(asking, telling);
+        self.object.leave(asking, telling);
     }
 
     ghost turns_fit = { λ s. Prim.omega arith };
@@ -216,13 +215,9 @@ fn meeting_backs<'a>(
 ) -> Result<Backs<MeetBack<'a>>, Refusal> {
     let backs = backs_of(alloc, words)?;
     Ok(Backs {
-        graphite: MeetBack {
-            back: backs.graphite,
-            plan,
-            has_come: false,
-        },
-        console: MeetBack {
-            back: backs.console,
+        graphite: Comer::new(backs.graphite, plan),
+        console: Comer {
+            object: backs.console,
             plan,
             has_come: true,
         },
@@ -254,16 +249,8 @@ fn world_of<'a>(
         wires: wires_of(alloc, words, setup)?,
         beat: beat_of(alloc, words)?,
         backs: meeting_backs(alloc, words, plan)?,
-        door: MeetDoor {
-            door: door_of(alloc, words)?,
-            plan,
-            has_come: false,
-        },
-        streams: MeetDoor {
-            door: streams_of(alloc, words, setup)?,
-            plan,
-            has_come: false,
-        },
+        door: Comer::new(door_of(alloc, words)?, plan),
+        streams: Comer::new(streams_of(alloc, words, setup)?, plan),
     })
 }
 
@@ -282,7 +269,7 @@ fn meet_over<R: Threads + Wait + Sync>(
     show_ends(&served, out);
     show_desk(&served.desk.facts(), out);
     show_books(served.books.as_slice(), out);
-    show_graphite(alloc, &world.backs.graphite.back, out)
+    show_graphite(alloc, &world.backs.graphite.object, out)
 }
 
 // Serves over the objects that the words write.
