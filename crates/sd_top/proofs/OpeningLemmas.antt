@@ -1,11 +1,10 @@
 -- Parts that are opened in their order, of which one stops it.
-use Rattle.std.proofs.Common.{◌≡◌, ℕ, zero, suc, ◌+◌, ◌-◌, ◌*◌, ◌<◌, ◌≤◌, Bool, true, false, List, [], ◌∷◌, ◌++◌, length, get_or, set, inl, inr, refl, sym, ap, subst, ◌∙◌, arith, append_assoc, length-append}
-use Rattle.std.specs.Prelude.{if◌then◌else◌}
+use Rattle.std.proofs.Common.{◌≡◌, ℕ, zero, suc, ◌+◌, ◌-◌, ◌*◌, ◌<◌, ◌≤◌, Bool, true, false, List, [], ◌∷◌, ◌++◌, length, get_or, set, inl, inr, refl, sym, ap, subst, ◌∙◌, arith, append-nil, append_assoc, length-append}
 use Rattle.std.proofs.Math.Nat.{suc-mul, zero-mul}
-use Rattle.sd_model_outside.specs.Outside.{Object, Place, HasFailed, Untold, fresh, opened}
+use Rattle.sd_model_outside.specs.Outside.{Object, Place, File, HasFailed, Untold, fresh, opened}
 use Rattle.sd_model_call.specs.Call.{Answer, StopsAmong}
-use Rattle.sd_model_call.specs.Opening.{Opening, Part, World, numbered, opened_all, opened_part, opening_where, part_in, repeated, with_part}
-use Rattle.sd_top.specs.Causes.{EachStops, IsNotOpened, opened_each}
+use Rattle.sd_model_call.specs.Opening.{Flags, OfConsole, OfGraphite, Opening, Part, World, numbered, opened_all, opened_part, opening_where, part_in, repeated, with_part}
+use Rattle.sd_top.specs.Causes.{AreOpened, BackStops, EachStops, IsNotOpened, WhereStops, opened_each, opened_where}
 
 -- parts that were opened one list after the other
 opened_more : (w : World) (xs ys : List Opening) → opened_all w (xs ++ ys) ≡ opened_all (opened_all w xs) ys
@@ -183,11 +182,48 @@ part_stops o behind answer w n (inr (is, failed)) sees stays = inr (
 )
 
 -- the same of one that is opened where it is used
-pub where_stops : (used : Bool) (o : Opening) (behind : List Opening) (answer : Answer) (w : World) (n : Object) → used ≡ true → IsNotOpened o.part answer (part_in w o.part) n → part_in (with_part o.part n w) o.part ≡ n → with_part o.part (part_in w o.part) w ≡ w
+pub where_stops : (used : Bool) (o : Opening) (behind : List Opening) (answer : Answer) (w : World) (n : Object) → WhereStops used o.part answer (part_in w o.part) n → part_in (with_part o.part n w) o.part ≡ n → with_part o.part (part_in w o.part) w ≡ w
     → StopsAmong (opening_where used o ++ behind) answer w (with_part o.part n w)
-where_stops true o behind answer w n on failed sees stays = part_stops o behind answer w n failed sees stays
-where_stops false o behind answer w n on failed sees stays = absurd (cc)
+where_stops true o behind answer w n stops sees stays = part_stops o behind answer w n stops.1 sees stays
+where_stops false o behind answer w n stops sees stays = let on = stops.0 in absurd (cc)
 
-pub where_opened : (used : Bool) (o : Opening) (w : World) (n : Object) → n ≡ (if used then opened o.place (part_in w o.part) else part_in w o.part) → with_part o.part (part_in w o.part) w ≡ w → with_part o.part n w ≡ opened_all w (opening_where used o)
+pub where_opened : (used : Bool) (o : Opening) (w : World) (n : Object) → n ≡ opened_where used o.place (part_in w o.part) → with_part o.part (part_in w o.part) w ≡ w → with_part o.part n w ≡ opened_all w (opening_where used o)
 where_opened true o w n is stays = ap (λ x. with_part o.part x w) is
 where_opened false o w n is stays = ap (λ x. with_part o.part x w) is ∙ stays
+
+-- a world with these backends, and these flags
+abbrev pub with_backs : World → Flags → Object → Object → World
+with_backs w flags g c = record w { seen = record w.seen { graphite = g; console = c }; flags = flags }
+
+-- Both backends of a world, Graphite at this place.
+module _ (place : Place) where
+  abbrev at_graphite : Opening
+  at_graphite = record { part = OfGraphite; place = place }
+
+  abbrev at_console : Opening
+  at_console = record { part = OfConsole; place = File [] }
+
+  -- what is opened of them, where flags say which are used
+  abbrev pub back_openings : Flags → List Opening
+  back_openings flags = opening_where flags.graphite (record { part = OfGraphite; place = place }) ++ opening_where flags.console (record { part = OfConsole; place = File [] })
+
+  -- they are opened
+  pub backs_opened : (w : World) (flags : Flags) (g c : Object) → flags ≡ w.flags → AreOpened w.flags place w.seen.graphite w.seen.console g c → with_backs w flags g c ≡ opened_all w (back_openings w.flags)
+  backs_opened w flags g c same (is_graphite, is_console) =
+      let mid = with_part OfGraphite g w in
+      ap (λ f. with_backs w f g c) same
+      ∙ opened_behind (opening_where w.flags.graphite at_graphite) (opening_where w.flags.console at_console) w mid (with_part OfConsole c mid)
+      (where_opened w.flags.graphite at_graphite w g is_graphite refl) (where_opened w.flags.console at_console mid c is_console refl)
+
+  -- one of them isn't
+  pub backs_stop : (w : World) (answer : Answer) (flags : Flags) (g c : Object) → flags ≡ w.flags → BackStops w.flags place answer w.seen.graphite w.seen.console g c → StopsAmong (back_openings w.flags) answer w (with_backs w flags g c)
+  backs_stop w answer flags g c same (inl (stops, stays)) =
+      subst (λ o. StopsAmong (back_openings w.flags) answer w (with_backs w flags g o)) (sym stays)
+      (subst (λ f. StopsAmong (back_openings w.flags) answer w (with_backs w f g w.seen.console)) (sym same)
+      (where_stops w.flags.graphite at_graphite (opening_where w.flags.console at_console) answer w g stops refl refl))
+  backs_stop w answer flags g c same (inr (is, stops)) =
+      let mid = with_part OfGraphite g w in
+      let behind = opening_where w.flags.console at_console in
+      subst (λ f. StopsAmong (back_openings w.flags) answer w (with_backs w f g c)) (sym same)
+      (stops_behind (opening_where w.flags.graphite at_graphite) behind answer w mid (with_part OfConsole c mid) (where_opened w.flags.graphite at_graphite w g is refl)
+      (subst (λ os. StopsAmong os answer mid (with_part OfConsole c mid)) (append-nil behind) (where_stops w.flags.console at_console [] answer mid c stops refl refl)))

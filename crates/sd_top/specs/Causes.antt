@@ -1,8 +1,8 @@
 -- Why a step before a run ended the call, and what was done by then.
-use Rattle.std.specs.Prelude.{◌≡◌, ◌⊎◌, ℕ, ◌+◌, List, [], ◌∷◌, length, Err}
-use Rattle.sd_model_outside.specs.Outside.{Object, Place, HasFailed, opened}
+use Rattle.std.specs.Prelude.{◌≡◌, ◌⊎◌, ℕ, ◌+◌, Bool, true, List, [], ◌∷◌, length, Err, if◌then◌else◌}
+use Rattle.sd_model_outside.specs.Outside.{Object, Place, File, HasFailed, opened}
 use Rattle.sd_model_settings.specs.Settings.{SettingsFlaw, settings}
-use Rattle.sd_model_call.specs.Opening.{Part, World, longest_file}
+use Rattle.sd_model_call.specs.Opening.{Flags, OfConsole, OfGraphite, Part, World, longest_file}
 use Rattle.sd_model_replay.specs.AccountingTheorem.{AccountingTheorem}
 use Rattle.sd_model_call.specs.Drill.{drill_text}
 use Rattle.sd_model_call.specs.Call.{Account, Answer, AnswersReplay, Done, Drilled, WritesTotals, drill_end, NoMemory, Misset, NotOpened}
@@ -10,6 +10,25 @@ use Rattle.sd_model_call.specs.Call.{Account, Answer, AnswersReplay, Done, Drill
 -- an object wasn't opened: no memory was left, or it failed
 abbrev pub IsNotOpened : Part → Answer → Object → Object → Type 0
 IsNotOpened part answer old new = (answer ≡ NoMemory) × (new ≡ old) ⊎ (answer ≡ NotOpened part) × HasFailed old new
+
+-- an object that is used wasn't opened
+abbrev pub WhereStops : Bool → Part → Answer → Object → Object → Type 0
+WhereStops used part answer old new = (used ≡ true) × IsNotOpened part answer old new
+
+-- an object that was opened at this place, where it is used
+abbrev pub opened_where : Bool → Place → Object → Object
+opened_where used place o = if used then opened place o else o
+
+-- the backends that are used were opened: Graphite at this place, and the console at the empty name
+abbrev pub AreOpened : Flags → Place → (graphite console graphite_now console_now : Object) → Type 0
+AreOpened flags place graphite console graphite_now console_now =
+    (graphite_now ≡ opened_where flags.graphite place graphite) × (console_now ≡ opened_where flags.console (File []) console)
+
+-- of the backends that are used one wasn't opened: Graphite at this place; or Graphite was, and the console wasn't
+abbrev pub BackStops : Flags → Place → Answer → (graphite console graphite_now console_now : Object) → Type 0
+BackStops flags place answer graphite console graphite_now console_now =
+    WhereStops flags.graphite OfGraphite answer graphite graphite_now × (console_now ≡ console)
+    ⊎ (graphite_now ≡ opened_where flags.graphite place graphite) × WhereStops flags.console OfConsole answer console console_now
 
 -- a settings file with these bytes gives no values: no memory was left, or it has a flaw
 abbrev pub IsRefused : Answer → List ℕ → Type 0

@@ -1,4 +1,4 @@
-ghost use Rattle.std.specs.Prelude.{◌≡◌, ◌+◌, ◌*◌, ◌<◌, ◌≤◌, ◌^◌, true, length, map, if◌then◌else◌, OnOk, IfErr};
+ghost use Rattle.std.specs.Prelude.{◌≡◌, ◌+◌, ◌*◌, ◌<◌, ◌≤◌, ◌^◌, length, map, OnOk, IfErr};
 ghost use Rattle.sd_model_outside.specs.Outside.{Place, opened};
 ghost use Rattle.sd_model_replay.specs.Settings.{targets_of};
 ghost use Rattle.sd_model_call.specs.Call.{StopsAmong};
@@ -7,14 +7,15 @@ ghost use Rattle.sd_model_call.specs.Proxy.{node_place};
 ghost use Rattle.sd_plan.specs.Entries.{node_view, target_view};
 ghost use Rattle.sd_outside.specs.Places.{place_of};
 ghost use Rattle.sd_top.specs.Answers.{answer_of, part_of};
-ghost use Rattle.sd_top.specs.Causes.{EachStops, IsNotOpened, opened_each};
-ghost use Rattle.sd_top.specs.World.{world_of};
+ghost use Rattle.sd_top.specs.Causes.{AreOpened, BackStops, EachStops, IsNotOpened, WhereStops, opened_each, opened_where};
+ghost use Rattle.sd_top.specs.World.{flags_in, world_of};
 
 use crate::call::World;
 use crate::status::{Part, Status};
 use sd_config::Settings;
 use sd_outside::{
-    Address, Backend, Beat, Datagrams, Door, Name, OpenRefusal, Opens, Probe, Sink, Source, Wire,
+    Address, Backend, Backs, Beat, Datagrams, Door, Name, OpenRefusal, Opens, Probe, Sink, Source,
+    Wire,
 };
 use sd_plan::{Node, Target};
 use sd_replay::targets_of;
@@ -212,10 +213,36 @@ pub(crate) fn open_where<T: Opens>(
     at: &Address,
     part: Part,
 ) -> Result<(), Status>
-    ensures ok { OnOk result (T.seen object.new ≡ (if used then opened (place_of at.now) (T.seen object.old) else T.seen object.old)) }
-    ensures refused { IfErr result (λ status. (used ≡ true) × IsNotOpened (part_of part) (answer_of status) (T.seen object.old) (T.seen object.new)) }
+    ensures ok { OnOk result (T.seen object.new ≡ opened_where used (place_of at.now) (T.seen object.old)) }
+    ensures refused { IfErr result (λ status. WhereStops used (part_of part) (answer_of status) (T.seen object.old) (T.seen object.new)) }
 {
     if used { open(object, at, part) } else { Ok(()) }
+}
+
+/// Opens each backend that is used: Graphite at this address, and the console at the file with the empty name.
+///
+/// # Errors
+///
+/// `OpenFault` where one failed, and `OutOfMemory`.
+pub(crate) fn open_backs<B: Backend>(backs: &mut Backs<B>, graphite: &Address) -> Result<(), Status>
+    ensures opened { OnOk result (AreOpened (flags_in backs.old) (place_of graphite.now)
+        (B.seen (backs.old).graphite) (B.seen (backs.old).console) (B.seen (backs.new).graphite) (B.seen (backs.new).console)) }
+    ensures refused { IfErr result (λ status. BackStops (flags_in backs.old) (place_of graphite.now) (answer_of status)
+        (B.seen (backs.old).graphite) (B.seen (backs.old).console) (B.seen (backs.new).graphite) (B.seen (backs.new).console)) }
+    ensures flags { flags_in backs.new ≡ flags_in backs.old }
+{
+    open_where(
+        backs.graphite_used,
+        &mut backs.graphite,
+        graphite,
+        Part::Graphite,
+    )?;
+    open_where(
+        backs.console_used,
+        &mut backs.console,
+        &Address::File(Name::new()),
+        Part::Console,
+    )
 }
 
 /// Opens what a replay by these settings uses: the script, a wire for each target of the repeater, and each backend that is used.
@@ -259,17 +286,5 @@ pub(crate) fn open_replay<
 {
     open(&mut world.script, &Address::File(script), Part::Script)?;
     open_repeater(1, settings, world)?;
-    let backs = &mut world.backs;
-    open_where(
-        backs.graphite_used,
-        &mut backs.graphite,
-        &Address::File(Name::new()),
-        Part::Graphite,
-    )?;
-    open_where(
-        backs.console_used,
-        &mut backs.console,
-        &Address::File(Name::new()),
-        Part::Console,
-    )
+    open_backs(&mut world.backs, &Address::File(Name::new()))
 }

@@ -10,7 +10,7 @@ ghost use Rattle.sd_top.specs.Causes.{EachStops, opened_each};
 ghost use Rattle.sd_top.specs.World.{world_of};
 
 use crate::call::World;
-use crate::opening::{open, open_repeater, open_where};
+use crate::opening::{open, open_backs, open_repeater, open_where};
 use crate::status::{Part, Status};
 use sd_config::Settings;
 use sd_outside::{Address, Backend, Beat, Datagrams, Door, Name, Probe, Sink, Source, Wire};
@@ -190,18 +190,6 @@ pub(crate) fn open_server<
     open_packets(settings, world)?;
     open_repeater(receivers, settings, world)?;
     let graphite = host_address(settings.graphite_host(), settings.graphite_port());
-    let backs = &mut world.backs;
-    open_where(
-        backs.graphite_used,
-        &mut backs.graphite,
-        &graphite,
-        Part::Graphite,
-    )?;
-    open_where(
-        backs.console_used,
-        &mut backs.console,
-        &Address::File(Name::new()),
-        Part::Console,
-    )?;
+    open_backs(&mut world.backs, &graphite)?;
     open_doors(settings, world)
 }

@@ -32,5 +32,5 @@ returns-clause-refused g c =
     IfErr-weaker c.open_where.result _ _
     (λ status h. stops_behind (door ∷ []) (opening_where (has_streams s) streams) (answer_of status) old first new is_first
     (subst (λ (l : List Opening). StopsAmong l (answer_of status) first new) (append-nil (opening_where (has_streams s) streams))
-    (where_stops (has_streams s) streams [] (answer_of status) first (g.S.Faulty.seen c.open_where.new.object) (sym c.reads_streams.ensures ∙ h.0) h.1 refl refl)))
+    (where_stops (has_streams s) streams [] (answer_of status) first (g.S.Faulty.seen c.open_where.new.object) (sym c.reads_streams.ensures ∙ h.0, h.1) refl refl)))
     c.open_where.ensures.refused
