@@ -1,5 +1,5 @@
 //! What the program's own adapters are made of.
-ghost use Rattle.std.specs.Prelude.{◌≡◌, OnOk, IsErrOf};
+ghost use Rattle.std.specs.Prelude.{◌≡◌, ◌↔◌, IfOk, IsErr, IsErrOf, OnOk, Some};
 ghost use Rattle.sd_model_outside.specs.Outside.{HasFailed, opened};
 ghost use Rattle.sd_outside.specs.Places.{place_of};
 ghost use Rattle.statsd.specs.Adapter.{seen_of};
@@ -29,6 +29,10 @@ impl<'a, T: Drop> Adapter<'a, T> {
     }
 
     /// Keeps what was opened at an address, or counts that it wasn't.
+    ///
+    /// # Errors
+    ///
+    /// Why it wasn't opened. Want of memory isn't counted.
     pub(crate) fn keep(
         &mut self,
         at: &Address,
@@ -37,6 +41,8 @@ impl<'a, T: Drop> Adapter<'a, T> {
         ensures ok { OnOk result (seen_of self.new ≡ opened (place_of at.now) (seen_of self.old)) }
         ensures failed { IsErrOf result OpenRefusal.Failed → HasFailed (seen_of self.old) (seen_of self.new) }
         ensures out_of_memory { IsErrOf result OpenRefusal.OutOfMemory → seen_of self.new ≡ seen_of self.old }
+        ensures cause { IsErr result ↔ IsErr object }
+        ensures kept { IfOk object (λ made. self.new.object ≡ Some made) }
     {
         match object {
             Ok(object) => {
