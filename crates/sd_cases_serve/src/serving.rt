@@ -7,9 +7,11 @@ use crate::setup::Setup;
 use sd_case::Refusal;
 use sd_config::Settings;
 use sd_epoch::Limits;
-use sd_outside::{Backend, Backs, Beat, Datagrams, Door, Gate, MemClock, Wire};
+use sd_outside::{
+    Backend, Backs, Beat, Datagrams, Door, Gate, MemClock, MemProbe, MemSink, MemSource, Wire,
+};
 use sd_plan::{Names, Reckoning};
-use sd_serve::{Served, ServerRoom, Sizes, serve};
+use sd_serve::{KindsOf, Served, ServerRoom, Sizes, serve};
 use sd_shard::Policy;
 use std::alloc::Global;
 use std::sync::Wait;
@@ -86,7 +88,7 @@ pub fn serve_over<
     let settings = Settings::read(alloc, b"").map_err(|_| Refusal::Condition)?;
     let room = ServerRoom::open(alloc, sizes, setup.clock)?;
     let clock = MemClock::of(setup.clock);
-    Ok(serve(
+    Ok(serve::<KindsOf<MemSource, MemSink, B, D, L, E, P, G, MemClock, MemProbe, S>, R>(
         rt,
         room,
         &settings,

@@ -6,6 +6,8 @@ use Rattle.std.proofs.Math.Nat.{suc-mul, zero-mul}
 use Rattle.std.proofs.lemmas.List.{length-map}
 use Rattle.std.proofs.lemmas.List.Elements.{All-nil, All-cons}
 use Rattle.sd_seats.specs.Lists.{span}
+use Rattle.sd_model_outside.specs.Outside.{Object}
+use Rattle.sd_outside.specs.declared.door.DoorEnd.{DoorEnd}
 use Rattle.sd_pool.specs.Pool.{IsNewSeatOf}
 use Rattle.sd_pool.specs.declared.pool.Pool.{Pool}
 use Rattle.sd_pool.specs.declared.seat.Seat.{Seat}
@@ -14,13 +16,13 @@ use Rattle.sd_receive.specs.Posts.{IsReady}
 use Rattle.sd_receive.specs.declared.post.Post.{Post}
 use Rattle.sd_shared_desk.specs.Shared.{IsNewSeatOf as IsNewDeskSeatOf, OwnSeat as DeskSeat}
 use Rattle.sd_shared_desk.specs.declared.shared_desk.SharedDesk.{SharedDesk}
-use Rattle.sd_serve.specs.LinePost.{HasLineRoom, IsLineReady, line_keepers, line_owns, line_rooms, line_seats, lines_in}
+use Rattle.sd_serve.specs.LinePost.{AreLinedBy, HasLineRoom, IsLineReady, line_keepers, line_owns, line_rooms, line_seats, lines_in}
 use Rattle.sd_serve.specs.OutRoom.{HasOutRooms, IsOutRoom, has_rooms}
 use Rattle.sd_serve.specs.Parts.{IsFitted, own_in, seat_in, wires_in}
 use Rattle.sd_serve.specs.declared.line_post.LinePost.{LinePost}
 use Rattle.sd_serve.specs.declared.line_post.LineRoom.{LineRoom}
 use Rattle.sd_serve.specs.declared.out_room.OutRooms.{OutRooms}
-use Rattle.sd_serve.proofs.LineLemmas.{IsNewLine}
+use Rattle.sd_serve.proofs.LineLemmas.{IsNewLine, line_longs}
 use Rattle.sd_serve.proofs.PostLemmas.{AreNew}
 
 -- as many as have numbers
@@ -77,6 +79,15 @@ line_long post room is = sym (length-map (option_to_list post) (λ (p : LinePost
 pub lines_long : (post : Option LinePost) (room : Option LineRoom) → line_rooms post ≡ lines_in room → (length (line_seats post) ≡ length (lines_in room)) × (length (line_owns post) ≡ length (lines_in room))
 lines_long post room is =
     (length-map (option_to_list post) (λ (p : LinePost). p.seat) ∙ line_long post room is, length-map (option_to_list post) (λ (p : LinePost). p.own) ∙ line_long post room is)
+
+-- and as many once they were run
+pub lines_after : (pool : Pool) (desk : SharedDesk) (run_flushes : ℕ) (streams : Bool) (room : Option LineRoom) (post now : Option LinePost) (ended : Option DoorEnd) (door door_now : Object) → HasLineRoom streams room → line_rooms post ≡ lines_in room →
+  AreLinedBy pool desk run_flushes post now ended door door_now → (length (line_seats now) ≡ line_keepers streams) × (length (line_owns now) ≡ line_keepers streams)
+lines_after pool desk run_flushes streams room post now ended door door_now there is ran =
+    let before = lines_long post room is in
+    let after = line_longs pool desk run_flushes post now ended door door_now ran in
+    let all = line_there streams room there in
+    (after.0 ∙ before.0 ∙ all, after.1 ∙ before.1 ∙ all)
 
 -- each room can be read into
 line_room : (streams : Bool) (room : Option LineRoom) (r : LineRoom) → HasLineRoom streams room → r ∷ [] ≡ lines_in room → 0 < vec_len r.buf

@@ -9,16 +9,16 @@ ghost use Rattle.sd_serve.specs.Parts.{own_in, seat_in, source_in, wires_in};
 ghost use Rattle.sd_serve.specs.Room.{IsRoom, sizing_in, start_in};
 ghost use Rattle.sd_serve.specs.Serving.{HasServed, objects_of, terms_of};
 
+use crate::kinds::Kinds;
 use crate::line_post::{LinePost, put_line_post, take_line_post};
 use crate::parts::{gather, give_back};
 use crate::room::ServerRoom;
-use crate::running::run_all;
-use crate::workers::Ends;
+use crate::workers::{Ends, run_all};
 use crate::workers_out::OutCounts;
 use sd_config::Settings;
 use sd_desk::Desk;
 use sd_flush::round;
-use sd_outside::{Backend, Backs, Beat, Clock, Datagrams, Door, Ended, Gate, Wire};
+use sd_outside::{Backs, Clock, Datagrams, Ended, Wire};
 use sd_plan::{Names, Reckoning};
 use sd_pool::{Books, Pool, Seats};
 use sd_receive::{Post, Shared};
@@ -80,42 +80,32 @@ fn close<D: Datagrams + Drop, L: Wire + Drop>(
 /// only where the room is for that, until all have ended, with outlets before the backends, where the room has them; then makes a
 /// last round, at a moment that the clock tells, which writes to the backends itself, and closes the pool and the desk. Sources and
 /// wires then stand where they stood. It takes no memory.
-pub fn serve<
-    D: Datagrams + Send + Drop,
-    L: Wire + Send + Drop,
-    B: Backend + Send,
-    P: Beat + Send,
-    E: Door<Asking: Send, Telling: Send> + Send,
-    S: Door<Asking: Send, Telling: Send> + Send,
-    G: Gate + Sync,
-    C: Clock + Sync,
-    R: Threads + Wait + Sync,
->(
+pub fn serve<K: Kinds, R: Threads + Wait + Sync>(
     rt: &R,
-    room: ServerRoom<D, L>,
+    room: ServerRoom<K::D, K::L>,
     settings: &Settings,
     plan: &Reckoning,
     names: &Names,
     run_flushes: u64,
-    packets: &mut Vec<D>,
-    wires: &mut Vec<L>,
-    beat: &mut P,
-    backs: &mut Backs<B>,
-    door: &mut E,
-    streams: &mut S,
-    gate: &G,
-    clock: &C,
+    packets: &mut Vec<K::D>,
+    wires: &mut Vec<K::L>,
+    beat: &mut K::P,
+    backs: &mut Backs<K::B>,
+    door: &mut K::E,
+    streams: &mut K::S,
+    gate: &K::G,
+    clock: &K::T,
 ) -> Served
     requires room { IsRoom room }
-    requires start { C.may_say clock.now (start_in room) }
+    requires start { K.T.may_say clock.now (start_in room) }
     requires packets { (sizing_in room).receivers ≤ length packets.old.items }
     requires wires { (sizing_in room).receivers * (sizing_in room).wires ≤ length wires.old.items }
-    requires beat { (P.seen beat.old).turns < 2 ^ 62 }
-    requires door { ((E.seen door.old).is_out ≡ false) × ((E.seen door.old).turns < 2 ^ 62) }
-    requires streams { ((S.seen streams.old).is_out ≡ false) × ((S.seen streams.old).turns < 2 ^ 62) }
-    ensures served { HasServed (terms_of (sizing_in room) plan.now names.now settings.now backs.old run_flushes) (C.may_say clock.now)
-        (objects_of D.seen L.seen P.seen B.seen E.seen S.seen packets.old.items wires.old.items beat.old backs.old door.old streams.old)
-        (objects_of D.seen L.seen P.seen B.seen E.seen S.seen packets.new.items wires.new.items beat.new backs.new door.new streams.new) result }
+    requires beat { (K.P.seen beat.old).turns < 2 ^ 62 }
+    requires door { ((K.E.seen door.old).is_out ≡ false) × ((K.E.seen door.old).turns < 2 ^ 62) }
+    requires streams { ((K.S.seen streams.old).is_out ≡ false) × ((K.S.seen streams.old).turns < 2 ^ 62) }
+    ensures served { HasServed (terms_of (sizing_in room) plan.now names.now settings.now backs.old run_flushes) (K.T.may_say clock.now)
+        (objects_of K.D.seen K.L.seen K.P.seen K.B.seen K.E.seen K.S.seen packets.old.items wires.old.items beat.old backs.old door.old streams.old)
+        (objects_of K.D.seen K.L.seen K.P.seen K.B.seen K.E.seen K.S.seen packets.new.items wires.new.items beat.new backs.new door.new streams.new) result }
     ensures graphite_flag { backs.new.graphite_used ≡ backs.old.graphite_used }
     ensures console_flag { backs.new.console_used ≡ backs.old.console_used }
 {
@@ -152,7 +142,7 @@ pub fn serve<
         clock,
         run_flushes,
     };
-    let (ends, counts) = run_all(
+    let (ends, counts) = run_all::<K, R>(
         rt,
         &shared,
         &mut own,

@@ -16,7 +16,6 @@ ghost use Rattle.sd_flush.specs.Tables.{AreTablesFor};
 ghost use Rattle.sd_door.specs.Keeping.{EndsKeeping};
 ghost use Rattle.sd_session.specs.Space.{IsSpaceFor};
 ghost use Rattle.sd_serve.specs.Draining.{WasDrained};
-ghost use Rattle.sd_serve.specs.LinePost.{AreLinedBy, IsLineReady};
 ghost use Rattle.sd_serve.specs.Lining.{CanLine, HasLined};
 ghost use Rattle.sd_serve.specs.OutRoom.{IsLentOrIdle, IsOutRoom};
 ghost use Rattle.sd_serve.specs.Written.{written_by};
@@ -25,14 +24,14 @@ use crate::beside::run_with_pair;
 use crate::draining::Draining;
 use crate::feeding::Feeding;
 use crate::keeping::Keeping;
-use crate::line_post::LinePost;
+use crate::kinds::Kinds;
 use crate::lining::Lining;
 use crate::out_room::{OutRoom, OutRooms};
 use crate::workers::Ends;
 use sd_config::Settings;
 use sd_flush::{FlushedOut, Lead, Outs, Skips, Tables};
 use sd_outlet::{Drain, Feed, Outlet, Worked};
-use sd_outside::{Backend, Backs, Beat, Clock, Datagrams, Door, DoorEnd, Ended, Gate, Wire};
+use sd_outside::{Backend, Backs, DoorEnd, Ended};
 use sd_plan::{Names, Reckoning};
 use sd_pool::Seat;
 use sd_receive::{Post, Shared};
@@ -51,7 +50,7 @@ pub struct OutCounts {
 
 /// How the flusher over outlets and the keepers of the doors ended, and what the outlets counted.
 #[derive(Clone, Copy, Debug, PartialEq, Eq)]
-pub struct OutEnds {
+pub(crate) struct OutEnds {
     pub ends: Ends,
     pub counts: OutCounts,
 }
@@ -112,70 +111,60 @@ fn close_outlet<B: Backend, R: Wait>(
 }
 
 // Runs the flusher over outlets, the keepers of both doors, the outlets' workers and the receivers side by side, until all have ended.
-fn run_beside<
-    D: Datagrams + Send,
-    L: Wire + Send,
-    B: Backend + Send,
-    P: Beat + Send,
-    E: Door<Asking: Send, Telling: Send> + Send,
-    S: Door<Asking: Send, Telling: Send> + Send,
-    G: Gate + Sync,
-    C: Clock + Sync,
-    R: Threads + Wait + Sync,
->(
+fn run_beside<K: Kinds, R: Threads + Wait + Sync>(
     rt: &R,
-    shared: &Shared<'_, G, C>,
+    shared: &Shared<'_, K::G, K::T>,
     own: &mut DeskSeat,
     seat: &mut Seat,
     tables: &mut Tables,
     plan: &Reckoning,
     names: &Names,
-    beat: &mut P,
+    beat: &mut K::P,
     outs: &mut Outs<'_>,
     graphite: &Outlet,
     graphite_drain: &mut Drain,
-    graphite_back: &mut B,
+    graphite_back: &mut K::B,
     console: &Outlet,
     console_drain: &mut Drain,
-    console_back: &mut B,
+    console_back: &mut K::B,
     admin_own: &mut DeskSeat,
     admin_seat: &mut Seat,
     settings: &Settings,
     space: &mut AdminSpace,
-    door: &mut E,
-    lining: &mut Lining<'_, '_, S>,
-    posts: &mut [Post<D, L>],
+    door: &mut K::E,
+    lining: &mut Lining<'_, '_, K::S>,
+    posts: &mut [Post<K::D, K::L>],
 ) -> OutEnds
     requires own { IsDeskSeatOf shared.now.desk.now own.old }
     requires seat { IsSeatOf shared.now.pool.now seat.old × (who_is seat.old ≡ flusher) }
     requires tables { AreTablesFor (limits_of shared.now.pool.now) (shards_of shared.now.pool.now) tables.old }
-    requires beat { (P.seen beat.old).turns < 2 ^ 62 }
+    requires beat { (K.P.seen beat.old).turns < 2 ^ 62 }
     requires outs { AreOutsReady outs.old }
     requires graphite { IsDrainOf graphite.now graphite_drain.old × (got graphite_drain.old ≡ []) }
     requires console { IsDrainOf console.now console_drain.old × (got console_drain.old ≡ []) }
     requires admin_own { IsDeskSeatOf shared.now.desk.now admin_own.old }
     requires admin_seat { IsSeatOf shared.now.pool.now admin_seat.old × (who_is admin_seat.old ≡ administrator) }
     requires space { IsSpaceFor (limits_of shared.now.pool.now) (shards_of shared.now.pool.now) space.old }
-    requires door { ((E.seen door.old).is_out ≡ false) × ((E.seen door.old).turns < 2 ^ 62) }
-    requires lining { CanLine S.seen shared.now.pool.now shared.now.desk.now lining.old }
+    requires door { ((K.E.seen door.old).is_out ≡ false) × ((K.E.seen door.old).turns < 2 ^ 62) }
+    requires lining { CanLine K.S.seen shared.now.pool.now shared.now.desk.now lining.old }
     requires posts { All (IsReady shared.now.pool.now shared.now.desk.now) posts.old }
     ensures own { IsDeskSeatOf shared.now.desk.now own.new × (number_of_seat own.new ≡ number_of_seat own.old) }
     ensures seat { IsSeatOf shared.now.pool.now seat.new × (who_is seat.new ≡ flusher) }
     ensures tables { AreTablesFor (limits_of shared.now.pool.now) (shards_of shared.now.pool.now) tables.new }
     ensures outs { AreOutsReady outs.new }
     ensures flushes { FlushesOut (form_of shared.now.pool.now plan.now names.now) (fed_by result.counts.skips outs.old outs.new) shared.now.run_flushes (own_at seat.old) (own_at seat.new) (part_of own.old) (part_of own.new)
-        (P.seen beat.old) (P.seen beat.new) result.ends.flusher }
-    ensures graphite { WasDrained graphite.now graphite_drain.new result.counts.graphite (B.seen graphite_back.old) (B.seen graphite_back.new) }
-    ensures console { WasDrained console.now console_drain.new result.counts.console (B.seen console_back.old) (B.seen console_back.new) }
+        (K.P.seen beat.old) (K.P.seen beat.new) result.ends.flusher }
+    ensures graphite { WasDrained graphite.now graphite_drain.new result.counts.graphite (K.B.seen graphite_back.old) (K.B.seen graphite_back.new) }
+    ensures console { WasDrained console.now console_drain.new result.counts.console (K.B.seen console_back.old) (K.B.seen console_back.new) }
     ensures admin_own { IsDeskSeatOf shared.now.desk.now admin_own.new × (number_of_seat admin_own.new ≡ number_of_seat admin_own.old) }
     ensures admin_seat { IsSeatOf shared.now.pool.now admin_seat.new × (who_is admin_seat.new ≡ administrator) }
     ensures space { IsSpaceFor (limits_of shared.now.pool.now) (shards_of shared.now.pool.now) space.new }
-    ensures serves { ServesSessions (shards_of shared.now.pool.now) settings.now (C.may_say shared.now.clock.now) (own_at admin_seat.old) (own_at admin_seat.new) (E.seen door.old) (E.seen door.new) (part_of admin_own.old) (part_of admin_own.new) }
-    ensures keeper { EndsKeeping shared.now.run_flushes result.ends.keeper (E.seen door.old) (E.seen door.new) (part_of admin_own.new) }
-    ensures lining { HasLined S.seen shared.now.pool.now shared.now.desk.now shared.now.run_flushes lining.old lining.new }
+    ensures serves { ServesSessions (shards_of shared.now.pool.now) settings.now (K.T.may_say shared.now.clock.now) (own_at admin_seat.old) (own_at admin_seat.new) (K.E.seen door.old) (K.E.seen door.new) (part_of admin_own.old) (part_of admin_own.new) }
+    ensures keeper { EndsKeeping shared.now.run_flushes result.ends.keeper (K.E.seen door.old) (K.E.seen door.new) (part_of admin_own.new) }
+    ensures lining { HasLined K.S.seen shared.now.pool.now shared.now.desk.now shared.now.run_flushes lining.old lining.new }
     ensures liner { result.ends.liner ≡ (lining.new).ended }
     ensures len { length posts.new ≡ length posts.old }
-    ensures each { (i : ℕ) (d : _) → i < length posts.old → HasRun D.seen L.seen shared.now.pool.now shared.now.desk.now shared.now.run_flushes (slice_index_or posts.old i d) (slice_index_or posts.new i d) }
+    ensures each { (i : ℕ) (d : _) → i < length posts.old → HasRun K.D.seen K.L.seen shared.now.pool.now shared.now.desk.now shared.now.run_flushes (slice_index_or posts.old i d) (slice_index_or posts.new i d) }
 {
     let mut feeding = Feeding {
         seat,
@@ -240,63 +229,52 @@ fn run_beside<
 /// Runs the flusher over outlets, the keepers of both doors, a worker for each outlet and the receivers side by side, each in a thread
 /// of its own where the machine gives one, until all have ended; the flusher stops the outlets' workers as it ends. Then the outlets
 /// are closed. What is lent is left as each says of its own work.
-pub fn run_server_out<
-    D: Datagrams + Send,
-    L: Wire + Send,
-    B: Backend + Send,
-    P: Beat + Send,
-    E: Door<Asking: Send, Telling: Send> + Send,
-    S: Door<Asking: Send, Telling: Send> + Send,
-    G: Gate + Sync,
-    C: Clock + Sync,
-    R: Threads + Wait + Sync,
->(
+pub(crate) fn run_server_out<K: Kinds, R: Threads + Wait + Sync>(
     rt: &R,
-    shared: &Shared<'_, G, C>,
+    shared: &Shared<'_, K::G, K::T>,
     own: &mut DeskSeat,
     seat: &mut Seat,
     tables: &mut Tables,
     plan: &Reckoning,
     names: &Names,
-    beat: &mut P,
-    backs: &mut Backs<B>,
+    beat: &mut K::P,
+    backs: &mut Backs<K::B>,
     outs: OutRooms,
     admin_own: &mut DeskSeat,
     admin_seat: &mut Seat,
     settings: &Settings,
     space: &mut AdminSpace,
-    door: &mut E,
-    line_post: &mut Option<LinePost>,
-    streams: &mut S,
-    posts: &mut [Post<D, L>],
+    door: &mut K::E,
+    lining: &mut Lining<'_, '_, K::S>,
+    posts: &mut [Post<K::D, K::L>],
 ) -> OutEnds
     requires own { IsDeskSeatOf shared.now.desk.now own.old }
     requires seat { IsSeatOf shared.now.pool.now seat.old × (who_is seat.old ≡ flusher) }
     requires tables { AreTablesFor (limits_of shared.now.pool.now) (shards_of shared.now.pool.now) tables.old }
-    requires beat { (P.seen beat.old).turns < 2 ^ 62 }
+    requires beat { (K.P.seen beat.old).turns < 2 ^ 62 }
     requires outs { IsOutRoom outs.graphite × IsOutRoom outs.console }
     requires admin_own { IsDeskSeatOf shared.now.desk.now admin_own.old }
     requires admin_seat { IsSeatOf shared.now.pool.now admin_seat.old × (who_is admin_seat.old ≡ administrator) }
     requires space { IsSpaceFor (limits_of shared.now.pool.now) (shards_of shared.now.pool.now) space.old }
-    requires door { ((E.seen door.old).is_out ≡ false) × ((E.seen door.old).turns < 2 ^ 62) }
-    requires line_post { IfSome line_post.old (IsLineReady shared.now.pool.now shared.now.desk.now) }
-    requires streams { ((S.seen streams.old).is_out ≡ false) × ((S.seen streams.old).turns < 2 ^ 62) }
+    requires door { ((K.E.seen door.old).is_out ≡ false) × ((K.E.seen door.old).turns < 2 ^ 62) }
+    requires lining { CanLine K.S.seen shared.now.pool.now shared.now.desk.now lining.old }
     requires posts { All (IsReady shared.now.pool.now shared.now.desk.now) posts.old }
     ensures own { IsDeskSeatOf shared.now.desk.now own.new × (number_of_seat own.new ≡ number_of_seat own.old) }
     ensures seat { IsSeatOf shared.now.pool.now seat.new × (who_is seat.new ≡ flusher) }
     ensures tables { AreTablesFor (limits_of shared.now.pool.now) (shards_of shared.now.pool.now) tables.new }
-    ensures flushes { FlushesOut (form_of shared.now.pool.now plan.now names.now) (written_by (uses backs.old) outs.graphite outs.console result.counts (back_of B.seen backs.old) (back_of B.seen backs.new)) shared.now.run_flushes
-        (own_at seat.old) (own_at seat.new) (part_of own.old) (part_of own.new) (P.seen beat.old) (P.seen beat.new) result.ends.flusher }
+    ensures flushes { FlushesOut (form_of shared.now.pool.now plan.now names.now) (written_by (uses backs.old) outs.graphite outs.console result.counts (back_of K.B.seen backs.old) (back_of K.B.seen backs.new)) shared.now.run_flushes
+        (own_at seat.old) (own_at seat.new) (part_of own.old) (part_of own.new) (K.P.seen beat.old) (K.P.seen beat.new) result.ends.flusher }
     ensures graphite_flag { backs.new.graphite_used ≡ backs.old.graphite_used }
     ensures console_flag { backs.new.console_used ≡ backs.old.console_used }
     ensures admin_own { IsDeskSeatOf shared.now.desk.now admin_own.new × (number_of_seat admin_own.new ≡ number_of_seat admin_own.old) }
     ensures admin_seat { IsSeatOf shared.now.pool.now admin_seat.new × (who_is admin_seat.new ≡ administrator) }
     ensures space { IsSpaceFor (limits_of shared.now.pool.now) (shards_of shared.now.pool.now) space.new }
-    ensures serves { ServesSessions (shards_of shared.now.pool.now) settings.now (C.may_say shared.now.clock.now) (own_at admin_seat.old) (own_at admin_seat.new) (E.seen door.old) (E.seen door.new) (part_of admin_own.old) (part_of admin_own.new) }
-    ensures keeper { EndsKeeping shared.now.run_flushes result.ends.keeper (E.seen door.old) (E.seen door.new) (part_of admin_own.new) }
-    ensures lines { AreLinedBy shared.now.pool.now shared.now.desk.now shared.now.run_flushes line_post.old line_post.new result.ends.liner (S.seen streams.old) (S.seen streams.new) }
+    ensures serves { ServesSessions (shards_of shared.now.pool.now) settings.now (K.T.may_say shared.now.clock.now) (own_at admin_seat.old) (own_at admin_seat.new) (K.E.seen door.old) (K.E.seen door.new) (part_of admin_own.old) (part_of admin_own.new) }
+    ensures keeper { EndsKeeping shared.now.run_flushes result.ends.keeper (K.E.seen door.old) (K.E.seen door.new) (part_of admin_own.new) }
+    ensures lining { HasLined K.S.seen shared.now.pool.now shared.now.desk.now shared.now.run_flushes lining.old lining.new }
+    ensures liner { result.ends.liner ≡ (lining.new).ended }
     ensures len { length posts.new ≡ length posts.old }
-    ensures each { (i : ℕ) (d : _) → i < length posts.old → HasRun D.seen L.seen shared.now.pool.now shared.now.desk.now shared.now.run_flushes (slice_index_or posts.old i d) (slice_index_or posts.new i d) }
+    ensures each { (i : ℕ) (d : _) → i < length posts.old → HasRun K.D.seen K.L.seen shared.now.pool.now shared.now.desk.now shared.now.run_flushes (slice_index_or posts.old i d) (slice_index_or posts.new i d) }
 {
     let OutRoom {
         outlet: graphite,
@@ -318,12 +296,7 @@ pub fn run_server_out<
         graphite: graphite_lead,
         console: console_lead,
     };
-    let mut lining = Lining {
-        post: line_post,
-        door: streams,
-        ended: None,
-    };
-    let out = run_beside(
+    let out = run_beside::<K, R>(
         rt,
         shared,
         own,
@@ -344,7 +317,7 @@ pub fn run_server_out<
         settings,
         space,
         door,
-        &mut lining,
+        lining,
         posts,
     );
     let Outs {

@@ -1,6 +1,7 @@
 mod CallLemmas
 mod DrillLemmas
 mod OpeningLemmas
+mod ReplayOpeningLemmas
 mod ServerOpeningLemmas
 mod SettingsLemmas
 mod WordsLemmas

@@ -208,7 +208,7 @@ module _ (place : Place) where
   back_openings flags = opening_where flags.graphite (record { part = OfGraphite; place = place }) ++ opening_where flags.console (record { part = OfConsole; place = File [] })
 
   -- they are opened
-  pub backs_opened : (w : World) (flags : Flags) (g c : Object) → flags ≡ w.flags → AreOpened w.flags place w.seen.graphite w.seen.console g c → with_backs w flags g c ≡ opened_all w (back_openings w.flags)
+  backs_opened : (w : World) (flags : Flags) (g c : Object) → flags ≡ w.flags → AreOpened w.flags place w.seen.graphite w.seen.console g c → with_backs w flags g c ≡ opened_all w (back_openings w.flags)
   backs_opened w flags g c same (is_graphite, is_console) =
       let mid = with_part OfGraphite g w in
       ap (λ f. with_backs w f g c) same
@@ -216,7 +216,7 @@ module _ (place : Place) where
       (where_opened w.flags.graphite at_graphite w g is_graphite refl) (where_opened w.flags.console at_console mid c is_console refl)
 
   -- one of them isn't
-  pub backs_stop : (w : World) (answer : Answer) (flags : Flags) (g c : Object) → flags ≡ w.flags → BackStops w.flags place answer w.seen.graphite w.seen.console g c → StopsAmong (back_openings w.flags) answer w (with_backs w flags g c)
+  backs_stop : (w : World) (answer : Answer) (flags : Flags) (g c : Object) → flags ≡ w.flags → BackStops w.flags place answer w.seen.graphite w.seen.console g c → StopsAmong (back_openings w.flags) answer w (with_backs w flags g c)
   backs_stop w answer flags g c same (inl (stops, stays)) =
       subst (λ o. StopsAmong (back_openings w.flags) answer w (with_backs w flags g o)) (sym stays)
       (subst (λ f. StopsAmong (back_openings w.flags) answer w (with_backs w f g w.seen.console)) (sym same)
@@ -227,3 +227,11 @@ module _ (place : Place) where
       subst (λ f. StopsAmong (back_openings w.flags) answer w (with_backs w f g c)) (sym same)
       (stops_behind (opening_where w.flags.graphite at_graphite) behind answer w mid (with_part OfConsole c mid) (where_opened w.flags.graphite at_graphite w g is refl)
       (subst (λ os. StopsAmong os answer mid (with_part OfConsole c mid)) (append-nil behind) (where_stops w.flags.console at_console [] answer mid c stops refl refl)))
+
+-- The same of a place and flags that are known to be these.
+module _ (place at : Place) (is_place : at ≡ place) (asked : Flags) (w : World) (by : w.flags ≡ asked) (flags : Flags) (kept : flags ≡ w.flags) (g c : Object) where
+  pub backs_opened_at : AreOpened w.flags at w.seen.graphite w.seen.console g c → with_backs w flags g c ≡ opened_all w (back_openings place asked)
+  backs_opened_at h = backs_opened at w flags g c kept h ∙ ap (opened_all w) (λ i. back_openings (is_place i) (by i))
+
+  pub backs_stop_at : (answer : Answer) → BackStops w.flags at answer w.seen.graphite w.seen.console g c → StopsAmong (back_openings place asked) answer w (with_backs w flags g c)
+  backs_stop_at answer h = subst (λ os. StopsAmong os answer w (with_backs w flags g c)) (λ i. back_openings (is_place i) (by i)) (backs_stop at w answer flags g c kept h)

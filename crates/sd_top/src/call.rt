@@ -22,6 +22,7 @@ use sd_outside::{
     Address, Backend, Backs, Beat, Clock, Datagrams, Door, Gate, Name, Probe, Sink, Source, Wire,
 };
 use sd_replay::{ReplayEnd, ReplayRoom, names_backend, replay};
+use sd_serve::{Kinds, KindsOf};
 use std::alloc::Global;
 use std::sync::Wait;
 use std::thread::Threads;
@@ -43,49 +44,52 @@ pub struct World<R, O, B, D, L, E, P, G, T, Q, S> {
     pub streams: S,
 }
 
+/// A world of objects of these kinds.
+pub(crate) type WorldOf<K> = World<
+    <K as Kinds>::R,
+    <K as Kinds>::O,
+    <K as Kinds>::B,
+    <K as Kinds>::D,
+    <K as Kinds>::L,
+    <K as Kinds>::E,
+    <K as Kinds>::P,
+    <K as Kinds>::G,
+    <K as Kinds>::T,
+    <K as Kinds>::Q,
+    <K as Kinds>::S,
+>;
+
 /// Opens what a replay by these settings uses, and carries out the script.
 ///
 /// # Errors
 ///
 /// `OpenFault` where an object failed, and `OutOfMemory`.
-fn carry_out<
-    R: Source,
-    O: Sink,
-    B: Backend,
-    D: Datagrams,
-    L: Wire,
-    E: Door,
-    P: Beat,
-    G,
-    T,
-    Q: Probe,
-    S: Door,
->(
+fn carry_out<K: Kinds>(
     alloc: Global,
     settings: &Settings,
     script: Name,
-    world: &mut World<R, O, B, D, L, E, P, G, T, Q, S>,
+    world: &mut WorldOf<K>,
 ) -> Result<ReplayEnd, Status>
-    requires flags { (world_of R.seen O.seen B.seen D.seen L.seen E.seen P.seen Q.seen S.seen world.old).flags ≡ flags_of settings.now }
+    requires flags { (world_of K.R.seen K.O.seen K.B.seen K.D.seen K.L.seen K.E.seen K.P.seen K.Q.seen K.S.seen world.old).flags ≡ flags_of settings.now }
     requires wires { 256 ≤ length (world.old).wires.items }
     ensures end { IfOk result (λ end. Replayed settings.now (end_of end)
-        (started script.items settings.now (world_of R.seen O.seen B.seen D.seen L.seen E.seen P.seen Q.seen S.seen world.old))
-        (world_of R.seen O.seen B.seen D.seen L.seen E.seen P.seen Q.seen S.seen world.new).seen) }
+        (started script.items settings.now (world_of K.R.seen K.O.seen K.B.seen K.D.seen K.L.seen K.E.seen K.P.seen K.Q.seen K.S.seen world.old))
+        (world_of K.R.seen K.O.seen K.B.seen K.D.seen K.L.seen K.E.seen K.P.seen K.Q.seen K.S.seen world.new).seen) }
     ensures refused { IfErr result (λ status. StopsAmong (replay_openings script.items settings.now) (answer_of status)
-        (world_of R.seen O.seen B.seen D.seen L.seen E.seen P.seen Q.seen S.seen world.old)
-        (world_of R.seen O.seen B.seen D.seen L.seen E.seen P.seen Q.seen S.seen world.new)) }
+        (world_of K.R.seen K.O.seen K.B.seen K.D.seen K.L.seen K.E.seen K.P.seen K.Q.seen K.S.seen world.old)
+        (world_of K.R.seen K.O.seen K.B.seen K.D.seen K.L.seen K.E.seen K.P.seen K.Q.seen K.S.seen world.new)) }
     ensures settings { (world.new).settings ≡ (world.old).settings }
     ensures packets { (world.new).packets ≡ (world.old).packets }
     ensures door { (world.new).door ≡ (world.old).door }
     ensures streams { (world.new).streams ≡ (world.old).streams }
     ensures beat { (world.new).beat ≡ (world.old).beat }
     ensures probe { (world.new).probe ≡ (world.old).probe }
-    ensures flags { (world_of R.seen O.seen B.seen D.seen L.seen E.seen P.seen Q.seen S.seen world.new).flags ≡ (world_of R.seen O.seen B.seen D.seen L.seen E.seen P.seen Q.seen S.seen world.old).flags }
+    ensures flags { (world_of K.R.seen K.O.seen K.B.seen K.D.seen K.L.seen K.E.seen K.P.seen K.Q.seen K.S.seen world.new).flags ≡ (world_of K.R.seen K.O.seen K.B.seen K.D.seen K.L.seen K.E.seen K.P.seen K.Q.seen K.S.seen world.old).flags }
 {
     let Ok(room) = ReplayRoom::open(alloc, settings) else {
         return Err(Status::OutOfMemory);
     };
-    open_replay(settings, script, world)?;
+    open_replay::<K>(settings, script, world)?;
     Ok(replay(
         settings,
         room,
@@ -97,28 +101,16 @@ fn carry_out<
 }
 
 /// Reads a settings file, and carries out a script by the settings.
-fn replay_files<
-    R: Source,
-    O: Sink,
-    B: Backend,
-    D: Datagrams,
-    L: Wire,
-    E: Door,
-    P: Beat,
-    G,
-    T,
-    Q: Probe,
-    S: Door,
->(
+fn replay_files<K: Kinds>(
     alloc: Global,
     settings: Name,
     script: Name,
-    world: &mut World<R, O, B, D, L, E, P, G, T, Q, S>,
+    world: &mut WorldOf<K>,
 ) -> Status
     requires wires { 256 ≤ length (world.old).wires.items }
     ensures { IsReplay settings.items script.items (answer_of result)
-        (world_of R.seen O.seen B.seen D.seen L.seen E.seen P.seen Q.seen S.seen world.old)
-        (world_of R.seen O.seen B.seen D.seen L.seen E.seen P.seen Q.seen S.seen world.new) }
+        (world_of K.R.seen K.O.seen K.B.seen K.D.seen K.L.seen K.E.seen K.P.seen K.Q.seen K.S.seen world.old)
+        (world_of K.R.seen K.O.seen K.B.seen K.D.seen K.L.seen K.E.seen K.P.seen K.Q.seen K.S.seen world.new) }
 {
     let settings = match read_settings(alloc, &mut world.settings, &Address::File(settings)) {
         Ok(settings) => settings,
@@ -126,7 +118,7 @@ fn replay_files<
     };
     world.backs.graphite_used = names_backend(&settings, b"graphite");
     world.backs.console_used = names_backend(&settings, b"console");
-    match carry_out(alloc, &settings, script, world) {
+    match carry_out::<K>(alloc, &settings, script, world) {
         Ok(end) => status_of(end),
         Err(status) => status,
     }
@@ -183,9 +175,15 @@ pub fn statsd<
         (world_of R.seen O.seen B.seen D.seen L.seen E.seen P.seen Q.seen S.seen world.new) }
 {
     match form_of(words) {
-        Some(Form::Replay { settings, script }) => replay_files(alloc, settings, script, world),
-        Some(Form::Serve { settings }) => serve_files(rt, alloc, settings, world),
-        Some(Form::Proxy { settings }) => proxy_files(rt, alloc, settings, world),
+        Some(Form::Replay { settings, script }) => {
+            replay_files::<KindsOf<R, O, B, D, L, E, P, G, T, Q, S>>(alloc, settings, script, world)
+        }
+        Some(Form::Serve { settings }) => {
+            serve_files::<KindsOf<R, O, B, D, L, E, P, G, T, Q, S>, X>(rt, alloc, settings, world)
+        }
+        Some(Form::Proxy { settings }) => {
+            proxy_files::<KindsOf<R, O, B, D, L, E, P, G, T, Q, S>, X>(rt, alloc, settings, world)
+        }
         Some(Form::Drill { packets }) => drill(alloc, packets, &mut world.output),
         None => Status::Usage,
     }

@@ -10,15 +10,13 @@ ghost use Rattle.sd_top.specs.Answers.{answer_of, part_of};
 ghost use Rattle.sd_top.specs.Causes.{AreOpened, BackStops, EachStops, IsNotOpened, WhereStops, opened_each, opened_where};
 ghost use Rattle.sd_top.specs.World.{flags_in, world_of};
 
-use crate::call::World;
+use crate::call::WorldOf;
 use crate::status::{Part, Status};
 use sd_config::Settings;
-use sd_outside::{
-    Address, Backend, Backs, Beat, Datagrams, Door, Name, OpenRefusal, Opens, Probe, Sink, Source,
-    Wire,
-};
+use sd_outside::{Address, Backend, Backs, Name, OpenRefusal, Opens, Wire};
 use sd_plan::{Node, Target};
 use sd_replay::targets_of;
+use sd_serve::Kinds;
 
 /// Opens an object.
 ///
@@ -73,10 +71,10 @@ impl Peer for Node {
 /// # Errors
 ///
 /// `OpenFault` where one failed, and `OutOfMemory`.
-fn open_wires<K: Peer, L: Wire>(first: u16, peers: &[K], wires: &mut [L]) -> Result<(), Status>
+fn open_wires<N: Peer, L: Wire>(first: u16, peers: &[N], wires: &mut [L]) -> Result<(), Status>
     requires { first + length peers.now < 2 ^ 16 }
-    ensures ok { OnOk result (map L.seen wires.new ≡ opened_each (map K.place peers.now) (map L.seen wires.old)) }
-    ensures refused { IfErr result (λ status. EachStops OfWire first (map K.place peers.now) (answer_of status) (map L.seen wires.old) (map L.seen wires.new)) }
+    ensures ok { OnOk result (map L.seen wires.new ≡ opened_each (map N.place peers.now) (map L.seen wires.old)) }
+    ensures refused { IfErr result (λ status. EachStops OfWire first (map N.place peers.now) (answer_of status) (map L.seen wires.old) (map L.seen wires.new)) }
     ensures count { length wires.new ≡ length wires.old }
 {
     let Some((peer, peers)) = peers.split_first() else {
@@ -94,16 +92,16 @@ fn open_wires<K: Peer, L: Wire>(first: u16, peers: &[K], wires: &mut [L]) -> Res
 /// # Errors
 ///
 /// `OpenFault` where one failed, and `OutOfMemory`.
-fn open_runs<K: Peer, L: Wire>(
+fn open_runs<N: Peer, L: Wire>(
     first: u16,
     runs: u16,
-    peers: &[K],
+    peers: &[N],
     wires: &mut [L],
 ) -> Result<(), Status>
     requires fits { first + runs * length peers.now < 2 ^ 16 }
     requires some { runs * length peers.now ≤ length wires.old }
-    ensures ok { OnOk result (map L.seen wires.new ≡ opened_each (repeated runs (map K.place peers.now)) (map L.seen wires.old)) }
-    ensures refused { IfErr result (λ status. EachStops OfWire first (repeated runs (map K.place peers.now)) (answer_of status) (map L.seen wires.old) (map L.seen wires.new)) }
+    ensures ok { OnOk result (map L.seen wires.new ≡ opened_each (repeated runs (map N.place peers.now)) (map L.seen wires.old)) }
+    ensures refused { IfErr result (λ status. EachStops OfWire first (repeated runs (map N.place peers.now)) (answer_of status) (map L.seen wires.old) (map L.seen wires.new)) }
     ensures count { length wires.new ≡ length wires.old }
 {
     if runs == 0 {
@@ -120,27 +118,14 @@ fn open_runs<K: Peer, L: Wire>(
 /// # Errors
 ///
 /// `OpenFault` where one failed, and `OutOfMemory`.
-pub(crate) fn open_peers<
-    K: Peer,
-    R: Source,
-    O: Sink,
-    B: Backend,
-    D: Datagrams,
-    L: Wire,
-    E: Door,
-    P: Beat,
-    G,
-    T,
-    Q: Probe,
-    S: Door,
->(runs: u16, peers: &[K], world: &mut World<R, O, B, D, L, E, P, G, T, Q, S>) -> Result<(), Status>
+pub(crate) fn open_peers<N: Peer, K: Kinds>(runs: u16, peers: &[N], world: &mut WorldOf<K>) -> Result<(), Status>
     requires few { runs * length peers.now ≤ 256 }
     requires wires { 256 ≤ length (world.old).wires.items }
-    ensures opened { OnOk result (world_of R.seen O.seen B.seen D.seen L.seen E.seen P.seen Q.seen S.seen world.new
-        ≡ opened_all (world_of R.seen O.seen B.seen D.seen L.seen E.seen P.seen Q.seen S.seen world.old) (numbered OfWire 0 (repeated runs (map K.place peers.now)))) }
-    ensures refused { IfErr result (λ status. StopsAmong (numbered OfWire 0 (repeated runs (map K.place peers.now))) (answer_of status)
-        (world_of R.seen O.seen B.seen D.seen L.seen E.seen P.seen Q.seen S.seen world.old)
-        (world_of R.seen O.seen B.seen D.seen L.seen E.seen P.seen Q.seen S.seen world.new)) }
+    ensures opened { OnOk result (world_of K.R.seen K.O.seen K.B.seen K.D.seen K.L.seen K.E.seen K.P.seen K.Q.seen K.S.seen world.new
+        ≡ opened_all (world_of K.R.seen K.O.seen K.B.seen K.D.seen K.L.seen K.E.seen K.P.seen K.Q.seen K.S.seen world.old) (numbered OfWire 0 (repeated runs (map N.place peers.now)))) }
+    ensures refused { IfErr result (λ status. StopsAmong (numbered OfWire 0 (repeated runs (map N.place peers.now))) (answer_of status)
+        (world_of K.R.seen K.O.seen K.B.seen K.D.seen K.L.seen K.E.seen K.P.seen K.Q.seen K.S.seen world.old)
+        (world_of K.R.seen K.O.seen K.B.seen K.D.seen K.L.seen K.E.seen K.P.seen K.Q.seen K.S.seen world.new)) }
     ensures count { length (world.new).wires.items ≡ length (world.old).wires.items }
     ensures packets { (world.new).packets ≡ (world.old).packets }
     ensures door { (world.new).door ≡ (world.old).door }
@@ -152,7 +137,7 @@ pub(crate) fn open_peers<
     ensures script { (world.new).script ≡ (world.old).script }
     ensures output { (world.new).output ≡ (world.old).output }
     ensures clock { (world.new).clock ≡ (world.old).clock }
-    ensures flags { (world_of R.seen O.seen B.seen D.seen L.seen E.seen P.seen Q.seen S.seen world.new).flags ≡ (world_of R.seen O.seen B.seen D.seen L.seen E.seen P.seen Q.seen S.seen world.old).flags }
+    ensures flags { (world_of K.R.seen K.O.seen K.B.seen K.D.seen K.L.seen K.E.seen K.P.seen K.Q.seen K.S.seen world.new).flags ≡ (world_of K.R.seen K.O.seen K.B.seen K.D.seen K.L.seen K.E.seen K.P.seen K.Q.seen K.S.seen world.old).flags }
 {
     open_runs(0, runs, peers, &mut world.wires)
 }
@@ -162,30 +147,18 @@ pub(crate) fn open_peers<
 /// # Errors
 ///
 /// `OpenFault` where one failed, and `OutOfMemory`.
-pub(crate) fn open_repeater<
-    R: Source,
-    O: Sink,
-    B: Backend,
-    D: Datagrams,
-    L: Wire,
-    E: Door,
-    P: Beat,
-    G,
-    T,
-    Q: Probe,
-    S: Door,
->(
+pub(crate) fn open_repeater<K: Kinds>(
     runs: u16,
     settings: &Settings,
-    world: &mut World<R, O, B, D, L, E, P, G, T, Q, S>,
+    world: &mut WorldOf<K>,
 ) -> Result<(), Status>
     requires runs { runs ≤ 16 }
     requires wires { 256 ≤ length (world.old).wires.items }
-    ensures opened { OnOk result (world_of R.seen O.seen B.seen D.seen L.seen E.seen P.seen Q.seen S.seen world.new
-        ≡ opened_all (world_of R.seen O.seen B.seen D.seen L.seen E.seen P.seen Q.seen S.seen world.old) (wire_openings runs settings.now)) }
+    ensures opened { OnOk result (world_of K.R.seen K.O.seen K.B.seen K.D.seen K.L.seen K.E.seen K.P.seen K.Q.seen K.S.seen world.new
+        ≡ opened_all (world_of K.R.seen K.O.seen K.B.seen K.D.seen K.L.seen K.E.seen K.P.seen K.Q.seen K.S.seen world.old) (wire_openings runs settings.now)) }
     ensures refused { IfErr result (λ status. StopsAmong (wire_openings runs settings.now) (answer_of status)
-        (world_of R.seen O.seen B.seen D.seen L.seen E.seen P.seen Q.seen S.seen world.old)
-        (world_of R.seen O.seen B.seen D.seen L.seen E.seen P.seen Q.seen S.seen world.new)) }
+        (world_of K.R.seen K.O.seen K.B.seen K.D.seen K.L.seen K.E.seen K.P.seen K.Q.seen K.S.seen world.old)
+        (world_of K.R.seen K.O.seen K.B.seen K.D.seen K.L.seen K.E.seen K.P.seen K.Q.seen K.S.seen world.new)) }
     ensures count { length (world.new).wires.items ≡ length (world.old).wires.items }
     ensures packets { (world.new).packets ≡ (world.old).packets }
     ensures door { (world.new).door ≡ (world.old).door }
@@ -196,10 +169,10 @@ pub(crate) fn open_repeater<
     ensures script { (world.new).script ≡ (world.old).script }
     ensures output { (world.new).output ≡ (world.old).output }
     ensures clock { (world.new).clock ≡ (world.old).clock }
-    ensures flags { (world_of R.seen O.seen B.seen D.seen L.seen E.seen P.seen Q.seen S.seen world.new).flags ≡ (world_of R.seen O.seen B.seen D.seen L.seen E.seen P.seen Q.seen S.seen world.old).flags }
+    ensures flags { (world_of K.R.seen K.O.seen K.B.seen K.D.seen K.L.seen K.E.seen K.P.seen K.Q.seen K.S.seen world.new).flags ≡ (world_of K.R.seen K.O.seen K.B.seen K.D.seen K.L.seen K.E.seen K.P.seen K.Q.seen K.S.seen world.old).flags }
     ensures few { length (targets_of settings.now) ≤ 16 }
 {
-    open_peers(runs, targets_of(settings), world)
+    open_peers::<Target, K>(runs, targets_of(settings), world)
 }
 
 /// Opens an object, where it is used.
@@ -250,41 +223,29 @@ pub(crate) fn open_backs<B: Backend>(backs: &mut Backs<B>, graphite: &Address) -
 /// # Errors
 ///
 /// `OpenFault` where an object failed, and `OutOfMemory`.
-pub(crate) fn open_replay<
-    R: Source,
-    O: Sink,
-    B: Backend,
-    D: Datagrams,
-    L: Wire,
-    E: Door,
-    P: Beat,
-    G,
-    T,
-    Q: Probe,
-    S: Door,
->(
+pub(crate) fn open_replay<K: Kinds>(
     settings: &Settings,
     script: Name,
-    world: &mut World<R, O, B, D, L, E, P, G, T, Q, S>,
+    world: &mut WorldOf<K>,
 ) -> Result<(), Status>
-    requires flags { (world_of R.seen O.seen B.seen D.seen L.seen E.seen P.seen Q.seen S.seen world.old).flags ≡ flags_of settings.now }
+    requires flags { (world_of K.R.seen K.O.seen K.B.seen K.D.seen K.L.seen K.E.seen K.P.seen K.Q.seen K.S.seen world.old).flags ≡ flags_of settings.now }
     requires wires { 256 ≤ length (world.old).wires.items }
-    ensures opened { OnOk result (world_of R.seen O.seen B.seen D.seen L.seen E.seen P.seen Q.seen S.seen world.new
-        ≡ opened_all (world_of R.seen O.seen B.seen D.seen L.seen E.seen P.seen Q.seen S.seen world.old) (replay_openings script.items settings.now)) }
+    ensures opened { OnOk result (world_of K.R.seen K.O.seen K.B.seen K.D.seen K.L.seen K.E.seen K.P.seen K.Q.seen K.S.seen world.new
+        ≡ opened_all (world_of K.R.seen K.O.seen K.B.seen K.D.seen K.L.seen K.E.seen K.P.seen K.Q.seen K.S.seen world.old) (replay_openings script.items settings.now)) }
     ensures refused { IfErr result (λ status. StopsAmong (replay_openings script.items settings.now) (answer_of status)
-        (world_of R.seen O.seen B.seen D.seen L.seen E.seen P.seen Q.seen S.seen world.old)
-        (world_of R.seen O.seen B.seen D.seen L.seen E.seen P.seen Q.seen S.seen world.new)) }
+        (world_of K.R.seen K.O.seen K.B.seen K.D.seen K.L.seen K.E.seen K.P.seen K.Q.seen K.S.seen world.old)
+        (world_of K.R.seen K.O.seen K.B.seen K.D.seen K.L.seen K.E.seen K.P.seen K.Q.seen K.S.seen world.new)) }
     ensures settings { (world.new).settings ≡ (world.old).settings }
     ensures packets { (world.new).packets ≡ (world.old).packets }
     ensures door { (world.new).door ≡ (world.old).door }
     ensures streams { (world.new).streams ≡ (world.old).streams }
     ensures beat { (world.new).beat ≡ (world.old).beat }
     ensures probe { (world.new).probe ≡ (world.old).probe }
-    ensures flags { (world_of R.seen O.seen B.seen D.seen L.seen E.seen P.seen Q.seen S.seen world.new).flags ≡ (world_of R.seen O.seen B.seen D.seen L.seen E.seen P.seen Q.seen S.seen world.old).flags }
+    ensures flags { (world_of K.R.seen K.O.seen K.B.seen K.D.seen K.L.seen K.E.seen K.P.seen K.Q.seen K.S.seen world.new).flags ≡ (world_of K.R.seen K.O.seen K.B.seen K.D.seen K.L.seen K.E.seen K.P.seen K.Q.seen K.S.seen world.old).flags }
     ensures count { length (world.new).wires.items ≡ length (world.old).wires.items }
     ensures few { OnOk result (length (targets_of settings.now) ≤ 16) }
 {
     open(&mut world.script, &Address::File(script), Part::Script)?;
-    open_repeater(1, settings, world)?;
+    open_repeater::<K>(1, settings, world)?;
     open_backs(&mut world.backs, &Address::File(Name::new()))
 }

@@ -12,7 +12,7 @@ ghost use Rattle.sd_top.specs.Answers.{answer_of};
 ghost use Rattle.sd_top.specs.Relaying.{HasRelayed, relay_answer, relay_lines};
 ghost use Rattle.sd_top.specs.World.{world_of};
 
-use crate::call::World;
+use crate::call::WorldOf;
 use crate::ends::{any_worn, by_receivers, by_turns, cut};
 use crate::opening::open_peers;
 use crate::server_opening::open_packets;
@@ -20,13 +20,12 @@ use crate::settings::read_settings;
 use crate::status::{Part, Status};
 use sd_config::{ConfigFault, Settings};
 use sd_decimal::Line;
-use sd_outside::{
-    Address, Backend, Beat, Datagrams, Door, Ended, Failed, Gate, Name, Probe, Sink, Source, Wire,
-    write_all,
-};
+use sd_outside::{Address, Beat, Ended, Failed, Name, Sink, write_all};
+use sd_plan::Node;
 use sd_proxy::{CheckEnd, Checked};
 use sd_relay::{ProxySums, RelayRoom, Relayed, relay};
 use sd_replay::{names_backend, push_total};
+use sd_serve::Kinds;
 use std::alloc::Global;
 use std::sync::Wait;
 use std::thread::Threads;
@@ -68,27 +67,15 @@ fn check_fit(settings: &Settings) -> Result<(), Status>
 /// # Errors
 ///
 /// `OpenFault` where one failed, and `OutOfMemory`.
-fn open_proxy<
-    R: Source,
-    O: Sink,
-    B: Backend,
-    D: Datagrams,
-    L: Wire,
-    E: Door,
-    P: Beat,
-    G,
-    T,
-    Q: Probe,
-    S: Door,
->(settings: &Settings, world: &mut World<R, O, B, D, L, E, P, G, T, Q, S>) -> Result<(), Status>
+fn open_proxy<K: Kinds>(settings: &Settings, world: &mut WorldOf<K>) -> Result<(), Status>
     requires fits { proxy_flaw settings.now ≡ None }
     requires packets { 16 ≤ length (world.old).packets.items }
     requires wires { 256 ≤ length (world.old).wires.items }
-    ensures opened { OnOk result (world_of R.seen O.seen B.seen D.seen L.seen E.seen P.seen Q.seen S.seen world.new
-        ≡ opened_all (world_of R.seen O.seen B.seen D.seen L.seen E.seen P.seen Q.seen S.seen world.old) (proxy_openings settings.now)) }
+    ensures opened { OnOk result (world_of K.R.seen K.O.seen K.B.seen K.D.seen K.L.seen K.E.seen K.P.seen K.Q.seen K.S.seen world.new
+        ≡ opened_all (world_of K.R.seen K.O.seen K.B.seen K.D.seen K.L.seen K.E.seen K.P.seen K.Q.seen K.S.seen world.old) (proxy_openings settings.now)) }
     ensures refused { IfErr result (λ status. StopsAmong (proxy_openings settings.now) (answer_of status)
-        (world_of R.seen O.seen B.seen D.seen L.seen E.seen P.seen Q.seen S.seen world.old)
-        (world_of R.seen O.seen B.seen D.seen L.seen E.seen P.seen Q.seen S.seen world.new)) }
+        (world_of K.R.seen K.O.seen K.B.seen K.D.seen K.L.seen K.E.seen K.P.seen K.Q.seen K.S.seen world.old)
+        (world_of K.R.seen K.O.seen K.B.seen K.D.seen K.L.seen K.E.seen K.P.seen K.Q.seen K.S.seen world.new)) }
     ensures packets { length (world.new).packets.items ≡ length (world.old).packets.items }
     ensures wires { length (world.new).wires.items ≡ length (world.old).wires.items }
     ensures door { (world.new).door ≡ (world.old).door }
@@ -101,8 +88,8 @@ fn open_proxy<
     ensures output { (world.new).output ≡ (world.old).output }
 {
     let receivers = u16::try_from(settings.receivers()).unwrap();
-    open_packets(settings, world)?;
-    open_peers(receivers, settings.nodes(), world)
+    open_packets::<K>(settings, world)?;
+    open_peers::<Node, K>(receivers, settings.nodes(), world)
 }
 
 /// Takes the room of the proxy by these settings, opens its parts, starts the beat, and runs the proxy until its receivers and its
@@ -111,42 +98,29 @@ fn open_proxy<
 /// # Errors
 ///
 /// `OpenFault` where a part couldn't be opened, and `OutOfMemory`.
-fn run_proxy<
-    R: Source,
-    O: Sink,
-    B: Backend,
-    D: Datagrams + Send + Drop,
-    L: Wire + Send + Drop,
-    E: Door,
-    P: Beat + Send,
-    G: Gate + Sync,
-    T,
-    Q: Probe + Send,
-    S: Door,
-    X: Threads + Wait + Sync,
->(
+fn run_proxy<K: Kinds, X: Threads + Wait + Sync>(
     rt: &X,
     alloc: Global,
     settings: &Settings,
-    world: &mut World<R, O, B, D, L, E, P, G, T, Q, S>,
+    world: &mut WorldOf<K>,
 ) -> Result<Relayed, Status>
     requires fits { proxy_flaw settings.now ≡ None }
     requires packets { 16 ≤ length (world.old).packets.items }
     requires wires { 256 ≤ length (world.old).wires.items }
     ensures relayed { IfOk result (HasRelayed settings.now
-        (world_of R.seen O.seen B.seen D.seen L.seen E.seen P.seen Q.seen S.seen world.old)
-        (world_of R.seen O.seen B.seen D.seen L.seen E.seen P.seen Q.seen S.seen world.new)) }
+        (world_of K.R.seen K.O.seen K.B.seen K.D.seen K.L.seen K.E.seen K.P.seen K.Q.seen K.S.seen world.old)
+        (world_of K.R.seen K.O.seen K.B.seen K.D.seen K.L.seen K.E.seen K.P.seen K.Q.seen K.S.seen world.new)) }
     ensures few { IfOk result (λ relayed. length relayed.received.items ≤ 16) }
     ensures refused { IfErr result (λ status. StopsAmong (proxy_openings settings.now) (answer_of status)
-        (world_of R.seen O.seen B.seen D.seen L.seen E.seen P.seen Q.seen S.seen world.old)
-        (world_of R.seen O.seen B.seen D.seen L.seen E.seen P.seen Q.seen S.seen world.new)) }
+        (world_of K.R.seen K.O.seen K.B.seen K.D.seen K.L.seen K.E.seen K.P.seen K.Q.seen K.S.seen world.old)
+        (world_of K.R.seen K.O.seen K.B.seen K.D.seen K.L.seen K.E.seen K.P.seen K.Q.seen K.S.seen world.new)) }
 {
     let receivers = u16::try_from(settings.receivers()).unwrap();
     let nodes = settings.nodes();
     let Ok(room) = RelayRoom::open(alloc, nodes, receivers, settings.cache_size()) else {
         return Err(Status::OutOfMemory);
     };
-    open_proxy(settings, world)?;
+    open_proxy::<K>(settings, world)?;
     world.beat.start(settings.check_interval());
     Ok(relay(
         rt,
@@ -219,30 +193,17 @@ fn finish<O: Sink>(relayed: &Relayed, output: &mut O) -> Status
 }
 
 /// Reads a settings file, and runs the proxy by the settings.
-pub(crate) fn proxy_files<
-    R: Source,
-    O: Sink,
-    B: Backend,
-    D: Datagrams + Send + Drop,
-    L: Wire + Send + Drop,
-    E: Door,
-    P: Beat + Send,
-    G: Gate + Sync,
-    T,
-    Q: Probe + Send,
-    S: Door,
-    X: Threads + Wait + Sync,
->(
+pub(crate) fn proxy_files<K: Kinds, X: Threads + Wait + Sync>(
     rt: &X,
     alloc: Global,
     settings: Name,
-    world: &mut World<R, O, B, D, L, E, P, G, T, Q, S>,
+    world: &mut WorldOf<K>,
 ) -> Status
     requires packets { 16 ≤ length (world.old).packets.items }
     requires wires { 256 ≤ length (world.old).wires.items }
     ensures { ProxyAccounts settings.items (answer_of result)
-        (world_of R.seen O.seen B.seen D.seen L.seen E.seen P.seen Q.seen S.seen world.old)
-        (world_of R.seen O.seen B.seen D.seen L.seen E.seen P.seen Q.seen S.seen world.new) }
+        (world_of K.R.seen K.O.seen K.B.seen K.D.seen K.L.seen K.E.seen K.P.seen K.Q.seen K.S.seen world.old)
+        (world_of K.R.seen K.O.seen K.B.seen K.D.seen K.L.seen K.E.seen K.P.seen K.Q.seen K.S.seen world.new) }
 {
     let settings = match read_settings(alloc, &mut world.settings, &Address::File(settings)) {
         Ok(settings) => settings,
@@ -253,7 +214,7 @@ pub(crate) fn proxy_files<
     }
     world.backs.graphite_used = names_backend(&settings, b"graphite");
     world.backs.console_used = names_backend(&settings, b"console");
-    match run_proxy(rt, alloc, &settings, world) {
+    match run_proxy::<K, X>(rt, alloc, &settings, world) {
         Ok(relayed) => finish(&relayed, &mut world.output),
         Err(status) => status,
     }

@@ -10,18 +10,16 @@ ghost use Rattle.sd_top.specs.Answers.{answer_of};
 ghost use Rattle.sd_top.specs.Serving.{sizing_by};
 ghost use Rattle.sd_top.specs.World.{world_of};
 
-use crate::call::World;
+use crate::call::WorldOf;
 use crate::server_end::finish;
 use crate::server_opening::{open_server, reads_streams};
 use crate::settings::read_settings;
 use crate::status::Status;
 use sd_config::{NamesOf, Settings};
-use sd_outside::{
-    Address, Backend, Beat, Clock, Datagrams, Door, Gate, Name, Probe, Sink, Source, Wire,
-};
+use sd_outside::{Address, Beat, Clock, Name};
 use sd_plan::Names;
 use sd_replay::{limits_of, names_backend, policy_of, targets_of};
-use sd_serve::{Served, ServerRoom, Sizes, serve};
+use sd_serve::{Kinds, Served, ServerRoom, Sizes, serve};
 use std::alloc::Global;
 use std::sync::Wait;
 use std::thread::Threads;
@@ -49,52 +47,39 @@ fn sizes_of(settings: &Settings) -> Sizes
 /// # Errors
 ///
 /// `OpenFault` where a part couldn't be opened, and `OutOfMemory`.
-pub(crate) fn run_server<
-    R: Source,
-    O: Sink,
-    B: Backend + Send,
-    D: Datagrams + Send + Drop,
-    L: Wire + Send + Drop,
-    E: Door<Asking: Send, Telling: Send> + Send,
-    P: Beat + Send,
-    G: Gate + Sync,
-    T: Clock + Sync,
-    Q: Probe + Send,
-    S: Door<Asking: Send, Telling: Send> + Send,
-    X: Threads + Wait + Sync,
->(
+pub(crate) fn run_server<K: Kinds, X: Threads + Wait + Sync>(
     rt: &X,
     alloc: Global,
     settings: &Settings,
-    world: &mut World<R, O, B, D, L, E, P, G, T, Q, S>,
+    world: &mut WorldOf<K>,
 ) -> Result<Served, Status>
-    requires flags { (world_of R.seen O.seen B.seen D.seen L.seen E.seen P.seen Q.seen S.seen world.old).flags ≡ flags_of settings.now }
+    requires flags { (world_of K.R.seen K.O.seen K.B.seen K.D.seen K.L.seen K.E.seen K.P.seen K.Q.seen K.S.seen world.old).flags ≡ flags_of settings.now }
     requires packets { 16 ≤ length (world.old).packets.items }
     requires wires { 256 ≤ length (world.old).wires.items }
-    requires beat { (P.seen (world.old).beat).turns < 2 ^ 62 }
-    requires door { ((E.seen (world.old).door).is_out ≡ false) × ((E.seen (world.old).door).turns < 2 ^ 62) }
-    requires streams { ((S.seen (world.old).streams).is_out ≡ false) × ((S.seen (world.old).streams).turns < 2 ^ 62) }
-    ensures served { IfOk result (HasServed (serves_by settings.now) (T.may_say (world.old).clock)
-        (objects_in (begun settings.now (world_of R.seen O.seen B.seen D.seen L.seen E.seen P.seen Q.seen S.seen world.old)))
-        (objects_in (world_of R.seen O.seen B.seen D.seen L.seen E.seen P.seen Q.seen S.seen world.new))) }
+    requires beat { (K.P.seen (world.old).beat).turns < 2 ^ 62 }
+    requires door { ((K.E.seen (world.old).door).is_out ≡ false) × ((K.E.seen (world.old).door).turns < 2 ^ 62) }
+    requires streams { ((K.S.seen (world.old).streams).is_out ≡ false) × ((K.S.seen (world.old).streams).turns < 2 ^ 62) }
+    ensures served { IfOk result (HasServed (serves_by settings.now) (K.T.may_say (world.old).clock)
+        (objects_in (begun settings.now (world_of K.R.seen K.O.seen K.B.seen K.D.seen K.L.seen K.E.seen K.P.seen K.Q.seen K.S.seen world.old)))
+        (objects_in (world_of K.R.seen K.O.seen K.B.seen K.D.seen K.L.seen K.E.seen K.P.seen K.Q.seen K.S.seen world.new))) }
     ensures few { IfOk result (λ served. length served.received.items ≤ 16) }
     ensures settings { (world.new).settings ≡ (world.old).settings }
     ensures script { (world.new).script ≡ (world.old).script }
     ensures output { (world.new).output ≡ (world.old).output }
     ensures probe { (world.new).probe ≡ (world.old).probe }
-    ensures flags { (world_of R.seen O.seen B.seen D.seen L.seen E.seen P.seen Q.seen S.seen world.new).flags ≡ (world_of R.seen O.seen B.seen D.seen L.seen E.seen P.seen Q.seen S.seen world.old).flags }
+    ensures flags { (world_of K.R.seen K.O.seen K.B.seen K.D.seen K.L.seen K.E.seen K.P.seen K.Q.seen K.S.seen world.new).flags ≡ (world_of K.R.seen K.O.seen K.B.seen K.D.seen K.L.seen K.E.seen K.P.seen K.Q.seen K.S.seen world.old).flags }
     ensures refused { IfErr result (λ status. StopsAmong (server_openings settings.now) (answer_of status)
-        (world_of R.seen O.seen B.seen D.seen L.seen E.seen P.seen Q.seen S.seen world.old)
-        (world_of R.seen O.seen B.seen D.seen L.seen E.seen P.seen Q.seen S.seen world.new)) }
+        (world_of K.R.seen K.O.seen K.B.seen K.D.seen K.L.seen K.E.seen K.P.seen K.Q.seen K.S.seen world.old)
+        (world_of K.R.seen K.O.seen K.B.seen K.D.seen K.L.seen K.E.seen K.P.seen K.Q.seen K.S.seen world.new)) }
 {
     let start = world.clock.now();
     let Ok(room) = ServerRoom::open(alloc, sizes_of(settings), start) else {
         return Err(Status::OutOfMemory);
     };
-    open_server(settings, world)?;
+    open_server::<K>(settings, world)?;
     world.beat.start(settings.flush_interval());
     let names = Names::of(settings);
-    Ok(serve(
+    Ok(serve::<K, X>(
         rt,
         room,
         settings,
@@ -113,33 +98,20 @@ pub(crate) fn run_server<
 }
 
 /// Reads a settings file, and runs the server by the settings.
-pub(crate) fn serve_files<
-    R: Source,
-    O: Sink,
-    B: Backend + Send,
-    D: Datagrams + Send + Drop,
-    L: Wire + Send + Drop,
-    E: Door<Asking: Send, Telling: Send> + Send,
-    P: Beat + Send,
-    G: Gate + Sync,
-    T: Clock + Sync,
-    Q: Probe + Send,
-    S: Door<Asking: Send, Telling: Send> + Send,
-    X: Threads + Wait + Sync,
->(
+pub(crate) fn serve_files<K: Kinds, X: Threads + Wait + Sync>(
     rt: &X,
     alloc: Global,
     settings: Name,
-    world: &mut World<R, O, B, D, L, E, P, G, T, Q, S>,
+    world: &mut WorldOf<K>,
 ) -> Status
     requires packets { 16 ≤ length (world.old).packets.items }
     requires wires { 256 ≤ length (world.old).wires.items }
-    requires beat { (P.seen (world.old).beat).turns < 2 ^ 62 }
-    requires door { ((E.seen (world.old).door).is_out ≡ false) × ((E.seen (world.old).door).turns < 2 ^ 62) }
-    requires streams { ((S.seen (world.old).streams).is_out ≡ false) × ((S.seen (world.old).streams).turns < 2 ^ 62) }
-    ensures { ServerAccounts settings.items (T.may_say (world.old).clock) (answer_of result)
-        (world_of R.seen O.seen B.seen D.seen L.seen E.seen P.seen Q.seen S.seen world.old)
-        (world_of R.seen O.seen B.seen D.seen L.seen E.seen P.seen Q.seen S.seen world.new) }
+    requires beat { (K.P.seen (world.old).beat).turns < 2 ^ 62 }
+    requires door { ((K.E.seen (world.old).door).is_out ≡ false) × ((K.E.seen (world.old).door).turns < 2 ^ 62) }
+    requires streams { ((K.S.seen (world.old).streams).is_out ≡ false) × ((K.S.seen (world.old).streams).turns < 2 ^ 62) }
+    ensures { ServerAccounts settings.items (K.T.may_say (world.old).clock) (answer_of result)
+        (world_of K.R.seen K.O.seen K.B.seen K.D.seen K.L.seen K.E.seen K.P.seen K.Q.seen K.S.seen world.old)
+        (world_of K.R.seen K.O.seen K.B.seen K.D.seen K.L.seen K.E.seen K.P.seen K.Q.seen K.S.seen world.new) }
 {
     let settings = match read_settings(alloc, &mut world.settings, &Address::File(settings)) {
         Ok(settings) => settings,
@@ -147,7 +119,7 @@ pub(crate) fn serve_files<
     };
     world.backs.graphite_used = names_backend(&settings, b"graphite");
     world.backs.console_used = names_backend(&settings, b"console");
-    match run_server(rt, alloc, &settings, world) {
+    match run_server::<K, X>(rt, alloc, &settings, world) {
         Ok(served) => finish(&served, &mut world.output),
         Err(status) => status,
     }

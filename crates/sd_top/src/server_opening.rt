@@ -9,11 +9,12 @@ ghost use Rattle.sd_top.specs.Answers.{answer_of};
 ghost use Rattle.sd_top.specs.Causes.{EachStops, opened_each};
 ghost use Rattle.sd_top.specs.World.{world_of};
 
-use crate::call::World;
+use crate::call::WorldOf;
 use crate::opening::{open, open_backs, open_repeater, open_where};
 use crate::status::{Part, Status};
 use sd_config::Settings;
-use sd_outside::{Address, Backend, Beat, Datagrams, Door, Name, Probe, Sink, Source, Wire};
+use sd_outside::{Address, Datagrams, Name};
+use sd_serve::Kinds;
 
 /// An address on the network.
 pub(crate) fn host_address(host: &Name, port: u32) -> Address
@@ -58,25 +59,13 @@ pub(crate) fn open_sources<D: Datagrams>(
 /// # Errors
 ///
 /// `OpenFault` where one failed, and `OutOfMemory`.
-pub(crate) fn open_packets<
-    R: Source,
-    O: Sink,
-    B: Backend,
-    D: Datagrams,
-    L: Wire,
-    E: Door,
-    P: Beat,
-    G,
-    T,
-    Q: Probe,
-    S: Door,
->(settings: &Settings, world: &mut World<R, O, B, D, L, E, P, G, T, Q, S>) -> Result<(), Status>
+pub(crate) fn open_packets<K: Kinds>(settings: &Settings, world: &mut WorldOf<K>) -> Result<(), Status>
     requires { 16 ≤ length (world.old).packets.items }
-    ensures opened { OnOk result (world_of R.seen O.seen B.seen D.seen L.seen E.seen P.seen Q.seen S.seen world.new
-        ≡ opened_all (world_of R.seen O.seen B.seen D.seen L.seen E.seen P.seen Q.seen S.seen world.old) (source_openings settings.now)) }
+    ensures opened { OnOk result (world_of K.R.seen K.O.seen K.B.seen K.D.seen K.L.seen K.E.seen K.P.seen K.Q.seen K.S.seen world.new
+        ≡ opened_all (world_of K.R.seen K.O.seen K.B.seen K.D.seen K.L.seen K.E.seen K.P.seen K.Q.seen K.S.seen world.old) (source_openings settings.now)) }
     ensures refused { IfErr result (λ status. StopsAmong (source_openings settings.now) (answer_of status)
-        (world_of R.seen O.seen B.seen D.seen L.seen E.seen P.seen Q.seen S.seen world.old)
-        (world_of R.seen O.seen B.seen D.seen L.seen E.seen P.seen Q.seen S.seen world.new)) }
+        (world_of K.R.seen K.O.seen K.B.seen K.D.seen K.L.seen K.E.seen K.P.seen K.Q.seen K.S.seen world.old)
+        (world_of K.R.seen K.O.seen K.B.seen K.D.seen K.L.seen K.E.seen K.P.seen K.Q.seen K.S.seen world.new)) }
     ensures count { length (world.new).packets.items ≡ length (world.old).packets.items }
     ensures wires { (world.new).wires ≡ (world.old).wires }
     ensures door { (world.new).door ≡ (world.old).door }
@@ -88,7 +77,7 @@ pub(crate) fn open_packets<
     ensures script { (world.new).script ≡ (world.old).script }
     ensures output { (world.new).output ≡ (world.old).output }
     ensures clock { (world.new).clock ≡ (world.old).clock }
-    ensures flags { (world_of R.seen O.seen B.seen D.seen L.seen E.seen P.seen Q.seen S.seen world.new).flags ≡ (world_of R.seen O.seen B.seen D.seen L.seen E.seen P.seen Q.seen S.seen world.old).flags }
+    ensures flags { (world_of K.R.seen K.O.seen K.B.seen K.D.seen K.L.seen K.E.seen K.P.seen K.Q.seen K.S.seen world.new).flags ≡ (world_of K.R.seen K.O.seen K.B.seen K.D.seen K.L.seen K.E.seen K.P.seen K.Q.seen K.S.seen world.old).flags }
 {
     let receivers = u16::try_from(settings.receivers()).unwrap();
     let at = host_address(settings.address(), settings.port());
@@ -107,26 +96,14 @@ pub(crate) fn reads_streams(settings: &Settings) -> bool
 /// # Errors
 ///
 /// `OpenFault` where one failed, and `OutOfMemory`.
-fn open_doors<
-    R: Source,
-    O: Sink,
-    B: Backend,
-    D: Datagrams,
-    L: Wire,
-    E: Door,
-    P: Beat,
-    G,
-    T,
-    Q: Probe,
-    S: Door,
->(settings: &Settings, world: &mut World<R, O, B, D, L, E, P, G, T, Q, S>) -> Result<(), Status>
-    ensures opened { OnOk result (world_of R.seen O.seen B.seen D.seen L.seen E.seen P.seen Q.seen S.seen world.new
-        ≡ opened_all (world_of R.seen O.seen B.seen D.seen L.seen E.seen P.seen Q.seen S.seen world.old) (door_openings settings.now)) }
+fn open_doors<K: Kinds>(settings: &Settings, world: &mut WorldOf<K>) -> Result<(), Status>
+    ensures opened { OnOk result (world_of K.R.seen K.O.seen K.B.seen K.D.seen K.L.seen K.E.seen K.P.seen K.Q.seen K.S.seen world.new
+        ≡ opened_all (world_of K.R.seen K.O.seen K.B.seen K.D.seen K.L.seen K.E.seen K.P.seen K.Q.seen K.S.seen world.old) (door_openings settings.now)) }
     ensures refused { IfErr result (λ status. StopsAmong (door_openings settings.now) (answer_of status)
-        (world_of R.seen O.seen B.seen D.seen L.seen E.seen P.seen Q.seen S.seen world.old)
-        (world_of R.seen O.seen B.seen D.seen L.seen E.seen P.seen Q.seen S.seen world.new)) }
-    ensures door { OnOk result (E.seen (world.new).door ≡ opened (Host (settings.now).addresses.mgmt_address (settings.now).server.mgmt_port) (E.seen (world.old).door)) }
-    ensures streams { OnOk result (S.seen (world.new).streams ≡ (if has_streams settings.now then opened (Host (settings.now).addresses.address (settings.now).transport.tcp_port) (S.seen (world.old).streams) else S.seen (world.old).streams)) }
+        (world_of K.R.seen K.O.seen K.B.seen K.D.seen K.L.seen K.E.seen K.P.seen K.Q.seen K.S.seen world.old)
+        (world_of K.R.seen K.O.seen K.B.seen K.D.seen K.L.seen K.E.seen K.P.seen K.Q.seen K.S.seen world.new)) }
+    ensures door { OnOk result (K.E.seen (world.new).door ≡ opened (Host (settings.now).addresses.mgmt_address (settings.now).server.mgmt_port) (K.E.seen (world.old).door)) }
+    ensures streams { OnOk result (K.S.seen (world.new).streams ≡ (if has_streams settings.now then opened (Host (settings.now).addresses.address (settings.now).transport.tcp_port) (K.S.seen (world.old).streams) else K.S.seen (world.old).streams)) }
     ensures packets { (world.new).packets ≡ (world.old).packets }
     ensures wires { (world.new).wires ≡ (world.old).wires }
     ensures backs { (world.new).backs ≡ (world.old).backs }
@@ -153,43 +130,31 @@ fn open_doors<
 /// # Errors
 ///
 /// `OpenFault` where one failed, and `OutOfMemory`.
-pub(crate) fn open_server<
-    R: Source,
-    O: Sink,
-    B: Backend,
-    D: Datagrams,
-    L: Wire,
-    E: Door,
-    P: Beat,
-    G,
-    T,
-    Q: Probe,
-    S: Door,
->(settings: &Settings, world: &mut World<R, O, B, D, L, E, P, G, T, Q, S>) -> Result<(), Status>
-    requires flags { (world_of R.seen O.seen B.seen D.seen L.seen E.seen P.seen Q.seen S.seen world.old).flags ≡ flags_of settings.now }
+pub(crate) fn open_server<K: Kinds>(settings: &Settings, world: &mut WorldOf<K>) -> Result<(), Status>
+    requires flags { (world_of K.R.seen K.O.seen K.B.seen K.D.seen K.L.seen K.E.seen K.P.seen K.Q.seen K.S.seen world.old).flags ≡ flags_of settings.now }
     requires packets { 16 ≤ length (world.old).packets.items }
     requires wires { 256 ≤ length (world.old).wires.items }
-    ensures opened { OnOk result (world_of R.seen O.seen B.seen D.seen L.seen E.seen P.seen Q.seen S.seen world.new
-        ≡ opened_all (world_of R.seen O.seen B.seen D.seen L.seen E.seen P.seen Q.seen S.seen world.old) (server_openings settings.now)) }
+    ensures opened { OnOk result (world_of K.R.seen K.O.seen K.B.seen K.D.seen K.L.seen K.E.seen K.P.seen K.Q.seen K.S.seen world.new
+        ≡ opened_all (world_of K.R.seen K.O.seen K.B.seen K.D.seen K.L.seen K.E.seen K.P.seen K.Q.seen K.S.seen world.old) (server_openings settings.now)) }
     ensures refused { IfErr result (λ status. StopsAmong (server_openings settings.now) (answer_of status)
-        (world_of R.seen O.seen B.seen D.seen L.seen E.seen P.seen Q.seen S.seen world.old)
-        (world_of R.seen O.seen B.seen D.seen L.seen E.seen P.seen Q.seen S.seen world.new)) }
+        (world_of K.R.seen K.O.seen K.B.seen K.D.seen K.L.seen K.E.seen K.P.seen K.Q.seen K.S.seen world.old)
+        (world_of K.R.seen K.O.seen K.B.seen K.D.seen K.L.seen K.E.seen K.P.seen K.Q.seen K.S.seen world.new)) }
     ensures packets { length (world.new).packets.items ≡ length (world.old).packets.items }
     ensures wires { length (world.new).wires.items ≡ length (world.old).wires.items }
-    ensures door { OnOk result (E.seen (world.new).door ≡ opened (Host (settings.now).addresses.mgmt_address (settings.now).server.mgmt_port) (E.seen (world.old).door)) }
-    ensures streams { OnOk result (S.seen (world.new).streams ≡ (if has_streams settings.now then opened (Host (settings.now).addresses.address (settings.now).transport.tcp_port) (S.seen (world.old).streams) else S.seen (world.old).streams)) }
+    ensures door { OnOk result (K.E.seen (world.new).door ≡ opened (Host (settings.now).addresses.mgmt_address (settings.now).server.mgmt_port) (K.E.seen (world.old).door)) }
+    ensures streams { OnOk result (K.S.seen (world.new).streams ≡ (if has_streams settings.now then opened (Host (settings.now).addresses.address (settings.now).transport.tcp_port) (K.S.seen (world.old).streams) else K.S.seen (world.old).streams)) }
     ensures beat { (world.new).beat ≡ (world.old).beat }
     ensures probe { (world.new).probe ≡ (world.old).probe }
     ensures settings { (world.new).settings ≡ (world.old).settings }
     ensures script { (world.new).script ≡ (world.old).script }
     ensures output { (world.new).output ≡ (world.old).output }
     ensures clock { (world.new).clock ≡ (world.old).clock }
-    ensures flags { (world_of R.seen O.seen B.seen D.seen L.seen E.seen P.seen Q.seen S.seen world.new).flags ≡ (world_of R.seen O.seen B.seen D.seen L.seen E.seen P.seen Q.seen S.seen world.old).flags }
+    ensures flags { (world_of K.R.seen K.O.seen K.B.seen K.D.seen K.L.seen K.E.seen K.P.seen K.Q.seen K.S.seen world.new).flags ≡ (world_of K.R.seen K.O.seen K.B.seen K.D.seen K.L.seen K.E.seen K.P.seen K.Q.seen K.S.seen world.old).flags }
 {
     let receivers = u16::try_from(settings.receivers()).unwrap();
-    open_packets(settings, world)?;
-    open_repeater(receivers, settings, world)?;
+    open_packets::<K>(settings, world)?;
+    open_repeater::<K>(receivers, settings, world)?;
     let graphite = host_address(settings.graphite_host(), settings.graphite_port());
     open_backs(&mut world.backs, &graphite)?;
-    open_doors(settings, world)
+    open_doors::<K>(settings, world)
 }

@@ -53,14 +53,14 @@ returns-clause-flushes g c =
     let outs_now = c.run_beside-out.new.outs in
     let counts : OutCounts = record { skips = skips; graphite = c.close_outlet.result; console = c.close_outlet-2.result } in
     let used = uses c.args.backs.now in
-    let back : Backend → Object = back_of g.B.Faulty.seen c.args.backs.now in
-    let back_now : Backend → Object = λ b. elim b as (λ _. Object) [ Graphite ↦ g.B.Faulty.seen c.close_outlet.new.back | Console ↦ g.B.Faulty.seen c.close_outlet-2.new.back ] in
+    let back : Backend → Object = back_of g.K.B.Faulty.seen c.args.backs.now in
+    let back_now : Backend → Object = λ b. elim b as (λ _. Object) [ Graphite ↦ g.K.B.Faulty.seen c.close_outlet.new.back | Console ↦ g.K.B.Faulty.seen c.close_outlet-2.new.back ] in
     went_on _ (fed_by skips outs outs_now) (written_by used c.args.outs.graphite c.args.outs.console counts back back_now) _ _ _ _ _ _ _ _
     (λ b. elim b as (λ b. (texts : List (List ℕ)) → fed_by skips outs outs_now b texts → written_by used c.args.outs.graphite c.args.outs.console counts back back_now b texts) [
       | Graphite ↦ λ texts h. written c.args.outs.graphite c.requires.outs.0 texts skips.graphite outs.graphite outs_now.graphite c.lead_or_idle-graphite_lead.result.1 c.feed_back-graphite_feed.result
-          c.feed_back-graphite_feed.ensures.lent c.feed_back-graphite_feed.ensures.idle c.args.backs.now.graphite_used c.close_outlet.result (g.B.Faulty.seen c.args.backs.now.graphite) (g.B.Faulty.seen c.close_outlet.new.back)
-          c.lead_or_idle-graphite_lead.ensures h (c.close_outlet.ensures (g.B.Faulty.seen c.args.backs.now.graphite) out.graphite.wrote)
+          c.feed_back-graphite_feed.ensures.lent c.feed_back-graphite_feed.ensures.idle c.args.backs.now.graphite_used c.close_outlet.result (g.K.B.Faulty.seen c.args.backs.now.graphite) (g.K.B.Faulty.seen c.close_outlet.new.back)
+          c.lead_or_idle-graphite_lead.ensures h (c.close_outlet.ensures (g.K.B.Faulty.seen c.args.backs.now.graphite) out.graphite.wrote)
       | Console ↦ λ texts h. written c.args.outs.console c.requires.outs.1 texts skips.console outs.console outs_now.console c.lead_or_idle-console_lead.result.1 c.feed_back-console_feed.result
-          c.feed_back-console_feed.ensures.lent c.feed_back-console_feed.ensures.idle c.args.backs.now.console_used c.close_outlet-2.result (g.B.Faulty.seen c.args.backs.now.console) (g.B.Faulty.seen c.close_outlet-2.new.back)
-          c.lead_or_idle-console_lead.ensures h (c.close_outlet-2.ensures (g.B.Faulty.seen c.args.backs.now.console) out.console.wrote)
+          c.feed_back-console_feed.ensures.lent c.feed_back-console_feed.ensures.idle c.args.backs.now.console_used c.close_outlet-2.result (g.K.B.Faulty.seen c.args.backs.now.console) (g.K.B.Faulty.seen c.close_outlet-2.new.back)
+          c.lead_or_idle-console_lead.ensures h (c.close_outlet-2.ensures (g.K.B.Faulty.seen c.args.backs.now.console) out.console.wrote)
     ]) out.flushes

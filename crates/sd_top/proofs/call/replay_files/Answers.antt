@@ -17,21 +17,21 @@ carry_out-requires-clause-flags g c = λ i. record { graphite = c.names_backend-
 pub returns-in-Ok-carry_out : goal.returns-in-Ok-carry_out
 returns-in-Ok-carry_out g c =
     let values = c.in-Ok.settings in
-    let old = world_of g.R.Faulty.seen g.O.Faulty.seen g.B.Faulty.seen g.D.Faulty.seen g.L.Faulty.seen g.E.Faulty.seen g.P.Faulty.seen g.Q.Faulty.seen g.S.Faulty.seen c.args.world.now in
-    let settings = g.R.Faulty.seen c.read_settings.new.source in
+    let old = world_of g.K.R.Faulty.seen g.K.O.Faulty.seen g.K.B.Faulty.seen g.K.D.Faulty.seen g.K.L.Faulty.seen g.K.E.Faulty.seen g.K.P.Faulty.seen g.K.Q.Faulty.seen g.K.S.Faulty.seen c.args.world.now in
+    let settings = g.K.R.Faulty.seen c.read_settings.new.source in
     let begun : World = record old { settings = settings; flags = record { graphite = c.names_backend-world.result; console = c.names_backend-world-2.result } } in
     let flags : begun.flags ≡ flags_of values = λ i. record { graphite = c.names_backend-world.ensures i; console = c.names_backend-world-2.ensures i } in
     let is : begun ≡ settled values settings old = λ i. record old { settings = settings; flags = flags i } in
-    let new = world_of g.R.Faulty.seen g.O.Faulty.seen g.B.Faulty.seen g.D.Faulty.seen g.L.Faulty.seen g.E.Faulty.seen g.P.Faulty.seen g.Q.Faulty.seen g.S.Faulty.seen c.carry_out.new.world in
+    let new = world_of g.K.R.Faulty.seen g.K.O.Faulty.seen g.K.B.Faulty.seen g.K.D.Faulty.seen g.K.L.Faulty.seen g.K.E.Faulty.seen g.K.P.Faulty.seen g.K.Q.Faulty.seen g.K.S.Faulty.seen c.carry_out.new.world in
     let others : new ≡ record (settled values settings old) { seen = new.seen } = (λ i. record new {
-      settings = g.R.Faulty.seen (c.carry_out.ensures.settings i);
+      settings = g.K.R.Faulty.seen (c.carry_out.ensures.settings i);
       served = record {
-        sources = map g.D.Faulty.seen (c.carry_out.ensures.packets i).items;
-        beat = g.P.Faulty.seen (c.carry_out.ensures.beat i);
-        door = g.E.Faulty.seen (c.carry_out.ensures.door i);
-        streams = g.S.Faulty.seen (c.carry_out.ensures.streams i);
+        sources = map g.K.D.Faulty.seen (c.carry_out.ensures.packets i).items;
+        beat = g.K.P.Faulty.seen (c.carry_out.ensures.beat i);
+        door = g.K.E.Faulty.seen (c.carry_out.ensures.door i);
+        streams = g.K.S.Faulty.seen (c.carry_out.ensures.streams i);
       };
-      probe = g.Q.Faulty.seen (c.carry_out.ensures.probe i);
+      probe = g.K.Q.Faulty.seen (c.carry_out.ensures.probe i);
       flags = (c.carry_out.ensures.flags ∙ flags) i;
     }) in
     by_replay old new c.args.settings.items c.args.script.items values settings c.in-Ok.ensures.accepted _ (end_of c.in-Ok-carry_out.end) c.status_of.ensures others
@@ -40,11 +40,11 @@ returns-in-Ok-carry_out g c =
 pub returns-in-Err-carry_out : goal.returns-in-Err-carry_out
 returns-in-Err-carry_out g c =
     let values = c.in-Ok.settings in
-    let old = world_of g.R.Faulty.seen g.O.Faulty.seen g.B.Faulty.seen g.D.Faulty.seen g.L.Faulty.seen g.E.Faulty.seen g.P.Faulty.seen g.Q.Faulty.seen g.S.Faulty.seen c.args.world.now in
-    let settings = g.R.Faulty.seen c.read_settings.new.source in
+    let old = world_of g.K.R.Faulty.seen g.K.O.Faulty.seen g.K.B.Faulty.seen g.K.D.Faulty.seen g.K.L.Faulty.seen g.K.E.Faulty.seen g.K.P.Faulty.seen g.K.Q.Faulty.seen g.K.S.Faulty.seen c.args.world.now in
+    let settings = g.K.R.Faulty.seen c.read_settings.new.source in
     let begun : World = record old { settings = settings; flags = record { graphite = c.names_backend-world.result; console = c.names_backend-world-2.result } } in
     let flags : begun.flags ≡ flags_of values = λ i. record { graphite = c.names_backend-world.ensures i; console = c.names_backend-world-2.ensures i } in
     let is : begun ≡ settled values settings old = λ i. record old { settings = settings; flags = flags i } in
-    let new = world_of g.R.Faulty.seen g.O.Faulty.seen g.B.Faulty.seen g.D.Faulty.seen g.L.Faulty.seen g.E.Faulty.seen g.P.Faulty.seen g.Q.Faulty.seen g.S.Faulty.seen c.carry_out.new.world in
+    let new = world_of g.K.R.Faulty.seen g.K.O.Faulty.seen g.K.B.Faulty.seen g.K.D.Faulty.seen g.K.L.Faulty.seen g.K.E.Faulty.seen g.K.P.Faulty.seen g.K.Q.Faulty.seen g.K.S.Faulty.seen c.carry_out.new.world in
     by_opening old new c.args.settings.items c.args.script.items values settings c.in-Ok.ensures.accepted _
     (subst (λ (w : World). StopsAmong (replay_openings c.args.script.items values) (answer_of c.in-Err-carry_out.status) w new) is c.in-Err-carry_out.ensures.refused)

@@ -10,7 +10,7 @@ use Rattle.sd_top.proofs.opening.+open_runs.Goals as goal
 
 pub returns-in_err-open_wires-clause-refused : goal.returns-in_err-open_wires-clause-refused
 returns-in_err-open_wires-clause-refused g t c =
-    let ps = map g.K.Peer.place c.args.peers.now in
+    let ps = map g.N.Peer.place c.args.peers.now in
     let see = g.L.Faulty.seen in
     let front = c.split_at_mut-run.result.0.now in
     let back = c.split_at_mut-run.result.1.now in
@@ -26,11 +26,11 @@ returns-in_err-open_wires-clause-refused g t c =
 
 pub returns-clause-ok : goal.returns-clause-ok
 returns-clause-ok g t c =
-    let ps = map g.K.Peer.place c.args.peers.now in
+    let ps = map g.N.Peer.place c.args.peers.now in
     let see = g.L.Faulty.seen in
     let front = c.split_at_mut-run.result.0.now in
     let back = c.split_at_mut-run.result.1.now in
-    let same = length-map front see ∙ c.split_at_mut-run.ensures.front_len ∙ sym (length-map c.args.peers.now g.K.Peer.place) in
+    let same = length-map front see ∙ c.split_at_mut-run.ensures.front_len ∙ sym (length-map c.args.peers.now g.N.Peer.place) in
     on_ok_weaker c.open_runs.result
     (λ rest. map-append see c.open_wires.new.wires c.open_runs.new.wires
     ∙ (λ i. c.in_ok-open_wires.ensures.ok i ++ rest i)
@@ -42,11 +42,11 @@ returns-clause-ok g t c =
 
 pub returns-clause-refused : goal.returns-clause-refused
 returns-clause-refused g t c =
-    let ps = map g.K.Peer.place c.args.peers.now in
+    let ps = map g.N.Peer.place c.args.peers.now in
     let see = g.L.Faulty.seen in
     let front = c.split_at_mut-run.result.0.now in
     let back = c.split_at_mut-run.result.1.now in
-    let count = length-map c.args.peers.now g.K.Peer.place in
+    let count = length-map c.args.peers.now g.N.Peer.place in
     let same = length-map front see ∙ c.split_at_mut-run.ensures.front_len ∙ sym count in
     let now = map see (c.open_wires.new.wires ++ c.open_runs.new.wires) in
     IfErr-weaker c.open_runs.result _ _

@@ -17,7 +17,7 @@ open_peers-requires-clause-few g c =
 
 pub returns-clause-opened : goal.returns-clause-opened
 returns-clause-opened g c =
-    let old = world_of g.R.Faulty.seen g.O.Faulty.seen g.B.Faulty.seen g.D.Faulty.seen g.L.Faulty.seen g.E.Faulty.seen g.P.Faulty.seen g.Q.Faulty.seen g.S.Faulty.seen c.args.world.now in
+    let old = world_of g.K.R.Faulty.seen g.K.O.Faulty.seen g.K.B.Faulty.seen g.K.D.Faulty.seen g.K.L.Faulty.seen g.K.E.Faulty.seen g.K.P.Faulty.seen g.K.Q.Faulty.seen g.K.S.Faulty.seen c.args.world.now in
     let places = sym (map-map target_place target_view c.targets_of.result.now) ∙ ap (map target_place) c.targets_of.ensures.targets in
     on_ok_weaker c.open_peers.result
     (λ is. is ∙ ap (λ ps. opened_all old (numbered OfWire 0 (repeated c.args.runs ps))) places)
@@ -25,8 +25,8 @@ returns-clause-opened g c =
 
 pub returns-clause-refused : goal.returns-clause-refused
 returns-clause-refused g c =
-    let old = world_of g.R.Faulty.seen g.O.Faulty.seen g.B.Faulty.seen g.D.Faulty.seen g.L.Faulty.seen g.E.Faulty.seen g.P.Faulty.seen g.Q.Faulty.seen g.S.Faulty.seen c.args.world.now in
-    let new = world_of g.R.Faulty.seen g.O.Faulty.seen g.B.Faulty.seen g.D.Faulty.seen g.L.Faulty.seen g.E.Faulty.seen g.P.Faulty.seen g.Q.Faulty.seen g.S.Faulty.seen c.open_peers.new.world in
+    let old = world_of g.K.R.Faulty.seen g.K.O.Faulty.seen g.K.B.Faulty.seen g.K.D.Faulty.seen g.K.L.Faulty.seen g.K.E.Faulty.seen g.K.P.Faulty.seen g.K.Q.Faulty.seen g.K.S.Faulty.seen c.args.world.now in
+    let new = world_of g.K.R.Faulty.seen g.K.O.Faulty.seen g.K.B.Faulty.seen g.K.D.Faulty.seen g.K.L.Faulty.seen g.K.E.Faulty.seen g.K.P.Faulty.seen g.K.Q.Faulty.seen g.K.S.Faulty.seen c.open_peers.new.world in
     let places = sym (map-map target_place target_view c.targets_of.result.now) ∙ ap (map target_place) c.targets_of.ensures.targets in
     IfErr-weaker c.open_peers.result _ _
     (λ status h. subst (λ ps. StopsAmong (numbered OfWire 0 (repeated c.args.runs ps)) (answer_of status) old new) places h)

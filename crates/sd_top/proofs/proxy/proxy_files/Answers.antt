@@ -15,28 +15,28 @@ pub returns-in-Ok-run_proxy : goal.returns-in-Ok-run_proxy
 returns-in-Ok-run_proxy g c =
     let values = c.in-Ok.settings in
     let fit : proxy_flaw values ≡ None = search rules in
-    let old = world_of g.R.Faulty.seen g.O.Faulty.seen g.B.Faulty.seen g.D.Faulty.seen g.L.Faulty.seen g.E.Faulty.seen g.P.Faulty.seen g.Q.Faulty.seen g.S.Faulty.seen c.args.world.now in
-    let settings = g.R.Faulty.seen c.read_settings.new.source in
+    let old = world_of g.K.R.Faulty.seen g.K.O.Faulty.seen g.K.B.Faulty.seen g.K.D.Faulty.seen g.K.L.Faulty.seen g.K.E.Faulty.seen g.K.P.Faulty.seen g.K.Q.Faulty.seen g.K.S.Faulty.seen c.args.world.now in
+    let settings = g.K.R.Faulty.seen c.read_settings.new.source in
     let begun : World = record old { settings = settings; flags = record { graphite = c.names_backend-world.result; console = c.names_backend-world-2.result } } in
     let flags : begun.flags ≡ flags_of values = λ i. record { graphite = c.names_backend-world.ensures i; console = c.names_backend-world-2.ensures i } in
     let is : begun ≡ settled values settings old = λ i. record old { settings = settings; flags = flags i } in
-    let mid = world_of g.R.Faulty.seen g.O.Faulty.seen g.B.Faulty.seen g.D.Faulty.seen g.L.Faulty.seen g.E.Faulty.seen g.P.Faulty.seen g.Q.Faulty.seen g.S.Faulty.seen c.run_proxy.new.world in
+    let mid = world_of g.K.R.Faulty.seen g.K.O.Faulty.seen g.K.B.Faulty.seen g.K.D.Faulty.seen g.K.L.Faulty.seen g.K.E.Faulty.seen g.K.P.Faulty.seen g.K.Q.Faulty.seen g.K.S.Faulty.seen c.run_proxy.new.world in
     let r = c.in-Ok-run_proxy.relayed in
     let relayed = c.in-Ok-run_proxy.ensures.relayed in
     let output = ap (λ (w : World). w.seen.output) relayed.others in
-    proxy_ran c.args.settings.items values settings old _ c.in-Ok.ensures.accepted fit r (answer_of c.finish.result) mid (g.O.Faulty.seen c.finish.new.output)
+    proxy_ran c.args.settings.items values settings old _ c.in-Ok.ensures.accepted fit r (answer_of c.finish.result) mid (g.K.O.Faulty.seen c.finish.new.output)
     (subst (λ w. HasRelayed values w mid r) is relayed) refl
-    (subst (λ o. WritesTotals (relay_lines r.sums r.checked) (relay_answer r.received.items r.checked) (answer_of c.finish.result) o (g.O.Faulty.seen c.finish.new.output)) output c.finish.ensures)
+    (subst (λ o. WritesTotals (relay_lines r.sums r.checked) (relay_answer r.received.items r.checked) (answer_of c.finish.result) o (g.K.O.Faulty.seen c.finish.new.output)) output c.finish.ensures)
 
 pub returns-in-Err-run_proxy : goal.returns-in-Err-run_proxy
 returns-in-Err-run_proxy g c =
     let values = c.in-Ok.settings in
     let fit : proxy_flaw values ≡ None = search rules in
-    let old = world_of g.R.Faulty.seen g.O.Faulty.seen g.B.Faulty.seen g.D.Faulty.seen g.L.Faulty.seen g.E.Faulty.seen g.P.Faulty.seen g.Q.Faulty.seen g.S.Faulty.seen c.args.world.now in
-    let settings = g.R.Faulty.seen c.read_settings.new.source in
+    let old = world_of g.K.R.Faulty.seen g.K.O.Faulty.seen g.K.B.Faulty.seen g.K.D.Faulty.seen g.K.L.Faulty.seen g.K.E.Faulty.seen g.K.P.Faulty.seen g.K.Q.Faulty.seen g.K.S.Faulty.seen c.args.world.now in
+    let settings = g.K.R.Faulty.seen c.read_settings.new.source in
     let begun : World = record old { settings = settings; flags = record { graphite = c.names_backend-world.result; console = c.names_backend-world-2.result } } in
     let flags : begun.flags ≡ flags_of values = λ i. record { graphite = c.names_backend-world.ensures i; console = c.names_backend-world-2.ensures i } in
     let is : begun ≡ settled values settings old = λ i. record old { settings = settings; flags = flags i } in
-    let new = world_of g.R.Faulty.seen g.O.Faulty.seen g.B.Faulty.seen g.D.Faulty.seen g.L.Faulty.seen g.E.Faulty.seen g.P.Faulty.seen g.Q.Faulty.seen g.S.Faulty.seen c.run_proxy.new.world in
+    let new = world_of g.K.R.Faulty.seen g.K.O.Faulty.seen g.K.B.Faulty.seen g.K.D.Faulty.seen g.K.L.Faulty.seen g.K.E.Faulty.seen g.K.P.Faulty.seen g.K.Q.Faulty.seen g.K.S.Faulty.seen c.run_proxy.new.world in
     proxy_stopped c.args.settings.items values settings old new c.in-Ok.ensures.accepted fit (answer_of c.in-Err-run_proxy.status)
     (subst (λ (w : World). StopsAmong (proxy_openings values) (answer_of c.in-Err-run_proxy.status) w new) is c.in-Err-run_proxy.ensures.refused)

@@ -18,34 +18,34 @@ relay-requires-clause-room g c κs within = subst (λ n. IsRoomFor (map node_vie
 pub returns-clause-relayed : goal.returns-clause-relayed
 returns-clause-relayed g c =
     let s = c.args.settings.now in
-    let old = world_of g.R.Faulty.seen g.O.Faulty.seen g.B.Faulty.seen g.D.Faulty.seen g.L.Faulty.seen g.E.Faulty.seen g.P.Faulty.seen g.Q.Faulty.seen g.S.Faulty.seen c.args.world.now in
+    let old = world_of g.K.R.Faulty.seen g.K.O.Faulty.seen g.K.B.Faulty.seen g.K.D.Faulty.seen g.K.L.Faulty.seen g.K.E.Faulty.seen g.K.P.Faulty.seen g.K.Q.Faulty.seen g.K.S.Faulty.seen c.args.world.now in
     let mid = c.open_proxy.new.world in
-    let seen_mid = world_of g.R.Faulty.seen g.O.Faulty.seen g.B.Faulty.seen g.D.Faulty.seen g.L.Faulty.seen g.E.Faulty.seen g.P.Faulty.seen g.Q.Faulty.seen g.S.Faulty.seen mid in
+    let seen_mid = world_of g.K.R.Faulty.seen g.K.O.Faulty.seen g.K.B.Faulty.seen g.K.D.Faulty.seen g.K.L.Faulty.seen g.K.E.Faulty.seen g.K.P.Faulty.seen g.K.Q.Faulty.seen g.K.S.Faulty.seen mid in
     let e = c.open_proxy.ensures in
     let opened = c.in_ok-open_proxy.ensures.opened in
     let receivers : c.unwrap-receivers.result ≡ s.sizes.receivers = search rules in
     let begun_is : record seen_mid { served = record seen_mid.served { beat = with_interval s.sizes.check_interval seen_mid.served.beat } } ≡ proxy_begun s old =
     (λ i. record (opened i) { served = record (opened i).served { beat = with_interval s.sizes.check_interval (opened i).served.beat } }) in
-    let beat = c.start.ensures ∙ ap (λ n. with_interval n (g.P.Faulty.seen mid.beat)) c.check_interval.ensures.value in
-    let new = world_of g.R.Faulty.seen g.O.Faulty.seen g.B.Faulty.seen g.D.Faulty.seen g.L.Faulty.seen g.E.Faulty.seen g.P.Faulty.seen g.Q.Faulty.seen g.S.Faulty.seen (record mid { packets = c.relay.new.packets; wires = c.relay.new.wires; beat = c.relay.new.beat; probe = c.relay.new.probe }) in
+    let beat = c.start.ensures ∙ ap (λ n. with_interval n (g.K.P.Faulty.seen mid.beat)) c.check_interval.ensures.value in
+    let new = world_of g.K.R.Faulty.seen g.K.O.Faulty.seen g.K.B.Faulty.seen g.K.D.Faulty.seen g.K.L.Faulty.seen g.K.E.Faulty.seen g.K.P.Faulty.seen g.K.Q.Faulty.seen g.K.S.Faulty.seen (record mid { packets = c.relay.new.packets; wires = c.relay.new.wires; beat = c.relay.new.beat; probe = c.relay.new.probe }) in
     let r = c.relay.result in
     record {
-      relayed = subst (λ o. relaying.HasRelayed s.lists.nodes s.sizes.receivers (proxy_begun s old).served.sources new.served.sources (proxy_begun s old).seen.wires new.seen.wires (proxy_begun s old).served.beat new.served.beat o new.probe r) (ap g.Q.Faulty.seen e.probe)
+      relayed = subst (λ o. relaying.HasRelayed s.lists.nodes s.sizes.receivers (proxy_begun s old).served.sources new.served.sources (proxy_begun s old).seen.wires new.seen.wires (proxy_begun s old).served.beat new.served.beat o new.probe r) (ap g.K.Q.Faulty.seen e.probe)
           (subst (λ (w : World). relaying.HasRelayed s.lists.nodes s.sizes.receivers w.served.sources new.served.sources w.seen.wires new.seen.wires w.served.beat new.served.beat seen_mid.probe new.probe r) begun_is
           (subst (λ o. relaying.HasRelayed s.lists.nodes s.sizes.receivers seen_mid.served.sources new.served.sources seen_mid.seen.wires new.seen.wires o new.served.beat seen_mid.probe new.probe r) beat
-          (subst (λ ns. relaying.HasRelayed ns s.sizes.receivers seen_mid.served.sources new.served.sources seen_mid.seen.wires new.seen.wires (g.P.Faulty.seen c.start.new.self) new.served.beat seen_mid.probe new.probe r) c.nodes-nodes.ensures.value
-          (subst (λ n. relaying.HasRelayed (map node_view c.nodes-nodes.result.now) n seen_mid.served.sources new.served.sources seen_mid.seen.wires new.seen.wires (g.P.Faulty.seen c.start.new.self) new.served.beat seen_mid.probe new.probe r) (c.in-Ok.ensures.places ∙ receivers) c.relay.ensures))));
+          (subst (λ ns. relaying.HasRelayed ns s.sizes.receivers seen_mid.served.sources new.served.sources seen_mid.seen.wires new.seen.wires (g.K.P.Faulty.seen c.start.new.self) new.served.beat seen_mid.probe new.probe r) c.nodes-nodes.ensures.value
+          (subst (λ n. relaying.HasRelayed (map node_view c.nodes-nodes.result.now) n seen_mid.served.sources new.served.sources seen_mid.seen.wires new.seen.wires (g.K.P.Faulty.seen c.start.new.self) new.served.beat seen_mid.probe new.probe r) (c.in-Ok.ensures.places ∙ receivers) c.relay.ensures))));
       others = (λ i. record {
-        settings = g.R.Faulty.seen (e.settings i);
+        settings = g.K.R.Faulty.seen (e.settings i);
         seen = record {
-          script = g.R.Faulty.seen (e.script i);
-          output = g.O.Faulty.seen (e.output i);
-          graphite = g.B.Faulty.seen (e.backs i).graphite;
-          console = g.B.Faulty.seen (e.backs i).console;
-          wires = map g.L.Faulty.seen c.relay.new.wires.items;
+          script = g.K.R.Faulty.seen (e.script i);
+          output = g.K.O.Faulty.seen (e.output i);
+          graphite = g.K.B.Faulty.seen (e.backs i).graphite;
+          console = g.K.B.Faulty.seen (e.backs i).console;
+          wires = map g.K.L.Faulty.seen c.relay.new.wires.items;
         };
-        served = record { sources = map g.D.Faulty.seen c.relay.new.packets.items; beat = g.P.Faulty.seen c.relay.new.beat; door = g.E.Faulty.seen (e.door i); streams = g.S.Faulty.seen (e.streams i) };
-        probe = g.Q.Faulty.seen c.relay.new.probe;
+        served = record { sources = map g.K.D.Faulty.seen c.relay.new.packets.items; beat = g.K.P.Faulty.seen c.relay.new.beat; door = g.K.E.Faulty.seen (e.door i); streams = g.K.S.Faulty.seen (e.streams i) };
+        probe = g.K.Q.Faulty.seen c.relay.new.probe;
         flags = record { graphite = (e.backs i).graphite_used; console = (e.backs i).console_used };
       });
     }

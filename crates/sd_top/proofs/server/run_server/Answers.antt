@@ -20,13 +20,13 @@ returns-in_default-clause-refused g c = inl (refl, record { before = []; behind 
 
 pub serve-requires-clause-start : goal.serve-requires-clause-start
 serve-requires-clause-start g c κs within =
-    subst (λ k. g.T.Clock.may_say k (start_in c.in-Ok.room)) (sym c.open_server.ensures.clock)
-    (subst (g.T.Clock.may_say c.args.world.now.clock) (sym c.in-Ok.ensures.start) c.now-start.ensures)
+    subst (λ k. g.K.T.Clock.may_say k (start_in c.in-Ok.room)) (sym c.open_server.ensures.clock)
+    (subst (g.K.T.Clock.may_say c.args.world.now.clock) (sym c.in-Ok.ensures.start) c.now-start.ensures)
 
 pub serve-requires-clause-beat : goal.serve-requires-clause-beat
 serve-requires-clause-beat g c =
     let started = ap (λ (o : Object). o.turns) c.start.ensures in
-    let same = ap (λ b. (g.P.Faulty.seen b).turns) c.open_server.ensures.beat in
+    let same = ap (λ b. (g.K.P.Faulty.seen b).turns) c.open_server.ensures.beat in
     omega (arith, started, same, c.requires.beat)
 
 -- an object that is opened where it is used has the turns of before, and is out where it was
@@ -37,7 +37,7 @@ where_kept false place o n is = (ap (λ (x : Object). x.is_out) is, ap (λ (x : 
 pub serve-requires-clause-streams : goal.serve-requires-clause-streams
 serve-requires-clause-streams g c κs within =
     let s = c.args.settings.now in
-    let kept = where_kept (has_streams s) (Host s.addresses.address s.transport.tcp_port) (g.S.Faulty.seen c.args.world.now.streams) (g.S.Faulty.seen c.open_server.new.world.streams) c.in_ok-open_server.ensures.streams in
+    let kept = where_kept (has_streams s) (Host s.addresses.address s.transport.tcp_port) (g.K.S.Faulty.seen c.args.world.now.streams) (g.K.S.Faulty.seen c.open_server.new.world.streams) c.in_ok-open_server.ensures.streams in
     (kept.0 ∙ c.requires.streams.0, let turns = kept.1 in let few = c.requires.streams.1 in omega (arith, turns, few))
 
 pub serve-requires-clause-door : goal.serve-requires-clause-door
@@ -68,9 +68,9 @@ returns-clause-few g c =
 pub returns-clause-served : goal.returns-clause-served
 returns-clause-served g c =
     let s = c.args.settings.now in
-    let old = world_of g.R.Faulty.seen g.O.Faulty.seen g.B.Faulty.seen g.D.Faulty.seen g.L.Faulty.seen g.E.Faulty.seen g.P.Faulty.seen g.Q.Faulty.seen g.S.Faulty.seen c.args.world.now in
+    let old = world_of g.K.R.Faulty.seen g.K.O.Faulty.seen g.K.B.Faulty.seen g.K.D.Faulty.seen g.K.L.Faulty.seen g.K.E.Faulty.seen g.K.P.Faulty.seen g.K.Q.Faulty.seen g.K.S.Faulty.seen c.args.world.now in
     let mid = c.open_server.new.world in
-    let seen_mid = world_of g.R.Faulty.seen g.O.Faulty.seen g.B.Faulty.seen g.D.Faulty.seen g.L.Faulty.seen g.E.Faulty.seen g.P.Faulty.seen g.Q.Faulty.seen g.S.Faulty.seen mid in
+    let seen_mid = world_of g.K.R.Faulty.seen g.K.O.Faulty.seen g.K.B.Faulty.seen g.K.D.Faulty.seen g.K.L.Faulty.seen g.K.E.Faulty.seen g.K.P.Faulty.seen g.K.Q.Faulty.seen g.K.S.Faulty.seen mid in
     let opened = c.in_ok-open_server.ensures.opened in
     let sizes = c.in-Ok.ensures.sizes ∙ c.sizes_of.ensures.sizes in
     let flags = c.in_ok-open_server.ensures.flags ∙ c.requires.flags in
@@ -90,29 +90,29 @@ returns-clause-served g c =
     }) in
     let begun_is : record seen_mid { served = record seen_mid.served { beat = with_interval s.server.flush_interval seen_mid.served.beat } } ≡ begun s old =
     (λ i. record (opened i) { served = record (opened i).served { beat = with_interval s.server.flush_interval (opened i).served.beat } }) in
-    let beat = c.start.ensures ∙ ap (λ n. with_interval n (g.P.Faulty.seen mid.beat)) c.flush_interval.ensures.value in
-    let before : objects_of g.D.Faulty.seen g.L.Faulty.seen g.P.Faulty.seen g.B.Faulty.seen g.E.Faulty.seen g.S.Faulty.seen mid.packets.items mid.wires.items c.start.new.self mid.backs mid.door mid.streams
+    let beat = c.start.ensures ∙ ap (λ n. with_interval n (g.K.P.Faulty.seen mid.beat)) c.flush_interval.ensures.value in
+    let before : objects_of g.K.D.Faulty.seen g.K.L.Faulty.seen g.K.P.Faulty.seen g.K.B.Faulty.seen g.K.E.Faulty.seen g.K.S.Faulty.seen mid.packets.items mid.wires.items c.start.new.self mid.backs mid.door mid.streams
     ≡ objects_in (record seen_mid { served = record seen_mid.served { beat = with_interval s.server.flush_interval seen_mid.served.beat } }) =
     (λ i. record {
-      sources = map g.D.Faulty.seen mid.packets.items;
-      wires = map g.L.Faulty.seen mid.wires.items;
+      sources = map g.K.D.Faulty.seen mid.packets.items;
+      wires = map g.K.L.Faulty.seen mid.wires.items;
       beat = beat i;
-      backs = λ b. seen_as g.B.Faulty.seen mid.backs seen_mid refl refl b i;
-      door = g.E.Faulty.seen mid.door;
-      streams = g.S.Faulty.seen mid.streams;
+      backs = λ b. seen_as g.K.B.Faulty.seen mid.backs seen_mid refl refl b i;
+      door = g.K.E.Faulty.seen mid.door;
+      streams = g.K.S.Faulty.seen mid.streams;
     }) in
-    let new = world_of g.R.Faulty.seen g.O.Faulty.seen g.B.Faulty.seen g.D.Faulty.seen g.L.Faulty.seen g.E.Faulty.seen g.P.Faulty.seen g.Q.Faulty.seen g.S.Faulty.seen (record mid { backs = c.serve.new.backs; packets = c.serve.new.packets; wires = c.serve.new.wires; door = c.serve.new.door; streams = c.serve.new.streams; beat = c.serve.new.beat }) in
-    let after : objects_of g.D.Faulty.seen g.L.Faulty.seen g.P.Faulty.seen g.B.Faulty.seen g.E.Faulty.seen g.S.Faulty.seen c.serve.new.packets.items c.serve.new.wires.items c.serve.new.beat c.serve.new.backs c.serve.new.door c.serve.new.streams ≡ objects_in new =
+    let new = world_of g.K.R.Faulty.seen g.K.O.Faulty.seen g.K.B.Faulty.seen g.K.D.Faulty.seen g.K.L.Faulty.seen g.K.E.Faulty.seen g.K.P.Faulty.seen g.K.Q.Faulty.seen g.K.S.Faulty.seen (record mid { backs = c.serve.new.backs; packets = c.serve.new.packets; wires = c.serve.new.wires; door = c.serve.new.door; streams = c.serve.new.streams; beat = c.serve.new.beat }) in
+    let after : objects_of g.K.D.Faulty.seen g.K.L.Faulty.seen g.K.P.Faulty.seen g.K.B.Faulty.seen g.K.E.Faulty.seen g.K.S.Faulty.seen c.serve.new.packets.items c.serve.new.wires.items c.serve.new.beat c.serve.new.backs c.serve.new.door c.serve.new.streams ≡ objects_in new =
     (λ i. record {
-      sources = map g.D.Faulty.seen c.serve.new.packets.items;
-      wires = map g.L.Faulty.seen c.serve.new.wires.items;
-      beat = g.P.Faulty.seen c.serve.new.beat;
-      backs = λ b. seen_as g.B.Faulty.seen c.serve.new.backs new refl refl b i;
-      door = g.E.Faulty.seen c.serve.new.door;
-      streams = g.S.Faulty.seen c.serve.new.streams;
+      sources = map g.K.D.Faulty.seen c.serve.new.packets.items;
+      wires = map g.K.L.Faulty.seen c.serve.new.wires.items;
+      beat = g.K.P.Faulty.seen c.serve.new.beat;
+      backs = λ b. seen_as g.K.B.Faulty.seen c.serve.new.backs new refl refl b i;
+      door = g.K.E.Faulty.seen c.serve.new.door;
+      streams = g.K.S.Faulty.seen c.serve.new.streams;
     }) in
-    subst (λ (t : Terms). HasServed t (g.T.Clock.may_say c.args.world.now.clock) (objects_in (begun s old)) (objects_in new) c.serve.result) terms
-    (subst (λ k. HasServed (terms_of (sizing_in c.in-Ok.room) c.plan.result.now c.of-names.result s mid.backs c.from.result) (g.T.Clock.may_say k) (objects_in (begun s old)) (objects_in new) c.serve.result) c.open_server.ensures.clock
-    (subst (λ (o : Objects). HasServed (terms_of (sizing_in c.in-Ok.room) c.plan.result.now c.of-names.result s mid.backs c.from.result) (g.T.Clock.may_say mid.clock) o (objects_in new) c.serve.result) (before ∙ ap objects_in begun_is)
-    (subst (λ (o : Objects). HasServed (terms_of (sizing_in c.in-Ok.room) c.plan.result.now c.of-names.result s mid.backs c.from.result) (g.T.Clock.may_say mid.clock) (objects_of g.D.Faulty.seen g.L.Faulty.seen g.P.Faulty.seen g.B.Faulty.seen g.E.Faulty.seen g.S.Faulty.seen mid.packets.items mid.wires.items c.start.new.self mid.backs mid.door mid.streams) o c.serve.result) after
+    subst (λ (t : Terms). HasServed t (g.K.T.Clock.may_say c.args.world.now.clock) (objects_in (begun s old)) (objects_in new) c.serve.result) terms
+    (subst (λ k. HasServed (terms_of (sizing_in c.in-Ok.room) c.plan.result.now c.of-names.result s mid.backs c.from.result) (g.K.T.Clock.may_say k) (objects_in (begun s old)) (objects_in new) c.serve.result) c.open_server.ensures.clock
+    (subst (λ (o : Objects). HasServed (terms_of (sizing_in c.in-Ok.room) c.plan.result.now c.of-names.result s mid.backs c.from.result) (g.K.T.Clock.may_say mid.clock) o (objects_in new) c.serve.result) (before ∙ ap objects_in begun_is)
+    (subst (λ (o : Objects). HasServed (terms_of (sizing_in c.in-Ok.room) c.plan.result.now c.of-names.result s mid.backs c.from.result) (g.K.T.Clock.may_say mid.clock) (objects_of g.K.D.Faulty.seen g.K.L.Faulty.seen g.K.P.Faulty.seen g.K.B.Faulty.seen g.K.E.Faulty.seen g.K.S.Faulty.seen mid.packets.items mid.wires.items c.start.new.self mid.backs mid.door mid.streams) o c.serve.result) after
     c.serve.ensures.served)))

@@ -16,13 +16,13 @@ finish-requires g c = c.in-Ok-run_server.ensures.few
 pub returns-in-Ok-run_server : goal.returns-in-Ok-run_server
 returns-in-Ok-run_server g c =
     let values = c.in-Ok.settings in
-    let old = world_of g.R.Faulty.seen g.O.Faulty.seen g.B.Faulty.seen g.D.Faulty.seen g.L.Faulty.seen g.E.Faulty.seen g.P.Faulty.seen g.Q.Faulty.seen g.S.Faulty.seen c.args.world.now in
-    let settings = g.R.Faulty.seen c.read_settings.new.source in
+    let old = world_of g.K.R.Faulty.seen g.K.O.Faulty.seen g.K.B.Faulty.seen g.K.D.Faulty.seen g.K.L.Faulty.seen g.K.E.Faulty.seen g.K.P.Faulty.seen g.K.Q.Faulty.seen g.K.S.Faulty.seen c.args.world.now in
+    let settings = g.K.R.Faulty.seen c.read_settings.new.source in
     let mid : World = record old { settings = settings; flags = record { graphite = c.names_backend-world.result; console = c.names_backend-world-2.result } } in
     let flags : mid.flags ≡ flags_of values = λ i. record { graphite = c.names_backend-world.ensures i; console = c.names_backend-world-2.ensures i } in
     let served = c.in-Ok-run_server.served in
-    let written = subst (λ o. WritesTotals (lines_in served.books.items served.desk served.outs) (ends_of served.received.items served.ends) (answer_of c.finish.result) (g.O.Faulty.seen o) (g.O.Faulty.seen c.finish.new.output))
+    let written = subst (λ o. WritesTotals (lines_in served.books.items served.desk served.outs) (ends_of served.received.items served.ends) (answer_of c.finish.result) (g.K.O.Faulty.seen o) (g.K.O.Faulty.seen c.finish.new.output))
     c.run_server.ensures.output c.finish.ensures in
-    let new = world_of g.R.Faulty.seen g.O.Faulty.seen g.B.Faulty.seen g.D.Faulty.seen g.L.Faulty.seen g.E.Faulty.seen g.P.Faulty.seen g.Q.Faulty.seen g.S.Faulty.seen (record c.run_server.new.world { output = c.finish.new.output }) in
-    inr (inr (has_served c.args.settings.items (g.T.Clock.may_say c.args.world.now.clock) (answer_of c.finish.result) old mid new values settings served c.in-Ok.ensures.accepted (λ i. record old { settings = settings; flags = flags i }) c.in-Ok-run_server.ensures.served written
-    (ap g.R.Faulty.seen c.run_server.ensures.script) (ap g.Q.Faulty.seen c.run_server.ensures.probe) (c.run_server.ensures.flags ∙ flags) (ap g.R.Faulty.seen c.run_server.ensures.settings)))
+    let new = world_of g.K.R.Faulty.seen g.K.O.Faulty.seen g.K.B.Faulty.seen g.K.D.Faulty.seen g.K.L.Faulty.seen g.K.E.Faulty.seen g.K.P.Faulty.seen g.K.Q.Faulty.seen g.K.S.Faulty.seen (record c.run_server.new.world { output = c.finish.new.output }) in
+    inr (inr (has_served c.args.settings.items (g.K.T.Clock.may_say c.args.world.now.clock) (answer_of c.finish.result) old mid new values settings served c.in-Ok.ensures.accepted (λ i. record old { settings = settings; flags = flags i }) c.in-Ok-run_server.ensures.served written
+    (ap g.K.R.Faulty.seen c.run_server.ensures.script) (ap g.K.Q.Faulty.seen c.run_server.ensures.probe) (c.run_server.ensures.flags ∙ flags) (ap g.K.R.Faulty.seen c.run_server.ensures.settings)))

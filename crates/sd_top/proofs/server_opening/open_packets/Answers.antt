@@ -14,7 +14,7 @@ use Rattle.sd_top.proofs.server_opening.open_packets.Goals as goal
 
 pub returns-clause-opened : goal.returns-clause-opened
 returns-clause-opened g c =
-    let old = world_of g.R.Faulty.seen g.O.Faulty.seen g.B.Faulty.seen g.D.Faulty.seen g.L.Faulty.seen g.E.Faulty.seen g.P.Faulty.seen g.Q.Faulty.seen g.S.Faulty.seen c.args.world.now in
+    let old = world_of g.K.R.Faulty.seen g.K.O.Faulty.seen g.K.B.Faulty.seen g.K.D.Faulty.seen g.K.L.Faulty.seen g.K.E.Faulty.seen g.K.P.Faulty.seen g.K.Q.Faulty.seen g.K.S.Faulty.seen c.args.world.now in
     let put : List Object → World = λ l. record old { served = record old.served { sources = l } } in
     let ps = Host c.args.settings.now.addresses.address c.args.settings.now.server.port ∷ [] in
     let runs = c.args.settings.now.sizes.receivers in
@@ -23,15 +23,15 @@ returns-clause-opened g c =
     let same : repeated c.unwrap-receivers.result (place_of c.host_address-at.result ∷ []) ≡ repeated runs ps =
     (λ i. repeated (receivers i) (place i ∷ [])) in
     let now = with_items_is c.args.world.now.packets c.open_sources.new.sources (c.open_sources.ensures.count ∙ c.deref_mut.ensures.len) in
-    let few : length (repeated runs ps) ≤ length (map g.D.Faulty.seen c.args.world.now.packets.items) = let n = repeated_count runs ps in let m = length-map c.args.world.now.packets.items g.D.Faulty.seen in omega (arith, n, m, c.requires, c.receivers.ensures.value, c.receivers.ensures.range) in
+    let few : length (repeated runs ps) ≤ length (map g.K.D.Faulty.seen c.args.world.now.packets.items) = let n = repeated_count runs ps in let m = length-map c.args.world.now.packets.items g.K.D.Faulty.seen in omega (arith, n, m, c.requires, c.receivers.ensures.value, c.receivers.ensures.range) in
     on_ok_weaker c.open_sources.result
-    (λ is. ap (λ l. put (map g.D.Faulty.seen l)) now ∙ ap put (is ∙ ap (λ l. opened_each (repeated c.unwrap-receivers.result (place_of c.host_address-at.result ∷ [])) (map g.D.Faulty.seen l)) c.deref_mut.ensures.value ∙ ap (λ places. opened_each places (map g.D.Faulty.seen c.args.world.now.packets.items)) same)
-    ∙ sym (all_opened OfSource put (λ l i. refl) (λ l i o. refl) [] (map g.D.Faulty.seen c.args.world.now.packets.items) (repeated runs ps) few))
+    (λ is. ap (λ l. put (map g.K.D.Faulty.seen l)) now ∙ ap put (is ∙ ap (λ l. opened_each (repeated c.unwrap-receivers.result (place_of c.host_address-at.result ∷ [])) (map g.K.D.Faulty.seen l)) c.deref_mut.ensures.value ∙ ap (λ places. opened_each places (map g.K.D.Faulty.seen c.args.world.now.packets.items)) same)
+    ∙ sym (all_opened OfSource put (λ l i. refl) (λ l i o. refl) [] (map g.K.D.Faulty.seen c.args.world.now.packets.items) (repeated runs ps) few))
     c.open_sources.ensures.ok
 
 pub returns-clause-refused : goal.returns-clause-refused
 returns-clause-refused g c =
-    let old = world_of g.R.Faulty.seen g.O.Faulty.seen g.B.Faulty.seen g.D.Faulty.seen g.L.Faulty.seen g.E.Faulty.seen g.P.Faulty.seen g.Q.Faulty.seen g.S.Faulty.seen c.args.world.now in
+    let old = world_of g.K.R.Faulty.seen g.K.O.Faulty.seen g.K.B.Faulty.seen g.K.D.Faulty.seen g.K.L.Faulty.seen g.K.E.Faulty.seen g.K.P.Faulty.seen g.K.Q.Faulty.seen g.K.S.Faulty.seen c.args.world.now in
     let put : List Object → World = λ l. record old { served = record old.served { sources = l } } in
     let ps = Host c.args.settings.now.addresses.address c.args.settings.now.server.port ∷ [] in
     let runs = c.args.settings.now.sizes.receivers in
@@ -41,8 +41,8 @@ returns-clause-refused g c =
     (λ i. repeated (receivers i) (place i ∷ [])) in
     let now = with_items_is c.args.world.now.packets c.open_sources.new.sources (c.open_sources.ensures.count ∙ c.deref_mut.ensures.len) in
     IfErr-weaker c.open_sources.result _ _
-    (λ status h. subst (λ l. StopsAmong (numbered OfSource 0 (repeated runs ps)) (answer_of status) old (put (map g.D.Faulty.seen l))) (sym now)
-    (each_stops OfSource put (λ l i. refl) (λ l i o. refl) [] (map g.D.Faulty.seen c.args.world.now.packets.items) (map g.D.Faulty.seen c.open_sources.new.sources) (repeated runs ps) (answer_of status)
-    (subst (λ l. EachStops OfSource 0 (repeated runs ps) (answer_of status) (map g.D.Faulty.seen l) (map g.D.Faulty.seen c.open_sources.new.sources)) c.deref_mut.ensures.value
-    (subst (λ places. EachStops OfSource 0 places (answer_of status) (map g.D.Faulty.seen c.deref_mut.result.now) (map g.D.Faulty.seen c.open_sources.new.sources)) same h))))
+    (λ status h. subst (λ l. StopsAmong (numbered OfSource 0 (repeated runs ps)) (answer_of status) old (put (map g.K.D.Faulty.seen l))) (sym now)
+    (each_stops OfSource put (λ l i. refl) (λ l i o. refl) [] (map g.K.D.Faulty.seen c.args.world.now.packets.items) (map g.K.D.Faulty.seen c.open_sources.new.sources) (repeated runs ps) (answer_of status)
+    (subst (λ l. EachStops OfSource 0 (repeated runs ps) (answer_of status) (map g.K.D.Faulty.seen l) (map g.K.D.Faulty.seen c.open_sources.new.sources)) c.deref_mut.ensures.value
+    (subst (λ places. EachStops OfSource 0 places (answer_of status) (map g.K.D.Faulty.seen c.deref_mut.result.now) (map g.K.D.Faulty.seen c.open_sources.new.sources)) same h))))
     c.open_sources.ensures.refused
