@@ -5,8 +5,8 @@ use Rattle.sd_model_outside.specs.Outside.{Object, Place, Session, Sessions, las
 use Rattle.sd_model_outside.specs.Turns.{GivesSession}
 use Rattle.sd_outside.specs.MemSessions.{HasNoFaults, session_in}
 use Rattle.sd_outside.specs.MemSource as source
+use Rattle.sd_outside.specs.MemSource.{MemSource}
 use Rattle.sd_outside.specs.MemSink as sink
-use Rattle.sd_outside.specs.declared.mem_source.MemSource.{MemSource}
 use Rattle.sd_outside.specs.declared.mem_sink.MemSink.{MemSink}
 
 -- a list is its first element before what is left once that was removed

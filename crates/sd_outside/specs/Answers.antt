@@ -1,5 +1,6 @@
 -- What holds by what an object answered.
-use Rattle.std.specs.Prelude.{ℕ}
+use Rattle.std.specs.Prelude.{◌≡◌, ℕ, List, []}
+use Rattle.sd_model_outside.specs.Outside.{Object, HasFailed, raised}
 use Rattle.sd_outside.specs.declared.datagrams.Next.{Next}
 use Rattle.sd_outside.specs.declared.datagrams.Next.TheVariants as next
 use Rattle.sd_outside.specs.declared.beat.Tick.{Tick}
@@ -26,3 +27,13 @@ MatchEntry (entry.Session asking telling) session end idle failed = session aski
 MatchEntry entry.End session end idle failed = end
 MatchEntry entry.Idle session end idle failed = idle
 MatchEntry entry.Failed session end idle failed = failed
+
+-- an object has nothing left, and nothing changed
+pub record HasEnded {X : Type 0} (left : List X) (old new : Object) : Type 0 where
+  pub none : left ≡ []
+  pub same : new ≡ old
+
+-- a call failed, which was counted
+pub record Fails (old new : Object) : Type 0 where
+  pub failed : HasFailed old new
+  pub faults : new.faults ≡ raised old.faults

@@ -5,6 +5,7 @@ pub mod MemBackend
 pub mod MemBeat
 pub mod MemDatagrams
 pub mod MemDoor
+pub mod MemObject
 pub mod MemProbe
 pub mod MemSessions
 pub mod MemSink

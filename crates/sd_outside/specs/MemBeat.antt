@@ -1,6 +1,6 @@
 -- What a beat in memory has, and what its calls leave.
-use Rattle.std.specs.Prelude.{◌≡◌, ℕ, List, [], Contains, drop, false, None, min}
-use Rattle.sd_model_outside.specs.Outside.{Object, Ticks, HasFailed, last_count, raised}
+use Rattle.std.specs.Prelude.{ℕ, List, Contains, drop, false, None, min}
+use Rattle.sd_model_outside.specs.Outside.{Object, Ticks, last_count}
 use Rattle.sd_model_outside.specs.Turns.{GivesTick}
 use Rattle.sd_outside.specs.declared.mem_beat.MemBeat.{MemBeat}
 
@@ -31,13 +31,3 @@ IsToFail old new = Contains old.fail_call.items (calls_of new)
 -- the next tick was given
 abbrev pub Gives : MemBeat → MemBeat → ℕ → Type 0
 Gives old new second = GivesTick second (seen_of old) (seen_of new)
-
--- it has nothing left, and nothing changed
-pub record HasEnded (old new : MemBeat) : Type 0 where
-  pub none : left_of old ≡ []
-  pub same : seen_of new ≡ seen_of old
-
--- a call failed, which was counted
-pub record Fails (old new : MemBeat) : Type 0 where
-  pub failed : HasFailed (seen_of old) (seen_of new)
-  pub faults : (seen_of new).faults ≡ raised (seen_of old).faults

@@ -3,8 +3,8 @@ use Rattle.std.specs.Prelude.{◌≡◌, ℕ, Bool, true, false}
 use Rattle.sd_model_outside.specs.Outside.{Session}
 use Rattle.sd_model_outside.specs.Turns.{session_of}
 use Rattle.sd_outside.specs.MemSource as source
+use Rattle.sd_outside.specs.MemSource.{MemSource}
 use Rattle.sd_outside.specs.MemSink as sink
-use Rattle.sd_outside.specs.declared.mem_source.MemSource.{MemSource}
 use Rattle.sd_outside.specs.declared.mem_sink.MemSink.{MemSink}
 
 -- what the two ends of a session tell

@@ -1,5 +1,5 @@
 -- What a store of lists of bytes has.
-use Rattle.std.specs.Prelude.{ℕ, ◌-◌, Bool, List, [], ◌∷◌, ◌++◌, length, map, drop, Option, None, Some, slice_range}
+use Rattle.std.specs.Prelude.{◌≡◌, ℕ, ◌-◌, Bool, List, [], ◌∷◌, ◌++◌, length, map, drop, Option, None, Some, slice_range}
 use Rattle.std.specs.Option.{option_map}
 use Rattle.sd_model_outside.specs.Outside.{Round, Told, Rounds, lists_of}
 use Rattle.sd_outside.specs.ByteStore.{bytes_in, room_in}
@@ -42,3 +42,8 @@ byte_room_in s = room_in s.bytes
 -- how many lists more it has room for
 abbrev pub list_room_in : RoundStore → ℕ
 list_room_in s = s.list_room - length (lists_in s)
+
+-- the room is as it was
+pub record SameRoom (old new : RoundStore) : Type 0 where
+  pub byte_room : byte_room_in new ≡ byte_room_in old
+  pub list_room : list_room_in new ≡ list_room_in old

@@ -1,27 +1,19 @@
 ghost use Rattle.std.specs.Prelude.{◌<◌};
 
-use crate::address::Address;
 use crate::backend::Backend;
-use crate::calls::{fault, next_call_fails, opening_fault};
-use crate::opens::{Failed, Faulty, OpenRefusal, Opens};
+use crate::calls::{fault, next_call_fails};
+use crate::mem_object::{Content, MemObject};
+use crate::opens::{Failed, Faulty};
 use crate::round_store::RoundStore;
 use crate::sink::Sink;
 use std::alloc::{AllocError, Global};
 
-/// A backend in memory, whose room is taken when it is made.
+/// The lists that a backend in memory was given.
 #[derive(Drop)]
-pub struct MemBackend {
+pub struct ListsGiven {
     store: RoundStore,
-    opened_at: Option<Address>,
-    faults: u64,
-    openings: u64,
-    writes: u64,
     begins: u64,
     finishes: u64,
-    /// The numbers of the openings that are to fail, counted from 1.
-    pub fail_open: Vec<u64>,
-    /// The numbers of the writes that are to fail, counted from 1.
-    pub fail_call: Vec<u64>,
     /// The numbers of the calls of `begin` that are to fail, counted from 1.
     pub fail_begin: Vec<u64>,
     /// The numbers of the calls of `finish` that are to fail, counted from 1.
@@ -31,12 +23,21 @@ pub struct MemBackend {
     ghost some_at_most: { 0 < most },
 }
 
+impl Content for ListsGiven {
+    ghost use Rattle.sd_outside.specs.MemBackend.{bare};
+
+    ghost bare = { bare };
+}
+
+/// A backend in memory, whose room is taken when it is made.
+pub type MemBackend = MemObject<ListsGiven>;
+
 impl MemBackend {
-    ghost use Rattle.std.specs.Prelude.{◌≡◌, ◌<◌, min, length, IfOk, None, Some, [], option_copied, slice_get};
+    ghost use Rattle.std.specs.Prelude.{◌≡◌, ◌<◌, min, length, IfOk, None, Some, [], slice_get};
     ghost use Rattle.std.specs.Option.{option_map};
     ghost use Rattle.sd_model_outside.specs.Outside.{Rounds, fresh};
     ghost use Rattle.sd_outside.specs.MemBackend.{HasNoRoom, Calls, byte_room_in, calls_of, list_room_in, lists_in};
-    ghost use Rattle.sd_outside.specs.Places.{last_place};
+    ghost use Rattle.sd_outside.specs.MemObject.{content_of};
 
     /// A backend with no list, and room for that many bytes in all its lists together and for that many
     /// lists, of which no call is to fail, and whose writes take as much as they can.
@@ -52,31 +53,29 @@ impl MemBackend {
             (λ b. calls_of b ≡ record { openings = 0; writes = 0; begins = 0; finishes = 0 }) }
         ensures fails_no_opening { IfOk result (λ b. b.fail_open.items ≡ []) }
         ensures fails_no_write { IfOk result (λ b. b.fail_call.items ≡ []) }
-        ensures fails_no_begin { IfOk result (λ b. b.fail_begin.items ≡ []) }
-        ensures fails_no_finish { IfOk result (λ b. b.fail_finish.items ≡ []) }
-        ensures most { IfOk result (λ b. b.most ≡ usize.MAX) }
+        ensures fails_no_begin { IfOk result (λ b. (content_of b).fail_begin.items ≡ []) }
+        ensures fails_no_finish { IfOk result (λ b. (content_of b).fail_finish.items ≡ []) }
+        ensures most { IfOk result (λ b. (content_of b).most ≡ usize.MAX) }
     {
-        Ok(MemBackend {
-            store: RoundStore::open(alloc, bytes, rounds)?,
-            opened_at: None,
-            faults: 0,
-            openings: 0,
-            writes: 0,
-            begins: 0,
-            finishes: 0,
-            fail_open: Vec::new(alloc),
-            fail_call: Vec::new(alloc),
-            fail_begin: Vec::new(alloc),
-            fail_finish: Vec::new(alloc),
-            most: usize::MAX,
-        })
+        let store = RoundStore::open(alloc, bytes, rounds)?;
+        Ok(MemObject::around(
+            alloc,
+            ListsGiven {
+                store,
+                begins: 0,
+                finishes: 0,
+                fail_begin: Vec::new(alloc),
+                fail_finish: Vec::new(alloc),
+                most: usize::MAX,
+            },
+        ))
     }
 
     /// How many lists it was given, with the one that is open.
     pub fn lists(&self) -> usize
         ensures { result ≡ length (lists_in self.now) }
     {
-        self.store.len()
+        self.content.store.len()
     }
 
     /// The bytes of the list at that place, counted from 0.
@@ -84,7 +83,7 @@ impl MemBackend {
         requires { place < length (lists_in self.now) }
         ensures { option_map (λ round. round.bytes) (slice_get (lists_in self.now) place) ≡ Some result.now }
     {
-        self.store.list(place)
+        self.content.store.list(place)
     }
 
     /// Whether the list at that place was ended.
@@ -92,66 +91,20 @@ impl MemBackend {
         requires { place < length (lists_in self.now) }
         ensures { option_map (λ round. round.is_ended) (slice_get (lists_in self.now) place) ≡ Some result }
     {
-        self.store.is_ended(place)
-    }
-
-    /// How often it failed.
-    pub fn faults(&self) -> u64
-        ensures { result ≡ (⟦<MemBackend as Faulty>⟧.seen self.now).faults }
-    {
-        self.faults
-    }
-
-    /// The address at which it was last opened, if it was.
-    pub fn opened_at(&self) -> Option<&Address>
-        ensures { last_place (option_copied result) ≡ (⟦<MemBackend as Faulty>⟧.seen self.now).opened_at }
-    {
-        self.opened_at.as_ref()
+        self.content.store.is_ended(place)
     }
 
     /// How many bytes a write takes, or none where it needs a list for which there is no room.
     fn fitting(&self, len: usize) -> usize
         ensures no_room { HasNoRoom self.now → result ≡ 0 }
-        ensures room { ¬ (HasNoRoom self.now) → result ≡ min (min len self.now.most) (byte_room_in self.now) }
+        ensures room { ¬ (HasNoRoom self.now) → result ≡ min (min len (content_of self.now).most) (byte_room_in self.now) }
     {
-        if self.store.is_open() || self.store.has_list_room() {
-            len.min(self.most).min(self.store.byte_room())
+        if self.content.store.is_open() || self.content.store.has_list_room() {
+            len.min(self.content.most)
+                .min(self.content.store.byte_room())
         } else {
             0
         }
-    }
-}
-
-impl Faulty for MemBackend {
-    ghost use Rattle.std.proofs.Common.{arith};
-    ghost use Rattle.sd_outside.specs.MemBackend.{seen_of};
-
-    ghost seen = { seen_of };
-
-    ghost faults_fit = { λ s. Prim.omega arith };
-}
-
-impl Opens for MemBackend {
-    ghost use Rattle.std.specs.Prelude.{◌≡◌, ◌↔◌, OnOk, OnErr, IfErr, IsErr, Contains};
-    ghost use Rattle.sd_model_outside.specs.Outside.{opened, raised};
-    ghost use Rattle.sd_outside.specs.MemBackend.{Calls, Fails, SameChoices, SameRoom, calls_of, seen_of};
-    ghost use Rattle.sd_outside.specs.Places.{place_of};
-
-    fn open_at(&mut self, at: &Address) -> Result<(), OpenRefusal>
-        ensures ok { OnOk result (seen_of self.new ≡ opened (place_of at.now) (seen_of self.old)) }
-        ensures fails { OnErr result (Fails self.old self.new) }
-        ensures refusal { IfErr result (λ refusal. refusal ≡ OpenRefusal.Failed) }
-        ensures cause { IsErr result ↔ Contains self.old.fail_open.items (calls_of self.new).openings }
-        ensures room { SameRoom self.old self.new }
-        ensures counted { calls_of self.new
-            ≡ record (calls_of self.old) { openings = raised (calls_of self.old).openings } }
-        ensures choices_stay { SameChoices self.old self.new }
-    {
-        if next_call_fails(&mut self.openings, &self.fail_open) {
-            return Err(opening_fault(&mut self.faults));
-        }
-        self.opened_at = Some(at.copied());
-        Ok(())
     }
 }
 
@@ -171,10 +124,10 @@ impl Sink for MemBackend {
         ensures choices_stay { SameChoices self.old self.new }
     {
         let count = self.fitting(bytes.len());
-        if next_call_fails(&mut self.writes, &self.fail_call) || count == 0 {
+        if next_call_fails(&mut self.calls, &self.fail_call) || count == 0 {
             return Err(fault(&mut self.faults));
         }
-        self.store.append(&bytes[..count]);
+        self.content.store.append(&bytes[..count]);
         Ok(count)
     }
 
@@ -185,35 +138,38 @@ impl Backend for MemBackend {
     ghost use Rattle.std.specs.Prelude.{◌≡◌, ◌⊎◌, ◌↔◌, OnOk, OnErr, IsErr, Contains};
     ghost use Rattle.sd_model_outside.specs.Outside.{raised};
     ghost use Rattle.sd_outside.specs.MemBackend.{Begins, Calls, Fails, Finishes, SameChoices, calls_of, list_room_in};
+    ghost use Rattle.sd_outside.specs.MemObject.{content_of};
 
     fn begin(&mut self) -> Result<(), Failed>
         ensures begins { OnOk result (Begins self.old self.new) }
         ensures fails { OnErr result (Fails self.old self.new) }
         ensures cause { IsErr result
-            ↔ (Contains self.old.fail_begin.items (calls_of self.new).begins ⊎ (list_room_in self.old ≡ 0)) }
+            ↔ (Contains (content_of self.old).fail_begin.items (calls_of self.new).begins ⊎ (list_room_in self.old ≡ 0)) }
         ensures counted { calls_of self.new
             ≡ record (calls_of self.old) { begins = raised (calls_of self.old).begins } }
         ensures choices_stay { SameChoices self.old self.new }
     {
-        if next_call_fails(&mut self.begins, &self.fail_begin) || !self.store.has_list_room() {
+        if next_call_fails(&mut self.content.begins, &self.content.fail_begin)
+            || !self.content.store.has_list_room()
+        {
             return Err(fault(&mut self.faults));
         }
-        self.store.begin();
+        self.content.store.begin();
         Ok(())
     }
 
     fn finish(&mut self) -> Result<(), Failed>
         ensures finishes { OnOk result (Finishes self.old self.new) }
         ensures fails { OnErr result (Fails self.old self.new) }
-        ensures cause { IsErr result ↔ Contains self.old.fail_finish.items (calls_of self.new).finishes }
+        ensures cause { IsErr result ↔ Contains (content_of self.old).fail_finish.items (calls_of self.new).finishes }
         ensures counted { calls_of self.new
             ≡ record (calls_of self.old) { finishes = raised (calls_of self.old).finishes } }
         ensures choices_stay { SameChoices self.old self.new }
     {
-        if next_call_fails(&mut self.finishes, &self.fail_finish) {
+        if next_call_fails(&mut self.content.finishes, &self.content.fail_finish) {
             return Err(fault(&mut self.faults));
         }
-        self.store.finish();
+        self.content.store.finish();
         Ok(())
     }
 }

@@ -84,8 +84,8 @@ impl Beat for MemBeat {
     ghost use Rattle.std.proofs.Common.{arith};
     ghost use Rattle.sd_model_outside.specs.Outside.{raised};
     ghost use Rattle.sd_model_outside.specs.Turns.{with_interval};
-    ghost use Rattle.sd_outside.specs.Answers.{MatchTick};
-    ghost use Rattle.sd_outside.specs.MemBeat.{Gives, Fails, HasEnded, IsToFail, calls_of, seen_of};
+    ghost use Rattle.sd_outside.specs.Answers.{Fails, HasEnded, MatchTick};
+    ghost use Rattle.sd_outside.specs.MemBeat.{Gives, IsToFail, calls_of, left_of, seen_of};
 
     fn start(&mut self, interval_ms: u32)
         ensures started { seen_of self.new ≡ with_interval interval_ms (seen_of self.old) }
@@ -98,8 +98,8 @@ impl Beat for MemBeat {
     fn next(&mut self) -> Tick
         ensures answer { MatchTick result
             (λ second. Gives self.old self.new second)
-            (HasEnded self.old self.new)
-            (Fails self.old self.new) }
+            (HasEnded (left_of self.old) (seen_of self.old) (seen_of self.new))
+            (Fails (seen_of self.old) (seen_of self.new)) }
         ensures cause { MatchTick result
             (λ second. ¬ IsToFail self.old self.new)
             (¬ IsToFail self.old self.new)

@@ -16,6 +16,6 @@ returns-clause-gives c =
     record {
       count = omega (arith, count, c.min-count.ensures);
       within = omega (arith, length-append c.copy_from_slice.new.self rest);
-      content = ap (λ (bytes : List ℕ). object_of (Left bytes) (min s.faults last_count) (last_place s.opened_at)) (take-copied s.bytes.items rest _ s.taken n is fits);
+      content = ap (λ (bytes : List ℕ). object_of (Left bytes) (min s.faults last_count) (last_place s.opened_at)) (take-copied s.content.bytes.items rest _ s.content.taken n is fits);
       rest = drop_at _ rest n fits;
     }
