@@ -3,7 +3,7 @@ use Rattle.std.specs.Prelude.{min}
 use Rattle.sd_model_outside.specs.Outside.{Object, last_count}
 use Rattle.sd_outside.specs.MemDatagrams as source
 use Rattle.sd_outside.specs.MemDoor as door
-use Rattle.sd_outside.specs.declared.mem_door.MemDoor.{MemDoor}
+use Rattle.sd_outside.specs.MemDoor.{MemDoor}
 use Rattle.sd_cases_serve.specs.declared.meeting.MeetSource.{MeetSource}
 use Rattle.sd_cases_serve.specs.declared.meeting.Comer.{Comer}
 

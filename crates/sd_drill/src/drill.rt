@@ -6,7 +6,7 @@ ghost use Rattle.sd_drill.specs.declared.numbers.TheConstants.{MODULUS};
 use crate::numbers::Numbers;
 use crate::records::{push_end_behind, push_flush_behind, push_packet};
 use sd_decimal::Line;
-use sd_outside::{Address, Failed, Faulty, OpenRefusal, Opens, Source};
+use sd_outside::{Address, Failed, Faulty, Source, Unfailing};
 
 /// How many packets a drill has at most.
 pub const MOST_PACKETS: u32 = 100_000;
@@ -85,26 +85,13 @@ impl Drill {
     }
 }
 
-impl Faulty for Drill {
-    ghost use Rattle.std.proofs.Common.{arith};
+impl Unfailing for Drill {
     ghost use Rattle.sd_drill.specs.Drill.{seen_of};
 
-    ghost seen = { seen_of };
+    ghost shown = { seen_of };
 
-    ghost faults_fit = { λ s. Prim.omega arith };
-}
-
-impl Opens for Drill {
-    ghost use Rattle.std.specs.Prelude.{◌≡◌, IsOkAnd};
-    ghost use Rattle.sd_model_outside.specs.Outside.{opened};
-    ghost use Rattle.sd_drill.specs.Drill.{seen_of};
-    ghost use Rattle.sd_outside.specs.Places.{place_of};
-
-    fn open_at(&mut self, at: &Address) -> Result<(), OpenRefusal>
-        ensures { IsOkAnd result (λ _. seen_of self.new ≡ opened (place_of at.now) (seen_of self.old)) }
-    {
+    fn note(&mut self, at: &Address) {
         self.opened_at = Some(at.copied());
-        Ok(())
     }
 }
 

@@ -1,7 +1,8 @@
 use crate::address::Address;
 use crate::backend::Backend;
-use crate::opens::{Failed, Faulty, OpenRefusal, Opens};
+use crate::opens::{Failed, Faulty};
 use crate::sink::Sink;
+use crate::unfailing::Unfailing;
 
 /// A sink and a backend that counts the bytes that it is given, up to 2^64 - 1, where the count stays, and keeps none
 /// of them. It takes whole pieces, takes no memory, and never fails.
@@ -33,26 +34,13 @@ impl CountSink {
     }
 }
 
-impl Faulty for CountSink {
-    ghost use Rattle.std.proofs.Common.{arith};
+impl Unfailing for CountSink {
     ghost use Rattle.sd_outside.specs.CountSink.{seen_of};
 
-    ghost seen = { seen_of };
+    ghost shown = { seen_of };
 
-    ghost faults_fit = { λ s. Prim.omega arith };
-}
-
-impl Opens for CountSink {
-    ghost use Rattle.std.specs.Prelude.{◌≡◌, IsOkAnd};
-    ghost use Rattle.sd_model_outside.specs.Outside.{opened};
-    ghost use Rattle.sd_outside.specs.CountSink.{seen_of};
-    ghost use Rattle.sd_outside.specs.Places.{place_of};
-
-    fn open_at(&mut self, at: &Address) -> Result<(), OpenRefusal>
-        ensures { IsOkAnd result (λ _. seen_of self.new ≡ opened (place_of at.now) (seen_of self.old)) }
-    {
+    fn note(&mut self, at: &Address) {
         self.opened_at = Some(at.copied());
-        Ok(())
     }
 }
 

@@ -31,6 +31,7 @@ mod probe;
 mod round_store;
 mod sink;
 mod source;
+mod unfailing;
 mod wire;
 
 pub use address::{Address, Name};
@@ -56,4 +57,5 @@ pub use opens::{Failed, Faulty, OpenRefusal, Opens};
 pub use probe::Probe;
 pub use sink::{Sink, WriteFault, write_all};
 pub use source::{Source, read_full};
+pub use unfailing::Unfailing;
 pub use wire::Wire;
