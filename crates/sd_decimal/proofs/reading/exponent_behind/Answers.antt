@@ -1,7 +1,5 @@
-use Rattle.std.proofs.Common.{true, false, ◌∙◌, sym, ap, arith}
-use Rattle.sd_model_text.specs.Numbers.{signed}
-use Rattle.sd_decimal.proofs.Exponents.{few_digits, exponent_written, exponent_none}
-use Rattle.sd_decimal.proofs.Powers.{power_of_signed}
+use Rattle.std.proofs.Common.{true, false, ◌∙◌, sym, arith}
+use Rattle.sd_decimal.proofs.Exponents.{few_digits, exponent_signed, exponent_none}
 use Rattle.sd_decimal.proofs.reading.exponent_behind.Goals as goal
 use Rattle.sd_decimal.proofs.reading.exponent_behind.Goals.{then-run-eq0-via-then-run-eq0, then-run-eq0-via-else-run-eq0+then-run-gt-EXPONENT_DIGITS, then-run-eq0-via-else-run-eq0+else-run-gt-EXPONENT_DIGITS+then-run-digits}
 
@@ -17,13 +15,8 @@ returns-then-run-eq0-clause-none c =
 pub returns-then-is_negative-clause-value : goal.returns-then-is_negative-clause-value
 returns-then-is_negative-clause-value c =
     let split = c.split_sign-is_negative.ensures in
-    let run = c.with_run-run in
-    let kept = run.result.digits.kept in (
-      signed true kept,
-      exponent_written _ _ run.ensures.places kept _ run.ensures.digits c.args.text.now _ split.rest (omega arith) (omega arith) (omega arith)
-          (ap (λ b. signed b kept) (sym c.if-is_negative.true ∙ split.sign)),
-      power_of_signed true kept,
-    )
+    let run = c.with_run-run.ensures in
+    exponent_signed _ _ run.places _ _ run.digits c.args.text.now true split.rest (sym c.if-is_negative.true ∙ split.sign) (omega arith) (omega arith) (omega arith)
 
 pub returns-then-is_negative-clause-down : goal.returns-then-is_negative-clause-down
 returns-then-is_negative-clause-down c =
@@ -32,13 +25,8 @@ returns-then-is_negative-clause-down c =
 pub returns-else-is_negative-clause-value : goal.returns-else-is_negative-clause-value
 returns-else-is_negative-clause-value c =
     let split = c.split_sign-is_negative.ensures in
-    let run = c.with_run-run in
-    let kept = run.result.digits.kept in (
-      signed false kept,
-      exponent_written _ _ run.ensures.places kept _ run.ensures.digits c.args.text.now _ split.rest (omega arith) (omega arith) (omega arith)
-          (ap (λ b. signed b kept) (sym c.if-is_negative.false ∙ split.sign)),
-      power_of_signed false kept,
-    )
+    let run = c.with_run-run.ensures in
+    exponent_signed _ _ run.places _ _ run.digits c.args.text.now false split.rest (sym c.if-is_negative.false ∙ split.sign) (omega arith) (omega arith) (omega arith)
 
 pub returns-else-is_negative-clause-up : goal.returns-else-is_negative-clause-up
 returns-else-is_negative-clause-up c =
