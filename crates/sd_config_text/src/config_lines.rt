@@ -3,7 +3,7 @@ ghost use Rattle.std.specs.Option.{option_map};
 ghost use Rattle.arrayvec.specs.ArrayVec.{array_vec_len};
 ghost use Rattle.sd_model_text.specs.Numbers.{number_text};
 ghost use Rattle.sd_model_settings.specs.Ranges.{IsClasses, AreThresholds, AreBackends, AreClassNames, AreLimits, AreHistograms};
-ghost use Rattle.sd_model_settings.specs.ConfigText.{line, flag_text, limit_text, joined, server_lines, deletion_lines, address_lines, namespace_lines, front_lines, entry_lines, histogram_line, repeater_line, node_line, size_lines, rule_lines, transport_lines, back_lines, config_lines};
+ghost use Rattle.sd_model_settings.specs.ConfigText.{line, flag_line, limit_text, joined, server_lines, deletion_lines, address_lines, namespace_lines, front_lines, entry_lines, histogram_line, repeater_line, node_line, size_lines, rule_lines, transport_lines, back_lines, config_lines};
 ghost use Rattle.sd_plan.specs.Values.{micros, name_bytes};
 ghost use Rattle.sd_plan.specs.Entries.{limits_of, classes_view, target_view, node_view};
 
@@ -54,7 +54,7 @@ fn setting_line(name: &str, number: u32) -> ReplyLine
 /// The line of a boolean.
 fn flag_line(name: &str, flag: bool) -> ReplyLine
     requires { length name.now ≤ 64 }
-    ensures { result.items ≡ line name.now (flag_text flag) }
+    ensures { result.items ≡ flag_line name.now flag }
 {
     if flag {
         line_of(name.as_bytes(), b"true")

@@ -9,9 +9,9 @@ use Rattle.sd_model_settings.specs.Settings.{Server, Deletions, Addresses, Names
 abbrev pub line : List ℕ → List ℕ → List ℕ
 line name value = name ++ 58 ∷ 32 ∷ value ++ 10 ∷ []
 
--- the text of a boolean
-abbrev pub flag_text : Bool → List ℕ
-flag_text b = if b then codes "true" else codes "false"
+-- the line of a boolean
+abbrev pub flag_line : List ℕ → Bool → List ℕ
+flag_line name b = line name (if b then codes "true" else codes "false")
 
 -- the text of a limit
 abbrev pub limit_text : Limit → List ℕ
@@ -34,11 +34,11 @@ server_lines s =
 
 abbrev pub deletion_lines : Deletions → List (List ℕ)
 deletion_lines s =
-    line (codes "deleteIdleStats") (flag_text s.idle_stats)
-    ∷ line (codes "deleteCounters") (flag_text s.counters)
-    ∷ line (codes "deleteTimers") (flag_text s.timers)
-    ∷ line (codes "deleteSets") (flag_text s.sets)
-    ∷ line (codes "deleteGauges") (flag_text s.gauges)
+    flag_line (codes "deleteIdleStats") s.idle_stats
+    ∷ flag_line (codes "deleteCounters") s.counters
+    ∷ flag_line (codes "deleteTimers") s.timers
+    ∷ flag_line (codes "deleteSets") s.sets
+    ∷ flag_line (codes "deleteGauges") s.gauges
     ∷ []
 
 abbrev pub address_lines : Addresses → List (List ℕ)
@@ -53,7 +53,7 @@ address_lines s =
 
 abbrev pub namespace_lines : Namespace → List (List ℕ)
 namespace_lines s =
-    line (codes "graphite.legacyNamespace") (flag_text s.legacy)
+    flag_line (codes "graphite.legacyNamespace") s.legacy
     ∷ line (codes "graphite.globalPrefix") s.global_prefix
     ∷ line (codes "graphite.prefixCounter") s.prefix_counter
     ∷ line (codes "graphite.prefixTimer") s.prefix_timer
