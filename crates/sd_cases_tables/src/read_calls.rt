@@ -212,14 +212,15 @@ fn show_nodes(nodes: &[Node], out: &mut Answer) {
 
 /// Appends what Graphite's names are made of.
 pub(crate) fn show_names(names: &Names, out: &mut Answer) {
-    out.yes_or_no(names.legacy_namespace());
+    let namespace = names.namespace();
+    out.yes_or_no(namespace.legacy);
     for name in [
-        names.global_prefix(),
-        names.prefix_counter(),
-        names.prefix_timer(),
-        names.prefix_gauge(),
-        names.prefix_set(),
-        names.global_suffix(),
+        &namespace.global_prefix,
+        &namespace.prefix_counter,
+        &namespace.prefix_timer,
+        &namespace.prefix_gauge,
+        &namespace.prefix_set,
+        &namespace.global_suffix,
         names.prefix_stats(),
     ] {
         out.text(" ");

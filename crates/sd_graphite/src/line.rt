@@ -32,11 +32,12 @@ fn push_front(names: &Names, legacy: &[u8], prefix: &[u8], line: &mut Line)
     ensures text { line.new.items ≡ line.old.items ++ front names.now legacy.now prefix.now }
     ensures len { array_vec_len line.new ≤ array_vec_len line.old + 130 }
 {
-    if names.legacy_namespace() {
+    let namespace = names.namespace();
+    if namespace.legacy {
         push_text(legacy, line);
         return;
     }
-    push_dotted(names.global_prefix().as_slice(), line);
+    push_dotted(namespace.global_prefix.as_slice(), line);
     push_dotted(prefix, line);
 }
 
@@ -46,7 +47,7 @@ fn push_suffix(names: &Names, line: &mut Line)
     ensures text { line.new.items ≡ line.old.items ++ suffix names.now }
     ensures len { array_vec_len line.new ≤ array_vec_len line.old + 65 }
 {
-    let text = names.global_suffix().as_slice();
+    let text = names.namespace().global_suffix.as_slice();
     if text.is_empty() {
         return;
     }
@@ -81,10 +82,11 @@ fn front_len(names: &Names, legacy: &[u8], prefix: &[u8]) -> usize
     ensures len { result ≡ length (front names.now legacy.now prefix.now) }
     ensures few { result ≤ 130 }
 {
-    if names.legacy_namespace() {
+    let namespace = names.namespace();
+    if namespace.legacy {
         return legacy.len();
     }
-    dotted_len(names.global_prefix().as_slice()) + dotted_len(prefix)
+    dotted_len(namespace.global_prefix.as_slice()) + dotted_len(prefix)
 }
 
 /// Keeps of a line the path that it begins with.

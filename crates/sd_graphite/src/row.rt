@@ -70,7 +70,7 @@ fn counter_back<'a>(names: &Names, back: &'a [u8]) -> &'a [u8]
     ensures text { result.now ≡ counter_back names.now back.now }
     ensures short { length result.now ≤ 6 }
 {
-    if names.legacy_namespace() { b"" } else { back }
+    if names.namespace().legacy { b"" } else { back }
 }
 
 /// Puts the line of a counter's count per second into `line`.
@@ -79,7 +79,7 @@ fn put_rate(key: &Key, rate: Sum, names: &Names, second: &Second, line: &mut Lin
 {
     let path = Path {
         legacy: b"stats.",
-        prefix: names.prefix_counter().as_slice(),
+        prefix: names.namespace().prefix_counter.as_slice(),
         key: key.as_slice(),
         back: counter_back(names, b".rate"),
     };
@@ -92,7 +92,7 @@ fn put_count(key: &Key, count: Sum, names: &Names, second: &Second, line: &mut L
 {
     let path = Path {
         legacy: b"stats_counts.",
-        prefix: names.prefix_counter().as_slice(),
+        prefix: names.namespace().prefix_counter.as_slice(),
         key: key.as_slice(),
         back: counter_back(names, b".count"),
     };
@@ -112,7 +112,7 @@ fn timer_path<'a>(key: &'a Key, names: &'a Names) -> Path<'a>
 {
     Path {
         legacy: b"stats.timers.",
-        prefix: names.prefix_timer().as_slice(),
+        prefix: names.namespace().prefix_timer.as_slice(),
         key: key.as_slice(),
         back: b".",
     }
@@ -182,7 +182,7 @@ fn put_gauge(key: &Key, value: Micro, names: &Names, second: &Second, line: &mut
 {
     let path = Path {
         legacy: b"stats.gauges.",
-        prefix: names.prefix_gauge().as_slice(),
+        prefix: names.namespace().prefix_gauge.as_slice(),
         key: key.as_slice(),
         back: b"",
     };
@@ -195,7 +195,7 @@ fn put_set(key: &Key, count: u64, names: &Names, second: &Second, line: &mut Lin
 {
     let path = Path {
         legacy: b"stats.sets.",
-        prefix: names.prefix_set().as_slice(),
+        prefix: names.namespace().prefix_set.as_slice(),
         key: key.as_slice(),
         back: b".count",
     };

@@ -1,8 +1,6 @@
 ghost use Rattle.std.specs.Prelude.{◌≡◌};
 ghost use Rattle.std.specs.List.{list_any};
 ghost use Rattle.std.specs.Str.{bytes_eq};
-ghost use Rattle.sd_model_settings.specs.Ranges.{AreClassNames};
-ghost use Rattle.sd_plan.specs.Values.{name_bytes};
 
 use crate::timer_class::TimerClass;
 use arrayvec::ArrayVec;
@@ -35,7 +33,9 @@ fn is_among(name: &[u8], names: &[Name]) -> bool
 }
 
 impl Calculated {
+    ghost use Rattle.sd_model_settings.specs.Ranges.{AreClassNames};
     ghost use Rattle.sd_model_settings.specs.Entries.{sends};
+    ghost use Rattle.sd_plan.specs.Values.{IsSetting, name_bytes};
     ghost use Rattle.sd_plan.specs.Calculated.{class_of};
 
     /// Names that are in range.
@@ -48,8 +48,7 @@ impl Calculated {
 
     /// The names.
     pub fn as_slice(&self) -> &[Name]
-        ensures names { name_bytes result.now ≡ self.now }
-        ensures range { AreClassNames self.now }
+        ensures { IsSetting AreClassNames self.now (name_bytes result.now) }
     {
         self.names.as_slice()
     }

@@ -7,6 +7,7 @@
 
 mod calculated;
 mod entries;
+mod histograms;
 mod names;
 mod reckoning;
 mod text;
@@ -15,8 +16,9 @@ mod timer_class;
 
 pub use calculated::Calculated;
 pub use entries::{Classes, Node, Target};
+pub use histograms::Histograms;
 pub use names::{Names, Namespace};
-pub use reckoning::{Histograms, Reckoning};
+pub use reckoning::Reckoning;
 pub use text::{copied, name_of};
 pub use thresholds::Thresholds;
 pub use timer_class::{TimerClass, is_class_name};

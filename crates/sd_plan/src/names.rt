@@ -2,6 +2,7 @@ ghost use Rattle.std.specs.Prelude.{◌≡◌, ◌<◌, length};
 ghost use Rattle.sd_model_settings.specs.Settings.{names_of, default_settings};
 ghost use Rattle.sd_model_settings.specs.Ranges.{IsPrefix, NamespaceInRange};
 ghost use Rattle.sd_plan.specs.Names.{namespace_view};
+ghost use Rattle.sd_plan.specs.Values.{IsSetting};
 
 use crate::text::name_of;
 use sd_outside::Name;
@@ -72,65 +73,16 @@ impl Names {
         }
     }
 
-    /// Whether names have their older form.
-    pub fn legacy_namespace(&self) -> bool
-        ensures { result ≡ self.now.namespace.legacy }
+    /// How Graphite's names are made.
+    pub fn namespace(&self) -> &Namespace
+        ensures { IsSetting NamespaceInRange self.now.namespace (namespace_view result.now) }
     {
-        self.namespace.legacy
-    }
-
-    /// The prefix of all of Graphite's names.
-    pub fn global_prefix(&self) -> &Name
-        ensures value { result.now.items ≡ self.now.namespace.global_prefix }
-        ensures range { IsPrefix result.now.items }
-    {
-        &self.namespace.global_prefix
-    }
-
-    /// The prefix of counters.
-    pub fn prefix_counter(&self) -> &Name
-        ensures value { result.now.items ≡ self.now.namespace.prefix_counter }
-        ensures range { IsPrefix result.now.items }
-    {
-        &self.namespace.prefix_counter
-    }
-
-    /// The prefix of timers.
-    pub fn prefix_timer(&self) -> &Name
-        ensures value { result.now.items ≡ self.now.namespace.prefix_timer }
-        ensures range { IsPrefix result.now.items }
-    {
-        &self.namespace.prefix_timer
-    }
-
-    /// The prefix of gauges.
-    pub fn prefix_gauge(&self) -> &Name
-        ensures value { result.now.items ≡ self.now.namespace.prefix_gauge }
-        ensures range { IsPrefix result.now.items }
-    {
-        &self.namespace.prefix_gauge
-    }
-
-    /// The prefix of sets.
-    pub fn prefix_set(&self) -> &Name
-        ensures value { result.now.items ≡ self.now.namespace.prefix_set }
-        ensures range { IsPrefix result.now.items }
-    {
-        &self.namespace.prefix_set
-    }
-
-    /// What stands behind all names.
-    pub fn global_suffix(&self) -> &Name
-        ensures value { result.now.items ≡ self.now.namespace.global_suffix }
-        ensures range { IsPrefix result.now.items }
-    {
-        &self.namespace.global_suffix
+        &self.namespace
     }
 
     /// The prefix of the server's own metrics, which isn't empty.
     pub fn prefix_stats(&self) -> &Name
-        ensures value { result.now.items ≡ self.now.prefix_stats }
-        ensures range { IsPrefix result.now.items }
+        ensures setting { IsSetting IsPrefix self.now.prefix_stats result.now.items }
         ensures some { 0 < length result.now.items }
     {
         &self.prefix_stats

@@ -1,52 +1,10 @@
 ghost use Rattle.sd_model_settings.specs.Ranges.{IsWithin};
 
 use crate::calculated::Calculated;
-use crate::entries::Classes;
+use crate::histograms::Histograms;
 use crate::thresholds::Thresholds;
 use arrayvec::ArrayVec;
 use sd_decimal::Micro;
-use std::marker::Model;
-
-/// The bins of timers by parts of their names, in the order of the file: at most 16.
-#[derive(Debug, Drop)]
-pub struct Histograms {
-    entries: ArrayVec<Classes, 16>,
-}
-
-impl Model for Histograms {
-    ghost use Rattle.std.specs.Prelude.{List, map};
-    ghost use Rattle.sd_model_settings.specs.Entries.{Classes as ModelClasses};
-    ghost use Rattle.sd_model_settings.specs.Ranges.{AreHistograms};
-    ghost use Rattle.sd_plan.specs.Entries.{classes_view};
-
-    ghost Value = { List ModelClasses };
-
-    ghost view = { λ h. map classes_view h.entries.items };
-
-    ghost invariant = { λ h. AreHistograms (map classes_view h.entries.items) };
-}
-
-impl Histograms {
-    ghost use Rattle.std.specs.Prelude.{◌≡◌, map};
-    ghost use Rattle.sd_model_settings.specs.Ranges.{AreHistograms};
-    ghost use Rattle.sd_plan.specs.Entries.{classes_view};
-
-    /// Histograms that are in range.
-    pub fn of(entries: ArrayVec<Classes, 16>) -> Histograms
-        requires { AreHistograms (map classes_view entries.items) }
-        ensures { result ≡ map classes_view entries.items }
-    {
-        Histograms { entries }
-    }
-
-    /// The entries.
-    pub fn as_slice(&self) -> &[Classes]
-        ensures entries { map classes_view result.now ≡ self.now }
-        ensures range { AreHistograms self.now }
-    {
-        self.entries.as_slice()
-    }
-}
 
 /// What a record is reckoned by: the interval of its rates in milliseconds, which isn't 0, the thresholds and
 /// the bins of timers, and the classes of their lines that are chosen.

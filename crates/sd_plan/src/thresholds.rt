@@ -1,6 +1,3 @@
-ghost use Rattle.std.specs.Prelude.{◌≡◌};
-ghost use Rattle.sd_plan.specs.Values.{micros};
-
 use arrayvec::ArrayVec;
 use sd_decimal::Micro;
 use std::marker::Model;
@@ -25,7 +22,9 @@ impl Model for Thresholds {
 }
 
 impl Thresholds {
+    ghost use Rattle.std.specs.Prelude.{◌≡◌};
     ghost use Rattle.sd_model_settings.specs.Ranges.{AreThresholds};
+    ghost use Rattle.sd_plan.specs.Values.{IsSetting, micros};
 
     /// Thresholds that are in range.
     pub fn of(numbers: ArrayVec<Micro, 16>) -> Thresholds
@@ -37,8 +36,7 @@ impl Thresholds {
 
     /// The numbers.
     pub fn as_slice(&self) -> &[Micro]
-        ensures numbers { micros result.now ≡ self.now }
-        ensures range { AreThresholds self.now }
+        ensures { IsSetting AreThresholds self.now (micros result.now) }
     {
         self.numbers.as_slice()
     }

@@ -7,6 +7,6 @@ use Rattle.sd_graphite.proofs.row.put_gauge.Goals as goal
 pub returns : goal.returns
 returns c =
     let names = c.args.names.now in
-    let path = path_text-parts _ _ (codes "stats.gauges.") _ _ _ refl (c.as_slice.ensures.value ∙ c.prefix_gauge.ensures.value) c.as_slice-2.ensures.bytes refl ∙ append-nil (front names (codes "stats.gauges.") names.namespace.prefix_gauge ++ c.args.key.now) in
+    let path = path_text-parts _ _ (codes "stats.gauges.") _ _ _ refl (c.as_slice.ensures.value ∙ ap (λ n. n.prefix_gauge) c.namespace.ensures.value) c.as_slice-2.ensures.bytes refl ∙ append-nil (front names (codes "stats.gauges.") names.namespace.prefix_gauge ++ c.args.key.now) in
     c.put_path.ensures ∙ ap (λ p. line names p (number_text c.as_sum.result.0) c.args.second.now) path
     ∙ ap (λ n. line names (front names (codes "stats.gauges.") names.namespace.prefix_gauge ++ c.args.key.now) (number_text n) c.args.second.now) c.as_sum.ensures

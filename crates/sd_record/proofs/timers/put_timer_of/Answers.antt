@@ -21,5 +21,5 @@ returns c =
     (sym (length-map values (λ (m : Micro). m.0)))
     c.per_second-timer.ensures
     (c.whole.ensures ∙ ap whole timer)
-    (c.put_parts.ensures ∙ ap (λ ts. filter_map (λ t. pct t seen.values) ts) c.as_slice.ensures.numbers ∙ ap (λ s. filter_map (λ t. pct t s.values) plan.thresholds) timer)
-    (c.put_bins.ensures ∙ ap (λ ls. bins ls seen.values) (c.limits_for-limits.ensures.limits ∙ ap (limits_for c.args.key.now) c.as_slice-2.ensures.entries) ∙ ap (λ s. bins (limits_for c.args.key.now plan.histograms) s.values) timer)
+    (c.put_parts.ensures ∙ ap (λ ts. filter_map (λ t. pct t seen.values) ts) c.as_slice.ensures.value ∙ ap (λ s. filter_map (λ t. pct t s.values) plan.thresholds) timer)
+    (c.put_bins.ensures ∙ ap (λ ls. bins ls seen.values) (c.limits_for-limits.ensures.limits ∙ ap (limits_for c.args.key.now) c.as_slice-2.ensures.value) ∙ ap (λ s. bins (limits_for c.args.key.now plan.histograms) s.values) timer)
