@@ -29,7 +29,7 @@ fn is_inf(value: &Value) -> bool
     }
 }
 
-impl Element for Limit {
+impl Element<()> for Limit {
     ghost use Rattle.sd_model_text.specs.Numbers.{Limit as ModelLimit};
     ghost use Rattle.sd_model_settings.specs.Entries.{limit};
     ghost use Rattle.sd_plan.specs.Entries.{limit_of};
@@ -38,9 +38,9 @@ impl Element for Limit {
 
     ghost seen = { limit_of };
 
-    ghost reads = { limit };
+    ghost reads = { λ rule. limit };
 
-    fn read(value: &Value) -> Result<Limit, ValueFault> {
+    fn read(value: &Value, _rule: ()) -> Result<Limit, ValueFault> {
         if is_inf(value) {
             Ok(Limit::Infinite)
         } else {
@@ -113,7 +113,7 @@ fn bins_of(items: &[Value]) -> Result<ArrayVec<Limit, 64>, ValueFault>
     if has_early_inf(items) {
         return Err(ValueFault::Kind);
     }
-    let limits: ArrayVec<Limit, 64> = each(items)?;
+    let limits: ArrayVec<Limit, 64> = each(items, ())?;
     if are_limits(limits.as_slice()) {
         Ok(limits)
     } else {

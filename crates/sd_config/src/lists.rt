@@ -13,33 +13,50 @@ use arrayvec::ArrayVec;
 use sd_outside::Name;
 use toml::Value;
 
-/// What stands in a list.
-pub(crate) trait Element: Default + Drop {
+/// What stands in a list, read by a rule; `()` where there is none to choose.
+pub(crate) trait Element<R: Copy>: Default + Drop {
     ghost Seen: { Type 0 };
 
     /// An element as the definitions have it.
     ghost seen: { Self → Seen };
 
     /// What a value is as an element.
-    ghost reads: { Data → Result Seen ValueFlaw };
+    ghost reads: { R → Data → Result Seen ValueFlaw };
 
     /// A value as an element.
-    fn read(value: &Value) -> Result<Self, ValueFault>
-        ensures { seen_by seen result ≡ reads (view value.now) };
+    fn read(value: &Value, rule: R) -> Result<Self, ValueFault>
+        ensures { seen_by seen result ≡ reads rule (view value.now) };
+}
+
+impl Element<TextRule> for Name {
+    ghost use Rattle.std.specs.Prelude.{ℕ, List};
+    ghost use Rattle.sd_model_settings.specs.Values.{text};
+    ghost use Rattle.sd_config.specs.Values.{passes};
+
+    ghost Seen = { List ℕ };
+
+    ghost seen = { λ n. n.items };
+
+    ghost reads = { λ rule. text (passes rule) };
+
+    fn read(value: &Value, rule: TextRule) -> Result<Name, ValueFault> {
+        text(value, rule)
+    }
 }
 
 /// Each item as an element, at most `N` of them. An item of another kind comes before one that is out of range,
 /// so the items behind such a one are read as well.
-pub(crate) fn each<T: Element, const N: usize>(
+pub(crate) fn each<R: Copy, T: Element<R>, const N: usize>(
     items: &[Value],
+    rule: R,
 ) -> Result<ArrayVec<T, N>, ValueFault>
     ensures { seen_by (λ v. map T.seen v.items) result
-        ≡ ranged (are_at_most N) (each T.reads (items_view items.now)) }
+        ≡ ranged (are_at_most N) (each (T.reads rule) (items_view items.now)) }
 {
     let mut elements = ArrayVec::new();
     let mut out_of_range = false;
     for item in items {
-        match T::read(item) {
+        match T::read(item, rule) {
             Ok(element) => {
                 if elements.try_push(element).is_err() {
                     out_of_range = true;
@@ -57,13 +74,14 @@ pub(crate) fn each<T: Element, const N: usize>(
 }
 
 /// A list of at most `N` elements.
-pub(crate) fn listed<T: Element, const N: usize>(
+pub(crate) fn listed<R: Copy, T: Element<R>, const N: usize>(
     value: &Value,
+    rule: R,
 ) -> Result<ArrayVec<T, N>, ValueFault>
-    ensures { seen_by (λ v. map T.seen v.items) result ≡ listed N T.reads (view value.now) }
+    ensures { seen_by (λ v. map T.seen v.items) result ≡ listed N (T.reads rule) (view value.now) }
 {
     match value {
-        Value::Array(items) => each(items.as_slice()),
+        Value::Array(items) => each(items.as_slice(), rule),
         _ => Err(ValueFault::Kind),
     }
 }
@@ -88,47 +106,6 @@ pub(crate) fn are_distinct<T: PartialEq>(elements: &[T]) -> bool
     }
 }
 
-/// Each item as a text that passes the rule, at most `N` of them, as `each` has elements.
-fn each_text<const N: usize>(
-    items: &[Value],
-    rule: TextRule,
-) -> Result<ArrayVec<Name, N>, ValueFault>
-    ensures { seen_by (λ v. name_bytes v.items) result
-        ≡ ranged (are_at_most N) (each (text (passes rule)) (items_view items.now)) }
-{
-    let mut texts = ArrayVec::new();
-    let mut out_of_range = false;
-    for item in items {
-        match text(item, rule) {
-            Ok(name) => {
-                if texts.try_push(name).is_err() {
-                    out_of_range = true;
-                }
-            }
-            Err(ValueFault::Range) => out_of_range = true,
-            Err(ValueFault::Kind) => return Err(ValueFault::Kind),
-        }
-    }
-    if out_of_range {
-        Err(ValueFault::Range)
-    } else {
-        Ok(texts)
-    }
-}
-
-/// A list of at most `N` texts that pass the rule.
-fn listed_texts<const N: usize>(
-    value: &Value,
-    rule: TextRule,
-) -> Result<ArrayVec<Name, N>, ValueFault>
-    ensures { seen_by (λ v. name_bytes v.items) result ≡ listed N (text (passes rule)) (view value.now) }
-{
-    match value {
-        Value::Array(items) => each_text(items.as_slice(), rule),
-        _ => Err(ValueFault::Kind),
-    }
-}
-
 /// A list of at most `N` texts that pass the rule, each at most once.
 pub(crate) fn distinct_texts<const N: usize>(
     value: &Value,
@@ -137,7 +114,7 @@ pub(crate) fn distinct_texts<const N: usize>(
     ensures { seen_by (λ v. name_bytes v.items) result
         ≡ ranged (are_distinct bytes_eq) (listed N (text (passes rule)) (view value.now)) }
 {
-    let texts: ArrayVec<Name, N> = listed_texts(value, rule)?;
+    let texts: ArrayVec<Name, N> = listed(value, rule)?;
     if are_distinct(texts.as_slice()) {
         Ok(texts)
     } else {

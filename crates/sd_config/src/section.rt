@@ -177,16 +177,16 @@ impl<'a> Section<'a> {
     }
 
     /// A list of at most `N` elements, which is empty where it isn't given.
-    pub(crate) fn listed<T: Element, const N: usize>(
+    pub(crate) fn listed<T: Element<()>, const N: usize>(
         &self,
         name: &str,
     ) -> Result<ArrayVec<T, N>, ConfigFault>
         ensures { Gives (λ v. map T.seen v.items) result
-            (setting (section_of self.now) name.now (listed N T.reads) []) }
+            (setting (section_of self.now) name.now (listed N (T.reads tt)) []) }
     {
         match self.get(name) {
             None => Ok(ArrayVec::new()),
-            Some(value) => self.named(name, lists::listed(value)),
+            Some(value) => self.named(name, lists::listed(value, ())),
         }
     }
 

@@ -13,7 +13,7 @@ use arrayvec::ArrayVec;
 use sd_decimal::Micro;
 use toml::Value;
 
-impl Element for Micro {
+impl Element<()> for Micro {
     ghost use Rattle.std.specs.Prelude.{ℤ};
     ghost use Rattle.sd_model_settings.specs.Values.{decimal};
 
@@ -21,9 +21,9 @@ impl Element for Micro {
 
     ghost seen = { λ m. m.0 };
 
-    ghost reads = { decimal };
+    ghost reads = { λ rule. decimal };
 
-    fn read(value: &Value) -> Result<Micro, ValueFault> {
+    fn read(value: &Value, _rule: ()) -> Result<Micro, ValueFault> {
         values::decimal(value)
     }
 }
@@ -51,7 +51,7 @@ fn are_thresholds(numbers: &[Micro]) -> bool
 pub(crate) fn thresholds_in(value: &Value) -> Result<ArrayVec<Micro, 16>, ValueFault>
     ensures { seen_by (λ v. micros v.items) result ≡ thresholds (view value.now) }
 {
-    let numbers: ArrayVec<Micro, 16> = each(one_or_list(value))?;
+    let numbers: ArrayVec<Micro, 16> = each(one_or_list(value), ())?;
     if are_thresholds(numbers.as_slice()) {
         Ok(numbers)
     } else {
