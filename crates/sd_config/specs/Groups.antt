@@ -22,13 +22,7 @@ server_view s =
 
 abbrev pub deletions_view : Deletions → model.Deletions
 deletions_view s =
-    record {
-      idle_stats = s.idle_stats;
-      counters = s.counters;
-      timers = s.timers;
-      sets = s.sets;
-      gauges = s.gauges;
-    }
+    record { idle_stats = s.idle_stats; counters = s.counters; timers = s.timers; sets = s.sets; gauges = s.gauges }
 
 abbrev pub addresses_view : Addresses → model.Addresses
 addresses_view s =

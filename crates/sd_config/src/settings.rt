@@ -3,7 +3,7 @@ ghost use Rattle.toml.specs.View.{table_view};
 ghost use Rattle.sd_model_settings.specs.Settings.{top, settings_in, document, settings, plan_of};
 ghost use Rattle.sd_model_settings.specs.Ranges.{IsWithin, IsPrefix, IsHost, AreThresholds, AreBackends, AreClassNames, AreHistograms, AreTargets, AreNodes, InRange};
 ghost use Rattle.sd_config.specs.Answers.{Gives};
-ghost use Rattle.sd_plan.specs.Values.{micros, name_bytes};
+ghost use Rattle.sd_plan.specs.Values.{IsSetting, micros, name_bytes};
 ghost use Rattle.sd_plan.specs.Entries.{classes_view, target_view, node_view};
 ghost use Rattle.sd_plan.specs.Plan.{plan_view};
 
@@ -177,124 +177,73 @@ impl Settings {
 
     /// The port of datagrams.
     pub fn port(&self) -> u32
-        ensures value { result ≡ self.now.server.port }
-        ensures range { IsWithin 1 65535 result }
+        ensures { IsSetting (IsWithin 1 65535) self.now.server.port result }
     {
         self.port
     }
 
+    /// The address of datagrams.
+    pub fn address(&self) -> &Name
+        ensures { IsSetting IsHost self.now.addresses.address result.now.items }
+    {
+        &self.addresses.address
+    }
+
+    /// The port of streams of lines; 0 is none.
+    pub fn tcp_port(&self) -> u32
+        ensures { IsSetting (λ n. n ≤ 65535) self.now.transport.tcp_port result }
+    {
+        self.transport.tcp_port
+    }
+
     /// The port of admin sessions.
     pub fn mgmt_port(&self) -> u32
-        ensures value { result ≡ self.now.server.mgmt_port }
-        ensures range { IsWithin 1 65535 result }
+        ensures { IsSetting (IsWithin 1 65535) self.now.server.mgmt_port result }
     {
         self.mgmt_port
     }
 
-    /// The time between two flushes, in milliseconds.
-    pub fn flush_interval(&self) -> u32
-        ensures value { result ≡ self.now.server.flush_interval }
-        ensures range { IsWithin 1 86400000 result }
+    /// The address of admin sessions.
+    pub fn mgmt_address(&self) -> &Name
+        ensures { IsSetting IsHost self.now.addresses.mgmt_address result.now.items }
     {
-        self.plan.interval_ms
+        &self.addresses.mgmt_address
     }
 
-    /// The port of Graphite.
-    pub fn graphite_port(&self) -> u32
-        ensures value { result ≡ self.now.addresses.graphite_port }
-        ensures range { IsWithin 1 65535 result }
+    /// The backends that are used.
+    pub fn backends(&self) -> &[Name]
+        ensures { IsSetting AreBackends self.now.addresses.backends (name_bytes result.now) }
     {
-        self.addresses.graphite_port
-    }
-
-    /// The time between two checks of the nodes, in milliseconds.
-    pub fn check_interval(&self) -> u32
-        ensures value { result ≡ self.now.sizes.check_interval }
-        ensures range { IsWithin 1 86400000 result }
-    {
-        self.sizes.check_interval
-    }
-
-    /// How many keys the proxy keeps the owners of.
-    pub fn cache_size(&self) -> u32
-        ensures value { result ≡ self.now.sizes.cache_size }
-        ensures range { IsWithin 1 1000000 result }
-    {
-        self.sizes.cache_size
-    }
-
-    /// The number of shards.
-    pub fn shards(&self) -> u32
-        ensures value { result ≡ self.now.sizes.shards }
-        ensures range { IsWithin 1 16 result }
-    {
-        self.sizes.shards
-    }
-
-    /// The number of rows of a shard.
-    pub fn rows(&self) -> u32
-        ensures value { result ≡ self.now.sizes.rows }
-        ensures range { IsWithin 1 16384 result }
-    {
-        self.sizes.rows
-    }
-
-    /// The number of entries of a shard. All shards have at most 2,097,152 together.
-    pub fn entries(&self) -> u32
-        ensures value { result ≡ self.now.sizes.entries }
-        ensures range { IsWithin 1 1048576 result }
-        ensures all { self.now.sizes.shards * result ≤ 2097152 }
-    {
-        self.sizes.entries
-    }
-
-    /// The number of receivers.
-    pub fn receivers(&self) -> u32
-        ensures value { result ≡ self.now.sizes.receivers }
-        ensures range { IsWithin 1 16 result }
-    {
-        self.sizes.receivers
-    }
-
-    /// After how many flushes a run ends; 0 is never.
-    pub fn run_flushes(&self) -> u32
-        ensures value { result ≡ self.now.sizes.run_flushes }
-        ensures range { result ≤ 1000000000 }
-    {
-        self.sizes.run_flushes
-    }
-
-    /// At which swap behind its last sample a gauge goes, where gauges are deleted when idle.
-    pub fn gauges_max_ttl(&self) -> u32
-        ensures value { result ≡ self.now.rules.gauges_max_ttl }
-        ensures range { IsWithin 1 1000000000 result }
-    {
-        self.gauges_max_ttl
+        self.addresses.backends.as_slice()
     }
 
     /// How many texts may wait for each backend; with 0 the flusher writes them itself.
     pub fn outlets(&self) -> u32
-        ensures value { result ≡ self.now.transport.outlets }
-        ensures range { result ≤ 64 }
+        ensures { IsSetting (λ n. n ≤ 64) self.now.transport.outlets result }
     {
         self.transport.outlets
     }
 
     /// How many bytes a text that waits may have. The texts of a backend have at most 268,435,456 together.
     pub fn outlet_bytes(&self) -> u32
-        ensures value { result ≡ self.now.transport.outlet_bytes }
-        ensures range { IsWithin 65536 16777216 result }
+        ensures setting { IsSetting (IsWithin 65536 16777216) self.now.transport.outlet_bytes result }
         ensures all { self.now.transport.outlets * result ≤ 268435456 }
     {
         self.transport.outlet_bytes
     }
 
-    /// The port of streams of lines; 0 is none.
-    pub fn tcp_port(&self) -> u32
-        ensures value { result ≡ self.now.transport.tcp_port }
-        ensures range { result ≤ 65535 }
+    /// The time between two flushes, in milliseconds.
+    pub fn flush_interval(&self) -> u32
+        ensures { IsSetting (IsWithin 1 86400000) self.now.server.flush_interval result }
     {
-        self.transport.tcp_port
+        self.plan.interval_ms
+    }
+
+    /// After how many flushes a run ends; 0 is never.
+    pub fn run_flushes(&self) -> u32
+        ensures { IsSetting (λ n. n ≤ 1000000000) self.now.sizes.run_flushes result }
+    {
+        self.sizes.run_flushes
     }
 
     /// Whether idle rows are deleted, unless their kind has a setting of its own.
@@ -302,6 +251,70 @@ impl Settings {
         ensures { result ≡ self.now.deletions.idle_stats }
     {
         self.deletions.idle_stats
+    }
+
+    /// At which swap behind its last sample a gauge goes, where gauges are deleted when idle.
+    pub fn gauges_max_ttl(&self) -> u32
+        ensures { IsSetting (IsWithin 1 1000000000) self.now.rules.gauges_max_ttl result }
+    {
+        self.gauges_max_ttl
+    }
+
+    /// The number of receivers.
+    pub fn receivers(&self) -> u32
+        ensures { IsSetting (IsWithin 1 16) self.now.sizes.receivers result }
+    {
+        self.sizes.receivers
+    }
+
+    /// The number of shards.
+    pub fn shards(&self) -> u32
+        ensures { IsSetting (IsWithin 1 16) self.now.sizes.shards result }
+    {
+        self.sizes.shards
+    }
+
+    /// The number of rows of a shard.
+    pub fn rows(&self) -> u32
+        ensures { IsSetting (IsWithin 1 16384) self.now.sizes.rows result }
+    {
+        self.sizes.rows
+    }
+
+    /// The number of entries of a shard. All shards have at most 2,097,152 together.
+    pub fn entries(&self) -> u32
+        ensures setting { IsSetting (IsWithin 1 1048576) self.now.sizes.entries result }
+        ensures all { self.now.sizes.shards * result ≤ 2097152 }
+    {
+        self.sizes.entries
+    }
+
+    /// The prefix of counters.
+    pub fn prefix_counter(&self) -> &Name
+        ensures { IsSetting IsPrefix self.now.namespace.prefix_counter result.now.items }
+    {
+        &self.namespace.prefix_counter
+    }
+
+    /// The prefix of timers.
+    pub fn prefix_timer(&self) -> &Name
+        ensures { IsSetting IsPrefix self.now.namespace.prefix_timer result.now.items }
+    {
+        &self.namespace.prefix_timer
+    }
+
+    /// The prefix of gauges.
+    pub fn prefix_gauge(&self) -> &Name
+        ensures { IsSetting IsPrefix self.now.namespace.prefix_gauge result.now.items }
+    {
+        &self.namespace.prefix_gauge
+    }
+
+    /// The prefix of sets.
+    pub fn prefix_set(&self) -> &Name
+        ensures { IsSetting IsPrefix self.now.namespace.prefix_set result.now.items }
+    {
+        &self.namespace.prefix_set
     }
 
     /// Whether idle counters are deleted.
@@ -318,6 +331,13 @@ impl Settings {
         self.deletions.timers
     }
 
+    /// Whether idle gauges are deleted.
+    pub fn delete_gauges(&self) -> bool
+        ensures { result ≡ self.now.deletions.gauges }
+    {
+        self.deletions.gauges
+    }
+
     /// Whether idle sets are deleted.
     pub fn delete_sets(&self) -> bool
         ensures { result ≡ self.now.deletions.sets }
@@ -325,11 +345,25 @@ impl Settings {
         self.deletions.sets
     }
 
-    /// Whether idle gauges are deleted.
-    pub fn delete_gauges(&self) -> bool
-        ensures { result ≡ self.now.deletions.gauges }
+    /// The thresholds of timers.
+    pub fn percent_threshold(&self) -> &[Micro]
+        ensures { IsSetting AreThresholds self.now.server.percent_threshold (micros result.now) }
     {
-        self.deletions.gauges
+        self.plan.thresholds.as_slice()
+    }
+
+    /// The bins of timers by parts of their names.
+    pub fn histogram(&self) -> &[Classes]
+        ensures { IsSetting AreHistograms self.now.lists.histogram (map classes_view result.now) }
+    {
+        self.plan.histograms.as_slice()
+    }
+
+    /// The names of the classes of timers' lines that are sent; with none, all are.
+    pub fn calculated_timer_metrics(&self) -> &[Name]
+        ensures { IsSetting AreClassNames self.now.rules.calculated_timer_metrics (name_bytes result.now) }
+    {
+        self.plan.calculated.as_slice()
     }
 
     /// Whether Graphite's names have their older form.
@@ -339,132 +373,67 @@ impl Settings {
         self.namespace.legacy
     }
 
+    /// The host of Graphite.
+    pub fn graphite_host(&self) -> &Name
+        ensures { IsSetting IsHost self.now.addresses.graphite_host result.now.items }
+    {
+        &self.addresses.graphite_host
+    }
+
+    /// The port of Graphite.
+    pub fn graphite_port(&self) -> u32
+        ensures { IsSetting (IsWithin 1 65535) self.now.addresses.graphite_port result }
+    {
+        self.addresses.graphite_port
+    }
+
+    /// The prefix of all of Graphite's names.
+    pub fn global_prefix(&self) -> &Name
+        ensures { IsSetting IsPrefix self.now.namespace.global_prefix result.now.items }
+    {
+        &self.namespace.global_prefix
+    }
+
     /// The prefix of the server's own metrics, which isn't empty.
     pub fn prefix_stats(&self) -> &Name
-        ensures value { result.now.items ≡ self.now.addresses.prefix_stats }
-        ensures range { IsPrefix result.now.items }
+        ensures setting { IsSetting IsPrefix self.now.addresses.prefix_stats result.now.items }
         ensures some { 0 < length result.now.items }
     {
         &self.addresses.prefix_stats
     }
 
-    /// The address of datagrams.
-    pub fn address(&self) -> &Name
-        ensures value { result.now.items ≡ self.now.addresses.address }
-        ensures range { IsHost result.now.items }
-    {
-        &self.addresses.address
-    }
-
-    /// The address of admin sessions.
-    pub fn mgmt_address(&self) -> &Name
-        ensures value { result.now.items ≡ self.now.addresses.mgmt_address }
-        ensures range { IsHost result.now.items }
-    {
-        &self.addresses.mgmt_address
-    }
-
-    /// The host of Graphite.
-    pub fn graphite_host(&self) -> &Name
-        ensures value { result.now.items ≡ self.now.addresses.graphite_host }
-        ensures range { IsHost result.now.items }
-    {
-        &self.addresses.graphite_host
-    }
-
-    /// The prefix of all of Graphite's names.
-    pub fn global_prefix(&self) -> &Name
-        ensures value { result.now.items ≡ self.now.namespace.global_prefix }
-        ensures range { IsPrefix result.now.items }
-    {
-        &self.namespace.global_prefix
-    }
-
-    /// The prefix of counters.
-    pub fn prefix_counter(&self) -> &Name
-        ensures value { result.now.items ≡ self.now.namespace.prefix_counter }
-        ensures range { IsPrefix result.now.items }
-    {
-        &self.namespace.prefix_counter
-    }
-
-    /// The prefix of timers.
-    pub fn prefix_timer(&self) -> &Name
-        ensures value { result.now.items ≡ self.now.namespace.prefix_timer }
-        ensures range { IsPrefix result.now.items }
-    {
-        &self.namespace.prefix_timer
-    }
-
-    /// The prefix of gauges.
-    pub fn prefix_gauge(&self) -> &Name
-        ensures value { result.now.items ≡ self.now.namespace.prefix_gauge }
-        ensures range { IsPrefix result.now.items }
-    {
-        &self.namespace.prefix_gauge
-    }
-
-    /// The prefix of sets.
-    pub fn prefix_set(&self) -> &Name
-        ensures value { result.now.items ≡ self.now.namespace.prefix_set }
-        ensures range { IsPrefix result.now.items }
-    {
-        &self.namespace.prefix_set
-    }
-
     /// What stands behind all of Graphite's names.
     pub fn global_suffix(&self) -> &Name
-        ensures value { result.now.items ≡ self.now.namespace.global_suffix }
-        ensures range { IsPrefix result.now.items }
+        ensures { IsSetting IsPrefix self.now.namespace.global_suffix result.now.items }
     {
         &self.namespace.global_suffix
     }
 
-    /// The thresholds of timers.
-    pub fn percent_threshold(&self) -> &[Micro]
-        ensures value { micros result.now ≡ self.now.server.percent_threshold }
-        ensures range { AreThresholds (micros result.now) }
-    {
-        self.plan.thresholds.as_slice()
-    }
-
-    /// The backends that are used.
-    pub fn backends(&self) -> &[Name]
-        ensures value { name_bytes result.now ≡ self.now.addresses.backends }
-        ensures range { AreBackends (name_bytes result.now) }
-    {
-        self.addresses.backends.as_slice()
-    }
-
-    /// The bins of timers by parts of their names.
-    pub fn histogram(&self) -> &[Classes]
-        ensures value { map classes_view result.now ≡ self.now.lists.histogram }
-        ensures range { AreHistograms (map classes_view result.now) }
-    {
-        self.plan.histograms.as_slice()
-    }
-
-    /// The names of the classes of timers' lines that are sent; with none, all are.
-    pub fn calculated_timer_metrics(&self) -> &[Name]
-        ensures value { name_bytes result.now ≡ self.now.rules.calculated_timer_metrics }
-        ensures range { AreClassNames (name_bytes result.now) }
-    {
-        self.plan.calculated.as_slice()
-    }
-
     /// Where packets are repeated to.
     pub fn repeater(&self) -> &[Target]
-        ensures value { map target_view result.now ≡ self.now.lists.repeater }
-        ensures range { AreTargets (map target_view result.now) }
+        ensures { IsSetting AreTargets self.now.lists.repeater (map target_view result.now) }
     {
         self.repeater.as_slice()
     }
 
     /// The servers behind the proxy.
     pub fn nodes(&self) -> &[Node]
-        ensures value { map node_view result.now ≡ self.now.lists.nodes }
-        ensures range { AreNodes (map node_view result.now) }
+        ensures { IsSetting AreNodes self.now.lists.nodes (map node_view result.now) }
     {
         self.nodes.as_slice()
+    }
+
+    /// The time between two checks of the nodes, in milliseconds.
+    pub fn check_interval(&self) -> u32
+        ensures { IsSetting (IsWithin 1 86400000) self.now.sizes.check_interval result }
+    {
+        self.sizes.check_interval
+    }
+
+    /// How many keys the proxy keeps the owners of.
+    pub fn cache_size(&self) -> u32
+        ensures { IsSetting (IsWithin 1 1000000) self.now.sizes.cache_size result }
+    {
+        self.sizes.cache_size
     }
 }
