@@ -4,7 +4,7 @@ ghost use Rattle.sd_seats.specs.Views.{IsPlain};
 
 use crate::sums::Sums;
 use atomic_table::Seat;
-use sd_seats::View;
+use sd_seats::{PlainSeat, View};
 
 /// What one caller changes the value with. For each number of the value it has a share, what it has
 /// added to it, and the number as it has last seen it, both seen by contracts alone.
@@ -31,5 +31,13 @@ impl<V: Sums> BookSeat<V> {
         ensures { result ≡ number_of self.now }
     {
         self.number
+    }
+}
+
+impl<V: Sums> PlainSeat<V, u64, V::Fixed> for BookSeat<V> {
+    ghost inner = { λ s. s.seat };
+
+    fn into_inner(self) -> Seat<V, View<u64, V::Fixed>> {
+        self.seat
     }
 }

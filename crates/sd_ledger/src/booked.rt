@@ -88,27 +88,7 @@ impl<V: Sums> Booked<V> {
         ensures sums { (k : ℕ) → slice_index (V.numbers result) k ≡ total (λ s. slice_index (shares s) k) seats.items }
         ensures seen { All (λ s. NoneFalls (seen s) (V.numbers result)) seats.items }
     {
-        let keeper = self.gather(seats);
+        let keeper = self.turn.gather(seats);
         self.turn.close(keeper)
-    }
-
-    // One seat that has taken in all the others.
-    fn gather(&self, mut seats: Vec<BookSeat<V>>) -> Seat<V, View<u64, V::Fixed>>
-        requires some { 0 < length seats.items }
-        requires seats { All (IsSeatOf self.now) seats.items }
-        ensures { (result.table_id ≡ self.now.turn.table.shared.table_id) × (result.me.0.turn ≡ false) × (result.me.0.accounts ≡ map account_of seats.items) }
-    {
-        let Some(last) = seats.pop() else {
-            unreachable!()
-        };
-        let BookSeat {
-            number: _,
-            seat: mut keeper,
-        } = last;
-        while let Some(next) = seats.pop() {
-            let BookSeat { number: _, seat } = next;
-            self.turn.join(&mut keeper, seat);
-        }
-        keeper
     }
 }

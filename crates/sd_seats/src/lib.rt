@@ -6,9 +6,11 @@
 #![tactic(auto)]
 
 mod behind;
+mod plain_seat;
 mod turn_table;
 mod view;
 
 pub use behind::{Behind, Rule};
+pub use plain_seat::PlainSeat;
 pub use turn_table::TurnTable;
 pub use view::{About, Account, View};

@@ -1,11 +1,12 @@
 //! The table of a value behind a turn, its steps, and how a caller waits.
-ghost use Rattle.std.specs.Prelude.{◌≡◌, ◌+◌, ◌-◌, ◌<◌, false, [], length, Some, IfOk};
+ghost use Rattle.std.specs.Prelude.{◌≡◌, ◌+◌, ◌-◌, ◌<◌, false, [], length, map, Some, IfOk, All};
 ghost use mathlib.Core.Option.{none};
 ghost use Rattle.atomic_table.specs.Table.{step, Allows};
-ghost use Rattle.sd_seats.specs.Views.{giver, newcomer, both, IsPlain};
+ghost use Rattle.sd_seats.specs.Views.{giver, newcomer, first_account, both, IsPlain};
 ghost use Rattle.sd_seats.specs.Rule.{Opens, Closes, Kept, Taken};
 
 use crate::behind::{Behind, Cut, Glue, Rule, Take};
+use crate::plain_seat::PlainSeat;
 use crate::view::{About, View};
 use atomic_table::{Play, Refused, Seat, Table};
 use std::alloc::{AllocError, Global};
@@ -121,6 +122,22 @@ impl<S: Drop, E, F, B: Behind<S, E, F>> TurnTable<S, E, F, B> {
         if self.asleep.load(SeqCst) > 0 {
             self.table.shared.wake_one(0);
         }
+    }
+
+    /// One seat that has taken in all the others.
+    pub fn gather<T: PlainSeat<S, E, F>>(&self, mut seats: Vec<T>) -> Seat<S, View<E, F>>
+        requires some { 0 < length seats.items }
+        requires seats { All (λ s. (T.inner s).table_id ≡ self.now.table.shared.table_id) seats.items }
+        ensures { (result.table_id ≡ self.now.table.shared.table_id) × (result.me.0.turn ≡ false) × (result.me.0.accounts ≡ map (λ s. first_account (T.inner s).me.0.accounts) seats.items) }
+    {
+        let Some(last) = seats.pop() else {
+            unreachable!()
+        };
+        let mut keeper = last.into_inner();
+        while let Some(next) = seats.pop() {
+            self.join(&mut keeper, next.into_inner());
+        }
+        keeper
     }
 
     /// One seat takes in another.

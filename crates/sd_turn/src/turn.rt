@@ -144,28 +144,8 @@ impl<V: Stepped> Turn<V> {
         ensures fixed { V.fixed result ≡ V.fixed (opened_with self) }
         ensures history { IsHistory self seats.items result }
     {
-        let keeper = self.gather(seats);
+        let keeper = self.turn.gather(seats);
         let Turn { turn } = self;
         turn.close(keeper)
-    }
-
-    // One seat that has taken in all the others.
-    fn gather(&self, mut seats: Vec<TurnSeat<V>>) -> Seat<V, View<V::Noted, V::Fixed>>
-        requires some { 0 < length seats.items }
-        requires seats { All (IsSeatOf self.now) seats.items }
-        ensures { (result.table_id ≡ self.now.turn.table.shared.table_id) × (result.me.0.turn ≡ false) × (result.me.0.accounts ≡ map account_of seats.items) }
-    {
-        let Some(last) = seats.pop() else {
-            unreachable!()
-        };
-        let TurnSeat {
-            number: _,
-            seat: mut keeper,
-        } = last;
-        while let Some(next) = seats.pop() {
-            let TurnSeat { number: _, seat } = next;
-            self.turn.join(&mut keeper, seat);
-        }
-        keeper
     }
 }
