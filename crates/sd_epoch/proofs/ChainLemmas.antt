@@ -1,5 +1,5 @@
 -- The entries of a row, gone through along their chain.
-use Rattle.std.proofs.Common.{◌≡◌, ◌≢◌, ℕ, zero, suc, ◌+◌, ◌<◌, ◌≤◌, Bool, true, false, cond, ◌==◌, ◌||◌, List, [], ◌∷◌, ◌++◌, length, get_or, take, map, reverse, Option, Some, None, refl, sym, ap, subst, ◌∙◌, append_assoc, arith}
+use Rattle.std.proofs.Common.{◌≡◌, ◌≢◌, ℕ, zero, suc, ◌+◌, ◌<◌, ◌≤◌, Bool, true, false, cond, ◌==◌, ◌||◌, List, [], ◌∷◌, ◌++◌, length, get_or, take, map, reverse, Option, Some, None, refl, sym, ap, subst, ◌∙◌, append_assoc, length-append, arith}
 use Rattle.std.specs.Prelude.{⊤}
 use Rattle.std.specs.List.{list_any}
 use Rattle.std.proofs.lemmas.Bool.{eq-eqb, ne_eqb}
@@ -8,7 +8,7 @@ use Rattle.std.proofs.lemmas.List.Elements.{filter_more}
 use Rattle.std.proofs.Math.ListN.{get_or-map}
 use Rattle.sd_epoch.specs.Chain.{IsLast, up_to, IsChain}
 use Rattle.sd_epoch.specs.Entries.{places_of, entries_at}
-use Rattle.sd_epoch.specs.Held.{Filed}
+use Rattle.sd_epoch.specs.Held.{Filed, no_entry}
 
 -- where no entry between two names the place, none is left out
 quiet : (place : ℕ) (entries : List Filed) (m n : ℕ) → m ≤ n → ((k : ℕ) → m ≤ k → k < n → get_or (places_of entries) k 0 ≢ place)
@@ -88,11 +88,32 @@ pub goes_on : (entries : List Filed) (last before : List (Option ℕ)) (place i 
     → GoesOn entries place i next
 goes_on entries last before place i next w here is = goes_on_to entries last before place i next w here (get_or_read before i next (omega (arith, here.0, w.len)) is None)
 
--- what was taken from the entries so far, and that from those that are left, the last one first
-pub back_more : {A : Type 0} (v : Filed → A) (out : List A) (own : List Filed) (e : Filed) → (out ++ v e ∷ []) ++ reverse (map v own) ≡ out ++ reverse (map v (own ++ e ∷ []))
-back_more v out own e =
-    append_assoc out (v e ∷ []) (reverse (map v own))
-    ∙ ap (λ ys. out ++ ys) (sym (ap reverse (map-append v own (e ∷ [])) ∙ reverse-append (map v own) (v e ∷ [])))
+module _ {A : Type 0} (f : Filed → A) (entries : List Filed) (place : ℕ) where
+  -- this was taken from the entries of a row so far, the last one first, and the walk goes on to the next one
+  pub record IsTaken (next : Option ℕ) (out : List A) : Type 0 where
+    pub of_row : IsOfRow (places_of entries) place next
+    pub so_far : out ++ reverse (map f (entries_at place (take (up_to next) entries))) ≡ reverse (map f (entries_at place entries))
+    pub few : length out + up_to next ≤ length entries
+
+  module _ (last before : List (Option ℕ)) (next : Option ℕ) (out : List A) (chain : IsChain (places_of entries) last before) where
+    pub taken_none : out ≡ [] → place < length last → next ≡ get_or last place next → IsTaken next out
+    taken_none none within is = let at = begins entries last before place next chain within is in record {
+      of_row = at.of_row;
+      so_far = ap (λ xs. xs ++ reverse (map f (entries_at place (take (up_to next) entries)))) none ∙ ap (λ (es : List Filed). reverse (map f es)) at.all;
+      few = omega (arith, at.few, ap length none);
+    }
+
+    pub taken_more : (now : Option ℕ) (i : ℕ) (was : List A) (v : A) → IsTaken now was → now ≡ Some i → next ≡ get_or before i next → v ≡ f (get_or entries i no_entry) → out ≡ was ++ v ∷ [] → IsTaken next out
+    taken_more now i was v w is goes taken pushed =
+        let e = get_or entries i no_entry in
+        let own = entries_at place (take (up_to next) entries) in
+        let on = goes_on entries last before place i next chain (subst (IsOfRow (places_of entries) place) is w.of_row) goes in record {
+          of_row = on.of_row;
+          so_far = (λ j. ((pushed ∙ ap (λ x. was ++ x ∷ []) taken) j) ++ reverse (map f own)) ∙ append_assoc was (f e ∷ []) (reverse (map f own))
+              ∙ ap (λ ys. was ++ ys) (sym (ap reverse (map-append f own (e ∷ [])) ∙ reverse-append (map f own) (f e ∷ [])))
+              ∙ ap (λ (es : List Filed). was ++ reverse (map f es)) (sym (on.more no_entry)) ∙ ap (λ (n : Option ℕ). was ++ reverse (map f (entries_at place (take (up_to n) entries)))) (sym is) ∙ w.so_far;
+          few = omega (arith, w.few, on.few, ap up_to is, ap length pushed, length-append was (v ∷ []));
+        }
 
 pub any-push : {A : Type 0} (p : A → Bool) (xs : List A) (x : A) → list_any p (xs ++ x ∷ []) ≡ (list_any p xs || p x)
 any-push p [] x = or_none (p x) where

@@ -1,17 +1,12 @@
-use Rattle.std.proofs.Common.{◌≡◌, ◌+◌, ◌≤◌, ◌++◌, length, map, reverse, take, vec_len, vec_capacity}
+use Rattle.std.proofs.Common.{◌≡◌, vec_capacity}
 use Rattle.sd_epoch.specs.Chain.{up_to}
-use Rattle.sd_epoch.specs.Entries.{places_of, entries_at}
 use Rattle.sd_epoch.specs.Scratch.{texts}
-use Rattle.sd_epoch.specs.Held.{Filed}
-use Rattle.sd_epoch.proofs.ChainLemmas.{IsOfRow}
+use Rattle.sd_epoch.proofs.ChainLemmas.{IsTaken}
 use Rattle.sd_epoch.proofs.scratch.push_members.Given as goal
 
--- the members so far, and behind them those of the entries that are left
 abbrev pub invariant-loop-next : goal.invariant-loop-next
 invariant-loop-next l = record {
-  of_row : IsOfRow (places_of l.entries.items) l.place l.next;
-  so_far : (texts l.out.items) ++ reverse (map (λ (e : Filed). e.member) (entries_at l.place (take (up_to l.next) l.entries.items))) ≡ reverse (map (λ (e : Filed). e.member) (entries_at l.place l.entries.items));
-  few : vec_len l.out + up_to l.next ≤ length l.entries.items;
+  taken : IsTaken (λ e. e.member) l.entries.items l.place l.next (texts l.out.items);
   capacity : vec_capacity l.out ≡ vec_capacity l.fn.out;
 }
 
