@@ -4,8 +4,8 @@ use Rattle.sd_epoch.specs.Scratch.{Gathered}
 use Rattle.sd_epoch.specs.declared.scratch.Scratch.TheInside.{Inside}
 
 abbrev pub gathered_view : Inside → Gathered
-gathered_view s = record { room = s.room; values = s.values.items; members = s.members.items }
+gathered_view s = record { room = vec_capacity s.values; values = s.values.items; members = s.members.items }
 
-pub record IsScratch (s : Inside) : Type 0 where
-  pub value_room : s.room ≤ vec_capacity s.values
-  pub member_room : s.room ≤ vec_capacity s.members
+-- there is as much room for members as for values
+abbrev pub IsScratch : Inside → Type 0
+IsScratch s = vec_capacity s.values ≤ vec_capacity s.members

@@ -19,7 +19,6 @@ use std::marker::Model;
 pub struct Scratch {
     values: Vec<Micro>,
     members: Vec<Member>,
-    room: u32,
 }
 
 impl Model for Scratch {
@@ -47,7 +46,6 @@ impl Scratch {
         Ok(Scratch {
             values: Vec::with_capacity(alloc, limits.entries as usize)?,
             members: Vec::with_capacity(alloc, limits.entries as usize)?,
-            room: limits.entries,
         })
     }
 
