@@ -2,7 +2,7 @@ ghost use Rattle.std.specs.Prelude.{◌≡◌, ◌+◌, ◌<◌, ◌≤◌, ◌+
 ghost use Rattle.sd_model_shard.specs.Commands.{is_hit, is_of_kind, dump_row};
 ghost use Rattle.sd_key.specs.Kind.{kind_of};
 ghost use Rattle.sd_epoch.specs.Table.{AreApart};
-ghost use Rattle.sd_shard.specs.Dump.{dump_row_of};
+ghost use Rattle.sd_shard.specs.Dump.{dump_row_of, rows_of};
 
 use crate::dump::{Dump, DumpRow};
 use crate::keys::Keys;
@@ -11,8 +11,8 @@ use sd_key::{Kind, Pattern};
 
 /// Appends the keys of the rows of a kind that a pattern matches, and answers how many those are.
 pub(crate) fn push_keys(table: &Table, kind: Kind, pattern: &Pattern, out: &mut Keys) -> u32
-    requires { length out.old.keys + length table.now.listed ≤ out.old.room }
-    ensures keys { out.new.keys ≡ out.old.keys ++ map (λ row. row.0.key) (filter (λ row. is_hit (kind_of kind) pattern.now row.0) table.now.listed) }
+    requires { length out.old.items + length table.now.listed ≤ out.old.room }
+    ensures keys { out.new.items ≡ out.old.items ++ map (λ row. row.0.key) (filter (λ row. is_hit (kind_of kind) pattern.now row.0) table.now.listed) }
     ensures count { result ≡ length (filter (λ row. is_hit (kind_of kind) pattern.now row.0) table.now.listed) }
     ensures few { result ≤ table.now.limits.rows }
     ensures room { out.new.room ≡ out.old.room }
@@ -22,7 +22,7 @@ pub(crate) fn push_keys(table: &Table, kind: Kind, pattern: &Pattern, out: &mut 
     for i in 0..table.rows() {
         let row = table.get(i);
         if row.is_hit(kind, pattern) {
-            out.push(&row.key);
+            out.push(row.key.clone().unwrap());
             rows += 1;
         }
     }
@@ -44,9 +44,9 @@ fn dump_row(table: &Table, i: u32) -> DumpRow
 
 /// Appends the rows of a kind.
 pub(crate) fn push_rows(table: &Table, kind: Kind, out: &mut Dump)
-    requires { length out.old.rows + length table.now.listed ≤ out.old.room }
-    ensures rows { out.new.rows ≡ out.old.rows ++ map (dump_row table.now.held) (filter (λ row. is_of_kind (kind_of kind) row.0) table.now.listed) }
-    ensures few { length out.new.rows ≤ length out.old.rows + table.now.limits.rows }
+    requires { length out.old.items + length table.now.listed ≤ out.old.room }
+    ensures rows { rows_of out.new ≡ rows_of out.old ++ map (dump_row table.now.held) (filter (λ row. is_of_kind (kind_of kind) row.0) table.now.listed) }
+    ensures few { length out.new.items ≤ length out.old.items + table.now.limits.rows }
     ensures room { out.new.room ≡ out.old.room }
     ensures apart { AreApart table.now.listed }
 {

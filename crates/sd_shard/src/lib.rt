@@ -9,10 +9,12 @@ mod carry;
 mod commands;
 mod dump;
 mod keys;
+mod listed;
 mod policy;
 mod shard;
 
 pub use dump::{Dump, DumpRow};
 pub use keys::Keys;
+pub use listed::Listed;
 pub use policy::Policy;
 pub use shard::{Cause, Deleted, Placed, Shard, ShardBook};

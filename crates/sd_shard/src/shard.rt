@@ -4,6 +4,7 @@ ghost use Rattle.sd_key.specs.Kind.{kind_of};
 ghost use Rattle.sd_epoch.specs.Limits.{limits_of, AreLimits};
 ghost use Rattle.sd_epoch.specs.Table.{table_of};
 ghost use Rattle.sd_shard.specs.Policy.{policy_of};
+ghost use Rattle.sd_shard.specs.Dump.{rows_of};
 ghost use Rattle.sd_shard.specs.Shard.{state_of, cause_of, placed_of, IsDeletion, IsDump, IsInRange};
 ghost use Rattle.sd_shard.specs.Swap.{swap_steps};
 
@@ -173,12 +174,12 @@ impl Shard {
 
     /// Takes the rows of a kind that a pattern matches out, with all their entries, and appends their keys.
     pub fn delete(&mut self, kind: Kind, pattern: &Pattern, out: &mut Keys) -> Deleted
-        requires { length out.old.keys + length self.old.table.listed ≤ out.old.room }
+        requires { length out.old.items + length self.old.table.listed ≤ out.old.room }
         ensures state { (who : ℕ) → state_of self.new
             ≡ (step self.old.table.limits self.old.policy (state_of self.old) who (Delete (kind_of kind) pattern.now)).state }
         ensures answer { (who : ℕ) → IsDeletion (step self.old.table.limits self.old.policy (state_of self.old) who (Delete (kind_of kind) pattern.now)).reply
-            out.old.keys out.new.keys result }
-        ensures few { length out.new.keys ≤ length out.old.keys + self.old.table.limits.rows }
+            out.old.items out.new.items result }
+        ensures few { length out.new.items ≤ length out.old.items + self.old.table.limits.rows }
         ensures room { out.new.room ≡ out.old.room }
         ensures limits { self.new.table.limits ≡ self.old.table.limits }
         ensures policy { self.new.policy ≡ self.old.policy }
@@ -191,12 +192,12 @@ impl Shard {
 
     /// Appends each row of a kind with what its samples come to.
     pub fn dump(&self, kind: Kind, out: &mut Dump)
-        requires { length out.old.rows + length self.now.table.listed ≤ out.old.room }
+        requires { length out.old.items + length self.now.table.listed ≤ out.old.room }
         ensures state { (who : ℕ) → state_of self.now
             ≡ (step self.now.table.limits self.now.policy (state_of self.now) who (DumpOf (kind_of kind))).state }
         ensures answer { (who : ℕ) → IsDump (step self.now.table.limits self.now.policy (state_of self.now) who (DumpOf (kind_of kind))).reply
-            out.old.rows out.new.rows }
-        ensures few { length out.new.rows ≤ length out.old.rows + self.now.table.limits.rows }
+            (rows_of out.old) (rows_of out.new) }
+        ensures few { length out.new.items ≤ length out.old.items + self.now.table.limits.rows }
         ensures room { out.new.room ≡ out.old.room }
     {
         push_rows(&self.table, kind, out);

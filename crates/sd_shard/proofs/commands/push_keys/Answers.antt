@@ -1,4 +1,4 @@
-use Rattle.std.proofs.Common.{ℕ, Bool, List, [], ◌∷◌, ◌++◌, length, filter, map, take, sym, ap, ◌∙◌, length-append, arith}
+use Rattle.std.proofs.Common.{rules, ◌≡◌, ℕ, Bool, List, [], ◌∷◌, ◌++◌, length, filter, map, take, sym, ap, ◌∙◌, length-append, arith}
 use Rattle.sd_key.specs.Kind.{kind_of}
 use Rattle.sd_model_shard.specs.Rows.{RowId, Kept}
 use Rattle.sd_model_shard.specs.Commands.{is_hit}
@@ -15,13 +15,14 @@ loop-i-preserved c =
     let listed = c.args.table.now.listed in
     let i = c.loop-i.i in
     let row = row_view c.get-row.result.now in
-    let old = c.args.out.now.keys in
+    let old = c.args.out.now.items in
     let inv = c.loop-i.invariant in
     elim c.if-is_hit.branch [
       | then-is_hit w ↦
           let more = filter-hit p listed i row c.get-row.ensures (sym c.is_hit.ensures ∙ w.if-is_hit.true) in
+          let copied : w.unwrap.result ≡ key row = search rules in
           record {
-            keys = ap (λ (o : KeyList). o.keys) w.out-is ∙ w.push.ensures.keys ∙ ap (λ (ks : List (List ℕ)). ks ++ key row ∷ []) inv.keys
+            keys = ap (λ (o : KeyList). o.items) w.out-is ∙ w.push.ensures.items ∙ (λ j. (inv.keys j) ++ (copied j) ∷ [])
                 ∙ told-push key old (filter p (take i listed)) row ∙ ap (λ (rows : List (RowId × Kept)). old ++ map key rows) (sym more);
             count = omega (arith, w.rows-is, inv.count, ap length more, length-append (filter p (take i listed)) (row ∷ []));
             few = omega (arith, w.rows-is, inv.few);
@@ -31,7 +32,7 @@ loop-i-preserved c =
       | else-is_hit w ↦
           let same = filter-miss p listed i row c.get-row.ensures (sym c.is_hit.ensures ∙ w.if-is_hit.false) in
           record {
-            keys = ap (λ (o : KeyList). o.keys) w.out-is ∙ inv.keys ∙ ap (λ (rows : List (RowId × Kept)). old ++ map key rows) (sym same);
+            keys = ap (λ (o : KeyList). o.items) w.out-is ∙ inv.keys ∙ ap (λ (rows : List (RowId × Kept)). old ++ map key rows) (sym same);
             count = omega (arith, w.rows-is, inv.count, ap length same);
             few = omega (arith, w.rows-is, inv.few);
             all = inv.all;

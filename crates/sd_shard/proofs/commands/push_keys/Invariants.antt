@@ -8,7 +8,7 @@ abbrev pub invariant-loop-i : goal.invariant-loop-i
 invariant-loop-i l =
     let hits = filter (λ row. is_hit (kind_of l.kind) l.pattern row.0) (take l.i l.table.listed) in
     record {
-      keys : l.out.keys ≡ l.fn.out.keys ++ map (λ row. row.0.key) hits;
+      keys : l.out.items ≡ l.fn.out.items ++ map (λ row. row.0.key) hits;
       count : l.rows ≡ length hits;
       few : l.rows ≤ l.i;
       all : l.i-end ≡ length l.table.listed;

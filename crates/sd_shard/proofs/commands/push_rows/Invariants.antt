@@ -1,6 +1,7 @@
 use Rattle.std.proofs.Common.{◌≡◌, ◌≤◌, ◌++◌, filter, length, map, take}
 use Rattle.sd_model_shard.specs.Commands.{is_of_kind, dump_row}
 use Rattle.sd_key.specs.Kind.{kind_of}
+use Rattle.sd_shard.specs.Dump.{rows_of}
 use Rattle.sd_shard.proofs.commands.push_rows.Given as goal
 
 -- the rows so far
@@ -8,7 +9,7 @@ abbrev pub invariant-loop-i : goal.invariant-loop-i
 invariant-loop-i l =
     let told = filter (λ row. is_of_kind (kind_of l.kind) row.0) (take l.i l.table.listed) in
     record {
-      rows : l.out.rows ≡ l.fn.out.rows ++ map (dump_row l.table.held) told;
+      rows : rows_of l.out ≡ rows_of l.fn.out ++ map (dump_row l.table.held) told;
       few : length told ≤ l.i;
       all : l.i-end ≡ length l.table.listed;
       room : l.out.room ≡ l.fn.out.room;

@@ -40,5 +40,5 @@ returns-clause-answer c = λ who.
     told_permutes key (is_hit kind pattern) t.listed (StandApart-rows t.listed c.push_keys-rows.ensures.apart) in
     let count : c.push_keys-rows.result ≡ length (keys_of (rows_taken_out kind pattern (live_of t))) =
     omega (arith, c.push_keys-rows.ensures.count, length-map hits key, length_permutation (map key hits) (keys_of (rows_taken_out kind pattern (live_of t))) told) in
-    subst (λ (s : Standing). IsDeletion (deletion_of kind pattern (state_of s)) c.args.out.now.keys c.push_keys-rows.new.out.keys (record { rows = c.push_keys-rows.result; samples = c.forget_rows-samples.result }))
+    subst (λ (s : Standing). IsDeletion (deletion_of kind pattern (state_of s)) c.args.out.now.items c.push_keys-rows.new.out.items (record { rows = c.push_keys-rows.result; samples = c.forget_rows-samples.result }))
     c.self.view_is ((map key hits, c.push_keys-rows.ensures.keys, told), count, c.forget_rows-samples.ensures.count)

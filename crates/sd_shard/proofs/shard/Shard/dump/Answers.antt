@@ -6,6 +6,7 @@ use Rattle.sd_model_shard.specs.Shard.{Dumped}
 use Rattle.sd_model_shard.proofs.ListedLemmas.{told_permutes}
 use Rattle.sd_epoch.specs.Table.{live_of}
 use Rattle.sd_epoch.proofs.ForgetLemmas.{StandApart-rows}
+use Rattle.sd_shard.specs.Dump.{rows_of}
 use Rattle.sd_shard.specs.Shard.{Standing, IsDump}
 use Rattle.sd_shard.proofs.shard.Shard.dump.Goals as goal
 
@@ -14,7 +15,7 @@ returns-clause-answer c = λ who.
     let kind = kind_of c.args.kind in
     let t = c.self.inside.table in
     let rows = filter (λ (row : RowId × Kept). is_of_kind kind row.0) t.listed in
-    subst (λ (s : Standing). IsDump (Dumped (dump_of kind (live_of s.table) s.table.held)) c.args.out.now.rows c.push_rows.new.out.rows) c.self.view_is (
+    subst (λ (s : Standing). IsDump (Dumped (dump_of kind (live_of s.table) s.table.held)) (rows_of c.args.out.now) (rows_of c.push_rows.new.out)) c.self.view_is (
       map (dump_row t.held) rows,
       c.push_rows.ensures.rows,
       told_permutes (dump_row t.held) (is_of_kind kind) t.listed (StandApart-rows t.listed c.push_rows.ensures.apart),
