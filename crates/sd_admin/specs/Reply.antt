@@ -1,6 +1,7 @@
 -- Replies, as the definitions have them.
 use Rattle.sd_model_record.specs.Replies as model
 use Rattle.sd_key.specs.Kind.{kind_of}
+use Rattle.sd_shard.specs.Dump.{rows_of}
 use Rattle.sd_desk.specs.Facts.{facts_view}
 use Rattle.sd_admin.specs.Command.{fault_view}
 use Rattle.sd_admin.specs.declared.reply.Reply.{Reply}
@@ -8,8 +9,8 @@ use Rattle.sd_admin.specs.declared.reply.Reply.TheVariants.{Stats, Rows, Gone, F
 
 abbrev pub reply_view : Reply → model.Reply
 reply_view (Stats facts now) = model.Stats (facts_view facts.now) now
-reply_view (Rows kind dump) = model.Rows (kind_of kind) dump.now.rows
-reply_view (Gone pattern keys) = model.Gone pattern.now keys.now.keys
+reply_view (Rows kind dump) = model.Rows (kind_of kind) (rows_of dump.now)
+reply_view (Gone pattern keys) = model.Gone pattern.now keys.now.items
 reply_view Finish = model.Finish
 reply_view (Health up) = model.Health up
 reply_view (Config settings) = model.Config settings.now

@@ -3,7 +3,7 @@ ghost use Rattle.std.specs.Option.{option_map};
 ghost use Rattle.sd_model_settings.specs.ConfigText.{config_lines};
 ghost use Rattle.sd_model_record.specs.Replies.{end_lines, stats_lines, row_value, row_line, gone_lines, health_line, fault_line};
 ghost use Rattle.sd_key.specs.Kind.{kind_of};
-ghost use Rattle.sd_shard.specs.Dump.{dump_row_of};
+ghost use Rattle.sd_shard.specs.Dump.{dump_row_of, rows_of};
 ghost use Rattle.sd_desk.specs.Facts.{facts_view};
 ghost use Rattle.sd_admin.specs.Command.{fault_view};
 
@@ -78,7 +78,7 @@ fn row_line(kind: Kind, row: &DumpRow) -> ReplyLine
 
 /// The line of the reply to `counters`, `timers` or `gauges` at a place.
 pub(crate) fn rows_line(kind: Kind, dump: &Dump, place: usize) -> Option<ReplyLine>
-    ensures { option_map (λ l. l.items) result ≡ slice_get (map (row_line (kind_of kind)) dump.now.rows ++ end_lines) place }
+    ensures { option_map (λ l. l.items) result ≡ slice_get (map (row_line (kind_of kind)) (rows_of dump.now) ++ end_lines) place }
 {
     if place < dump.len() {
         Some(row_line(kind, dump.get(place)))
@@ -100,7 +100,7 @@ fn missing_line(name: &Pattern) -> ReplyLine
 
 /// The line of what a name of a deletion deleted, at a place.
 pub(crate) fn gone_line(name: &Pattern, keys: &Keys, place: usize) -> Option<ReplyLine>
-    ensures { option_map (λ l. l.items) result ≡ slice_get (gone_lines name.now keys.now.keys) place }
+    ensures { option_map (λ l. l.items) result ≡ slice_get (gone_lines name.now keys.now.items) place }
 {
     if keys.len() == 0 {
         alone(missing_line(name), place)
