@@ -1,10 +1,12 @@
-ghost use Rattle.std.specs.Prelude.{◌≡◌, ◌<◌, ◌^◌, IfSome, ⊤};
+ghost use Rattle.std.specs.Prelude.{◌≡◌, ℕ, ◌<◌, ◌^◌, List, IfSome, ⊤};
+ghost use Rattle.sd_model_record.specs.Backends.{Backend};
 ghost use Rattle.sd_model_serve.specs.Receiving.{flusher};
 ghost use Rattle.sd_pool.specs.Pool.{IsSeatOf, limits_of, own_at, shards_of, who_is};
 ghost use Rattle.sd_shared_desk.specs.Shared.{IsSeatOf as IsDeskSeatOf, number_of_seat, part_of};
 ghost use Rattle.sd_flush.specs.Tables.{AreTablesFor};
 ghost use Rattle.sd_flush.specs.Flushing.{form_of};
 ghost use Rattle.sd_flush.specs.FlushingOut.{FlushesOut};
+ghost use Rattle.sd_flush.specs.declared.outs.Outs.{Outs};
 ghost use Rattle.sd_flush.specs.Outs.{AreOutsReady, IsLeadReady, StopsOne, WhereUsed, fed_by, offered_by};
 
 use crate::outs::{Lead, Outs, Skips};
@@ -26,74 +28,6 @@ pub struct FlushedOut {
     pub skips: Skips,
 }
 
-// Makes a round at each tick of a beat, until it has none left or fails, or as many rounds were made as are asked for; 0 asks for
-// none.
-fn make_rounds<E: Beat, G: Gate, R: Wait>(
-    rt: &R,
-    pool: &Pool,
-    desk: &SharedDesk,
-    own: &mut DeskSeat,
-    seat: &mut Seat,
-    tables: &mut Tables,
-    plan: &Reckoning,
-    names: &Names,
-    beat: &mut E,
-    outs: &mut Outs<'_>,
-    gate: &G,
-    run_flushes: u64,
-) -> FlushedOut
-    requires own { IsDeskSeatOf desk.now own.old }
-    requires seat { IsSeatOf pool.now seat.old }
-    requires flusher { who_is seat.old ≡ flusher }
-    requires tables { AreTablesFor (limits_of pool.now) (shards_of pool.now) tables.old }
-    requires outs { AreOutsReady outs.old }
-    requires turns { (E.seen beat.old).turns < 2 ^ 62 }
-    ensures own { IsDeskSeatOf desk.now own.new × (number_of_seat own.new ≡ number_of_seat own.old) }
-    ensures seat { IsSeatOf pool.now seat.new }
-    ensures who { who_is seat.new ≡ who_is seat.old }
-    ensures tables { AreTablesFor (limits_of pool.now) (shards_of pool.now) tables.new }
-    ensures outs { AreOutsReady outs.new }
-    ensures flushes { FlushesOut (form_of pool.now plan.now names.now) (offered_by result.skips outs.old outs.new) run_flushes
-        (own_at seat.old) (own_at seat.new) (part_of own.old) (part_of own.new) (E.seen beat.old) (E.seen beat.new) result.ended }
-{
-    let mut skips = Skips {
-        graphite: 0,
-        console: 0,
-    };
-    for made in 0..MOST_TURNS {
-        if run_flushes > 0 && made == run_flushes {
-            return FlushedOut {
-                ended: Ended::Stopped { rounds: made },
-                skips,
-            };
-        }
-        match beat.next() {
-            Tick::At(ts) => {
-                let marks = round_out(
-                    rt, pool, desk, own, seat, tables, plan, names, ts, outs, gate,
-                );
-                skips.count(marks);
-            }
-            Tick::End => {
-                return FlushedOut {
-                    ended: Ended::End,
-                    skips,
-                };
-            }
-            Tick::Failed => {
-                return FlushedOut {
-                    ended: Ended::Failed,
-                    skips,
-                };
-            }
-        }
-    }
-    FlushedOut {
-        ended: Ended::Worn { turns: MOST_TURNS },
-        skips,
-    }
-}
-
 // Stops a feed.
 fn stop_feed(lead: &mut Lead<'_>)
     requires ready { IsLeadReady lead.old }
@@ -113,6 +47,18 @@ fn stop_if_used(lead: &mut Option<Lead<'_>>)
         Some(lead) => stop_feed(lead),
         None => {}
     }
+}
+
+// Stops the feeds of the backends that are used, behind which so many texts were skipped, at the end of a flusher.
+fn end(outs: &mut Outs<'_>, ended: Ended, skips: Skips) -> FlushedOut
+    requires ready { AreOutsReady outs.old }
+    ensures ready { AreOutsReady outs.new }
+    ensures result { result ≡ record { ended = ended; skips = skips } }
+    ensures fed { (first : Outs) (b : Backend) (texts : List (List ℕ)) → offered_by skips first outs.old b texts → fed_by skips first outs.new b texts }
+{
+    stop_if_used(&mut outs.graphite);
+    stop_if_used(&mut outs.console);
+    FlushedOut { ended, skips }
 }
 
 /// Makes a round at each tick of a beat as `flush_all` does, but sends the texts to the outlets of the backends that are used, and
@@ -146,21 +92,24 @@ pub fn flush_all_out<E: Beat, G: Gate, R: Wait>(
     ensures flushes { FlushesOut (form_of pool.now plan.now names.now) (fed_by result.skips outs.old outs.new) run_flushes
         (own_at seat.old) (own_at seat.new) (part_of own.old) (part_of own.new) (E.seen beat.old) (E.seen beat.new) result.ended }
 {
-    let flushed = make_rounds(
-        rt,
-        pool,
-        desk,
-        own,
-        seat,
-        tables,
-        plan,
-        names,
-        beat,
-        outs,
-        gate,
-        run_flushes,
-    );
-    stop_if_used(&mut outs.graphite);
-    stop_if_used(&mut outs.console);
-    flushed
+    let mut skips = Skips {
+        graphite: 0,
+        console: 0,
+    };
+    for made in 0..MOST_TURNS {
+        if run_flushes > 0 && made == run_flushes {
+            return end(outs, Ended::Stopped { rounds: made }, skips);
+        }
+        match beat.next() {
+            Tick::At(ts) => {
+                let marks = round_out(
+                    rt, pool, desk, own, seat, tables, plan, names, ts, outs, gate,
+                );
+                skips.count(marks);
+            }
+            Tick::End => return end(outs, Ended::End, skips),
+            Tick::Failed => return end(outs, Ended::Failed, skips),
+        }
+    }
+    end(outs, Ended::Worn { turns: MOST_TURNS }, skips)
 }

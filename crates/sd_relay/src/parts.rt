@@ -74,11 +74,11 @@ pub(crate) fn gather<D: Datagrams + Drop, L: Wire + Drop>(
     while let Some(room) = rooms.pop() {
         posts.push_reserved(Post {
             ring: room.ring,
-            pass: take_first(passes),
-            packets: take_first(packets),
-            wires: take_run(wires, room.wires, nodes.len()),
             buf: room.buf,
             got: None,
+            packets: take_first(packets),
+            wires: take_run(wires, room.wires, nodes.len()),
+            pass: take_first(passes),
         });
     }
 }

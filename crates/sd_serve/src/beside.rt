@@ -77,13 +77,6 @@ pub(crate) fn run_with_pair<
     join_mut(
         rt,
         &mut ||
-            requires sends { IsSync R.row × IsSync C.row × IsSend K.row × IsSend M.row }
-            requires fourth { K.can_run shared.now fourth.now }
-            requires fifth { M.can_run shared.now fifth.now }
-            ensures fourth { K.has_run shared.entry.now fourth.entry.now fourth.exit.now }
-            ensures fifth { M.has_run shared.entry.now fifth.entry.now fifth.exit.now }
-        { run_pair(rt, shared, fourth, fifth) },
-        &mut ||
             requires sends { IsSync R.row × IsSync C.row × IsSend F.row × IsSend G.row × IsSend H.row × IsSend W.row }
             requires first { F.can_run shared.now first.now }
             requires second { G.can_run shared.now second.now }
@@ -95,5 +88,12 @@ pub(crate) fn run_with_pair<
             ensures len { length others.exit.now ≡ length others.entry.now }
             ensures each { (i : ℕ) (d : _) → i < length others.entry.now → W.has_run shared.entry.now (slice_index_or others.entry.now i d) (slice_index_or others.exit.now i d) }
         { run_with_third(rt, shared, first, second, third, others) },
+        &mut ||
+            requires sends { IsSync R.row × IsSync C.row × IsSend K.row × IsSend M.row }
+            requires fourth { K.can_run shared.now fourth.now }
+            requires fifth { M.can_run shared.now fifth.now }
+            ensures fourth { K.has_run shared.entry.now fourth.entry.now fourth.exit.now }
+            ensures fifth { M.has_run shared.entry.now fifth.entry.now fifth.exit.now }
+        { run_pair(rt, shared, fourth, fifth) },
     );
 }

@@ -5,7 +5,7 @@ use Rattle.sd_flush.specs.Tables.{AreTablesFor}
 use Rattle.sd_flush.specs.Flushing.{form_of}
 use Rattle.sd_flush.specs.Outs.{AreOutsReady, offered_by}
 use Rattle.sd_flush.proofs.RoundOutLemmas.{SoFarOut}
-use Rattle.sd_flush.proofs.flusher_out.make_rounds.Given as goal
+use Rattle.sd_flush.proofs.flusher_out.flush_all_out.Given as goal
 
 -- as many rounds as ticks were read, and no more than are asked for
 abbrev pub invariant-loop-made : goal.invariant-loop-made
