@@ -1,5 +1,5 @@
 -- What is seen of the objects of a call.
-use Rattle.std.specs.Prelude.{map}
+use Rattle.std.specs.Prelude.{◌≡◌, map}
 use Rattle.sd_model_outside.specs.Outside.{Object}
 use Rattle.sd_model_call.specs.Opening as model
 use Rattle.sd_replay.specs.Seen.{seen_of}
@@ -21,3 +21,12 @@ world_of of_source of_output of_back of_datagrams of_wire of_door of_beat of_pro
       probe = of_probe world.probe;
       flags = flags_in world.backs;
     }
+
+-- what is opened before a server's parts, or is no part that is opened, is as it was
+pub record SameRest {R O B D L E P G T Q S : Type 0} (old new : World R O B D L E P G T Q S) : Type 0 where
+  pub settings : new.settings ≡ old.settings
+  pub script : new.script ≡ old.script
+  pub output : new.output ≡ old.output
+  pub beat : new.beat ≡ old.beat
+  pub clock : new.clock ≡ old.clock
+  pub probe : new.probe ≡ old.probe

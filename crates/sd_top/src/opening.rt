@@ -8,7 +8,7 @@ ghost use Rattle.sd_plan.specs.Entries.{node_view, target_view};
 ghost use Rattle.sd_outside.specs.Places.{place_of};
 ghost use Rattle.sd_top.specs.Answers.{answer_of, part_of};
 ghost use Rattle.sd_top.specs.Causes.{AreOpened, BackStops, EachStops, IsNotOpened, WhereStops, opened_each, opened_where};
-ghost use Rattle.sd_top.specs.World.{flags_in, world_of};
+ghost use Rattle.sd_top.specs.World.{SameRest, flags_in, world_of};
 
 use crate::call::WorldOf;
 use crate::status::{Part, Status};
@@ -130,13 +130,8 @@ pub(crate) fn open_peers<N: Peer, K: Kinds>(runs: u16, peers: &[N], world: &mut 
     ensures packets { (world.new).packets ≡ (world.old).packets }
     ensures door { (world.new).door ≡ (world.old).door }
     ensures streams { (world.new).streams ≡ (world.old).streams }
-    ensures beat { (world.new).beat ≡ (world.old).beat }
-    ensures probe { (world.new).probe ≡ (world.old).probe }
+    ensures rest { SameRest world.old world.new }
     ensures backs { (world.new).backs ≡ (world.old).backs }
-    ensures settings { (world.new).settings ≡ (world.old).settings }
-    ensures script { (world.new).script ≡ (world.old).script }
-    ensures output { (world.new).output ≡ (world.old).output }
-    ensures clock { (world.new).clock ≡ (world.old).clock }
     ensures flags { (world_of K.R.seen K.O.seen K.B.seen K.D.seen K.L.seen K.E.seen K.P.seen K.Q.seen K.S.seen world.new).flags ≡ (world_of K.R.seen K.O.seen K.B.seen K.D.seen K.L.seen K.E.seen K.P.seen K.Q.seen K.S.seen world.old).flags }
 {
     open_runs(0, runs, peers, &mut world.wires)
@@ -163,12 +158,7 @@ pub(crate) fn open_repeater<K: Kinds>(
     ensures packets { (world.new).packets ≡ (world.old).packets }
     ensures door { (world.new).door ≡ (world.old).door }
     ensures streams { (world.new).streams ≡ (world.old).streams }
-    ensures beat { (world.new).beat ≡ (world.old).beat }
-    ensures probe { (world.new).probe ≡ (world.old).probe }
-    ensures settings { (world.new).settings ≡ (world.old).settings }
-    ensures script { (world.new).script ≡ (world.old).script }
-    ensures output { (world.new).output ≡ (world.old).output }
-    ensures clock { (world.new).clock ≡ (world.old).clock }
+    ensures rest { SameRest world.old world.new }
     ensures flags { (world_of K.R.seen K.O.seen K.B.seen K.D.seen K.L.seen K.E.seen K.P.seen K.Q.seen K.S.seen world.new).flags ≡ (world_of K.R.seen K.O.seen K.B.seen K.D.seen K.L.seen K.E.seen K.P.seen K.Q.seen K.S.seen world.old).flags }
     ensures few { length (targets_of settings.now) ≤ 16 }
 {

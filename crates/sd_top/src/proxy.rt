@@ -10,7 +10,7 @@ ghost use Rattle.sd_check.specs.Checking.{end_view};
 ghost use Rattle.sd_serve.specs.Serving.{end_of};
 ghost use Rattle.sd_top.specs.Answers.{answer_of};
 ghost use Rattle.sd_top.specs.Relaying.{HasRelayed, relay_answer, relay_lines};
-ghost use Rattle.sd_top.specs.World.{world_of};
+ghost use Rattle.sd_top.specs.World.{SameRest, world_of};
 
 use crate::call::WorldOf;
 use crate::ends::{any_worn, by_receivers, by_turns, cut};
@@ -80,12 +80,8 @@ fn open_proxy<K: Kinds>(settings: &Settings, world: &mut WorldOf<K>) -> Result<(
     ensures wires { length (world.new).wires.items ≡ length (world.old).wires.items }
     ensures door { (world.new).door ≡ (world.old).door }
     ensures streams { (world.new).streams ≡ (world.old).streams }
-    ensures beat { (world.new).beat ≡ (world.old).beat }
-    ensures probe { (world.new).probe ≡ (world.old).probe }
+    ensures rest { SameRest world.old world.new }
     ensures backs { (world.new).backs ≡ (world.old).backs }
-    ensures settings { (world.new).settings ≡ (world.old).settings }
-    ensures script { (world.new).script ≡ (world.old).script }
-    ensures output { (world.new).output ≡ (world.old).output }
 {
     let receivers = u16::try_from(settings.receivers()).unwrap();
     open_packets::<K>(settings, world)?;

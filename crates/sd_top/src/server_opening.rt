@@ -7,7 +7,7 @@ ghost use Rattle.sd_model_call.specs.Server.{door_openings, has_streams, server_
 ghost use Rattle.sd_outside.specs.Places.{place_of};
 ghost use Rattle.sd_top.specs.Answers.{answer_of};
 ghost use Rattle.sd_top.specs.Causes.{EachStops, opened_each};
-ghost use Rattle.sd_top.specs.World.{world_of};
+ghost use Rattle.sd_top.specs.World.{SameRest, world_of};
 
 use crate::call::WorldOf;
 use crate::opening::{open, open_backs, open_repeater, open_where};
@@ -70,13 +70,8 @@ pub(crate) fn open_packets<K: Kinds>(settings: &Settings, world: &mut WorldOf<K>
     ensures wires { (world.new).wires ≡ (world.old).wires }
     ensures door { (world.new).door ≡ (world.old).door }
     ensures streams { (world.new).streams ≡ (world.old).streams }
-    ensures beat { (world.new).beat ≡ (world.old).beat }
-    ensures probe { (world.new).probe ≡ (world.old).probe }
+    ensures rest { SameRest world.old world.new }
     ensures backs { (world.new).backs ≡ (world.old).backs }
-    ensures settings { (world.new).settings ≡ (world.old).settings }
-    ensures script { (world.new).script ≡ (world.old).script }
-    ensures output { (world.new).output ≡ (world.old).output }
-    ensures clock { (world.new).clock ≡ (world.old).clock }
     ensures flags { (world_of K.R.seen K.O.seen K.B.seen K.D.seen K.L.seen K.E.seen K.P.seen K.Q.seen K.S.seen world.new).flags ≡ (world_of K.R.seen K.O.seen K.B.seen K.D.seen K.L.seen K.E.seen K.P.seen K.Q.seen K.S.seen world.old).flags }
 {
     let receivers = u16::try_from(settings.receivers()).unwrap();
@@ -107,12 +102,7 @@ fn open_doors<K: Kinds>(settings: &Settings, world: &mut WorldOf<K>) -> Result<(
     ensures packets { (world.new).packets ≡ (world.old).packets }
     ensures wires { (world.new).wires ≡ (world.old).wires }
     ensures backs { (world.new).backs ≡ (world.old).backs }
-    ensures beat { (world.new).beat ≡ (world.old).beat }
-    ensures probe { (world.new).probe ≡ (world.old).probe }
-    ensures settings { (world.new).settings ≡ (world.old).settings }
-    ensures script { (world.new).script ≡ (world.old).script }
-    ensures output { (world.new).output ≡ (world.old).output }
-    ensures clock { (world.new).clock ≡ (world.old).clock }
+    ensures rest { SameRest world.old world.new }
 {
     let door = host_address(settings.mgmt_address(), settings.mgmt_port());
     open(&mut world.door, &door, Part::Door)?;
@@ -143,12 +133,7 @@ pub(crate) fn open_server<K: Kinds>(settings: &Settings, world: &mut WorldOf<K>)
     ensures wires { length (world.new).wires.items ≡ length (world.old).wires.items }
     ensures door { OnOk result (K.E.seen (world.new).door ≡ opened (Host (settings.now).addresses.mgmt_address (settings.now).server.mgmt_port) (K.E.seen (world.old).door)) }
     ensures streams { OnOk result (K.S.seen (world.new).streams ≡ (if has_streams settings.now then opened (Host (settings.now).addresses.address (settings.now).transport.tcp_port) (K.S.seen (world.old).streams) else K.S.seen (world.old).streams)) }
-    ensures beat { (world.new).beat ≡ (world.old).beat }
-    ensures probe { (world.new).probe ≡ (world.old).probe }
-    ensures settings { (world.new).settings ≡ (world.old).settings }
-    ensures script { (world.new).script ≡ (world.old).script }
-    ensures output { (world.new).output ≡ (world.old).output }
-    ensures clock { (world.new).clock ≡ (world.old).clock }
+    ensures rest { SameRest world.old world.new }
     ensures flags { (world_of K.R.seen K.O.seen K.B.seen K.D.seen K.L.seen K.E.seen K.P.seen K.Q.seen K.S.seen world.new).flags ≡ (world_of K.R.seen K.O.seen K.B.seen K.D.seen K.L.seen K.E.seen K.P.seen K.Q.seen K.S.seen world.old).flags }
 {
     let receivers = u16::try_from(settings.receivers()).unwrap();

@@ -20,13 +20,13 @@ returns-in_default-clause-refused g c = inl (refl, record { before = []; behind 
 
 pub serve-requires-clause-start : goal.serve-requires-clause-start
 serve-requires-clause-start g c κs within =
-    subst (λ k. g.K.T.Clock.may_say k (start_in c.in-Ok.room)) (sym c.open_server.ensures.clock)
+    subst (λ k. g.K.T.Clock.may_say k (start_in c.in-Ok.room)) (sym c.open_server.ensures.rest.clock)
     (subst (g.K.T.Clock.may_say c.args.world.now.clock) (sym c.in-Ok.ensures.start) c.now-start.ensures)
 
 pub serve-requires-clause-beat : goal.serve-requires-clause-beat
 serve-requires-clause-beat g c =
     let started = ap (λ (o : Object). o.turns) c.start.ensures in
-    let same = ap (λ b. (g.K.P.Faulty.seen b).turns) c.open_server.ensures.beat in
+    let same = ap (λ b. (g.K.P.Faulty.seen b).turns) c.open_server.ensures.rest.beat in
     omega (arith, started, same, c.requires.beat)
 
 -- an object that is opened where it is used has the turns of before, and is out where it was
@@ -112,7 +112,7 @@ returns-clause-served g c =
       streams = g.K.S.Faulty.seen c.serve.new.streams;
     }) in
     subst (λ (t : Terms). HasServed t (g.K.T.Clock.may_say c.args.world.now.clock) (objects_in (begun s old)) (objects_in new) c.serve.result) terms
-    (subst (λ k. HasServed (terms_of (sizing_in c.in-Ok.room) c.plan.result.now c.of-names.result s mid.backs c.from.result) (g.K.T.Clock.may_say k) (objects_in (begun s old)) (objects_in new) c.serve.result) c.open_server.ensures.clock
+    (subst (λ k. HasServed (terms_of (sizing_in c.in-Ok.room) c.plan.result.now c.of-names.result s mid.backs c.from.result) (g.K.T.Clock.may_say k) (objects_in (begun s old)) (objects_in new) c.serve.result) c.open_server.ensures.rest.clock
     (subst (λ (o : Objects). HasServed (terms_of (sizing_in c.in-Ok.room) c.plan.result.now c.of-names.result s mid.backs c.from.result) (g.K.T.Clock.may_say mid.clock) o (objects_in new) c.serve.result) (before ∙ ap objects_in begun_is)
     (subst (λ (o : Objects). HasServed (terms_of (sizing_in c.in-Ok.room) c.plan.result.now c.of-names.result s mid.backs c.from.result) (g.K.T.Clock.may_say mid.clock) (objects_of g.K.D.Faulty.seen g.K.L.Faulty.seen g.K.P.Faulty.seen g.K.B.Faulty.seen g.K.E.Faulty.seen g.K.S.Faulty.seen mid.packets.items mid.wires.items c.start.new.self mid.backs mid.door mid.streams) o c.serve.result) after
     c.serve.ensures.served)))
