@@ -34,12 +34,11 @@ impl PausingDoor {
 }
 
 impl Faulty for PausingDoor {
-    ghost use Rattle.std.proofs.Common.{arith};
     ghost use Rattle.sd_cases_session.specs.Pausing.{seen_of};
 
     ghost seen = { seen_of };
 
-    ghost faults_fit = { λ s. Prim.omega arith };
+    ghost faults_fit = { λ d. ⟦<MemDoor as Faulty>⟧.faults_fit d.door };
 }
 
 impl Opens for PausingDoor {

@@ -1,4 +1,5 @@
 ghost use Rattle.std.specs.Prelude.{◌≤◌, vec_len};
+ghost use Rattle.std.proofs.Common.{arith};
 
 use crate::beat::{Beat, Tick};
 use crate::calls::{fault, next_call_fails};
@@ -71,7 +72,6 @@ impl MemBeat {
 }
 
 impl Faulty for MemBeat {
-    ghost use Rattle.std.proofs.Common.{arith};
     ghost use Rattle.sd_outside.specs.MemBeat.{seen_of};
 
     ghost seen = { seen_of };
@@ -81,7 +81,6 @@ impl Faulty for MemBeat {
 
 impl Beat for MemBeat {
     ghost use Rattle.std.specs.Prelude.{◌≡◌};
-    ghost use Rattle.std.proofs.Common.{arith};
     ghost use Rattle.sd_model_outside.specs.Outside.{raised};
     ghost use Rattle.sd_model_outside.specs.Turns.{with_interval};
     ghost use Rattle.sd_outside.specs.Answers.{Fails, HasEnded, MatchTick};
