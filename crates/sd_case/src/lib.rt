@@ -16,4 +16,4 @@ pub use answer::Answer;
 pub use names::{key_of, kind_of, kind_word};
 pub use refusal::Refusal;
 pub use table::answer_cases;
-pub use text::{bytes_of, number, push_number, set_number};
+pub use text::{bytes_of, count_up_to, number, push_number, set_number};

@@ -1,4 +1,4 @@
-ghost use Rattle.std.specs.Prelude.{◌≡◌, ◌<◌, ◌⊎◌, IfErr, IfOk, IsOkUnless};
+ghost use Rattle.std.specs.Prelude.{◌≡◌, ◌<◌, ◌≤◌, ◌⊎◌, IfErr, IfOk, IsOkUnless};
 
 use crate::refusal::Refusal;
 use std::alloc::Global;
@@ -94,6 +94,23 @@ where
     ensures cause { IsOkUnless result Refusal.Malformed }
 {
     word.parse::<T>().map_err(|_| Refusal::Malformed)
+}
+
+/// The count that a word writes, which isn't 0.
+///
+/// # Errors
+///
+/// `Malformed` where it writes no number, and `Condition` where that is 0 or above the most.
+pub fn count_up_to(word: &str, most: u16) -> Result<u16, Refusal>
+    ensures some { IfOk result (λ count. 0 < count) }
+    ensures few { IfOk result (λ count. count ≤ most) }
+    ensures cause { IfErr result (λ refusal. (refusal ≡ Refusal.Malformed) ⊎ (refusal ≡ Refusal.Condition)) }
+{
+    let count = number::<u16>(word)?;
+    if count == 0 || count > most {
+        return Err(Refusal::Condition);
+    }
+    Ok(count)
 }
 
 /// Takes the number that a word writes in the place of another.

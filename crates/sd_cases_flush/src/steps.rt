@@ -9,7 +9,7 @@ use crate::gated::pass_gate;
 use crate::outlets::{Deed, use_outlets};
 use crate::rounds::{flush, make_round};
 use crate::turns::swap_all;
-use sd_case::{Answer, Refusal, number};
+use sd_case::{Answer, Refusal, count_up_to, number};
 use sd_desk::Tally;
 use sd_epoch::Limits;
 use sd_line::Lines;
@@ -144,10 +144,6 @@ pub fn steps_on_bench<R: Wait>(
 ) -> Result<(), Refusal>
     requires { AreLimits (limits_of limits) }
 {
-    let shards = number::<u16>(shards)?;
-    if shards == 0 || shards > 16 {
-        return Err(Refusal::Condition);
-    }
-    let mut bench = open(alloc, shards, limits)?;
+    let mut bench = open(alloc, count_up_to(shards, 16)?, limits)?;
     make_steps(rt, alloc, &mut bench, steps, out)
 }

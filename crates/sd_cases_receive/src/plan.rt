@@ -2,7 +2,7 @@
 ghost use Rattle.std.specs.Prelude.{◌<◌, ◌≤◌};
 
 use crate::pieces::Step;
-use sd_case::{Refusal, bytes_of, number, push_number, set_number};
+use sd_case::{Refusal, bytes_of, count_up_to, number, push_number, set_number};
 use std::alloc::Global;
 
 // How many shards there may be.
@@ -64,11 +64,7 @@ impl Plan {
 
     /// Sets how many shards there are.
     fn set_shards(&mut self, word: &str) -> Result<(), Refusal> {
-        let shards = number::<u16>(word)?;
-        if shards == 0 || shards > MOST_SHARDS {
-            return Err(Refusal::Condition);
-        }
-        self.shards = shards;
+        self.shards = count_up_to(word, MOST_SHARDS)?;
         Ok(())
     }
 
