@@ -32,29 +32,20 @@ fn letter_of(number: u16) -> char {
     char::from(b'a' + (number % 26) as u8)
 }
 
-// Appends datagrams of a source's own: `a:1|c`, `a:2|c` and so on, with its letter.
+// Appends datagrams of a source's own with its letter, `a:1|c`, `a:2|c` and so on, and then some with a key each, `a.1:1|c`,
+// `a.2:1|c` and so on.
 fn push_own(
     alloc: Global,
     number: u16,
     count: u32,
+    keys: u32,
     packets: &mut Vec<Vec<u8>>,
 ) -> Result<(), Refusal> {
     let letter = letter_of(number);
     for i in 1..=count {
         packets.push(format!(in alloc; "{letter}:{i}|c")?.into_bytes())?;
     }
-    Ok(())
-}
-
-// Appends datagrams with a key of a source's own each: `a.1:1|c`, `a.2:1|c` and so on, with its letter.
-fn push_keys(
-    alloc: Global,
-    number: u16,
-    count: u32,
-    packets: &mut Vec<Vec<u8>>,
-) -> Result<(), Refusal> {
-    let letter = letter_of(number);
-    for i in 1..=count {
+    for i in 1..=keys {
         packets.push(format!(in alloc; "{letter}.{i}:1|c")?.into_bytes())?;
     }
     Ok(())
@@ -77,8 +68,8 @@ fn datagrams_of(
         }
     }
     let more = setup.more.saturating_mul(u32::from(number));
-    push_own(alloc, number, setup.own.saturating_add(more), &mut packets)?;
-    push_keys(alloc, number, setup.keys, &mut packets)?;
+    let own = setup.own.saturating_add(more);
+    push_own(alloc, number, own, setup.keys, &mut packets)?;
     if packets.iter().all(|packet| packet.len() <= MOST_BYTES) {
         Ok(packets)
     } else {

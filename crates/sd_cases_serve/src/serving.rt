@@ -17,15 +17,6 @@ use std::alloc::Global;
 use std::sync::Wait;
 use std::thread::Threads;
 
-// No kind is deleted when idle.
-const POLICY: Policy = Policy {
-    counters: false,
-    timers: false,
-    gauges: false,
-    sets: false,
-    max_ttl: 1,
-};
-
 /// What a server works with.
 #[derive(Drop)]
 pub struct World<D, L, B, P, E, S> {
@@ -50,7 +41,14 @@ fn sizes_of(setup: &Setup) -> Result<Sizes, Refusal>
     }
     Ok(Sizes {
         limits,
-        policy: POLICY,
+        // No kind is deleted when idle.
+        policy: Policy {
+            counters: false,
+            timers: false,
+            gauges: false,
+            sets: false,
+            max_ttl: 1,
+        },
         shards: setup.shards.clamp(1, 16),
         receivers: setup.receivers.clamp(1, 16),
         wires: setup.wires,
