@@ -26,12 +26,10 @@ use std::sync::Wait;
 use std::thread::Threads;
 
 /// Makes the call of a case.
-fn call<R: Threads + Wait + Sync>(
-    rt: &R,
-    alloc: Global,
-    words: &[&str],
-    out: &mut Answer,
-) -> Result<(), Refusal> {
+fn call<R>(rt: &R, alloc: Global, words: &[&str], out: &mut Answer) -> Result<(), Refusal>
+where
+    R: Threads + Wait + Sync,
+{
     match words {
         ["outlet", n, bytes, steps @ ..] => {
             outlets::steps_on_outlet(rt, alloc, n, bytes, steps, out)

@@ -22,12 +22,10 @@ use std::io;
 use std::sync::Wait;
 use std::thread::Threads;
 
-fn call<R: Threads + Wait + Sync>(
-    rt: &R,
-    alloc: Global,
-    words: &[&str],
-    out: &mut Answer,
-) -> Result<(), Refusal> {
+fn call<R>(rt: &R, alloc: Global, words: &[&str], out: &mut Answer) -> Result<(), Refusal>
+where
+    R: Threads + Wait + Sync,
+{
     match words {
         ["route", nodes, cache, ups, lines @ ..] => {
             routes::routes(alloc, nodes, cache, ups, lines, out)

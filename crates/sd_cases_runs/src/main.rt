@@ -19,12 +19,10 @@ use std::sync::Wait;
 use std::thread::Threads;
 
 /// Runs what a case says.
-fn run_case<R: Threads + Wait + Sync>(
-    rt: &R,
-    alloc: Global,
-    words: &[&str],
-    out: &mut Answer,
-) -> Result<(), Refusal> {
+fn run_case<R>(rt: &R, alloc: Global, words: &[&str], out: &mut Answer) -> Result<(), Refusal>
+where
+    R: Threads + Wait + Sync,
+{
     match words {
         ["run", parts @ ..] => run::whole(rt, alloc, parts, out),
         ["cut", record, parts @ ..] => run::each_truncation(rt, alloc, record, parts, out),

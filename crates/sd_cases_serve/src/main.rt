@@ -20,12 +20,10 @@ use std::io;
 use std::sync::Wait;
 use std::thread::Threads;
 
-fn call<R: Threads + Wait + Sync>(
-    rt: &R,
-    alloc: Global,
-    words: &[&str],
-    out: &mut Answer,
-) -> Result<(), Refusal> {
+fn call<R>(rt: &R, alloc: Global, words: &[&str], out: &mut Answer) -> Result<(), Refusal>
+where
+    R: Threads + Wait + Sync,
+{
     match words {
         ["serve", words @ ..] => world::serve_case(rt, alloc, words, out),
         ["share", words @ ..] => world::share_case(rt, alloc, words, out),
