@@ -11,7 +11,7 @@ use Rattle.sd_model_shard.proofs.ToldLemmas.{told_in_any_order}
 use Rattle.sd_epoch.specs.Table.{live_of}
 use Rattle.sd_shard.specs.declared.shard.Deleted.{Deleted}
 use Rattle.sd_shard.specs.Keys.{KeyList}
-use Rattle.sd_shard.specs.Dump.{DumpList}
+use Rattle.sd_shard.specs.Dump.{DumpList, rows_of}
 use Rattle.sd_shard.specs.Shard.{state_of, Appends, IsDeletion}
 use Rattle.sd_pool.specs.Behind.{Behind, setup_of}
 use Rattle.sd_pool.specs.Asks.{beyond, gone_of, shown_of, KeysGoOn, RowsGoOn}
@@ -28,38 +28,38 @@ hit_of_rank kind pattern id hit = eqb-true (rank id.kind) (rank kind) (first (is
   first false b h = absurd (cc)
 
 module _ (b : Behind) (kind : Kind) where
-  module _ (pattern : List ℕ) (old new : KeyList) (gone : Deleted) (is : IsDeletion (deletion_of kind pattern (state_of b.shard)) old.keys new.keys gone) where
+  module _ (pattern : List ℕ) (old new : KeyList) (gone : Deleted) (is : IsDeletion (deletion_of kind pattern (state_of b.shard)) old.items new.items gone) where
     abbrev keys : List (List ℕ)
     keys = keys_of (rows_taken_out kind pattern (live_of b.shard.table))
 
-    told_keys : in_key_order (λ key. key) (beyond old.keys new.keys) ≡ keys
+    told_keys : in_key_order (λ key. key) (beyond old.items new.items) ≡ keys
     told_keys =
-        ap (in_key_order (λ (key : List ℕ). key)) (beyond-appended keys old.keys new.keys is.0)
+        ap (in_key_order (λ (key : List ℕ). key)) (beyond-appended keys old.items new.items is.0)
         ∙ told_in_any_order (λ (key : List ℕ). key) (λ (row : RowId × Kept). row.0.key) (λ e. refl) (rank kind) (live_of b.shard.table) (is_hit kind pattern) (hit_of_rank kind pattern) is.0.0 is.0.2
 
-    pub gone_told : gone_of old.keys new.keys gone ≡ deletion_of kind pattern (state_of b.shard)
+    pub gone_told : gone_of old.items new.items gone ≡ deletion_of kind pattern (state_of b.shard)
     gone_told = λ i. model.Deleted (told_keys i) (is.1 i) (is.2 i)
 
-    pub keys_go_on : length new.keys ≤ length old.keys + b.shard.table.limits.rows → new.room ≡ old.room → KeysGoOn (setup_of b) old new gone
+    pub keys_go_on : length new.items ≤ length old.items + b.shard.table.limits.rows → new.room ≡ old.room → KeysGoOn (setup_of b) old new gone
     keys_go_on few same = record {
-      told = (subst (λ ks. Appends ks old.keys new.keys) (sym told_keys) is.0, refl, refl);
+      told = (subst (λ ks. Appends ks old.items new.items) (sym told_keys) is.0, refl, refl);
       few = few;
       room = same;
     }
 
-  module _ (old new : DumpList) (is : Appends (dump_of kind (live_of b.shard.table) b.shard.table.held) old.rows new.rows) where
-    told_rows : in_key_order (λ row. row.key) (beyond old.rows new.rows) ≡ dump_of kind (live_of b.shard.table) b.shard.table.held
+  module _ (old new : DumpList) (is : Appends (dump_of kind (live_of b.shard.table) b.shard.table.held) (rows_of old) (rows_of new)) where
+    told_rows : in_key_order (λ row. row.key) (beyond (rows_of old) (rows_of new)) ≡ dump_of kind (live_of b.shard.table) b.shard.table.held
     told_rows =
         let t = b.shard.table in
-        ap (in_key_order (λ (row : DumpRow). row.key)) (beyond-appended (dump_of kind (live_of t) t.held) old.rows new.rows is)
+        ap (in_key_order (λ (row : DumpRow). row.key)) (beyond-appended (dump_of kind (live_of t) t.held) (rows_of old) (rows_of new) is)
         ∙ told_in_any_order (λ (row : DumpRow). row.key) (dump_row t.held) (λ e. refl) (rank kind) (live_of t) (is_of_kind kind) (λ id hit. eqb-true (rank id.kind) (rank kind) hit) is.0 is.2
 
-    pub shown_told : shown_of old.rows new.rows ≡ model.Dumped (dump_of kind (live_of b.shard.table) b.shard.table.held)
+    pub shown_told : shown_of (rows_of old) (rows_of new) ≡ model.Dumped (dump_of kind (live_of b.shard.table) b.shard.table.held)
     shown_told = ap model.Dumped told_rows
 
-    pub rows_go_on : length new.rows ≤ length old.rows + b.shard.table.limits.rows → new.room ≡ old.room → RowsGoOn (setup_of b) old new
+    pub rows_go_on : length new.items ≤ length old.items + b.shard.table.limits.rows → new.room ≡ old.room → RowsGoOn (setup_of b) old new
     rows_go_on few same = record {
-      told = subst (λ rows. Appends rows old.rows new.rows) (sym told_rows) is;
+      told = subst (λ rows. Appends rows (rows_of old) (rows_of new)) (sym told_rows) is;
       few = few;
       room = same;
     }

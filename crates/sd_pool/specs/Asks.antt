@@ -10,7 +10,7 @@ use Rattle.sd_epoch.specs.Table.{Listing, live_of, table_of}
 use Rattle.sd_shard.specs.declared.shard.Deleted.{Deleted}
 use Rattle.sd_shard.specs.Shard.{placed_of, IsDeletion, IsDump}
 use Rattle.sd_shard.specs.Keys.{KeyList}
-use Rattle.sd_shard.specs.Dump.{DumpList}
+use Rattle.sd_shard.specs.Dump.{DumpList, rows_of}
 use Rattle.sd_spares.specs.Tables.{IsSpare, IsWithin}
 use Rattle.sd_pool.specs.Setup.{Setup, OnlyOf, who_of}
 use Rattle.sd_pool.specs.Noted.{Noted}
@@ -33,14 +33,14 @@ shown_of old new = model.Dumped (in_key_order (λ row. row.key) (beyond old new)
 
 -- a list of keys goes on as a deletion's reply tells, within its room
 pub record KeysGoOn (setup : Setup) (old new : KeyList) (gone : Deleted) : Type 0 where
-  pub told : IsDeletion (gone_of old.keys new.keys gone) old.keys new.keys gone
-  pub few : length new.keys ≤ length old.keys + setup.limits.rows
+  pub told : IsDeletion (gone_of old.items new.items gone) old.items new.items gone
+  pub few : length new.items ≤ length old.items + setup.limits.rows
   pub room : new.room ≡ old.room
 
 -- a list of rows goes on as a dump's reply tells, within its room
 pub record RowsGoOn (setup : Setup) (old new : DumpList) : Type 0 where
-  pub told : IsDump (shown_of old.rows new.rows) old.rows new.rows
-  pub few : length new.rows ≤ length old.rows + setup.limits.rows
+  pub told : IsDump (shown_of (rows_of old) (rows_of new)) (rows_of old) (rows_of new)
+  pub few : length new.items ≤ length old.items + setup.limits.rows
   pub room : new.room ≡ old.room
 
 -- a table that was swapped out
@@ -59,8 +59,8 @@ sample_in samples = get_or samples 0 no_sample
 -- which asks are allowed
 abbrev pub Allows : Setup → ShardAsk → Type 0
 Allows setup (ask.Sample samples) = (shard (sample_in samples.items).key setup.shards ≡ setup.shard) × (length samples.items ≡ 1)
-Allows setup (ask.Delete kind patterns out) = (length out.keys + setup.limits.rows ≤ out.room) × (length patterns.items ≡ 1)
-Allows setup (ask.Dump kind out) = length out.rows + setup.limits.rows ≤ out.room
+Allows setup (ask.Delete kind patterns out) = (length out.items + setup.limits.rows ≤ out.room) × (length patterns.items ≡ 1)
+Allows setup (ask.Dump kind out) = length out.items + setup.limits.rows ≤ out.room
 Allows setup (ask.Swap spare) = IsSpare setup.limits spare
 
 -- the one pattern in the room that goes along
@@ -76,19 +76,19 @@ event_of (ask.Swap spare) = model.Swap
 
 -- the keys that go along
 abbrev pub keys_along : ShardAsk → List (List ℕ)
-keys_along (ask.Delete kind patterns out) = out.keys
+keys_along (ask.Delete kind patterns out) = out.items
 keys_along ask = []
 
 -- the rows that go along
 abbrev pub rows_along : ShardAsk → List DumpRow
-rows_along (ask.Dump kind out) = out.rows
+rows_along (ask.Dump kind out) = rows_of out
 rows_along ask = []
 
 -- the reply, where lists went along
 abbrev pub reply_of : ShardAsk → ShardReply → Reply
 reply_of asked (reply.Placed placed samples) = Answered (placed_of placed)
-reply_of asked (reply.Deleted gone patterns out) = gone_of (keys_along asked) out.keys gone
-reply_of asked (reply.Dumped out) = shown_of (rows_along asked) out.rows
+reply_of asked (reply.Deleted gone patterns out) = gone_of (keys_along asked) out.items gone
+reply_of asked (reply.Dumped out) = shown_of (rows_along asked) (rows_of out)
 reply_of asked (reply.Swapped table) = model.Swapped (table_of table)
 
 -- a reply is the one of its ask's kind, and brings back what went along

@@ -5,6 +5,7 @@ ghost use Rattle.sd_model_shard.specs.Shard.{Answered, Swapped, Submit, Swap, De
 ghost use Rattle.sd_key.specs.Kind.{kind_of};
 ghost use Rattle.sd_epoch.specs.Limits.{limits_of, AreLimits};
 ghost use Rattle.sd_epoch.specs.Table.{table_of};
+ghost use Rattle.sd_shard.specs.Dump.{rows_of};
 ghost use Rattle.sd_shard.specs.Policy.{policy_of};
 ghost use Rattle.sd_shard.specs.Shard.{placed_of, state_of};
 ghost use Rattle.sd_pool.specs.Setup.{who_of};
@@ -103,8 +104,8 @@ impl ShardValue {
     }
 
     fn delete(&mut self, who: Who, kind: Kind, pattern: &Pattern, out: &mut Keys) -> Deleted
-        requires room { length out.old.keys + self.old.shard.table.limits.rows ≤ out.old.room }
-        ensures step { IsStep self.old self.new who.0 (Delete (kind_of kind) pattern.now) (gone_of out.old.keys out.new.keys result) }
+        requires room { length out.old.items + self.old.shard.table.limits.rows ≤ out.old.room }
+        ensures step { IsStep self.old self.new who.0 (Delete (kind_of kind) pattern.now) (gone_of out.old.items out.new.items result) }
         ensures out { KeysGoOn (setup_of self.old) out.old out.new result }
     {
         // It has no more rows than its limits say, for which there is room.
@@ -113,8 +114,8 @@ impl ShardValue {
     }
 
     fn dump(&mut self, who: Who, kind: Kind, out: &mut Dump)
-        requires room { length out.old.rows + self.old.shard.table.limits.rows ≤ out.old.room }
-        ensures step { IsStep self.old self.new who.0 (DumpOf (kind_of kind)) (shown_of out.old.rows out.new.rows) }
+        requires room { length out.old.items + self.old.shard.table.limits.rows ≤ out.old.room }
+        ensures step { IsStep self.old self.new who.0 (DumpOf (kind_of kind)) (shown_of (rows_of out.old) (rows_of out.new)) }
         ensures out { RowsGoOn (setup_of self.old) out.old out.new }
     {
         // It has no more rows than its limits say, for which there is room.

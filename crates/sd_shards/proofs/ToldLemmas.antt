@@ -1,11 +1,11 @@
 -- What all shards tell of keys and rows.
-use Rattle.std.proofs.Common.{◌≡◌, ℕ, ◌+◌, List, [], ◌++◌, length, map, sym, ap, subst, ◌∙◌, IsPermutation, IsSorted, IsSortedByKey, append_assoc, length-append, arith}
+use Rattle.std.proofs.Common.{◌≡◌, ℕ, List, [], ◌++◌, length, map, sym, ap, subst, ◌∙◌, IsPermutation, IsSorted, IsSortedByKey, append_assoc}
 use Rattle.std.specs.Prelude.{flat_map}
 use Rattle.std.specs.List.{range_with_len}
 use Rattle.std.specs.Ordering.{nat_cmp}
 use Rattle.std.specs.Cmp.Lexicographic.{slice_cmp}
 use Rattle.std.proofs.lemmas.List.Folds.{flat_map-map}
-use Rattle.std.proofs.lemmas.List.Sorted.{IsPermutation-append, IsPermutation-sym, IsPermutation-trans, length_permutation}
+use Rattle.std.proofs.lemmas.List.Sorted.{IsPermutation-append, IsPermutation-sym, IsPermutation-trans}
 use Rattle.sd_model_text.specs.Names.{Kind}
 use Rattle.sd_model_shard.specs.Shard.{State, Dumped, deletion_of}
 use Rattle.sd_model_shard.specs.Commands.{DumpRow, dump_of, in_key_order}
@@ -21,10 +21,6 @@ use Rattle.sd_shards.proofs.EachLemmas.{flat_map-states}
 pub Appends-append : {A : Type 0} (told more : List A) (old mid new : List A) → Appends told old mid → Appends more mid new → Appends (told ++ more) old new
 Appends-append told more old mid new first last =
     (first.0 ++ last.0, last.1 ∙ ap (λ xs. xs ++ last.0) first.1 ∙ append_assoc old first.0 last.0, IsPermutation-append first.0 told last.0 more first.2 last.2)
-
--- how long a list is to which was appended
-pub Appends-length : {A : Type 0} (told old new : List A) → Appends told old new → length new ≡ length old + length told
-Appends-length told old new all = omega (arith, ap length all.1, length-append old all.0, length_permutation all.0 told all.2)
 
 moved : {A : Type 0} (told new sorted : List A) → Appends told [] new → IsPermutation new sorted → IsPermutation told sorted
 moved told new sorted all sort =

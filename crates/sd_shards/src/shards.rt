@@ -13,6 +13,7 @@ ghost use Rattle.sd_model_replay.specs.Totals.{summed};
 ghost use Rattle.sd_key.specs.Kind.{kind_of};
 ghost use Rattle.sd_epoch.specs.Limits.{limits_of, AreLimits};
 ghost use Rattle.sd_epoch.specs.Table.{table_of as table_seen};
+ghost use Rattle.sd_shard.specs.Dump.{rows_of};
 ghost use Rattle.sd_shard.specs.Policy.{policy_of};
 ghost use Rattle.sd_record.specs.Rows.{AreDisjoint};
 ghost use Rattle.sd_shards.specs.Shards.{AreAlike, group_bounds, numbers, state_at};
@@ -124,9 +125,9 @@ impl Shards {
         requires { length self.old.states * self.old.limits.rows ≤ keys.old.room }
         ensures states { (i : ℕ) → i < length self.old.states
             → state_at self.new i ≡ after_delete (kind_of kind) name.now (state_at self.old i) }
-        ensures keys { keys.new.keys
+        ensures keys { keys.new.items
             ≡ keys_told (map (λ i. deletion_of (kind_of kind) name.now (state_at self.old i)) (numbers self.old)) }
-        ensures sorted { IsSorted (slice_cmp nat_cmp) keys.new.keys }
+        ensures sorted { IsSorted (slice_cmp nat_cmp) keys.new.items }
         ensures room { keys.new.room ≡ keys.old.room }
         ensures alike { AreAlike self.old self.new }
         ensures swapped { self.new.swapped ≡ self.old.swapped }
@@ -139,9 +140,9 @@ impl Shards {
     /// Leaves each row of a kind of all shards with what its samples come to, in the order of the bytes of their keys.
     pub fn dump(&self, kind: Kind, dump: &mut Dump)
         requires { length self.now.states * self.now.limits.rows ≤ dump.old.room }
-        ensures rows { dump.new.rows
+        ensures rows { rows_of dump.new
             ≡ rows_told (map (λ i. Dumped (dump_of (kind_of kind) (state_at self.now i).live (state_at self.now i).held)) (numbers self.now)) }
-        ensures sorted { IsSortedByKey (λ row. row.key) (slice_cmp nat_cmp) dump.new.rows }
+        ensures sorted { IsSortedByKey (λ row. row.key) (slice_cmp nat_cmp) (rows_of dump.new) }
         ensures room { dump.new.room ≡ dump.old.room }
     {
         dump.clear();

@@ -30,8 +30,8 @@ loop-shard-preserved c =
       bounds = bounds_more first now i d below same inv.rest new (limits_in first) (policy_in first) inv.bounds c.delete_one.ensures.limits c.delete_one.ensures.policy;
       deleted_so_far = states_more first now i d below same inv.rest new (after_delete kind name) inv.deleted_so_far c.delete_one.ensures.state;
       rest = rest_more first now i d below same inv.rest new;
-      keys = subst (λ (ks : List (List ℕ)). Appends ks c.args.keys.now.keys c.delete_one.new.keys.keys) told
-          (Appends-append (flat_map tell (take i first)) (tell (get_or now i d)) c.args.keys.now.keys c.loop-shard.keys.keys c.delete_one.new.keys.keys inv.keys c.delete_one.ensures.keys);
+      keys = subst (λ (ks : List (List ℕ)). Appends ks c.args.keys.now.items c.delete_one.new.keys.items) told
+          (Appends-append (flat_map tell (take i first)) (tell (get_or now i d)) c.args.keys.now.items c.loop-shard.keys.items c.delete_one.new.keys.items inv.keys c.delete_one.ensures.keys);
       few = omega (arith, inv.few, c.delete_one.ensures.few, rows);
       room = c.delete_one.ensures.room ∙ inv.room;
     }

@@ -13,7 +13,7 @@ invariant-loop-shard l = record {
   bounds : GoBy (limits_in l.initial.shard-items) (policy_in l.initial.shard-items) l.shard-items;
   deleted_so_far : (i : ℕ) → i < l.shard-index → state_in l.shard-items i ≡ after_delete (kind_of l.kind) l.name (state_in l.initial.shard-items i);
   rest : drop l.shard-index l.shard-items ≡ drop l.shard-index l.initial.shard-items;
-  keys : Appends (flat_map (λ s. keys_in (deletion_of (kind_of l.kind) l.name (state_of s))) (take l.shard-index l.initial.shard-items)) l.fn.keys.keys l.keys.keys;
-  few : length l.keys.keys ≤ length l.fn.keys.keys + l.shard-index * (limits_in l.initial.shard-items).rows;
+  keys : Appends (flat_map (λ s. keys_in (deletion_of (kind_of l.kind) l.name (state_of s))) (take l.shard-index l.initial.shard-items)) l.fn.keys.items l.keys.items;
+  few : length l.keys.items ≤ length l.fn.keys.items + l.shard-index * (limits_in l.initial.shard-items).rows;
   room : l.keys.room ≡ l.fn.keys.room;
 }

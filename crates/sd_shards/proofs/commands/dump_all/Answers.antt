@@ -3,6 +3,7 @@ use Rattle.std.specs.Prelude.{flat_map}
 use Rattle.sd_model_shard.specs.Shard.{Limits}
 use Rattle.sd_model_shard.specs.Commands.{DumpRow, dump_of}
 use Rattle.sd_key.specs.Kind.{kind_of}
+use Rattle.sd_shard.specs.Dump.{rows_of}
 use Rattle.sd_shard.specs.Shard.{Standing, state_of, Appends}
 use Rattle.sd_shards.specs.Standings.{limits_in, policy_in}
 use Rattle.sd_shards.proofs.StandingLemmas.{bounds_at, flat_map-more}
@@ -22,8 +23,8 @@ loop-shard-preserved c =
     let rows : d.table.limits.rows ≡ (limits_in shards).rows = ap (λ (s : Standing). s.table.limits.rows) c.shard-item.is ∙ ap (λ (l : Limits). l.rows) mine.0 in
     let told : flat_map tell (take i shards) ++ tell d ≡ flat_map tell (take (i + 1) shards) = ap (λ (s : Standing). flat_map tell (take i shards) ++ tell s) c.shard-item.is ∙ flat_map-more tell shards i d below in
     record {
-      rows = subst (λ (rs : List DumpRow). Appends rs c.args.dump.now.rows c.dump_one.new.dump.rows) told
-          (Appends-append (flat_map tell (take i shards)) (tell d) c.args.dump.now.rows c.loop-shard.dump.rows c.dump_one.new.dump.rows inv.rows c.dump_one.ensures.rows);
+      rows = subst (λ (rs : List DumpRow). Appends rs (rows_of c.args.dump.now) (rows_of c.dump_one.new.dump)) told
+          (Appends-append (flat_map tell (take i shards)) (tell d) (rows_of c.args.dump.now) (rows_of c.loop-shard.dump) (rows_of c.dump_one.new.dump) inv.rows c.dump_one.ensures.rows);
       few = omega (arith, inv.few, c.dump_one.ensures.few, rows);
       room = c.dump_one.ensures.room ∙ inv.room;
     }

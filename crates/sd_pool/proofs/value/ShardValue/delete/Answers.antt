@@ -20,7 +20,7 @@ pub returns-clause-step : goal.returns-clause-step
 returns-clause-step c =
     let v = c.self.inside in
     let new : Behind = record { shard = c.delete.new.self; number = v.number; shards = v.shards; receivers = v.receivers } in
-    subst (λ (b : Behind). Steps b new c.args.who.0 (Delete (kind_of c.args.kind) c.args.pattern.now) (gone_of c.args.out.now.keys c.delete.new.out.keys c.delete.result)) c.self.view_is
+    subst (λ (b : Behind). Steps b new c.args.who.0 (Delete (kind_of c.args.kind) c.args.pattern.now) (gone_of c.args.out.now.items c.delete.new.out.items c.delete.result)) c.self.view_is
     (record {
       setup = λ i. record { limits = c.delete.ensures.limits i; policy = c.delete.ensures.policy i; shard = v.number; shards = v.shards; receivers = v.receivers };
       state = c.delete.ensures.state c.args.who.0;

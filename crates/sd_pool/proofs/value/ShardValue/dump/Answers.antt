@@ -1,6 +1,7 @@
 use Rattle.std.proofs.Common.{refl, subst}
 use Rattle.sd_model_shard.specs.Shard.{Dump}
 use Rattle.sd_key.specs.Kind.{kind_of}
+use Rattle.sd_shard.specs.Dump.{rows_of}
 use Rattle.sd_pool.specs.Behind.{Behind, setup_of, Steps}
 use Rattle.sd_pool.specs.BehindInside.{behind_in}
 use Rattle.sd_pool.specs.Asks.{shown_of, RowsGoOn}
@@ -10,7 +11,7 @@ use Rattle.sd_pool.proofs.value.ShardValue.dump.Goals as goal
 pub returns-clause-step : goal.returns-clause-step
 returns-clause-step c =
     let v = c.self.inside in
-    subst (λ (b : Behind). Steps b b c.args.who.0 (Dump (kind_of c.args.kind)) (shown_of c.args.out.now.rows c.dump.new.out.rows)) c.self.view_is
+    subst (λ (b : Behind). Steps b b c.args.who.0 (Dump (kind_of c.args.kind)) (shown_of (rows_of c.args.out.now) (rows_of c.dump.new.out))) c.self.view_is
     (record {
       setup = refl;
       state = c.dump.ensures.state c.args.who.0;

@@ -43,5 +43,5 @@ returns-clause-keys c =
     let name = c.args.name.now in
     let home : AtHome (length old) (state_in old) = subst (λ xs. AtHome (length xs) (state_in xs)) (sym c.deref_mut.ensures.value) c.self.invariant.home in
     let told = flat_map (λ (s : Standing). keys_in (deletion_of kind name (state_of s))) old in
-    keys_sorted old home kind name c.delete_all.new.keys.keys c.sort.new.self.keys (subst (λ (ks : List (List _)). Appends told ks c.delete_all.new.keys.keys) c.clear.ensures.keys c.delete_all.ensures.keys) c.sort.ensures.permutation c.sort.ensures.sorted
+    keys_sorted old home kind name c.delete_all.new.keys.items c.sort.new.self.items (subst (λ (ks : List (List _)). Appends told ks c.delete_all.new.keys.items) c.clear.ensures.items c.delete_all.ensures.keys) c.sort.ensures.permutation c.sort.ensures.sorted
     ∙ ap keys_told (sym (map-group c.args.self.now old (ap (λ (g : Group). g.states) (sym c.self.view_is) ∙ ap (map state_of) (sym c.deref_mut.ensures.value)) (λ (s : State). deletion_of kind name s)))

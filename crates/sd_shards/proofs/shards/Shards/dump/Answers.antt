@@ -5,6 +5,7 @@ use Rattle.sd_model_shard.specs.Commands.{DumpRow, dump_of}
 use Rattle.sd_model_record.specs.Replies.{rows_told}
 use Rattle.sd_model_shards.specs.Shards.{AtHome}
 use Rattle.sd_key.specs.Kind.{kind_of}
+use Rattle.sd_shard.specs.Dump.{dump_row_of, rows_of}
 use Rattle.sd_shard.specs.Shard.{Standing, state_of, Appends}
 use Rattle.sd_shards.specs.Shards.{Group}
 use Rattle.sd_shards.specs.Standings.{state_in}
@@ -18,5 +19,5 @@ returns-clause-rows c =
     let kind = kind_of c.args.kind in
     let home : AtHome (length old) (state_in old) = subst (λ xs. AtHome (length xs) (state_in xs)) (sym c.deref.ensures.value) c.self.invariant.home in
     let told = flat_map (λ (s : Standing). dump_of kind (state_of s).live (state_of s).held) old in
-    rows_sorted old home kind c.dump_all.new.dump.rows c.sort.new.self.rows (subst (λ (rs : List DumpRow). Appends told rs c.dump_all.new.dump.rows) c.clear.ensures.rows c.dump_all.ensures.rows) c.sort.ensures.permutation c.sort.ensures.sorted
+    rows_sorted old home kind (rows_of c.dump_all.new.dump) (rows_of c.sort.new.self) (subst (λ (rs : List DumpRow). Appends told rs (rows_of c.dump_all.new.dump)) (ap (map dump_row_of) c.clear.ensures.items) c.dump_all.ensures.rows) c.sort.ensures.permutation c.sort.ensures.sorted
     ∙ ap rows_told (sym (map-group c.args.self.now old (ap (λ (g : Group). g.states) (sym c.self.view_is) ∙ ap (map state_of) (sym c.deref.ensures.value)) (λ (s : State). Dumped (dump_of kind s.live s.held))))
