@@ -46,7 +46,7 @@ loop-name-preserved g c =
     let text = replies_text (names_replied answers so_far) in
     let here : state_at c.loop-name.shards ≡ (λ k. deleted kind (state_at first k) so_far) = λ t k. stands.1 k t in
     let count : length so_far ≡ i = omega (arith, length-take i names, found_below names i name found) in
-    let told : text ++ reply_text (Gone name c.delete.new.keys.keys) ≡ replies_text (names_replied answers (take (i + 1) names)) =
+    let told : text ++ reply_text (Gone name c.delete.new.keys.items) ≡ replies_text (names_replied answers (take (i + 1) names)) =
     ap (λ keys. text ++ reply_text (Gone name keys)) (
     c.delete.ensures.keys ∙ ap (λ n. keys_told (map (λ k. deletion_of kind name (state_at c.loop-name.shards k)) (range_with_len 0 n))) stands.3.count
     ∙ ap (λ (states : ℕ → State). keys_told (map (λ k. deletion_of kind name (states k)) (range_with_len 0 (length first.states)))) here
