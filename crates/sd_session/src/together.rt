@@ -5,6 +5,7 @@ ghost use Rattle.std.specs.List.Sorted.{IsSorted, IsSortedByKey};
 ghost use Rattle.std.specs.Ordering.{nat_cmp};
 ghost use Rattle.sd_model_serve.specs.Receiving.{administrator};
 ghost use Rattle.sd_key.specs.Kind.{kind_of};
+ghost use Rattle.sd_shard.specs.Dump.{rows_of};
 ghost use Rattle.sd_pool.specs.Pool.{IsSeatOf, limits_of, own_at, shards_of, who_is};
 ghost use Rattle.sd_session.specs.Asking.{Deletes, Dumps};
 
@@ -25,8 +26,8 @@ pub(crate) fn delete_all<R: Wait>(
     requires seat { IsSeatOf pool.now seat.old × (who_is seat.old ≡ administrator) }
     requires room { shards_of pool.now * (limits_of pool.now).rows ≤ keys.old.room }
     ensures seat { IsSeatOf pool.now seat.new × (who_is seat.new ≡ administrator) }
-    ensures deletes { Deletes (shards_of pool.now) (kind_of kind) name.now (own_at seat.old) (own_at seat.new) keys.new.keys }
-    ensures sorted { IsSorted (slice_cmp nat_cmp) keys.new.keys }
+    ensures deletes { Deletes (shards_of pool.now) (kind_of kind) name.now (own_at seat.old) (own_at seat.new) keys.new.items }
+    ensures sorted { IsSorted (slice_cmp nat_cmp) keys.new.items }
     ensures room { keys.new.room ≡ keys.old.room }
 {
     keys.clear();
@@ -41,8 +42,8 @@ pub(crate) fn dump_all<R: Wait>(rt: &R, pool: &Pool, seat: &mut Seat, kind: Kind
     requires seat { IsSeatOf pool.now seat.old × (who_is seat.old ≡ administrator) }
     requires room { shards_of pool.now * (limits_of pool.now).rows ≤ dump.old.room }
     ensures seat { IsSeatOf pool.now seat.new × (who_is seat.new ≡ administrator) }
-    ensures dumps { Dumps (shards_of pool.now) (kind_of kind) (own_at seat.old) (own_at seat.new) dump.new.rows }
-    ensures sorted { IsSortedByKey (λ row. row.key) (slice_cmp nat_cmp) dump.new.rows }
+    ensures dumps { Dumps (shards_of pool.now) (kind_of kind) (own_at seat.old) (own_at seat.new) (rows_of dump.new) }
+    ensures sorted { IsSortedByKey (λ row. row.key) (slice_cmp nat_cmp) (rows_of dump.new) }
     ensures room { dump.new.room ≡ dump.old.room }
 {
     dump.clear();

@@ -3,6 +3,7 @@ use Rattle.sd_model_record.specs.Admin.{words}
 use Rattle.sd_model_record.specs.Admin as model
 use Rattle.sd_model_record.specs.Replies as replies
 use Rattle.sd_key.specs.Kind.{kind_of}
+use Rattle.sd_shard.specs.Dump.{rows_of}
 use Rattle.sd_desk.specs.Facts.{facts_view}
 use Rattle.sd_admin.specs.Command.{answer_view, fault_view, health_word_view}
 use Rattle.sd_pool.specs.Pool.{own_at, shards_of}
@@ -37,7 +38,7 @@ pub returns-in-Show-clause-carried : goal.returns-in-Show-clause-carried
 returns-in-Show-clause-carried g c =
     let d = c.dump_all.ensures.dumps in
     carries _ _ _ _ _ _ _ _ _ _ (Ok (model.Show (kind_of c.in-Show.kind))) (d.broadcast ∷ []) (sym c.read.ensures ∙ ap answer_view (c.in-Ok.is ∙ ap Ok c.in-Show.is)) d.asked
-    (shown _ (kind_of c.in-Show.kind) d.broadcast c.dump_all.new.dump.rows c.write_reply-in-Show.result _ _ d.event d.told c.write_reply-in-Show.ensures.ok c.write_reply-in-Show.ensures.failed (g.met.O.Sink.number_fits c.args.output.now))
+    (shown _ (kind_of c.in-Show.kind) d.broadcast (rows_of c.dump_all.new.dump) c.write_reply-in-Show.result _ _ d.event d.told c.write_reply-in-Show.ensures.ok c.write_reply-in-Show.ensures.failed (g.met.O.Sink.number_fits c.args.output.now))
 
 pub returns-in-Health-clause-carried : goal.returns-in-Health-clause-carried
 returns-in-Health-clause-carried g c =

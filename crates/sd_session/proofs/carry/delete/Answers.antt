@@ -35,7 +35,7 @@ loop-name-preserved g c =
     let d = c.delete_all.ensures.deletes in
     record {
       seat = c.delete_all.ensures.seat;
-      so_far = SoFar-next (shards_of c.args.pool.now) (kind_of c.args.kind) names c.loop-name.i (own_at c.args.seat.now) (own_at c.loop-name.seat) (own_at c.delete_all.new.seat) _ _ _ c.in-Some.name d.broadcast c.delete_all.new.keys.keys inv.so_far found d.event d.asked d.told c.in_ok-write_reply.ensures.ok;
+      so_far = SoFar-next (shards_of c.args.pool.now) (kind_of c.args.kind) names c.loop-name.i (own_at c.args.seat.now) (own_at c.loop-name.seat) (own_at c.delete_all.new.seat) _ _ _ c.in-Some.name d.broadcast c.delete_all.new.keys.items inv.so_far found d.event d.asked d.told c.in_ok-write_reply.ensures.ok;
       room = c.delete_all.ensures.room ∙ inv.room;
     }
 
@@ -46,7 +46,7 @@ returns-in_err-write_reply-clause-deletes g c =
     let found : slice_get names c.loop-name.i ≡ Some c.in-Some.name = sym c.name.ensures ∙ c.in-Some.is in
     let d = c.delete_all.ensures.deletes in
     let p = err_from_is_err_and c.from_residual.result c.from_residual.ensures.1 in
-    rw p.1 (cut_at (shards_of c.args.pool.now) (kind_of c.args.kind) names c.loop-name.i (own_at c.args.seat.now) (own_at c.loop-name.seat) (own_at c.delete_all.new.seat) _ _ _ c.in-Some.name d.broadcast c.delete_all.new.keys.keys inv.so_far found d.event d.asked d.told _ c.in_err-write_reply.ensures.failed)
+    rw p.1 (cut_at (shards_of c.args.pool.now) (kind_of c.args.kind) names c.loop-name.i (own_at c.args.seat.now) (own_at c.loop-name.seat) (own_at c.delete_all.new.seat) _ _ _ c.in-Some.name d.broadcast c.delete_all.new.keys.items inv.so_far found d.event d.asked d.told _ c.in_err-write_reply.ensures.failed)
 
 pub returns-clause-deletes : goal.returns-clause-deletes
 returns-clause-deletes g c =

@@ -14,7 +14,7 @@ invariant-loop-i g l = record {
   seat : IsSeatOf l.pool l.seat × (who_is l.seat ≡ administrator);
   found : List State;
   asked : Asked (shards_of l.pool) (Delete (kind_of l.kind) l.name) (deletion_of (kind_of l.kind) l.name) l.i found (own_at l.initial.seat) (own_at l.seat);
-  keys : Appends (flat_map (λ s. keys_in (deletion_of (kind_of l.kind) l.name s)) found) [] l.keys.keys;
-  few : length l.keys.keys ≤ l.i * (limits_of l.pool).rows;
+  keys : Appends (flat_map (λ s. keys_in (deletion_of (kind_of l.kind) l.name s)) found) [] l.keys.items;
+  few : length l.keys.items ≤ l.i * (limits_of l.pool).rows;
   room : l.keys.room ≡ l.fn.keys.room;
 }

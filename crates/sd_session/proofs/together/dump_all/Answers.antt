@@ -3,6 +3,7 @@ use Rattle.sd_model_shard.specs.Commands.{dump_of}
 use Rattle.sd_model_shard.specs.Shard as shard
 use Rattle.sd_model_shard.specs.Shard.{State}
 use Rattle.sd_key.specs.Kind.{kind_of}
+use Rattle.sd_shard.specs.Dump.{rows_of}
 use Rattle.sd_shard.specs.Shard.{IsDump}
 use Rattle.sd_pool.specs.Pool.{act_by, own_at, shards_of}
 use Rattle.sd_session.proofs.FoundLemmas.{found_by}
@@ -16,8 +17,8 @@ loop-i-init g c =
       seat = c.requires.seat;
       found = [];
       asked = Asked-none (shards_of c.args.pool.now) (shard.Dump kind) (λ s. shard.Dumped (dump_of kind s.live s.held)) (own_at c.args.seat.now);
-      rows = rw c.clear.ensures.rows Appends-none;
-      few = rw c.clear.ensures.rows (omega arith);
+      rows = rw c.clear.ensures.items Appends-none;
+      few = rw c.clear.ensures.items (omega arith);
       room = c.clear.ensures.room;
     }
 
@@ -37,7 +38,7 @@ loop-i-preserved g c =
       asked =
           Asked-next (shards_of pool) event reply i inv.found (own_at c.args.seat.now) (own_at c.loop-i.seat) (own_at c.dump.new.seat) found.state inv.asked found.home
           (d.1.own ∙ (λ j. own_at c.loop-i.seat i ++ record { who = inv.seat.1 j; event = event; reply = found.replied j } ∷ [])) (λ j other. (d.1.others j other).1);
-      rows = Appends-more (λ s. dump_of kind s.live s.held) inv.found found.state [] c.loop-i.dump.rows c.dump.new.out.rows inv.rows (subst (λ r. IsDump r c.loop-i.dump.rows c.dump.new.out.rows) found.replied d.2);
+      rows = Appends-more (λ s. dump_of kind s.live s.held) inv.found found.state [] (rows_of c.loop-i.dump) (rows_of c.dump.new.out) inv.rows (subst (λ r. IsDump r (rows_of c.loop-i.dump) (rows_of c.dump.new.out)) found.replied d.2);
       few = omega (arith, inv.few, c.dump.ensures.few);
       room = c.dump.ensures.room ∙ inv.room;
     }
@@ -54,5 +55,5 @@ returns-clause-dumps g c =
       broadcast = broadcast_of shards (shard.Dump kind) reply inv.found;
       event = refl;
       asked = asked_all shards (shard.Dump kind) reply (own_at c.args.seat.now) (own_at c.loop-i.seat) inv.found asked;
-      told = rows_are shards kind inv.found asked.home asked.count c.loop-i.dump.rows c.sort.new.self.rows inv.rows c.sort.ensures.permutation c.sort.ensures.sorted;
+      told = rows_are shards kind inv.found asked.home asked.count (rows_of c.loop-i.dump) (rows_of c.sort.new.self) inv.rows c.sort.ensures.permutation c.sort.ensures.sorted;
     }
