@@ -17,15 +17,17 @@ drained seen old new h none = record {
 -- what lies behind what was lent is what the workers left there
 pub returns-clause-graphite : goal.returns-clause-graphite
 returns-clause-graphite g c =
+    let h = c.run_with_pair.ensures.fourth in
     let drain : c.graphite_drain-1.given.0 ≡ c.run_with_pair.new.fourth.drain.now = search rules in
     let back : c.graphite_back-1.given.0 ≡ c.run_with_pair.new.fourth.back.now = search rules in
-    rw (drain, back) (drained g.K.B.Faulty.seen _ _ c.run_with_pair.ensures.fourth c.requires.graphite.1)
+    rw (drain, back) (drained g.K.B.Faulty.seen _ _ h c.requires.graphite.1)
 
 pub returns-clause-console : goal.returns-clause-console
 returns-clause-console g c =
+    let h = c.run_with_pair.ensures.fifth in
     let drain : c.console_drain-1.given.0 ≡ c.run_with_pair.new.fifth.drain.now = search rules in
     let back : c.console_back-1.given.0 ≡ c.run_with_pair.new.fifth.back.now = search rules in
-    rw (drain, back) (drained g.K.B.Faulty.seen _ _ c.run_with_pair.ensures.fifth c.requires.console.1)
+    rw (drain, back) (drained g.K.B.Faulty.seen _ _ h c.requires.console.1)
 
 pub returns-clause-admin_own : goal.returns-clause-admin_own
 returns-clause-admin_own g c =
