@@ -82,7 +82,7 @@ lines_long post room is =
 
 -- and as many once they were run
 pub lines_after : (pool : Pool) (desk : SharedDesk) (run_flushes : ℕ) (streams : Bool) (room : Option LineRoom) (post now : Option LinePost) (ended : Option DoorEnd) (door door_now : Object) → HasLineRoom streams room → line_rooms post ≡ lines_in room →
-  AreLinedBy pool desk run_flushes post now ended door door_now → (length (line_seats now) ≡ line_keepers streams) × (length (line_owns now) ≡ line_keepers streams)
+    AreLinedBy pool desk run_flushes post now ended door door_now → (length (line_seats now) ≡ line_keepers streams) × (length (line_owns now) ≡ line_keepers streams)
 lines_after pool desk run_flushes streams room post now ended door door_now there is ran =
     let before = lines_long post room is in
     let after = line_longs pool desk run_flushes post now ended door door_now ran in

@@ -54,8 +54,7 @@ impl<
     T: Clock + Sync,
     Q: Probe + Send,
     S: Door<Asking: Send, Telling: Send> + Send,
-> Kinds for KindsOf<R, O, B, D, L, E, P, G, T, Q, S>
-{
+> Kinds for KindsOf<R, O, B, D, L, E, P, G, T, Q, S> {
     type R = R;
 
     type O = O;

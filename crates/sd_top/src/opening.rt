@@ -118,7 +118,11 @@ fn open_runs<N: Peer, L: Wire>(
 /// # Errors
 ///
 /// `OpenFault` where one failed, and `OutOfMemory`.
-pub(crate) fn open_peers<N: Peer, K: Kinds>(runs: u16, peers: &[N], world: &mut WorldOf<K>) -> Result<(), Status>
+pub(crate) fn open_peers<N: Peer, K: Kinds>(
+    runs: u16,
+    peers: &[N],
+    world: &mut WorldOf<K>,
+) -> Result<(), Status>
     requires few { runs * length peers.now ≤ 256 }
     requires wires { 256 ≤ length (world.old).wires.items }
     ensures opened { OnOk result (world_of K.R.seen K.O.seen K.B.seen K.D.seen K.L.seen K.E.seen K.P.seen K.Q.seen K.S.seen world.new

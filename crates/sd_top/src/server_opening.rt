@@ -59,7 +59,10 @@ pub(crate) fn open_sources<D: Datagrams>(
 /// # Errors
 ///
 /// `OpenFault` where one failed, and `OutOfMemory`.
-pub(crate) fn open_packets<K: Kinds>(settings: &Settings, world: &mut WorldOf<K>) -> Result<(), Status>
+pub(crate) fn open_packets<K: Kinds>(
+    settings: &Settings,
+    world: &mut WorldOf<K>,
+) -> Result<(), Status>
     requires { 16 ≤ length (world.old).packets.items }
     ensures opened { OnOk result (world_of K.R.seen K.O.seen K.B.seen K.D.seen K.L.seen K.E.seen K.P.seen K.Q.seen K.S.seen world.new
         ≡ opened_all (world_of K.R.seen K.O.seen K.B.seen K.D.seen K.L.seen K.E.seen K.P.seen K.Q.seen K.S.seen world.old) (source_openings settings.now)) }
@@ -120,7 +123,10 @@ fn open_doors<K: Kinds>(settings: &Settings, world: &mut WorldOf<K>) -> Result<(
 /// # Errors
 ///
 /// `OpenFault` where one failed, and `OutOfMemory`.
-pub(crate) fn open_server<K: Kinds>(settings: &Settings, world: &mut WorldOf<K>) -> Result<(), Status>
+pub(crate) fn open_server<K: Kinds>(
+    settings: &Settings,
+    world: &mut WorldOf<K>,
+) -> Result<(), Status>
     requires flags { (world_of K.R.seen K.O.seen K.B.seen K.D.seen K.L.seen K.E.seen K.P.seen K.Q.seen K.S.seen world.old).flags ≡ flags_of settings.now }
     requires packets { 16 ≤ length (world.old).packets.items }
     requires wires { 256 ≤ length (world.old).wires.items }
