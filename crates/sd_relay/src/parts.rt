@@ -76,9 +76,9 @@ pub(crate) fn gather<D: Datagrams + Drop, L: Wire + Drop>(
             ring: room.ring,
             buf: room.buf,
             got: None,
+            pass: take_first(passes),
             packets: take_first(packets),
             wires: take_run(wires, room.wires, nodes.len()),
-            pass: take_first(passes),
         });
     }
 }
