@@ -12,7 +12,7 @@ pub returns-in-Err : goal.returns-in-Err
 returns-in-Err g c = by_settings _ _ _ _ _ c.in-Err.ensures.refused refl
 
 pub carry_out-requires-clause-flags : goal.carry_out-requires-clause-flags
-carry_out-requires-clause-flags g c = λ i. record { graphite = c.names_backend-world.ensures i; console = c.names_backend-world-2.ensures i }
+carry_out-requires-clause-flags g c κs within = λ i. record { graphite = c.names_backend-world.ensures i; console = c.names_backend-world-2.ensures i }
 
 pub returns-in-Ok-carry_out : goal.returns-in-Ok-carry_out
 returns-in-Ok-carry_out g c =

@@ -30,16 +30,16 @@ returns-clause-relayed g c =
     let new = world_of g.K.R.Faulty.seen g.K.O.Faulty.seen g.K.B.Faulty.seen g.K.D.Faulty.seen g.K.L.Faulty.seen g.K.E.Faulty.seen g.K.P.Faulty.seen g.K.Q.Faulty.seen g.K.S.Faulty.seen (record mid { packets = c.relay.new.packets; wires = c.relay.new.wires; beat = c.relay.new.beat; probe = c.relay.new.probe }) in
     let r = c.relay.result in
     record {
-      relayed = subst (λ o. relaying.HasRelayed s.lists.nodes s.sizes.receivers (proxy_begun s old).served.sources new.served.sources (proxy_begun s old).seen.wires new.seen.wires (proxy_begun s old).served.beat new.served.beat o new.probe r) (ap g.K.Q.Faulty.seen e.probe)
+      relayed = subst (λ o. relaying.HasRelayed s.lists.nodes s.sizes.receivers (proxy_begun s old).served.sources new.served.sources (proxy_begun s old).seen.wires new.seen.wires (proxy_begun s old).served.beat new.served.beat o new.probe r) (ap g.K.Q.Faulty.seen e.rest.probe)
           (subst (λ (w : World). relaying.HasRelayed s.lists.nodes s.sizes.receivers w.served.sources new.served.sources w.seen.wires new.seen.wires w.served.beat new.served.beat seen_mid.probe new.probe r) begun_is
           (subst (λ o. relaying.HasRelayed s.lists.nodes s.sizes.receivers seen_mid.served.sources new.served.sources seen_mid.seen.wires new.seen.wires o new.served.beat seen_mid.probe new.probe r) beat
           (subst (λ ns. relaying.HasRelayed ns s.sizes.receivers seen_mid.served.sources new.served.sources seen_mid.seen.wires new.seen.wires (g.K.P.Faulty.seen c.start.new.self) new.served.beat seen_mid.probe new.probe r) c.nodes-nodes.ensures.value
           (subst (λ n. relaying.HasRelayed (map node_view c.nodes-nodes.result.now) n seen_mid.served.sources new.served.sources seen_mid.seen.wires new.seen.wires (g.K.P.Faulty.seen c.start.new.self) new.served.beat seen_mid.probe new.probe r) (c.in-Ok.ensures.places ∙ receivers) c.relay.ensures))));
       others = (λ i. record {
-        settings = g.K.R.Faulty.seen (e.settings i);
+        settings = g.K.R.Faulty.seen (e.rest.settings i);
         seen = record {
-          script = g.K.R.Faulty.seen (e.script i);
-          output = g.K.O.Faulty.seen (e.output i);
+          script = g.K.R.Faulty.seen (e.rest.script i);
+          output = g.K.O.Faulty.seen (e.rest.output i);
           graphite = g.K.B.Faulty.seen (e.backs i).graphite;
           console = g.K.B.Faulty.seen (e.backs i).console;
           wires = map g.K.L.Faulty.seen c.relay.new.wires.items;
