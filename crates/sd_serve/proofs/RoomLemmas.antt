@@ -115,15 +115,15 @@ wires_of_posts run (x ∷ xs) fitted =
     both ∙ omega (arith, rest, len, more)
 
 -- there is room for outlets where there are any
-pub rooms_there : (outlets : Bool) (rooms : Option OutRooms) → HasOutRooms outlets rooms → has_rooms rooms ≡ outlets
-rooms_there false None h = refl
-rooms_there false (Some rooms) h = absurd h
-rooms_there true None h = absurd h
-rooms_there true (Some rooms) h = refl
+pub rooms_there : (outlets : Bool) (n bytes : ℕ) (rooms : Option OutRooms) → HasOutRooms outlets n bytes rooms → has_rooms rooms ≡ outlets
+rooms_there false n bytes None h = refl
+rooms_there false n bytes (Some rooms) h = absurd h
+rooms_there true n bytes None h = absurd h
+rooms_there true n bytes (Some rooms) h = refl
 
 -- and nothing was sent there
-pub rooms_ready : (outlets : Bool) (rooms : Option OutRooms) → HasOutRooms outlets rooms → IfSome rooms (λ r. IsOutRoom r.graphite × IsOutRoom r.console)
-rooms_ready false None h = tt
-rooms_ready false (Some rooms) h = absurd h
-rooms_ready true None h = absurd h
-rooms_ready true (Some rooms) h = h
+pub rooms_ready : (outlets : Bool) (n bytes : ℕ) (rooms : Option OutRooms) → HasOutRooms outlets n bytes rooms → IfSome rooms (λ r. IsOutRoom r.graphite × IsOutRoom r.console)
+rooms_ready false n bytes None h = tt
+rooms_ready false n bytes (Some rooms) h = absurd h
+rooms_ready true n bytes None h = absurd h
+rooms_ready true n bytes (Some rooms) h = (h.0.is_new, h.1.is_new)

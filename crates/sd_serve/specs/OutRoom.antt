@@ -1,9 +1,9 @@
 -- What an outlet's room was opened for, and what is done with its ends.
-use Rattle.std.specs.Prelude.{◌≡◌, Bool, true, false, [], Option, Some, None, ⊤}
+use Rattle.std.specs.Prelude.{◌≡◌, ℕ, Bool, true, false, [], Option, Some, None, ⊤}
 use Rattle.sd_outlet.specs.declared.feed.Feed.{Feed}
 use Rattle.sd_outlet.specs.declared.outlet.Outlet.{Outlet}
 use Rattle.sd_outlet.specs.Drain.{IsDrainOf, got}
-use Rattle.sd_outlet.specs.Feed.{IsFeedOf, IsNew, sends_of, sent, stopped_at}
+use Rattle.sd_outlet.specs.Feed.{IsFeedOf, IsNew, buffers, bytes_of, sends_of, sent, stopped_at}
 use Rattle.sd_flush.specs.declared.outs.Lead.{Lead}
 use Rattle.sd_serve.specs.declared.out_room.OutRoom.{OutRoom}
 use Rattle.sd_serve.specs.declared.out_room.OutRooms.{OutRooms}
@@ -23,12 +23,19 @@ pub record IsOutRoom (room : OutRoom) : Type 0 where
   pub drain_is : IsDrainOf room.outlet room.drain
   pub none_got : got room.drain ≡ []
 
--- Where there are outlets, both are there, and nothing was sent or got; where there are none, there is no room for them.
-abbrev pub HasOutRooms : Bool → Option OutRooms → Type 0
-HasOutRooms false None = ⊤
-HasOutRooms false (Some rooms) = ⊥
-HasOutRooms true None = ⊥
-HasOutRooms true (Some rooms) = IsOutRoom rooms.graphite × IsOutRoom rooms.console
+-- and the outlet has so many buffers of so many bytes each
+pub record IsOutRoomOf (n bytes : ℕ) (room : OutRoom) : Type 0 where
+  pub is_new : IsOutRoom room
+  pub count : buffers room.outlet ≡ n
+  pub size : bytes_of room.outlet ≡ bytes
+
+-- Where there are outlets, both are there, each of so many buffers of so many bytes, and nothing was sent or got; where there are
+-- none, there is no room for them.
+abbrev pub HasOutRooms : Bool → ℕ → ℕ → Option OutRooms → Type 0
+HasOutRooms false n bytes None = ⊤
+HasOutRooms false n bytes (Some rooms) = ⊥
+HasOutRooms true n bytes None = ⊥
+HasOutRooms true n bytes (Some rooms) = IsOutRoomOf n bytes rooms.graphite × IsOutRoomOf n bytes rooms.console
 
 -- whether there are outlets
 abbrev pub has_rooms : Option OutRooms → Bool

@@ -83,7 +83,7 @@ pub record IsRoom {D L : Type 0} (room : ServerRoom D L) : Type 0 where
   pub places : length room.rooms.items ≡ (sizing_in room).receivers
   pub place_each : All (HasPlace (sizing_in room).wires) room.rooms.items
   pub lines : HasLineRoom (sizing_in room).streams room.lines
-  pub outs : HasOutRooms (with_outlets (sizing_in room)) room.outs
+  pub outs : HasOutRooms (with_outlets (sizing_in room)) (sizing_in room).outlets (sizing_in room).outlet_bytes room.outs
   pub no_post : room.posts.items ≡ []
   pub post_room : (sizing_in room).receivers ≤ vec_capacity room.posts
   pub no_end : room.ends.items ≡ []

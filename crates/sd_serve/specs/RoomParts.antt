@@ -14,7 +14,7 @@ pub record AreBenchesFor (sizing : Sizing) (b : Benches) : Type 0 where
   pub tables : AreTablesFor sizing.limits sizing.shards b.tables
   pub space : IsSpaceFor sizing.limits sizing.shards b.space
   pub lines : HasLineRoom sizing.streams b.lines
-  pub outs : HasOutRooms (with_outlets sizing) b.outs
+  pub outs : HasOutRooms (with_outlets sizing) sizing.outlets sizing.outlet_bytes b.outs
 
 -- the room of each receiver, and room for their posts and ends, of which there is none yet
 pub record ArePostingsFor {D L : Type 0} (sizing : Sizing) (p : Postings D L) : Type 0 where

@@ -13,9 +13,8 @@ pub struct OutRoom {
 }
 
 impl OutRoom {
-    ghost use Rattle.std.specs.Prelude.{◌≡◌, ◌<◌, IfOk};
-    ghost use Rattle.sd_outlet.specs.Feed.{buffers, bytes_of};
-    ghost use Rattle.sd_serve.specs.OutRoom.{IsOutRoom, outlet_in};
+    ghost use Rattle.std.specs.Prelude.{◌<◌, IfOk};
+    ghost use Rattle.sd_serve.specs.OutRoom.{IsOutRoomOf};
 
     /// Takes the room of an outlet of `n` buffers of so many bytes.
     ///
@@ -24,8 +23,7 @@ impl OutRoom {
     /// Where no memory is left for it.
     pub fn open(alloc: Global, n: u32, bytes: u32) -> Result<OutRoom, AllocError>
         requires some { (0 < n) × (0 < bytes) }
-        ensures room { IfOk result IsOutRoom }
-        ensures sizes { IfOk result (λ room. (buffers (outlet_in room) ≡ n) × (bytes_of (outlet_in room) ≡ bytes)) }
+        ensures { IfOk result (IsOutRoomOf n bytes) }
     {
         let (outlet, feed, drain) = Outlet::open(alloc, n, bytes)?;
         Ok(OutRoom {
@@ -54,7 +52,7 @@ pub(crate) fn open_outlets(
     bytes: u32,
 ) -> Result<Option<OutRooms>, AllocError>
     requires { 0 < bytes }
-    ensures { IfOk result (HasOutRooms (nat_lt 0 n)) }
+    ensures { IfOk result (HasOutRooms (nat_lt 0 n) n bytes) }
 {
     if n == 0 {
         return Ok(None);

@@ -105,7 +105,7 @@ run_all-counts-requires-clause-line_post g c κs within =
     line_ready room.pool room.desk (sizing_in room).streams room.lines line.result c.requires.room.lines line.ensures.room seats owns
 
 pub run_all-counts-requires-clause-outs : goal.run_all-counts-requires-clause-outs
-run_all-counts-requires-clause-outs g c κs within = rooms_ready (with_outlets (sizing_in c.args.room)) c.args.room.outs c.requires.room.outs
+run_all-counts-requires-clause-outs g c κs within = rooms_ready (with_outlets (sizing_in c.args.room)) (sizing_in c.args.room).outlets (sizing_in c.args.room).outlet_bytes c.args.room.outs c.requires.room.outs
 
 pub run_all-counts-requires-clause-seat : goal.run_all-counts-requires-clause-seat
 run_all-counts-requires-clause-seat g c κs within =
@@ -276,7 +276,7 @@ returns-clause-served g c =
     ∙ ap (λ (l : List ℕ). l ++ map who_is (line_seats ran.new.line_post)) (ran_callers g.K.D.Faulty.seen g.K.L.Faulty.seen room.pool room.desk c.args.run_flushes xs ys all ∙ ap (λ l. map who_is (map seat_in l)) value)
     ∙ ap (λ (l : List ℕ). map who_is (map seat_in c.gather.new.posts.items) ++ l) (line_callers room.pool room.desk c.args.run_flushes line.result ran.new.line_post ran.result.0.liner streams_before streams_behind ran.ensures.lines)
     ∙ sym (map-append who_is (map seat_in c.gather.new.posts.items) (line_seats line.result)) ∙ sym (ap (map who_is) all_seats) ∙ is.callers ∙ ap (span 0) (sym front_long) in
-    let outlets : has_rooms room.outs ≡ with_outlets (sizing_in room) = rooms_there (with_outlets (sizing_in room)) room.outs is.outs in
+    let outlets : has_rooms room.outs ≡ with_outlets (sizing_in room) = rooms_there (with_outlets (sizing_in room)) (sizing_in room).outlets (sizing_in room).outlet_bytes room.outs is.outs in
     let flags : uses ran.new.backs ≡ uses c.args.backs.now = (λ i. uses_by (ran.ensures.graphite_flag i) (ran.ensures.console_flag i)) in
     let told : Told g.K.D.Faulty.seen g.K.L.Faulty.seen room.pool room.desk c.args.plan.now c.args.names.now (uses c.args.backs.now) c.args.settings.now n c.from.result (sizing_in room).streams (with_outlets (sizing_in room)) c.args.run_flushes (g.K.T.Clock.may_say c.args.clock.now) = record {
       xs = xs;
