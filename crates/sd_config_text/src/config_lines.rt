@@ -188,7 +188,7 @@ fn rule_line(settings: &Settings, place: usize) -> Option<ReplyLine>
     }
 }
 
-/// The line of outlets or of the port of streams, at a place.
+/// The line of outlets, of the port of streams or of the receivers' room, at a place.
 fn transport_line(settings: &Settings, place: usize) -> Option<ReplyLine>
     ensures { option_map (λ l. l.items) result ≡ slice_get (transport_lines settings.now.transport) place }
 {
@@ -196,6 +196,7 @@ fn transport_line(settings: &Settings, place: usize) -> Option<ReplyLine>
         0 => Some(setting_line("outlets", settings.outlets())),
         1 => Some(setting_line("outletBytes", settings.outlet_bytes())),
         2 => Some(setting_line("tcp_port", settings.tcp_port())),
+        3 => Some(setting_line("receiveBuffer", settings.receive_buffer())),
         _ => None,
     }
 }
