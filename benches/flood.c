@@ -1,9 +1,9 @@
 // Sends datagrams to a port of this machine for some seconds, and prints how many it sent.
 //
-//     flood PORT one|mixed RATE SECONDS
+//     flood PORT one|mixed RATE SECONDS [SOCKETS]
 //
 // `one` is datagrams of one counter's line, `mixed` of 40 lines of all kinds; both over 1,000 names. RATE is in datagrams a
-// second; 0 is as many as can be.
+// second; 0 is as many as can be. They are sent over so many sockets in turn, 1 where that isn't said.
 #define _GNU_SOURCE
 #include <arpa/inet.h>
 #include <errno.h>
@@ -13,7 +13,7 @@
 #include <sys/socket.h>
 #include <time.h>
 
-enum { NAMES = 1000, LINES = 40, BATCH = 16 };
+enum { NAMES = 1000, LINES = 40, BATCH = 16, MOST_SOCKETS = 64 };
 
 static char text[NAMES][LINES * 48];
 static size_t length[NAMES];
@@ -39,8 +39,9 @@ static int line(char *to, int i) {
 }
 
 int main(int argc, char **argv) {
-    if (argc != 5) {
-        fprintf(stderr, "usage: flood PORT one|mixed RATE SECONDS\n");
+    int sockets = argc == 6 ? atoi(argv[5]) : 1;
+    if (argc < 5 || argc > 6 || sockets < 1 || sockets > MOST_SOCKETS) {
+        fprintf(stderr, "usage: flood PORT one|mixed RATE SECONDS [SOCKETS]\n");
         return 2;
     }
     int lines = strcmp(argv[2], "one") ? LINES : 1;
@@ -50,9 +51,12 @@ int main(int argc, char **argv) {
             length[i] += lines == 1 ? sprintf(text[i], "web.host%d.requests:1|c\n", i) : line(text[i] + length[i], i * 37 + j * 101);
 
     struct sockaddr_in to = {.sin_family = AF_INET, .sin_port = htons(atoi(argv[1])), .sin_addr.s_addr = htonl(INADDR_LOOPBACK)};
-    int s = socket(AF_INET, SOCK_DGRAM, 0);
-    if (s < 0 || connect(s, (struct sockaddr *)&to, sizeof to) < 0)
-        return perror("flood"), 1;
+    int s[MOST_SOCKETS];
+    for (int i = 0; i < sockets; i++) {
+        s[i] = socket(AF_INET, SOCK_DGRAM, 0);
+        if (s[i] < 0 || connect(s[i], (struct sockaddr *)&to, sizeof to) < 0)
+            return perror("flood"), 1;
+    }
     struct iovec part[BATCH];
     struct mmsghdr batch[BATCH];
     memset(batch, 0, sizeof batch);
@@ -62,7 +66,7 @@ int main(int argc, char **argv) {
     }
     unsigned long long sent = 0;
     double start = now(), at = start;
-    for (unsigned next = 0; at - start < seconds; at = now()) {
+    for (unsigned next = 0, turn = 0; at - start < seconds; at = now()) {
         if (rate > 0 && sent >= (at - start) * rate) {
             struct timespec nap = {0, 50000};
             nanosleep(&nap, NULL);
@@ -70,7 +74,7 @@ int main(int argc, char **argv) {
         }
         for (int i = 0; i < BATCH; i++, next = (next + 1) % NAMES)
             part[i] = (struct iovec){text[next], length[next]};
-        int n = sendmmsg(s, batch, BATCH, 0);
+        int n = sendmmsg(s[turn++ % sockets], batch, BATCH, 0);
         if (n < 0 && errno != ECONNREFUSED && errno != ENOBUFS)
             return perror("flood"), 1;
         sent += n < 0 ? 0 : n;
