@@ -11,7 +11,7 @@ use std::alloc::Global;
 use std::sync::Wait;
 
 // The most bytes of a datagram.
-const LONGEST_DATAGRAM: usize = 65_507;
+const LONGEST_DATAGRAM: usize = 65_527;
 
 // The last digit of a number.
 fn last_digit(number: u16) -> u8 {

@@ -9,7 +9,7 @@ use sd_outside::{
 use std::alloc::Global;
 
 /// How many bytes a datagram has at most.
-const MOST_BYTES: usize = 65507;
+const MOST_BYTES: usize = 65527;
 
 /// The texts that a word writes, joined by commas. `none` are no texts.
 pub(crate) fn texts_of(alloc: Global, word: &str) -> Result<Vec<Vec<u8>>, Refusal> {

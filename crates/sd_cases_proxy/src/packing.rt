@@ -6,7 +6,7 @@ use sd_outside::{MemBeat, MemDatagrams, MemProbe, MemSink, MemWire};
 use std::alloc::Global;
 
 /// How many bytes a datagram has at most.
-pub const MOST_BYTES: usize = 65507;
+pub const MOST_BYTES: usize = 65527;
 
 /// For how many bytes and packets each wire has room, and for how many bytes the output, if no step says otherwise.
 const BYTES: usize = 1 << 12;

@@ -81,7 +81,7 @@ impl Datagrams for Arrivals {
         let len = match self.step() {
             None => return Next::End,
             Some(Step::Packet(bytes)) => {
-                let len = bytes.len().min(65507);
+                let len = bytes.len().min(65527);
                 buf[..len].copy_from_slice(&bytes[..len]);
                 Some(len)
             }

@@ -41,7 +41,7 @@ fn post_of<L: Wire + Drop>(
         wires,
         seat,
         own,
-        buf: vec![in alloc; 0; 65507]?,
+        buf: vec![in alloc; 0; 65527]?,
         got: None,
     })
 }

@@ -23,7 +23,7 @@ const PUBLISHED: u8 = 5;
 const MOST_TURNS: u64 = 100_000_000;
 
 /// How many bytes a datagram has at most.
-const MOST_DATAGRAM: usize = 65_507;
+const MOST_DATAGRAM: usize = 65_527;
 
 /// How many sources a run has.
 const SOURCES: usize = 16;

@@ -14,7 +14,7 @@ use std::num::NonZeroUsize;
 const SOURCES: usize = 16;
 
 /// How many bytes a datagram has at most.
-const MOST_DATAGRAM: usize = 65_507;
+const MOST_DATAGRAM: usize = 65_527;
 
 /// For how many bytes of replies each session has room.
 const ROOM: usize = 1 << 16;

@@ -7,7 +7,7 @@ use sd_outside::{MemDatagrams, MemWire};
 use std::alloc::Global;
 
 // How many bytes a datagram has at most.
-const MOST_BYTES: usize = 65507;
+const MOST_BYTES: usize = 65527;
 
 // For how many bytes and packets each wire has room.
 const BYTES: usize = 1 << 16;

@@ -52,7 +52,7 @@ none_filed adds shards caller datagram added = record {
 }
 
 -- there is none left
-pub all_filed : (adds : (ℕ → History) → Type 0) (shards caller : ℕ) (datagram : List ℕ) (left : List (List ℕ)) (filed : Filed) → length datagram ≤ 65507 → left ≡ [] → Files adds shards caller datagram left filed → FilesDatagram adds shards caller datagram filed
+pub all_filed : (adds : (ℕ → History) → Type 0) (shards caller : ℕ) (datagram : List ℕ) (left : List (List ℕ)) (filed : Filed) → length datagram ≤ 65527 → left ≡ [] → Files adds shards caller datagram left filed → FilesDatagram adds shards caller datagram filed
 all_filed adds shards caller datagram left filed few none h =
     let n : length left ≡ 0 = ap length none in
     let b : bads left ≡ 0 = ap bads none in

@@ -31,4 +31,4 @@ pub record FilesDatagram (adds : (ℕ → History) → Type 0) (shards caller : 
   pub dropped : filed.dropped ≡ told_in dropped_in shards acts
   pub taken : filed.taken ≡ told_in taken_in shards acts
   pub whole : filed.taken + filed.dropped + filed.bad ≡ filed.lines
-  pub small : filed.lines ≤ 65508
+  pub small : filed.lines ≤ 65528

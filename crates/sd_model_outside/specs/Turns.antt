@@ -2,9 +2,9 @@
 use Rattle.std.specs.Prelude.{◌≡◌, ℕ, ◌<◌, ◌≤◌, true, false, List, [], ◌∷◌, ◌++◌, Option, Some, None, ⊤}
 use Rattle.sd_model_outside.specs.Outside.{Told, Bytes, Buffer, Datagrams, Ticks, Sessions, Session, Object, Rose, left_in, raised, telling}
 
--- how many bytes a datagram has at most (RFC 768 over RFC 791)
+-- how many bytes a datagram has at most (RFC 768 over RFC 8200)
 abbrev pub most_datagram : ℕ
-most_datagram = 65507
+most_datagram = 65527
 
 -- an object that took one turn more
 abbrev pub turned : Object → Object

@@ -1,25 +1,24 @@
 -- Cutters, step by step.
 use Rattle.std.proofs.Common.{◌≡◌, ℕ, suc, ◌+◌, ◌<◌, ◌≤◌, Bool, true, false, cond, eqb, nat_le, List, [], ◌∷◌, ◌++◌, length, refl, sym, ap, subst, ◌∙◌, arith, append-nil, append_assoc, length-append}
 use Rattle.std.proofs.lemmas.Bool.{leb-false, le-leb, lt-leb, or_parts}
-use Rattle.sd_model_outside.specs.Turns.{most_datagram}
 use Rattle.sd_model_text.specs.Lines.{has_byte}
-use Rattle.sd_model_stream.specs.Streams.{Cut, Line, Long, cut_of, rest_of, stream_lines, Cutting, CutsOn, HasCut, longer, nothing_cut, ready_in, through_newline}
+use Rattle.sd_model_stream.specs.Streams.{Cut, Line, Long, cut_of, rest_of, stream_lines, Cutting, CutsOn, HasCut, longer, nothing_cut, ready_in, through_newline, most_line}
 use Rattle.sd_model_stream.proofs.SplitLemmas.{lines-grown, lines-ended, rest-grown, rest-ended}
 
 -- few bytes are a line
-pub cut_of-few : (bytes : List ℕ) → length bytes ≤ most_datagram → cut_of bytes ≡ Line bytes
-cut_of-few bytes few = ap (λ b. cond b (Line bytes) Long) (le-leb (length bytes) most_datagram few)
+pub cut_of-few : (bytes : List ℕ) → length bytes ≤ most_line → cut_of bytes ≡ Line bytes
+cut_of-few bytes few = ap (λ b. cond b (Line bytes) Long) (le-leb (length bytes) most_line few)
 
 -- many are too long
-pub cut_of-many : (bytes : List ℕ) → most_datagram < length bytes → cut_of bytes ≡ Long
-cut_of-many bytes many = ap (λ b. cond b (Line bytes) Long) (lt-leb (length bytes) most_datagram many)
+pub cut_of-many : (bytes : List ℕ) → most_line < length bytes → cut_of bytes ≡ Long
+cut_of-many bytes many = ap (λ b. cond b (Line bytes) Long) (lt-leb (length bytes) most_line many)
 
 -- bytes behind a line that was cut so
 longer-cut : (begun bytes : List ℕ) → longer (cut_of begun) bytes ≡ cut_of (begun ++ bytes)
-longer-cut begun bytes = by_test (nat_le (length begun) most_datagram) refl where
-  by_test : (b : Bool) → nat_le (length begun) most_datagram ≡ b → longer (cond b (Line begun) Long) bytes ≡ cut_of (begun ++ bytes)
+longer-cut begun bytes = by_test (nat_le (length begun) most_line) refl where
+  by_test : (b : Bool) → nat_le (length begun) most_line ≡ b → longer (cond b (Line begun) Long) bytes ≡ cut_of (begun ++ bytes)
   by_test true is = refl
-  by_test false is = sym (cut_of-many (begun ++ bytes) (omega (arith, leb-false (length begun) most_datagram is, length-append begun bytes)))
+  by_test false is = sym (cut_of-many (begun ++ bytes) (omega (arith, leb-false (length begun) most_line is, length-append begun bytes)))
 
 -- a cutter that has none ready
 none_ready : (c : Cutting) → c.is_ready ≡ false → ready_in c ≡ []
@@ -84,7 +83,7 @@ CutsOn-finish c is = record {
 }
 
 -- a whole line came where none was begun, and was given at once
-pub CutsOn-whole : (line : List ℕ) → length line ≤ most_datagram → has_byte 10 line ≡ false → CutsOn (Line line ∷ []) (line ++ 10 ∷ []) nothing_cut nothing_cut
+pub CutsOn-whole : (line : List ℕ) → length line ≤ most_line → has_byte 10 line ≡ false → CutsOn (Line line ∷ []) (line ++ 10 ∷ []) nothing_cut nothing_cut
 CutsOn-whole line few none =
     let ready : Cutting = record { line = longer (Line []) line; is_ready = true } in
     subst (λ (l : Cut). CutsOn (l ∷ []) (line ++ 10 ∷ []) nothing_cut nothing_cut) (cut_of-few line few)

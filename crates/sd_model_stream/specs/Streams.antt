@@ -11,16 +11,19 @@ use Rattle.sd_model_serve.specs.Ends.{LoopEnd, most_turns}
 use Rattle.sd_model_serve.specs.Receiving.{HasFiled}
 use Rattle.sd_model_text.specs.Lists.{split}
 use Rattle.sd_model_text.specs.Lines.{Sample, samples_of, pieces, bad_of}
-use Rattle.sd_model_outside.specs.Turns.{most_datagram}
 
--- A line of a stream, without its newline: its bytes, or that it has more of them than a datagram may.
+-- how many bytes a line of a stream has at most: as many as a datagram over IPv4 (RFC 768 over RFC 791)
+abbrev pub most_line : ℕ
+most_line = 65507
+
+-- A line of a stream, without its newline: its bytes, or that it has more of them than it may.
 pub data Cut : Type 0 where
   Line : (bytes : List ℕ) → Cut
   Long : Cut
 
 -- bytes without a newline, as a line
 abbrev pub cut_of : List ℕ → Cut
-cut_of part = if nat_le (length part) most_datagram then Line part else Long
+cut_of part = if nat_le (length part) most_line then Line part else Long
 
 -- a list without its last element
 abbrev pub but_last : {A : Type 0} → List A → List A

@@ -12,7 +12,7 @@ pub struct DatagramsLeft {
     taken: usize,
     turns: u64,
     ghost taken_within: { taken ≤ vec_len packets },
-    ghost fit: { All (λ packet. vec_len packet ≤ 65507) packets.items },
+    ghost fit: { All (λ packet. vec_len packet ≤ 65527) packets.items },
 }
 
 impl Content for DatagramsLeft {
@@ -21,7 +21,7 @@ impl Content for DatagramsLeft {
     ghost bare = { bare };
 }
 
-/// A source of datagrams in memory, which are given when it is made. Each has at most 65,507 bytes.
+/// A source of datagrams in memory, which are given when it is made. Each has at most 65,527 bytes.
 pub type MemDatagrams = MemObject<DatagramsLeft>;
 
 impl MemDatagrams {

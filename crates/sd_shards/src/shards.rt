@@ -84,7 +84,7 @@ impl Shards {
 
     /// Files the good samples of a datagram of a caller, in order, each in the shard of its key.
     pub fn file(&mut self, who: Who, datagram: &[u8]) -> Filed
-        requires { length datagram.now ≤ 65507 }
+        requires { length datagram.now ≤ 65527 }
         ensures states { (moment i : ℕ) → i < length self.old.states
             → state_at self.new i ≡ states_after (group_bounds self.old) (state_at self.old) (Packet who.0 moment datagram.now) i }
         ensures dropped { (moment : ℕ) → result.dropped
@@ -92,7 +92,7 @@ impl Shards {
         ensures lines { result.lines ≡ length (pieces datagram.now) }
         ensures bad { result.bad ≡ bad_of datagram.now }
         ensures few { result.dropped + result.bad ≤ result.lines }
-        ensures small { result.lines ≤ 65508 }
+        ensures small { result.lines ≤ 65528 }
         ensures alike { AreAlike self.old self.new }
         ensures swapped { self.new.swapped ≡ self.old.swapped }
     {

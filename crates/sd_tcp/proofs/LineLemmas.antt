@@ -5,7 +5,7 @@ use Rattle.std.proofs.lemmas.Bool.{or_right}
 use Rattle.std.proofs.lemmas.List.{get_or_at, length-take-le, take_min, take_more}
 use Rattle.std.proofs.lemmas.List.Elements.{All-weaker}
 use Rattle.std.proofs.lemmas.List.Folds.{list_any-append, list_any_none}
-use Rattle.sd_model_outside.specs.Turns.{most_datagram}
+use Rattle.sd_model_stream.specs.Streams.{most_line}
 use Rattle.sd_model_text.specs.Lines.{has_byte}
 
 -- bytes of which none is a newline
@@ -24,10 +24,10 @@ front_ended bytes n rest within cut =
     ∙ ap (λ (b : ℕ). take n bytes ++ b ∷ []) (ap (λ (bs : List ℕ). get_or bs n 0) cut ∙ get_or_at (take n bytes) 10 rest 0 n (length-take-le n bytes (omega (arith, within))))
 
 -- the front of bytes that may be a line with its newline
-pub front_of : (bytes : List ℕ) (n : ℕ) → n ≡ min (length bytes) (most_datagram + 1) → take n bytes ≡ take (most_datagram + 1) bytes
+pub front_of : (bytes : List ℕ) (n : ℕ) → n ≡ min (length bytes) (most_line + 1) → take n bytes ≡ take (most_line + 1) bytes
 front_of bytes n is =
-    let other : n ≡ min (most_datagram + 1) (length bytes) = omega (arith, is) in
-    ap (λ (k : ℕ). take k bytes) other ∙ take_min (most_datagram + 1) bytes
+    let other : n ≡ min (most_line + 1) (length bytes) = omega (arith, is) in
+    ap (λ (k : ℕ). take k bytes) other ∙ take_min (most_line + 1) bytes
 
 -- two facts about what an option has
 pub both_of : {A : Type 0} (o : Option A) (P Q R : A → Type 0) → ((x : A) → P x → Q x → R x) → IfSome o P → IfSome o Q → IfSome o R

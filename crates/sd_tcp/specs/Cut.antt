@@ -1,6 +1,6 @@
 -- Lines of the code.
 use Rattle.std.specs.Prelude.{◌≤◌, length, ⊤}
-use Rattle.sd_model_outside.specs.Turns.{most_datagram}
+use Rattle.sd_model_stream.specs.Streams.{most_line}
 use Rattle.sd_model_stream.specs.Streams as model
 use Rattle.sd_tcp.specs.declared.cut.Cut.{Cut}
 use Rattle.sd_tcp.specs.declared.cut.Cut.TheVariants.{Line, Long}
@@ -12,5 +12,5 @@ cut_view Long = model.Long
 
 -- it has at most as many bytes as a datagram, unless it is said to be too long
 abbrev pub IsShort : Cut → Type 0
-IsShort (Line bytes) = length bytes.now ≤ most_datagram
+IsShort (Line bytes) = length bytes.now ≤ most_line
 IsShort Long = ⊤

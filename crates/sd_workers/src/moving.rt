@@ -5,7 +5,7 @@ ghost use Rattle.std.specs.Prelude.{◌≡◌, ◌+◌, ◌<◌, ◌≤◌, [], 
 use std::alloc::{AllocError, Global};
 
 // The most bytes of a datagram.
-const LONGEST_DATAGRAM: usize = 65_507;
+const LONGEST_DATAGRAM: usize = 65_527;
 
 /// Room for the longest datagram.
 ///
@@ -13,7 +13,7 @@ const LONGEST_DATAGRAM: usize = 65_507;
 ///
 /// Where no memory is left for it.
 pub fn datagram_room(alloc: Global) -> Result<Vec<u8>, AllocError>
-    ensures { IfOk result (λ v. vec_len v ≡ 65507) }
+    ensures { IfOk result (λ v. vec_len v ≡ 65527) }
 {
     Ok(vec![in alloc; 0; LONGEST_DATAGRAM]?)
 }
