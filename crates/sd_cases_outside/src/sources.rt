@@ -14,10 +14,19 @@ fn name_of(alloc: Global, word: &str) -> Result<Name, Refusal> {
     Ok(name)
 }
 
-/// The address that a word writes as `file:NAME` or `host:NAME:PORT`, where it does.
+/// The address that a word writes as `file:NAME`, `host:NAME:PORT` or `datagrams:NAME:PORT:ROOM`, where it does.
 pub(crate) fn address_of(alloc: Global, word: &str) -> Result<Address, Refusal> {
     if let Some(name) = word.strip_prefix("file:") {
         return Ok(Address::File(name_of(alloc, name)?));
+    }
+    if let Some(datagrams) = word.strip_prefix("datagrams:") {
+        let (name, numbers) = datagrams.split_once(':').ok_or(Refusal::Malformed)?;
+        let (port, room) = numbers.split_once(':').ok_or(Refusal::Malformed)?;
+        return Ok(Address::Datagrams {
+            host: name_of(alloc, name)?,
+            port: number(port)?,
+            receive_buffer: number(room)?,
+        });
     }
     let host = word.strip_prefix("host:").ok_or(Refusal::Malformed)?;
     let (name, port) = host.split_once(':').ok_or(Refusal::Malformed)?;
@@ -39,6 +48,18 @@ pub(crate) fn show_address(at: Option<&Address>, out: &mut Answer) {
             out.text("host:");
             out.bytes(host.as_slice());
             out.count(":", u64::from(*port));
+        }
+        Some(
+            Address::Datagrams {
+                host,
+                port,
+                receive_buffer,
+            },
+        ) => {
+            out.text("datagrams:");
+            out.bytes(host.as_slice());
+            out.count(":", u64::from(*port));
+            out.count(":", u64::from(*receive_buffer));
         }
     }
 }

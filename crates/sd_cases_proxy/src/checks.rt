@@ -97,5 +97,14 @@ fn show_address(at: &Address, out: &mut Answer) {
             out.bytes(host);
             out.count(":", u64::from(*port));
         }
+        Address::Datagrams {
+            host,
+            port,
+            receive_buffer,
+        } => {
+            out.bytes(host);
+            out.count(":", u64::from(*port));
+            out.count(" room ", u64::from(*receive_buffer));
+        }
     }
 }

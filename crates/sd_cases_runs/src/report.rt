@@ -156,5 +156,17 @@ fn show_address(at: Option<&Address>, out: &mut Answer) {
             out.bytes(host.as_slice());
             out.count(" ", u64::from(*port));
         }
+        Some(
+            Address::Datagrams {
+                host,
+                port,
+                receive_buffer,
+            },
+        ) => {
+            out.text("datagrams ");
+            out.bytes(host.as_slice());
+            out.count(" ", u64::from(*port));
+            out.count(" room ", u64::from(*receive_buffer));
+        }
     }
 }

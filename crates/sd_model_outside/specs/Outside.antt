@@ -2,10 +2,12 @@
 -- they were opened, and what else they always tell.
 use Rattle.std.specs.Prelude.{◌≡◌, ℕ, ◌+◌, ◌-◌, ◌^◌, ◌<◌, ◌≤◌, min, take, Bool, true, false, List, [], ◌∷◌, ◌++◌, length, Option, Some, None, IfSome, ⊤}
 
--- Where an object is opened: at a file by its name, or at a host and a port.
+-- Where an object is opened: at a file by its name; at a host and a port; or where datagrams come: a host, a port, and
+-- how many bytes of room are asked for.
 pub data Place : Type 0 where
   File : (name : List ℕ) → Place
   Host : (host : List ℕ) (port : ℕ) → Place
+  Datagrams : (host : List ℕ) (port receive_buffer : ℕ) → Place
 
 -- where a count that has no more room stops
 abbrev pub last_count : ℕ

@@ -9,7 +9,17 @@ pub enum Address {
     /// A file by its name. The empty name is standard output.
     File(Name),
     /// A host and a port.
-    Host { host: Name, port: u16 },
+    Host {
+        host: Name,
+        port: u16,
+    },
+    /// Where datagrams come: a host, a port, and how many bytes of room for those that wait are asked of the system. 0 asks
+    /// for none.
+    Datagrams {
+        host: Name,
+        port: u16,
+        receive_buffer: u32,
+    },
 }
 
 impl Address {
