@@ -1,3 +1,6 @@
+ghost use Rattle.std.specs.Prelude.{◌≡◌, ◌+◌, ◌↔◌, IfOk, OnOk, OnErr, IsNone, IsTrue};
+ghost use Rattle.sd_socket.specs.Handed.{HasNoDatagrams, HasNoListener, HasNone, socket_count};
+
 use crate::call::duplicate;
 use crate::offered::{Offered, offered_by};
 use std::alloc::{AllocError, Global};
@@ -36,7 +39,9 @@ pub struct HandedOver {
 
 impl HandedOver {
     /// No socket.
-    pub fn none(alloc: Global) -> HandedOver {
+    pub fn none(alloc: Global) -> HandedOver
+        ensures { socket_count result ≡ 0 }
+    {
         HandedOver {
             offers: Vec::new(alloc),
             has_others: false,
@@ -92,7 +97,9 @@ impl HandedOver {
     /// # Errors
     ///
     /// `AddrInUse` where all that are there were taken, and those of the system.
-    pub fn take_datagrams(&self, at: SocketAddr) -> io::Result<Option<UdpSocket>> {
+    pub fn take_datagrams(&self, at: SocketAddr) -> io::Result<Option<UdpSocket>>
+        ensures { IfOk result (λ taken. IsNone taken ↔ HasNoDatagrams at self.now) }
+    {
         let Some(fd) = self.take(Offered::Datagrams(at))? else {
             return Ok(None);
         };
@@ -106,8 +113,17 @@ impl HandedOver {
     /// # Errors
     ///
     /// `AddrInUse` where all that are there were taken, and those of the system.
-    pub fn take_listener(&self, at: SocketAddr) -> io::Result<Option<TcpListener>> {
+    pub fn take_listener(&self, at: SocketAddr) -> io::Result<Option<TcpListener>>
+        ensures { IfOk result (λ taken. IsNone taken ↔ HasNoListener at self.now) }
+    {
         Ok(self.take(Offered::Connections(at))?.map(TcpListener::from))
+    }
+
+    /// Whether no socket was handed over.
+    pub fn is_empty(&self) -> bool
+        ensures { IsTrue result ↔ (socket_count self.now ≡ 0) }
+    {
+        self.offers.is_empty()
     }
 
     /// Whether something was handed over that wasn't taken, or that is no socket of these kinds.
@@ -119,21 +135,18 @@ impl HandedOver {
                 .any(|offer| !offer.is_taken.load(Ordering::SeqCst))
     }
 
-    fn take(&self, wanted: Offered) -> io::Result<Option<OwnedFd>> {
-        let mut is_there = false;
+    fn take(&self, wanted: Offered) -> io::Result<Option<OwnedFd>>
+        ensures { IfOk result (λ taken. IsNone taken ↔ HasNone wanted self.now) }
+    {
+        if !self.offers.iter().any(|offer| offer.offered.fits(wanted)) {
+            return Ok(None);
+        }
         for offer in &self.offers {
-            if offer.offered.fits(wanted) {
-                is_there = true;
-                if !offer.is_taken.swap(true, Ordering::SeqCst) {
-                    return Ok(Some(offer.fd.try_clone()?));
-                }
+            if offer.offered.fits(wanted) && !offer.is_taken.swap(true, Ordering::SeqCst) {
+                return Ok(Some(offer.fd.try_clone()?));
             }
         }
-        if is_there {
-            Err(io::Error::from(ErrorKind::AddrInUse))
-        } else {
-            Ok(None)
-        }
+        Err(io::Error::from(ErrorKind::AddrInUse))
     }
 }
 

@@ -12,6 +12,6 @@ mod handed_over;
 mod offered;
 mod options;
 
-pub use datagrams::{bind_beside, bind_first};
+pub use datagrams::SharedAddress;
 pub use handed_over::HandedOver;
 pub use options::{ask_receive_buffer, receive_buffer};

@@ -1,5 +1,6 @@
 ghost use Rattle.std.specs.Prelude.{◌↔◌, IsTrue};
 ghost use Rattle.sd_socket.specs.Meeting.{Meets};
+ghost use Rattle.sd_socket.specs.Handed.{Fits};
 
 use std::io::ErrorKind;
 use std::net::{SocketAddr, UdpSocket};
@@ -23,7 +24,9 @@ fn meets(at: SocketAddr, wanted: SocketAddr) -> bool
 
 impl Offered {
     /// Whether it is one of those that are asked for.
-    pub(crate) fn fits(self, wanted: Offered) -> bool {
+    pub(crate) fn fits(self, wanted: Offered) -> bool
+        ensures { IsTrue result ↔ Fits self wanted }
+    {
         match (self, wanted) {
             (Offered::Datagrams(at), Offered::Datagrams(wanted)) => meets(at, wanted),
             (Offered::Connections(at), Offered::Connections(wanted)) => meets(at, wanted),
