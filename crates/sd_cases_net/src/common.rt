@@ -1,7 +1,9 @@
 ghost use Rattle.std.specs.Prelude.{◌≡◌, IfOk, vec_len};
 
 use sd_case::Answer;
+use sd_net::Sockets;
 use sd_outside::{Address, Name, OpenRefusal};
+use sd_socket::HandedOver;
 use std::alloc::{AllocError, Global};
 use std::io::{self, ErrorKind};
 use std::net::SocketAddr;
@@ -17,6 +19,27 @@ pub(crate) fn host_at(host: &[u8], port: u16) -> Address {
 /// This machine, at a port; at 0 the system picks one.
 pub(crate) fn here(port: u16) -> Address {
     host_at(b"127.0.0.1", port)
+}
+
+/// Where datagrams come to this machine, at a port; at 0 the system picks one.
+pub(crate) fn datagrams_here(port: u16) -> Address {
+    datagrams_at(b"127.0.0.1", port, 0)
+}
+
+/// Where datagrams come, at a host of at most 255 bytes, with a receive buffer of so many bytes.
+pub(crate) fn datagrams_at(host: &[u8], port: u16, receive_buffer: u32) -> Address {
+    let mut name = Name::new();
+    let _ = name.try_extend_from_slice(host);
+    Address::Datagrams {
+        host: name,
+        port,
+        receive_buffer,
+    }
+}
+
+/// Sockets of which none was handed over.
+pub(crate) fn no_sockets(alloc: Global) -> Sockets {
+    Sockets::new(HandedOver::none(alloc))
 }
 
 /// This machine as sockets of the case's own take it.

@@ -1,7 +1,7 @@
 ghost use Rattle.std.specs.Prelude.{◌≡◌, ◌≤◌, false, length};
 
 use crate::clients::{client_of, show_next};
-use crate::common::{here, room, step, stuck};
+use crate::common::{here, no_sockets, room, step, stuck};
 use sd_case::Answer;
 use sd_net::{DoorSizes, LongLines, Stop, TcpDoor};
 use sd_outside::{Address, Door, Entry, Faulty, Name, OpenRefusal, Opens, read_full, write_all};
@@ -124,7 +124,8 @@ pub(crate) fn rest<'a>(
 pub(crate) fn run(rt: &HostRuntime, out: &mut Answer) -> io::Result<()> {
     let mut buf = room(rt.alloc(), 2 * ROOM)?;
     let stop = Stop::new(None);
-    let mut door = TcpDoor::new(rt, rt.alloc(), &stop, SIZES);
+    let sockets = no_sockets(rt.alloc());
+    let mut door = TcpDoor::new(rt, rt.alloc(), &sockets, &stop, SIZES);
     out.text("\ndoors");
     step(out, "one that isn't open");
     rest(&mut door, buf.as_mut_slice(), YES, out);

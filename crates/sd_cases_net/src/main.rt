@@ -6,6 +6,7 @@ mod beats;
 mod clients;
 mod common;
 mod doors;
+mod handed;
 mod links;
 mod probes;
 mod receivers;
@@ -18,6 +19,7 @@ use std::io;
 fn main(rt: HostRuntime) -> io::Result<()> {
     let mut out = Answer::new(rt.alloc());
     receivers::run(&rt, &mut out)?;
+    handed::run(&rt, &mut out)?;
     beats::run(&rt, &rt, &mut out)?;
     links::run(&rt, &mut out)?;
     probes::run(&rt, &rt, &mut out)?;

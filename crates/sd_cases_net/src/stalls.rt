@@ -1,7 +1,7 @@
 ghost use Rattle.std.specs.Prelude.{◌≡◌, false};
 
 use crate::clients::client_of;
-use crate::common::{here, room, socket_here, step, stuck};
+use crate::common::{here, no_sockets, room, socket_here, step, stuck};
 use crate::doors::SIZES;
 use sd_case::Answer;
 use sd_net::{GraphiteLink, Stop, TcpDoor};
@@ -63,7 +63,8 @@ fn flood<'a>(door: &mut TcpDoor<'a, HostRuntime>, piece: &[u8]) -> Option<bool>
 fn door_gives_up(rt: &HostRuntime) -> io::Result<bool> {
     let piece = room(rt.alloc(), PIECE)?;
     let stop = Stop::new(None);
-    let mut door = TcpDoor::new(rt, rt.alloc(), &stop, SIZES);
+    let sockets = no_sockets(rt.alloc());
+    let mut door = TcpDoor::new(rt, rt.alloc(), &sockets, &stop, SIZES);
     if door.open_at(&here(0)).is_err() {
         return Err(stuck());
     }

@@ -1,7 +1,7 @@
 ghost use Rattle.std.specs.Prelude.{◌≡◌, ◌≤◌, false, length, IfSome};
 
 use crate::clients::client_of;
-use crate::common::{here, room, step, stuck};
+use crate::common::{here, no_sockets, room, step, stuck};
 use crate::doors::{open, rest, serve};
 use sd_case::Answer;
 use sd_net::{DoorSizes, LongLines, Stop, TcpDoor};
@@ -169,7 +169,8 @@ fn stopped<'a>(
 /// Clients of a door of streams.
 pub(crate) fn run(rt: &HostRuntime, out: &mut Answer) -> io::Result<()> {
     let stop = Stop::new(None);
-    let mut door = TcpDoor::new(rt, rt.alloc(), &stop, SIZES);
+    let sockets = no_sockets(rt.alloc());
+    let mut door = TcpDoor::new(rt, rt.alloc(), &sockets, &stop, SIZES);
     let mut buf = room(rt.alloc(), PIECE)?;
     out.text("\nstreams");
     step(out, "this machine");

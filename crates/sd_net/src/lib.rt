@@ -3,7 +3,8 @@
 //!
 //! `statsd` hands them to `sd_top`. Each counts its faults and turns as its trait asks; that the bytes are the right ones no
 //! clause says. Receivers, beat and doors look at one `Stop`, and each wait for a connection, a write or a reply has a limit. A
-//! door takes the room of its clients where it is opened. They know no samples and no settings.
+//! door takes the room of its clients where it is opened. Receivers and doors have their sockets by `Sockets`: each receiver
+//! one of its own, all at one address. They know no samples and no settings.
 #![tactic(auto)]
 
 mod clients;
@@ -16,6 +17,7 @@ mod look;
 mod place;
 mod session_sink;
 mod session_source;
+mod sockets;
 mod stop;
 mod system_clock;
 mod tcp_door;
@@ -29,6 +31,7 @@ pub use door_sizes::{DoorSizes, LongLines};
 pub use graphite_link::GraphiteLink;
 pub use session_sink::SessionSink;
 pub use session_source::SessionSource;
+pub use sockets::Sockets;
 pub use stop::Stop;
 pub use system_clock::SystemClock;
 pub use tcp_door::TcpDoor;

@@ -1,7 +1,7 @@
 ghost use Rattle.std.specs.Prelude.{◌≡◌, ◌≤◌};
 ghost use Rattle.sd_model_outside.specs.Outside.{raised};
 
-use sd_outside::{Address, OpenRefusal, opening_fault};
+use sd_outside::{Address, Name, OpenRefusal, opening_fault};
 use std::io::{Error, ErrorKind};
 use std::str;
 
@@ -10,8 +10,25 @@ pub(crate) fn host_of(at: &Address) -> Option<(&str, u16)> {
     let Address::Host { host, port } = at else {
         return None;
     };
+    named(host, *port)
+}
+
+/// The host and the port where datagrams come, and how large a receive buffer is asked for, likewise.
+pub(crate) fn datagrams_of(at: &Address) -> Option<((&str, u16), u32)> {
+    let Address::Datagrams {
+        host,
+        port,
+        receive_buffer,
+    } = at
+    else {
+        return None;
+    };
+    Some((named(host, *port)?, *receive_buffer))
+}
+
+fn named(host: &Name, port: u16) -> Option<(&str, u16)> {
     match str::from_utf8(host.as_slice()) {
-        Ok(host) => Some((host, *port)),
+        Ok(host) => Some((host, port)),
         Err(_) => None,
     }
 }

@@ -5,11 +5,11 @@ use crate::look::Look;
 use crate::place::{host_of, refusal};
 use crate::session_sink::SessionSink;
 use crate::session_source::SessionSource;
+use crate::sockets::Sockets;
 use crate::stop::Stop;
 use crate::turns::take_turn;
 use sd_outside::{Address, Door, Entry, Faulty, OpenRefusal, Opens, fault, opening_fault};
 use std::alloc::Global;
-use std::io;
 use std::net::{Net, TcpListener, TcpStream};
 use std::thread::sleep;
 use std::time::{Clock, Duration};
@@ -20,7 +20,7 @@ const NAP_MS: u64 = 20;
 /// How long a door looks on once it has seen that it is to stop, where something new comes at each look, in seconds.
 const DRAIN: u64 = 1;
 
-/// A door over TCP, which holds all open connections and gives as a session what one of them has sent up to and with its last
+/// A door over TCP, at a socket of its own or at one that was handed over, which holds all open connections and gives as a session what one of them has sent up to and with its last
 /// newline. What becomes of a line that is too long, its sizes say. What a client has sent behind its last newline is lost
 /// where it leaves. A session that was read to its end leaves its connection open, any other closes it. A client that says
 /// nothing for an hour is let go. Once `stop` is set, the door looks on until a look brought nothing new, or for a second,
@@ -29,6 +29,7 @@ const DRAIN: u64 = 1;
 pub struct TcpDoor<'a, R> {
     host: &'a R,
     alloc: Global,
+    sockets: &'a Sockets,
     stop: &'a Stop,
     sizes: DoorSizes,
     listener: Option<TcpListener>,
@@ -46,12 +47,19 @@ impl<'a, R> TcpDoor<'a, R> {
     ghost use Rattle.sd_model_outside.specs.Outside.{Untold, fresh};
 
     /// A door that is opened later, and takes its room then. It is to stop once `stop` is set.
-    pub fn new(host: &'a R, alloc: Global, stop: &'a Stop, sizes: DoorSizes) -> TcpDoor<'a, R>
+    pub fn new(
+        host: &'a R,
+        alloc: Global,
+        sockets: &'a Sockets,
+        stop: &'a Stop,
+        sizes: DoorSizes,
+    ) -> TcpDoor<'a, R>
         ensures { ⟦<TcpDoor<'a, R> as Faulty>⟧.seen result ≡ fresh Untold }
     {
         TcpDoor {
             host,
             alloc,
+            sockets,
             stop,
             sizes,
             listener: None,
@@ -79,16 +87,6 @@ impl<'a, R> TcpDoor<'a, R> {
             Err(_) => None,
         }
     }
-}
-
-/// A listener that doesn't wait.
-fn listener_at<R: Net<Listener = TcpListener, Stream = TcpStream>>(
-    host: &R,
-    place: (&str, u16),
-) -> io::Result<TcpListener> {
-    let listener = TcpListener::bind(host, place)?;
-    listener.set_nonblocking(true)?;
-    Ok(listener)
 }
 
 /// Takes the connections that wait, and reads what all clients have sent.
@@ -131,7 +129,7 @@ impl<'a, R: Net<Listener = TcpListener, Stream = TcpStream> + Clock> Opens for T
         let Ok(clients) = Clients::open(self.alloc, self.sizes) else {
             return Err(OpenRefusal::OutOfMemory);
         };
-        match listener_at(self.host, place) {
+        match self.sockets.listener_at(self.host, place) {
             Ok(listener) => {
                 self.listener = Some(listener);
                 self.clients = clients;

@@ -1,14 +1,15 @@
 ghost use Rattle.std.specs.Prelude.{◌≤◌, length, IfOk};
 
 use crate::draining::has_drained;
-use crate::place::{host_of, refusal};
+use crate::place::{datagrams_of, refusal};
+use crate::sockets::Sockets;
 use crate::stop::Stop;
 use crate::turns::take_turn;
 use sd_outside::{Address, Datagrams, Faulty, Next, OpenRefusal, Opens, fault, opening_fault};
+use sd_socket::receive_buffer;
 use std::fs::Files;
 use std::io::{self, ErrorKind};
 use std::net::{Net, UdpSocket};
-use std::sync::OnceLock;
 use std::time::{Clock, Duration};
 
 /// How long a receiver waits for a datagram before it says that none came for now, in milliseconds.
@@ -21,16 +22,20 @@ const DRAIN: u64 = 2;
 const TURNS_TO_LOOK: u64 = 64;
 
 /// How many bytes a datagram has at most.
-const MOST_DATAGRAM: usize = 65_507;
+const MOST_DATAGRAM: usize = 65_527;
 
-/// A receiver of the datagrams that come to a UDP socket. Receivers share one: the first that is opened binds it, and the
-/// others take a clone. It looks for the stop file where none came within its time limit, and at each 64th turn. Once it is to
-/// stop, it goes on until none came within that limit, or for two seconds. Where its socket fails it sets `stop`, so that a
-/// server doesn't go on without it.
+/// A receiver of the datagrams that come to a UDP socket of its own. Several receivers have their sockets at one address, and the
+/// system gives what one client's socket sends to one of them, in order. It looks for the stop file where none came within its
+/// time limit, and at each 64th turn. Once it is to stop, it goes on until none came within that limit, or for two seconds.
+/// Where its socket fails it sets `stop`, so that a server doesn't go on without it.
+///
+/// All parts of a program are opened before a receiver is first asked. Where a socket that was handed over is still nobody's by
+/// then, because there are fewer receivers or the settings have another port, what comes to it would wait unread. So the
+/// receiver fails, and sets `stop`.
 #[derive(Drop)]
 pub struct UdpReceiver<'a, R> {
     host: &'a R,
-    shared: &'a OnceLock<UdpSocket>,
+    sockets: &'a Sockets,
     stop: &'a Stop,
     socket: Option<UdpSocket>,
     saw_stop: Option<Duration>,
@@ -43,13 +48,13 @@ impl<'a, R> UdpReceiver<'a, R> {
     ghost use Rattle.std.specs.Prelude.{◌≡◌};
     ghost use Rattle.sd_model_outside.specs.Outside.{Untold, fresh};
 
-    /// A receiver that is opened later. It is to stop once `stop` is set.
-    pub fn new(host: &'a R, shared: &'a OnceLock<UdpSocket>, stop: &'a Stop) -> UdpReceiver<'a, R>
+    /// A receiver that is opened later, beside the others that share these sockets. It is to stop once `stop` is set.
+    pub fn new(host: &'a R, sockets: &'a Sockets, stop: &'a Stop) -> UdpReceiver<'a, R>
         ensures { ⟦<UdpReceiver<'a, R> as Faulty>⟧.seen result ≡ fresh Untold }
     {
         UdpReceiver {
             host,
-            shared,
+            sockets,
             stop,
             socket: None,
             saw_stop: None,
@@ -65,21 +70,27 @@ impl<'a, R> UdpReceiver<'a, R> {
     {
         self.faults
     }
+
+    /// The port that its socket is bound at, where it is open.
+    pub fn port(&self) -> Option<u16> {
+        match self.socket.as_ref()?.local_addr() {
+            Ok(addr) => Some(addr.port()),
+            Err(_) => None,
+        }
+    }
+
+    /// How many bytes its socket's receive buffer has by the system's count, where it is open.
+    pub fn receive_buffer(&self) -> Option<u32> {
+        receive_buffer(self.socket.as_ref()?).ok()
+    }
 }
 
 impl<'a, R: Net + Clock + Files> UdpReceiver<'a, R> {
-    /// The shared socket, which is bound to the place where it isn't yet.
-    fn socket_at(&self, place: (&str, u16)) -> io::Result<UdpSocket> {
-        if let Some(first) = self.shared.get() {
-            return first.try_clone();
-        }
-        let first = UdpSocket::bind(self.host, place)?;
-        first.set_read_timeout(Some(Duration::from_millis(WAIT_MS)))?;
-        let socket = first.try_clone()?;
-        match self.shared.try_set(first) {
-            Ok(_) => Ok(socket),
-            Err(_) => Err(io::Error::from(ErrorKind::AddrInUse)),
-        }
+    /// Its socket, whose calls wait for a limited time.
+    fn socket_at(&self, place: (&str, u16), receive_buffer: u32) -> io::Result<UdpSocket> {
+        let socket = self.sockets.datagrams_at(self.host, place, receive_buffer)?;
+        socket.set_read_timeout(Some(Duration::from_millis(WAIT_MS)))?;
+        Ok(socket)
     }
 }
 
@@ -111,10 +122,10 @@ impl<'a, R> Faulty for UdpReceiver<'a, R> {
 
 impl<'a, R: Net + Clock + Files> Opens for UdpReceiver<'a, R> {
     fn open_at(&mut self, at: &Address) -> Result<(), OpenRefusal> {
-        let Some(place) = host_of(at) else {
+        let Some((place, receive_buffer)) = datagrams_of(at) else {
             return Err(opening_fault(&mut self.faults));
         };
-        match self.socket_at(place) {
+        match self.socket_at(place, receive_buffer) {
             Ok(socket) => {
                 self.socket = Some(socket);
                 self.opened_at = Some(at.copied());
@@ -134,6 +145,11 @@ impl<'a, R: Net + Clock + Files> Datagrams for UdpReceiver<'a, R> {
         }
         if has_drained(self.host, self.stop, &mut self.saw_stop, DRAIN) {
             return Next::End;
+        }
+        if self.turns == 0 && self.sockets.has_untaken() {
+            self.stop.set();
+            fault(&mut self.faults);
+            return Next::Failed;
         }
         let Some(socket) = &self.socket else {
             fault(&mut self.faults);

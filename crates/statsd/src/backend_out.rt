@@ -27,6 +27,7 @@ fn destination_at<'a>(rt: &'a HostRuntime, at: &Address) -> Result<Destination<'
             link.open_at(at)?;
             Ok(Destination::Graphite(link))
         }
+        Address::Datagrams { .. } => Err(OpenRefusal::Failed),
     }
 }
 

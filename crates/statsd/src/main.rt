@@ -19,16 +19,18 @@ mod udp_wire;
 use backend_out::BackendOut;
 use file_source::FileSource;
 use sd_decimal::Line;
-use sd_net::{DoorSizes, LongLines, Stop, SystemClock, TcpDoor, TcpProbe, TickBeat, UdpReceiver};
+use sd_net::{
+    DoorSizes, LongLines, Sockets, Stop, SystemClock, TcpDoor, TcpProbe, TickBeat, UdpReceiver,
+};
 use sd_outside::{Backs, NoGate};
+use sd_socket::HandedOver;
 use sd_top::{Status, World, explain, statsd};
 use standard_out::StandardOut;
 use std::alloc::{AllocError, Global};
 use std::env::{self, VarError};
 use std::io::{ErrorKind, Write};
-use std::net::UdpSocket;
-use std::process::ExitCode;
-use std::sync::{OnceLock, Wait};
+use std::process::{self, ExitCode};
+use std::sync::Wait;
 use std::thread::Threads;
 use udp_wire::UdpWire;
 
@@ -94,7 +96,7 @@ const STOP_FILE: &str = "STATSD_STOP";
 /// What the objects of a server or a proxy share.
 #[derive(Drop)]
 struct Shared {
-    socket: OnceLock<UdpSocket>,
+    sockets: Sockets,
     stop: Stop,
 }
 
@@ -109,8 +111,9 @@ impl Shared {
             Err(VarError::NotUnicode) => return Err(Status::Usage),
             Err(VarError::OutOfMemory) => return Err(Status::OutOfMemory),
         };
+        let handed = HandedOver::of_process(rt, rt.alloc(), process::id(rt.process()));
         Ok(Shared {
-            socket: OnceLock::new(),
+            sockets: Sockets::new(handed.map_err(no_memory)?),
             stop: Stop::new(stop_file),
         })
     }
@@ -129,7 +132,7 @@ fn receivers<'a>(
 {
     let mut receivers = Vec::with_capacity(rt.alloc(), RECEIVERS)?;
     for _ in 0..RECEIVERS {
-        receivers.push(UdpReceiver::new(rt, &shared.socket, &shared.stop))?;
+        receivers.push(UdpReceiver::new(rt, &shared.sockets, &shared.stop))?;
     }
     Ok(receivers)
 }
@@ -178,12 +181,12 @@ fn run<'a>(
         },
         packets,
         wires,
-        door: TcpDoor::new(rt, alloc, &shared.stop, ADMIN_SIZES),
+        door: TcpDoor::new(rt, alloc, &shared.sockets, &shared.stop, ADMIN_SIZES),
         beat: TickBeat::new(rt, &shared.stop),
         gate: NoGate,
         clock: SystemClock::new(rt),
         probe: TcpProbe::new(rt),
-        streams: TcpDoor::new(rt, alloc, &shared.stop, STREAM_SIZES),
+        streams: TcpDoor::new(rt, alloc, &shared.sockets, &shared.stop, STREAM_SIZES),
     };
     statsd(threads, alloc, behind_name(words.as_slice()), &mut world)
 }

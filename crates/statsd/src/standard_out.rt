@@ -19,7 +19,7 @@ fn is_standard(at: &Address) -> bool
 {
     match at {
         Address::File(name) => name.is_empty(),
-        Address::Host { .. } => false,
+        Address::Host { .. } | Address::Datagrams { .. } => false,
     }
 }
 
