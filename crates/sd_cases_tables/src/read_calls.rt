@@ -5,7 +5,7 @@ use sd_outside::Name;
 use sd_plan::{Classes, Names, Node, Target};
 
 /// The read calls in the order of the settings.
-pub(crate) const CALLS: [&str; 37] = [
+pub(crate) const CALLS: [&str; 38] = [
     "port",
     "mgmt_port",
     "flush_interval",

@@ -17,7 +17,7 @@ use sd_plan::{Classes, Node, Target};
 // how many lines stand before those of entries, and behind them
 const FRONT_LINES: usize = 22;
 
-const BACK_LINES: usize = 12;
+const BACK_LINES: usize = 13;
 
 /// The line of a name and a value.
 pub fn line_of(name: &[u8], value: &[u8]) -> ReplyLine
@@ -326,7 +326,7 @@ fn node_at(nodes: &[Node], place: usize) -> Option<ReplyLine>
 /// How many lines the reply to `config` has.
 pub fn config_line_count(settings: &Settings) -> usize
     ensures len { result ≡ length (config_lines settings.now) }
-    ensures short { result ≤ 130 }
+    ensures short { result ≤ 131 }
 {
     let entries = settings.histogram().len() + settings.repeater().len() + settings.nodes().len();
     FRONT_LINES + entries + BACK_LINES
