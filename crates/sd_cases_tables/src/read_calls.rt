@@ -5,7 +5,7 @@ use sd_outside::Name;
 use sd_plan::{Classes, Names, Node, Target};
 
 /// The read calls in the order of the settings.
-pub(crate) const CALLS: [&str; 37] = [
+pub(crate) const CALLS: [&str; 38] = [
     "port",
     "mgmt_port",
     "flush_interval",
@@ -43,6 +43,7 @@ pub(crate) const CALLS: [&str; 37] = [
     "outlets",
     "outlet_bytes",
     "tcp_port",
+    "receive_buffer",
 ];
 
 /// Appends what a read call answers.
@@ -77,6 +78,7 @@ fn number_of(settings: &Settings, call: &str) -> Option<u32> {
         "outlets" => Some(settings.outlets()),
         "outlet_bytes" => Some(settings.outlet_bytes()),
         "tcp_port" => Some(settings.tcp_port()),
+        "receive_buffer" => Some(settings.receive_buffer()),
         _ => None,
     }
 }

@@ -60,4 +60,5 @@ flush_rules_view s =
     record { gauges_max_ttl = s.gauges_max_ttl; calculated_timer_metrics = name_bytes s.calculated_timer_metrics.items }
 
 abbrev pub transport_view : Transport → model.Transport
-transport_view s = record { outlets = s.outlets; outlet_bytes = s.outlet_bytes; tcp_port = s.tcp_port }
+transport_view s =
+    record { outlets = s.outlets; outlet_bytes = s.outlet_bytes; tcp_port = s.tcp_port; receive_buffer = s.receive_buffer }

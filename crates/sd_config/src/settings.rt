@@ -196,6 +196,13 @@ impl Settings {
         self.transport.tcp_port
     }
 
+    /// How many bytes of room for the datagrams that wait for it each receiver asks the system for; 0 asks for none.
+    pub fn receive_buffer(&self) -> u32
+        ensures { IsSetting (λ n. n ≤ 1073741824) self.now.transport.receive_buffer result }
+    {
+        self.transport.receive_buffer
+    }
+
     /// The port of admin sessions.
     pub fn mgmt_port(&self) -> u32
         ensures { IsSetting (IsWithin 1 65535) self.now.server.mgmt_port result }

@@ -3,7 +3,7 @@ use Rattle.std.proofs.Common.{◌≡◌, ◌⊎◌, ℕ, ◌+◌, List, [], ◌�
 use Rattle.std.specs.Prelude.{min}
 use Rattle.std.specs.List.{AllByRecursion, list_any}
 use Rattle.std.proofs.lemmas.List.{length-map}
-use Rattle.sd_model_outside.specs.Outside.{File, Host, Object, Rose, last_count}
+use Rattle.sd_model_outside.specs.Outside.{File, Datagrams, Object, Rose, last_count}
 use Rattle.sd_model_settings.specs.Entries.{Node}
 use Rattle.sd_model_settings.specs.Settings.{Settings, SettingsFlaw, settings}
 use Rattle.sd_model_serve.specs.Ends.{LoopEnd, Spent, Failed, Enough, WornOut, EndsFlusher, most_turns}
@@ -23,7 +23,7 @@ use Rattle.sd_model_call.proofs.Openings.{all_append}
 all_relayed : (s : Settings) → AllByRecursion (λ (o : Opening). IsOpenedToRelay o.part) (proxy_openings s)
 all_relayed s =
     all_append (λ (o : Opening). IsOpenedToRelay o.part) (source_openings s) (numbered OfWire 0 (repeated s.sizes.receivers (map node_place s.lists.nodes)))
-    (all_numbered IsOpenedToRelay OfSource (λ i. tt) 0 (repeated s.sizes.receivers (Host s.addresses.address s.server.port ∷ [])))
+    (all_numbered IsOpenedToRelay OfSource (λ i. tt) 0 (repeated s.sizes.receivers (Datagrams s.addresses.address s.server.port s.transport.receive_buffer ∷ [])))
     (all_numbered IsOpenedToRelay OfWire (λ i. tt) 0 (repeated s.sizes.receivers (map node_place s.lists.nodes)))
 
 -- the loops of receivers over their sources

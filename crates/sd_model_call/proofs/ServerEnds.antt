@@ -4,7 +4,7 @@ use Rattle.std.specs.Prelude.{◌||◌, min}
 use Rattle.std.specs.List.{AllByRecursion, list_any}
 use Rattle.std.proofs.Math.Bool.{or-false}
 use Rattle.std.proofs.lemmas.List.{length-map}
-use Rattle.sd_model_outside.specs.Outside.{File, Host, Object, Rose, last_count}
+use Rattle.sd_model_outside.specs.Outside.{File, Host, Datagrams, Object, Rose, last_count}
 use Rattle.sd_model_outside.specs.Turns.{IsSpent}
 use Rattle.sd_model_settings.specs.Settings.{Settings, SettingsFlaw, settings}
 use Rattle.sd_model_replay.specs.Settings.{targets_of, is_used}
@@ -38,7 +38,7 @@ all_served s =
     let graphite = opening_where (is_used s Graphite) at_graphite in
     let console = opening_where (is_used s Console) at_console in
     let door : AllByRecursion is_served at_door = (tt, all_where is_served (has_streams s) at_streams (λ on. tt)) in
-    all_append is_served (source_openings s) (wire_openings s.sizes.receivers s ++ (graphite ++ (console ++ at_door))) (all_numbered IsOpenedToServe OfSource (λ i. tt) 0 (repeated s.sizes.receivers (Host s.addresses.address s.server.port ∷ [])))
+    all_append is_served (source_openings s) (wire_openings s.sizes.receivers s ++ (graphite ++ (console ++ at_door))) (all_numbered IsOpenedToServe OfSource (λ i. tt) 0 (repeated s.sizes.receivers (Datagrams s.addresses.address s.server.port s.transport.receive_buffer ∷ [])))
     (all_append is_served (wire_openings s.sizes.receivers s) (graphite ++ (console ++ at_door)) (all_numbered IsOpenedToServe OfWire (λ i. tt) 0 (repeated s.sizes.receivers (map target_place (targets_of s))))
     (all_append is_served graphite (console ++ at_door) (all_where is_served (is_used s Graphite) at_graphite (λ on. tt))
     (all_append is_served console at_door (all_where is_served (is_used s Console) at_console (λ on. tt)) door)))

@@ -17,8 +17,8 @@ use Rattle.sd_model_call.specs.Server.{begun_with, ends_answer, source_openings}
 abbrev pub node_place : Node → Place
 node_place n = Host n.host n.port
 
--- What the proxy opens once the settings are read, in this order: a source for each receiver, at the address that the server listens
--- at, and a run of wires for each receiver, with a wire to each node.
+-- What the proxy opens once the settings are read, in this order: a source for each receiver, as a server does, and a run of wires for
+-- each receiver, with a wire to each node.
 abbrev pub proxy_openings : Settings → List Opening
 proxy_openings s = source_openings s ++ numbered OfWire 0 (repeated s.sizes.receivers (map node_place s.lists.nodes))
 

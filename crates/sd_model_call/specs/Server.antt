@@ -1,7 +1,7 @@
 -- What a server opens and begins with, what the program answers where it is asked to serve, and what was done by then.
 use Rattle.std.specs.Prelude.{◌≡◌, ◌⊎◌, ℕ, ◌+◌, nat_lt, Bool, true, false, List, [], ◌∷◌, ◌++◌, length, codes, map, min, if◌then◌else◌, Option, Some, ⊤}
 use Rattle.std.specs.List.{list_any}
-use Rattle.sd_model_outside.specs.Outside.{File, Host, Object, last_count}
+use Rattle.sd_model_outside.specs.Outside.{File, Host, Datagrams, Object, last_count}
 use Rattle.sd_model_outside.specs.Deliveries.{missed}
 use Rattle.sd_model_outside.specs.Turns.{with_interval}
 use Rattle.sd_model_settings.specs.Settings.{plan_of, names_of, Settings}
@@ -15,9 +15,9 @@ use Rattle.sd_model_call.specs.Words.{Form, Serve}
 use Rattle.sd_model_call.specs.Opening.{Opening, OfSource, OfBeat, OfGraphite, OfConsole, OfDoor, OfStreams, World, IsAccepted, flags_of, numbered, opened_all, opening_where, repeated, settled, wire_openings}
 use Rattle.sd_model_call.specs.Call.{Answer, Done, NotRead, Worn, NotBegun, NotTaken, WritesTotals}
 
--- a source for each receiver, at the address that the server listens at
+-- a source for each receiver, at the address that the server listens at, with the room that the settings ask for
 abbrev pub source_openings : Settings → List Opening
-source_openings s = numbered OfSource 0 (repeated s.sizes.receivers (Host s.addresses.address s.server.port ∷ []))
+source_openings s = numbered OfSource 0 (repeated s.sizes.receivers (Datagrams s.addresses.address s.server.port s.transport.receive_buffer ∷ []))
 
 -- whether lines of streams are read: where they have a port
 abbrev pub has_streams : Settings → Bool

@@ -17,8 +17,8 @@ use Rattle.std.proofs.lemmas.Result.{IfOk-at_ok}
 use Rattle.toml.specs.Data.{Data, integer, Members, no_members, member, get_member}
 use Rattle.sd_model_settings.specs.Values.{ValueFlaw, whole}
 use Rattle.sd_model_settings.specs.Entries.{class_names}
-use Rattle.sd_model_settings.specs.Settings.{top_names, names, first_unknown, unknown_inside, unknown_by, unknown, SettingsFlaw, ◌>>=◌, in_force, Section, setting, within_product, top, server, deletions, addresses, namespace, entry_lists, Sizes, sizes, FlushRules, flush_rules, transport, Settings, settings_in, unless_unknown, document, settings}
-use Rattle.sd_model_settings.specs.Earlier.{earlier_rules, earlier_transport, earlier_sizes, values_by, settings_by, earlier_settings, settings_before_outlets}
+use Rattle.sd_model_settings.specs.Settings.{top_names, names, first_unknown, unknown_inside, unknown_by, unknown, SettingsFlaw, ◌>>=◌, in_force, Section, setting, within_product, top, server, deletions, addresses, namespace, entry_lists, Sizes, sizes, FlushRules, flush_rules, Transport, transport, Settings, settings_in, unless_unknown, document, settings}
+use Rattle.sd_model_settings.specs.Earlier.{earlier_rules, earlier_transport, earlier_sizes, transport_without_room, values_by, settings_by, earlier_settings, settings_before_outlets, settings_before_room}
 use Rattle.sd_model_settings.specs.Ranges.{IsWithin}
 use Rattle.sd_model_settings.proofs.ValuesInRange.{bind_in_range, anything_in_range, setting_in_range, whole_in_range}
 
@@ -103,19 +103,36 @@ rules_kept s first second =
     known_then (setting s (codes "gaugesMaxTTL") (whole 1 1000000000) 1) 1 _ (by_default s (codes "gaugesMaxTTL") (whole 1 1000000000) 1 first)
     ∙ known_then (setting s (codes "calculatedTimerMetrics") class_names []) [] _ (by_default s (codes "calculatedTimerMetrics") class_names [] second)
 
+-- the rest behind the room where it isn't given
+room_unset : {B : Type 0} (s : Section) → get_member (codes "receiveBuffer") s.members ≡ None → (g : ℕ → Result B SettingsFlaw) → (setting s (codes "receiveBuffer") (whole 0 1073741824) 0 >>= g) ≡ g 0
+room_unset s none g =
+    known_then (setting s (codes "receiveBuffer") (whole 0 1073741824) 0) 0 g (by_default s (codes "receiveBuffer") (whole 0 1073741824) 0 none)
+
 -- the transport where none of its settings is given
-transport_kept : (s : Section) → get_member (codes "outlets") s.members ≡ None → get_member (codes "outletBytes") s.members ≡ None → get_member (codes "tcp_port") s.members ≡ None → transport s ≡ Ok earlier_transport
+transport_kept : (s : Section) → get_member (codes "outlets") s.members ≡ None → get_member (codes "outletBytes") s.members ≡ None → get_member (codes "tcp_port") s.members ≡ None
+    → get_member (codes "receiveBuffer") s.members ≡ None → transport s ≡ Ok earlier_transport
 unfolding transport
-transport_kept s first second third =
+transport_kept s first second third fourth =
     known_then (setting s (codes "outlets") (whole 0 64) 0) 0 _ (by_default s (codes "outlets") (whole 0 64) 0 first)
     ∙ known_then (setting s (codes "outletBytes") (whole 65536 16777216) 4194304) 4194304 _ (by_default s (codes "outletBytes") (whole 65536 16777216) 4194304 second)
     ∙ known_then (setting s (codes "tcp_port") (whole 0 65535) 0) 0 _ (by_default s (codes "tcp_port") (whole 0 65535) 0 third)
+    ∙ room_unset s fourth _
 
--- the values, where sizes and rules are kept and no transport is given
-values_kept : (of_sizes : Section → Result Sizes SettingsFlaw) (of_rules : Section → Result FlushRules SettingsFlaw) (s : Section)
-    → Gives (of_sizes s) (sizes s) → Gives (of_rules s) (flush_rules s) → transport s ≡ Ok earlier_transport → Gives (values_by of_sizes of_rules s) (settings_in s)
+-- the transport where no room is given
+rest_of_transport_kept : (s : Section) → get_member (codes "receiveBuffer") s.members ≡ None → Gives (transport_without_room s) (transport s)
+unfolding transport_without_room transport
+rest_of_transport_kept s none =
+    same_then (setting s (codes "outlets") (whole 0 64) 0) _ _ (λ outlets _.
+    same_then (setting s (codes "outletBytes") (whole 65536 16777216) 4194304) _ _ (λ per_outlet _.
+    same_then (within_product s (codes "outletBytes") 268435456 outlets per_outlet) _ _ (λ outlet_bytes _.
+    same_then (setting s (codes "tcp_port") (whole 0 65535) 0) _ _ (λ tcp_port _.
+    room_unset s none _))))
+
+-- the values, where sizes, rules and transport are kept
+values_kept : (of_sizes : Section → Result Sizes SettingsFlaw) (of_rules : Section → Result FlushRules SettingsFlaw) (of_transport : Section → Result Transport SettingsFlaw) (s : Section)
+    → Gives (of_sizes s) (sizes s) → Gives (of_rules s) (flush_rules s) → Gives (of_transport s) (transport s) → Gives (values_by of_sizes of_rules of_transport s) (settings_in s)
 unfolding settings_in
-values_kept of_sizes of_rules s sizes-same rules-same none =
+values_kept of_sizes of_rules of_transport s sizes-same rules-same transport-same =
     same_then (server s) _ _ (λ server-values _.
     same_then (deletions s) _ _ (λ deletions-values _.
     same_then (addresses s) _ _ (λ addresses-values _.
@@ -123,7 +140,7 @@ values_kept of_sizes of_rules s sizes-same rules-same none =
     same_then (entry_lists s) _ _ (λ lists-values _.
     given_then (of_sizes s) (sizes s) _ _ sizes-same (λ sizes-values.
     given_then (of_rules s) (flush_rules s) _ _ rules-same (λ rules-values.
-    known_then (transport s) earlier_transport _ none)))))))
+    given_then (of_transport s) (transport s) _ _ transport-same (λ transport-values. refl))))))))
 
 none_of_both : {A : Type 0} (a b : Option A) → option_or a b ≡ None → (a ≡ None) × (b ≡ None)
 none_of_both None b h = (refl, h)
@@ -193,41 +210,63 @@ module _ (count : ℕ) (values : Section → Result Settings SettingsFlaw) (know
   ]
 
 no_transport : (count : ℕ) → list_any (λ k. bytes_eq k (codes "outlets")) (take count top_names) ≡ false → list_any (λ k. bytes_eq k (codes "outletBytes")) (take count top_names) ≡ false
-    → list_any (λ k. bytes_eq k (codes "tcp_port")) (take count top_names) ≡ false → (doc : Members) → unknown_by (take count top_names) doc ≡ None → transport (top doc) ≡ Ok earlier_transport
-no_transport count first second third doc is =
+    → list_any (λ k. bytes_eq k (codes "tcp_port")) (take count top_names) ≡ false → list_any (λ k. bytes_eq k (codes "receiveBuffer")) (take count top_names) ≡ false → (doc : Members) → unknown_by (take count top_names) doc ≡ None → transport (top doc) ≡ Ok earlier_transport
+no_transport count first second third fourth doc is =
     transport_kept (top doc) (absent (take count top_names) (codes "outlets") first doc is) (absent (take count top_names) (codes "outletBytes") second doc is) (absent (take count top_names) (codes "tcp_port") third doc is)
+    (absent (take count top_names) (codes "receiveBuffer") fourth doc is)
 
 pub settings_kept : (bytes : List ℕ) → IfOk (earlier_settings bytes) (λ v. settings bytes ≡ Ok v)
 unfolding earlier_settings unknown
 settings_kept =
-    all_kept 26 (values_by earlier_sizes (λ s. Ok earlier_rules)) (file_known (take 26 top_names) (drop 26 top_names)) (λ doc is.
+    all_kept 26 (values_by earlier_sizes (λ s. Ok earlier_rules) (λ s. Ok earlier_transport)) (file_known (take 26 top_names) (drop 26 top_names)) (λ doc is.
     let rules : flush_rules (top doc) ≡ Ok earlier_rules =
     rules_kept (top doc) (absent (take 26 top_names) (codes "gaugesMaxTTL") refl doc is) (absent (take 26 top_names) (codes "calculatedTimerMetrics") refl doc is) in
-    values_kept earlier_sizes (λ s. Ok earlier_rules) (top doc) (sizes_kept (top doc)) rules (no_transport 26 refl refl refl doc is))
+    values_kept earlier_sizes (λ s. Ok earlier_rules) (λ s. Ok earlier_transport) (top doc) (sizes_kept (top doc)) rules (no_transport 26 refl refl refl refl doc is))
 
 pub settings_kept_before_outlets : (bytes : List ℕ) → IfOk (settings_before_outlets bytes) (λ v. settings bytes ≡ Ok v)
 unfolding settings_before_outlets unknown
 settings_kept_before_outlets =
-    all_kept 28 (values_by sizes flush_rules) (file_known (take 28 top_names) (drop 28 top_names)) (λ doc is.
-    values_kept sizes flush_rules (top doc) (same (sizes (top doc))) (same (flush_rules (top doc))) (no_transport 28 refl refl refl doc is))
+    all_kept 28 (values_by sizes flush_rules (λ s. Ok earlier_transport)) (file_known (take 28 top_names) (drop 28 top_names)) (λ doc is.
+    values_kept sizes flush_rules (λ s. Ok earlier_transport) (top doc) (same (sizes (top doc))) (same (flush_rules (top doc))) (no_transport 28 refl refl refl refl doc is))
+
+pub settings_kept_before_room : (bytes : List ℕ) → IfOk (settings_before_room bytes) (λ v. settings bytes ≡ Ok v)
+unfolding settings_before_room unknown
+settings_kept_before_room =
+    all_kept 31 (values_by sizes flush_rules transport_without_room) (file_known (take 31 top_names) (drop 31 top_names)) (λ doc is.
+    values_kept sizes flush_rules transport_without_room (top doc) (same (sizes (top doc))) (same (flush_rules (top doc)))
+    (rest_of_transport_kept (top doc) (absent (take 31 top_names) (codes "receiveBuffer") refl doc is)))
+
+-- a step behind a value of which nothing is asked
+behind_any : {A B : Type 0} (r : Result A SettingsFlaw) (f : A → Result B SettingsFlaw) (Q : B → Type 0) → ((x : A) → IfOk (f x) Q) → IfOk (r >>= f) Q
+behind_any r f Q h = bind_in_range r f (λ _. ⊤) Q (anything_in_range r) (λ x _. h x)
+
+no_room : (s : Section) → IfOk (transport_without_room s) (λ t. t.receive_buffer ≡ 0)
+unfolding transport_without_room
+no_room s =
+    behind_any (setting s (codes "outlets") (whole 0 64) 0) _ (λ (t : Transport). t.receive_buffer ≡ 0) (λ outlets.
+    behind_any (setting s (codes "outletBytes") (whole 65536 16777216) 4194304) _ (λ (t : Transport). t.receive_buffer ≡ 0) (λ per_outlet.
+    behind_any (within_product s (codes "outletBytes") 268435456 outlets per_outlet) _ (λ (t : Transport). t.receive_buffer ≡ 0) (λ outlet_bytes.
+    behind_any (setting s (codes "tcp_port") (whole 0 65535) 0) _ (λ (t : Transport). t.receive_buffer ≡ 0) (λ tcp_port. refl))))
 
 -- what holds of the values that a file set
 module _ (Q : Settings → Type 0) where
   -- a step behind a value of which nothing is asked
   any_then : {A : Type 0} (r : Result A SettingsFlaw) (f : A → Result Settings SettingsFlaw) → ((x : A) → IfOk (f x) Q) → IfOk (r >>= f) Q
-  any_then r f h = bind_in_range r f (λ _. ⊤) Q (anything_in_range r) (λ x _. h x)
+  any_then r f h = behind_any r f Q h
 
   -- by its rules and its transport
-  of_values : (of_sizes : Section → Result Sizes SettingsFlaw) (of_rules : Section → Result FlushRules SettingsFlaw) (P : FlushRules → Type 0) (s : Section)
-      → IfOk (of_rules s) P → ((v : Settings) → P v.rules → v.transport ≡ earlier_transport → Q v) → IfOk (values_by of_sizes of_rules s) Q
-  of_values of_sizes of_rules P s p h =
+  of_values : (of_sizes : Section → Result Sizes SettingsFlaw) (of_rules : Section → Result FlushRules SettingsFlaw) (of_transport : Section → Result Transport SettingsFlaw)
+      (P : FlushRules → Type 0) (T : Transport → Type 0) (s : Section)
+      → IfOk (of_rules s) P → IfOk (of_transport s) T → ((v : Settings) → P v.rules → T v.transport → Q v) → IfOk (values_by of_sizes of_rules of_transport s) Q
+  of_values of_sizes of_rules of_transport P T s p t h =
       any_then (server s) _ (λ server-values.
       any_then (deletions s) _ (λ deletions-values.
       any_then (addresses s) _ (λ addresses-values.
       any_then (namespace s) _ (λ namespace-values.
       any_then (entry_lists s) _ (λ lists-values.
       any_then (of_sizes s) _ (λ sizes-values.
-      bind_in_range (of_rules s) _ P Q p (λ rules-values q. h _ q refl)))))))
+      bind_in_range (of_rules s) _ P Q p (λ rules-values q.
+      bind_in_range (of_transport s) _ T Q t (λ transport-values u. h _ q u))))))))
 
   unless_of : (name : Option (List ℕ)) (r : Result Settings SettingsFlaw) → IfOk r Q → IfOk (unless_unknown name r) Q
   unless_of None r h = h
@@ -242,17 +281,27 @@ module _ (Q : Settings → Type 0) where
 pub earlier_rules_in_force : (bytes : List ℕ) → IfOk (earlier_settings bytes) (λ v. v.rules ≡ earlier_rules)
 unfolding earlier_settings
 earlier_rules_in_force =
-    of_file (λ v. v.rules ≡ earlier_rules) 26 (values_by earlier_sizes (λ s. Ok earlier_rules)) (λ s.
-    of_values (λ v. v.rules ≡ earlier_rules) earlier_sizes (λ s. Ok earlier_rules) (λ r. r ≡ earlier_rules) s refl (λ v rules transport. rules))
+    of_file (λ v. v.rules ≡ earlier_rules) 26 (values_by earlier_sizes (λ s. Ok earlier_rules) (λ s. Ok earlier_transport)) (λ s.
+    of_values (λ v. v.rules ≡ earlier_rules) earlier_sizes (λ s. Ok earlier_rules) (λ s. Ok earlier_transport) (λ r. r ≡ earlier_rules) (λ t. t ≡ earlier_transport) s refl refl
+    (λ v rules transport. rules))
 
 pub earlier_transport_in_force : (bytes : List ℕ) → IfOk (earlier_settings bytes) (λ v. v.transport ≡ earlier_transport)
 unfolding earlier_settings
 earlier_transport_in_force =
-    of_file (λ v. v.transport ≡ earlier_transport) 26 (values_by earlier_sizes (λ s. Ok earlier_rules)) (λ s.
-    of_values (λ v. v.transport ≡ earlier_transport) earlier_sizes (λ s. Ok earlier_rules) (λ r. r ≡ earlier_rules) s refl (λ v rules transport. transport))
+    of_file (λ v. v.transport ≡ earlier_transport) 26 (values_by earlier_sizes (λ s. Ok earlier_rules) (λ s. Ok earlier_transport)) (λ s.
+    of_values (λ v. v.transport ≡ earlier_transport) earlier_sizes (λ s. Ok earlier_rules) (λ s. Ok earlier_transport) (λ r. r ≡ earlier_rules) (λ t. t ≡ earlier_transport) s refl refl
+    (λ v rules transport. transport))
 
 pub transport_before_outlets : (bytes : List ℕ) → IfOk (settings_before_outlets bytes) (λ v. v.transport ≡ earlier_transport)
 unfolding settings_before_outlets
 transport_before_outlets =
-    of_file (λ v. v.transport ≡ earlier_transport) 28 (values_by sizes flush_rules) (λ s.
-    of_values (λ v. v.transport ≡ earlier_transport) sizes flush_rules (λ r. ⊤) s (anything_in_range (flush_rules s)) (λ v rules transport. transport))
+    of_file (λ v. v.transport ≡ earlier_transport) 28 (values_by sizes flush_rules (λ s. Ok earlier_transport)) (λ s.
+    of_values (λ v. v.transport ≡ earlier_transport) sizes flush_rules (λ s. Ok earlier_transport) (λ r. ⊤) (λ t. t ≡ earlier_transport) s (anything_in_range (flush_rules s)) refl
+    (λ v rules transport. transport))
+
+pub no_room_before_room : (bytes : List ℕ) → IfOk (settings_before_room bytes) (λ v. v.transport.receive_buffer ≡ 0)
+unfolding settings_before_room
+no_room_before_room =
+    of_file (λ v. v.transport.receive_buffer ≡ 0) 31 (values_by sizes flush_rules transport_without_room) (λ s.
+    of_values (λ v. v.transport.receive_buffer ≡ 0) sizes flush_rules transport_without_room (λ r. ⊤) (λ t. t.receive_buffer ≡ 0) s (anything_in_range (flush_rules s)) (no_room s)
+    (λ v rules none. none))

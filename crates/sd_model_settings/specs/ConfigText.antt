@@ -96,6 +96,7 @@ transport_lines s =
     line (codes "outlets") (decimal s.outlets)
     ∷ line (codes "outletBytes") (decimal s.outlet_bytes)
     ∷ line (codes "tcp_port") (decimal s.tcp_port)
+    ∷ line (codes "receiveBuffer") (decimal s.receive_buffer)
     ∷ []
 
 -- the lines before those of entries

@@ -131,6 +131,7 @@ pub record TransportInRange (s : Transport) : Type 0 where
   pub outlet_bytes : IsWithin 65536 16777216 s.outlet_bytes
   pub all_outlets : s.outlets * s.outlet_bytes ≤ 268435456
   pub tcp_port : s.tcp_port ≤ 65535
+  pub receive_buffer : s.receive_buffer ≤ 1073741824
 
 -- Each setting is in its range.
 pub record InRange (s : Settings) : Type 0 where

@@ -18,7 +18,8 @@ top_names =
     ∷ codes "address" ∷ codes "mgmt_address" ∷ codes "backends" ∷ codes "graphiteHost" ∷ codes "graphitePort" ∷ codes "graphite"
     ∷ codes "histogram" ∷ codes "repeater" ∷ codes "nodes" ∷ codes "checkInterval" ∷ codes "cacheSize" ∷ codes "shards"
     ∷ codes "rows" ∷ codes "entries" ∷ codes "receivers" ∷ codes "runFlushes" ∷ codes "gaugesMaxTTL"
-    ∷ codes "calculatedTimerMetrics" ∷ codes "outlets" ∷ codes "outletBytes" ∷ codes "tcp_port" ∷ []
+    ∷ codes "calculatedTimerMetrics" ∷ codes "outlets" ∷ codes "outletBytes" ∷ codes "tcp_port"
+    ∷ codes "receiveBuffer" ∷ []
 
 -- the names in the table `graphite`
 abbrev pub graphite_names : List (List ℕ)

@@ -27,8 +27,13 @@ pub fn accepted_files()
         }) }
     ensures transport { settings (codes "outlets = 2\noutletBytes = 65536\ntcp_port = 8127\n")
         ≡ Ok (record default_settings {
-          transport = record { outlets = 2; outlet_bytes = 65536; tcp_port = 8127 };
+          transport = record { outlets = 2; outlet_bytes = 65536; tcp_port = 8127; receive_buffer = 0 };
         }) }
+    ensures most_room { settings (codes "receiveBuffer = 1073741824\n")
+        ≡ Ok (record default_settings {
+          transport = record default_settings.transport { receive_buffer = 1073741824 };
+        }) }
+    ensures no_room { settings (codes "receiveBuffer = 0\n") ≡ Ok default_settings }
     ensures most_outlets { settings (codes "outlets = 64\n")
         ≡ Ok (record default_settings {
           transport = record default_settings.transport { outlets = 64 };
@@ -58,6 +63,11 @@ pub fn refused_files()
     ensures too_many_outlets { settings (codes "outlets = 65\n") ≡ Err (OutOfRange (codes "outlets")) }
     ensures too_many_bytes { settings (codes "outlets = 17\noutletBytes = 16777216\ntcp_port = true\n")
         ≡ Err (OutOfRange (codes "outletBytes")) }
+    ensures too_much_room { settings (codes "receiveBuffer = 1073741825\n") ≡ Err (OutOfRange (codes "receiveBuffer")) }
+    ensures negative_room { settings (codes "receiveBuffer = -1\n") ≡ Err (OutOfRange (codes "receiveBuffer")) }
+    ensures room_as_text { settings (codes "receiveBuffer = '65536'\n") ≡ Err (WrongKind (codes "receiveBuffer")) }
+    ensures port_before_room { settings (codes "receiveBuffer = true\ntcp_port = 65536\n")
+        ≡ Err (OutOfRange (codes "tcp_port")) }
 {}
 
 /// The lines of the reply to `config` where nothing is set, and of entries.
@@ -114,6 +124,7 @@ pub fn config_lines_of_files()
         ≡ codes "outlets: 0\n"
         ∷ codes "outletBytes: 4194304\n"
         ∷ codes "tcp_port: 0\n"
+        ∷ codes "receiveBuffer: 0\n"
         ∷ [] }
     ensures a_histogram { histogram_line (record { metric = codes "web"; limits = Below (pos 2500000) ∷ Infinite ∷ [] })
         ≡ codes "histogram: web 2.5,inf\n" }

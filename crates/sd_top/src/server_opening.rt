@@ -1,5 +1,6 @@
 //! The parts of a server, opened in their order.
 ghost use Rattle.std.specs.Prelude.{◌≡◌, ◌+◌, ◌<◌, ◌≤◌, ◌^◌, [], ◌∷◌, length, map, if◌then◌else◌, OnOk, IfErr};
+ghost use Rattle.sd_model_outside.specs.Outside as outside;
 ghost use Rattle.sd_model_outside.specs.Outside.{Host, opened};
 ghost use Rattle.sd_model_call.specs.Call.{StopsAmong};
 ghost use Rattle.sd_model_call.specs.Opening.{OfSource, flags_of, opened_all, repeated};
@@ -24,6 +25,18 @@ pub(crate) fn host_address(host: &Name, port: u32) -> Address
     Address::Host {
         host: host.clone().unwrap(),
         port: u16::try_from(port).unwrap(),
+    }
+}
+
+/// An address where datagrams come, with so many bytes of room asked for.
+fn datagrams_address(host: &Name, port: u32, receive_buffer: u32) -> Address
+    requires { port < 2 ^ 16 }
+    ensures { place_of result ≡ outside.Datagrams host.now.items port receive_buffer }
+{
+    Address::Datagrams {
+        host: host.clone().unwrap(),
+        port: u16::try_from(port).unwrap(),
+        receive_buffer,
     }
 }
 
@@ -54,7 +67,7 @@ pub(crate) fn open_sources<D: Datagrams>(
     open_sources(first + 1, count - 1, at, sources)
 }
 
-/// Opens a source for each receiver, in order.
+/// Opens a source for each receiver, in order, with the room that the settings ask for.
 ///
 /// # Errors
 ///
@@ -78,7 +91,11 @@ pub(crate) fn open_packets<K: Kinds>(
     ensures flags { (world_of K.R.seen K.O.seen K.B.seen K.D.seen K.L.seen K.E.seen K.P.seen K.Q.seen K.S.seen world.new).flags ≡ (world_of K.R.seen K.O.seen K.B.seen K.D.seen K.L.seen K.E.seen K.P.seen K.Q.seen K.S.seen world.old).flags }
 {
     let receivers = u16::try_from(settings.receivers()).unwrap();
-    let at = host_address(settings.address(), settings.port());
+    let at = datagrams_address(
+        settings.address(),
+        settings.port(),
+        settings.receive_buffer(),
+    );
     open_sources(0, receivers, &at, &mut world.packets)
 }
 
