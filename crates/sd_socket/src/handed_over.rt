@@ -1,5 +1,5 @@
-ghost use Rattle.std.specs.Prelude.{◌≡◌, ◌+◌, ◌↔◌, IfOk, OnOk, OnErr, IsNone, IsTrue};
-ghost use Rattle.sd_socket.specs.Handed.{HasNoDatagrams, HasNoListener, HasNone, socket_count};
+ghost use Rattle.std.specs.Prelude.{◌≡◌, ◌↔◌, false, IfOk, IsNone, IsTrue, OnErr, OnOk};
+ghost use Rattle.sd_socket.specs.Handed.{HasNoDatagrams, HasNoListener, HasNone, HasNothing, WasAdded, offers_of, socket_count};
 
 use crate::call::duplicate;
 use crate::offered::{Offered, offered_by};
@@ -40,7 +40,7 @@ pub struct HandedOver {
 impl HandedOver {
     /// No socket.
     pub fn none(alloc: Global) -> HandedOver
-        ensures { socket_count result ≡ 0 }
+        ensures { HasNothing result }
     {
         HandedOver {
             offers: Vec::new(alloc),
@@ -78,7 +78,10 @@ impl HandedOver {
     /// # Errors
     ///
     /// Where no memory is left for the list.
-    pub fn add(&mut self, fd: OwnedFd) -> Result<(), AllocError> {
+    pub fn add(&mut self, fd: OwnedFd) -> Result<(), AllocError>
+        ensures ok { OnOk result (WasAdded self.old self.new) }
+        ensures err { OnErr result (offers_of self.new ≡ offers_of self.old) }
+    {
         let (fd, offered) = offered_by(fd);
         match offered {
             Some(offered) => self.offers.push(Offer {
@@ -127,7 +130,9 @@ impl HandedOver {
     }
 
     /// Whether something was handed over that wasn't taken, or that is no socket of these kinds.
-    pub fn has_untaken(&self) -> bool {
+    pub fn has_untaken(&self) -> bool
+        ensures { HasNothing self.now → result ≡ false }
+    {
         self.has_others
             || self
                 .offers
