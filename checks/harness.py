@@ -66,6 +66,12 @@ def tried(part, *words):
         holds(part.__name__, False, traceback.format_exc()[-1500:])
 
 
+def handle(handler):
+    """Handles the signals that end what runs here. One that has a handler here is none that a program started from here has to ignore."""
+    for it in (signal.SIGTERM, signal.SIGINT, signal.SIGHUP, signal.SIGQUIT):
+        signal.signal(it, handler)
+
+
 def run(built, parts, count):
     """Runs the parts on the built program, in a folder that goes, and ends all that they started. The last line says how many checks
     passed and failed, and the status is 1 where one failed, or where there aren't as many as there have to be."""
@@ -76,14 +82,13 @@ def run(built, parts, count):
     for it in ("STATSD_STOP", "LISTEN_PID", "LISTEN_FDS"):
         os.environ.pop(it, None)
     os.environ["STATSD_PROGRAM"] = program
-    for it in (signal.SIGTERM, signal.SIGINT, signal.SIGHUP, signal.SIGQUIT):
-        # (one that has a handler here is none that a program started from here has to ignore)
-        signal.signal(it, lambda *_: sys.exit(130))
+    handle(lambda *_: sys.exit(130))
     with tempfile.TemporaryDirectory() as room:
         os.chdir(room)
         try:
             parts()
         finally:
+            handle(signal.SIG_IGN)
             for it in started:
                 it.kill()
             os.chdir(ROOT)
