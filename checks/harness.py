@@ -74,7 +74,8 @@ def handle(handler):
 
 def run(built, parts, count):
     """Runs the parts on the built program, in a folder that goes, and ends all that they started. The last line says how many checks
-    passed and failed, and the status is 1 where one failed, or where there aren't as many as there have to be."""
+    passed and failed, and the status is 1 where one failed, or where there aren't as many as there have to be. A count of None is of a
+    script whose words say how many there are."""
     global program
     program = os.path.realpath(built or os.path.join(ROOT, "crates/statsd/out/statsd"))
     if not os.access(program, os.X_OK):
@@ -93,7 +94,7 @@ def run(built, parts, count):
                 it.kill()
             os.chdir(ROOT)
     ran = tally["passed"] + tally["failed"]
-    if ran + tally["left out"] != count:
+    if count is not None and ran + tally["left out"] != count:
         holds("checks", False, f"of {count} checks {ran} ran, and {tally['left out']} were left out by name")
     print(f"{tally['passed']} passed, {tally['failed']} failed")
     return 1 if tally["failed"] else 0
@@ -247,10 +248,14 @@ class Program:
         """Its last lines, what it wrote to standard error, and how it ended, on one line."""
         return f"{' '.join(self.out().splitlines()[-count:])} {self.err()}exit {self.status}"
 
+    def numbers(self):
+        """The numbers of its last lines, by their names."""
+        lines = [it.split() for it in self.out().splitlines()[-TOTALS - 2:]]
+        return {it[0]: int(it[1]) for it in lines if len(it) == 2 and it[1].isdigit()}
+
     def total(self, what):
         """A number of its last lines, or -1 where they don't have it."""
-        lines = [it.split() for it in self.out().splitlines()[-TOTALS - 2:]]
-        return next((int(it[1]) for it in lines if it[:1] == [what] and len(it) == 2), -1)
+        return self.numbers().get(what, -1)
 
 
 def begin(name, form="serve", command=None, environment=None, **more):
