@@ -317,7 +317,7 @@ class Client:
         return self
 
     def hear(self, count=None):
-        """So many lines of what it is told, or all up to the end of the connection."""
+        """So many lines of what it is told, or all up to the end of the connection, which is closed then."""
         try:
             while count is None or self.rest.count(b"\n") < count:
                 got = self.socket.recv(65536)
@@ -328,9 +328,11 @@ class Client:
             self.rest += f"nothing more in {WAIT} seconds\n".encode()
         except ConnectionError:
             pass
+        if count is None:
+            self.close()
         lines = self.rest.splitlines(keepends=True)
-        told, self.rest = lines[:count], b"".join(lines[len(lines) if count is None else count:])
-        return b"".join(told).decode()
+        self.rest = b"".join(lines[count:]) if count is not None else b""
+        return b"".join(lines[:count]).decode()
 
     def close(self):
         self.socket.close()
@@ -338,10 +340,7 @@ class Client:
 
 def ask(port, text):
     """What an admin port answers to a line, up to the end of the connection."""
-    client = Client(port, f"{text}\nquit\n")
-    told = client.hear()
-    client.close()
-    return told
+    return Client(port, f"{text}\nquit\n").hear()
 
 
 def told(port, command):
@@ -408,7 +407,6 @@ class Pour(threading.Thread):
                     self.over.wait(PAUSE)
         except OSError:
             pass
-
 
 
 # --- what listens ---
