@@ -407,6 +407,7 @@ class Pour(threading.Thread):
                     self.over.wait(PAUSE)
         except OSError:
             pass
+        self.client.close()
 
 
 # --- what listens ---
