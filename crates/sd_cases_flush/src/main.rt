@@ -22,12 +22,14 @@ use std::sync::Wait;
 const SMALL: Limits = Limits {
     rows: 8,
     entries: 16,
+    sums_on_arrival: false,
 };
 
 // What each shard of a large bench has room for.
 const LARGE: Limits = Limits {
     rows: 4096,
     entries: 65_536,
+    sums_on_arrival: false,
 };
 
 /// Makes the steps of a case.

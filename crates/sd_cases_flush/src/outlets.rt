@@ -146,7 +146,7 @@ fn flush_out<R: Wait>(
     let run_flushes = number::<u64>(run_flushes)?;
     let (ticks, failing) = rest.split_once('/').ok_or(Refusal::Malformed)?;
     let mut beat = beat_of(alloc, ticks, number::<u64>(failing)?)?;
-    let FlushedOut { ended, skips } = flush_all_out(
+    let FlushedOut { flushed, skips } = flush_all_out(
         rt,
         &bench.pool,
         &bench.desk,
@@ -160,7 +160,7 @@ fn flush_out<R: Wait>(
         &NoGate,
         run_flushes,
     );
-    out.debug(&ended);
+    out.debug(&flushed.ended);
     out.count(", turns ", beat.turns());
     out.count(", ticks left ", beat.remaining().len() as u64);
     out.count(", faults ", beat.faults());

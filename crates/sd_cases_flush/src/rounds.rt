@@ -69,7 +69,7 @@ pub fn flush<R: Wait>(
     let (ticks, failing) = rest.split_once('/').ok_or(Refusal::Malformed)?;
     let mut beat = beat_of(alloc, ticks, number::<u64>(failing)?)?;
     let before = given_to(&bench.backs);
-    let ended = flush_all(
+    let flushed = flush_all(
         rt,
         &bench.pool,
         &bench.desk,
@@ -83,7 +83,7 @@ pub fn flush<R: Wait>(
         &NoGate,
         run_flushes,
     );
-    out.debug(&ended);
+    out.debug(&flushed.ended);
     out.count(", turns ", beat.turns());
     out.count(", ticks left ", beat.remaining().len() as u64);
     out.count(", faults ", beat.faults());

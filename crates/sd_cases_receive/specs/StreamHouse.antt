@@ -1,5 +1,5 @@
 -- A house of the cases.
-use Rattle.std.specs.Prelude.{◌≡◌, ◌<◌, vec_len}
+use Rattle.std.specs.Prelude.{◌≡◌, ◌<◌, false, vec_len}
 use Rattle.sd_pool.specs.Pool.{IsSeatOf, limits_of}
 use Rattle.sd_cases_receive.specs.declared.stream_house.House.{House}
 
@@ -7,5 +7,5 @@ use Rattle.sd_cases_receive.specs.declared.stream_house.House.{House}
 pub record IsReady (house : House) : Type 0 where
   pub seat : IsSeatOf house.pool house.seat
   pub flusher : IsSeatOf house.pool house.flusher
-  pub limits : limits_of house.pool ≡ record { rows = 8; entries = 8 }
+  pub limits : limits_of house.pool ≡ record { rows = 8; entries = 8; sums_on_arrival = false }
   pub room : 0 < vec_len house.buf

@@ -83,6 +83,7 @@ pub fn serve<L: Wire + Send + Drop, G: Gate + Sync, C: Clock + Sync, R: Threads 
     let limits = Limits {
         rows: setup.rows.clamp(1, 1 << 16),
         entries: setup.entries.clamp(1, 1 << 16),
+        sums_on_arrival: false,
     };
     let shards = setup.shards.clamp(1, 16);
     let receivers = setup.posts.clamp(1, 17);

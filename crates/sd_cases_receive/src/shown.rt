@@ -97,7 +97,7 @@ fn show_rows(alloc: Global, table: &Table, out: &mut Answer) -> Result<(), Refus
 
 // How many samples and rows a table has, and few rows, by their keys.
 fn show_table(alloc: Global, table: &Table, out: &mut Answer) -> Result<(), Refusal> {
-    out.count("samples ", u64::from(table.entries()));
+    out.count("samples ", table.held());
     out.count(" rows ", u64::from(table.rows()));
     if table.rows() > FEW {
         return Ok(());
@@ -123,7 +123,7 @@ pub fn show_served(
     out.count(" flushes ", served.facts.rounds);
     out.count(" failed sends ", served.facts.repeater_faults);
     for (i, table) in served.tables.iter().enumerate() {
-        if table.entries() > 0 || served.tables.len() == 1 {
+        if table.held() > 0 || served.tables.len() == 1 {
             out.count("\n  shard ", i as u64);
             out.text(": ");
             show_table(alloc, table, out)?;

@@ -18,6 +18,7 @@ use std::sync::Wait;
 const LIMITS: Limits = Limits {
     rows: 8,
     entries: 8,
+    sums_on_arrival: false,
 };
 
 /// A desk, and two seats of it.

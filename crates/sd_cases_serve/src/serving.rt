@@ -35,6 +35,7 @@ fn sizes_of(setup: &Setup) -> Result<Sizes, Refusal>
     let limits = Limits {
         rows: setup.rows.clamp(1, 1 << 16),
         entries: setup.entries.clamp(1, 1 << 16),
+        sums_on_arrival: false,
     };
     if setup.wires > 16 {
         return Err(Refusal::Condition);

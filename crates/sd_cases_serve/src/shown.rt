@@ -40,7 +40,7 @@ pub fn show_ends(served: &Served, out: &mut Answer) {
         show_end(*ended, out);
     }
     out.text(", flusher ");
-    show_end(served.ends.flusher, out);
+    show_end(served.ends.flusher.ended, out);
     out.text(", keeper ");
     show_door_end(served.ends.keeper, out);
     if let Some(ended) = served.ends.liner {

@@ -17,6 +17,7 @@ use std::sync::Wait;
 pub(crate) const LIMITS: Limits = Limits {
     rows: 16,
     entries: 64,
+    sums_on_arrival: false,
 };
 
 pub(crate) const KEEPS_ALL: Policy = Policy {
@@ -71,7 +72,7 @@ fn open_pool<R: Wait>(rt: &R, alloc: Global, plan: &Plan) -> Result<(Pool, Seat)
     ensures seat { IfOk result (λ r. IsSeatOf r.0 r.1) }
     ensures who { IfOk result (λ r. who_is r.1 ≡ 101) }
     ensures shards { IfOk result (λ r. shards_of r.0 ≡ plan.now.shards) }
-    ensures limits { IfOk result (λ r. limits_of r.0 ≡ record { rows = 16; entries = 64 }) }
+    ensures limits { IfOk result (λ r. limits_of r.0 ≡ record { rows = 16; entries = 64; sums_on_arrival = false }) }
 {
     let (pool, seats) = Pool::open(alloc, LIMITS, KEEPS_ALL, plan.shards, 1)?;
     let Seats {

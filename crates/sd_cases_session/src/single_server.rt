@@ -5,7 +5,6 @@ use sd_admin::{Command, HealthWord, Reply, write_reply};
 use sd_case::{Answer, Refusal, bytes_of, number};
 use sd_config::Settings;
 use sd_desk::{Desk, Tally};
-use sd_epoch::Who;
 use sd_key::{Kind, Pattern};
 use sd_outside::{MemSink, WriteFault};
 use sd_shard::{Dump, Keys, Shard};
@@ -95,7 +94,7 @@ impl Server {
 
     /// Takes the sample that a word writes, in the form of StatsD.
     fn sample(&mut self, piece: &str) -> Result<(), Refusal> {
-        self.shard.sample(Who(0), &sample_of(piece)?);
+        self.shard.sample(&sample_of(piece)?);
         Ok(())
     }
 

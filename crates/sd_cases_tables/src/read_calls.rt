@@ -5,7 +5,7 @@ use sd_outside::Name;
 use sd_plan::{Classes, Names, Node, Target};
 
 /// The read calls in the order of the settings.
-pub(crate) const CALLS: [&str; 38] = [
+pub(crate) const CALLS: [&str; 39] = [
     "port",
     "mgmt_port",
     "flush_interval",
@@ -43,6 +43,7 @@ pub(crate) const CALLS: [&str; 38] = [
     "outlets",
     "outlet_bytes",
     "tcp_port",
+    "sums_on_arrival",
     "receive_buffer",
 ];
 
@@ -92,6 +93,7 @@ fn flag_of(settings: &Settings, call: &str) -> Option<bool> {
         "delete_sets" => Some(settings.delete_sets()),
         "delete_gauges" => Some(settings.delete_gauges()),
         "legacy_namespace" => Some(settings.legacy_namespace()),
+        "sums_on_arrival" => Some(settings.sums_on_arrival()),
         _ => None,
     }
 }

@@ -55,7 +55,7 @@ pub(crate) fn show_record(
     out: &mut Answer,
 )
     requires rows { length table.now.listed ≤ scratch.old.room.rows }
-    requires entries { length table.now.held ≤ scratch.old.room.entries }
+    requires entries { table.now.entries ≤ scratch.old.room.entries }
     ensures { scratch.new.room ≡ scratch.old.room }
 {
     let mut record = Record::over(
@@ -179,7 +179,7 @@ pub(crate) fn show_text(
     out: &mut Answer,
 )
     requires rows { length table.now.listed ≤ scratch.old.room.rows }
-    requires entries { length table.now.held ≤ scratch.old.room.entries }
+    requires entries { table.now.entries ≤ scratch.old.room.entries }
     ensures { scratch.new.room ≡ scratch.old.room }
 {
     let mut record = Record::over(

@@ -19,6 +19,9 @@ pub(crate) fn open_room(alloc: Global, file: &str, out: &mut Answer) -> Result<(
 fn show_limits(limits: Limits, out: &mut Answer) {
     out.count(" = ", u64::from(limits.rows));
     out.count("/", u64::from(limits.entries));
+    if limits.sums_on_arrival {
+        out.text("/sums");
+    }
 }
 
 fn show_policy(policy: Policy, out: &mut Answer) {

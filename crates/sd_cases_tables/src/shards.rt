@@ -5,7 +5,7 @@ ghost use Rattle.sd_epoch.specs.Limits.{limits_of, AreLimits};
 use crate::samples::sample_of;
 use crate::turns::{most_steps, rows_at, swap_counted};
 use sd_case::{Answer, Refusal, bytes_of, kind_of, kind_word, number};
-use sd_epoch::{Limits, RowFacts, Table, Who};
+use sd_epoch::{Limits, RowFacts, Table};
 use sd_key::{Key, Kind, Pattern};
 use sd_shard::{Cause, Dump, Keys, Placed, Policy, Shard, ShardBook};
 use std::alloc::Global;
@@ -15,17 +15,25 @@ use std::sync::ledger::Blank;
 // the most rows, and the most entries
 const MOST: u32 = 1 << 20;
 
-/// The limits that a word writes as `ROWS/ENTRIES`.
+/// The limits that a word writes as `ROWS/ENTRIES`, and as `ROWS/ENTRIES/sums` where sums are made on arrival.
 pub(crate) fn limits_from(word: &str) -> Result<Limits, Refusal>
     ensures { IfOk result (λ limits. AreLimits (limits_of limits)) }
 {
+    let (word, sums_on_arrival) = match word.strip_suffix("/sums") {
+        Some(word) => (word, true),
+        None => (word, false),
+    };
     let (rows, entries) = word.split_once('/').ok_or(Refusal::Malformed)?;
     let rows = number::<u32>(rows)?;
     let entries = number::<u32>(entries)?;
     if rows == 0 || rows > MOST || entries == 0 || entries > MOST {
         return Err(Refusal::Condition);
     }
-    Ok(Limits { rows, entries })
+    Ok(Limits {
+        rows,
+        entries,
+        sums_on_arrival,
+    })
 }
 
 /// The policy that deletes the kinds of a word when idle, which are joined by `+`, and gauges at the swap that
@@ -78,7 +86,8 @@ struct Bench {
     ghost allowed: { AreLimits (limits_of limits) },
     ghost opened: { shard.table.limits ≡ limits_of limits },
     ghost spare_limits: { ForSome spare (λ table. table.limits ≡ limits_of limits) },
-    ghost no_entries: { ForSome spare (λ table. table.held ≡ []) },
+    ghost no_samples: { ForSome spare (λ table. table.held ≡ 0) },
+    ghost no_entries: { ForSome spare (λ table. table.entries ≡ 0) },
 }
 
 impl Bench {
@@ -116,7 +125,7 @@ impl Bench {
             }
             _ => {
                 let sample = sample_of(alloc, step)?;
-                show_placed(self.shard.sample(Who(0), &sample), out);
+                show_placed(self.shard.sample(&sample), out);
                 Ok(())
             }
         }
@@ -139,12 +148,12 @@ impl Bench {
         let mut table = swap_counted::<Brand>(&mut self.shard, spare, Blank::new(1));
         self.most = most_steps(&table, &self.policy, &there);
         let shown = show_table(alloc, &table, out);
-        table.clear_entries();
+        table.clear_samples();
         self.spare = Some(table);
         shown
     }
 
-    /// Deletes rows, and shows how many rows and entries went, and the keys in order.
+    /// Deletes rows, and shows how many rows and samples went, and the keys in order.
     fn delete(&mut self, alloc: Global, what: &str, out: &mut Answer) -> Result<(), Refusal> {
         let (kind, pattern) = what.split_once('/').ok_or(Refusal::Malformed)?;
         let kind = kind_of(kind)?;
@@ -153,7 +162,7 @@ impl Bench {
         let deleted = self.shard.delete(kind, &pattern, &mut keys);
         keys.sort();
         out.count("rows ", u64::from(deleted.rows));
-        out.count(", entries ", deleted.samples);
+        out.count(", samples ", deleted.samples);
         for i in 0..keys.len() {
             out.text("\n    ");
             out.bytes(keys.get(i).as_slice());
@@ -201,18 +210,22 @@ fn show_placed(placed: Placed, out: &mut Answer) {
             out.count("no row, ", u64::from(live));
             out.count(" of ", u64::from(limit));
         }
-        Placed::Dropped(Cause::NoEntry { held, limit }) => {
-            out.count("no entry, ", u64::from(held));
+        Placed::Dropped(Cause::NoEntry { entries, limit }) => {
+            out.count("no entry, ", entries);
             out.count(" of ", u64::from(limit));
+        }
+        Placed::Dropped(Cause::NoSum { summed, limit }) => {
+            out.count("no sum, ", summed);
+            out.count(" of ", limit);
         }
         Placed::Dropped(Cause::NoNumber { taken }) => out.count("no number, ", taken),
     }
 }
 
-/// Appends how many rows and entries a table has, and its rows by kind and name.
+/// Appends how many rows and samples a table has, and its rows by kind and name.
 pub(crate) fn show_table(alloc: Global, table: &Table, out: &mut Answer) -> Result<(), Refusal> {
     out.count("rows ", u64::from(table.rows()));
-    out.count(", entries ", u64::from(table.entries()));
+    out.count(", samples ", table.held());
     let mut rows = Vec::new(alloc);
     for i in 0..table.rows() {
         let mut row = Answer::new(alloc);

@@ -8,7 +8,7 @@ use crate::shards::{limits_from, show_name, show_sorted, show_table};
 use sd_case::{Answer, Refusal, bytes_of, key_of, kind_of, number};
 use sd_config::{NamesOf, Settings};
 use sd_decimal::Micro;
-use sd_epoch::{Limits, Scratch, Table, Who};
+use sd_epoch::{Limits, Scratch, Table};
 use sd_key::Kind;
 use sd_outside::MemSink;
 use sd_plan::Names;
@@ -117,16 +117,22 @@ impl Bench {
         let limits = self.table.limits();
         out.count("rows ", u64::from(limits.rows));
         out.count(", entries ", u64::from(limits.entries));
+        if limits.sums_on_arrival {
+            out.text(", sums on arrival");
+        }
     }
 
     /// Puts a sample into the table, where there is room for a new row and an entry.
     fn push(&mut self, alloc: Global, word: &str, out: &mut Answer) -> Result<(), Refusal> {
         let sample = sample_of(alloc, word)?;
         let limits = self.table.limits();
-        if self.table.rows() >= limits.rows || self.table.entries() >= limits.entries {
+        if self.table.rows() >= limits.rows
+            || self.table.entries() >= limits.entries
+            || self.table.held() >= u64::from(limits.entries)
+        {
             return Err(Refusal::Condition);
         }
-        self.table.push(Who(0), 0, &sample);
+        self.table.sample(&sample);
         out.text("ok");
         Ok(())
     }
@@ -150,7 +156,7 @@ impl Bench {
         Ok(())
     }
 
-    /// Takes the row that is written as `KIND/NAME` out, and appends how many entries went.
+    /// Takes the row that is written as `KIND/NAME` out, and appends how many samples went.
     fn forget(&mut self, alloc: Global, what: &str, out: &mut Answer) -> Result<(), Refusal> {
         let (kind, name) = what.split_once('/').ok_or(Refusal::Malformed)?;
         let key = key_of(alloc, name)?;
@@ -208,7 +214,7 @@ fn show_parts(
 /// Appends the values or the members of a table's row, in the order in which they came, or what they come to.
 fn show_part(table: &Table, i: u32, part: Part, gathered: &mut Scratch, out: &mut Answer)
     requires place { i < length table.now.listed }
-    requires room { length table.now.held ≤ gathered.old.room }
+    requires room { table.now.entries ≤ gathered.old.room }
     ensures { gathered.new.room ≡ gathered.old.room }
 {
     match part {

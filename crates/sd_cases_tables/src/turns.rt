@@ -1,4 +1,4 @@
-ghost use Rattle.std.specs.Prelude.{◌≡◌, ◌<◌, []};
+ghost use Rattle.std.specs.Prelude.{◌≡◌, ◌<◌};
 
 use sd_case::Refusal;
 use sd_epoch::Table;
@@ -11,7 +11,8 @@ use std::sync::ledger::{Blank, Ledger};
 /// Swaps a shard, with steps that are counted in a ledger of their own.
 pub(crate) fn swap_counted<L: Ledger>(shard: &mut Shard, spare: Table, blank: Blank) -> Table
     requires limits { spare.limits ≡ shard.old.table.limits }
-    requires no_entries { spare.held ≡ [] }
+    requires no_samples { spare.held ≡ 0 }
+    requires no_entries { spare.entries ≡ 0 }
     requires name { blank.name ≡ L.name }
     requires parts { blank.parts ≡ L.parts }
     requires some { 0 < blank.parts }

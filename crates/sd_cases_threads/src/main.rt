@@ -1,17 +1,14 @@
 //! Cases of values behind a turn, and of a pool among threads: each line of the input names one, and is printed with its answer,
-//! which is the same whatever the order of the threads. A line reads as in `ledger 20000 30000`; the others with one number or two
-//! are `turn`, `seats`, `desk` and `facts`. Those of a pool read `shared LINE` or `held LINE`, with the line of one sample.
+//! which is the same whatever the order of the threads. A line reads as in `turn 20000 30000`; the others with one number or two
+//! are `seats`, `desk` and `facts`. Those of a pool read `shared LINE` or `held LINE`, with the line of one sample.
 #![tactic(auto)]
 
-mod book;
 mod desk;
 mod held;
-mod meter;
 mod puts;
 mod register;
 mod shared;
 
-use book::add_both;
 use desk::{Counted, add_and_take, each_call};
 use held::hold_one;
 use puts::{Done, open_many, put_both};
@@ -45,23 +42,7 @@ fn rise(answers: &[u64]) -> bool {
     true
 }
 
-// The first seat adds 1 each time, and the second 3. What is called inside the turn counts too.
-fn ledger_case<R: Threads + Wait + Sync>(
-    rt: &R,
-    alloc: Global,
-    first: u32,
-    second: u32,
-) -> Result<String, AllocError> {
-    let inside = AtomicU64::new(0);
-    let meter = add_both(rt, alloc, &inside, first, second)?;
-    let counted = inside.load(SeqCst);
-    format!(in alloc;
-        "total {}, calls {}, counted inside {counted}",
-        meter.total, meter.calls
-    )
-}
-
-// Each seat puts 1 each time, and is answered the sum before it.
+// Each seat puts 1 each time, and is answered the sum before it. What is called inside the turn counts too.
 fn turn_case<R: Threads + Wait + Sync>(
     rt: &R,
     alloc: Global,
@@ -195,7 +176,6 @@ fn answer<R: Threads + Wait + Sync>(
     let first = word.parse::<u32>();
     let second = words.next().unwrap_or("").parse::<u32>();
     match (name, first, second) {
-        ("ledger", Ok(first), Ok(second)) => ledger_case(rt, alloc, first, second),
         ("turn", Ok(first), Ok(second)) => turn_case(rt, alloc, first, second),
         ("seats", Ok(seats), _) => seats_case(alloc, seats),
         ("desk", Ok(first), Ok(second)) => desk_case(rt, alloc, first, second),

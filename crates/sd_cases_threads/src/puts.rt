@@ -4,13 +4,19 @@ ghost use Rattle.sd_turn.specs.Turn.{IsSeatOf, number_of};
 ghost use Rattle.sd_cases_threads.specs.Puts.{IsLegal, sum_after};
 ghost use Rattle.sd_cases_threads.specs.declared.register.Event.{Event};
 
-use crate::book::count_up;
 use crate::register::{Put, Register, Was};
 use sd_turn::{Turn, TurnSeat};
 use std::alloc::{AllocError, Global};
 use std::sync::Wait;
 use std::sync::atomic::AtomicU64;
+use std::sync::atomic::Ordering::SeqCst;
 use std::thread::{Threads, join};
+
+// Adds 1 in two steps, between which another thread may come, unless each has the turn meanwhile.
+fn count_up(inside: &AtomicU64) {
+    let found = inside.load(SeqCst);
+    inside.store(found.wrapping_add(1), SeqCst);
+}
 
 /// A seat, and the sums that it was answered, in order.
 #[derive(Drop)]

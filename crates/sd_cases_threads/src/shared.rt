@@ -20,6 +20,7 @@ pub const HOME: u16 = 5;
 pub const LIMITS: Limits = Limits {
     rows: 16,
     entries: 4096,
+    sums_on_arrival: false,
 };
 
 /// No kind is deleted when idle.
@@ -61,7 +62,7 @@ fn swap_often<R: Wait>(
     let mut spare = spare;
     for _ in 0..times {
         spare = pool.swap(rt, i, &mut seat, spare);
-        spare.clear_entries();
+        spare.clear_samples();
     }
     seat
 }

@@ -1,5 +1,5 @@
 -- What the names of a deletion do and get replied, one after another, and what a whole line does.
-use Rattle.std.proofs.Common.{◌≡◌, ℕ, ◌+◌, ◌<◌, ◌≤◌, zero, suc, take, length, Bool, true, false, cond, List, [], ◌∷◌, ◌++◌, map, refl, ap, ◌∙◌, arith, append-nil, sym}
+use Rattle.std.proofs.Common.{◌≡◌, ℕ, ◌+◌, ◌-◌, ◌<◌, ◌≤◌, zero, suc, take, length, Bool, true, false, cond, List, [], ◌∷◌, ◌++◌, map, refl, ap, ◌∙◌, arith, append-nil, sym}
 use Rattle.std.specs.Prelude.{filter, Option, flat_map, slice_get, Some, None, Result, Ok, Err, OnOk, OnErr, not, nat_le, ⊤}
 use Rattle.std.specs.FinMap.{empty, get, get-empty, same_map}
 use Rattle.std.proofs.lemmas.List.{get_or_past}
@@ -15,8 +15,11 @@ use Rattle.sd_model_outside.specs.Outside.{Object, HasFailedBehind, given}
 use Rattle.sd_model_outside.proofs.WriteLemmas.{given-given, behind-later}
 use Rattle.sd_model_shard.specs.Shard as shard
 use Rattle.sd_model_shard.specs.Shard.{State, empty_state, Event, Delete, Dump, after_delete, deletion_of}
-use Rattle.sd_model_shard.specs.Rows.{Rows as RowMap, Kept, row_cmp}
-use Rattle.sd_model_shard.specs.Commands.{is_hit, rows_left}
+use Rattle.sd_model_shard.specs.Rows.{RowId, Kept, row_cmp}
+use Rattle.sd_model_shard.specs.Commands.{is_hit, rows_left, rows_taken_out}
+use Rattle.sd_model_shard.specs.Summaries.{samples_in, samples_where, listed_in}
+use Rattle.sd_model_shard.proofs.SumLemmas.{samples-parts, samples-none}
+use Rattle.sd_model_shard.proofs.SummaryLemmas.{Tell-empty}
 use Rattle.sd_model_shard.proofs.RowLemmas.{rows_total, rows_exact}
 use Rattle.sd_model_shard.proofs.DeletionLemmas.{get-rows_left}
 use Rattle.sd_model_shard.specs.History.{Asked, answered, after_all}
@@ -72,10 +75,18 @@ none_left : (b : Bool) (found : Option Kept) → found ≡ None → cond b found
 none_left true found none = refl
 none_left false found none = sym none
 
+none_out : (test : RowId → Bool) (kind : Kind) (name : List ℕ) → samples_where test (rows_taken_out kind name empty) ≡ 0
+none_out test kind name = omega (arith, samples-parts test empty (is_hit kind name), samples-none test empty Tell-empty)
+
 pub idle_delete : (kind : Kind) (name : List ℕ) → after_delete kind name empty_state ≡ empty_state
 idle_delete kind name =
-    ap (λ (live : RowMap). record empty_state { live = live })
-    (same_map rows_total rows_exact (rows_left kind name empty) empty (λ q. get-rows_left kind name empty q ∙ none_left (not (is_hit kind name q)) (get empty q) (get-empty row_cmp q)))
+    let live : rows_left kind name empty ≡ empty =
+    same_map rows_total rows_exact (rows_left kind name empty) empty (λ q. get-rows_left kind name empty q ∙ none_left (not (is_hit kind name q)) (get empty q) (get-empty row_cmp q)) in
+    let out = rows_taken_out kind name empty in
+    let held : 0 - samples_in out ≡ 0 = omega arith in
+    let listed : 0 - listed_in out ≡ 0 = omega arith in
+    let deleted : 0 + samples_in out ≡ 0 = omega (arith, none_out (λ id. true) kind name) in
+    λ i. record { live = live i; held = held i; listed = listed i; taken = 0; flushed = 0; deleted = deleted i; dropped = 0 }
 
 -- what a line does to a shard
 module _ (bounds : Bounds) where

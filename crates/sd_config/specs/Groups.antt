@@ -61,4 +61,10 @@ flush_rules_view s =
 
 abbrev pub transport_view : Transport → model.Transport
 transport_view s =
-    record { outlets = s.outlets; outlet_bytes = s.outlet_bytes; tcp_port = s.tcp_port; receive_buffer = s.receive_buffer }
+    record {
+      outlets = s.outlets;
+      outlet_bytes = s.outlet_bytes;
+      tcp_port = s.tcp_port;
+      sums_on_arrival = s.sums_on_arrival;
+      receive_buffer = s.receive_buffer;
+    }

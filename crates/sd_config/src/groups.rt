@@ -199,13 +199,15 @@ pub(crate) fn flush_rules_in(top: &Section) -> Result<FlushRules, ConfigFault>
     })
 }
 
-/// How many texts may wait for each backend and of how many bytes each may be, the port of streams of lines, and how many
-/// bytes of room for datagrams each receiver asks the system for; 0 is none.
+/// How many texts may wait for each backend and of how many bytes each may be, the port of streams of lines, whether the
+/// samples of counters and gauges are summed up as they come, and how many bytes of room for datagrams each receiver asks
+/// the system for; 0 is none.
 #[derive(Debug, Drop)]
 pub(crate) struct Transport {
     pub(crate) outlets: u32,
     pub(crate) outlet_bytes: u32,
     pub(crate) tcp_port: u32,
+    pub(crate) sums_on_arrival: bool,
     pub(crate) receive_buffer: u32,
 }
 
@@ -217,11 +219,13 @@ pub(crate) fn transport_in(top: &Section) -> Result<Transport, ConfigFault>
     let per_outlet = top.whole("outletBytes", 65_536, 16_777_216, 4_194_304)?;
     let outlet_bytes = top.within_product("outletBytes", 268_435_456, outlets, per_outlet)?;
     let tcp_port = top.whole("tcp_port", 0, 65_535, 0)?;
+    let sums_on_arrival = top.flag("sumsOnArrival", false)?;
     let receive_buffer = top.whole("receiveBuffer", 0, 1_073_741_824, 0)?;
     Ok(Transport {
         outlets,
         outlet_bytes,
         tcp_port,
+        sums_on_arrival,
         receive_buffer,
     })
 }

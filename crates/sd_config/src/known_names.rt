@@ -14,7 +14,7 @@ use crate::fields::found;
 use sd_outside::Name;
 use toml::{Table, Value};
 
-const TOP: [&str; 32] = [
+const TOP: [&str; 33] = [
     "port",
     "mgmt_port",
     "flushInterval",
@@ -46,6 +46,7 @@ const TOP: [&str; 32] = [
     "outlets",
     "outletBytes",
     "tcp_port",
+    "sumsOnArrival",
     "receiveBuffer",
 ];
 

@@ -196,6 +196,13 @@ impl Settings {
         self.transport.tcp_port
     }
 
+    /// Whether the samples of counters and gauges are summed up as they come, and take none of a shard's entries.
+    pub fn sums_on_arrival(&self) -> bool
+        ensures { result ≡ self.now.transport.sums_on_arrival }
+    {
+        self.transport.sums_on_arrival
+    }
+
     /// How many bytes of room for the datagrams that wait for it each receiver asks the system for; 0 asks for none.
     pub fn receive_buffer(&self) -> u32
         ensures { IsSetting (λ n. n ≤ 1073741824) self.now.transport.receive_buffer result }

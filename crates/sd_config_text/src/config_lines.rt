@@ -17,7 +17,7 @@ use sd_plan::{Classes, Node, Target};
 // how many lines stand before those of entries, and behind them
 const FRONT_LINES: usize = 22;
 
-const BACK_LINES: usize = 13;
+const BACK_LINES: usize = 14;
 
 /// The line of a name and a value.
 pub fn line_of(name: &[u8], value: &[u8]) -> ReplyLine
@@ -188,7 +188,7 @@ fn rule_line(settings: &Settings, place: usize) -> Option<ReplyLine>
     }
 }
 
-/// The line of outlets, of the port of streams or of the receivers' room, at a place.
+/// The line of outlets, of the port of streams, of sums on arrival or of the receivers' room, at a place.
 fn transport_line(settings: &Settings, place: usize) -> Option<ReplyLine>
     ensures { option_map (λ l. l.items) result ≡ slice_get (transport_lines settings.now.transport) place }
 {
@@ -196,7 +196,8 @@ fn transport_line(settings: &Settings, place: usize) -> Option<ReplyLine>
         0 => Some(setting_line("outlets", settings.outlets())),
         1 => Some(setting_line("outletBytes", settings.outlet_bytes())),
         2 => Some(setting_line("tcp_port", settings.tcp_port())),
-        3 => Some(setting_line("receiveBuffer", settings.receive_buffer())),
+        3 => Some(flag_line("sumsOnArrival", settings.sums_on_arrival())),
+        4 => Some(setting_line("receiveBuffer", settings.receive_buffer())),
         _ => None,
     }
 }
@@ -326,7 +327,7 @@ fn node_at(nodes: &[Node], place: usize) -> Option<ReplyLine>
 /// How many lines the reply to `config` has.
 pub fn config_line_count(settings: &Settings) -> usize
     ensures len { result ≡ length (config_lines settings.now) }
-    ensures short { result ≤ 131 }
+    ensures short { result ≤ 132 }
 {
     let entries = settings.histogram().len() + settings.repeater().len() + settings.nodes().len();
     FRONT_LINES + entries + BACK_LINES

@@ -1,8 +1,9 @@
 -- The keeping of a door: the visits of its sessions, and how it ends.
-use Rattle.std.specs.Prelude.{◌≡◌, ℕ, ◌+◌, Bool, true, false, List, [], ◌∷◌}
+use Rattle.std.specs.Prelude.{◌≡◌, ℕ, ◌+◌, Bool, true, false, List, [], ◌∷◌, ◌++◌}
 use Rattle.sd_model_outside.specs.Outside.{Object, raised}
 use Rattle.sd_model_outside.specs.Turns.{IsSpent}
-use Rattle.sd_model_record.specs.Counts.{Amounts, Part, HasCounted, RoundsMade, nothing, of_sessions, plus}
+use Rattle.sd_model_record.specs.Counts.{Among, Amounts, IsKeeping, Part, HasCalled, HasCounted, RoundsMade, nothing, of_sessions, plus}
+use Rattle.sd_model_record.specs.DeskHistory.{DeskCall}
 use Rattle.sd_model_serve.specs.Doors.{Visit, ServesDoor, faults_among}
 use Rattle.sd_model_serve.specs.Ends.{EndsKeeper, Spent, Enough, WornOut}
 use Rattle.sd_outside.specs.declared.door.DoorEnd.{DoorEnd}
@@ -13,27 +14,33 @@ abbrev pub visit_of : (asking asking_now told told_now : Object) → Bool → Vi
 visit_of asking asking_now told told_now is_fault =
     record { asking = asking; asking_now = asking_now; told = told; told_now = told_now; is_fault = is_fault }
 
--- So much was counted at the desk, of which a fact holds.
-pub record Counts (fact : Amounts → Type 0) (part part_now : Part) : Type 0 where
+-- So much was counted at the desk by these calls, of which a fact holds.
+pub record Counts (fact : Amounts → List DeskCall → Type 0) (part part_now : Part) : Type 0 where
   pub amounts : Amounts
-  pub holds : fact amounts
+  pub calls : List DeskCall
+  pub holds : fact amounts calls
+  pub made : part_now.own ≡ part.own ++ calls
   pub counted : HasCounted amounts part part_now
 
--- Visits were made one after another, each of which leads from what a visitor was to what it is, and counts so much together.
-abbrev pub Visited : {V : Type 0} → (V → V → Visit → Amounts → Type 0) → List Visit → V → V → Amounts → Type 0
-Visited leads [] old new amounts = (new ≡ old) × (amounts ≡ nothing)
-Visited {V} leads (v ∷ visits) old new amounts =
-    (mid : V) × (first : Amounts) × (rest : Amounts) × leads old mid v first × Visited leads visits mid new rest × (amounts ≡ plus first rest)
+-- Visits were made one after another, each of which leads from what a visitor was to what it is, and counts so much together, by
+-- these calls.
+abbrev pub Visited : {V : Type 0} → (V → V → Visit → Amounts → List DeskCall → Type 0) → List Visit → V → V → Amounts → List DeskCall → Type 0
+Visited leads [] old new amounts calls = (new ≡ old) × (amounts ≡ nothing) × (calls ≡ [])
+Visited {V} leads (v ∷ visits) old new amounts calls =
+    (mid : V) × (first : Amounts) × (rest : Amounts) × (begun : List DeskCall) × (behind : List DeskCall)
+    × leads old mid v first begun × Visited leads visits mid new rest behind × (amounts ≡ plus first rest) × (calls ≡ begun ++ behind)
 
 -- Sessions of a door were visited one after another, and given back. What the visits count for was counted at the desk, and each
 -- failure of the door and each visit that is a fault.
-pub record HasKept {V : Type 0} (leads : V → V → Visit → Amounts → Type 0) (old new : V) (door door_now : Object) (part part_now : Part) : Type 0 where
+pub record HasKept {V : Type 0} (leads : V → V → Visit → Amounts → List DeskCall → Type 0) (old new : V) (door door_now : Object) (part part_now : Part) : Type 0 where
   pub visits : List Visit
   pub failures : ℕ
   pub amounts : Amounts
+  pub calls : List DeskCall
   pub served : ServesDoor visits failures door door_now
   pub counted : HasCounted (plus amounts (of_sessions (failures + faults_among visits))) part part_now
-  pub visited : Visited leads visits old new amounts
+  pub called : HasCalled (Among IsKeeping calls) part part_now
+  pub visited : Visited leads visits old new amounts calls
 
 -- why the keeping of a door ended, after so many turns of it
 abbrev pub EndsAfter : ℕ → DoorEnd → Object → Part → ℕ → Type 0

@@ -25,6 +25,7 @@ fn serve_next<V: Visitor, E: Door, R: Wait>(
     requires own { IsSeatOf desk.now own.old }
     requires ready { V.can_visit visitor.old }
     requires none_out { (E.seen door.old).is_out ≡ false }
+    requires few { (E.seen door.old).turns < 2 ^ 63 }
     ensures own { IsSeatOf desk.now own.new × (number_of_seat own.new ≡ number_of_seat own.old) }
     ensures ready { V.can_visit visitor.new }
     ensures kept { HasKept V.has_visited visitor.old visitor.new (E.seen door.old) (E.seen door.new) (part_of own.old) (part_of own.new) }

@@ -1,5 +1,6 @@
-ghost use Rattle.std.specs.Prelude.{◌≡◌, ◌+◌, ◌<◌, true};
+ghost use Rattle.std.specs.Prelude.{◌≡◌, ◌+◌, ◌<◌, List, true};
 ghost use Rattle.sd_model_record.specs.Counts.{Amounts};
+ghost use Rattle.sd_model_record.specs.DeskHistory.{DeskCall};
 ghost use Rattle.sd_model_serve.specs.Doors.{Visit};
 ghost use Rattle.sd_shared_desk.specs.Shared.{IsSeatOf, number_of_seat, part_of};
 ghost use Rattle.sd_door.specs.Keeping.{Counts, visit_of};
@@ -13,8 +14,8 @@ pub trait Visitor {
     /// It may visit a session.
     ghost can_visit: { Self → Type 0 };
 
-    /// By what it was and what it is, it has visited a session of which this is seen, and counts so much for it at the desk.
-    ghost has_visited: { Self → Self → Visit → Amounts → Type 0 };
+    /// By what it was and what it is, it has visited a session of which this is seen, and counts so much for it at the desk, by these calls.
+    ghost has_visited: { Self → Self → Visit → Amounts → List DeskCall → Type 0 };
 
     /// Visits a session by its two ends, and answers whether that is a fault, which it is only where an end failed. A fault isn't
     /// counted by the visitor.

@@ -1,11 +1,11 @@
 -- Rows and entries of which some are taken out.
 use Rattle.std.proofs.Common.{◌≡◌, Bool, true, false, cond, not, List, [], ◌∷◌, filter, map, refl, sym, ap, ◌∙◌, Option, None}
 use Rattle.std.specs.Cmp.{eq_by_cmp_equiv}
-use Rattle.std.specs.FinMap.{from_entries, get, remove, retain_keys, get-remove, get-retain_keys, same_map}
-use Rattle.sd_model_shard.specs.Rows.{RowId, row_cmp, Kept, is_same_row}
+use Rattle.std.specs.FinMap.{get, remove, retain_keys, get-remove, get-retain_keys, same_map}
+use Rattle.sd_model_shard.specs.Rows.{RowId, row_cmp, Rows, Kept, is_same_row}
 use Rattle.sd_model_shard.proofs.RowLemmas.{rows_exact, rows_total}
 use Rattle.sd_model_shard.proofs.EntryLemmas.{StandApart}
-use Rattle.sd_model_shard.proofs.ListedLemmas.{StandApart-filter, retained}
+use Rattle.sd_model_shard.proofs.ListedLemmas.{StandApart-filter}
 use Rattle.sd_epoch.specs.Table.{AreApart}
 
 pub map-filter : {X A : Type 0} (v : X → A) (p : A → Bool) (xs : List X) → map v (filter (λ x. p (v x)) xs) ≡ filter p (map v xs)
@@ -28,12 +28,10 @@ AreApart-from (e ∷ es) a = (a.0, AreApart-from es a.1)
 pub AreApart-filter : (p : RowId → Bool) (es : List (RowId × Kept)) → AreApart es → AreApart (filter (λ (e : RowId × Kept). p e.0) es)
 AreApart-filter p es a = AreApart-from (filter (λ (e : RowId × Kept). p e.0) es) (StandApart-filter p es (StandApart-rows es a))
 
--- the map without a row
-pub without_row : (id : RowId) (es : List (RowId × Kept)) → from_entries {R = row_cmp} (filter (λ (e : RowId × Kept). not (is_same_row id e.0)) es) ≡ remove (from_entries es) id
-without_row id es =
-    let m = from_entries {R = row_cmp} es in
-    sym (retained (λ r. not (is_same_row id r)) es)
-    ∙ same_map rows_total rows_exact (retain_keys m (λ r. not (is_same_row id r))) (remove m id) (λ q.
+-- to keep all rows but one is to take it out
+pub without_id : (m : Rows) (id : RowId) → retain_keys m (λ r. not (is_same_row id r)) ≡ remove m id
+without_id m id =
+    same_map rows_total rows_exact (retain_keys m (λ r. not (is_same_row id r))) (remove m id) (λ q.
     get-retain_keys m (λ r. not (is_same_row id r)) q (λ x tie. ap (λ (r : RowId). not (is_same_row id r)) (sym (rows_exact q x tie)))
     ∙ ap (λ b. cond (not b) (get m q) None) ((eq_by_cmp_equiv rows_total).symm id q)
     ∙ turned (is_same_row q id) (get m q) ∙ sym (get-remove rows_total m id q)) where

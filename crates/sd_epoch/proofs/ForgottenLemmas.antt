@@ -1,55 +1,131 @@
--- A table of which rows were taken out, and their entries with them.
-use Rattle.std.proofs.Common.{◌≡◌, ℕ, Bool, not, filter, length, refl, sym, ap, subst, List, ◌∙◌, arith, All, Option}
-use Rattle.std.proofs.lemmas.List.{length-map}
-use Rattle.std.proofs.lemmas.List.Elements.{All-filter}
-use Rattle.std.proofs.lemmas.List.Filters.{length-filter_both}
+-- A table of which rows were taken out, and what came to them.
+use Rattle.std.proofs.Common.{◌≡◌, ◌≢◌, ℕ, ◌+◌, ◌≤◌, Bool, true, not, List, length, get_or, filter, is_some, Option, None, refl, sym, ap, subst, ◌∙◌, arith}
+use Rattle.std.specs.Prelude.{sum_by}
+use Rattle.std.specs.FinMap.{retain_keys}
 use Rattle.sd_model_shard.specs.Rows as model
-use Rattle.sd_model_shard.specs.Rows.{RowId, Kept, row_of}
+use Rattle.sd_model_shard.specs.Rows.{RowId, Summary}
+use Rattle.sd_model_shard.specs.Summaries.{is_listed, samples_in, samples_where, listed_in as samples_listed}
+use Rattle.sd_model_shard.proofs.SumLemmas.{samples-parts}
+use Rattle.sd_key.specs.Kind.{kind_of}
+use Rattle.sd_rows.specs.Rows.{row_at}
 use Rattle.sd_rows.specs.declared.row.Row.{Row}
-use Rattle.sd_epoch.specs.Entries.{listed_in, entry_view, held_in, places_of, AllLive, AreLeft, AreRows, AreTallies, IsTimed}
 use Rattle.sd_epoch.specs.Forget.{IsClosedUp}
-use Rattle.sd_epoch.specs.Held.{Filed, Held}
-use Rattle.sd_epoch.specs.TableInside.{IsTable}
-use Rattle.sd_epoch.specs.declared.chain.Chain.{Chain}
+use Rattle.sd_epoch.specs.Members.{member_places}
+use Rattle.sd_epoch.specs.Places.{listed_as, kept_as, kept_in, told_live, AllLive, AreLeft, AreRows, AreSince, IsSince}
+use Rattle.sd_epoch.specs.Since.{no_tally, since_at, told_values, told_members}
+use Rattle.sd_epoch.specs.TableInside.{since_in, IsTable}
+use Rattle.sd_epoch.specs.Table.{most_held}
+use Rattle.sd_epoch.specs.Values.{value_places}
+use Rattle.sd_epoch.specs.declared.members.Members.{Members}
+use Rattle.sd_epoch.specs.declared.members.SetMember.{SetMember}
 use Rattle.sd_epoch.specs.declared.order.Order.{Order}
 use Rattle.sd_epoch.specs.declared.table.Table.TheInside.{Inside}
-use Rattle.sd_epoch.proofs.LeftLemmas.{listed_left, held_left, left_rows, left_tallies, all_owned}
+use Rattle.sd_epoch.specs.declared.tally.Tally.{Tally}
+use Rattle.sd_epoch.specs.declared.values.TimerValue.{TimerValue}
+use Rattle.sd_epoch.specs.declared.values.Values.{Values}
+use Rattle.sd_epoch.proofs.LeftLemmas.{left_rows, left_was, left_stays, all_owned, own_left}
+use Rattle.sd_epoch.proofs.OrderLemmas.{ranked_different}
+use Rattle.sd_epoch.proofs.PlacedLemmas.{same_told, same_places}
+use Rattle.sd_epoch.proofs.SumLemmas.{samples_told, entries_are}
+use Rattle.sd_epoch.proofs.ToldLemmas.{told_left}
 
 module _
-    (t : Inside) (w : IsTable t) (gone : RowId → Bool) (rows : List (Option Row)) (order : Order) (entries : Held) (chain : Chain) (went : ℕ)
-    (are : AreLeft gone t.rows rows) (closed : IsClosedUp rows t.order order t.entries entries t.chain chain went) where
-  -- the rows that are left
-  pub listed_now : listed_in rows order.places.items ≡ filter (λ (e : RowId × Kept). not (gone e.0)) (listed_in t.rows t.order.places.items)
-  listed_now = ap (listed_in rows) closed.order ∙ listed_left gone t.rows rows are t.order.places.items w.rows.live
+    (t : Inside) (w : IsTable t) (gone : RowId → Bool) (rows : List (Option Row)) (order : Order) (values : Values) (members : Members)
+    (are : AreLeft gone t.rows rows) (closed : IsClosedUp rows t.order order t.values values t.members members) where
+  abbrev pub since_now : ℕ → Summary
+  since_now = since_at t.tallies.items values.items.items members.items.items
 
-  -- the entries that are left
-  pub held_now : held_in rows entries.items ≡ filter (λ (e : model.Entry). not (gone (row_of e.sample))) (held_in t.rows t.entries.items)
-  held_now = ap (held_in rows) closed.entries ∙ held_left gone t.rows rows are t.entries.items w.owned
+  -- the values and the members whose place has a row, with the links that they had
+  abbrev left_values : List TimerValue
+  left_values = filter (λ v. is_some (row_at rows v.place)) t.values.items.items
 
-  -- the entries that went
-  pub went_are : went ≡ length (filter (λ (e : model.Entry). gone (row_of e.sample)) (held_in t.rows t.entries.items))
-  went_are =
-      let held = held_in t.rows t.entries.items in
-      let both = length-filter_both (λ (e : model.Entry). gone (row_of e.sample)) (λ (e : model.Entry). not (gone (row_of e.sample))) (λ e. refl) held in
-      omega (arith, both, ap length held_now, closed.count, length-map t.entries.items (entry_view t.rows), length-map entries.items (entry_view rows))
+  abbrev left_members : List SetMember
+  left_members = filter (λ m. is_some (row_at rows m.place)) t.members.items.items
+
+  -- what came to a row that is left stays
+  same_since : (p : ℕ) → row_at rows p ≢ None → since_now p ≡ since_in t p
+  same_since p l =
+      let tally = get_or t.tallies.items p no_tally in
+      let mine = same_told (λ (v : TimerValue). v.place) (λ (v : TimerValue). v.value.0) values.items.items left_values closed.value_items p ∙ ap told_values (own_left (λ (v : TimerValue). v.place) rows p l t.values.items.items) in
+      let named = same_told (λ (m : SetMember). m.place) (λ (m : SetMember). m.member.items) members.items.items left_members closed.member_items p ∙ ap told_members (own_left (λ (m : SetMember). m.place) rows p l t.members.items.items) in
+      λ i. record { samples = tally.samples; weight = tally.weight.0; gauge = tally.gauge.0; values = mine i; members = named i }
+
+  pub rows_now : AreRows rows order.places.items
+  rows_now = subst (AreRows rows) (sym closed.order) (left_rows gone t.rows rows are t.order.places.items w.rows)
+
+  pub all_since : AreSince rows since_now
+  all_since p row is =
+      let l : row_at rows p ≢ None = λ none. absurd (cc (is, none)) in
+      let was = left_was gone t.rows rows are p l in
+      subst (IsSince (kind_of row.kind) row.base.0) (sym (same_since p l)) (w.since p row (sym was.2 ∙ is))
+
+  pub owned_values_now : AllLive rows (value_places values.items.items)
+  owned_values_now = subst (AllLive rows) (sym (same_places (λ (v : TimerValue). v.place) (λ (v : TimerValue). v.value.0) values.items.items left_values closed.value_items)) (all_owned (λ (v : TimerValue). v.place) rows t.values.items.items)
+
+  pub owned_members_now : AllLive rows (member_places members.items.items)
+  owned_members_now = subst (AllLive rows) (sym (same_places (λ (m : SetMember). m.place) (λ (m : SetMember). m.member.items) members.items.items left_members closed.member_items)) (all_owned (λ (m : SetMember). m.place) rows t.members.items.items)
+
+  -- the rows that are left, each with what came to it
+  pub live_now : told_live rows since_now order.places.items ≡ retain_keys (told_live t.rows (since_in t) t.order.places.items) (λ id. not (gone id))
+  live_now =
+      told_left gone t.rows rows t.order.places.items order.places.items (since_in t) since_now w.rows rows_now
+      (λ p l.
+      let was = left_was gone t.rows rows are p l in
+      let kept : kept_in rows since_now p ≡ kept_in t.rows (since_in t) p = λ i. kept_as (was.2 i) (same_since p l i) in
+      (was.0, was.1, kept, ap (λ (o : Option Row). (listed_as o).0) was.2))
+      (left_stays gone t.rows rows are)
+
+  -- those that go and those that are left
+  parts : (test : RowId → Bool) → samples_where test (told_live t.rows (since_in t) t.order.places.items)
+      ≡ samples_where test (retain_keys (told_live t.rows (since_in t) t.order.places.items) gone) + samples_where test (told_live rows since_now order.places.items)
+  parts test =
+      let m = told_live t.rows (since_in t) t.order.places.items in
+      samples-parts test m gone ∙ ap (λ (live : model.Rows). samples_where test (retain_keys m gone) + samples_where test live) (sym live_now)
+
+  pub samples_parted : t.held ≡ samples_in (retain_keys (told_live t.rows (since_in t) t.order.places.items) gone) + samples_in (told_live rows since_now order.places.items)
+  samples_parted = w.held ∙ parts (λ id. true)
+
+  -- the samples of the rows that are left, place by place
+  pub left_samples : sum_by (λ p. (get_or t.tallies.items p no_tally).samples) order.places.items ≡ samples_in (told_live rows since_now order.places.items)
+  left_samples = sym (samples_told (λ id. true) rows since_now order.places.items rows_now)
+
+  -- the same of what was read, and its bound
+  pub held_is : (tallies : List Tally) (places : List ℕ) (held : ℕ) → places ≡ order.places.items → tallies ≡ t.tallies.items → held ≡ sum_by (λ p. (get_or tallies p no_tally).samples) places
+      → held ≡ samples_in (told_live rows since_now order.places.items)
+  held_is tallies places held there same is = is ∙ (λ i. sum_by (λ (p : ℕ). (get_or (same i) p no_tally).samples) (there i)) ∙ left_samples
+
+  pub few_left : (tallies : List Tally) (places : List ℕ) → places ≡ order.places.items → tallies ≡ t.tallies.items → sum_by (λ p. (get_or tallies p no_tally).samples) places ≤ most_held
+  few_left tallies places there same = omega (arith, held_is tallies places (sum_by (λ p. (get_or tallies p no_tally).samples) places) there same refl, samples_parted, w.few_held)
+
+  pub entries_parted : length t.values.items.items + length t.members.items.items
+      ≡ samples_listed (retain_keys (told_live t.rows (since_in t) t.order.places.items) gone) + (length values.items.items + length members.items.items)
+  entries_parted =
+      let before = entries_are t.rows t.tallies.items t.values.items.items t.members.items.items t.order.places.items w.rows (ranked_different t.order.places.items t.order.rank.items w.ranked) w.since w.owned_values w.owned_members in
+      let after = entries_are rows t.tallies.items values.items.items members.items.items order.places.items rows_now (ranked_different order.places.items order.rank.items closed.ranked) all_since owned_values_now owned_members_now in
+      omega (arith, before, after, parts (λ id. is_listed id.kind))
 
   -- what is left is a table
-  pub table_now : length rows ≡ length t.rows → IsTable (record t { rows = rows; order = order; entries = entries; chain = chain })
-  table_now long = record {
+  pub table_now : (held : ℕ) → length rows ≡ length t.rows → held ≡ samples_in (told_live rows since_now order.places.items)
+      → IsTable (record t { rows = rows; order = order; values = values; members = members; held = held })
+  table_now held long is = record {
     limits = w.limits;
-    rows = subst (AreRows rows) (sym closed.order) (left_rows gone t.rows rows are t.order.places.items w.rows);
+    rows = rows_now;
     ranked = closed.ranked;
     ranks = closed.ranks ∙ w.ranks;
-    tallies = subst (AreTallies rows t.tallies.items) (sym held_now) (left_tallies gone t.rows rows are t.tallies.items (held_in t.rows t.entries.items) w.tallies);
-    owned = subst (λ (es : List Filed). AllLive rows (places_of es)) (sym closed.entries) (all_owned rows t.entries.items);
-    timed = subst (All IsTimed) (sym held_now) (All-filter (λ (e : model.Entry). not (gone (row_of e.sample))) IsTimed (held_in t.rows t.entries.items) w.timed);
-    chain = closed.chain;
+    since = all_since;
+    held = is;
+    few_held = omega (arith, is, samples_parted, w.few_held);
+    values = closed.values;
+    owned_values = owned_values_now;
+    members = closed.members;
+    owned_members = owned_members_now;
     places = long ∙ w.places;
     tally_places = w.tally_places;
-    chain_places = closed.chain_places ∙ w.chain_places;
+    value_places = closed.value_places ∙ w.value_places;
+    member_places = closed.member_places ∙ w.member_places;
     order = omega (arith, closed.order_few, w.order);
     order_room = omega (arith, closed.order_capacity, w.order_room);
-    entries = omega (arith, closed.count, w.entries);
-    entry_room = closed.entry_room ∙ w.entry_room;
-    link_room = omega (arith, closed.link_capacity, w.link_room);
+    entries = omega (arith, entries_parted, w.entries);
+    value_room = omega (arith, closed.value_capacity, w.value_room);
+    member_room = omega (arith, closed.member_capacity, w.member_room);
   }

@@ -1,21 +1,17 @@
--- Rows of some ids go, and their entries with them.
+-- Rows of some ids go, and what names their places with them.
 use Rattle.std.proofs.Common.{◌≡◌, ◌≢◌, ℕ, zero, suc, ◌<◌, Bool, true, false, cond, not, ◌==◌, ◌||◌, List, [], ◌∷◌, length, get_or, set, map, filter, Option, Some, None, is_some, inl, inr, refl, sym, ap, subst, ◌∙◌, arith}
-use Rattle.std.proofs.lemmas.Bool.{cases_eq, eqb-true}
-use Rattle.sd_model_shard.specs.Rows as model
-use Rattle.sd_model_shard.specs.Rows.{RowId, Kept, is_same_row, row_of, entries_of}
-use Rattle.sd_key.specs.Kind.{kind_of}
+use Rattle.std.proofs.lemmas.Bool.{cases_eq, eqb-true, ne_eqb}
+use Rattle.sd_model_shard.specs.Rows.{RowId, Kept, is_same_row}
 use Rattle.sd_key.specs.declared.kind.Kind.{Kind}
 use Rattle.sd_rows.specs.Rows as places
 use Rattle.sd_rows.specs.Rows.{row_at, Holds}
 use Rattle.sd_rows.specs.declared.row.Row.{Row}
-use Rattle.sd_rows.proofs.IndexLemmas.{set_differs, present_within}
+use Rattle.sd_rows.proofs.IndexLemmas.{set_differs, present_within, some_of}
 use Rattle.sd_rows.proofs.MapLemmas.{not_true, has_holds, holds_has}
-use Rattle.sd_epoch.specs.Entries.{listed_as, id_in, entry_of, entry_view, held_in, listed_in, places_of, AllLive, is_among, AreRows, IsTally, AreTallies, left_by, AreLeft}
+use Rattle.sd_epoch.specs.Places.{listed_as, id_in, listed_in, AllLive, is_among, AreRows, left_by, AreLeft}
 use Rattle.sd_epoch.specs.Table.{AreApart, id_of, row_view}
-use Rattle.sd_epoch.specs.Held.{Filed}
-use Rattle.sd_epoch.specs.declared.tally.Tally.{Tally}
+use Rattle.sd_epoch.proofs.ChainLemmas.{own}
 use Rattle.sd_epoch.proofs.ForgetLemmas.{AreApart-filter}
-use Rattle.sd_epoch.proofs.ListingLemmas.{same_row}
 
 map-cond : {A B : Type 0} (f : A → B) (b : Bool) (x : A) (xs : List A) → map f (cond b (x ∷ xs) xs) ≡ cond b (f x ∷ map f xs) (map f xs)
 map-cond f true x xs = refl
@@ -33,21 +29,6 @@ some_live : (o : Option Row) → o ≢ None → is_some o ≡ true
 some_live None h = absurd (h refl)
 some_live (Some row) h = refl
 
--- the entries of an id that stays are all there
-entries_stay : (gone : RowId → Bool) (id : RowId) (held : List model.Entry) → gone id ≡ false → entries_of id (filter (λ (e : model.Entry). not (gone (row_of e.sample))) held) ≡ entries_of id held
-entries_stay gone id [] h = refl
-entries_stay gone id (e ∷ held) h =
-    by_tests (gone (row_of e.sample)) refl (is_same_row id (row_of e.sample)) refl (entries_stay gone id held h) where
-      rest : List model.Entry
-      rest = filter (λ (x : model.Entry). not (gone (row_of x.sample))) held
-
-      by_tests : (g : Bool) → gone (row_of e.sample) ≡ g → (b : Bool) → is_same_row id (row_of e.sample) ≡ b → entries_of id rest ≡ entries_of id held
-          → entries_of id (cond (not g) (e ∷ rest) rest) ≡ cond b (e ∷ entries_of id held) (entries_of id held)
-      by_tests true g true s ih = absurd (cc (g, ap gone (same_row id (row_of e.sample) s), h))
-      by_tests true g false s ih = ih
-      by_tests false g true s ih = ap (λ b. cond b (e ∷ entries_of id rest) (entries_of id rest)) s ∙ ap (λ (es : List model.Entry). e ∷ es) ih
-      by_tests false g false s ih = ap (λ b. cond b (e ∷ entries_of id rest) (entries_of id rest)) s ∙ ih
-
 -- the places of an order that have a row
 all_live : (left : List (Option Row)) (order : List ℕ) → AllLive left (filter (λ p. is_some (row_at left p)) order)
 all_live left [] = tt
@@ -57,16 +38,31 @@ all_live left (p ∷ order) = by_test (is_some (row_at left p)) refl (all_live l
   by_test true h rest = (live_some (row_at left p) h, rest)
   by_test false h rest = rest
 
--- and those of entries
-pub all_owned : (left : List (Option Row)) (entries : List Filed) → AllLive left (places_of (filter (λ (e : Filed). is_some (row_at left e.place)) entries))
-all_owned left [] = tt
-all_owned left (e ∷ entries) = by_test (is_some (row_at left e.place)) refl (all_owned left entries) where
-  rest : List Filed
-  rest = filter (λ (x : Filed). is_some (row_at left x.place)) entries
+-- and those that items name
+pub all_owned : {A : Type 0} (place_of : A → ℕ) (left : List (Option Row)) (items : List A) → AllLive left (map place_of (filter (λ e. is_some (row_at left (place_of e))) items))
+all_owned place_of left [] = tt
+all_owned {A} place_of left (e ∷ items) = by_test (is_some (row_at left (place_of e))) refl (all_owned place_of left items) where
+  rest : List A
+  rest = filter (λ (x : A). is_some (row_at left (place_of x))) items
 
-  by_test : (b : Bool) → is_some (row_at left e.place) ≡ b → AllLive left (places_of rest) → AllLive left (places_of (cond b (e ∷ rest) rest))
-  by_test true h l = (live_some (row_at left e.place) h, l)
+  by_test : (b : Bool) → is_some (row_at left (place_of e)) ≡ b → AllLive left (map place_of rest) → AllLive left (map place_of (cond b (e ∷ rest) rest))
+  by_test true h l = (live_some (row_at left (place_of e)) h, l)
   by_test false h l = l
+
+-- of a place that has a row, all that names it is left
+pub own_left : {A : Type 0} (place_of : A → ℕ) (left : List (Option Row)) (p : ℕ) → row_at left p ≢ None → (items : List A)
+    → own place_of p (filter (λ e. is_some (row_at left (place_of e))) items) ≡ own place_of p items
+own_left place_of left p l [] = refl
+own_left {A} place_of left p l (e ∷ items) = by_tests (is_some (row_at left (place_of e))) refl (place_of e == p) refl (own_left place_of left p l items) where
+  rest : List A
+  rest = filter (λ (x : A). is_some (row_at left (place_of x))) items
+
+  by_tests : (b : Bool) → is_some (row_at left (place_of e)) ≡ b → (t : Bool) → (place_of e == p) ≡ t → own place_of p rest ≡ own place_of p items
+      → own place_of p (cond b (e ∷ rest) rest) ≡ cond t (e ∷ own place_of p items) (own place_of p items)
+  by_tests true here true e' ih = ap (λ t. cond t (e ∷ own place_of p rest) (own place_of p rest)) e' ∙ ap (λ (es : List A). e ∷ es) ih
+  by_tests true here false e' ih = ap (λ t. cond t (e ∷ own place_of p rest) (own place_of p rest)) e' ∙ ih
+  by_tests false here true e' ih = absurd (cc (here, ap (λ i. is_some (row_at left i)) (eqb-true (place_of e) p e'), some_live (row_at left p) l))
+  by_tests false here false e' ih = ih
 
 among_left : (left : List (Option Row)) (order : List ℕ) (place : ℕ) → is_among place order ≡ true → is_some (row_at left place) ≡ true → is_among place (filter (λ p. is_some (row_at left p)) order) ≡ true
 among_left left [] place h s = absurd (cc)
@@ -124,14 +120,6 @@ module _ (gone : RowId → Bool) (rows left : List (Option Row)) (are : AreLeft 
       ∙ pick (is_some (row_at left p)) _ (listed_as (row_at rows p)) _ _ (listed_here p) (listed_left order l.1)
       ∙ ap (λ b. cond b (listed_as (row_at rows p) ∷ filter (λ (e : RowId × Kept). not (gone e.0)) (listed_in rows order)) (filter (λ (e : RowId × Kept). not (gone e.0)) (listed_in rows order))) (test_left p l.0)
 
-  pub held_left : (entries : List Filed) → AllLive rows (places_of entries)
-      → held_in left (filter (λ (e : Filed). is_some (row_at left e.place)) entries) ≡ filter (λ (e : model.Entry). not (gone (row_of e.sample))) (held_in rows entries)
-  held_left [] l = refl
-  held_left (e ∷ entries) l =
-      map-cond (entry_view left) (is_some (row_at left e.place)) e (filter (λ (x : Filed). is_some (row_at left x.place)) entries)
-      ∙ pick (is_some (row_at left e.place)) _ (entry_view rows e) _ _ (λ h. ap (λ (k : RowId × Kept). entry_of k.0 e) (listed_here e.place h)) (held_left entries l.1)
-      ∙ ap (λ b. cond b (entry_view rows e ∷ filter (λ (x : model.Entry). not (gone (row_of x.sample))) (held_in rows entries)) (filter (λ (x : model.Entry). not (gone (row_of x.sample))) (held_in rows entries))) (test_left e.place l.0)
-
   left_apart : places.AreApart rows → places.AreApart left
   left_apart w p q kind key hp hq =
       w p q kind key (left_holds (row_at rows p) kind key (subst (Holds kind key) (are p) hp)) (left_holds (row_at rows q) kind key (subst (Holds kind key) (are q) hq))
@@ -147,10 +135,15 @@ module _ (gone : RowId → Bool) (rows left : List (Option Row)) (are : AreLeft 
     listed = subst AreApart (sym (listed_left order w.live)) (AreApart-filter (λ r. not (gone r)) (listed_in rows order) w.listed);
   }
 
-  pub left_tallies : (tallies : List Tally) (held : List model.Entry) → AreTallies rows tallies held → AreTallies left tallies (filter (λ (e : model.Entry). not (gone (row_of e.sample))) held)
-  left_tallies tallies held w p row other is =
-      let there = left_row (row_at rows p) row (sym (are p) ∙ is) in
-      subst (λ (es : List model.Entry). IsTally (kind_of row.kind) row.base.0 es (get_or tallies p other)) (sym (entries_stay gone (row_view row).0 held there.1)) (w p row other there.0)
+  -- a row that is left was there, and didn't go
+  pub left_was : (p : ℕ) → row_at left p ≢ None → (row_at rows p ≢ None) × (gone (id_in rows p) ≡ false) × (row_at left p ≡ row_at rows p)
+  left_was p l =
+      let row = some_of (row_at left p) l in
+      let was = left_row (row_at rows p) row.0 (sym (are p) ∙ row.1) in
+      (left_here p l, ap (λ (o : Option Row). gone (listed_as o).0) was.0 ∙ was.1, row.1 ∙ sym was.0)
+
+  pub left_stays : (p : ℕ) → row_at rows p ≢ None → gone (id_in rows p) ≡ false → row_at left p ≢ None
+  left_stays p l h = live_some (row_at left p) (test_left p l ∙ ap not h)
 
 stays_in : (o : Option Row) (kind : Kind) (key : List ℕ) → (Holds kind key o → ⊥) → left_by (is_same_row (id_of kind key)) o ≡ o
 stays_in None kind key other = refl
@@ -173,8 +166,14 @@ one_gone rows at kind key w within h p =
       | inr ne ↦ D.other p ne ∙ sym (stays_in (row_at rows p) kind key (λ there. ne (w p at kind key there h)))
     ]
 
--- the place that an entry names is one of the places
-pub owned_within : (rows : List (Option Row)) (entries : List Filed) → AllLive rows (places_of entries) → (i : ℕ) (d : Filed) → i < length entries → (get_or entries i d).place < length rows
-owned_within rows [] l i d lt = absurd (omega arith)
-owned_within rows (e ∷ entries) l zero d lt = present_within rows e.place l.0
-owned_within rows (e ∷ entries) l (suc i) d lt = owned_within rows entries l.1 i d (omega arith)
+-- the place that an item names is one of the places
+pub owned_within : {A : Type 0} (place_of : A → ℕ) (rows : List (Option Row)) (items : List A) → AllLive rows (map place_of items) → (i : ℕ) (d : A) → i < length items → place_of (get_or items i d) < length rows
+owned_within place_of rows [] l i d lt = absurd (omega arith)
+owned_within place_of rows (e ∷ items) l zero d lt = present_within rows (place_of e) l.0
+owned_within place_of rows (e ∷ items) l (suc i) d lt = owned_within place_of rows items l.1 i d (omega arith)
+
+-- what no item names has none
+pub none_own : {A : Type 0} (place_of : A → ℕ) (rows : List (Option Row)) (p : ℕ) → row_at rows p ≡ None → (items : List A) → AllLive rows (map place_of items) → own place_of p items ≡ []
+none_own place_of rows p none [] l = refl
+none_own {A} place_of rows p none (e ∷ items) l =
+    ap (λ b. cond b (e ∷ own place_of p items) (own place_of p items)) (ne_eqb (place_of e) p (λ same. l.0 (ap (row_at rows) same ∙ none))) ∙ none_own place_of rows p none items l.1

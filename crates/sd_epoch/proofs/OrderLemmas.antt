@@ -3,7 +3,7 @@ use Rattle.std.proofs.Common.{◌≡◌, ◌≢◌, ℕ, zero, suc, ◌+◌, ◌
 use Rattle.std.proofs.lemmas.Bool.{cases_eq, eqb-true, eq-eqb}
 use Rattle.std.proofs.lemmas.List.{get_or_read}
 use Rattle.sd_rows.proofs.MapLemmas.{not_true}
-use Rattle.sd_epoch.specs.Entries.{is_among}
+use Rattle.sd_epoch.specs.Places.{is_among}
 use Rattle.sd_epoch.specs.Order.{AreWithin, AreDifferent, IsRanked, IsWithout}
 use Rattle.sd_epoch.proofs.PlaceLemmas.{either, or_left, or_right}
 

@@ -1,10 +1,9 @@
 -- Rows in an order of their places, and the map that they make.
-use Rattle.std.proofs.Common.{◌≡◌, ◌≢◌, ℕ, ◌<◌, Bool, true, false, cond, ◌==◌, ◌||◌, ◌⊎◌, pos, List, [], ◌∷◌, ◌++◌, length, set, Option, Some, None, option_map, unwrap_or, inl, inr, refl, sym, ap, subst, ◌∙◌}
+use Rattle.std.proofs.Common.{◌≡◌, ◌≢◌, ℕ, ◌<◌, Bool, true, false, cond, ◌==◌, ◌||◌, ◌⊎◌, List, [], ◌∷◌, ◌++◌, length, map, set, Option, Some, None, inl, inr, refl, sym, ap, subst, ◌∙◌}
 use Rattle.std.proofs.lemmas.Bool.{cases_eq, eqb-true, eq-eqb, ne_eqb}
 use Rattle.std.proofs.lemmas.List.{map-append}
-use Rattle.std.specs.FinMap.{find, insert, from_entries, get-insert, get-from_entries, same_map}
-use Rattle.sd_model_shard.specs.Rows.{RowId, row_cmp, Kept, is_same_row, base_of}
-use Rattle.sd_model_shard.proofs.RowLemmas.{rows_exact, rows_total}
+use Rattle.std.specs.FinMap.{find}
+use Rattle.sd_model_shard.specs.Rows.{RowId, row_cmp, Kept, is_same_row}
 use Rattle.sd_key.specs.declared.kind.Kind.{Kind}
 use Rattle.sd_rows.specs.Rows as places
 use Rattle.sd_rows.specs.Rows.{row_at, Holds, IsAbsent}
@@ -13,9 +12,9 @@ use Rattle.sd_rows.specs.declared.row.Row.{Row}
 use Rattle.sd_rows.proofs.IndexLemmas.{set_differs, some_of}
 use Rattle.sd_rows.proofs.MapLemmas.{not_true, has_holds, holds_has, one_place}
 use Rattle.sd_rows.proofs.RowsLemmas.{fill_apart, reset_apart}
-use Rattle.sd_epoch.specs.Entries.{listed_as, id_in, listed_in, live_in, AllLive, is_among, AreRows, StayAt}
+use Rattle.sd_epoch.specs.Places.{listed_as, id_in, listed_in, AllLive, is_among, AreRows, StayAt}
 use Rattle.sd_epoch.specs.Table.{AreApart, id_of, row_view, listed_with}
-use Rattle.sd_epoch.proofs.ListingLemmas.{same_itself, same_row, from_entries-push, AreApart-push, not_found}
+use Rattle.sd_epoch.proofs.ListingLemmas.{same_itself, same_row, AreApart-push}
 
 -- the id of a place that has a row
 pub id_here : (rows : List (Option Row)) (place : ℕ) (row : Row) → row_at rows place ≡ Some row → id_in rows place ≡ (row_view row).0
@@ -154,11 +153,6 @@ module _ (rows : List (Option Row)) (at : ℕ) (row : Row) (within : at < length
           (AreApart-push (row_view row).0 (row_view row).1 (listed_in rows order) (listed_absent rows order row.kind row.key absent w.live) w.listed);
     }
 
-    pub add_live : (order : List ℕ) → AreRows rows order → live_in (set rows at (Some row)) (order ++ at ∷ []) ≡ insert (live_in rows order) (row_view row).0 (row_view row).1
-    add_live order w =
-        ap (from_entries {R = row_cmp}) (listed_add order w.live)
-        ∙ from_entries-push (row_view row).0 (row_view row).1 (listed_in rows order) (not_found (row_view row).0 (listed_in rows order) (listed_absent rows order row.kind row.key absent w.live))
-
 -- ids that are listed in other places' stead stand apart as before
 apart_ids : (old later : List (Option Row)) (order : List ℕ) → ((p : ℕ) → row_at old p ≢ None → id_in later p ≡ id_in old p) → AllLive old order → AreApart (listed_in old order) → AreApart (listed_in later order)
 apart_ids old later [] same l a = tt
@@ -168,30 +162,33 @@ apart_ids old later (p ∷ order) same l a =
       any_same id [] l = refl
       any_same id (q ∷ ps) l = ap (λ i. is_same_row id i || listed_with id (listed_in later ps)) (same q l.0) ∙ ap (λ b. is_same_row id (id_in old q) || b) (any_same id ps l.1)
 
-first_found : (b : Bool) (x y z w o : Option Kept) → w ≡ cond b o z → cond b x w ≡ cond b x (cond b y z)
-first_found true x y z w o h = refl
-first_found false x y z w o h = h
+-- what is found of the id of a place of the order, where each place has something
+pub find_by : (f : ℕ → Kept) (rows : List (Option Row)) (order : List ℕ) (at : ℕ) → places.AreApart rows → row_at rows at ≢ None → AllLive rows order → is_among at order ≡ true
+    → find row_cmp (id_in rows at) (map {B = RowId × Kept} (λ p. (id_in rows p, f p)) order) ≡ Some (f at)
+find_by f rows [] at w here l h = absurd (cc)
+find_by f rows (p ∷ order) at w here l h =
+    let rest = find row_cmp (id_in rows at) (map {B = RowId × Kept} (λ q. (id_in rows q, f q)) order) in
+    ap (λ b. cond b (Some (f p)) rest) (test_place rows at p w here l.0)
+    ∙ elim (cases_eq p at) as (λ _. cond (p == at) (Some (f p)) rest ≡ Some (f at)) [
+      | inl e ↦ ap (λ b. cond b (Some (f p)) rest) (eq-eqb p at e) ∙ ap (λ i. Some (f i)) e
+      | inr ne ↦ ap (λ b. cond b (Some (f p)) rest) (ne_eqb p at ne)
+          ∙ find_by f rows order at w here l.1 (elim (either (p == at) (is_among at order) h) as (λ _. is_among at order ≡ true) [ inl e ↦ absurd (ne (eqb-true p at e)) | inr more ↦ more ])
+    ]
 
-later_found : (b c : Bool) (x y z w : Option Kept) → (b ≡ true → c ≡ true → ⊥) → w ≡ cond b x z → cond c y w ≡ cond b x (cond c y z)
-later_found true true x y z w apart h = absurd (apart refl refl)
-later_found true false x y z w apart h = h
-later_found false c x y z w apart h = ap (cond c y) h
+-- what is found of an id that isn't listed
+pub find_none : (f : ℕ → Kept) (rows : List (Option Row)) (order : List ℕ) (q : RowId) → listed_with q (listed_in rows order) ≡ false
+    → find row_cmp q (map {B = RowId × Kept} (λ p. (id_in rows p, f p)) order) ≡ None
+find_none f rows [] q h = refl
+find_none f rows (p ∷ order) q h = by_test (is_same_row q (id_in rows p)) h (find_none f rows order q) where
+  by_test : (b : Bool) → (b || listed_with q (listed_in rows order)) ≡ false
+      → (listed_with q (listed_in rows order) ≡ false → find row_cmp q (map {B = RowId × Kept} (λ p. (id_in rows p, f p)) order) ≡ None)
+      → cond b (Some (f p)) (find row_cmp q (map {B = RowId × Kept} (λ p. (id_in rows p, f p)) order)) ≡ None
+  by_test true h rest = absurd (cc)
+  by_test false h rest = rest h
 
-none_found : (b : Bool) → ◌≡◌ {A = Option Kept} None (cond b None None)
-none_found true = refl
-none_found false = refl
-
--- what is found of the id of a place of the order
 pub find_among : (rows : List (Option Row)) (order : List ℕ) (at : ℕ) → places.AreApart rows → row_at rows at ≢ None → AllLive rows order → is_among at order ≡ true
     → find row_cmp (id_in rows at) (listed_in rows order) ≡ Some (listed_as (row_at rows at)).1
-find_among rows [] at w here l h = absurd (cc)
-find_among rows (p ∷ order) at w here l h =
-    ap (λ b. cond b (Some (listed_as (row_at rows p)).1) (find row_cmp (id_in rows at) (listed_in rows order))) (test_place rows at p w here l.0)
-    ∙ elim (cases_eq p at) as (λ _. cond (p == at) (Some (listed_as (row_at rows p)).1) (find row_cmp (id_in rows at) (listed_in rows order)) ≡ Some (listed_as (row_at rows at)).1) [
-      | inl e ↦ ap (λ b. cond b (Some (listed_as (row_at rows p)).1) (find row_cmp (id_in rows at) (listed_in rows order))) (eq-eqb p at e) ∙ ap (λ i. Some (listed_as (row_at rows i)).1) e
-      | inr ne ↦ ap (λ b. cond b (Some (listed_as (row_at rows p)).1) (find row_cmp (id_in rows at) (listed_in rows order))) (ne_eqb p at ne)
-          ∙ find_among rows order at w here l.1 (elim (either (p == at) (is_among at order) h) as (λ _. is_among at order ≡ true) [ inl e ↦ absurd (ne (eqb-true p at e)) | inr more ↦ more ])
-    ]
+find_among rows order at w here l h = find_by (λ p. (listed_as (row_at rows p)).1) rows order at w here l h
 
 -- The row of a place gets another base and other swaps.
 module _ (rows : List (Option Row)) (at : ℕ) (row new : Row) (within : at < length rows) (is : row_at rows at ≡ Some row) (kind : new.kind ≡ row.kind) (key : new.key ≡ row.key) where
@@ -215,42 +212,9 @@ module _ (rows : List (Option Row)) (at : ℕ) (row new : Row) (within : at < le
     listed = apart_ids rows (set rows at (Some new)) order (λ p l. (reset_stays p l).1) w.live w.listed;
   }
 
-  -- what is found of an id afterwards
-  find-reset : (q : RowId) (order : List ℕ) → places.AreApart rows → AllLive rows order
-      → find row_cmp q (listed_in (set rows at (Some new)) order) ≡ cond (is_same_row q (row_view new).0) (cond (is_among at order) (Some (row_view new).1) None) (find row_cmp q (listed_in rows order))
-  find-reset q [] w l = none_found (is_same_row q (row_view new).0)
-  find-reset q (p ∷ order) w l =
-      elim (cases_eq p at) as (λ _. find row_cmp q (listed_in (set rows at (Some new)) (p ∷ order))
-      ≡ cond (is_same_row q (row_view new).0) (cond (is_among at (p ∷ order)) (Some (row_view new).1) None) (find row_cmp q (listed_in rows (p ∷ order)))) [
-        | inl e ↦
-            ap (λ (o : Option Row). cond (is_same_row q (listed_as o).0) (Some (listed_as o).1) (find row_cmp q (listed_in (set rows at (Some new)) order))) (ap (row_at (set rows at (Some new))) e ∙ written rows at new within)
-            ∙ first_found (is_same_row q (row_view new).0) (Some (row_view new).1) (Some (listed_as (row_at rows p)).1) (find row_cmp q (listed_in rows order)) _ _ (find-reset q order w l.1)
-            ∙ ap (λ id. cond (is_same_row q (row_view new).0) (Some (row_view new).1) (cond (is_same_row q id) (Some (listed_as (row_at rows p)).1) (find row_cmp q (listed_in rows order)))) (same_id ∙ ap (id_in rows) (sym e))
-            ∙ ap (λ b. cond (is_same_row q (row_view new).0) (cond (b || is_among at order) (Some (row_view new).1) None) (find row_cmp q (listed_in rows (p ∷ order)))) (sym (eq-eqb p at e))
-        | inr ne ↦
-            ap (λ (o : Option Row). cond (is_same_row q (listed_as o).0) (Some (listed_as o).1) (find row_cmp q (listed_in (set rows at (Some new)) order))) (unwritten rows at new within p ne)
-            ∙ later_found (is_same_row q (row_view new).0) (is_same_row q (id_in rows p)) (cond (is_among at order) (Some (row_view new).1) None) (Some (listed_as (row_at rows p)).1) (find row_cmp q (listed_in rows order)) _
-            (λ b c. ne (same_place rows p at w l.0 live_here
-            (ap (λ id. is_same_row id (id_in rows at)) (sym (same_row q (id_in rows p) c)) ∙ ap (is_same_row q) (sym same_id) ∙ b)))
-            (find-reset q order w l.1)
-            ∙ ap (λ b. cond (is_same_row q (row_view new).0) (cond (b || is_among at order) (Some (row_view new).1) None) (find row_cmp q (listed_in rows (p ∷ order)))) (sym (ne_eqb p at ne))
-      ]
-
-  pub reset_live : (order : List ℕ) → AreRows rows order → live_in (set rows at (Some new)) order ≡ insert (live_in rows order) (row_view new).0 (row_view new).1
-  reset_live order w =
-      same_map rows_total rows_exact _ _ (λ q.
-      get-from_entries rows_total (listed_in (set rows at (Some new)) order) q ∙ find-reset q order w.apart w.live
-      ∙ ap (λ b. cond (is_same_row q (row_view new).0) (cond b (Some (row_view new).1) None) (find row_cmp q (listed_in rows order))) (w.all at live_here)
-      ∙ ap (cond (is_same_row q (row_view new).0) (Some (row_view new).1)) (sym (get-from_entries rows_total (listed_in rows order) q))
-      ∙ sym (get-insert rows_total (live_in rows order) (row_view new).0 (row_view new).1 q))
-
-  pub base_here : (order : List ℕ) → AreRows rows order → base_of (live_in rows order) (id_in rows at) ≡ row.base.0
-  base_here order w =
-      ap (λ (o : Option Kept). unwrap_or (option_map (λ kept. kept.base) o) (pos 0))
-      (get-from_entries rows_total (listed_in rows order) (id_in rows at) ∙ find_among rows order at w.apart live_here w.live (w.all at live_here) ∙ ap (λ (o : Option Row). Some (listed_as o).1) is)
-
--- a row that is absent has the base 0
-pub base_absent : (rows : List (Option Row)) (order : List ℕ) (kind : Kind) (key : List ℕ) → AreRows rows order → IsAbsent kind key rows → base_of (live_in rows order) (id_of kind key) ≡ pos 0
-base_absent rows order kind key w absent =
-    ap (λ (o : Option Kept). unwrap_or (option_map (λ kept. kept.base) o) (pos 0))
-    (get-from_entries rows_total (listed_in rows order) (id_of kind key) ∙ not_found (id_of kind key) (listed_in rows order) (listed_absent rows order kind key absent w.live))
+-- where a row is written there was one, and elsewhere as before
+pub set_back : (rows : List (Option Row)) (at : ℕ) (row new : Row) → at < length rows → row_at rows at ≡ Some row → (p : ℕ) → row_at (set rows at (Some new)) p ≢ None → row_at rows p ≢ None
+set_back rows at row new within is p l none = elim (cases_eq p at) as (λ _. ⊥) [
+  | inl e ↦ absurd (cc (is, ap (row_at rows) (sym e), none))
+  | inr ne ↦ l (unwritten rows at new within p ne ∙ none)
+]

@@ -1,32 +1,34 @@
 -- Rows that are carried into a place, and the map that the places make.
-use Rattle.std.proofs.Common.{◌≡◌, ◌≢◌, ℕ, ◌<◌, Bool, true, false, ◌||◌, ◌==◌, ◌⊎◌, List, [], ◌∷◌, length, set, Option, Some, None, MatchOption, is_some, inl, inr, refl, sym, ap, subst, ◌∙◌, arith}
+use Rattle.std.proofs.Common.{◌≡◌, ◌≢◌, ℕ, ◌<◌, Bool, true, false, ◌||◌, ◌==◌, List, [], ◌∷◌, length, set, Option, Some, None, MatchOption, is_some, option_map, inl, inr, refl, sym, ap, subst, ◌∙◌, arith}
 use Rattle.std.proofs.lemmas.Bool.{cases_eq, eq-eqb}
 use Rattle.std.proofs.lemmas.List.{set-set, length-set, get_or-set_other}
-use Rattle.std.specs.FinMap.{find, get, len, get-from_entries, same_map}
-use Rattle.sd_model_shard.specs.Rows.{RowId, row_cmp, is_same_row}
+use Rattle.std.specs.FinMap.{find, get, len, from_entries, get-from_entries, same_map}
+use Rattle.sd_model_shard.specs.Rows as model
+use Rattle.sd_model_shard.specs.Rows.{RowId, row_cmp, Kept, Summary, is_same_row}
+use Rattle.sd_model_shard.specs.Summaries.{no_samples}
 use Rattle.sd_model_shard.proofs.RowLemmas.{rows_exact, rows_total}
 use Rattle.sd_rows.specs.Index.{taken_count}
 use Rattle.sd_rows.specs.Rows as places
 use Rattle.sd_rows.specs.Rows.{row_at, Holds, IsAbsent, StandsNowhereElse, reset}
-use Rattle.sd_rows.specs.RowMap.{has_id, id_of, kept_of, rows_of}
+use Rattle.sd_rows.specs.RowMap.{has_id, rows_of}
 use Rattle.sd_rows.specs.RowMap as map
 use Rattle.sd_rows.specs.declared.row.Row.{Row}
 use Rattle.sd_rows.proofs.IndexLemmas.{set_differs, some_of, present_within}
 use Rattle.sd_rows.proofs.MapLemmas.{not_true, map-get, map-found, map-count, find-absent}
 use Rattle.sd_rows.proofs.RowsLemmas.{fill_apart, empty_apart, copy_absent}
-use Rattle.sd_epoch.specs.Entries.{listed_as, id_in, listed_in, live_in, AllLive, is_among, AreRows, AreTallies, held_in}
 use Rattle.sd_epoch.specs.Order.{AreDifferent, IsWithout}
-use Rattle.sd_epoch.specs.Table.{AreApart, HasPlaces, listed_with}
-use Rattle.sd_epoch.specs.TableInside.{listing_of, IsTable}
-use Rattle.sd_epoch.specs.Held.{Filed}
-use Rattle.sd_epoch.specs.declared.tally.Tally.{Tally}
+use Rattle.sd_epoch.specs.Places.{listed_as, id_in, listed_in, live_in, kept_as, kept_in, told_in, told_live, AllLive, is_among, AreRows}
+use Rattle.sd_epoch.specs.Table.{AreApart, HasPlaces, fresh, listed_with}
+use Rattle.sd_epoch.specs.TableInside.{listing_of, since_in, IsTable}
 use Rattle.sd_decimal.specs.declared.number.Micro.{Micro}
 use Rattle.sd_epoch.specs.declared.table.Table.TheInside.{Inside}
+use Rattle.sd_epoch.proofs.FreshLemmas.{no_row_samples}
 use Rattle.sd_epoch.proofs.ListingLemmas.{same_row, not_found}
 use Rattle.sd_epoch.proofs.PlaceLemmas.{id_here, has_in, test_place, listed_among, live_among, find_among, unwritten, live_at, or_left, or_right}
 use Rattle.sd_epoch.proofs.TableLemmas.{live_count}
+use Rattle.sd_epoch.proofs.ToldLemmas.{listed_place, told_at, told_none}
 use Rattle.sd_epoch.proofs.OrderLemmas.{different_head, different_tail}
-use Rattle.sd_epoch.proofs.HeldLemmas.{unset_none}
+use Rattle.sd_epoch.proofs.CountLemmas.{unset_none}
 
 both : (b : Bool) → b ≡ true → b ≡ false → ⊥
 both true t f = absurd (cc)
@@ -76,21 +78,6 @@ module _ (rows : List (Option Row)) (at : ℕ) (row : Row) (within : at < length
   pub carried_new : row_at rows at ≡ None → IsAbsent row.kind row.key rows
   carried_new empty p h = subst (Holds row.kind row.key) (ap (row_at rows) (nowhere p h) ∙ empty) h
 
-behind : (a b : Bool) → b ≡ true → (a || b) ≡ true
-behind true b e = refl
-behind false b e = e
-
--- a listed id is that of a place
-listed_place : (rows : List (Option Row)) (order : List ℕ) (q : RowId) → AllLive rows order → listed_with q (listed_in rows order) ≡ true
-    → (p : ℕ) × (row_at rows p ≢ None) × (is_among p order ≡ true) × (q ≡ id_in rows p)
-listed_place rows [] q l h = absurd (cc)
-listed_place rows (p ∷ order) q l h = by_test (is_same_row q (id_in rows p)) refl h (listed_place rows order q l.1) where
-  by_test : (b : Bool) → is_same_row q (id_in rows p) ≡ b → (b || listed_with q (listed_in rows order)) ≡ true
-      → (listed_with q (listed_in rows order) ≡ true → (i : ℕ) × (row_at rows i ≢ None) × (is_among i order ≡ true) × (q ≡ id_in rows i))
-      → (i : ℕ) × (row_at rows i ≢ None) × (is_among i (p ∷ order) ≡ true) × (q ≡ id_in rows i)
-  by_test true s h more = (p, l.0, ap (λ b. b || is_among p order) (eq-eqb p p refl), same_row q (id_in rows p) s)
-  by_test false s h more = let there = more h in (there.0, there.1, behind (p == there.0) (is_among there.0 order) there.2, there.3)
-
 -- the order lists the rows that the places have
 pub map_of_places : (rows : List (Option Row)) (order : List ℕ) → AreRows rows order → live_in rows order ≡ rows_of rows
 map_of_places rows order w =
@@ -109,9 +96,49 @@ map_of_places rows order w =
           both (listed_with q (listed_in rows order))
           (ap (λ (i : RowId). listed_with i (listed_in rows order)) (same_row q (id_in rows p) (sym (has_in rows p q live) ∙ t)) ∙ listed_among rows order p (w.all p live)) h)))
 
+-- rows with what came to them are those of the places
+pub told_places : (rows : List (Option Row)) (since : ℕ → Summary) (order : List ℕ) → AreRows rows order
+    → (id : RowId) → option_map fresh (get (told_live rows since order) id) ≡ get (rows_of rows) id
+told_places rows since order w id =
+    by_test (listed_with id (listed_in rows order)) refl ∙ ap (λ (m : model.Rows). get m id) (map_of_places rows order w) where
+      fresh_is : (o : Option Row) (s : Summary) → fresh (kept_as o s) ≡ (listed_as o).1
+      fresh_is None s = refl
+      fresh_is (Some row) s = refl
+
+      by_test : (b : Bool) → listed_with id (listed_in rows order) ≡ b → option_map fresh (get (told_live rows since order) id) ≡ get (live_in rows order) id
+      by_test true h =
+          let at = listed_place rows order id w.live h in
+          ap (λ (i : RowId). option_map fresh (get (told_live rows since order) i)) at.3 ∙ ap (option_map fresh) (told_at rows order w since at.0 at.1)
+          ∙ ap Some (fresh_is (row_at rows at.0) (since at.0))
+          ∙ sym (get-from_entries rows_total (listed_in rows order) (id_in rows at.0) ∙ find_among rows order at.0 w.apart at.1 w.live at.2)
+          ∙ ap (get (live_in rows order)) (sym at.3)
+      by_test false h =
+          ap (option_map fresh) (told_none rows order w since id h) ∙ sym (get-from_entries rows_total (listed_in rows order) id ∙ not_found id (listed_in rows order) h)
+
+-- and just those where no sample came to them
+fresh_listed : (rows : List (Option Row)) (since : ℕ → Summary) (order : List ℕ) → AllLive rows order → ((p : ℕ) (row : Row) → row_at rows p ≡ Some row → since p ≡ no_samples row.base.0)
+    → told_in rows since order ≡ listed_in rows order
+fresh_listed rows since [] l none = refl
+fresh_listed rows since (p ∷ order) l none =
+    let row = some_of (row_at rows p) l.0 in
+    let here : kept_in rows since p ≡ (listed_as (row_at rows p)).1 = (λ i. kept_as (row.1 i) (none p row.0 row.1 i)) ∙ sym (ap (λ (o : Option Row). (listed_as o).1) row.1) in
+    let rest = fresh_listed rows since order l.1 none in
+    λ i. (id_in rows p, here i) ∷ rest i
+
+pub fresh_places : (rows : List (Option Row)) (since : ℕ → Summary) (order : List ℕ) → AreRows rows order → ((p : ℕ) (row : Row) → row_at rows p ≡ Some row → since p ≡ no_samples row.base.0)
+    → told_live rows since order ≡ rows_of rows
+fresh_places rows since order w none = ap (λ (es : List (RowId × Kept)). from_entries {R = row_cmp} es) (fresh_listed rows since order w.live none) ∙ map_of_places rows order w
+
 -- a table has its places
 pub has_places : (t : Inside) → IsTable t → HasPlaces (listing_of t)
-has_places t w = record { len = w.places; apart = w.rows.apart; rows = map_of_places t.rows t.order.places.items w.rows }
+has_places t w = record {
+  len = w.places;
+  apart = w.rows.apart;
+  rows = told_places t.rows (since_in t) t.order.places.items w.rows;
+  fresh_rows = λ none.
+      fresh_places t.rows (since_in t) t.order.places.items w.rows
+      (λ p row is. (w.since p row is).none (no_row_samples t w none p (λ gone. absurd (cc (is, gone)))));
+}
 
 -- there are as many places in the order as places with rows
 pub order_count : (rows : List (Option Row)) (order : List ℕ) → AreRows rows order → length order ≡ taken_count rows
@@ -150,17 +177,6 @@ emptied_rows rows at order left w here without =
           without.others p (w.all p (λ none. l (other p away ∙ none))) away;
       listed = different_listed (set rows at None) left apart live without.different;
     }
-
-pub emptied_tallies : (rows : List (Option Row)) (at : ℕ) (tallies : List Tally) → places.AreApart rows → AreTallies rows tallies [] → AreTallies (set rows at None) tallies []
-emptied_tallies rows at tallies apart w p row other is = w p row other (there (cases_eq p at)) where
-  there : (p ≡ at) ⊎ (p ≢ at) → row_at rows p ≡ Some row
-  there (inl e) = absurd (cc (is, ap (row_at (set rows at None)) e ∙ unset_none rows at))
-  there (inr ne) = sym (get_or-set_other rows at p None None ne) ∙ is
-
--- where nothing is held there are no entries
-pub no_entries : (rows : List (Option Row)) (entries : List Filed) → held_in rows entries ≡ [] → entries ≡ []
-no_entries rows [] h = refl
-no_entries rows (e ∷ entries) h = absurd (cc)
 
 -- a place takes another's row, and then its base and swaps
 pub carried_are : (rows mid new : List (Option Row)) (o : Option Row) (at : ℕ) (base : Micro) (swaps : ℕ) → at < length rows → mid ≡ set rows at o → new ≡ set mid at (reset (row_at mid at) base swaps) → new ≡ set rows at (reset o base swaps)

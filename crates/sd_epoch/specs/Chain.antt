@@ -1,5 +1,14 @@
 -- The entries of each row, chained from the last one back.
-use Rattle.std.specs.Prelude.{◌≡◌, ◌≢◌, ℕ, ◌+◌, ◌<◌, List, length, get_or, Option, Some, None}
+use Rattle.std.specs.Prelude.{◌≡◌, ◌≢◌, ℕ, ◌+◌, ◌-◌, ◌<◌, ◌==◌, if◌then◌else◌, List, length, get_or, map, Option, Some, None}
+use Rattle.sd_epoch.specs.declared.chain.Link.{Link}
+
+-- the index of the entry that a link names, or none
+abbrev pub link_of : Link → Option ℕ
+link_of link = if link.0 == 0 then None else Some (link.0 - 1)
+
+-- the same of each link
+abbrev pub links_of : List Link → List (Option ℕ)
+links_of links = map link_of links
 
 -- of the first n entries, whose rows have these places, this is the last of the row in a place, or there is none
 abbrev pub IsLast : List ℕ → ℕ → ℕ → Option ℕ → Type 0

@@ -1,12 +1,13 @@
 pub mod Chain
-pub mod Entries
-pub mod EntriesInside
 pub mod Forget
-pub mod Held
 pub mod Limits
+pub mod Members
 pub mod Order
+pub mod Places
 pub mod Scratch
 pub mod ScratchInside
 pub mod ScratchLends
+pub mod Since
 pub mod Table
 pub mod TableInside
+pub mod Values

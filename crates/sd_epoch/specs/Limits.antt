@@ -4,7 +4,7 @@ use Rattle.sd_model_shard.specs.Shard as model
 use Rattle.sd_epoch.specs.declared.limits.Limits.{Limits}
 
 abbrev pub limits_of : Limits → model.Limits
-limits_of l = record { rows = l.rows; entries = l.entries }
+limits_of l = record { rows = l.rows; entries = l.entries; sums_on_arrival = l.sums_on_arrival }
 
 -- limits that a table can be opened for
 pub record AreLimits (l : model.Limits) : Type 0 where

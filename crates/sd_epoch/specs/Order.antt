@@ -1,6 +1,6 @@
 -- Places in an order, and the rank of each.
 use Rattle.std.specs.Prelude.{◌≡◌, ◌≢◌, ℕ, ◌<◌, true, List, length, get_or}
-use Rattle.sd_epoch.specs.Entries.{is_among}
+use Rattle.sd_epoch.specs.Places.{is_among}
 
 -- each place is below a number
 abbrev pub AreWithin : ℕ → List ℕ → Type 0

@@ -1,71 +1,79 @@
-ghost use Rattle.std.specs.Prelude.{◌≡◌, ℕ, ◌+◌, ◌^◌, ◌<◌, ◌≤◌, List, [], ◌∷◌, ◌++◌, length, get_or, vec_len, vec_capacity, IfOk};
-ghost use Rattle.sd_epoch.specs.Chain.{IsChain};
-ghost use Rattle.sd_epoch.specs.Entries.{places_of};
-ghost use Rattle.sd_epoch.specs.Held.{Filed};
+ghost use Rattle.std.specs.Prelude.{◌≡◌, ℕ, ◌+◌, ◌^◌, ◌<◌, Some, None, Option, List, [], ◌∷◌, ◌++◌, length, get_or, IfOk};
+ghost use Rattle.sd_epoch.specs.Chain.{IsChain, link_of, links_of};
 
-use crate::entries::Entries;
 use crate::limits::Limits;
 use std::alloc::{AllocError, Global};
 
-/// The entries of each row, from the last one back: the last of each place's row, and of each entry the one before it of its row.
+/// A link to what names a place, or to none: its index and one, or 0. An `Option` of its index takes twice the room.
+#[derive(Clone, Copy, Debug)]
+pub(crate) struct Link(u32);
+
+const _: () = prove!(size_of::<Link>() == 4);
+
+/// The link to none.
+const NO_LINK: Link = Link(0);
+
+impl Link {
+    /// The link to the one with this index.
+    fn to(at: u32) -> Link
+        requires { at < 2 ^ 20 }
+        ensures { link_of result ≡ Some at }
+    {
+        Link(at + 1)
+    }
+
+    /// The index of the one it links to, or none.
+    pub(crate) fn get(self) -> Option<u32>
+        ensures { result ≡ link_of self }
+    {
+        if self.0 == 0 { None } else { Some(self.0 - 1) }
+    }
+}
+
+/// What names a place, chained from the last one of each place back: here the last of each place. Each of them has the link to
+/// the one before it that names the same place.
 #[derive(Debug, Drop)]
 pub(crate) struct Chain {
-    pub last: Vec<Option<u32>>,
-    pub before: Vec<Option<u32>>,
+    pub last: Vec<Link>,
 }
 
 impl Chain {
-    /// A chain of no entries.
+    /// A chain of nothing.
     pub(crate) fn open(alloc: Global, limits: Limits) -> Result<Chain, AllocError>
-        ensures chain { IfOk result (λ c. IsChain [] c.last.items c.before.items) }
+        ensures chain { IfOk result (λ c. IsChain [] (links_of c.last.items) []) }
         ensures places { IfOk result (λ c. length c.last.items ≡ limits.rows) }
-        ensures room { IfOk result (λ c. limits.entries ≤ vec_capacity c.before) }
     {
         Ok(Chain {
-            last: vec![in alloc; None; limits.rows as usize]?,
-            before: Vec::with_capacity(alloc, limits.entries as usize)?,
+            last: vec![in alloc; NO_LINK; limits.rows as usize]?,
         })
     }
 
-    /// Takes the next entry in, whose row stands in this place.
-    pub(crate) fn push(&mut self, place: u32)
+    /// The last one that names this place.
+    pub(crate) fn last_at(&self, place: u32) -> Option<u32>
+        requires { place < length self.now.last.items }
+        ensures { result ≡ get_or (links_of self.now.last.items) place None }
+    {
+        self.last[place as usize].get()
+    }
+
+    /// Takes the next one in, which has this index and names this place. Returns its link to the one before it.
+    pub(crate) fn push(&mut self, place: u32, at: u32) -> Link
         requires within { place < length self.old.last.items }
-        requires room { vec_len self.old.before < vec_capacity self.old.before }
-        requires few { vec_len self.old.before < 2 ^ 20 }
-        ensures chain { (places : List ℕ) → IsChain places self.old.last.items self.old.before.items
-            → IsChain (places ++ place ∷ []) self.new.last.items self.new.before.items }
+        requires few { at < 2 ^ 20 }
+        ensures chain { (places : List ℕ) (before : List (Option ℕ)) → length places ≡ at → IsChain places (links_of self.old.last.items) before
+            → IsChain (places ++ place ∷ []) (links_of self.new.last.items) (before ++ link_of result ∷ []) }
         ensures places { length self.new.last.items ≡ length self.old.last.items }
-        ensures len { vec_len self.new.before ≡ vec_len self.old.before + 1 }
-        ensures capacity { vec_capacity self.new.before ≡ vec_capacity self.old.before }
     {
-        let entry = self.before.len() as u32;
-        self.before.push_reserved(self.last[place as usize]);
-        self.last[place as usize] = Some(entry);
+        let before = self.last[place as usize];
+        self.last[place as usize] = Link::to(at);
+        before
     }
 
-    /// Takes all entries out.
+    /// Takes all out.
     pub(crate) fn clear(&mut self)
-        ensures chain { IsChain [] self.new.last.items self.new.before.items }
+        ensures chain { IsChain [] (links_of self.new.last.items) [] }
         ensures places { length self.new.last.items ≡ length self.old.last.items }
-        ensures len { vec_len self.new.before ≡ 0 }
-        ensures capacity { vec_capacity self.new.before ≡ vec_capacity self.old.before }
     {
-        self.last.fill(None);
-        self.before.clear();
-    }
-
-    /// Chains these entries in place of those before.
-    pub(crate) fn chain_anew(&mut self, entries: &Entries)
-        requires within { (i : ℕ) (d : Filed) → i < length entries.now.items → (get_or entries.now.items i d).place < length self.old.last.items }
-        requires room { length entries.now.items ≤ vec_capacity self.old.before }
-        requires few { length entries.now.items ≤ 2 ^ 20 }
-        ensures chain { IsChain (places_of entries.now.items) self.new.last.items self.new.before.items }
-        ensures places { length self.new.last.items ≡ length self.old.last.items }
-        ensures capacity { vec_capacity self.new.before ≡ vec_capacity self.old.before }
-    {
-        self.clear();
-        for at in 0..entries.len() {
-            self.push(entries.place(at));
-        }
+        self.last.fill(NO_LINK);
     }
 }

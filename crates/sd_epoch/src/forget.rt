@@ -1,17 +1,20 @@
-ghost use Rattle.std.specs.Prelude.{◌≡◌, ◌+◌, ◌^◌, ◌<◌, ◌≤◌, is_some, None, filter, vec_len, vec_capacity, length, set};
+ghost use Rattle.std.specs.Prelude.{◌≡◌, ◌+◌, ◌^◌, ◌<◌, ◌≤◌, is_some, None, vec_len, vec_capacity, length, get_or, set, sum_by};
 ghost use Rattle.sd_model_shard.specs.Rows.{is_same_row};
 ghost use Rattle.sd_model_shard.specs.Commands.{is_hit};
 ghost use Rattle.sd_key.specs.Kind.{kind_of};
 ghost use Rattle.sd_rows.specs.Rows.{row_at};
-ghost use Rattle.sd_epoch.specs.Chain.{IsChain};
-ghost use Rattle.sd_epoch.specs.Entries.{left_by, AreLeft, AreRows, places_of};
 ghost use Rattle.sd_epoch.specs.Forget.{IsClosedUp};
-ghost use Rattle.sd_epoch.specs.Order.{IsRanked};
-ghost use Rattle.sd_epoch.specs.Table.{id_of};
+ghost use Rattle.sd_epoch.specs.Members.{AreMembers};
+ghost use Rattle.sd_epoch.specs.Order.{AreWithin, IsRanked};
+ghost use Rattle.sd_epoch.specs.Places.{left_by, AreLeft, AreRows};
+ghost use Rattle.sd_epoch.specs.Since.{no_tally};
+ghost use Rattle.sd_epoch.specs.Table.{id_of, most_held};
+ghost use Rattle.sd_epoch.specs.Values.{AreValues};
 
-use crate::chain::Chain;
-use crate::entries::Entries;
+use crate::members::Members;
 use crate::order::Order;
+use crate::tally::Tally;
+use crate::values::Values;
 use sd_key::{Key, Kind, Pattern};
 use sd_rows::Rows;
 
@@ -22,24 +25,33 @@ pub(crate) fn is_live(rows: &Rows, place: u32) -> bool
     place < rows.len() && rows.row(place).is_some()
 }
 
-/// Takes the places and the entries out that have no row, and chains those anew that are left. Answers how many entries went.
-pub(crate) fn close_up(
-    rows: &Rows,
-    order: &mut Order,
-    entries: &mut Entries,
-    chain: &mut Chain,
-) -> u64
+/// Takes the places, the values and the members out that have no row.
+pub(crate) fn close_up(rows: &Rows, order: &mut Order, values: &mut Values, members: &mut Members)
     requires ranked { IsRanked order.old.places.items order.old.rank.items }
-    requires places { length chain.old.last.items ≡ length rows.now }
-    requires room { length entries.old.items ≤ vec_capacity chain.old.before }
-    requires few { length entries.old.items ≤ 2 ^ 20 }
-    ensures { IsClosedUp rows.now order.old order.new entries.old entries.new chain.old chain.new result }
+    requires values { AreValues values.old }
+    requires members { AreMembers members.old }
+    requires value_places { length values.old.chain.last.items ≡ length rows.now }
+    requires member_places { length members.old.chain.last.items ≡ length rows.now }
+    requires few_values { length values.old.items.items ≤ 2 ^ 20 }
+    requires few_members { length members.old.items.items ≤ 2 ^ 20 }
+    ensures { IsClosedUp rows.now order.old order.new values.old values.new members.old members.new }
 {
-    let before = entries.len();
     order.retain_live(rows);
-    entries.retain_live(rows);
-    chain.chain_anew(entries);
-    u64::from(before - entries.len())
+    values.retain_live(rows);
+    members.retain_live(rows);
+}
+
+/// How many samples the rows in these places have together.
+pub(crate) fn samples_at(places: &[u32], tallies: &[Tally]) -> u64
+    requires within { AreWithin (length tallies.now) places.now }
+    requires few { sum_by (λ p. (get_or tallies.now p no_tally).samples) places.now ≤ most_held }
+    ensures { result ≡ sum_by (λ p. (get_or tallies.now p no_tally).samples) places.now }
+{
+    let mut samples = 0;
+    for at in 0..places.len() {
+        samples += tallies[places[at] as usize].samples;
+    }
+    samples
 }
 
 /// Takes a row out, where it is there.

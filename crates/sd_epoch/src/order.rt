@@ -1,6 +1,6 @@
 ghost use Rattle.std.specs.Prelude.{◌≡◌, ◌+◌, ◌<◌, ◌≤◌, [], ◌∷◌, ◌++◌, true, false, is_some, filter, length, vec_len, vec_capacity, IfOk};
 ghost use Rattle.sd_rows.specs.Rows.{row_at};
-ghost use Rattle.sd_epoch.specs.Entries.{is_among};
+ghost use Rattle.sd_epoch.specs.Places.{is_among};
 ghost use Rattle.sd_epoch.specs.Order.{AreWithin, AreDifferent, IsRanked, IsWithout};
 
 use crate::forget::is_live;

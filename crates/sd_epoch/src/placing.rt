@@ -1,17 +1,25 @@
-ghost use Rattle.std.specs.Prelude.{◌≡◌, ◌≢◌, ℕ, ◌+◌, ◌<◌, ◌≤◌, [], List, length, set, Some, None, vec_len, vec_capacity};
+ghost use Rattle.std.specs.Prelude.{◌≡◌, ◌≢◌, ℕ, ◌+◌, ◌^◌, ◌<◌, ◌≤◌, ◌==◌, [], ◌∷◌, ◌++◌, true, if◌then◌else◌, List, length, get_or, set, Option, Some, None, vec_len, vec_capacity};
 ghost use Rattle.std.specs.FinMap.{insert};
-ghost use Rattle.sd_model_shard.specs.Rows as model;
-ghost use Rattle.sd_model_shard.specs.Rows.{touched, entries_of};
+ghost use Rattle.sd_model_shard.specs.Summaries.{is_listed, row_in};
 ghost use Rattle.sd_rows.specs.Rows.{row_at, Holds, IsAbsent, StandsNowhereElse, reset};
 ghost use Rattle.sd_rows.specs.RowMap.{copy_steps};
-ghost use Rattle.sd_epoch.specs.Entries.{live_in, AreRows, AreTallies, StayAt};
+ghost use Rattle.sd_rows.specs.declared.row.Row.{Row};
+ghost use Rattle.sd_epoch.specs.Members.{AreMembers, member_places};
 ghost use Rattle.sd_epoch.specs.Order.{IsRanked};
+ghost use Rattle.sd_epoch.specs.Places.{told_live, AllLive, AreRows, AreSince, StayAt};
+ghost use Rattle.sd_epoch.specs.Since.{no_tally, since_at, values_at, members_at, told_values, told_members, values_with, members_with, IsFresh, without_swaps};
 ghost use Rattle.sd_epoch.specs.Table.{id_of};
+ghost use Rattle.sd_epoch.specs.Values.{AreValues, value_places};
+ghost use Rattle.sd_epoch.specs.declared.members.SetMember.{SetMember};
+ghost use Rattle.sd_epoch.specs.declared.values.TimerValue.{TimerValue};
 
+use crate::members::Members;
 use crate::order::Order;
 use crate::tally::{Tally, empty_tally};
+use crate::values::Values;
 use sd_decimal::Micro;
 use sd_key::{Key, Kind};
+use sd_line::Sample;
 use sd_rows::{Row, Rows, Steps};
 use std::sync::ledger::Ledger;
 
@@ -44,11 +52,12 @@ pub(crate) fn add_row(
     ensures rows { AreRows rows.new order.new.places.items }
     ensures ranked { IsRanked order.new.places.items order.new.rank.items }
     ensures ranks { length order.new.rank.items ≡ length order.old.rank.items }
-    ensures live { live_in rows.new order.new.places.items
-        ≡ insert (live_in rows.old order.old.places.items) (id_of kind key.now) (record { base = base.0; swaps = swaps }) }
+    ensures empty { row_at rows.old result ≡ None }
+    ensures others { (p : ℕ) → p ≢ result → row_at rows.new p ≡ row_at rows.old p }
+    ensures order { order.new.places.items ≡ order.old.places.items ++ result ∷ [] }
     ensures stay { StayAt rows.old rows.new }
-    ensures tallies { (held : List model.Entry) → AreTallies rows.old tallies.old.items held → entries_of (id_of kind key.now) held ≡ []
-        → AreTallies rows.new tallies.new.items held }
+    ensures tally { IsFresh base.0 (get_or tallies.new.items result no_tally) }
+    ensures other_tallies { (p : ℕ) → p ≢ result → get_or tallies.new.items p no_tally ≡ get_or tallies.old.items p no_tally }
     ensures places { length rows.new ≡ length rows.old }
     ensures tally_places { length tallies.new.items ≡ length tallies.old.items }
     ensures len { vec_len order.new.places ≡ vec_len order.old.places + 1 }
@@ -80,10 +89,13 @@ pub(crate) fn touch(
     ensures rows { AreRows rows.new order.new.places.items }
     ensures ranked { IsRanked order.new.places.items order.new.rank.items }
     ensures ranks { length order.new.rank.items ≡ length order.old.rank.items }
-    ensures live { live_in rows.new order.new.places.items ≡ touched (live_in rows.old order.old.places.items) (id_of kind key.now) }
+    ensures live { (values : List TimerValue) (members : List SetMember) → AllLive rows.old (value_places values) → AllLive rows.old (member_places members)
+        → told_live rows.new (since_at tallies.new.items values members) order.new.places.items
+        ≡ insert (told_live rows.old (since_at tallies.old.items values members) order.old.places.items) (id_of kind key.now)
+        (without_swaps (row_in (told_live rows.old (since_at tallies.old.items values members) order.old.places.items) (id_of kind key.now))) }
+    ensures since { (values : List TimerValue) (members : List SetMember) → AllLive rows.old (value_places values) → AllLive rows.old (member_places members)
+        → AreSince rows.old (since_at tallies.old.items values members) → AreSince rows.new (since_at tallies.new.items values members) }
     ensures stay { StayAt rows.old rows.new }
-    ensures tallies { (held : List model.Entry) → AreTallies rows.old tallies.old.items held
-        → (IsAbsent kind key.now rows.old → entries_of (id_of kind key.now) held ≡ []) → AreTallies rows.new tallies.new.items held }
     ensures places { length rows.new ≡ length rows.old }
     ensures tally_places { length tallies.new.items ≡ length tallies.old.items }
     ensures few { vec_len order.new.places ≤ length rows.new }
@@ -122,7 +134,8 @@ pub(crate) fn carry_in<L: Ledger>(
     ensures rows { AreRows rows.new order.new.places.items }
     ensures ranked { IsRanked order.new.places.items order.new.rank.items }
     ensures ranks { length order.new.rank.items ≡ length order.old.rank.items }
-    ensures tallies { AreTallies rows.old tallies.old.items [] → AreTallies rows.new tallies.new.items [] }
+    ensures tally { IsFresh base.0 (get_or tallies.new.items at no_tally) }
+    ensures other_tallies { (p : ℕ) → p ≢ at → get_or tallies.new.items p no_tally ≡ get_or tallies.old.items p no_tally }
     ensures tally_places { length tallies.new.items ≡ length tallies.old.items }
     ensures capacity { vec_capacity order.new.places ≡ vec_capacity order.old.places }
     ensures steps { steps.new ≡ steps.old + copy_steps (row_at from.now at) (row_at rows.old at) }
@@ -139,12 +152,44 @@ pub(crate) fn carry_in<L: Ledger>(
 /// Makes the tally of each row one without samples.
 pub(crate) fn clear_tallies(rows: &Rows, tallies: &mut Vec<Tally>)
     requires { length tallies.old.items ≡ length rows.now }
-    ensures tallies { AreTallies rows.now tallies.new.items [] }
+    ensures tallies { (p : ℕ) (row : Row) → row_at rows.now p ≡ Some row → IsFresh row.base.0 (get_or tallies.new.items p no_tally) }
     ensures tally_places { length tallies.new.items ≡ length tallies.old.items }
 {
     for at in 0..rows.len() {
         if let Some(row) = rows.row(at) {
             tallies[at as usize] = empty_tally(row.base);
         }
+    }
+}
+
+/// Puts the value of a timer's sample and the member of a set's behind the others, of the row in this place.
+pub(crate) fn list(values: &mut Values, members: &mut Members, place: u32, s: &Sample)
+    requires values { AreValues values.old }
+    requires members { AreMembers members.old }
+    requires value_place { place < length values.old.chain.last.items }
+    requires member_place { place < length members.old.chain.last.items }
+    requires value_room { is_listed s.now.kind ≡ true → vec_len values.old.items < vec_capacity values.old.items }
+    requires member_room { is_listed s.now.kind ≡ true → vec_len members.old.items < vec_capacity members.old.items }
+    requires few_values { is_listed s.now.kind ≡ true → vec_len values.old.items < 2 ^ 20 }
+    requires few_members { is_listed s.now.kind ≡ true → vec_len members.old.items < 2 ^ 20 }
+    ensures values { (p : ℕ) → told_values (values_at p values.new.items.items)
+        ≡ (if place == p then values_with s.now.kind (told_values (values_at p values.old.items.items)) s.now else told_values (values_at p values.old.items.items)) }
+    ensures members { (p : ℕ) → told_members (members_at p members.new.items.items)
+        ≡ (if place == p then members_with s.now.kind (told_members (members_at p members.old.items.items)) s.now else told_members (members_at p members.old.items.items)) }
+    ensures are_values { AreValues values.new }
+    ensures are_members { AreMembers members.new }
+    ensures owned_values { (rows : List (Option Row)) → row_at rows place ≢ None → AllLive rows (value_places values.old.items.items) → AllLive rows (value_places values.new.items.items) }
+    ensures owned_members { (rows : List (Option Row)) → row_at rows place ≢ None → AllLive rows (member_places members.old.items.items) → AllLive rows (member_places members.new.items.items) }
+    ensures count { length values.new.items.items + length members.new.items.items
+        ≡ length values.old.items.items + length members.old.items.items + (if is_listed s.now.kind then 1 else 0) }
+    ensures value_places { length values.new.chain.last.items ≡ length values.old.chain.last.items }
+    ensures member_places { length members.new.chain.last.items ≡ length members.old.chain.last.items }
+    ensures value_capacity { vec_capacity values.new.items ≡ vec_capacity values.old.items }
+    ensures member_capacity { vec_capacity members.new.items ≡ vec_capacity members.old.items }
+{
+    match s.kind {
+        Kind::Timer => values.push(place, s.value),
+        Kind::Set => members.push(place, &s.member),
+        Kind::Counter | Kind::Gauge => {}
     }
 }

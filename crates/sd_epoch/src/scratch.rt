@@ -1,14 +1,14 @@
-ghost use Rattle.std.specs.Prelude.{◌≡◌, ◌<◌, ◌≤◌, [], length, map, reverse, vec_len, vec_capacity, IfOk};
+ghost use Rattle.std.specs.Prelude.{◌≡◌, ◌<◌, ◌≤◌, [], length, map, IfOk};
 ghost use Rattle.std.specs.Borrow.{sem};
-ghost use Rattle.sd_epoch.specs.Chain.{IsChain};
-ghost use Rattle.sd_epoch.specs.Entries.{places_of, entries_at};
 ghost use Rattle.sd_epoch.specs.Limits.{limits_of, AreLimits};
+ghost use Rattle.sd_epoch.specs.Members.{AreMembers};
 ghost use Rattle.sd_epoch.specs.Scratch.{texts};
+ghost use Rattle.sd_epoch.specs.Since.{values_at, members_at, told_members};
+ghost use Rattle.sd_epoch.specs.Values.{AreValues};
 
-use crate::chain::Chain;
-use crate::entries::Entries;
-use crate::entry::member_of;
 use crate::limits::Limits;
+use crate::members::Members;
+use crate::values::Values;
 use sd_decimal::Micro;
 use sd_line::Member;
 use std::alloc::{AllocError, Global};
@@ -65,63 +65,31 @@ impl Scratch {
         self.members.as_mut_slice()
     }
 
-    /// Puts the values of the entries of a place's row there, in place of those before.
-    pub(crate) fn put_values(&mut self, entries: &Entries, chain: &Chain, place: u32)
-        requires room { length entries.now.items ≤ self.old.room }
-        requires chain { IsChain (places_of entries.now.items) chain.now.last.items chain.now.before.items }
-        requires within { place < length chain.now.last.items }
-        ensures values { self.new.values ≡ map (λ e. e.value) (entries_at place entries.now.items) }
+    /// Puts the values of the row in a place there, in place of those before.
+    pub(crate) fn put_values(&mut self, values: &Values, place: u32)
+        requires room { length values.now.items.items ≤ self.old.room }
+        requires values { AreValues values.now }
+        requires within { place < length values.now.chain.last.items }
+        ensures values { self.new.values ≡ map (λ v. v.value) (values_at place values.now.items.items) }
         ensures members { self.new.members ≡ self.old.members }
         ensures room { self.new.room ≡ self.old.room }
     {
         self.values.clear();
-        push_values(entries, chain, place, &mut self.values);
+        values.push_to(place, &mut self.values);
         self.values.reverse();
     }
 
-    /// Puts the members of the entries of a place's row there, in place of those before.
-    pub(crate) fn put_members(&mut self, entries: &Entries, chain: &Chain, place: u32)
-        requires room { length entries.now.items ≤ self.old.room }
-        requires chain { IsChain (places_of entries.now.items) chain.now.last.items chain.now.before.items }
-        requires within { place < length chain.now.last.items }
-        ensures members { texts self.new.members ≡ map (λ e. e.member) (entries_at place entries.now.items) }
+    /// Puts the members of the row in a place there, in place of those before.
+    pub(crate) fn put_members(&mut self, members: &Members, place: u32)
+        requires room { length members.now.items.items ≤ self.old.room }
+        requires members { AreMembers members.now }
+        requires within { place < length members.now.chain.last.items }
+        ensures members { texts self.new.members ≡ told_members (members_at place members.now.items.items) }
         ensures values { self.new.values ≡ self.old.values }
         ensures room { self.new.room ≡ self.old.room }
     {
         self.members.clear();
-        push_members(entries, chain, place, &mut self.members);
+        members.push_to(place, &mut self.members);
         self.members.reverse();
-    }
-}
-
-/// Appends the values of the entries of a place's row, from the last one back.
-fn push_values(entries: &Entries, chain: &Chain, place: u32, out: &mut Vec<Micro>)
-    requires empty { vec_len out.old ≡ 0 }
-    requires room { length entries.now.items ≤ vec_capacity out.old }
-    requires chain { IsChain (places_of entries.now.items) chain.now.last.items chain.now.before.items }
-    requires within { place < length chain.now.last.items }
-    ensures values { out.new.items ≡ reverse (map (λ e. e.value) (entries_at place entries.now.items)) }
-    ensures capacity { vec_capacity out.new ≡ vec_capacity out.old }
-{
-    let mut next = chain.last[place as usize];
-    while let Some(at) = next {
-        out.push_reserved(entries.value(at));
-        next = chain.before[at as usize];
-    }
-}
-
-/// Appends the members of the entries of a place's row, from the last one back.
-fn push_members(entries: &Entries, chain: &Chain, place: u32, out: &mut Vec<Member>)
-    requires empty { vec_len out.old ≡ 0 }
-    requires room { length entries.now.items ≤ vec_capacity out.old }
-    requires chain { IsChain (places_of entries.now.items) chain.now.last.items chain.now.before.items }
-    requires within { place < length chain.now.last.items }
-    ensures members { texts out.new.items ≡ reverse (map (λ e. e.member) (entries_at place entries.now.items)) }
-    ensures capacity { vec_capacity out.new ≡ vec_capacity out.old }
-{
-    let mut next = chain.last[place as usize];
-    while let Some(at) = next {
-        out.push_reserved(member_of(entries.member(at)));
-        next = chain.before[at as usize];
     }
 }

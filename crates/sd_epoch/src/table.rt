@@ -1,26 +1,24 @@
-ghost use Rattle.std.specs.Prelude.{◌≡◌, ◌+◌, ◌*◌, ◌^◌, ◌<◌, ◌≤◌, ◌≢◌, unsigned_abs, slice_get, false, not, filter, [], ◌∷◌, ◌++◌, length, set, IfOk, IfSome, MatchOption, Some, None};
-ghost use Rattle.std.specs.FinMap.{len, contains_key, insert, remove};
-ghost use Rattle.sd_model_shard.specs.Rows.{RowId, row_of, touched, entries_of, is_same_row};
-ghost use Rattle.sd_model_shard.specs.Commands.{rows_left, entries_left, entries_taken_out};
-ghost use Rattle.sd_model_shard.specs.Statistics.{weight_of, gauge_value, values_of, members_of, amount_of};
-ghost use Rattle.sd_key.specs.Kind.{kind_of};
-ghost use Rattle.sd_epoch.specs.Limits.{limits_of, AreLimits};
+ghost use Rattle.std.specs.Prelude.{◌≡◌, ◌+◌, ◌-◌, ◌*◌, ◌^◌, ◌<◌, ◌≤◌, ◌≢◌, unsigned_abs, slice_get, true, false, if◌then◌else◌, [], length, map, set, option_map, IfOk, IfSome, MatchOption, Some, None};
+ghost use Rattle.std.specs.FinMap.{len, contains_key, get, insert, remove};
 ghost use Rattle.sd_model_text.specs.Names.{Timer};
-ghost use Rattle.sd_epoch.specs.Scratch.{micros, texts, AreTimerValues};
-ghost use Rattle.sd_epoch.specs.Table.{live_of, AreApart, HasPlaces, row_view, id_of};
+ghost use Rattle.sd_model_shard.specs.Rows.{RowId, row_of};
+ghost use Rattle.sd_model_shard.specs.Commands.{rows_left, rows_taken_out};
+ghost use Rattle.sd_model_shard.specs.Summaries.{amount_by, is_listed, listed_in, row_in, samples_in, touched, without_samples};
+ghost use Rattle.sd_key.specs.Kind.{kind_of};
 ghost use Rattle.sd_rows.specs.Rows.{row_at, StandsNowhereElse, reset};
 ghost use Rattle.sd_rows.specs.RowMap.{copy_steps};
+ghost use Rattle.sd_epoch.specs.Limits.{limits_of, AreLimits};
+ghost use Rattle.sd_epoch.specs.Scratch.{micros, texts, AreTimerValues};
+ghost use Rattle.sd_epoch.specs.Table.{live_of, AreApart, HasPlaces, fresh, freshened, most_held, row_view, id_of, Tells};
 
-use crate::chain::Chain;
-use crate::entries::Entries;
-use crate::entry::copy_key;
-use crate::forget::{close_up, drop_hits, drop_row, empty_at};
-use crate::limits::{Limits, Who};
-use crate::members::distinct_sum;
+use crate::forget::{close_up, drop_hits, drop_row, empty_at, samples_at};
+use crate::limits::Limits;
+use crate::members::Members;
 use crate::order::Order;
-use crate::placing::{add_row, carry_in, clear_tallies, live_row, touch};
+use crate::placing::{add_row, carry_in, clear_tallies, list, live_row, touch};
 use crate::scratch::Scratch;
 use crate::tally::{Tally, empty_tally};
+use crate::values::Values;
 use sd_decimal::{Micro, Sum};
 use sd_key::{Key, Kind, Pattern};
 use sd_line::Sample;
@@ -40,17 +38,19 @@ pub struct RowFacts {
     pub weight: Sum,
 }
 
-/// The rows and entries of one epoch of a shard, in room taken when it was opened.
+/// The rows of one epoch of a shard, each with what its samples come to, in room taken when it was opened.
 ///
-/// `order` has the places of the rows, and the rank of each. `tallies` has that of each place's row.
+/// `order` has the places of the rows, and the rank of each. `tallies` has that of each place's row. The values of timers and the
+/// members of sets stand apart, and so a counter's and a gauge's sample takes no room of its own.
 #[derive(Debug, Drop)]
 pub struct Table {
     limits: Limits,
     rows: Rows,
     order: Order,
     tallies: Vec<Tally>,
-    entries: Entries,
-    chain: Chain,
+    values: Values,
+    members: Members,
+    held: u64,
 }
 
 impl Model for Table {
@@ -71,15 +71,17 @@ impl Table {
         requires { AreLimits (limits_of limits) }
         ensures limits { IfOk result (λ t. t.limits ≡ limits_of limits) }
         ensures rows { IfOk result (λ t. t.listed ≡ []) }
-        ensures entries { IfOk result (λ t. t.held ≡ []) }
+        ensures held { IfOk result (λ t. t.held ≡ 0) }
+        ensures entries { IfOk result (λ t. t.entries ≡ 0) }
     {
         Ok(Table {
             limits,
             rows: Rows::open(alloc, limits.rows)?,
             order: Order::open(alloc, limits.rows)?,
             tallies: vec![in alloc; empty_tally(Micro(0)); limits.rows as usize]?,
-            entries: Entries::open(alloc, limits.entries)?,
-            chain: Chain::open(alloc, limits)?,
+            values: Values::open(alloc, limits)?,
+            members: Members::open(alloc, limits)?,
+            held: 0,
         })
     }
 
@@ -102,13 +104,24 @@ impl Table {
         self.order.places.len() as u32
     }
 
-    /// How many entries it has. Each has its row: where a row is absent, it has no entries.
+    /// How many samples its rows have together.
+    pub fn held(&self) -> u64
+        ensures held { result ≡ self.now.held }
+        ensures samples { self.now.held ≡ samples_in (live_of self.now) }
+        ensures within { result ≤ most_held }
+        ensures few_rows { length self.now.listed ≤ self.now.limits.rows }
+        ensures few_entries { self.now.entries ≤ self.now.limits.entries }
+    {
+        self.held
+    }
+
+    /// How many of them have an entry: those of timers and sets.
     pub fn entries(&self) -> u32
-        ensures held { result ≡ length self.now.held }
-        ensures owned { (id : RowId) → contains_key (live_of self.now) id ≡ false → entries_of id self.now.held ≡ [] }
+        ensures entries { result ≡ self.now.entries }
+        ensures listed { self.now.entries ≡ listed_in (live_of self.now) }
         ensures within { result ≤ self.now.limits.entries }
     {
-        self.entries.len()
+        (self.values.items.len() + self.members.items.len()) as u32
     }
 
     /// Whether it has the row.
@@ -121,10 +134,8 @@ impl Table {
     /// What it says of its i-th row, in some order.
     pub fn row(&self, i: u32) -> RowFacts
         requires { i < length self.now.listed }
-        ensures listed { slice_get self.now.listed i ≡ Some (id_of result.kind result.key, record { base = result.base.0; swaps = result.swaps }) }
-        ensures samples { result.samples ≡ length (entries_of (id_of result.kind result.key) self.now.held) }
-        ensures weight { result.weight.0 ≡ weight_of (id_of result.kind result.key) self.now.held }
-        ensures bound { unsigned_abs result.weight.0 ≤ 2 ^ 20 * 10 ^ 24 }
+        ensures listed { IfSome (slice_get self.now.listed i) (Tells result) }
+        ensures bound { unsigned_abs result.weight.0 ≤ most_held * 10 ^ 24 }
     {
         let place = self.order.places[i as usize];
         let row = live_row(&self.rows, place);
@@ -135,7 +146,7 @@ impl Table {
     /// Its i-th row, in some order.
     pub fn get(&self, i: u32) -> &Row
         requires { i < length self.now.listed }
-        ensures { slice_get self.now.listed i ≡ Some (row_view result.now) }
+        ensures { IfSome (slice_get self.now.listed i) (λ row. (row.0, fresh row.1) ≡ row_view result.now) }
     {
         live_row(&self.rows, self.order.places[i as usize])
     }
@@ -143,7 +154,7 @@ impl Table {
     /// The value of its i-th row as a gauge.
     pub fn gauge_of(&self, i: u32) -> Micro
         requires { i < length self.now.listed }
-        ensures { IfSome (slice_get self.now.listed i) (λ row. result.0 ≡ gauge_value row.0 row.1.base self.now.held) }
+        ensures { IfSome (slice_get self.now.listed i) (λ row. result.0 ≡ row.1.since.gauge) }
     {
         self.tallies[self.order.places[i as usize] as usize].gauge
     }
@@ -151,83 +162,91 @@ impl Table {
     /// Puts the values of its i-th row's samples into the scratch, in the order in which they came.
     pub fn values_of(&self, i: u32, out: &mut Scratch)
         requires place { i < length self.now.listed }
-        requires room { length self.now.held ≤ out.old.room }
-        ensures values { IfSome (slice_get self.now.listed i) (λ row. micros out.new.values ≡ values_of row.0 self.now.held) }
-        ensures range { IfSome (slice_get self.now.listed i) (λ row. row.0.kind ≡ Timer → AreTimerValues out.new.values) }
+        requires room { self.now.entries ≤ out.old.room }
+        ensures values { IfSome (slice_get self.now.listed i) (λ row. micros out.new.values ≡ row.1.since.values) }
+        ensures range { AreTimerValues out.new.values }
         ensures few { length out.new.values ≤ 2 ^ 20 }
         ensures members { out.new.members ≡ out.old.members }
         ensures room { out.new.room ≡ out.old.room }
     {
-        out.put_values(&self.entries, &self.chain, self.order.places[i as usize]);
+        out.put_values(&self.values, self.order.places[i as usize]);
     }
 
     /// Puts the members of its i-th row's samples into the scratch, in the order in which they came.
     pub fn members_of(&self, i: u32, out: &mut Scratch)
         requires place { i < length self.now.listed }
-        requires room { length self.now.held ≤ out.old.room }
-        ensures members { IfSome (slice_get self.now.listed i) (λ row. texts out.new.members ≡ members_of row.0 self.now.held) }
+        requires room { self.now.entries ≤ out.old.room }
+        ensures members { IfSome (slice_get self.now.listed i) (λ row. texts out.new.members ≡ row.1.since.members) }
         ensures values { out.new.values ≡ out.old.values }
         ensures room { out.new.room ≡ out.old.room }
     {
-        out.put_members(&self.entries, &self.chain, self.order.places[i as usize]);
+        out.put_members(&self.members, self.order.places[i as usize]);
     }
 
     /// What the samples of its i-th row come to: a counter's count, the sum of a timer's values, a gauge's value, or how
-    /// many members of a set differ, as whole units. For a set it takes time with the square of its samples.
+    /// many members of a set differ, as whole units. For a timer it takes time with its samples, and for a set with their square.
     pub fn amount_of(&self, i: u32) -> Sum
         requires { i < length self.now.listed }
-        ensures { IfSome (slice_get self.now.listed i) (λ row. result.0 ≡ amount_of row.0 row.1.base self.now.held) }
+        ensures { IfSome (slice_get self.now.listed i) (λ row. result.0 ≡ amount_by row.0.kind row.1.since) }
     {
         let place = self.order.places[i as usize];
         let tally = self.tallies[place as usize];
         match live_row(&self.rows, place).kind {
             Kind::Counter => tally.weight,
-            Kind::Timer => tally.sum,
+            Kind::Timer => self.values.sum_at(place),
             Kind::Gauge => tally.gauge_sum(),
-            Kind::Set => distinct_sum(&self.entries, &self.chain, place),
+            Kind::Set => self.members.distinct_sum(place),
         }
     }
 
-    /// Takes a row and its entries out, and answers how many entries those are: 0 where it is absent.
+    /// Takes a row out, and answers how many samples it had: 0 where it is absent.
     pub fn forget_row(&mut self, kind: Kind, key: &Key) -> u64
         ensures live { live_of self.new ≡ remove (live_of self.old) (id_of kind key.now) }
-        ensures held { self.new.held ≡ filter (λ e. not (is_same_row (id_of kind key.now) (row_of e.sample))) self.old.held }
-        ensures count { result ≡ length (entries_of (id_of kind key.now) self.old.held) }
+        ensures samples { result ≡ (row_in (live_of self.old) (id_of kind key.now)).since.samples }
+        ensures held { self.new.held + result ≡ self.old.held }
         ensures limits { self.new.limits ≡ self.old.limits }
     {
         drop_row(&mut self.rows, kind, key);
         close_up(
             &self.rows,
             &mut self.order,
-            &mut self.entries,
-            &mut self.chain,
-        )
+            &mut self.values,
+            &mut self.members,
+        );
+        let before = self.held;
+        self.held = samples_at(&self.order.places, &self.tallies);
+        before - self.held
     }
 
-    /// Takes the rows of a kind that a pattern matches out, and their entries, and answers how many entries those are.
+    /// Takes the rows of a kind that a pattern matches out, and answers how many samples they had.
     pub fn forget_rows(&mut self, kind: Kind, pattern: &Pattern) -> u64
         ensures live { live_of self.new ≡ rows_left (kind_of kind) pattern.now (live_of self.old) }
-        ensures held { self.new.held ≡ entries_left (kind_of kind) pattern.now self.old.held }
-        ensures count { result ≡ length (entries_taken_out (kind_of kind) pattern.now self.old.held) }
+        ensures samples { result ≡ samples_in (rows_taken_out (kind_of kind) pattern.now (live_of self.old)) }
+        ensures held { self.new.held + result ≡ self.old.held }
+        ensures entries { self.new.entries + listed_in (rows_taken_out (kind_of kind) pattern.now (live_of self.old)) ≡ self.old.entries }
         ensures limits { self.new.limits ≡ self.old.limits }
     {
         drop_hits(&mut self.rows, kind, pattern);
         close_up(
             &self.rows,
             &mut self.order,
-            &mut self.entries,
-            &mut self.chain,
-        )
+            &mut self.values,
+            &mut self.members,
+        );
+        let before = self.held;
+        self.held = samples_at(&self.order.places, &self.tallies);
+        before - self.held
     }
 
     /// Makes a row that is absent.
     pub fn keep_row(&mut self, kind: Kind, key: &Key, base: Micro, swaps: u32)
         requires absent { contains_key (live_of self.old) (id_of kind key.now) ≡ false }
         requires room { length self.old.listed < self.old.limits.rows }
-        ensures live { live_of self.new ≡ insert (live_of self.old) (id_of kind key.now) (record { base = base.0; swaps = swaps }) }
+        ensures live { live_of self.new ≡ insert (live_of self.old) (id_of kind key.now) (without_samples base.0 swaps) }
         ensures count { length self.new.listed ≡ length self.old.listed + 1 }
         ensures limits { self.new.limits ≡ self.old.limits }
         ensures held { self.new.held ≡ self.old.held }
+        ensures entries { self.new.entries ≡ self.old.entries }
     {
         add_row(
             &mut self.rows,
@@ -240,28 +259,32 @@ impl Table {
         );
     }
 
-    /// Takes all rows and entries out.
+    /// Takes all rows out, with all their samples.
     pub fn clear(&mut self)
         ensures rows { self.new.listed ≡ [] }
-        ensures entries { self.new.held ≡ [] }
+        ensures held { self.new.held ≡ 0 }
+        ensures entries { self.new.entries ≡ 0 }
         ensures limits { self.new.limits ≡ self.old.limits }
     {
         self.rows.clear();
         self.order.clear();
-        self.entries.clear();
-        self.chain.clear();
+        self.values.clear();
+        self.members.clear();
+        self.held = 0;
     }
 
-    /// Takes all entries out. The rows stay where they are.
-    pub fn clear_entries(&mut self)
+    /// Takes all samples out. The rows stay where they are, with their bases and their swaps.
+    pub fn clear_samples(&mut self)
         ensures places { self.new.places ≡ self.old.places }
-        ensures rows { self.new.listed ≡ self.old.listed }
-        ensures entries { self.new.held ≡ [] }
+        ensures rows { self.new.listed ≡ freshened self.old.listed }
+        ensures held { self.new.held ≡ 0 }
+        ensures entries { self.new.entries ≡ 0 }
         ensures limits { self.new.limits ≡ self.old.limits }
     {
         clear_tallies(&self.rows, &mut self.tallies);
-        self.entries.clear();
-        self.chain.clear();
+        self.values.clear();
+        self.members.clear();
+        self.held = 0;
     }
 
     /// The row in a place, or none where it is empty.
@@ -275,7 +298,7 @@ impl Table {
     /// The value of the row in a place as a gauge.
     pub fn gauge_at(&self, at: u32) -> Micro
         requires { row_at self.now.places at ≢ None }
-        ensures { IfSome (row_at self.now.places at) (λ row. result.0 ≡ gauge_value (row_view row).0 row.base.0 self.now.held) }
+        ensures { IfSome (row_at self.now.places at) (λ row. IfSome (get (live_of self.now) (row_view row).0) (λ kept. result.0 ≡ kept.since.gauge)) }
     {
         self.tallies[at as usize].gauge
     }
@@ -285,9 +308,8 @@ impl Table {
         requires { at < self.now.limits.rows }
         ensures place { MatchOption result (row_at self.now.places at ≡ None)
             (λ row. row_at self.now.places at ≡ Some (record { kind = row.kind; key = row.key; base = row.base; swaps = row.swaps })) }
-        ensures samples { IfSome result (λ row. row.samples ≡ length (entries_of (id_of row.kind row.key) self.now.held)) }
-        ensures weight { IfSome result (λ row. row.weight.0 ≡ weight_of (id_of row.kind row.key) self.now.held) }
-        ensures bound { IfSome result (λ row. unsigned_abs row.weight.0 ≤ 2 ^ 20 * 10 ^ 24) }
+        ensures told { IfSome result (λ row. IfSome (get (live_of self.now) (id_of row.kind row.key)) (λ kept. Tells row (id_of row.kind row.key, kept))) }
+        ensures bound { IfSome result (λ row. unsigned_abs row.weight.0 ≤ most_held * 10 ^ 24) }
     {
         match self.rows.row(at) {
             None => None,
@@ -298,10 +320,11 @@ impl Table {
     /// Empties a place. The others stay.
     pub fn drop_place(&mut self, at: u32)
         requires within { at < self.old.limits.rows }
-        requires no_entries { self.old.held ≡ [] }
+        requires no_samples { self.old.held ≡ 0 }
         ensures places { self.new.places ≡ set self.old.places at None }
         ensures listing { HasPlaces self.new }
-        ensures entries { self.new.held ≡ [] }
+        ensures held { self.new.held ≡ 0 }
+        ensures entries { self.new.entries ≡ 0 }
         ensures limits { self.new.limits ≡ self.old.limits }
     {
         empty_at(&mut self.rows, &mut self.order, at);
@@ -320,11 +343,12 @@ impl Table {
     )
         requires limits { from.now.limits ≡ self.old.limits }
         requires live { row_at from.now.places at ≢ None }
-        requires no_entries { self.old.held ≡ [] }
+        requires no_samples { self.old.held ≡ 0 }
         requires apart { StandsNowhereElse (row_at from.now.places at) at self.old.places }
         ensures places { self.new.places ≡ set self.old.places at (reset (row_at from.now.places at) base swaps) }
         ensures listing { HasPlaces self.new }
-        ensures entries { self.new.held ≡ [] }
+        ensures held { self.new.held ≡ 0 }
+        ensures entries { self.new.entries ≡ 0 }
         ensures limits { self.new.limits ≡ self.old.limits }
         ensures steps { steps.new ≤ steps.old + copy_steps (row_at from.now.places at) (row_at self.old.places at) }
     {
@@ -340,12 +364,14 @@ impl Table {
         );
     }
 
-    /// Appends an entry. Its row is made where it is absent, and has no swap since its last sample then.
-    pub fn push(&mut self, who: Who, number: u64, s: &Sample)
+    /// Takes a sample. Its row is made where it is absent, and has no swap since its last sample then.
+    pub fn sample(&mut self, s: &Sample)
         requires row_room { contains_key (live_of self.old) (row_of s.now) ≡ false → len (live_of self.old) < self.old.limits.rows }
-        requires entry_room { length self.old.held < self.old.limits.entries }
-        ensures live { live_of self.new ≡ touched (live_of self.old) (row_of s.now) }
-        ensures held { self.new.held ≡ self.old.held ++ record { who = who.0; number = number; sample = s.now } ∷ [] }
+        requires entry_room { is_listed s.now.kind ≡ true → self.old.entries < self.old.limits.entries }
+        requires room { self.old.held < most_held }
+        ensures live { live_of self.new ≡ touched (live_of self.old) s.now }
+        ensures held { self.new.held ≡ self.old.held + 1 }
+        ensures entries { self.new.entries ≡ self.old.entries + (if is_listed s.now.kind then 1 else 0) }
         ensures limits { self.new.limits ≡ self.old.limits }
     {
         let place = touch(
@@ -356,9 +382,16 @@ impl Table {
             &s.key,
         );
         self.tallies[place as usize].add(s);
-        self.entries.file(who, number, place, s);
-        self.chain.push(place);
+        list(&mut self.values, &mut self.members, place, s);
+        self.held += 1;
     }
+}
+
+/// A copy of a key.
+fn copy_key(key: &Key) -> Key
+    ensures { result ≡ key.now }
+{
+    key.clone().unwrap()
 }
 
 /// What a row and its tally say.

@@ -1,6 +1,8 @@
 -- Rounds, one after another.
-use Rattle.std.proofs.Common.{◌≡◌, ℕ, ◌+◌, ◌<◌, ◌^◌, Bool, List, [], ◌∷◌, ◌++◌, length, map, Option, refl, sym, ap, subst, ◌∙◌, arith}
+use Rattle.std.proofs.Common.{◌≡◌, ℕ, ◌+◌, ◌<◌, ◌^◌, Bool, List, [], ◌∷◌, ◌++◌, length, map, flat_map, Option, refl, sym, ap, subst, ◌∙◌, arith, append_assoc, append-nil}
+use Rattle.std.specs.Prelude.{Some, None}
 use Rattle.std.proofs.lemmas.List.{map-append, length_push}
+use Rattle.std.proofs.lemmas.Grind.{flat_map-append}
 use Rattle.std.proofs.lemmas.List.Sums.{sum_by-append, sum_by-cons}
 use Rattle.sd_model_outside.specs.Outside.{Object, Told, Ticks, raised}
 use Rattle.sd_model_outside.specs.Turns.{GivesTick, turned, with_ticks}
@@ -8,12 +10,13 @@ use Rattle.sd_model_outside.specs.Deliveries.{Delivery, AfterDeliveries}
 use Rattle.sd_model_outside.proofs.DeliveryLemmas.{AfterDeliveries-push}
 use Rattle.sd_model_outside.proofs.TurnLemmas.{with_ticks-append}
 use Rattle.sd_model_shard.specs.History.{History}
-use Rattle.sd_model_record.specs.Desk.{Marks}
-use Rattle.sd_model_record.specs.Counts.{Count, Amounts, Part, HasCounted, nothing, plus}
+use Rattle.sd_model_record.specs.Desk.{Marks, counted}
+use Rattle.sd_model_record.specs.Counts.{Count, Amounts, Part, HasCounted, nothing, plus, share}
+use Rattle.sd_model_record.specs.DeskHistory.{DeskCall}
 use Rattle.sd_model_record.specs.Backends.{Backend, Graphite, Console, mark_of}
 use Rattle.sd_model_record.proofs.CountLemmas.{counted_none, counted_next}
 use Rattle.sd_model_serve.specs.Receiving.{Adds}
-use Rattle.sd_model_serve.specs.Rounds.{Round, Form, MakesRound, MakesRounds, MarksFit, round_deliveries, round_text, swap_of, swaps_at, of_round, of_rounds}
+use Rattle.sd_model_serve.specs.Rounds.{Round, Form, MakesRound, MakesRounds, MarksFit, last_second, round_calls, round_deliveries, round_text, swap_of, swaps_at, of_round, of_rounds}
 use Rattle.sd_model_serve.proofs.ActsLemmas.{Adds-none, Adds-next}
 use Rattle.sd_rows.specs.declared.row.Row.{Row}
 use Rattle.sd_pool.proofs.AlongLemmas.{AllByRecursion-append}
@@ -29,7 +32,7 @@ counted_as : (a b : Amounts) (old new : Part) → ((c : Count) → a c ≡ b c) 
 counted_as a b old new same h = record {
   rises = h.rises;
   grows = λ c few. omega (arith, h.grows c few, same c);
-  adds = λ c few. h.adds c few ∙ ap (λ n. old.share c + n) (same c);
+  adds = λ c. h.adds c ∙ ap (counted (share old c)) (same c);
 }
 
 -- the same round, by other words for the two flags
@@ -45,13 +48,20 @@ pub ticks_none : (told : Told) → told ≡ with_ticks [] told
 ticks_none (Ticks left) = refl
 ticks_none told = refl
 
--- Rounds were made at the ticks that were read, as many.
-pub record SoFar (form : Form) (used : Backend → Bool) (own own_now : ℕ → History) (part part_now : Part) (back back_now : Backend → Object) (beat beat_now : Object) (made : ℕ) : Type 0 where
+-- Rounds were made at the ticks that were read, as many, the last of them at this second.
+pub record SoFar (form : Form) (used : Backend → Bool) (own own_now : ℕ → History) (part part_now : Part) (back back_now : Backend → Object) (beat beat_now : Object) (made : ℕ) (last : Option ℕ) : Type 0 where
   pub rounds : List Round
   pub are_made : MakesRounds form used rounds own own_now part part_now back back_now
   pub count : length rounds ≡ made
   pub given : beat.told ≡ with_ticks (map (λ r. r.ts) rounds) beat_now.told
   pub same : beat_now ≡ record beat { told = beat_now.told; turns = beat.turns + made }
+  pub last_is : last ≡ last_second rounds
+
+-- the second of a round behind rounds
+pub last_of : (rounds : List Round) (r : Round) → last_second (rounds ++ r ∷ []) ≡ Some r.ts
+last_of [] r = refl
+last_of (q ∷ []) r = refl
+last_of (q ∷ p ∷ rounds) r = last_of (p ∷ rounds) r
 
 -- swaps of a round behind those of rounds
 pub swapped_next : (shards : ℕ) (own mid own_now : ℕ → History) (rounds : List Round) (r : Round) → Adds shards (swaps_at rounds) own mid → Adds shards (swaps_at (r ∷ [])) mid own_now
@@ -71,6 +81,18 @@ round_counted part part_mid part_now rounds r first second =
     counted_as (plus (of_rounds rounds) (of_round r)) (of_rounds (rounds ++ r ∷ [])) part part_now
     (λ c. sym (sum_by-append (λ (q : Round). of_round q c) rounds (r ∷ []) ∙ ap (λ n. of_rounds rounds c + n) (sum_by-cons (λ (q : Round). of_round q c) r [] ∙ omega arith)))
     (counted_next (of_rounds rounds) (of_round r) part part_mid part_now first second)
+
+-- one call, and then another
+pub both_calls : (a b : DeskCall) (was mid now : List DeskCall) → mid ≡ was ++ a ∷ [] → now ≡ mid ++ b ∷ [] → now ≡ was ++ a ∷ b ∷ []
+both_calls a b was mid now first second = second ∙ ap (λ (l : List DeskCall). l ++ b ∷ []) first ∙ append_assoc was (a ∷ []) (b ∷ [])
+
+-- what a round calls behind rounds
+pub round_called : (part part_mid part_now : Part) (rounds : List Round) (r : Round) → part_mid.own ≡ part.own ++ flat_map round_calls rounds → part_now.own ≡ part_mid.own ++ round_calls r
+    → part_now.own ≡ part.own ++ flat_map round_calls (rounds ++ r ∷ [])
+round_called part part_mid part_now rounds r first second =
+    let one : flat_map round_calls (r ∷ []) ≡ round_calls r = append-nil (round_calls r) in
+    let all : flat_map round_calls (rounds ++ r ∷ []) ≡ flat_map round_calls rounds ++ round_calls r = flat_map-append round_calls rounds (r ∷ []) ∙ ap (λ (l : List DeskCall). flat_map round_calls rounds ++ l) one in
+    second ∙ ap (λ (l : List DeskCall). l ++ round_calls r) first ∙ append_assoc part.own (flat_map round_calls rounds) (round_calls r) ∙ ap (λ (l : List DeskCall). part.own ++ l) (sym all)
 
 -- a beat of which no tick was read
 pub none_read : (beat : Object) → beat ≡ record beat { told = beat.told; turns = beat.turns + 0 }
@@ -100,13 +122,14 @@ read_next beat beat_mid beat_now made ts few first tick =
       once = omega (arith, few)
 
 module _ (form : Form) (used : Backend → Bool) where
-  pub no_rounds : (own : ℕ → History) (part : Part) (back : Backend → Object) (beat : Object) → SoFar form used own own part part back back beat beat 0
+  pub no_rounds : (own : ℕ → History) (part : Part) (back : Backend → Object) (beat : Object) → SoFar form used own own part part back back beat beat 0 None
   no_rounds own part back beat = record {
     rounds = [];
-    are_made = record { swapped = Adds-none form.shards own; used = tt; delivered = λ b. refl; counted = none_counted part };
+    are_made = record { swapped = Adds-none form.shards own; used = tt; delivered = λ b. refl; counted = none_counted part; called = sym (append-nil part.own) };
     count = refl;
     given = ticks_none beat.told;
     same = none_read beat;
+    last_is = refl;
   }
 
   module _ (own mid own_now : ℕ → History) (part part_mid part_now : Part) (back back_mid back_now : Backend → Object) where
@@ -121,17 +144,19 @@ module _ (form : Form) (used : Backend → Bool) where
           subst (λ (ds : List Delivery). AfterDeliveries ds (back b) (back_now b)) (sym (map-append delivery rounds (r ∷ [])))
           (AfterDeliveries-push (round_deliveries form b rounds) (delivery r) (back b) (back_mid b) (back_now b) (first.delivered b) (second.delivered b));
       counted = round_counted part part_mid part_now rounds r first.counted second.counted;
+      called = round_called part part_mid part_now rounds r first.called second.called;
     }
 
     -- a tick, and its round
-    pub SoFar-next : (beat beat_mid beat_now : Object) (made ts : ℕ) (marks : Marks) (waiting : List (List (Option Row))) → beat.turns + made < 2 ^ 63
-        → SoFar form used own mid part part_mid back back_mid beat beat_mid made → GivesTick ts beat_mid beat_now
+    pub SoFar-next : (beat beat_mid beat_now : Object) (made ts : ℕ) (before : Option ℕ) (marks : Marks) (waiting : List (List (Option Row))) → beat.turns + made < 2 ^ 63
+        → SoFar form used own mid part part_mid back back_mid beat beat_mid made before → GivesTick ts beat_mid beat_now
         → MakesRoundAt form used ts marks mid own_now part_mid part_now back_mid back_now waiting
-        → SoFar form used own own_now part part_now back back_now beat beat_now (made + 1)
-    SoFar-next beat beat_mid beat_now made ts marks waiting few first tick second = record {
+        → SoFar form used own own_now part part_now back back_now beat beat_now (made + 1) (Some ts)
+    SoFar-next beat beat_mid beat_now made ts before marks waiting few first tick second = record {
       rounds = first.rounds ++ second.round ∷ [];
       are_made = rounds_next first.rounds second.round first.are_made second.made;
       count = length_push first.rounds second.round ∙ ap (λ n. n + 1) first.count;
       given = given_next beat beat_mid beat_now first.rounds second.round ts second.second first.given tick;
       same = read_next beat beat_mid beat_now made ts few first.same tick;
+      last_is = sym (last_of first.rounds second.round ∙ ap Some second.second);
     }

@@ -13,9 +13,9 @@ use Rattle.sd_epoch.specs.Table.{Listing, table_of}
 use Rattle.sd_spares.specs.Spares.{Stock}
 use Rattle.sd_flush.specs.Swapping.{swap_at}
 
--- a table behind tables
+-- a table where none is told
 abbrev no_table : Table
-no_table = record { live = empty; held = [] }
+no_table = record { live = empty }
 
 push_tables : (tables : List Listing) (t : Listing) → map table_of (tables ++ t ∷ []) ≡ map table_of tables ++ table_of t ∷ []
 push_tables tables t = map-append table_of tables (t ∷ [])

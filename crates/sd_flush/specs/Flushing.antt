@@ -10,7 +10,7 @@ use Rattle.sd_model_record.specs.Counts.{Part}
 use Rattle.sd_model_record.specs.Backends.{Backend, Graphite, Console}
 use Rattle.sd_model_serve.specs.Ends as model
 use Rattle.sd_model_serve.specs.Ends.{EndsFlusher, Spent, Enough, WornOut}
-use Rattle.sd_model_serve.specs.Rounds.{Round, Form, MakesRound, MakesRounds}
+use Rattle.sd_model_serve.specs.Rounds.{Round, Form, MakesRound, MakesRounds, last_second}
 use Rattle.sd_outside.specs.declared.backend.Backs.{Backs}
 use Rattle.sd_outside.specs.declared.datagrams.Ended.{Ended}
 use Rattle.sd_outside.specs.declared.datagrams.Ended.TheVariants.{End, Failed, Stopped, Worn}
@@ -20,6 +20,7 @@ use Rattle.sd_rows.specs.declared.row.Row.{Row}
 use Rattle.sd_epoch.specs.Table.{Listing, table_of}
 use Rattle.sd_pool.specs.Pool.{shards_of}
 use Rattle.sd_pool.specs.declared.pool.Pool.{Pool}
+use Rattle.sd_flush.specs.declared.flushed.Flushed.{Flushed}
 
 -- how the records of a pool's shards are made and written
 abbrev pub form_of : Pool → Reckoning → Names → Form
@@ -58,11 +59,13 @@ EndsSo run_flushes Failed old new made = EndsFlusher run_flushes model.Failed ol
 EndsSo run_flushes (Stopped rounds) old new made = EndsFlusher run_flushes (Enough rounds) old new made
 EndsSo run_flushes (Worn turns) old new made = EndsFlusher run_flushes (WornOut turns) old new made
 
--- The flusher made a round at each tick that the beat gave, which is otherwise as it was, and ended so.
-pub record Flushes (form : Form) (uses_it : Backend → Bool) (run_flushes : ℕ) (own own_now : ℕ → History) (part part_now : Part) (back back_now : Backend → Object) (beat beat_now : Object) (ended : Ended) : Type 0 where
+-- The flusher made a round at each tick that the beat gave, which is otherwise as it was, and ended so, with the second of the last
+-- round.
+pub record Flushes (form : Form) (uses_it : Backend → Bool) (run_flushes : ℕ) (own own_now : ℕ → History) (part part_now : Part) (back back_now : Backend → Object) (beat beat_now : Object) (flushed : Flushed) : Type 0 where
   pub rounds : List Round
   pub made : MakesRounds form uses_it rounds own own_now part part_now back back_now
   pub given : beat.told ≡ with_ticks (map (λ r. r.ts) rounds) beat_now.told
   pub turns : beat_now.turns ≡ beat.turns + length rounds
   pub same : beat_now ≡ record beat { told = beat_now.told; faults = beat_now.faults; turns = beat_now.turns }
-  pub ends : EndsSo run_flushes ended beat beat_now (length rounds)
+  pub ends : EndsSo run_flushes flushed.ended beat beat_now (length rounds)
+  pub last : flushed.last ≡ last_second rounds

@@ -1,5 +1,5 @@
 -- What a round and a flusher leave that write to outlets.
-use Rattle.std.specs.Prelude.{◌≡◌, ℕ, ◌+◌, List, [], ◌∷◌, length, map, Option}
+use Rattle.std.specs.Prelude.{◌≡◌, ℕ, ◌+◌, List, [], ◌∷◌, ◌++◌, flat_map, length, map, Option}
 use Rattle.std.specs.List.{AllByRecursion, range_with_len}
 use Rattle.sd_model_outside.specs.Deliveries as deliveries
 use Rattle.sd_model_outside.specs.Outside.{Object}
@@ -9,10 +9,10 @@ use Rattle.sd_model_record.specs.Desk.{Marks}
 use Rattle.sd_model_record.specs.Counts.{Part, HasCounted}
 use Rattle.sd_model_record.specs.Backends.{Backend, Graphite, Console}
 use Rattle.sd_model_serve.specs.Receiving.{Adds}
-use Rattle.sd_model_serve.specs.Rounds.{Round, Form, of_round, of_rounds, round_text, swaps_at}
-use Rattle.sd_outside.specs.declared.datagrams.Ended.{Ended}
+use Rattle.sd_model_serve.specs.Rounds.{Round, Form, last_second, of_round, of_rounds, round_calls, round_text, swaps_at}
 use Rattle.sd_rows.specs.declared.row.Row.{Row}
 use Rattle.sd_epoch.specs.Table.{Listing, table_of}
+use Rattle.sd_flush.specs.declared.flushed.Flushed.{Flushed}
 use Rattle.sd_flush.specs.declared.outs.OutMarks.{OutMarks}
 use Rattle.sd_flush.specs.declared.outs.Outs.{Outs}
 use Rattle.sd_flush.specs.Flushing.{EndsSo}
@@ -28,12 +28,14 @@ pub record TakesRound (form : Form) (round : Round) (own own_now : ℕ → Histo
   pub swapped : Adds form.shards (swaps_at (round ∷ [])) own own_now
   pub unused : round.marks ≡ no_marks
   pub counted : HasCounted (of_round round) part part_now
+  pub called : part_now.own ≡ part.own ++ round_calls round
 
 -- Such rounds were made, one after another.
 pub record TakesRounds (form : Form) (rounds : List Round) (own own_now : ℕ → History) (part part_now : Part) : Type 0 where
   pub swapped : Adds form.shards (swaps_at rounds) own own_now
   pub unused : AllByRecursion (λ r. r.marks ≡ no_marks) rounds
   pub counted : HasCounted (of_rounds rounds) part part_now
+  pub called : part_now.own ≡ part.own ++ flat_map round_calls rounds
 
 -- Such a round was made at this second, its text for each backend that is used was offered at the backend's outlet, with these
 -- marks, and the tables that the shards handed out are the next spares, in the order of the shards, with their rows in their
@@ -48,13 +50,14 @@ pub record MakesRoundOut (form : Form) (ts : ℕ) (marks : OutMarks) (own own_no
   pub handed_out : map table_of tables ≡ map round.tables (range_with_len 0 form.shards)
   pub turned : waiting ≡ map (λ table. table.places) tables
 
--- The flusher made such a round at each tick that the beat gave, which is otherwise as it was, and ended so. The texts of the
--- rounds for each backend went this way.
-pub record FlushesOut (form : Form) (went : Backend → List (List ℕ) → Type 0) (run_flushes : ℕ) (own own_now : ℕ → History) (part part_now : Part) (beat beat_now : Object) (ended : Ended) : Type 0 where
+-- The flusher made such a round at each tick that the beat gave, which is otherwise as it was, and ended so, with the second of the
+-- last round. The texts of the rounds for each backend went this way.
+pub record FlushesOut (form : Form) (went : Backend → List (List ℕ) → Type 0) (run_flushes : ℕ) (own own_now : ℕ → History) (part part_now : Part) (beat beat_now : Object) (flushed : Flushed) : Type 0 where
   pub rounds : List Round
   pub taken : TakesRounds form rounds own own_now part part_now
   pub texts : (b : Backend) → went b (map (round_text form b) rounds)
   pub given : beat.told ≡ with_ticks (map (λ r. r.ts) rounds) beat_now.told
   pub turns : beat_now.turns ≡ beat.turns + length rounds
   pub same : beat_now ≡ record beat { told = beat_now.told; faults = beat_now.faults; turns = beat_now.turns }
-  pub ends : EndsSo run_flushes ended beat beat_now (length rounds)
+  pub ends : EndsSo run_flushes flushed.ended beat beat_now (length rounds)
+  pub last : flushed.last ≡ last_second rounds

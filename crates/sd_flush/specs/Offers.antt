@@ -24,7 +24,7 @@ pub record WasQueued (text : List ℕ) (o : Outlet) (old new : Feed) : Type 0 wh
 pub record WasRefused (text : List ℕ) (o : Outlet) (old new : Feed) : Type 0 where
   pub fits : length text ≤ bytes_of o
   pub few : sends_of old < most_sends
-  pub in_use : buffers o ≤ sends_of old
+  pub in_use : buffers o ≤ length (sent old)
   pub same : sent new ≡ sent old
   pub refusals : refusals_of new ≡ raised (refusals_of old)
   pub stopped : stopped_at new ≡ stopped_at old
@@ -38,7 +38,7 @@ pub record WasLong (len : ℕ) (text : List ℕ) (o : Outlet) (old new : Feed) :
 -- The text isn't longer than a buffer, the feed has made so many sends, which are all that it may, and it is as it was.
 pub record WasSpent (sends : ℕ) (text : List ℕ) (o : Outlet) (old new : Feed) : Type 0 where
   pub fits : length text ≤ bytes_of o
-  pub all : most_sends ≤ sends_of old
+  pub all : most_sends ≤ length (sent old)
   pub sends_are : sends ≡ sends_of old
   pub same : new ≡ old
 

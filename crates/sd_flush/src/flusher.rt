@@ -5,6 +5,7 @@ ghost use Rattle.sd_shared_desk.specs.Shared.{IsSeatOf as IsDeskSeatOf, number_o
 ghost use Rattle.sd_flush.specs.Tables.{AreTablesFor};
 ghost use Rattle.sd_flush.specs.Flushing.{Flushes, back_of, form_of, uses};
 
+use crate::flushed::Flushed;
 use crate::rounds::round;
 use crate::tables::Tables;
 use sd_outside::{Backend, Backs, Beat, Ended, Gate, Tick};
@@ -17,7 +18,8 @@ use std::sync::Wait;
 const MOST_TURNS: u64 = 1 << 62;
 
 /// Makes a round at each tick of a beat, until it has none left or fails, or as many rounds were made as are asked for; 0 asks for
-/// none. It waits for the beat, and for the turns of the shards and of the desk, and takes no memory.
+/// none. It tells the second of the last of them. It waits for the beat, and for the turns of the shards and of the desk, and takes no
+/// memory.
 pub fn flush_all<E: Beat, B: Backend, G: Gate, R: Wait>(
     rt: &R,
     pool: &Pool,
@@ -31,7 +33,7 @@ pub fn flush_all<E: Beat, B: Backend, G: Gate, R: Wait>(
     backs: &mut Backs<B>,
     gate: &G,
     run_flushes: u64,
-) -> Ended
+) -> Flushed
     requires own { IsDeskSeatOf desk.now own.old }
     requires seat { IsSeatOf pool.now seat.old }
     requires flusher { who_is seat.old ≡ flusher }
@@ -47,19 +49,37 @@ pub fn flush_all<E: Beat, B: Backend, G: Gate, R: Wait>(
     ensures graphite_flag { backs.new.graphite_used ≡ backs.old.graphite_used }
     ensures console_flag { backs.new.console_used ≡ backs.old.console_used }
 {
+    let mut last = None;
     for made in 0..MOST_TURNS {
         if run_flushes > 0 && made == run_flushes {
-            return Ended::Stopped { rounds: made };
+            return Flushed {
+                ended: Ended::Stopped { rounds: made },
+                last,
+            };
         }
         match beat.next() {
             Tick::At(ts) => {
                 round(
                     rt, pool, desk, own, seat, tables, plan, names, ts, backs, gate,
                 );
+                last = Some(ts);
             }
-            Tick::End => return Ended::End,
-            Tick::Failed => return Ended::Failed,
+            Tick::End => {
+                return Flushed {
+                    ended: Ended::End,
+                    last,
+                };
+            }
+            Tick::Failed => {
+                return Flushed {
+                    ended: Ended::Failed,
+                    last,
+                };
+            }
         }
     }
-    Ended::Worn { turns: MOST_TURNS }
+    Flushed {
+        ended: Ended::Worn { turns: MOST_TURNS },
+        last,
+    }
 }

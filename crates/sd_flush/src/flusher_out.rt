@@ -9,6 +9,7 @@ ghost use Rattle.sd_flush.specs.FlushingOut.{FlushesOut};
 ghost use Rattle.sd_flush.specs.declared.outs.Outs.{Outs};
 ghost use Rattle.sd_flush.specs.Outs.{AreOutsReady, IsLeadReady, StopsOne, WhereUsed, fed_by, offered_by};
 
+use crate::flushed::Flushed;
 use crate::outs::{Lead, Outs, Skips};
 use crate::rounds_out::round_out;
 use crate::tables::Tables;
@@ -24,7 +25,7 @@ const MOST_TURNS: u64 = 1 << 62;
 /// How a flusher with outlets ended, and how many texts it skipped.
 #[derive(Clone, Copy, Debug, PartialEq, Eq)]
 pub struct FlushedOut {
-    pub ended: Ended,
+    pub flushed: Flushed,
     pub skips: Skips,
 }
 
@@ -50,15 +51,15 @@ fn stop_if_used(lead: &mut Option<Lead<'_>>)
 }
 
 // Stops the feeds of the backends that are used, behind which so many texts were skipped, at the end of a flusher.
-fn end(outs: &mut Outs<'_>, ended: Ended, skips: Skips) -> FlushedOut
+fn end(outs: &mut Outs<'_>, flushed: Flushed, skips: Skips) -> FlushedOut
     requires ready { AreOutsReady outs.old }
     ensures ready { AreOutsReady outs.new }
-    ensures result { result ≡ record { ended = ended; skips = skips } }
+    ensures result { result ≡ record { flushed = flushed; skips = skips } }
     ensures fed { (first : Outs) (b : Backend) (texts : List (List ℕ)) → offered_by skips first outs.old b texts → fed_by skips first outs.new b texts }
 {
     stop_if_used(&mut outs.graphite);
     stop_if_used(&mut outs.console);
-    FlushedOut { ended, skips }
+    FlushedOut { flushed, skips }
 }
 
 /// Makes a round at each tick of a beat as `flush_all` does, but sends the texts to the outlets of the backends that are used, and
@@ -90,15 +91,17 @@ pub fn flush_all_out<E: Beat, G: Gate, R: Wait>(
     ensures tables { AreTablesFor (limits_of pool.now) (shards_of pool.now) tables.new }
     ensures outs { AreOutsReady outs.new }
     ensures flushes { FlushesOut (form_of pool.now plan.now names.now) (fed_by result.skips outs.old outs.new) run_flushes
-        (own_at seat.old) (own_at seat.new) (part_of own.old) (part_of own.new) (E.seen beat.old) (E.seen beat.new) result.ended }
+        (own_at seat.old) (own_at seat.new) (part_of own.old) (part_of own.new) (E.seen beat.old) (E.seen beat.new) result.flushed }
 {
     let mut skips = Skips {
         graphite: 0,
         console: 0,
     };
+    let mut last = None;
     for made in 0..MOST_TURNS {
         if run_flushes > 0 && made == run_flushes {
-            return end(outs, Ended::Stopped { rounds: made }, skips);
+            let ended = Ended::Stopped { rounds: made };
+            return end(outs, Flushed { ended, last }, skips);
         }
         match beat.next() {
             Tick::At(ts) => {
@@ -106,10 +109,18 @@ pub fn flush_all_out<E: Beat, G: Gate, R: Wait>(
                     rt, pool, desk, own, seat, tables, plan, names, ts, outs, gate,
                 );
                 skips.count(marks);
+                last = Some(ts);
             }
-            Tick::End => return end(outs, Ended::End, skips),
-            Tick::Failed => return end(outs, Ended::Failed, skips),
+            Tick::End => {
+                let ended = Ended::End;
+                return end(outs, Flushed { ended, last }, skips);
+            }
+            Tick::Failed => {
+                let ended = Ended::Failed;
+                return end(outs, Flushed { ended, last }, skips);
+            }
         }
     }
-    end(outs, Ended::Worn { turns: MOST_TURNS }, skips)
+    let ended = Ended::Worn { turns: MOST_TURNS };
+    end(outs, Flushed { ended, last }, skips)
 }

@@ -6,6 +6,7 @@
 //! given.
 #![tactic(auto)]
 
+mod flushed;
 mod flusher;
 mod flusher_out;
 mod outs;
@@ -16,6 +17,7 @@ mod swapping;
 mod tables;
 mod writing;
 
+pub use flushed::Flushed;
 pub use flusher::flush_all;
 pub use flusher_out::{FlushedOut, flush_all_out};
 pub use outs::{Lead, OutMark, OutMarks, Outs, Skip, Skips};

@@ -1,6 +1,7 @@
-ghost use Rattle.std.specs.Prelude.{◌≡◌, ◌++◌, [], length, map};
+ghost use Rattle.std.specs.Prelude.{◌≡◌, ◌++◌, [], ◌∷◌, length, map};
 ghost use Rattle.sd_model_serve.specs.Receiving.{flusher};
 ghost use Rattle.sd_model_record.specs.Counts.{HasCounted, of_marks, of_taken};
+ghost use Rattle.sd_model_record.specs.DeskHistory.{Take, Mark, Took, Done};
 ghost use Rattle.sd_desk.specs.Marks.{marks_of};
 ghost use Rattle.sd_desk.specs.Tally.{tally_of};
 ghost use Rattle.sd_pool.specs.Pool.{IsSeatOf, limits_of, own_at, shards_of, who_is};
@@ -48,6 +49,7 @@ pub(crate) fn begin_round<G: Gate, R: Wait>(
     ensures who { who_is seat.new ≡ who_is seat.old }
     ensures swaps { SwapsAll pool.now seat.old seat.new spares.old spares.new }
     ensures counted { HasCounted (of_taken (tally_of result)) (part_of own.old) (part_of own.new) }
+    ensures called { (part_of own.new).own ≡ (part_of own.old).own ++ record { event = Take; answer = Took (tally_of result) } ∷ [] }
 {
     swap_all(rt, pool, seat, spares);
     gate.pass(SWAPPED);
@@ -66,6 +68,7 @@ pub(crate) fn end_round<G: Gate, R: Wait>(
     requires own { IsDeskSeatOf desk.now own.old }
     ensures own { IsDeskSeatOf desk.now own.new × (number_of_seat own.new ≡ number_of_seat own.old) }
     ensures counted { HasCounted (of_marks (marks_of marks)) (part_of own.old) (part_of own.new) }
+    ensures called { (part_of own.new).own ≡ (part_of own.old).own ++ record { event = Mark (marks_of marks); answer = Done } ∷ [] }
     ensures spares { spares.new ≡ record spares.old { waiting = map (λ table. table.places) spares.old.swapped ++ spares.old.waiting; swapped = [] } }
 {
     desk.mark(rt, marks, own);

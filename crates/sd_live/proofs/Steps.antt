@@ -55,7 +55,7 @@ begins words none = record { published = []; count = none; newest = refl; fits =
 pub looks : (id : ℕ) (v : SetView) → Turns InStep id v (λ x. x) Looked
 looks id v words views k at =
     let f = k.fits id v at in
-    let w = set_view v.publishes k.published v.joined in (
+    let w = set_view v.publishes k.published v.joined (v.looks ++ length k.published ∷ []) in (
       w,
       record {
         published = k.published;
@@ -74,7 +74,7 @@ publishes id v new mine more words views k at =
     let f = k.fits id v at in
     let up = slice_index new 1 in
     let now = k.published ++ up ∷ [] in
-    let w = set_view v.publishes (v.published ++ up ∷ []) v.joined in
+    let w = set_view v.publishes (v.published ++ up ∷ []) v.joined v.looks in
     let others : (j : ℕ) (u : SetView) → j ≢ id → get_elem? views j ≡ some u → Fits now u = λ j u apart e. let g = k.fits j u e in
     record { seen = begins_more u.published k.published (up ∷ []) g.seen; joined = each_more u.joined k.published (up ∷ []) g.joined; own = λ p. absurd (apart (k.alone j u e p ∙ sym (k.alone id v at mine))) } in (
       w,

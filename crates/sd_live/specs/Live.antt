@@ -17,6 +17,10 @@ published_in p = (cell_view p.pass).published
 abbrev pub seen : UpPass → List ℕ
 seen p = p.all ∷ published_in p
 
+-- the places in the history of the sets that a pass was told by its looks, in order
+abbrev pub looks_of : UpPass → List ℕ
+looks_of p = (cell_view p.pass).looks
+
 -- whether a pass publishes
 abbrev pub publishes : UpPass → Bool
 publishes p = (cell_view p.pass).publishes

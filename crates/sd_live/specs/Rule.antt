@@ -29,9 +29,9 @@ pub record InStep (words : List ℕ) (views : List SetView) : Type 0 where
   pub alone : (id : ℕ) (v : SetView) → get_elem? views id ≡ some v → v.publishes ≡ true → id ≡ checker
 
 -- The sets published so far were seen, which are those that were seen before where the pass publishes; they go on from what each
--- pass had seen that was joined into it.
+-- pass had seen that was joined into it; and the pass looked once more.
 pub record Looked (v : SetView) (before after : List ℕ) (w : SetView) : Type 0 where
-  pub is : w ≡ set_view v.publishes w.published v.joined
+  pub is : w ≡ set_view v.publishes w.published v.joined (v.looks ++ length w.published ∷ [])
   pub seen : Begins v.published w.published
   pub own : v.publishes ≡ true → w.published ≡ v.published
   pub count : slice_index before 0 ≡ length w.published
@@ -40,4 +40,4 @@ pub record Looked (v : SetView) (before after : List ℕ) (w : SetView) : Type 0
 
 -- the set that is written was published, behind those that were seen
 abbrev pub Published : SetView → List ℕ → List ℕ → SetView → Type 0
-Published v before after w = w ≡ set_view v.publishes (v.published ++ slice_index after 1 ∷ []) v.joined
+Published v before after w = w ≡ set_view v.publishes (v.published ++ slice_index after 1 ∷ []) v.joined v.looks

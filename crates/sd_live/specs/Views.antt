@@ -2,21 +2,21 @@
 use Rattle.std.specs.Prelude.{ℕ, Bool, true, false, List, [], ◌∷◌}
 use Rattle.sd_live.specs.declared.rule.SetView.{SetView}
 
-abbrev pub set_view : Bool → List ℕ → List (List ℕ) → SetView
-set_view publishes published joined = record { publishes = publishes; published = published; joined = joined }
+abbrev pub set_view : Bool → List ℕ → List (List ℕ) → List ℕ → SetView
+set_view publishes published joined looks = record { publishes = publishes; published = published; joined = joined; looks = looks }
 
--- the first pass publishes, and nothing is published yet
+-- the first pass publishes, nothing is published yet, and it hasn't looked
 abbrev pub first_view : SetView
-first_view = set_view true [] []
+first_view = set_view true [] [] []
 
--- a pass that was told what another has seen
+-- a pass that was told what another has seen, and hasn't looked
 abbrev pub told : SetView → SetView
-told v = set_view false v.published []
+told v = set_view false v.published [] []
 
 -- a pass of which all was moved away
 abbrev pub nothing : SetView
-nothing = set_view false [] []
+nothing = set_view false [] [] []
 
 -- a pass that keeps what another had seen
 abbrev pub gathered : SetView → SetView → SetView
-gathered v w = set_view v.publishes v.published (w.published ∷ v.joined)
+gathered v w = set_view v.publishes v.published (w.published ∷ v.joined) v.looks

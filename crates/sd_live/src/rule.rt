@@ -15,6 +15,8 @@ pub struct SetView {
     pub published: LinkedList<u64>,
     /// Those that each pass had last seen that was joined into it.
     pub joined: LinkedList<LinkedList<u64>>,
+    /// How many sets were published at each of its looks, in order.
+    pub looks: LinkedList<u64>,
 }
 
 /// The words are how many sets were published, and the last of them.

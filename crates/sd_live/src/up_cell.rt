@@ -2,7 +2,7 @@
 ghost use Rattle.std.specs.Prelude.{◌≡◌, ◌<◌, ◌≤◌, ◌^◌, ◌++◌, [], ◌∷◌, length, map, Some, None, IfOk, All, true};
 ghost use Rattle.std.specs.List.{last_or};
 ghost use Rattle.crossbeam_utils.specs.Seq.{cell_view};
-ghost use Rattle.sd_model_live.specs.Proxy.{Begins, all_of};
+ghost use Rattle.sd_model_live.specs.Proxy.{Begins, all_of, last_place};
 
 use crate::pass::{UpPass, UpPasses};
 use crate::rule::{Another, Gather, Look, Publish, SetCell, SetPass, Whole};
@@ -19,7 +19,7 @@ pub struct UpCell {
 }
 
 impl UpCell {
-    ghost use Rattle.sd_live.specs.Live.{nodes_of, seen, IsPassOf, IsCheckerOf, IsReceiverOf, publishes, published_in};
+    ghost use Rattle.sd_live.specs.Live.{looks_of, nodes_of, seen, IsPassOf, IsCheckerOf, IsReceiverOf, publishes, published_in};
 
     /// A cell whose first set has all of so many nodes, with the checker's pass and one for each receiver. Only this call takes
     /// memory.
@@ -82,13 +82,14 @@ impl UpCell {
     }
 
     /// The last set of those published so far, or the first where none was. What a pass sees goes on from what it saw before, and
-    /// the checker's has seen all.
+    /// the checker's has seen all. Each look counts as one of the pass's, at the place of the set that it answers.
     pub fn look<R: Wait>(&self, rt: &R, pass: &mut UpPass) -> u64
         requires { IsPassOf self.now pass.old }
         ensures pass { IsPassOf self.now pass.new × (publishes pass.new ≡ publishes pass.old) }
         ensures seen { Begins (seen pass.old) (seen pass.new) }
         ensures own { publishes pass.old ≡ true → seen pass.new ≡ seen pass.old }
         ensures answer { last_or None (seen pass.new) ≡ Some result }
+        ensures looks { looks_of pass.new ≡ looks_of pass.old ++ last_place (seen pass.new) ∷ [] }
     {
         let found = self.sets.load_as::<Look, R>(rt, &mut pass.pass);
         if found[0] == 0 { pass.all } else { found[1] }

@@ -8,3 +8,4 @@ pub mod BegunLemmas
 pub mod LoopEnds
 pub mod ServerEnds
 pub mod ProxyEnds
+pub mod AuditLemmas

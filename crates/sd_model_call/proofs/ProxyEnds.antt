@@ -17,7 +17,7 @@ use Rattle.sd_model_call.specs.Server.{is_worn, source_openings}
 use Rattle.sd_model_call.specs.ServerCompleteness.{AsksFor, SourceTookMost, AreRelaysSpent, IsOpenedToRelay, IsProxyCauseOf, IsRelayed, IsUnhinderedProxy, NoWireFailed, OneLoopTookMost}
 use Rattle.sd_model_call.specs.Proxy.{AnswersProxy, HasProxied, IsUnfit, ProxyAccounts, node_place, proxy_answer, proxy_begun, proxy_flaw, proxy_openings, relay_text}
 use Rattle.sd_model_call.proofs.BegunLemmas.{Same, all_numbered, accepted_so, at_same, has_flaw, none_failed, not_begun, not_taken, same_start, uncut}
-use Rattle.sd_model_call.proofs.LoopEnds.{AreEnded, ComesFrom, OneSourceTookMost, all_done, comes_from, worn_one}
+use Rattle.sd_model_call.proofs.LoopEnds.{AreEnded, ComesFrom, OneSourceTookMost, all_done, beat_spent, comes_from, worn_one}
 use Rattle.sd_model_call.proofs.Openings.{all_append}
 
 all_relayed : (s : Settings) → AllByRecursion (λ (o : Opening). IsOpenedToRelay o.part) (proxy_openings s)
@@ -27,12 +27,12 @@ all_relayed s =
     (all_numbered IsOpenedToRelay OfWire (λ i. tt) 0 (repeated s.sizes.receivers (map node_place s.lists.nodes)))
 
 -- the loops of receivers over their sources
-looped : (nodes : List Node) (rs : List Relay) (ss ns ws wn : List Object) → AreRelays nodes rs ss ns ws wn → AreEnded 0 (map (λ r. r.ended) rs) ss ns
+looped : (nodes : List Node) (rs : List Relay) (ss ns ws wn : List Object) → AreRelays nodes rs ss ns ws wn → AreEnded 0 0 (map (λ r. r.ended) rs) ss ns
 looped nodes [] ss ns ws wn h = tt
 looped nodes (r ∷ rs) [] ns ws wn h = absurd h
 looped nodes (r ∷ rs) (s ∷ ss) [] ws wn h = absurd h
 looped nodes (r ∷ rs) (s ∷ ss) (n ∷ ns) ws wn h = (
-  record { turned = h.0.turned; turns = h.0.turns; seen = 0; ends = h.0.ends },
+  record { turned = h.0.turned; turns = h.0.turns; seen = 0; known = omega arith; ends = h.0.ends },
   looped nodes rs ss ns (drop (length nodes) ws) (drop (length nodes) wn) h.1,
 )
 
@@ -63,7 +63,7 @@ module _ (name : List ℕ) (answer : Answer) (old new : World) (h : HasProxied n
   turns : Same (λ o. o.turns) start old
   turns = same_start (λ o. o.turns) (λ place o. refl) (λ told o. refl) (λ interval o. refl) (proxy_openings h.values) h.values.sizes.check_interval h.values h.settings name old h.taken
 
-  loops : AreEnded 0 received start.served.sources new.served.sources
+  loops : AreEnded 0 0 received start.served.sources new.served.sources
   loops = looped h.values.lists.nodes h.relays start.served.sources new.served.sources start.seen.wires new.seen.wires h.theorem.are
 
   ticked : EndsFlusher 0 h.checker_ended start.served.beat new.served.beat (length h.checks)
@@ -75,12 +75,12 @@ module _ (name : List ℕ) (answer : Answer) (old new : World) (h : HasProxied n
   -- where all was done
   done : proxy_answer h.relays h.checker_ended ≡ Done → AreRelaysSpent name old new
   done is =
-      let all = all_done (length h.checks) received h.checker_ended [] start.served.sources new.served.sources start.served.beat new.served.beat loops ticked is in
+      let all = all_done 0 0 (length h.checks) received h.checker_ended [] start.served.sources new.served.sources start.served.beat new.served.beat loops ticked is in
       record {
         values = h.values;
         taken = accepted;
-        sources = λ i below. all.sources i (omega (arith, below, length-map h.relays (λ (r : Relay). r.ended), h.count));
-        beat = all.beat;
+        sources = λ i below. all.sources (λ some. absurd (omega (arith, some))) i (omega (arith, below, length-map h.relays (λ (r : Relay). r.ended), h.count));
+        beat = beat_spent 0 (length h.checks) new.served.beat (λ some. absurd (omega (arith, some))) all.beat;
       }
 
   one_worn : OneSourceTookMost start.served.sources new.served.sources ⊎ (list_any is_worn (h.checker_ended ∷ []) ≡ true) → OneLoopTookMost old new
@@ -94,11 +94,11 @@ module _ (name : List ℕ) (answer : Answer) (old new : World) (h : HasProxied n
       subst (λ (b : Answer). IsProxyCauseOf name b old new) (sym (is ∙ ap (λ j. NotRead (OfSource j)) (omega arith))) (tt, from)
   cause a whole (inr (inl (is, rose))) = subst (λ (b : Answer). IsProxyCauseOf name b old new) (sym is) (tt, subst (λ (n : ℕ). Rose n new.served.beat.faults) faults.beat rose)
   cause a whole (inr (inr (inl (is, worn)))) =
-      subst (λ (b : Answer). IsProxyCauseOf name b old new) (sym is) (refl, one_worn (worn_one (h.checker_ended ∷ []) 0 received start.served.sources new.served.sources loops worn))
+      subst (λ (b : Answer). IsProxyCauseOf name b old new) (sym is) (refl, one_worn (worn_one (h.checker_ended ∷ []) 0 0 received start.served.sources new.served.sources loops worn))
   cause a whole (inr (inr (inr (is, none)))) = subst (λ (b : Answer). IsProxyCauseOf name b old new) (sym is) (done (whole ∙ is))
 
   ended : proxy_answer h.relays h.checker_ended ≡ answer → IsProxyCauseOf name answer old new
-  ended is = cause answer is (comes_from 0 (length h.checks) received h.checker_ended [] start.served.sources new.served.sources start.served.beat new.served.beat loops ticked answer is)
+  ended is = cause answer is (comes_from 0 0 (length h.checks) received h.checker_ended [] start.served.sources new.served.sources start.served.beat new.served.beat loops ticked answer is)
 
   -- the answer of a proxy that was begun has its cause
   pub proxied_cause : IsProxyCauseOf name answer old new

@@ -51,7 +51,7 @@ serves_by s =
       policy = policy_of s;
       form = record { shards = s.sizes.shards; plan = plan_of s; names = names_of s };
       uses = is_used s;
-      outlets = has_outlets s;
+      outlets = record { buffers = s.transport.outlets; bytes = s.transport.outlet_bytes };
       settings = s;
       receivers = s.sizes.receivers;
       wires = length (targets_of s);

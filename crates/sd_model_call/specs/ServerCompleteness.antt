@@ -1,18 +1,21 @@
 -- What a call that is asked to serve, or for the proxy, has to come to, by its words, what its objects tell, and where no fault was
 -- counted; and what its answers say of its objects.
+use mathlib.Core.Logic.{inl, inr}
 use Rattle.std.specs.Prelude.{◌≡◌, ◌⊎◌, ℕ, ◌+◌, ◌<◌, min, Bool, true, ⊤, List, Some}
+use Rattle.std.specs.List.{list_any}
 use Rattle.sd_model_outside.specs.Outside.{File, Left, Object, Rose, last_count}
 use Rattle.sd_model_outside.specs.Turns.{IsSpent}
 use Rattle.sd_model_record.specs.WireSends.{wire_at}
-use Rattle.sd_model_serve.specs.Doors.{Visit, ServesDoor}
 use Rattle.sd_model_serve.specs.Ends.{most_turns}
-use Rattle.sd_model_stream.specs.Streams.{AreStreamsOf, Stream, any_worn}
+use Rattle.sd_model_stream.specs.Streams.{any_worn}
+use Rattle.sd_model_run.specs.Run.{Course}
 use Rattle.sd_model_call.specs.Words.{Form, form}
 use Rattle.sd_model_settings.specs.Settings.{SettingsFlaw, Settings}
 use Rattle.sd_model_call.specs.Opening.{Part, OfSettings, OfScript, OfSource, OfBeat, OfDoor, OfStreams, World, IsFlawed, OnlySettings, part_in, source_at, OfWire, IsAccepted}
 use Rattle.sd_model_call.specs.Call.{Answer, Done, NoMemory, NoForm, Misset, BadScript, NotOpened, NotRead, NotWritten, Worn}
 use Rattle.sd_model_call.specs.Completeness.{IsOutward, IsWhole}
 use Rattle.sd_model_call.specs.Proxy.{IsUnfit}
+use Rattle.sd_model_call.specs.Server.{ServerAccounts}
 
 -- The words ask for the server, or the proxy, by a settings file, and the settings tell that they have these bytes.
 pub record AsksFor (by_file : List ℕ → Form) (words : List (List ℕ)) (old : World) (bytes : List ℕ) : Type 0 where
@@ -24,18 +27,15 @@ pub record AsksFor (by_file : List ℕ → Form) (words : List (List ℕ)) (old 
 abbrev pub TookFew : Object → Object → Type 0
 TookFew old new = new.turns < old.turns + most_turns
 
--- The sessions that the door of streams gave since it was opened were read as streams, one of which took as many reads as there may
--- be.
-pub record AStreamTookMost (old new : World) : Type 0 where
-  pub visits : List Visit
-  pub failures : ℕ
-  pub streams : List Stream
-  pub door : Object
-  pub told : door.told ≡ old.served.streams.told
-  pub faults : door.faults ≡ old.served.streams.faults
-  pub served : ServesDoor visits failures door new.served.streams
-  pub went : AreStreamsOf visits streams
-  pub worn : any_worn streams ≡ true
+-- whether a stream of a run took as many reads as there may be; where no lines of streams are read, there is none
+abbrev pub any_stream_worn : Course → Bool
+any_stream_worn c = list_any (λ l. any_worn l.streams) c.linings
+
+-- by the account of a call that is asked to serve: a stream of its run did
+abbrev pub AStreamTookMost : {name : List ℕ} {says : ℕ → Type 0} {answer : Answer} {old new : World} → ServerAccounts name says answer old new → Type 0
+AStreamTookMost (inl taken) = ⊥
+AStreamTookMost (inr (inl not)) = ⊥
+AStreamTookMost (inr (inr served)) = any_stream_worn served.course ≡ true
 
 -- Nothing hinders the loops that a server and a proxy have: no fault was counted of the settings, a source, the beat and the output,
 -- and neither a source nor the beat took as many turns as there may be.
@@ -48,12 +48,11 @@ pub record RunsFreely (old new : World) : Type 0 where
   pub uncapped : (i : ℕ) → (source_at i new.served.sources).turns < last_count
   pub beat_turns : TookFew old.served.beat new.served.beat
 
--- Nothing hinders a server: its loops run so, and neither of the doors nor a stream took as many turns as there may be.
+-- Nothing hinders a server: its loops run so, and neither of the doors took as many turns as there may be.
 pub record IsUnhinderedServer (old new : World) : Type 0 where
   pub runs : RunsFreely old new
   pub door_turns : TookFew old.served.door new.served.door
   pub stream_turns : TookFew old.served.streams new.served.streams
-  pub streams : ¬ AStreamTookMost old new
 
 -- a wire, a backend or a door, whose faults never end a server that has begun
 abbrev pub IsOutermost : Part → Type 0
@@ -89,14 +88,13 @@ TookMost old new = new.turns ≡ old.turns + most_turns
 abbrev pub SourceTookMost : Object → Object → Type 0
 SourceTookMost old new = new.turns ≡ min (old.turns + most_turns) last_count
 
--- a source, the beat, a door or a stream did
+-- a source, the beat or a door did
 abbrev pub OneTookMost : World → World → Type 0
 OneTookMost old new =
     ((i : ℕ) × SourceTookMost (source_at i old.served.sources) (source_at i new.served.sources))
     ⊎ TookMost old.served.beat new.served.beat
     ⊎ TookMost old.served.door new.served.door
     ⊎ TookMost old.served.streams new.served.streams
-    ⊎ AStreamTookMost old new
 
 -- a part that is opened to serve
 abbrev pub IsOpenedToServe : Part → Type 0
@@ -134,9 +132,10 @@ IsCauseBy IsOpened done IsMisset worn (Worn turns) old new = (turns ≡ most_tur
 abbrev pub IsMissetBy : List ℕ → World → World → SettingsFlaw → Type 0
 IsMissetBy name old new flaw = IsFlawed flaw (File name) old.settings new.settings × OnlySettings old new
 
--- what an answer to a call that is asked to serve by a settings file says of the objects
-abbrev pub IsCauseOf : List ℕ → Answer → World → World → Type 0
-IsCauseOf name answer old new = IsCauseBy IsOpenedToServe ⊤ (IsMissetBy name old new) (OneTookMost old new) answer old new
+-- what an answer to a call that is asked to serve by a settings file says of the objects, and of its run's streams, by whether one of
+-- these took the most reads
+abbrev pub IsCauseOf : List ℕ → (stream : Type 0) → Answer → World → World → Type 0
+IsCauseOf name stream answer old new = IsCauseBy IsOpenedToServe ⊤ (IsMissetBy name old new) (OneTookMost old new ⊎ stream) answer old new
 
 -- nothing hinders a proxy: its loops run freely, and its beat counts its turns below the last count
 pub record IsUnhinderedProxy (old new : World) : Type 0 where

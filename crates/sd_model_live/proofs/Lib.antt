@@ -1,3 +1,4 @@
 pub mod Bits
 pub mod LookLemmas
+pub mod OrderLemmas
 pub mod QuestionLemmas

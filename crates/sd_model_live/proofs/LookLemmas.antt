@@ -9,10 +9,10 @@ get_front [] ys k x e = absurd (cc)
 get_front (y ∷ xs) ys zero x e = e
 get_front (y ∷ xs) ys (suc k) x e = get_front xs ys k x e
 
-begun : (old now : List ℕ) → Begins old now → (k x : ℕ) → slice_get old k ≡ Some x → slice_get now k ≡ Some x
+pub begun : (old now : List ℕ) → Begins old now → (k x : ℕ) → slice_get old k ≡ Some x → slice_get now k ≡ Some x
 begun old now b k x e = ap (λ l. slice_get l k) b.1 ∙ get_front old b.0 k x e
 
-last_at : (up : ℕ) (xs : List ℕ) → last_or None xs ≡ Some up → slice_get xs (last_place xs) ≡ Some up
+pub last_at : (up : ℕ) (xs : List ℕ) → last_or None xs ≡ Some up → slice_get xs (last_place xs) ≡ Some up
 last_at up [] e = absurd (cc)
 last_at up (x ∷ xs) e = go x xs e
   where

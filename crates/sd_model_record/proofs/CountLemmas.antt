@@ -163,13 +163,13 @@ keeps_next old mid new first second = record {
 }
 
 pub counted_none : (p : Part) → HasCounted nothing p p
-counted_none p = record { rises = λ c. omega arith; grows = λ c few. omega arith; adds = λ c few. omega arith }
+counted_none p = record { rises = λ c. omega arith; grows = λ c few. omega arith; adds = λ c. omega arith }
 
 pub counted_next : (a b : Amounts) (old mid new : Part) → HasCounted a old mid → HasCounted b mid new → HasCounted (plus a b) old new
 counted_next a b old mid new first second = record {
   rises = λ c. omega (arith, first.rises c, second.rises c);
   grows = λ c few. omega (arith, first.grows c (omega (arith, second.rises c)), second.grows c few);
-  adds = λ c few. omega (arith, first.adds c (omega (arith, second.rises c)), second.adds c few);
+  adds = λ c. omega (arith, first.adds c, second.adds c);
 }
 
 -- no tally, no send and no session that failed count nothing

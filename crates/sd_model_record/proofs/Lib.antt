@@ -1,6 +1,8 @@
 pub mod CommandLemmas
 pub mod WordLemmas
 pub mod CountLemmas
+pub mod DeskLemmas
+pub mod DocumentedLemmas
 pub mod EndLemmas
 pub mod OrderLemmas
 pub mod SentLemmas

@@ -1,7 +1,8 @@
 -- The desk's numbers that only grow, and what callers add to them.
-use Rattle.std.specs.Prelude.{◌≡◌, ℕ, ◌+◌, ◌<◌, ◌≤◌, List, [], ◌∷◌, slice_index}
+use Rattle.std.specs.Prelude.{◌≡◌, ◌⊎◌, ⊤, ℕ, ◌+◌, ◌<◌, ◌≤◌, min, List, [], ◌∷◌, ◌++◌, slice_index, sum_by}
 use Rattle.sd_model_record.specs.Record.{Tally}
 use Rattle.sd_model_outside.specs.Deliveries.{fault_of}
+use Rattle.sd_model_record.specs.DeskHistory.{DeskAnswer, DeskCall, DeskEvent, DeskHistory, Add, Take, Mark, AdminFault, RepeaterFaults as FailedSends, Look, Took}
 use Rattle.sd_model_record.specs.Desk.{AddsUp, Desk, Facts, IsTallyInRange, Marks, counted, last_counted}
 
 -- The thirteen numbers: the four totals, the four sums of the tallies that were taken, the rounds, and the four counts of
@@ -112,21 +113,68 @@ of_sessions n count = 0
 abbrev pub GrewBy : Amounts → Desk → Desk → Type 0
 GrewBy amounts old new = (count : Count) → number_of new count ≡ counted (number_of old count) (amounts count)
 
--- A caller's part of a desk: what it has added to each number, and the number as it has last seen it.
+-- what an answer adds by the tally that it tells
+abbrev pub of_answer : DeskAnswer → Amounts
+of_answer (Took tally) = of_taken tally
+of_answer answer = nothing
+
+-- what an event adds that was answered so
+abbrev pub of_event : DeskEvent → DeskAnswer → Amounts
+of_event (Add tally now) answer = of_tally tally
+of_event Take answer = of_answer answer
+of_event (Mark marks) answer = of_marks marks
+of_event AdminFault answer = of_sessions 1
+of_event (FailedSends sends) answer = of_sends sends
+of_event event answer = nothing
+
+-- what calls add together
+abbrev pub of_calls : List DeskCall → Amounts
+of_calls calls count = sum_by (λ c. of_event c.event c.answer count) calls
+
+-- what the calls of a history add together
+abbrev pub of_history : DeskHistory → Amounts
+of_history acts count = sum_by (λ a. of_event a.call.event a.call.answer count) acts
+
+-- A caller's part of a desk: the calls that it made, in order, and each number as it has last seen it.
 pub record Part : Type 0 where
-  pub share : Amounts
+  pub own : List DeskCall
   pub seen : Amounts
+
+-- what a caller has added to each number
+abbrev pub share : Part → Amounts
+share part = of_calls part.own
 
 -- the part of a caller who has added and seen nothing
 abbrev pub no_part : Part
-no_part = record { share = nothing; seen = nothing }
+no_part = record { own = []; seen = nothing }
 
 -- A caller added so much. No number that it has seen falls; one that it has then seen below the last count has grown by at
--- least that, and the caller's share of it by just that.
+-- least that. The caller's share of each has grown by just that, up to the last count.
 pub record HasCounted (amounts : Amounts) (old new : Part) : Type 0 where
   pub rises : (count : Count) → old.seen count ≤ new.seen count
   pub grows : (count : Count) → new.seen count < last_counted → old.seen count + amounts count ≤ new.seen count
-  pub adds : (count : Count) → new.seen count < last_counted → new.share count ≡ old.share count + amounts count
+  pub adds : (count : Count) → min (share new count) last_counted ≡ counted (share old count) (amounts count)
+
+-- A caller made calls behind those that it had made, of which this holds.
+pub record HasCalled (are : List DeskCall → Type 0) (old new : Part) : Type 0 where
+  pub calls : List DeskCall
+  pub made : new.own ≡ old.own ++ calls
+  pub are_so : are calls
+
+-- a call asks for the facts alone
+abbrev pub IsLook : DeskCall → Type 0
+IsLook call = call.event ≡ Look
+
+-- a call asks for the facts, or counts an admin session that failed
+abbrev pub IsKeeping : DeskCall → Type 0
+IsKeeping call = (call.event ≡ Look) ⊎ (call.event ≡ AdminFault)
+
+-- among calls stand these, in order, and each other one is such
+abbrev pub Among : (DeskCall → Type 0) → List DeskCall → List DeskCall → Type 0
+Among Other [] [] = ⊤
+Among Other (n ∷ needed) [] = ⊥
+Among Other [] (c ∷ calls) = Other c × Among Other [] calls
+Among Other (n ∷ needed) (c ∷ calls) = ((c ≡ n) × Among Other needed calls) ⊎ (Other c × Among Other (n ∷ needed) calls)
 
 -- the numbers that facts tell are those that were seen
 pub record AreSeen (f : Facts) (seen : Amounts) : Type 0 where

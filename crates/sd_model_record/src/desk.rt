@@ -1,7 +1,8 @@
-ghost use Rattle.std.specs.Prelude.{ℕ, Bool};
+ghost use Rattle.std.specs.Prelude.{◌≡◌, ℕ, ◌+◌, min, Bool, true};
 ghost use Rattle.sd_model_record.specs.Record.{Tally};
-ghost use Rattle.sd_model_record.specs.Desk.{Desk, Marks, new_desk, with_tally, taken, marked, with_round, with_health, with_admin_fault, with_repeater_faults, AddsUp, IsBalanced};
-ghost use Rattle.sd_model_record.specs.Counts.{Amounts, GrewBy, HasCounted, IsInRange, KeepsCounts, Part, nothing, plus, of_tally, of_taken, of_marks, of_sessions, of_sends};
+ghost use Rattle.sd_model_record.specs.DeskHistory.{DeskHistory, IsDeskHistory, TellsFrom, desk_after};
+ghost use Rattle.sd_model_record.specs.Desk.{Desk, Marks, last_counted, new_desk, with_tally, taken, marked, with_round, with_health, with_admin_fault, with_repeater_faults, AddsUp, IsBalanced};
+ghost use Rattle.sd_model_record.specs.Counts.{Amounts, Count, GrewBy, HasCounted, IsInRange, KeepsCounts, Part, nothing, number_of, of_history, plus, of_tally, of_taken, of_marks, of_sessions, of_sends};
 
 /// The totals of a new desk are the tallies taken and the tally, and its counts are in range. Each change of a desk
 /// keeps both, and lets no count fall.
@@ -35,4 +36,12 @@ pub fn desks_count()
 pub fn parts_add_up()
     ensures none { (p : Part) → HasCounted nothing p p }
     ensures next { (a b : Amounts) (old mid new : Part) → HasCounted a old mid → HasCounted b mid new → HasCounted (plus a b) old new }
+{}
+
+/// What a legal history leaves: each number of the desk is the sum of what its calls added, up to the last count. The facts that
+/// it tells have the start, the health that was set last before, and the moment of the last message before.
+pub fn desk_histories_add_up()
+    ensures numbers { (start : ℕ) (acts : DeskHistory) → IsDeskHistory start acts → (count : Count)
+        → number_of (desk_after start acts) count ≡ min (of_history acts count) last_counted }
+    ensures told { (start : ℕ) (acts : DeskHistory) → IsDeskHistory start acts → TellsFrom start true start acts }
 {}

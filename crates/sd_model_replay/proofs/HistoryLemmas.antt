@@ -71,20 +71,20 @@ pub arrivals-history_at : (bounds : Bounds) (i : ℕ) (played : List Played) →
 arrivals-history_at bounds i played = arrivals-answered bounds.limits bounds.policy empty_state (events_at bounds.shards i played) ∙ records_part bounds i played
 
 -- samples are answered with no table
-no_table : (state : State) (who : ℕ) (s : Sample) (answer : Option Cause) (acts : History) → tables (record { who = who; event = Submit s; reply = (admitted state who s answer).reply } ∷ acts) ≡ tables acts
+no_table : (state : State) (who : ℕ) (s : Sample) (answer : Option Cause) (acts : History) → tables (record { who = who; event = Submit s; reply = (admitted state s answer).reply } ∷ acts) ≡ tables acts
 no_table state who s None acts = refl
 no_table state who s (Some cause) acts = refl
 
 no_tables : (limits : Limits) (policy : Policy) (state : State) (who : ℕ) (samples : List Sample) → tables (answered limits policy state (map (λ s. record { who = who; event = Submit s }) samples)) ≡ []
 no_tables limits policy state who [] = refl
 no_tables limits policy state who (s ∷ samples) =
-    let next = (admitted state who s (refusal limits state s)).state in
+    let next = (admitted state s (refusal limits state s)).state in
     no_table state who s (refusal limits state s) (answered limits policy next (map (λ s. record { who = who; event = Submit s }) samples)) ∙ no_tables limits policy next who samples
 
 -- admin lines are answered with no table
 line_tables : (limits : Limits) (policy : Policy) (state : State) (kind : Kind) (names : List (List ℕ)) → tables (answered limits policy state (as_admin (map (Delete kind) names))) ≡ []
 line_tables limits policy state kind [] = refl
-line_tables limits policy state kind (name ∷ names) = line_tables limits policy (step limits policy state administrator (Delete kind name)).state kind names
+line_tables limits policy state kind (name ∷ names) = line_tables limits policy (step limits policy state (Delete kind name)).state kind names
 
 no_line_tables : (limits : Limits) (policy : Policy) (state : State) (answer : Result admin.Command AdminFault) → tables (answered limits policy state (as_admin (admin_events answer))) ≡ []
 no_line_tables limits policy state (Ok admin.Stats) = refl

@@ -7,9 +7,9 @@ use Rattle.sd_model_settings.specs.Entries.{Target}
 use Rattle.sd_model_shard.specs.Shard.{Limits, Policy}
 use Rattle.sd_model_record.specs.Backends.{Backend, Graphite, Console}
 
--- how many rows and entries a shard may have
+-- how many rows and entries a shard may have, and whether it makes sums on arrival
 abbrev pub limits_of : Settings → Limits
-limits_of s = record { rows = s.sizes.rows; entries = s.sizes.entries }
+limits_of s = record { rows = s.sizes.rows; entries = s.sizes.entries; sums_on_arrival = s.transport.sums_on_arrival }
 
 -- which kinds go when idle, and at which swap behind its last sample a gauge that does
 abbrev pub policy_of : Settings → Policy

@@ -1,10 +1,11 @@
-ghost use Rattle.std.specs.Prelude.{◌≡◌, ◌<◌, ◌≤◌, ℕ, List, map};
+ghost use Rattle.std.specs.Prelude.{◌≡◌, ◌<◌, ◌≤◌, ℕ, List, map, length, get_or};
 ghost use Rattle.std.specs.List.{AllByRecursion, range_with_len};
 ghost use Rattle.sd_model_shard.specs.History.{part_of, state_after};
 ghost use Rattle.sd_model_shard.specs.Whereabouts.{arrivals};
 ghost use Rattle.sd_model_record.specs.Record.{record_rows};
+ghost use Rattle.sd_model_record.specs.Documented.{documented_rows};
 ghost use Rattle.sd_model_serve.specs.Receiving.{flusher};
-ghost use Rattle.sd_model_serve.specs.Rounds.{AreAccounted, Ran};
+ghost use Rattle.sd_model_serve.specs.Rounds.{AreAccounted, Ran, Round, flushed_at, round_record};
 ghost use Rattle.sd_model_replay.specs.Settings.{Bounds, bounds_of, limits_of, policy_of};
 ghost use Rattle.sd_model_replay.specs.Script.{IsLegal};
 ghost use Rattle.sd_model_replay.specs.Asked.{asked_in, brought_in};
@@ -33,9 +34,13 @@ pub fn replays_are_runs()
         → Ran bounds.limits bounds.policy bounds.shards (brought_in receivers played) (rounds bounds played) (asked_in bounds played) i (history_at bounds i played) }
 {}
 
-/// Each flush's record has the rows of its own tables, and is at the flush's second.
+/// Each flush's record has the documented statistics of the journals that its own swaps took, is made of the rows of its own
+/// tables, and is at the flush's second.
 pub fn records_are_documented()
-    ensures statistics { (settings : Settings) (played : List Played)
+    ensures statistics { (settings : Settings) (played : List Played) (k : ℕ) (other : Round) → k < length (rounds (bounds_of settings) played)
+        → (get_or (records settings played) k (round_record (form_of settings) other)).rows
+        ≡ documented_rows (plan_of settings) (flushed_at settings.sizes.shards (λ i. history_at (bounds_of settings) i played) k) }
+    ensures rows { (settings : Settings) (played : List Played)
         → map (λ r. r.rows) (records settings played) ≡ map (λ r. record_rows (plan_of settings) (map r.tables (range_with_len 0 settings.sizes.shards))) (rounds (bounds_of settings) played) }
     ensures times { (settings : Settings) (played : List Played) → map (λ r. r.ts) (records settings played) ≡ map (λ r. r.ts) (rounds (bounds_of settings) played) }
 {}

@@ -1,6 +1,6 @@
 -- What a run counts, as its receivers, its rounds and its sessions add up.
 use Rattle.std.proofs.Common.{◌≡◌, ℕ, zero, suc, ◌+◌, ◌<◌, Bool, true, false, List, [], ◌∷◌, length, flat_map, refl, sym, ap, ◌∙◌, arith, length-append}
-use Rattle.std.specs.Prelude.{sum_by, ◌==◌, if◌then◌else◌}
+use Rattle.std.specs.Prelude.{min, sum_by, ◌==◌, if◌then◌else◌}
 use Rattle.std.specs.List.{range_with_len}
 use Rattle.std.proofs.lemmas.List.Sums.{sum_by-cons, sum_by-append}
 use Rattle.sd_model_text.specs.Lines.{pieces, bad_of}
@@ -9,7 +9,7 @@ use Rattle.sd_model_shard.specs.Shard.{Limits, Policy, State, Event, Submit, Swa
 use Rattle.sd_model_shard.specs.History.{Act, History, LegalFrom, after}
 use Rattle.sd_model_shard.specs.Whereabouts.{dropped_in, told_by}
 use Rattle.sd_model_record.specs.Backends.{Graphite, Console, mark_of}
-use Rattle.sd_model_record.specs.Counts.{Count, TotalPackets, TotalLines, TotalBad, TotalDropped, TakenPackets, TakenLines, TakenBad, TakenDropped, RoundsMade, GraphiteFaults, ConsoleFaults, RepeaterFaults, AdminFaults, Amounts, Part, HasCounted, plus, of_tally, of_sends, of_sessions}
+use Rattle.sd_model_record.specs.Counts.{Count, TotalPackets, TotalLines, TotalBad, TotalDropped, TakenPackets, TakenLines, TakenBad, TakenDropped, RoundsMade, GraphiteFaults, ConsoleFaults, RepeaterFaults, AdminFaults, Amounts, Part, HasCounted, plus, share, of_tally, of_sends, of_sessions}
 use Rattle.sd_model_record.specs.Desk.{last_counted}
 use Rattle.sd_model_record.proofs.CountLemmas.{nothing_counted}
 use Rattle.sd_model_serve.specs.Receiving.{acts_by, events_by, events_of, told_in, failed_sends, tally_of, Reception}
@@ -55,11 +55,11 @@ sum_by-range f g from (suc n) same =
     omega arith
 
 -- deletions and dumps drop nothing, whatever acts stand between them
-drops_nothing : (limits : Limits) (policy : Policy) (state : State) (who : ℕ) (event : Event) → AreCommands (event ∷ []) → dropped_in (step limits policy state who event).reply ≡ 0
-drops_nothing limits policy state who (Submit s) h = absurd (h.0)
-drops_nothing limits policy state who Swap h = absurd (h.0)
-drops_nothing limits policy state who (Delete kind pattern) h = refl
-drops_nothing limits policy state who (Dump kind) h = refl
+drops_nothing : (limits : Limits) (policy : Policy) (state : State) (event : Event) → AreCommands (event ∷ []) → dropped_in (step limits policy state event).reply ≡ 0
+drops_nothing limits policy state (Submit s) h = absurd (h.0)
+drops_nothing limits policy state Swap h = absurd (h.0)
+drops_nothing limits policy state (Delete kind pattern) h = refl
+drops_nothing limits policy state (Dump kind) h = refl
 
 pub no_drops : (limits : Limits) (policy : Policy) (state : State) (who : ℕ) (acts : History) → LegalFrom limits policy state acts → AreCommands (events_by who acts) → told_by dropped_in (acts_by who acts) ≡ 0
 no_drops limits policy state who [] legal commands = refl
@@ -67,7 +67,7 @@ no_drops limits policy state who (a ∷ acts) legal commands = by_test (who == a
   by_test : (b : Bool) → AreCommands (events_of (if b then a ∷ acts_by who acts else acts_by who acts)) → (AreCommands (events_by who acts) → told_by dropped_in (acts_by who acts) ≡ 0)
       → told_by dropped_in (if b then a ∷ acts_by who acts else acts_by who acts) ≡ 0
   by_test true all rest =
-      let first : dropped_in a.reply ≡ 0 = ap dropped_in legal.0 ∙ drops_nothing limits policy state a.who a.event (all.0, tt) in
+      let first : dropped_in a.reply ≡ 0 = ap dropped_in legal.0 ∙ drops_nothing limits policy state a.event (all.0, tt) in
       let others = rest all.1 in
       let sum = sum_by-cons (λ (b : Act). dropped_in b.reply) a (acts_by who acts) in
       omega arith
@@ -152,19 +152,19 @@ received_next r receptions drops others RepeaterFaults =
     let all = sum_by-cons (λ (q : Reception). failed_sends q.sendings) r receptions in omega (arith, all)
 received_next r receptions drops others AdminFaults = refl
 
--- A tally that stops at the last count is exact where it was counted below it, whatever else was counted with it.
-pub exact_share : (packets lines bad drops : ℕ) (others : Amounts) (old new : Part) → HasCounted (plus (of_tally (tally_of packets lines bad drops)) others) old new → ((count : Count) → old.share count ≡ 0) → (count : Count) → new.seen count < last_counted
-    → new.share count ≡ plus (of_tally (record { packets = packets; lines = lines; bad = bad; dropped = drops })) others count
-exact_share packets lines bad drops others old new h none TotalPackets few = omega (arith, h.grows TotalPackets few, h.adds TotalPackets few, none TotalPackets, few)
-exact_share packets lines bad drops others old new h none TotalLines few = omega (arith, h.grows TotalLines few, h.adds TotalLines few, none TotalLines, few)
-exact_share packets lines bad drops others old new h none TotalBad few = omega (arith, h.grows TotalBad few, h.adds TotalBad few, none TotalBad, few)
-exact_share packets lines bad drops others old new h none TotalDropped few = omega (arith, h.grows TotalDropped few, h.adds TotalDropped few, none TotalDropped, few)
-exact_share packets lines bad drops others old new h none TakenPackets few = omega (arith, h.adds TakenPackets few, none TakenPackets)
-exact_share packets lines bad drops others old new h none TakenLines few = omega (arith, h.adds TakenLines few, none TakenLines)
-exact_share packets lines bad drops others old new h none TakenBad few = omega (arith, h.adds TakenBad few, none TakenBad)
-exact_share packets lines bad drops others old new h none TakenDropped few = omega (arith, h.adds TakenDropped few, none TakenDropped)
-exact_share packets lines bad drops others old new h none RoundsMade few = omega (arith, h.adds RoundsMade few, none RoundsMade)
-exact_share packets lines bad drops others old new h none GraphiteFaults few = omega (arith, h.adds GraphiteFaults few, none GraphiteFaults)
-exact_share packets lines bad drops others old new h none ConsoleFaults few = omega (arith, h.adds ConsoleFaults few, none ConsoleFaults)
-exact_share packets lines bad drops others old new h none RepeaterFaults few = omega (arith, h.adds RepeaterFaults few, none RepeaterFaults)
-exact_share packets lines bad drops others old new h none AdminFaults few = omega (arith, h.adds AdminFaults few, none AdminFaults)
+-- A tally that stops at the last count is what was counted, up to it, whatever else was counted with it.
+pub exact_share : (packets lines bad drops : ℕ) (others : Amounts) (old new : Part) → HasCounted (plus (of_tally (tally_of packets lines bad drops)) others) old new → ((count : Count) → share old count ≡ 0) → (count : Count)
+    → min (share new count) last_counted ≡ min (plus (of_tally (record { packets = packets; lines = lines; bad = bad; dropped = drops })) others count) last_counted
+exact_share packets lines bad drops others old new h none TotalPackets = omega (arith, h.adds TotalPackets, none TotalPackets)
+exact_share packets lines bad drops others old new h none TotalLines = omega (arith, h.adds TotalLines, none TotalLines)
+exact_share packets lines bad drops others old new h none TotalBad = omega (arith, h.adds TotalBad, none TotalBad)
+exact_share packets lines bad drops others old new h none TotalDropped = omega (arith, h.adds TotalDropped, none TotalDropped)
+exact_share packets lines bad drops others old new h none TakenPackets = omega (arith, h.adds TakenPackets, none TakenPackets)
+exact_share packets lines bad drops others old new h none TakenLines = omega (arith, h.adds TakenLines, none TakenLines)
+exact_share packets lines bad drops others old new h none TakenBad = omega (arith, h.adds TakenBad, none TakenBad)
+exact_share packets lines bad drops others old new h none TakenDropped = omega (arith, h.adds TakenDropped, none TakenDropped)
+exact_share packets lines bad drops others old new h none RoundsMade = omega (arith, h.adds RoundsMade, none RoundsMade)
+exact_share packets lines bad drops others old new h none GraphiteFaults = omega (arith, h.adds GraphiteFaults, none GraphiteFaults)
+exact_share packets lines bad drops others old new h none ConsoleFaults = omega (arith, h.adds ConsoleFaults, none ConsoleFaults)
+exact_share packets lines bad drops others old new h none RepeaterFaults = omega (arith, h.adds RepeaterFaults, none RepeaterFaults)
+exact_share packets lines bad drops others old new h none AdminFaults = omega (arith, h.adds AdminFaults, none AdminFaults)

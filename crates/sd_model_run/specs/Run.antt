@@ -1,19 +1,20 @@
 -- A run of the server between two times: what it goes by, its course from the side of its callers, what it counts, and what is seen
 -- of the objects that its workers use.
-use Rattle.std.specs.Prelude.{◌≡◌, ℕ, ◌+◌, ◌<◌, ◌≤◌, min, Bool, true, false, List, [], ◌∷◌, length, map, ◌++◌, flat_map, sum_by}
+use Rattle.std.specs.Prelude.{◌≡◌, ◌⊎◌, ℕ, ◌+◌, Some, IfSome, slice_get, ◌<◌, ◌≤◌, min, Bool, true, false, List, [], ◌∷◌, length, map, ◌++◌, flat_map, sum_by}
 use Rattle.std.specs.List.{AllByRecursion}
 use Rattle.sd_model_outside.specs.Outside.{Object, last_count}
 use Rattle.sd_model_outside.specs.Deliveries.{AfterDeliveries, Delivery, fault_of}
 use Rattle.sd_model_outside.specs.Turns.{with_ticks}
 use Rattle.sd_model_record.specs.Backends.{Backend, Graphite, Console, mark_of}
-use Rattle.sd_model_record.specs.Counts.{Count, number_of, TotalPackets, TotalLines, TotalBad, TotalDropped, TakenPackets, TakenLines, TakenBad, TakenDropped, RoundsMade, GraphiteFaults, ConsoleFaults, RepeaterFaults, AdminFaults, Amounts}
+use Rattle.sd_model_record.specs.DeskHistory.{DeskHistory, IsDeskHistory, TellsFrom, calls_by, desk_after}
+use Rattle.sd_model_record.specs.Counts.{Among, IsKeeping, Count, number_of, TotalPackets, TotalLines, TotalBad, TotalDropped, TakenPackets, TakenLines, TakenBad, TakenDropped, RoundsMade, GraphiteFaults, ConsoleFaults, RepeaterFaults, AdminFaults, Amounts}
 use Rattle.sd_model_record.specs.Desk.{IsBalanced, last_counted, Desk}
-use Rattle.sd_model_serve.specs.Rounds.{AreAccounted, MarksFit, Round, round_text, Form, round_deliveries, Ran}
-use Rattle.sd_model_serve.specs.Doors.{ServesDoor, Visit, faults_among, AreVisitsOf, asked_by}
+use Rattle.sd_model_serve.specs.Rounds.{AreAccounted, MarksFit, Round, last_second, round_calls, round_text, Form, round_deliveries, Ran}
+use Rattle.sd_model_serve.specs.Doors.{ServesDoor, Visit, faults_among, AreVisitsOf, asked_by, called_in}
 use Rattle.sd_model_serve.specs.Ends.{LoopEnd, WornOut, EndsReceiver, EndsFlusher, EndsKeeper, most_turns}
-use Rattle.sd_model_serve.specs.Receiving.{HaveRun, PassesOn, failed_sends, told_in, Reception, brought_by}
-use Rattle.sd_model_stream.specs.Streams.{AreStreamsOf, any_worn, lines_in, Cut, bad_of_line, pieces_of_line, Lining, brought_in_lines, faults_in_lines}
-use Rattle.sd_model_run.specs.Outlets.{HasFlowed, has_outlet, uses_at_ticks, Outflow}
+use Rattle.sd_model_serve.specs.Receiving.{CountsDatagrams, HaveRun, PassesOn, failed_sends, told_in, Reception, brought_by}
+use Rattle.sd_model_stream.specs.Streams.{AreStreamsOf, CountsReads, reads_in, any_worn, lines_in, Cut, bad_of_line, pieces_of_line, Lining, brought_in_lines, faults_in_lines}
+use Rattle.sd_model_run.specs.Outlets.{HasFlowed, has_outlet, uses_at_ticks, Outflow, OutletRoom, any_buffers}
 use Rattle.sd_model_text.specs.Lines.{Sample, pieces, bad_of}
 use Rattle.sd_model_settings.specs.Settings as file
 use Rattle.sd_model_shard.specs.Shard.{Limits, Policy}
@@ -22,14 +23,14 @@ use Rattle.sd_model_shard.specs.Whereabouts.{dropped_in}
 use Rattle.sd_model_serve.specs.Sessions.{Dialogue}
 
 -- What a server goes by: the limits and the policy of each shard; how many shards there are, and how records are made and
--- written; which backends are used, and whether there are outlets before them; the settings that sessions tell; how many receivers
+-- written; which backends are used, and the room of the outlets before them, if there are any; the settings that sessions tell; how many receivers
 -- there are, and how many wires each has; whether lines of streams are read; and how many flushes it ends after, where that isn't 0.
 pub record Terms : Type 0 where
   pub limits : Limits
   pub policy : Policy
   pub form : Form
   pub uses : Backend → Bool
-  pub outlets : Bool
+  pub outlets : OutletRoom
   pub settings : file.Settings
   pub receivers : ℕ
   pub wires : ℕ
@@ -38,7 +39,8 @@ pub record Terms : Type 0 where
 
 -- A run: the history of each shard, by its number; what each receiver did, and the keeper of lines, if there is one; the rounds at the
 -- ticks, and the last one, behind all ticks; what went to each backend through its outlet; the sessions of the admin door that were
--- visited, as each went, and that door's failures; how the flusher and the keeper of the admin door ended; and the desk at the end.
+-- visited, as each went, and that door's failures; how the flusher and the keeper of the admin door ended; the desk at the end, and
+-- its history.
 pub record Course : Type 0 where
   pub histories : ℕ → History
   pub receptions : List Reception
@@ -52,6 +54,7 @@ pub record Course : Type 0 where
   pub flusher_ended : LoopEnd
   pub keeper_ended : LoopEnd
   pub desk : Desk
+  pub calls : DeskHistory
 
 -- the datagrams that were read
 abbrev pub read_in : Course → List (List ℕ)
@@ -106,12 +109,14 @@ pub record Objects : Type 0 where
   pub streams : Object
 
 -- What a receiver did is seen of its source and its wires. It ended so once its source had taken some turns, counted up to the
--- last count, and it had seen some flushes, no more than were made; the source is where it was.
+-- last count, in each of which it read a datagram at most, and it had seen some flushes, no more than were made; the source is where
+-- it was.
 pub record IsReception (asked made : ℕ) (r : Reception) (source source_now : Object) (wires wires_now : List Object) : Type 0 where
   pub passed : PassesOn r.read r.sendings source source_now wires wires_now
   pub place : source_now.opened_at ≡ source.opened_at
   pub turned : ℕ
   pub turns : source_now.turns ≡ min (source.turns + turned) last_count
+  pub many : length r.read ≤ turned
   pub seen : ℕ
   pub known : seen ≤ made
   pub ends : EndsReceiver asked r.ended source source_now seen turned
@@ -155,6 +160,20 @@ AreLined asked made true [] door door_now = ⊥
 AreLined asked made true (l ∷ []) door door_now = IsLined asked made l door door_now
 AreLined asked made true (l ∷ k ∷ linings) door door_now = ⊥
 
+-- The desk's one history in a run. It is legal from the desk's start on, and leaves the desk. Its callers are those who submit
+-- samples, by their numbers from 0 on, then the flusher, then the keeper of the admin door: what each receiver and the keeper of
+-- lines called counts just what it read, at moments that the clock may say; the flusher took the tally and left the marks of each
+-- round; the keeper of the admin door asked for the facts of each line's replies, and set the health as the lines say; each in its
+-- order, and nobody else called anything.
+pub record HasOneDesk (says : ℕ → Type 0) (c : Course) : Type 0 where
+  pub legal : IsDeskHistory c.desk.facts.start c.calls
+  pub left : c.desk ≡ desk_after c.desk.facts.start c.calls
+  pub received : (r : ℕ) (x : Reception) → slice_get c.receptions r ≡ Some x → CountsDatagrams says x.read (calls_by r c.calls)
+  pub lined : (l : ℕ) (x : Lining) → slice_get c.linings l ≡ Some x → CountsReads says (reads_in x.streams) (calls_by (length c.receptions + l) c.calls)
+  pub flushed : calls_by (length (brought_in c)) c.calls ≡ flat_map round_calls (rounds_in c)
+  pub kept : Among IsKeeping (called_in c.dialogues) (calls_by (length (brought_in c) + 1) c.calls)
+  pub others : (who : ℕ) → length (brought_in c) + 2 ≤ who → calls_by who c.calls ≡ []
+
 -- A run by these terms went so, of which the clock may say these moments.
 pub record IsRun (terms : Terms) (says : ℕ → Type 0) (c : Course) (old new : Objects) : Type 0 where
   -- each shard has one legal history, in which are, each in its order, just what each receiver brought of the datagrams that it
@@ -165,14 +184,16 @@ pub record IsRun (terms : Terms) (says : ℕ → Type 0) (c : Course) (old new :
   -- each receiver sent on just the datagrams that it read, in order
   pub count : length c.receptions ≡ terms.receivers
   pub received : AreReceptions terms.run_flushes c.desk.facts.rounds terms.wires c.receptions old.sources new.sources old.wires new.wires
-  -- there was a round at each tick, and a last one at a moment of the clock
+  -- there was a round at each tick, and a last one at a moment of the clock, or at the second of the round before it where that is
+  -- later
   pub flushed : IsFlushed terms.run_flushes c.flusher_ended c.ticked old.beat new.beat
-  pub last : says c.last.ts
+  pub last : says c.last.ts ⊎ (last_second c.ticked ≡ Some c.last.ts)
+  pub in_order : IfSome (last_second c.ticked) (λ second. second ≤ c.last.ts)
   -- the last round wrote to just the backends that are used, and those at the ticks too, but where there are outlets to none; there
   -- the texts of their records went through the outlets
-  pub used : AllByRecursion (MarksFit (uses_at_ticks terms.outlets terms.uses)) c.ticked
+  pub used : AllByRecursion (MarksFit (uses_at_ticks (any_buffers terms.outlets) terms.uses)) c.ticked
   pub used_last : MarksFit terms.uses c.last
-  pub flowed : (back : Backend) → HasFlowed (has_outlet terms.outlets terms.uses back) (map (round_text terms.form back) c.ticked) (c.outflows back)
+  pub flowed : (back : Backend) → HasFlowed (has_outlet (any_buffers terms.outlets) terms.uses back) terms.outlets (map (round_text terms.form back) c.ticked) (c.outflows back)
   -- of what a backend was given it has just what was written, in order, each text whole, but where it failed
   pub delivered : (back : Backend) → AfterDeliveries (deliveries_in terms.form c back) (old.backs back) (new.backs back)
   -- the sessions of the door were visited one after another, and each went as its lines ask
@@ -181,14 +202,18 @@ pub record IsRun (terms : Terms) (says : ℕ → Type 0) (c : Course) (old new :
   pub kept : IsKept terms.run_flushes c.desk.facts.rounds c.keeper_ended old.door new.door
   -- the streams of the other door were read one after another, where they are
   pub lined : AreLined terms.run_flushes c.desk.facts.rounds terms.streams c.linings old.streams new.streams
-  -- the desk began at a moment of the clock; a number of it that hasn't reached the last count is what the run counts; and what
-  -- was counted of datagrams is what rounds took of it and what the desk still has
+  -- the desk began at a moment of the clock; each number of it is what the run counts, up to the last count; and what was counted
+  -- of datagrams is what rounds took of it and what the desk still has
   pub started : says c.desk.facts.start
-  pub counted : (count : Count) → number_of c.desk count < last_counted → number_of c.desk count ≡ counts_of terms.form.shards c count
+  pub counted : (count : Count) → number_of c.desk count ≡ min (counts_of terms.form.shards c count) last_counted
   pub balanced : IsBalanced c.desk
+  -- the desk has one legal history, in which are the calls of each caller, in its order
+  pub called : HasOneDesk says c
 
--- The accounting theorem of a run: besides, each good sample of the datagrams that were read is in exactly one place, and each
+-- The accounting theorem of a run: besides, all facts that were told have the start, the health that was set last before, and the
+-- moment of the last message before; each good sample of the datagrams that were read is in exactly one place, and each
 -- round's record has the documented statistics of its own journals over the rows carried in.
 pub record ServerTheorem (terms : Terms) (says : ℕ → Type 0) (c : Course) (old new : Objects) : Type 0 where
   pub run : IsRun terms says c old new
+  pub told : TellsFrom c.desk.facts.start true c.desk.facts.start c.calls
   pub accounted : AreAccounted terms.limits terms.policy terms.form c.histories (rounds_in c)

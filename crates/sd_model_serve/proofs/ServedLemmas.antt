@@ -31,15 +31,15 @@ no_swaps [] all = tt
 no_swaps (e ∷ events) all = (no_swap e all.0, no_swaps events all.1)
 
 -- what isn't a swap hands out no table
-no_table_admitted : (state : State) (who : ℕ) (s : _) (answer : Option Cause) → table_in (admitted state who s answer).reply ≡ None
-no_table_admitted state who s None = refl
-no_table_admitted state who s (Some cause) = refl
+no_table_admitted : (state : State) (s : _) (answer : Option Cause) → table_in (admitted state s answer).reply ≡ None
+no_table_admitted state s None = refl
+no_table_admitted state s (Some cause) = refl
 
-no_table : (limits : Limits) (policy : Policy) (state : State) (who : ℕ) (event : Event) → event ≢ Swap → table_in (step limits policy state who event).reply ≡ None
-no_table limits policy state who (Submit s) isnt = no_table_admitted state who s (refusal limits state s)
-no_table limits policy state who Swap isnt = absurd (isnt refl)
-no_table limits policy state who (Delete kind pattern) isnt = refl
-no_table limits policy state who (Dump kind) isnt = refl
+no_table : (limits : Limits) (policy : Policy) (state : State) (event : Event) → event ≢ Swap → table_in (step limits policy state event).reply ≡ None
+no_table limits policy state (Submit s) isnt = no_table_admitted state s (refusal limits state s)
+no_table limits policy state Swap isnt = absurd (isnt refl)
+no_table limits policy state (Delete kind pattern) isnt = refl
+no_table limits policy state (Dump kind) isnt = refl
 
 same : (n : ℕ) → (n == n) ≡ true
 same n = nat_eq_equiv.refl n
@@ -65,7 +65,7 @@ tables_by_flusher limits policy state (a ∷ acts) legal none =
       by_test true is rest = ap (cons_option (table_in a.reply)) rest
       by_test false is rest =
           let isnt = first_isnt (a.who == a.who) a (acts_by a.who acts) (same a.who) (none a.who (apart flusher a.who is)) in
-          let nothing : table_in a.reply ≡ None = ap table_in legal.0 ∙ no_table limits policy state a.who a.event isnt in
+          let nothing : table_in a.reply ≡ None = ap table_in legal.0 ∙ no_table limits policy state a.event isnt in
           ap (λ (t : Option Table). cons_option t (tables acts)) nothing ∙ rest
 
 submits_no_swap : (xs : List Sample) → AsksNoSwap (map Submit xs)

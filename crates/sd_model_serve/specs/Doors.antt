@@ -1,12 +1,14 @@
 -- Doors: sessions that are served one after another, each as it went, the faults that are counted, and what was asked of all shards.
-use Rattle.std.specs.Prelude.{◌≡◌, ℕ, ◌+◌, ◌<◌, ◌≤◌, Bool, true, false, if◌then◌else◌, List, map, sum_by, [], ◌∷◌, flat_map}
+use Rattle.std.specs.Prelude.{◌≡◌, ℕ, ◌+◌, ◌<◌, ◌≤◌, Bool, true, false, if◌then◌else◌, List, map, sum_by, [], ◌∷◌, flat_map, Result, Ok, length}
 use Rattle.std.specs.List.{AllByRecursion, AllZip}
 use Rattle.sd_model_outside.specs.Outside.{Object, RoseBy}
 use Rattle.sd_model_outside.specs.Turns.{session_of, with_sessions, with_back}
-use Rattle.sd_model_record.specs.Counts.{Part, HasCounted, of_sessions}
+use Rattle.sd_model_record.specs.Admin.{AdminFault, Command, Health, Up, Down, command}
+use Rattle.sd_model_record.specs.DeskHistory.{DeskCall, SetHealth, Look, Done, Told}
+use Rattle.sd_model_record.specs.Counts.{Among, IsKeeping, Part, HasCalled, HasCounted, of_sessions}
 use Rattle.sd_model_settings.specs.Settings as file
 use Rattle.sd_model_shard.specs.History.{History}
-use Rattle.sd_model_serve.specs.Sessions.{Broadcast, Broadcasts, Dialogue, HasTalked, SessionEnd, ReadFault, WriteFault, asked_in, events_in, lines_in}
+use Rattle.sd_model_serve.specs.Sessions.{Broadcast, Broadcasts, Dialogue, Exchange, HasTalked, is_quit, SessionEnd, ReadFault, WriteFault, asked_in, events_in, lines_in}
 use Rattle.sd_model_serve.specs.Rounds.{AreCommands}
 
 -- A session that was served: what was seen of its ends, that which asks and that which is told, before and after; and
@@ -31,12 +33,14 @@ abbrev pub faults_among : List Visit → ℕ
 faults_among visits = sum_by (λ v. if v.is_fault then 1 else 0) visits
 
 -- Sessions were taken of a door and given back, one after another, after so many failures of the door; each of these failures
--- and each visit that is a fault raised the door's faults. The door is where it was, and no session is out.
+-- and each session took a turn of the door, and each failure and each visit that is a fault raised the door's faults. The door is
+-- where it was, and no session is out.
 pub record ServesDoor (visits : List Visit) (failures : ℕ) (door door_now : Object) : Type 0 where
   pub fresh : AllByRecursion IsFresh visits
   pub causes : AllByRecursion IsFaultOf visits
   pub sessions : with_back (map (λ v. session_of v.asking_now v.told_now) visits) door.told
       ≡ with_sessions (map (λ v. session_of v.asking v.told) visits) door_now.told
+  pub many : door.turns + (failures + length visits) ≤ door_now.turns
   pub place : door_now.opened_at ≡ door.opened_at
   pub none_out : door_now.is_out ≡ false
   pub rises : door.faults ≤ door_now.faults
@@ -67,6 +71,21 @@ module _ (shards : ℕ) (settings : file.Settings) (says : ℕ → Type 0) where
 abbrev pub asked_by : List Dialogue → List Broadcast
 asked_by dialogues = flat_map (λ d. asked_in (lines_in d)) dialogues
 
+-- what a command calls of the desk besides: it sets the health, where it says so
+abbrev pub health_calls : Result Command AdminFault → List DeskCall
+health_calls (Ok (Health Up)) = record { event = SetHealth true; answer = Done } ∷ []
+health_calls (Ok (Health Down)) = record { event = SetHealth false; answer = Done } ∷ []
+health_calls answer = []
+
+-- a line's calls of the desk: it asks for the facts, which are those of its replies, and then sets the health, where it says so; one
+-- that asks for the end calls nothing
+abbrev pub line_calls : Exchange → List DeskCall
+line_calls e = if is_quit (command e.line) then [] else (record { event = Look; answer = Told e.facts } ∷ health_calls (command e.line))
+
+-- the calls of sessions, in order
+abbrev pub called_in : List Dialogue → List DeskCall
+called_in dialogues = flat_map (λ d. flat_map line_calls (lines_in d)) dialogues
+
 -- The sessions of a door were served one after another over so many shards: what their lines ask for was asked of each shard,
 -- in order, and nothing else: deletions and dumps.
 pub record ServesSessions (shards : ℕ) (settings : file.Settings) (says : ℕ → Type 0) (own own_now : ℕ → History) (door door_now : Object) (part part_now : Part) : Type 0 where
@@ -77,3 +96,4 @@ pub record ServesSessions (shards : ℕ) (settings : file.Settings) (says : ℕ 
   pub went : AreVisitsOf shards settings says visits dialogues
   pub asked : Broadcasts shards (asked_by dialogues) own own_now
   pub commands : AreCommands (events_in (asked_by dialogues))
+  pub called : HasCalled (Among IsKeeping (called_in dialogues)) part part_now

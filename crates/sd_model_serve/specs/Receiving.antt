@@ -1,5 +1,5 @@
 -- Who did what at shards; what callers file there, and what a receiver does with the datagrams that it reads.
-use Rattle.std.specs.Prelude.{◌≡◌, ℕ, ◌+◌, min, List, [], ◌∷◌, length, map, take, drop, flat_map, sum_by, All, ◌<◌, ◌==◌, if◌then◌else◌, ◌++◌}
+use Rattle.std.specs.Prelude.{◌≡◌, ⊤, ℕ, ◌+◌, min, List, [], ◌∷◌, length, map, take, drop, flat_map, sum_by, All, ◌<◌, ◌==◌, if◌then◌else◌, ◌++◌, ◌≤◌}
 use Rattle.sd_model_text.specs.Lines.{Sample, samples_of, pieces, bad_of}
 use Rattle.sd_model_outside.specs.Outside.{Object}
 use Rattle.sd_model_outside.specs.Turns.{with_datagrams}
@@ -7,10 +7,11 @@ use Rattle.sd_model_shard.specs.History.{History, Act, part_of}
 use Rattle.sd_model_shard.specs.Whereabouts.{taken_in, dropped_in, told_by}
 use Rattle.sd_model_record.specs.Record.{Tally}
 use Rattle.sd_model_record.specs.Desk.{last_counted}
-use Rattle.sd_model_record.specs.Counts.{Part, HasCounted, plus, of_tally, of_sends}
+use Rattle.sd_model_record.specs.DeskHistory.{DeskCall, DeskEvent, Add, RepeaterFaults, Look}
+use Rattle.sd_model_record.specs.Counts.{Part, HasCalled, HasCounted, plus, of_tally, of_sends}
 use Rattle.sd_model_serve.specs.Ends.{LoopEnd}
 use Rattle.sd_model_record.specs.WireSends.{Sending, AreRepeated, failures}
-use Rattle.std.specs.List.{range_with_len}
+use Rattle.std.specs.List.{AllByRecursion, AllZip, range_with_len}
 use Rattle.sd_model_text.specs.Names.{shard}
 use Rattle.sd_model_shard.specs.Shard.{Event, Submit, Reply}
 
@@ -91,14 +92,48 @@ pub record PassesOn (read : List (List ℕ)) (sendings : List Sending) (source s
   pub every_wire : All (λ s. length s.failed ≡ length wires) sendings
   pub sends : AreRepeated sendings wires wires_now
 
--- The datagrams that a source has given since were so sent on, their good samples were submitted, and what they count for was
--- added at the desk, with the sends that failed.
-pub record HasReceived (shards : ℕ) (source source_now : Object) (wires wires_now : List Object) (own own_now : ℕ → History) (part part_now : Part) (tally : Tally) (taken : ℕ) : Type 0 where
+-- A tally that was added at the desk, and the moment that was told with it.
+pub record Addition : Type 0 where
+  pub tally : Tally
+  pub now : ℕ
+
+-- what an event adds
+abbrev pub addition_of : DeskEvent → List Addition
+addition_of (Add tally now) = record { tally = tally; now = now } ∷ []
+addition_of event = []
+
+-- what calls added, in order
+abbrev pub additions_in : List DeskCall → List Addition
+additions_in calls = flat_map (λ c. addition_of c.event) calls
+
+-- a receiver's events at the desk: it adds tallies, counts sends that failed, and looks
+abbrev pub IsReceiving : DeskEvent → Type 0
+IsReceiving (Add tally now) = ⊤
+IsReceiving (RepeaterFaults sends) = ⊤
+IsReceiving Look = ⊤
+IsReceiving event = ⊥
+
+-- A datagram was counted so: as one packet, with its pieces, those that are bad, and drops, at a moment that the clock may say.
+pub record IsCountOf (says : ℕ → Type 0) (datagram : List ℕ) (a : Addition) : Type 0 where
+  pub drops : ℕ
+  pub tally_is : a.tally ≡ tally_of 1 (length (pieces datagram)) (bad_of datagram) drops
+  pub moment : says a.now
+
+-- The calls of who read these datagrams: each datagram was counted once, in order, and besides only sends that failed.
+pub record CountsDatagrams (says : ℕ → Type 0) (read : List (List ℕ)) (calls : List DeskCall) : Type 0 where
+  pub only : AllByRecursion (λ c. IsReceiving c.event) calls
+  pub each : AllZip (IsCountOf says) read (additions_in calls)
+
+-- The datagrams that a source has given since, at most one a turn, were so sent on, their good samples were submitted, and what they
+-- count for was added at the desk, with the sends that failed.
+pub record HasReceived (says : ℕ → Type 0) (shards turns : ℕ) (source source_now : Object) (wires wires_now : List Object) (own own_now : ℕ → History) (part part_now : Part) (tally : Tally) (taken : ℕ) : Type 0 where
   pub read : List (List ℕ)
+  pub many : length read ≤ turns
   pub sendings : List Sending
   pub passed : PassesOn read sendings source source_now wires wires_now
   pub filed : FilesDatagrams shards read own own_now tally taken
   pub counted : HasCounted (plus (of_tally tally) (of_sends (failed_sends sendings))) part part_now
+  pub called : HasCalled (CountsDatagrams says read) part part_now
 
 -- What a receiver did: the datagrams that it read, their sends on its wires, and how it ended.
 pub record Reception : Type 0 where

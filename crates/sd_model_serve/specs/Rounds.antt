@@ -1,6 +1,6 @@
 -- The rounds of a flusher: what each took out of the shards and the desk, and what it wrote; the account of histories and rounds; and
 -- the history of each shard that a run leaves, from the side of its callers.
-use Rattle.std.specs.Prelude.{◌≡◌, ℕ, Bool, true, List, [], ◌∷◌, map, get_or, sum_by, ◌<◌, ◌≢◌, ◌≤◌, length, ⊤}
+use Rattle.std.specs.Prelude.{◌≡◌, ℕ, Bool, true, Option, Some, None, List, [], ◌∷◌, ◌++◌, map, flat_map, get_or, sum_by, ◌<◌, ◌≢◌, ◌≤◌, length, ⊤}
 use Rattle.std.specs.FinMap.{empty}
 use Rattle.std.specs.List.{AllByRecursion, range_with_len}
 use Rattle.sd_model_outside.specs.Outside.{Object, Rose}
@@ -8,12 +8,14 @@ use Rattle.sd_model_outside.specs.Deliveries.{Written, Delivery, AfterMark, Afte
 use Rattle.sd_model_settings.specs.Settings.{Plan, Names}
 use Rattle.sd_model_shard.specs.Shard.{Table, Swap, Swapped, Limits, Policy, Event, Submit, Delete, Dump}
 use Rattle.sd_model_shard.specs.History.{Act, History, Legal}
-use Rattle.sd_model_record.specs.Record.{Tally, Record, record_of, record_rows}
+use Rattle.sd_model_record.specs.Record.{Tally, Record, record_of}
+use Rattle.sd_model_record.specs.Documented.{documented_rows}
 use Rattle.sd_model_record.specs.Desk.{Marks}
+use Rattle.sd_model_record.specs.DeskHistory.{DeskCall, Take, Mark, Took, Done}
 use Rattle.sd_model_record.specs.Counts.{Amounts, Part, HasCounted, plus, of_taken, of_marks}
 use Rattle.sd_model_record.specs.Backends.{Backend, mark_of, text_of}
 use Rattle.sd_model_serve.specs.Receiving.{flusher, administrator, Adds, acts_by, events_by, asks}
-use Rattle.sd_model_shard.specs.Whereabouts.{Accounted, RowsAreCarried, tables}
+use Rattle.sd_model_shard.specs.Whereabouts.{Accounted, AreDocumented, Flushed, flushes, RowsAreCarried, tables}
 use Rattle.sd_model_text.specs.Lines.{Sample}
 use Rattle.sd_model_serve.specs.Sessions.{Broadcast, acts_in}
 
@@ -51,9 +53,17 @@ swap_of table = record { who = flusher; event = Swap; reply = Swapped table }
 abbrev pub swaps_at : List Round → ℕ → History
 swaps_at rounds i = map (λ r. swap_of (r.tables i)) rounds
 
+-- nothing was flushed
+abbrev pub no_flush : Flushed
+no_flush = record { table = record { live = empty }; journal = [] }
+
+-- what the shards with these histories flushed in round k, in the order of the shards
+abbrev pub flushed_at : ℕ → (ℕ → History) → ℕ → List Flushed
+flushed_at shards histories k = map (λ i. get_or (flushes (histories i)) k no_flush) (range_with_len 0 shards)
+
 -- the table of shard i among tables in the order of the shards, and an empty one past their end
 abbrev pub table_at : List Table → ℕ → Table
-table_at tables i = get_or tables i (record { live = empty; held = [] })
+table_at tables i = get_or tables i (record { live = empty })
 
 -- what a round adds to the desk's numbers: the tally that it took, and its marks
 abbrev pub of_round : Round → Amounts
@@ -62,6 +72,10 @@ of_round r = plus (of_taken r.tally) (of_marks r.marks)
 -- what rounds add
 abbrev pub of_rounds : List Round → Amounts
 of_rounds rounds count = sum_by (λ r. of_round r count) rounds
+
+-- a round's calls of the desk: it takes the tally, and leaves its marks
+abbrev pub round_calls : Round → List DeskCall
+round_calls r = record { event = Take; answer = Took r.tally } ∷ record { event = Mark r.marks; answer = Done } ∷ []
 
 -- a backend's marks say whether it is used
 abbrev pub MarksFit : (Backend → Bool) → Round → Type 0
@@ -76,6 +90,13 @@ pub record MakesRound (form : Form) (uses : Backend → Bool) (round : Round) (o
   pub delivered : (b : Backend) → AfterMark (mark_of b round.marks) (round_text form b round) (back b) (back_now b)
   pub whole : (b : Backend) → uses b ≡ true → ¬ Rose (back b).faults (back_now b).faults → mark_of b round.marks ≡ Written
   pub counted : HasCounted (of_round round) part part_now
+  pub called : part_now.own ≡ part.own ++ round_calls round
+
+-- the second of the last of rounds, if there is one
+abbrev pub last_second : List Round → Option ℕ
+last_second [] = None
+last_second (r ∷ []) = Some r.ts
+last_second (r ∷ q ∷ rounds) = last_second (q ∷ rounds)
 
 -- Rounds were made, one after another.
 pub record MakesRounds (form : Form) (uses : Backend → Bool) (rounds : List Round) (own own_now : ℕ → History) (part part_now : Part) (back back_now : Backend → Object) : Type 0 where
@@ -83,6 +104,7 @@ pub record MakesRounds (form : Form) (uses : Backend → Bool) (rounds : List Ro
   pub used : AllByRecursion (MarksFit uses) rounds
   pub delivered : (b : Backend) → AfterDeliveries (round_deliveries form b rounds) (back b) (back_now b)
   pub counted : HasCounted (of_rounds rounds) part part_now
+  pub called : part_now.own ≡ part.own ++ flat_map round_calls rounds
 
 -- The account of shards with these histories, one a number, and of these rounds.
 pub record AreAccounted (limits : Limits) (policy : Policy) (form : Form) (histories : ℕ → History) (rounds : List Round) : Type 0 where
@@ -94,9 +116,12 @@ pub record AreAccounted (limits : Limits) (policy : Policy) (form : Form) (histo
   -- the swaps of each shard handed out the tables of the rounds, in order
   pub handed_out : (i : ℕ) → i < form.shards → tables (histories i) ≡ map (λ r. r.tables i) rounds
   -- the rows of these tables are those that the swap before left and those of their own journals
-  pub carried : (i : ℕ) → i < form.shards → RowsAreCarried policy empty (histories i)
-  -- the record of a round has the rows of its tables, with the documented statistics over their journals
-  pub statistics : AllByRecursion (λ r. (round_record form r).rows ≡ record_rows form.plan (map r.tables (range_with_len 0 form.shards))) rounds
+  pub carried : (i : ℕ) → i < form.shards → RowsAreCarried policy empty [] (histories i)
+  -- the summaries of these rows are the documented statistics of the journals, and those of the state of the entries held
+  pub documented : (i : ℕ) → i < form.shards → AreDocumented limits policy (histories i)
+  -- the record of a round has the documented statistics of the journals that its swaps took
+  pub statistics : (k : ℕ) (other : Round) → k < length rounds
+      → (round_record form (get_or rounds k other)).rows ≡ documented_rows form.plan (flushed_at form.shards histories k)
 
 -- The one history of a shard, as its callers' own acts tell it: it is legal, it has just the acts that each receiver, the
 -- flusher and the administrator made, in the order of each, and nobody else's.

@@ -120,9 +120,9 @@ too_many = longest_line + 1
 abbrev pub too_long_text : List ℕ
 too_long_text = fault_line TooLong
 
--- a front of a line, which isn't too long yet
-abbrev pub IsUnfinished : List ℕ → Type 0
-IsUnfinished rest = HasNoNewline rest × (length rest < too_many)
+-- bytes that may stand in one line: no newline is among them, and they aren't too many
+abbrev pub FitsLine : List ℕ → Type 0
+FitsLine bytes = HasNoNewline bytes × (length bytes < too_many)
 
 -- bytes without a newline that are too many
 abbrev pub IsTooLong : List ℕ → Type 0
@@ -152,18 +152,20 @@ abbrev pub EndsSession : ℕ → file.Settings → (ℕ → Type 0) → SessionE
 EndsSession shards settings says Quit last rest faults source_now sink sink_now =
     (e : Exchange) × (last ≡ e ∷ []) × (is_quit (command e.line) ≡ true) × (e.asked ≡ []) × (source_now.faults ≡ faults) × (sink_now ≡ sink)
 EndsSession shards settings says AtEnd last rest faults source_now sink sink_now =
-    (last ≡ []) × IsUnfinished rest × IsAtEnd source_now.told × (source_now.faults ≡ faults) × (sink_now ≡ sink)
+    (last ≡ []) × FitsLine rest × IsAtEnd source_now.told × (source_now.faults ≡ faults) × (sink_now ≡ sink)
 EndsSession shards settings says ReadFault last rest faults source_now sink sink_now =
-    (last ≡ []) × IsUnfinished rest × Rose faults source_now.faults × (sink_now ≡ sink)
+    (last ≡ []) × FitsLine rest × Rose faults source_now.faults × (sink_now ≡ sink)
 EndsSession shards settings says WriteFault last rest faults source_now sink sink_now =
     (source_now.faults ≡ faults) × WasCut shards settings says last rest sink sink_now
 EndsSession shards settings says LineTooLong last rest faults source_now sink sink_now =
     (last ≡ []) × IsTooLong rest × (source_now.faults ≡ faults) × (sink_now ≡ given too_long_text sink)
 
--- What is seen of the two ends of a session as it went so: its lines and then the rest were read; what is replied to the
--- lines that were carried out whole was written, before its end; and both ends are where they were.
+-- What is seen of the two ends of a session as it went so: its lines, each with no newline in it and none too long, and then the
+-- rest were read; what is replied to the lines that were carried out whole was written, before its end; and both ends are where
+-- they were.
 pub record HasTalked (shards : ℕ) (settings : file.Settings) (says : ℕ → Type 0) (d : Dialogue) (source source_now sink sink_now : Object) : Type 0 where
   pub lines : AllByRecursion (GoesOn says) d.exchanges
+  pub each : AllByRecursion (λ e. FitsLine e.line) (lines_in d)
   pub read : Reads source.told (bytes_of (lines_in d) ++ d.rest) source_now.told
   pub source_place : source_now.opened_at ≡ source.opened_at
   pub sink_place : sink_now.opened_at ≡ sink.opened_at

@@ -15,10 +15,10 @@ use Rattle.std.proofs.lemmas.Nat.{mul-le}
 use Rattle.std.proofs.lemmas.Slice.Eq.{bytes_eq-Decides}
 use Rattle.std.proofs.lemmas.Result.{IfOk-at_ok}
 use Rattle.toml.specs.Data.{Data, integer, Members, no_members, member, get_member}
-use Rattle.sd_model_settings.specs.Values.{ValueFlaw, whole}
+use Rattle.sd_model_settings.specs.Values.{ValueFlaw, flag, whole}
 use Rattle.sd_model_settings.specs.Entries.{class_names}
 use Rattle.sd_model_settings.specs.Settings.{top_names, names, first_unknown, unknown_inside, unknown_by, unknown, SettingsFlaw, ◌>>=◌, in_force, Section, setting, within_product, top, server, deletions, addresses, namespace, entry_lists, Sizes, sizes, FlushRules, flush_rules, Transport, transport, Settings, settings_in, unless_unknown, document, settings}
-use Rattle.sd_model_settings.specs.Earlier.{earlier_rules, earlier_transport, earlier_sizes, transport_without_room, values_by, settings_by, earlier_settings, settings_before_outlets, settings_before_room}
+use Rattle.sd_model_settings.specs.Earlier.{earlier_rules, earlier_transport, earlier_sizes, transport_without_sums, values_by, settings_by, earlier_settings, settings_before_outlets, settings_before_sums}
 use Rattle.sd_model_settings.specs.Ranges.{IsWithin}
 use Rattle.sd_model_settings.proofs.ValuesInRange.{bind_in_range, anything_in_range, setting_in_range, whole_in_range}
 
@@ -108,25 +108,30 @@ room_unset : {B : Type 0} (s : Section) → get_member (codes "receiveBuffer") s
 room_unset s none g =
     known_then (setting s (codes "receiveBuffer") (whole 0 1073741824) 0) 0 g (by_default s (codes "receiveBuffer") (whole 0 1073741824) 0 none)
 
+-- the rest behind the sums on arrival where they aren't given
+sums_unset : {B : Type 0} (s : Section) → get_member (codes "sumsOnArrival") s.members ≡ None → (g : Bool → Result B SettingsFlaw) → (setting s (codes "sumsOnArrival") flag false >>= g) ≡ g false
+sums_unset s none g = known_then (setting s (codes "sumsOnArrival") flag false) false g (by_default s (codes "sumsOnArrival") flag false none)
+
 -- the transport where none of its settings is given
 transport_kept : (s : Section) → get_member (codes "outlets") s.members ≡ None → get_member (codes "outletBytes") s.members ≡ None → get_member (codes "tcp_port") s.members ≡ None
-    → get_member (codes "receiveBuffer") s.members ≡ None → transport s ≡ Ok earlier_transport
+    → get_member (codes "sumsOnArrival") s.members ≡ None → get_member (codes "receiveBuffer") s.members ≡ None → transport s ≡ Ok earlier_transport
 unfolding transport
-transport_kept s first second third fourth =
+transport_kept s first second third fourth fifth =
     known_then (setting s (codes "outlets") (whole 0 64) 0) 0 _ (by_default s (codes "outlets") (whole 0 64) 0 first)
     ∙ known_then (setting s (codes "outletBytes") (whole 65536 16777216) 4194304) 4194304 _ (by_default s (codes "outletBytes") (whole 65536 16777216) 4194304 second)
     ∙ known_then (setting s (codes "tcp_port") (whole 0 65535) 0) 0 _ (by_default s (codes "tcp_port") (whole 0 65535) 0 third)
-    ∙ room_unset s fourth _
+    ∙ sums_unset s fourth _
+    ∙ room_unset s fifth _
 
--- the transport where no room is given
-rest_of_transport_kept : (s : Section) → get_member (codes "receiveBuffer") s.members ≡ None → Gives (transport_without_room s) (transport s)
-unfolding transport_without_room transport
-rest_of_transport_kept s none =
+-- the transport where neither sums on arrival nor room are given
+rest_of_transport_kept : (s : Section) → get_member (codes "sumsOnArrival") s.members ≡ None → get_member (codes "receiveBuffer") s.members ≡ None → Gives (transport_without_sums s) (transport s)
+unfolding transport_without_sums transport
+rest_of_transport_kept s first second =
     same_then (setting s (codes "outlets") (whole 0 64) 0) _ _ (λ outlets _.
     same_then (setting s (codes "outletBytes") (whole 65536 16777216) 4194304) _ _ (λ per_outlet _.
     same_then (within_product s (codes "outletBytes") 268435456 outlets per_outlet) _ _ (λ outlet_bytes _.
     same_then (setting s (codes "tcp_port") (whole 0 65535) 0) _ _ (λ tcp_port _.
-    room_unset s none _))))
+    sums_unset s first _ ∙ room_unset s second _))))
 
 -- the values, where sizes, rules and transport are kept
 values_kept : (of_sizes : Section → Result Sizes SettingsFlaw) (of_rules : Section → Result FlushRules SettingsFlaw) (of_transport : Section → Result Transport SettingsFlaw) (s : Section)
@@ -210,10 +215,11 @@ module _ (count : ℕ) (values : Section → Result Settings SettingsFlaw) (know
   ]
 
 no_transport : (count : ℕ) → list_any (λ k. bytes_eq k (codes "outlets")) (take count top_names) ≡ false → list_any (λ k. bytes_eq k (codes "outletBytes")) (take count top_names) ≡ false
-    → list_any (λ k. bytes_eq k (codes "tcp_port")) (take count top_names) ≡ false → list_any (λ k. bytes_eq k (codes "receiveBuffer")) (take count top_names) ≡ false → (doc : Members) → unknown_by (take count top_names) doc ≡ None → transport (top doc) ≡ Ok earlier_transport
-no_transport count first second third fourth doc is =
+    → list_any (λ k. bytes_eq k (codes "tcp_port")) (take count top_names) ≡ false → list_any (λ k. bytes_eq k (codes "sumsOnArrival")) (take count top_names) ≡ false
+    → list_any (λ k. bytes_eq k (codes "receiveBuffer")) (take count top_names) ≡ false → (doc : Members) → unknown_by (take count top_names) doc ≡ None → transport (top doc) ≡ Ok earlier_transport
+no_transport count first second third fourth fifth doc is =
     transport_kept (top doc) (absent (take count top_names) (codes "outlets") first doc is) (absent (take count top_names) (codes "outletBytes") second doc is) (absent (take count top_names) (codes "tcp_port") third doc is)
-    (absent (take count top_names) (codes "receiveBuffer") fourth doc is)
+    (absent (take count top_names) (codes "sumsOnArrival") fourth doc is) (absent (take count top_names) (codes "receiveBuffer") fifth doc is)
 
 pub settings_kept : (bytes : List ℕ) → IfOk (earlier_settings bytes) (λ v. settings bytes ≡ Ok v)
 unfolding earlier_settings unknown
@@ -221,32 +227,36 @@ settings_kept =
     all_kept 26 (values_by earlier_sizes (λ s. Ok earlier_rules) (λ s. Ok earlier_transport)) (file_known (take 26 top_names) (drop 26 top_names)) (λ doc is.
     let rules : flush_rules (top doc) ≡ Ok earlier_rules =
     rules_kept (top doc) (absent (take 26 top_names) (codes "gaugesMaxTTL") refl doc is) (absent (take 26 top_names) (codes "calculatedTimerMetrics") refl doc is) in
-    values_kept earlier_sizes (λ s. Ok earlier_rules) (λ s. Ok earlier_transport) (top doc) (sizes_kept (top doc)) rules (no_transport 26 refl refl refl refl doc is))
+    values_kept earlier_sizes (λ s. Ok earlier_rules) (λ s. Ok earlier_transport) (top doc) (sizes_kept (top doc)) rules (no_transport 26 refl refl refl refl refl doc is))
 
 pub settings_kept_before_outlets : (bytes : List ℕ) → IfOk (settings_before_outlets bytes) (λ v. settings bytes ≡ Ok v)
 unfolding settings_before_outlets unknown
 settings_kept_before_outlets =
     all_kept 28 (values_by sizes flush_rules (λ s. Ok earlier_transport)) (file_known (take 28 top_names) (drop 28 top_names)) (λ doc is.
-    values_kept sizes flush_rules (λ s. Ok earlier_transport) (top doc) (same (sizes (top doc))) (same (flush_rules (top doc))) (no_transport 28 refl refl refl refl doc is))
+    values_kept sizes flush_rules (λ s. Ok earlier_transport) (top doc) (same (sizes (top doc))) (same (flush_rules (top doc))) (no_transport 28 refl refl refl refl refl doc is))
 
-pub settings_kept_before_room : (bytes : List ℕ) → IfOk (settings_before_room bytes) (λ v. settings bytes ≡ Ok v)
-unfolding settings_before_room unknown
-settings_kept_before_room =
-    all_kept 31 (values_by sizes flush_rules transport_without_room) (file_known (take 31 top_names) (drop 31 top_names)) (λ doc is.
-    values_kept sizes flush_rules transport_without_room (top doc) (same (sizes (top doc))) (same (flush_rules (top doc)))
-    (rest_of_transport_kept (top doc) (absent (take 31 top_names) (codes "receiveBuffer") refl doc is)))
+pub settings_kept_before_sums : (bytes : List ℕ) → IfOk (settings_before_sums bytes) (λ v. settings bytes ≡ Ok v)
+unfolding settings_before_sums unknown
+settings_kept_before_sums =
+    all_kept 31 (values_by sizes flush_rules transport_without_sums) (file_known (take 31 top_names) (drop 31 top_names)) (λ doc is.
+    values_kept sizes flush_rules transport_without_sums (top doc) (same (sizes (top doc))) (same (flush_rules (top doc)))
+    (rest_of_transport_kept (top doc) (absent (take 31 top_names) (codes "sumsOnArrival") refl doc is) (absent (take 31 top_names) (codes "receiveBuffer") refl doc is)))
+
+-- no sum is made on arrival, and no room is asked for
+abbrev HasNeither : Transport → Type 0
+HasNeither t = (t.sums_on_arrival ≡ false) × (t.receive_buffer ≡ 0)
 
 -- a step behind a value of which nothing is asked
 behind_any : {A B : Type 0} (r : Result A SettingsFlaw) (f : A → Result B SettingsFlaw) (Q : B → Type 0) → ((x : A) → IfOk (f x) Q) → IfOk (r >>= f) Q
 behind_any r f Q h = bind_in_range r f (λ _. ⊤) Q (anything_in_range r) (λ x _. h x)
 
-no_room : (s : Section) → IfOk (transport_without_room s) (λ t. t.receive_buffer ≡ 0)
-unfolding transport_without_room
-no_room s =
-    behind_any (setting s (codes "outlets") (whole 0 64) 0) _ (λ (t : Transport). t.receive_buffer ≡ 0) (λ outlets.
-    behind_any (setting s (codes "outletBytes") (whole 65536 16777216) 4194304) _ (λ (t : Transport). t.receive_buffer ≡ 0) (λ per_outlet.
-    behind_any (within_product s (codes "outletBytes") 268435456 outlets per_outlet) _ (λ (t : Transport). t.receive_buffer ≡ 0) (λ outlet_bytes.
-    behind_any (setting s (codes "tcp_port") (whole 0 65535) 0) _ (λ (t : Transport). t.receive_buffer ≡ 0) (λ tcp_port. refl))))
+neither : (s : Section) → IfOk (transport_without_sums s) HasNeither
+unfolding transport_without_sums
+neither s =
+    behind_any (setting s (codes "outlets") (whole 0 64) 0) _ HasNeither (λ outlets.
+    behind_any (setting s (codes "outletBytes") (whole 65536 16777216) 4194304) _ HasNeither (λ per_outlet.
+    behind_any (within_product s (codes "outletBytes") 268435456 outlets per_outlet) _ HasNeither (λ outlet_bytes.
+    behind_any (setting s (codes "tcp_port") (whole 0 65535) 0) _ HasNeither (λ tcp_port. (refl, refl)))))
 
 -- what holds of the values that a file set
 module _ (Q : Settings → Type 0) where
@@ -299,9 +309,21 @@ transport_before_outlets =
     of_values (λ v. v.transport ≡ earlier_transport) sizes flush_rules (λ s. Ok earlier_transport) (λ r. ⊤) (λ t. t ≡ earlier_transport) s (anything_in_range (flush_rules s)) refl
     (λ v rules transport. transport))
 
-pub no_room_before_room : (bytes : List ℕ) → IfOk (settings_before_room bytes) (λ v. v.transport.receive_buffer ≡ 0)
-unfolding settings_before_room
-no_room_before_room =
-    of_file (λ v. v.transport.receive_buffer ≡ 0) 31 (values_by sizes flush_rules transport_without_room) (λ s.
-    of_values (λ v. v.transport.receive_buffer ≡ 0) sizes flush_rules transport_without_room (λ r. ⊤) (λ t. t.receive_buffer ≡ 0) s (anything_in_range (flush_rules s)) (no_room s)
+neither_before_sums : (bytes : List ℕ) → IfOk (settings_before_sums bytes) (λ v. HasNeither v.transport)
+unfolding settings_before_sums
+neither_before_sums =
+    of_file (λ v. HasNeither v.transport) 31 (values_by sizes flush_rules transport_without_sums) (λ s.
+    of_values (λ v. HasNeither v.transport) sizes flush_rules transport_without_sums (λ r. ⊤) HasNeither s (anything_in_range (flush_rules s)) (neither s)
     (λ v rules none. none))
+
+part_of_ok : {A E : Type 0} (P Q : A → Type 0) (r : Result A E) → ((x : A) → P x → Q x) → IfOk r P → IfOk r Q
+part_of_ok P Q (Ok x) h p = h x p
+part_of_ok P Q (Err e) h p = tt
+
+pub no_sums_before_sums : (bytes : List ℕ) → IfOk (settings_before_sums bytes) (λ v. v.transport.sums_on_arrival ≡ false)
+no_sums_before_sums bytes =
+    part_of_ok (λ (v : Settings). HasNeither v.transport) (λ v. v.transport.sums_on_arrival ≡ false) (settings_before_sums bytes) (λ v h. h.0) (neither_before_sums bytes)
+
+pub no_room_before_sums : (bytes : List ℕ) → IfOk (settings_before_sums bytes) (λ v. v.transport.receive_buffer ≡ 0)
+no_room_before_sums bytes =
+    part_of_ok (λ (v : Settings). HasNeither v.transport) (λ v. v.transport.receive_buffer ≡ 0) (settings_before_sums bytes) (λ v h. h.1) (neither_before_sums bytes)

@@ -1,5 +1,5 @@
 -- The settings of an accepted file are in range.
-use Rattle.std.proofs.Common.{◌≡◌, ℕ, ◌*◌, ◌<◌, ◌≤◌, true, nat_lt, nat_le, pos, List, [], ◌∷◌, length, codes, Option, Some, None, Result, Ok, IfOk, refl, inl, inr, arith}
+use Rattle.std.proofs.Common.{◌≡◌, ℕ, ◌*◌, ◌<◌, ◌≤◌, true, false, nat_lt, nat_le, pos, List, [], ◌∷◌, length, codes, Option, Some, None, Result, Ok, IfOk, refl, inl, inr, arith}
 use Rattle.std.specs.Prelude.{⊤}
 use Rattle.std.proofs.lemmas.Bool.{cases_Bool}
 use Rattle.std.proofs.lemmas.Bool.Decides.{nat_tests}
@@ -117,8 +117,9 @@ transport_in_range s =
     whole_then s (codes "outletBytes") 65536 16777216 4194304 _ TransportInRange (omega arith, omega arith) (λ outlet_bytes b.
     product_then s (codes "outletBytes") 268435456 outlets outlet_bytes _ TransportInRange (λ a.
     whole_then s (codes "tcp_port") 0 65535 0 _ TransportInRange (omega arith, omega arith) (λ tcp_port t.
+    value_then (setting s (codes "sumsOnArrival") flag false) _ TransportInRange (λ sums_on_arrival.
     whole_then s (codes "receiveBuffer") 0 1073741824 0 _ TransportInRange (omega arith, omega arith) (λ receive_buffer r.
-    record { outlets = o.1; outlet_bytes = b; all_outlets = a; tcp_port = t.1; receive_buffer = r.1 })))))
+    record { outlets = o.1; outlet_bytes = b; all_outlets = a; tcp_port = t.1; receive_buffer = r.1 }))))))
 
 pub settings_in_in_range : (s : Section) → IfOk (settings_in s) InRange
 unfolding settings_in

@@ -96,6 +96,7 @@ transport_lines s =
     line (codes "outlets") (decimal s.outlets)
     ∷ line (codes "outletBytes") (decimal s.outlet_bytes)
     ∷ line (codes "tcp_port") (decimal s.tcp_port)
+    ∷ flag_line (codes "sumsOnArrival") s.sums_on_arrival
     ∷ line (codes "receiveBuffer") (decimal s.receive_buffer)
     ∷ []
 

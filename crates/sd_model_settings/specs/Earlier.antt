@@ -1,7 +1,7 @@
 -- What a file set before some of the settings were known: before gauges could live longer, lines of timers were chosen, and a
--- shard had more than 65,536 entries; then before backends had outlets and lines came in streams; and then before receivers asked for
--- room.
-use Rattle.std.specs.Prelude.{ℕ, nat_lt, if◌then◌else◌, List, [], take, length, codes, Result, Ok, Err}
+-- shard had more than 65,536 entries; then before backends had outlets and lines came in streams; and then before sums were made on
+-- arrival and receivers asked for room.
+use Rattle.std.specs.Prelude.{ℕ, nat_lt, if◌then◌else◌, List, [], false, take, length, codes, Result, Ok, Err}
 use Rattle.sd_model_settings.specs.Values.{whole}
 use Rattle.sd_model_settings.specs.Settings.{top_names, unknown_by, SettingsFlaw, OutOfRange, ◌>>=◌, Section, setting, within_product, top, server, deletions, addresses, namespace, entry_lists, Sizes, sizes, FlushRules, flush_rules, Transport, Settings, unless_unknown, document}
 
@@ -9,9 +9,9 @@ use Rattle.sd_model_settings.specs.Settings.{top_names, unknown_by, SettingsFlaw
 abbrev pub earlier_rules : FlushRules
 earlier_rules = record { gauges_max_ttl = 1; calculated_timer_metrics = [] }
 
--- no text waits for a backend, no port takes streams of lines, and no room is asked for
+-- no text waits for a backend, no port takes streams of lines, no sum is made on arrival, and no room is asked for
 abbrev pub earlier_transport : Transport
-earlier_transport = record { outlets = 0; outlet_bytes = 4194304; tcp_port = 0; receive_buffer = 0 }
+earlier_transport = record { outlets = 0; outlet_bytes = 4194304; tcp_port = 0; sums_on_arrival = false; receive_buffer = 0 }
 
 -- the sizes, with at most 65,536 entries and no rule on their product with the shards
 unfoldable pub earlier_sizes : Section → Result Sizes SettingsFlaw
@@ -25,14 +25,14 @@ earlier_sizes s = do
   run_flushes ← setting s (codes "runFlushes") (whole 0 1000000000) 0
   Ok (record { check_interval = check_interval; cache_size = cache_size; shards = shards; rows = rows; entries = entries; receivers = receivers; run_flushes = run_flushes })
 
--- the transport, with no room that is asked for
-unfoldable pub transport_without_room : Section → Result Transport SettingsFlaw
-transport_without_room s = do
+-- the transport, where no sum is made on arrival and no room is asked for
+unfoldable pub transport_without_sums : Section → Result Transport SettingsFlaw
+transport_without_sums s = do
   outlets ← setting s (codes "outlets") (whole 0 64) 0
   per_outlet ← setting s (codes "outletBytes") (whole 65536 16777216) 4194304
   outlet_bytes ← within_product s (codes "outletBytes") 268435456 outlets per_outlet
   tcp_port ← setting s (codes "tcp_port") (whole 0 65535) 0
-  Ok (record { outlets = outlets; outlet_bytes = outlet_bytes; tcp_port = tcp_port; receive_buffer = 0 })
+  Ok (record { outlets = outlets; outlet_bytes = outlet_bytes; tcp_port = tcp_port; sums_on_arrival = false; receive_buffer = 0 })
 
 -- the values that a file's table set, by what its sizes, its rules and its transport were read as
 abbrev pub values_by : (Section → Result Sizes SettingsFlaw) → (Section → Result FlushRules SettingsFlaw) → (Section → Result Transport SettingsFlaw) → Section → Result Settings SettingsFlaw
@@ -55,14 +55,14 @@ settings_by count values bytes =
       doc ← document bytes
       unless_unknown (unknown_by (take count top_names) doc) (values (top doc)))
 
--- before gauges could live longer: all names but the last six
+-- before gauges could live longer: all names but the last seven
 unfoldable pub earlier_settings : List ℕ → Result Settings SettingsFlaw
 earlier_settings = settings_by 26 (values_by earlier_sizes (λ s. Ok earlier_rules) (λ s. Ok earlier_transport))
 
--- before backends had outlets: all names but the last four
+-- before backends had outlets: all names but the last five
 unfoldable pub settings_before_outlets : List ℕ → Result Settings SettingsFlaw
 settings_before_outlets = settings_by 28 (values_by sizes flush_rules (λ s. Ok earlier_transport))
 
--- before receivers asked for room: all names but the last
-unfoldable pub settings_before_room : List ℕ → Result Settings SettingsFlaw
-settings_before_room = settings_by 31 (values_by sizes flush_rules transport_without_room)
+-- before sums were made on arrival and receivers asked for room: all names but the last two
+unfoldable pub settings_before_sums : List ℕ → Result Settings SettingsFlaw
+settings_before_sums = settings_by 31 (values_by sizes flush_rules transport_without_sums)

@@ -183,12 +183,14 @@ flush_rules s = do
   calculated_timer_metrics ← setting s (codes "calculatedTimerMetrics") class_names []
   Ok (record { gauges_max_ttl = gauges_max_ttl; calculated_timer_metrics = calculated_timer_metrics })
 
--- How many texts may wait for each backend and of how many bytes each may be, the port of streams of lines, and how many bytes of
--- room for the datagrams that wait for it each receiver asks the system for; 0 is none.
+-- How many texts may wait for each backend and of how many bytes each may be, the port of streams of lines, whether the samples of
+-- counters and gauges are summed up as they come and take none of a shard's entries, and how many bytes of room for the
+-- datagrams that wait for it each receiver asks the system for; 0 is none.
 pub record Transport : Type 0 where
   pub outlets : ℕ
   pub outlet_bytes : ℕ
   pub tcp_port : ℕ
+  pub sums_on_arrival : Bool
   pub receive_buffer : ℕ
 
 unfoldable pub transport : Section → Result Transport SettingsFlaw
@@ -197,5 +199,6 @@ transport s = do
   per_outlet ← setting s (codes "outletBytes") (whole 65536 16777216) 4194304
   outlet_bytes ← within_product s (codes "outletBytes") 268435456 outlets per_outlet
   tcp_port ← setting s (codes "tcp_port") (whole 0 65535) 0
+  sums_on_arrival ← setting s (codes "sumsOnArrival") flag false
   receive_buffer ← setting s (codes "receiveBuffer") (whole 0 1073741824) 0
-  Ok (record { outlets = outlets; outlet_bytes = outlet_bytes; tcp_port = tcp_port; receive_buffer = receive_buffer })
+  Ok (record { outlets = outlets; outlet_bytes = outlet_bytes; tcp_port = tcp_port; sums_on_arrival = sums_on_arrival; receive_buffer = receive_buffer })

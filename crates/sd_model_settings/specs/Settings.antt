@@ -19,7 +19,7 @@ top_names =
     ∷ codes "histogram" ∷ codes "repeater" ∷ codes "nodes" ∷ codes "checkInterval" ∷ codes "cacheSize" ∷ codes "shards"
     ∷ codes "rows" ∷ codes "entries" ∷ codes "receivers" ∷ codes "runFlushes" ∷ codes "gaugesMaxTTL"
     ∷ codes "calculatedTimerMetrics" ∷ codes "outlets" ∷ codes "outletBytes" ∷ codes "tcp_port"
-    ∷ codes "receiveBuffer" ∷ []
+    ∷ codes "sumsOnArrival" ∷ codes "receiveBuffer" ∷ []
 
 -- the names in the table `graphite`
 abbrev pub graphite_names : List (List ℕ)

@@ -1,18 +1,19 @@
-ghost use Rattle.std.specs.Prelude.{◌≡◌, ℕ, List, Ok, IfOk};
+ghost use Rattle.std.specs.Prelude.{◌≡◌, ℕ, false, List, Ok, IfOk};
 ghost use Rattle.sd_model_settings.specs.Settings.{settings};
-ghost use Rattle.sd_model_settings.specs.Earlier.{earlier_settings, settings_before_outlets, settings_before_room, earlier_rules, earlier_transport};
+ghost use Rattle.sd_model_settings.specs.Earlier.{earlier_settings, settings_before_outlets, settings_before_sums, earlier_rules, earlier_transport};
 
 /// A file that was accepted before gauges could live longer, lines of timers were chosen, and a shard had more than 65,536
 /// entries sets the same values: a gauge that goes when idle goes at the first swap, no class of lines is chosen, no text
-/// waits for a backend, no port takes streams of lines, and no room is asked for. A file that was accepted later, but before
-/// backends had outlets and lines came in streams, sets the same values too, and the last three; and one that was accepted
-/// before receivers asked for room, and the last.
+/// waits for a backend, no port takes streams of lines, no sum is made on arrival, and no room is asked for. A file that was
+/// accepted later, but before backends had outlets and lines came in streams, sets the same values too, and the last four;
+/// and one that was accepted before sums were made on arrival and receivers asked for room, and the last two.
 pub fn earlier_files()
     ensures kept { (bytes : List ℕ) → IfOk (earlier_settings bytes) (λ v. settings bytes ≡ Ok v) }
     ensures rules { (bytes : List ℕ) → IfOk (earlier_settings bytes) (λ v. v.rules ≡ earlier_rules) }
     ensures transport { (bytes : List ℕ) → IfOk (earlier_settings bytes) (λ v. v.transport ≡ earlier_transport) }
     ensures kept_before_outlets { (bytes : List ℕ) → IfOk (settings_before_outlets bytes) (λ v. settings bytes ≡ Ok v) }
     ensures none_before_outlets { (bytes : List ℕ) → IfOk (settings_before_outlets bytes) (λ v. v.transport ≡ earlier_transport) }
-    ensures kept_before_room { (bytes : List ℕ) → IfOk (settings_before_room bytes) (λ v. settings bytes ≡ Ok v) }
-    ensures no_room_before { (bytes : List ℕ) → IfOk (settings_before_room bytes) (λ v. v.transport.receive_buffer ≡ 0) }
+    ensures kept_before_sums { (bytes : List ℕ) → IfOk (settings_before_sums bytes) (λ v. settings bytes ≡ Ok v) }
+    ensures no_sums_before { (bytes : List ℕ) → IfOk (settings_before_sums bytes) (λ v. v.transport.sums_on_arrival ≡ false) }
+    ensures no_room_before { (bytes : List ℕ) → IfOk (settings_before_sums bytes) (λ v. v.transport.receive_buffer ≡ 0) }
 {}

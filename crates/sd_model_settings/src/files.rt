@@ -27,8 +27,13 @@ pub fn accepted_files()
         }) }
     ensures transport { settings (codes "outlets = 2\noutletBytes = 65536\ntcp_port = 8127\n")
         ≡ Ok (record default_settings {
-          transport = record { outlets = 2; outlet_bytes = 65536; tcp_port = 8127; receive_buffer = 0 };
+          transport = record { outlets = 2; outlet_bytes = 65536; tcp_port = 8127; sums_on_arrival = false; receive_buffer = 0 };
         }) }
+    ensures sums { settings (codes "sumsOnArrival = true\n")
+        ≡ Ok (record default_settings {
+          transport = record default_settings.transport { sums_on_arrival = true };
+        }) }
+    ensures no_sums { settings (codes "sumsOnArrival = false\n") ≡ Ok default_settings }
     ensures most_room { settings (codes "receiveBuffer = 1073741824\n")
         ≡ Ok (record default_settings {
           transport = record default_settings.transport { receive_buffer = 1073741824 };
@@ -66,6 +71,11 @@ pub fn refused_files()
     ensures too_much_room { settings (codes "receiveBuffer = 1073741825\n") ≡ Err (OutOfRange (codes "receiveBuffer")) }
     ensures negative_room { settings (codes "receiveBuffer = -1\n") ≡ Err (OutOfRange (codes "receiveBuffer")) }
     ensures room_as_text { settings (codes "receiveBuffer = '65536'\n") ≡ Err (WrongKind (codes "receiveBuffer")) }
+    ensures sums_as_number { settings (codes "sumsOnArrival = 1\n") ≡ Err (WrongKind (codes "sumsOnArrival")) }
+    ensures sums_before_room { settings (codes "receiveBuffer = -1\nsumsOnArrival = 'true'\n")
+        ≡ Err (WrongKind (codes "sumsOnArrival")) }
+    ensures port_before_sums { settings (codes "sumsOnArrival = 1\ntcp_port = 65536\n")
+        ≡ Err (OutOfRange (codes "tcp_port")) }
     ensures port_before_room { settings (codes "receiveBuffer = true\ntcp_port = 65536\n")
         ≡ Err (OutOfRange (codes "tcp_port")) }
 {}
@@ -124,6 +134,7 @@ pub fn config_lines_of_files()
         ≡ codes "outlets: 0\n"
         ∷ codes "outletBytes: 4194304\n"
         ∷ codes "tcp_port: 0\n"
+        ∷ codes "sumsOnArrival: false\n"
         ∷ codes "receiveBuffer: 0\n"
         ∷ [] }
     ensures a_histogram { histogram_line (record { metric = codes "web"; limits = Below (pos 2500000) ∷ Infinite ∷ [] })

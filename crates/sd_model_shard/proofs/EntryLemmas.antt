@@ -25,11 +25,11 @@ and_both : (a b : Bool) → T a → T b → T (a && b)
 and_both true b p q = q
 and_both false b p q = absurd p
 
-and_first : (a b : Bool) → T (a && b) → T a
+pub and_first : (a b : Bool) → T (a && b) → T a
 and_first true b p = tt
 and_first false b p = absurd p
 
-and_second : (a b : Bool) → T (a && b) → T b
+pub and_second : (a b : Bool) → T (a && b) → T b
 and_second true b p = p
 and_second false b p = absurd p
 
@@ -88,7 +88,7 @@ module _ {K X : Type 0} (R : K → K → Ordering) where
       ap (λ b. cond b 1 0 + times R q es) parts.0 ∙ ap (λ n. 0 + n) (times_none q es parts.1)
 
 module _ {K X : Type 0} {R : K → K → Ordering} (o : IsTotalOrder R) where
-  below_less : (x y : K) (es : List (K × X)) → R x y ≡ Less → T (below_all R y es) → T (below_all R x es)
+  pub below_less : (x y : K) (es : List (K × X)) → R x y ≡ Less → T (below_all R y es) → T (below_all R x es)
   below_less x y [] p h = tt
   below_less x y (e ∷ es) p h =
       and_both _ _ (subst (λ r. T (is_lt r)) (sym (o.trans x y e.0 p (is_less _ (and_first _ _ h)))) tt) (below_less x y es p (and_second _ _ h))
@@ -212,6 +212,24 @@ StandApart-sorted {K = K} {X = X} R (e ∷ es) h = (apart e.0 es (and_first _ _ 
   apart : (x : K) (ds : List (K × X)) → T (below_all R x ds) → list_any (λ other. eq_by_cmp R x other.0) ds ≡ false
   apart x [] h = refl
   apart x (d ∷ ds) h = ap (λ o. is_eq o || list_any (λ other. eq_by_cmp R x other.0) ds) (is_less (R x d.0) (and_first _ _ h)) ∙ apart x ds (and_second _ _ h)
+
+-- what is below all keys is not found
+pub below_none : {K X : Type 0} (R : K → K → Ordering) (q : K) (es : List (K × X)) → T (below_all R q es) → find R q es ≡ None
+below_none R q [] h = refl
+below_none R q (e ∷ es) h = ap (λ o. cond (is_eq o) (Some e.1) (find R q es)) (is_less (R q e.0) (and_first _ _ h)) ∙ below_none R q es (and_second _ _ h)
+
+-- what is found behind an entry in order is found with it
+pub found_behind : {K X : Type 0} {R : K → K → Ordering} (o : IsTotalOrder R) (q : K) (e : K × X) (es : List (K × X)) → T (is_sorted R (e ∷ es)) → (v : X) → find R q es ≡ Some v → find R q (e ∷ es) ≡ Some v
+found_behind {K = K} {X = X} {R = R} o q e es h v is = by_tie (eq_by_cmp R q e.0) refl where
+  none_tied : eq_by_cmp R q e.0 ≡ true → find R q es ≡ None
+  none_tied t = none_of (find R q es) (is_some-find R q es ∙ any_map (eq_by_cmp R q) es ∙ any_alike o q e.0 es t ∙ (StandApart-sorted R (e ∷ es) h).0) where
+    any_map : (p : K → Bool) (ds : List (K × X)) → list_any p (map (λ d. d.0) ds) ≡ list_any (λ d. p d.0) ds
+    any_map p [] = refl
+    any_map p (d ∷ ds) = ap (λ b. p d.0 || b) (any_map p ds)
+
+  by_tie : (b : Bool) → eq_by_cmp R q e.0 ≡ b → cond b (Some e.1) (find R q es) ≡ Some v
+  by_tie true t = absurd (let none = none_tied t in cc)
+  by_tie false t = is
 
 -- entries with what is left of each value, where something is
 abbrev pub left : {K X Y : Type 0} → (K → X → Option Y) → List (K × X) → List (K × Y)

@@ -8,38 +8,46 @@ use Rattle.std.specs.Prelude.{sum_by}
 use Rattle.std.proofs.lemmas.List.Sums.{fold_push, sum_by-append}
 use Rattle.std.proofs.lemmas.List.Sorted.{sum_by-IsPermutation}
 use Rattle.sd_model_shard.proofs.OrderLemmas.{Rises, Rises-append, Rises-filter, Rises-increasing, weighed_once, sum_by-flat_map, sum_by-map}
+use Rattle.std.specs.FinMap.{empty}
+use Rattle.std.specs.Prelude.{flat_map, count_by}
+use Rattle.std.specs.List.{AllByRecursion}
+use Rattle.std.proofs.lemmas.List.Sums.{sum_by-cons}
 use Rattle.sd_model_text.specs.Names.{Kind}
 use Rattle.sd_model_text.specs.Lines.{Sample}
-use Rattle.sd_model_shard.specs.Commands.{is_hit, entries_taken_out, entries_left}
-use Rattle.sd_model_shard.specs.Rows.{Entry, row_of}
-use Rattle.sd_model_shard.specs.Shard.{State, empty_state, Cause, Limits, Policy, Event, Submit, Swap, Delete, Dump, step, admitted, refusal, after_swap, after_delete, deletion_of, table_of, Swapped, last_number}
-use Rattle.sd_model_shard.specs.History.{History, Act, Asked, after, after_all, state_after, LegalFrom, Legal, StandsAt, act_of, answered, acts_from}
-use Rattle.sd_model_shard.specs.Whereabouts.{arrivals, fates, filed, causes, journaled, deleted_from, deletions, tables, taken_out, Accounted, StandsOnce}
+use Rattle.sd_model_shard.specs.Commands.{DumpRow, is_hit, rows_left, entries_taken_out, entries_left, dump_of}
+use Rattle.sd_model_shard.specs.Rows.{Rows, Entry, row_of}
+use Rattle.sd_model_shard.specs.Summaries.{is_listed, Tell}
+use Rattle.sd_model_shard.specs.Shard.{State, empty_state, Cause, Limits, Policy, Taken, Dropped, Event, Submit, Swap, Delete, Dump, step, admitted, refusal, with_sample, with_drop, carried, after_swap, after_delete, deletion_of, Table, table_of, Answered, Swapped, Dumped, last_number}
+use Rattle.sd_model_shard.specs.History.{History, Act, Asked, after, after_all, state_after, LegalFrom, Legal, StandsAt, act_of, answered, held_from, held_after}
+use Rattle.sd_model_shard.specs.Whereabouts.{arrivals, fates, filed, causes, journaled, Flushed, ActOver, acts_over, flushes, flushes_from, deleted_from, deletions, taken_out, told_by, flushed_in, tables as handed_out, AreDocumented, RowsAreCarried, Accounted, StandsOnce}
+use Rattle.sd_model_shard.specs.Told.{IsToldBy, AreToldBy}
+use Rattle.sd_model_shard.proofs.OverLemmas.{told_by_entries}
+use Rattle.sd_model_shard.proofs.CarriedLemmas.{Stands, Stands-empty, Stands-sample, Stands-drop, Stands-swap, Stands-delete, Stands-tell, samples_told, deleted_told}
 
 pub LegalFrom-front : (limits : Limits) (policy : Policy) (state : State) (front back : History) → LegalFrom limits policy state (front ++ back) → LegalFrom limits policy state front
 LegalFrom-front limits policy state [] back h = tt
 LegalFrom-front limits policy state (a ∷ front) back h = (h.0, LegalFrom-front limits policy (after limits policy state a) front back h.1)
 
-pub LegalFrom-push : (limits : Limits) (policy : Policy) (state : State) (acts : History) (a : Act) → LegalFrom limits policy state acts → a.reply ≡ (step limits policy (after_all limits policy state acts) a.who a.event).reply → LegalFrom limits policy state (acts ++ a ∷ [])
+pub LegalFrom-push : (limits : Limits) (policy : Policy) (state : State) (acts : History) (a : Act) → LegalFrom limits policy state acts → a.reply ≡ (step limits policy (after_all limits policy state acts) a.event).reply → LegalFrom limits policy state (acts ++ a ∷ [])
 LegalFrom-push limits policy state [] a h is = (is, tt)
 LegalFrom-push limits policy state (x ∷ acts) a h is = (h.0, LegalFrom-push limits policy (after limits policy state x) acts a h.1 is)
 
-pub LegalFrom-last : (limits : Limits) (policy : Policy) (state : State) (acts : History) (a : Act) → LegalFrom limits policy state (acts ++ a ∷ []) → a.reply ≡ (step limits policy (after_all limits policy state acts) a.who a.event).reply
+pub LegalFrom-last : (limits : Limits) (policy : Policy) (state : State) (acts : History) (a : Act) → LegalFrom limits policy state (acts ++ a ∷ []) → a.reply ≡ (step limits policy (after_all limits policy state acts) a.event).reply
 LegalFrom-last limits policy state [] a h = h.0
 LegalFrom-last limits policy state (x ∷ acts) a h = LegalFrom-last limits policy (after limits policy state x) acts a h.1
 
 pub LegalFrom-answered : (limits : Limits) (policy : Policy) (state : State) (asked : List Asked) → LegalFrom limits policy state (answered limits policy state asked)
 LegalFrom-answered limits policy state [] = tt
-LegalFrom-answered limits policy state (q ∷ asked) = (refl, LegalFrom-answered limits policy (step limits policy state q.who q.event).state asked)
+LegalFrom-answered limits policy state (q ∷ asked) = (refl, LegalFrom-answered limits policy (step limits policy state q.event).state asked)
 
 pub StandsAt-push : (limits : Limits) (policy : Policy) (acts : History) (state : State) (who : ℕ) (event : Event) → StandsAt limits policy acts state
-    → StandsAt limits policy (acts ++ act_of limits policy state who event ∷ []) (step limits policy state who event).state
+    → StandsAt limits policy (acts ++ act_of limits policy state who event ∷ []) (step limits policy state event).state
 StandsAt-push limits policy acts state who event h =
-    let reached : (step limits policy state who event).reply ≡ (step limits policy (state_after limits policy acts) who event).reply = ap (λ (s : State). (step limits policy s who event).reply) h.left in
+    let reached : (step limits policy state event).reply ≡ (step limits policy (state_after limits policy acts) event).reply = ap (λ (s : State). (step limits policy s event).reply) h.left in
     record {
       legal = LegalFrom-push limits policy empty_state acts (act_of limits policy state who event) h.legal reached;
       left =
-          ap (λ (s : State). (step limits policy s who event).state) h.left
+          ap (λ (s : State). (step limits policy s event).state) h.left
           ∙ sym (fold_push (after limits policy) empty_state acts (act_of limits policy state who event));
     }
 
@@ -54,32 +62,60 @@ legal_is_answered limits policy state (a ∷ acts) h =
     let rest = legal_is_answered limits policy (after limits policy state a) acts h.1 in
     λ i. record { who = a.who; event = a.event; reply = first i } ∷ rest i
 
--- what acts do between two states, where gone are the entries that they delete
-record Goes (old new : State) (acts : History) (gone : List Entry) : Type 0 where
+-- the journals of acts, one after another, from some entries on
+abbrev journals : List Entry → History → List Entry
+journals held acts = flat_map (λ f. f.journal) (flushes_from held acts)
+
+-- what acts do between two states, of which the first stands on these rows and entries
+record Goes (limits : Limits) (policy : Policy) (carried_in : Rows) (journal : List Entry) (old new : State) (acts : History) : Type 0 where
   one_fate : map (λ f. f.arrival) (fates acts) ≡ arrivals acts
   numbers : map (λ e. e.number) (filed acts) ≡ range_with_len old.taken (length (filed acts))
-  order : (low : ℕ) → Rises low old.held old.taken → Rises low (journaled acts ++ new.held) new.taken
-  places : IsPermutation (old.held ++ filed acts) (journaled acts ++ gone ++ new.held)
+  order : (low : ℕ) → Rises low journal old.taken → Rises low (journals journal acts ++ held_from journal acts) new.taken
+  places : IsPermutation (journal ++ filed acts) (journals journal acts ++ deleted_from journal acts ++ held_from journal acts)
   taken : new.taken ≡ old.taken + length (filed acts)
-  flushed : new.flushed ≡ old.flushed + length (journaled acts)
-  deleted : new.deleted ≡ old.deleted + length gone
+  flushed : new.flushed ≡ old.flushed + length (journals journal acts)
+  deleted : new.deleted ≡ old.deleted + length (deleted_from journal acts)
   dropped : old.dropped ≤ last_number → new.dropped ≡ min (old.dropped + length (causes acts)) last_number
+  held : new.held ≡ length (held_from journal acts)
+  listed : new.listed ≡ count_by (λ e. is_listed e.sample.kind) (held_from journal acts)
+  told : told_by flushed_in acts ≡ length (journals journal acts)
+  handed : map (λ f. f.table) (flushes_from journal acts) ≡ handed_out acts
+  tables : AllByRecursion (λ f. Tell f.table.live f.journal) (flushes_from journal acts)
+  last : Tell new.live (held_from journal acts)
+  answers : IsToldBy limits policy new (held_from journal acts)
+  carries : RowsAreCarried policy carried_in journal acts
 
 -- a sample before them, by its answer
-sample_goes : (old new : State) (who : ℕ) (s : Sample) (answer : Option Cause) (acts : History) (gone : List Entry)
-    → Goes (admitted old who s answer).state new acts gone
-    → Goes old new (record { who = who; event = Submit s; reply = (admitted old who s answer).reply } ∷ acts) gone
-sample_goes old new who s None acts gone h = record {
-  one_fate = ap (λ rest. record { who = who; sample = s } ∷ rest) h.one_fate;
-  numbers = ap (λ rest. old.taken ∷ rest) h.numbers;
-  order = λ low rises. h.order low (Rises-append low old.taken (old.taken + 1) old.held (record { who = who; number = old.taken; sample = s } ∷ []) rises (omega arith, omega arith));
-  places = subst (λ entries. IsPermutation entries (journaled acts ++ gone ++ new.held)) (append_assoc old.held (record { who = who; number = old.taken; sample = s } ∷ []) (filed acts)) h.places;
-  taken = omega (arith, h.taken);
-  flushed = h.flushed;
-  deleted = h.deleted;
-  dropped = λ below. omega (arith, h.dropped below);
-}
-sample_goes old new who s (Some cause) acts gone h = record {
+sample_goes : (limits : Limits) (policy : Policy) (carried_in : Rows) (journal : List Entry) (old new : State) (who : ℕ) (s : Sample) (acts : History)
+    → Goes limits policy carried_in (journal ++ record { who = who; number = old.taken; sample = s } ∷ []) (with_sample old s) new acts
+    → Goes limits policy carried_in journal old new (record { who = who; event = Submit s; reply = Answered (Taken old.taken) } ∷ acts)
+sample_goes limits policy carried_in journal old new who s acts h =
+    let e : Entry = record { who = who; number = old.taken; sample = s } in
+    let more = journal ++ e ∷ [] in
+    record {
+      one_fate = ap (λ rest. record { who = who; sample = s } ∷ rest) h.one_fate;
+      numbers = ap (λ rest. old.taken ∷ rest) h.numbers;
+      order = λ low rises. h.order low (Rises-append low old.taken (old.taken + 1) journal (e ∷ []) rises (omega arith, omega arith));
+      places = subst (λ entries. IsPermutation entries (journals more acts ++ deleted_from more acts ++ held_from more acts)) (append_assoc journal (e ∷ []) (filed acts)) h.places;
+      taken = omega (arith, h.taken);
+      flushed = h.flushed;
+      deleted = h.deleted;
+      dropped = λ below. omega (arith, h.dropped below);
+      held = h.held;
+      listed = h.listed;
+      told = h.told;
+      handed = h.handed;
+      tables = h.tables;
+      last = h.last;
+      answers = h.answers;
+      carries = (tt, h.carries);
+    }
+
+-- a drop before them
+drop_goes : (limits : Limits) (policy : Policy) (carried_in : Rows) (journal : List Entry) (old new : State) (who : ℕ) (s : Sample) (cause : Cause) (acts : History)
+    → Goes limits policy carried_in journal (with_drop old) new acts
+    → Goes limits policy carried_in journal old new (record { who = who; event = Submit s; reply = Answered (Dropped cause) } ∷ acts)
+drop_goes limits policy carried_in journal old new who s cause acts h = record {
   one_fate = ap (λ rest. record { who = who; sample = s } ∷ rest) h.one_fate;
   numbers = h.numbers;
   order = h.order;
@@ -88,27 +124,54 @@ sample_goes old new who s (Some cause) acts gone h = record {
   flushed = h.flushed;
   deleted = h.deleted;
   dropped = λ below. omega (arith, h.dropped (omega arith));
+  held = h.held;
+  listed = h.listed;
+  told = h.told;
+  handed = h.handed;
+  tables = h.tables;
+  last = h.last;
+  answers = h.answers;
+  carries = (tt, h.carries);
 }
 
 joined : (front a b c : List Entry) → front ++ (a ++ b ++ c) ≡ front ++ a ++ b ++ c
 joined front a b c = simp append_assoc
 
 -- a swap before them
-swap_goes : (policy : Policy) (old new : State) (who : ℕ) (acts : History) (gone : List Entry)
-    → Goes (after_swap policy old) new acts gone
-    → Goes old new (record { who = who; event = Swap; reply = Swapped (table_of old) } ∷ acts) gone
-swap_goes policy old new who acts gone h = record {
-  one_fate = h.one_fate;
-  numbers = h.numbers;
-  order = λ low rises.
-      subst (λ entries. Rises low entries new.taken) (sym (append_assoc old.held (journaled acts) new.held))
-      (Rises-append low old.taken new.taken old.held (journaled acts ++ new.held) rises (h.order old.taken (omega arith)));
-  places = subst (IsPermutation (old.held ++ filed acts)) (joined old.held (journaled acts) gone new.held) (IsPermutation-append_right old.held (filed acts) (journaled acts ++ gone ++ new.held) h.places);
-  taken = h.taken;
-  flushed = omega (arith, h.flushed, length-append old.held (journaled acts));
-  deleted = h.deleted;
-  dropped = h.dropped;
-}
+swap_goes : (limits : Limits) (policy : Policy) (carried_in : Rows) (journal : List Entry) (old new : State) (who : ℕ) (acts : History)
+    → Stands carried_in old journal
+    → Goes limits policy (carried policy old.live) [] (after_swap policy old) new acts
+    → Goes limits policy carried_in journal old new (record { who = who; event = Swap; reply = Swapped (table_of old) } ∷ acts)
+swap_goes limits policy carried_in journal old new who acts stands h =
+    let later = journals [] acts in
+    let gone = deleted_from [] acts in
+    let last = held_from [] acts in
+    record {
+      one_fate = h.one_fate;
+      numbers = h.numbers;
+      order = λ low rises.
+          subst (λ entries. Rises low entries new.taken) (sym (append_assoc journal later last))
+          (Rises-append low old.taken new.taken journal (later ++ last) rises (h.order old.taken (omega arith)));
+      places = subst (IsPermutation (journal ++ filed acts)) (joined journal later gone last) (IsPermutation-append_right journal (filed acts) (later ++ gone ++ last) h.places);
+      taken = h.taken;
+      flushed = omega (arith, h.flushed, stands.held, length-append journal later);
+      deleted = h.deleted;
+      dropped = h.dropped;
+      held = h.held;
+      listed = h.listed;
+      told = omega (
+        arith,
+        h.told,
+        samples_told carried_in old journal stands,
+        length-append journal later,
+        sum_by-cons (λ (b : Act). flushed_in b.reply) (record { who = who; event = Swap; reply = Swapped (table_of old) }) acts,
+      );
+      handed = ap (λ (ts : List Table). table_of old ∷ ts) h.handed;
+      tables = (Stands-tell carried_in old journal stands, h.tables);
+      last = h.last;
+      answers = h.answers;
+      carries = (stands.rows, h.carries);
+    }
 
 -- entries that go out in front stand behind those of the journals
 moved_behind : (held left out entries journals gone last : List Entry) → IsPermutation held (out ++ left) → IsPermutation (left ++ entries) (journals ++ gone ++ last) → IsPermutation (held ++ entries) (journals ++ (out ++ gone) ++ last)
@@ -124,91 +187,168 @@ moved_behind held left out entries journals gone last parts h =
     (subst (IsPermutation ((out ++ journals) ++ (gone ++ last))) end three)))
 
 -- a deletion before them
-delete_goes : (kind : Kind) (pattern : List ℕ) (old new : State) (who : ℕ) (acts : History) (gone : List Entry)
-    → Goes (after_delete kind pattern old) new acts gone
-    → Goes old new (record { who = who; event = Delete kind pattern; reply = deletion_of kind pattern old } ∷ acts) (entries_taken_out kind pattern old.held ++ gone)
-delete_goes kind pattern old new who acts gone h =
-    let out = entries_taken_out kind pattern old.held in
-    let left = entries_left kind pattern old.held in
-    let parts : IsPermutation old.held (out ++ left) = IsPermutation-filter_both (λ e. is_hit kind pattern (row_of e.sample)) (λ e. not (is_hit kind pattern (row_of e.sample))) (λ e. refl) old.held in
+delete_goes : (limits : Limits) (policy : Policy) (kind : Kind) (pattern : List ℕ) (carried_in : Rows) (journal : List Entry) (old new : State) (who : ℕ) (acts : History)
+    → Stands carried_in old journal
+    → Goes limits policy (rows_left kind pattern carried_in) (entries_left kind pattern journal) (after_delete kind pattern old) new acts
+    → Goes limits policy carried_in journal old new (record { who = who; event = Delete kind pattern; reply = deletion_of kind pattern old } ∷ acts)
+delete_goes limits policy kind pattern carried_in journal old new who acts stands h =
+    let out = entries_taken_out kind pattern journal in
+    let left = entries_left kind pattern journal in
+    let parts : IsPermutation journal (out ++ left) = IsPermutation-filter_both (λ e. is_hit kind pattern (row_of e.sample)) (λ e. not (is_hit kind pattern (row_of e.sample))) (λ e. refl) journal in
     record {
       one_fate = h.one_fate;
       numbers = h.numbers;
-      order = λ low rises. h.order low (Rises-filter (λ e. not (is_hit kind pattern (row_of e.sample))) low old.taken old.held rises);
-      places = moved_behind old.held left out (filed acts) (journaled acts) gone new.held parts h.places;
+      order = λ low rises. h.order low (Rises-filter (λ e. not (is_hit kind pattern (row_of e.sample))) low old.taken journal rises);
+      places = moved_behind journal left out (filed acts) (journals left acts) (deleted_from left acts) (held_from left acts) parts h.places;
       taken = h.taken;
       flushed = h.flushed;
-      deleted = omega (arith, h.deleted, length-append out gone);
+      deleted = omega (arith, h.deleted, deleted_told kind pattern carried_in old journal stands, length-append out (deleted_from left acts));
       dropped = h.dropped;
+      held = h.held;
+      listed = h.listed;
+      told = h.told;
+      handed = h.handed;
+      tables = h.tables;
+      last = h.last;
+      answers = h.answers;
+      carries = (tt, h.carries);
     }
 
-goes : (limits : Limits) (policy : Policy) (state : State) (asked : List Asked)
-    → Goes state (after_all limits policy state (answered limits policy state asked)) (answered limits policy state asked) (deleted_from limits policy state (answered limits policy state asked))
-goes limits policy state [] = record {
+-- a dump before them
+dump_goes : (limits : Limits) (policy : Policy) (kind : Kind) (carried_in : Rows) (journal : List Entry) (old new : State) (who : ℕ) (rows : List DumpRow) (acts : History)
+    → Goes limits policy carried_in journal old new acts
+    → Goes limits policy carried_in journal old new (record { who = who; event = Dump kind; reply = Dumped rows } ∷ acts)
+dump_goes limits policy kind carried_in journal old new who rows acts h = record {
+  one_fate = h.one_fate;
+  numbers = h.numbers;
+  order = h.order;
+  places = h.places;
+  taken = h.taken;
+  flushed = h.flushed;
+  deleted = h.deleted;
+  dropped = h.dropped;
+  held = h.held;
+  listed = h.listed;
+  told = h.told;
+  handed = h.handed;
+  tables = h.tables;
+  last = h.last;
+  answers = h.answers;
+  carries = (tt, h.carries);
+}
+
+-- events with the replies of the step, from a state that stands on some entries
+abbrev GoesOn : Limits → Policy → State → List Asked → Type 0
+GoesOn limits policy state asked =
+    (carried_in : Rows) (journal : List Entry) → Stands carried_in state journal
+    → Goes limits policy carried_in journal state (after_all limits policy state (answered limits policy state asked)) (answered limits policy state asked)
+
+-- a sample before events, by its answer
+submit_goes : (limits : Limits) (policy : Policy) (state : State) (who : ℕ) (s : Sample) (answer : Option Cause) (asked : List Asked)
+    → GoesOn limits policy (admitted state s answer).state asked
+    → (carried_in : Rows) (journal : List Entry) → Stands carried_in state journal
+    → (let next = (admitted state s answer).state in
+    let acts = answered limits policy next asked in
+    Goes limits policy carried_in journal state (after_all limits policy next acts) (record { who = who; event = Submit s; reply = (admitted state s answer).reply } ∷ acts))
+submit_goes limits policy state who s None asked rest carried_in journal stands =
+    let next = with_sample state s in
+    let acts = answered limits policy next asked in
+    sample_goes limits policy carried_in journal state (after_all limits policy next acts) who s acts
+    (rest carried_in (journal ++ record { who = who; number = state.taken; sample = s } ∷ []) (Stands-sample carried_in state journal who s stands))
+submit_goes limits policy state who s (Some cause) asked rest carried_in journal stands =
+    let next = with_drop state in
+    let acts = answered limits policy next asked in
+    drop_goes limits policy carried_in journal state (after_all limits policy next acts) who s cause acts (rest carried_in journal (Stands-drop carried_in state journal s cause stands))
+
+goes : (limits : Limits) (policy : Policy) (state : State) (asked : List Asked) → GoesOn limits policy state asked
+goes limits policy state [] carried_in journal stands = record {
   one_fate = refl;
   numbers = refl;
   order = λ low rises. rises;
-  places = subst (λ entries. IsPermutation entries state.held) (sym (append-nil state.held)) (IsPermutation-refl state.held);
+  places = subst (λ entries. IsPermutation entries journal) (sym (append-nil journal)) (IsPermutation-refl journal);
   taken = omega arith;
   flushed = omega arith;
   deleted = omega arith;
   dropped = λ below. omega arith;
+  held = stands.held;
+  listed = stands.listed;
+  told = refl;
+  handed = refl;
+  tables = tt;
+  last = Stands-tell carried_in state journal stands;
+  answers = told_by_entries limits policy carried_in state journal stands;
+  carries = tt;
 }
-goes limits policy state (q ∷ asked) = goes_by limits policy state q.who q.event asked (goes limits policy (step limits policy state q.who q.event).state asked) where
+goes limits policy state (q ∷ asked) carried_in journal stands = goes_by limits policy state q.who q.event asked (goes limits policy (step limits policy state q.event).state asked) carried_in journal stands where
   goes_by : (limits : Limits) (policy : Policy) (state : State) (who : ℕ) (event : Event) (asked : List Asked)
-      → (let next = (step limits policy state who event).state in Goes next (after_all limits policy next (answered limits policy next asked)) (answered limits policy next asked) (deleted_from limits policy next (answered limits policy next asked)))
-      → (let acts = answered limits policy state (record { who = who; event = event } ∷ asked) in Goes state (after_all limits policy state acts) acts (deleted_from limits policy state acts))
-  goes_by limits policy state who (Submit s) asked h =
-      let answer = refusal limits state s in
-      let next = (admitted state who s answer).state in
-      let acts = answered limits policy next asked in
-      sample_goes state (after_all limits policy next acts) who s answer acts (deleted_from limits policy next acts) h
-  goes_by limits policy state who Swap asked h =
+      → GoesOn limits policy (step limits policy state event).state asked → GoesOn limits policy state (record { who = who; event = event } ∷ asked)
+  goes_by limits policy state who (Submit s) asked rest carried_in journal stands = submit_goes limits policy state who s (refusal limits state s) asked rest carried_in journal stands
+  goes_by limits policy state who Swap asked rest carried_in journal stands =
       let next = after_swap policy state in
       let acts = answered limits policy next asked in
-      swap_goes policy state (after_all limits policy next acts) who acts (deleted_from limits policy next acts) h
-  goes_by limits policy state who (Delete kind pattern) asked h =
+      swap_goes limits policy carried_in journal state (after_all limits policy next acts) who acts stands (rest (carried policy state.live) [] (Stands-swap policy state))
+  goes_by limits policy state who (Delete kind pattern) asked rest carried_in journal stands =
       let next = after_delete kind pattern state in
       let acts = answered limits policy next asked in
-      delete_goes kind pattern state (after_all limits policy next acts) who acts (deleted_from limits policy next acts) h
-  goes_by limits policy state who (Dump kind) asked h = record {
-    one_fate = h.one_fate;
-    numbers = h.numbers;
-    order = h.order;
-    places = h.places;
-    taken = h.taken;
-    flushed = h.flushed;
-    deleted = h.deleted;
-    dropped = h.dropped;
-  }
+      delete_goes limits policy kind pattern carried_in journal state (after_all limits policy next acts) who acts stands
+      (rest (rows_left kind pattern carried_in) (entries_left kind pattern journal) (Stands-delete kind pattern carried_in state journal stands))
+  goes_by limits policy state who (Dump kind) asked rest carried_in journal stands =
+      let acts = answered limits policy state asked in
+      dump_goes limits policy kind carried_in journal state (after_all limits policy state acts) who (dump_of kind state.live) acts (rest carried_in journal stands)
 
-accounted_from : (limits : Limits) (policy : Policy) (acts : History) → Goes empty_state (state_after limits policy acts) acts (deletions limits policy acts) → Accounted limits policy acts
-accounted_from limits policy acts h =
+abbrev GoesAll : Limits → Policy → History → Type 0
+GoesAll limits policy acts = Goes limits policy empty [] empty_state (state_after limits policy acts) acts
+
+legal_goes : (limits : Limits) (policy : Policy) (acts : History) → Legal limits policy acts → GoesAll limits policy acts
+legal_goes limits policy acts h =
+    subst (GoesAll limits policy) (legal_is_answered limits policy empty_state acts h)
+    (goes limits policy empty_state (asked_in acts) empty [] (Stands-empty))
+
+-- each sample of a legal history has one place
+pub accounted : (limits : Limits) (policy : Policy) (acts : History) → Legal limits policy acts → Accounted limits policy acts
+accounted limits policy acts legal =
+    let h = legal_goes limits policy acts legal in
     let last = state_after limits policy acts in
-    let gone = deletions limits policy acts in
+    let gone = deletions acts in
+    let held = held_after acts in
     let none : 0 + length (filed acts) ≡ length (filed acts) = omega arith in
     record {
       one_fate = h.one_fate;
       own_number = h.numbers ∙ ap (range_with_len 0) (sym (h.taken ∙ none));
-      in_order = Rises-increasing 0 last.taken (journaled acts ++ last.held) (h.order 0 (omega arith));
+      in_order = Rises-increasing 0 last.taken (journaled acts ++ held) (h.order 0 (omega arith));
       one_place = h.places;
       flushed = omega (arith, h.flushed);
       deleted = omega (arith, h.deleted);
       dropped = omega (arith, h.dropped (omega arith));
-      sum = omega (arith, h.taken, h.flushed, h.deleted, length_permutation (filed acts) (journaled acts ++ gone ++ last.held) h.places, length-append (journaled acts ++ gone) last.held, length-append (journaled acts) gone);
+      held = h.held;
+      sum = omega (arith, h.taken, h.flushed, h.deleted, h.held, length_permutation (filed acts) (journaled acts ++ gone ++ held) h.places, length-append (journaled acts ++ gone) held, length-append (journaled acts) gone);
     }
 
--- each sample of a legal history has one place
-pub accounted : (limits : Limits) (policy : Policy) (acts : History) → Legal limits policy acts → Accounted limits policy acts
-accounted limits policy acts h =
-    accounted_from limits policy acts (subst (λ (told : History). Goes empty_state (state_after limits policy told) told (deletions limits policy told)) (legal_is_answered limits policy empty_state acts h) (goes limits policy empty_state (asked_in acts)))
+-- the rows tell the journals and the entries held
+pub are_documented : (limits : Limits) (policy : Policy) (acts : History) → Legal limits policy acts → AreDocumented limits policy acts
+are_documented limits policy acts legal =
+    let h = legal_goes limits policy acts legal in
+    record { handed_out = h.handed; tables = h.tables; last = h.last; listed = h.listed }
+
+-- what is answered next is told by the entries held
+pub are_told_by : (limits : Limits) (policy : Policy) (acts : History) → Legal limits policy acts → AreToldBy limits policy acts
+are_told_by limits policy acts legal = (legal_goes limits policy acts legal).answers
+
+pub rows_carried : (limits : Limits) (policy : Policy) (acts : History) → Legal limits policy acts → RowsAreCarried policy empty [] acts
+rows_carried limits policy acts legal = (legal_goes limits policy acts legal).carries
+
+pub flushes_told : (limits : Limits) (policy : Policy) (acts : History) → Legal limits policy acts → (state_after limits policy acts).flushed ≡ told_by flushed_in acts
+flushes_told limits policy acts legal =
+    let h = legal_goes limits policy acts legal in
+    omega (arith, h.flushed, h.told)
 
 -- each number below those given stands once
-pub stands_once : (limits : Limits) (policy : Policy) (acts : History) → Legal limits policy acts → (n : ℕ) → n < (state_after limits policy acts).taken → StandsOnce limits policy acts n
+pub stands_once : (limits : Limits) (policy : Policy) (acts : History) → Legal limits policy acts → (n : ℕ) → n < (state_after limits policy acts).taken → StandsOnce acts n
 stands_once limits policy acts h n below =
     let all = accounted limits policy acts h in
     let last = state_after limits policy acts in
-    let gone = deletions limits policy acts in
+    let gone = deletions acts in
+    let held = held_after acts in
     let f : Entry → ℕ = λ e. cond (eqb e.number n) 1 0 in
     let in_range : sum_by f (filed acts) ≡ 1 =
     sym (sum_by-map (λ k. cond (eqb k n) 1 0) (λ (e : Entry). e.number) (filed acts))
@@ -217,9 +357,9 @@ stands_once limits policy acts h n below =
     omega (
       arith,
       in_range,
-      sum_by-IsPermutation f (filed acts) (journaled acts ++ gone ++ last.held) all.one_place,
-      sum_by-append f (journaled acts ++ gone) last.held,
+      sum_by-IsPermutation f (filed acts) (journaled acts ++ gone ++ held) all.one_place,
+      sum_by-append f (journaled acts ++ gone) held,
       sum_by-append f (journaled acts) gone,
-      sum_by-flat_map f (λ t. t.held) (tables acts),
-      sum_by-flat_map f (λ m. taken_out m.before m.act.event) (acts_from limits policy empty_state acts),
+      sum_by-flat_map f (λ (x : Flushed). x.journal) (flushes acts),
+      sum_by-flat_map f (λ (m : ActOver). taken_out m.held m.act.event m.act.reply) (acts_over [] acts),
     )

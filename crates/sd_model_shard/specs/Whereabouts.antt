@@ -1,12 +1,13 @@
 -- Where each sample of a history is, and which rows its tables have.
 use Rattle.std.specs.Prelude.{◌≡◌, ℕ, ◌+◌, ◌==◌, min, sum_by, count_by, List, [], ◌∷◌, ◌++◌, length, map, fold, flat_map, filter_map, Option, Some, None, ⊤}
-use Rattle.std.specs.List.{range_with_len}
+use Rattle.std.specs.List.{range_with_len, AllByRecursion}
 use Rattle.std.specs.List.Sorted.{IsPermutation, IsStrictlyIncreasing}
 use Rattle.sd_model_text.specs.Lines.{Sample}
-use Rattle.sd_model_shard.specs.Rows.{Rows, Entry, row_of, touched}
-use Rattle.sd_model_shard.specs.Shard.{State, empty_state, Limits, Policy, Placed, Taken, Dropped, Cause, Table, Event, Submit, Swap, Delete, Reply, Answered, Swapped, Deleted, carried, last_number}
+use Rattle.sd_model_shard.specs.Rows.{Rows, Entry}
+use Rattle.sd_model_shard.specs.Summaries.{touched, is_listed, samples_in, Tell}
+use Rattle.sd_model_shard.specs.Shard.{State, Limits, Policy, Placed, Taken, Dropped, Cause, Table, Event, Submit, Swap, Delete, Reply, Answered, Swapped, Deleted, carried, last_number}
 use Rattle.sd_model_shard.specs.Commands.{rows_left, entries_taken_out}
-use Rattle.sd_model_shard.specs.History.{History, acts_from, state_after}
+use Rattle.sd_model_shard.specs.History.{Act, History, held_by, held_after, state_after}
 
 -- a good sample, and who brought it
 pub record Arrival : Type 0 where
@@ -63,22 +64,49 @@ table_in reply = None
 abbrev pub tables : History → List Table
 tables acts = filter_map (λ a. table_in a.reply) acts
 
--- the journals: the entries that the swaps took out
+-- an act, and the entries held before it
+pub record ActOver : Type 0 where
+  pub held : List Entry
+  pub act : Act
+
+-- the acts, each with the entries held before it, from some on
+abbrev pub acts_over : List Entry → History → List ActOver
+acts_over held [] = []
+acts_over held (a ∷ acts) = record { held = held; act = a } ∷ acts_over (held_by held a.who a.event a.reply) acts
+
+-- the table that a swap handed out, and its journal: the entries that it took
+pub record Flushed : Type 0 where
+  pub table : Table
+  pub journal : List Entry
+
+-- what an act over these entries flushed, if it is a swap
+abbrev pub flushed_by : List Entry → Event → Reply → List Flushed
+flushed_by held Swap (Swapped table) = record { table = table; journal = held } ∷ []
+flushed_by held event reply = []
+
+-- what the swaps flushed, in order, from some entries on
+abbrev pub flushes_from : List Entry → History → List Flushed
+flushes_from held acts = flat_map (λ m. flushed_by m.held m.act.event m.act.reply) (acts_over held acts)
+
+abbrev pub flushes : History → List Flushed
+flushes acts = flushes_from [] acts
+
+-- the journals, one after another
 abbrev pub journaled : History → List Entry
-journaled acts = flat_map (λ t. t.held) (tables acts)
+journaled acts = flat_map (λ f. f.journal) (flushes acts)
 
--- the entries that an event deletes
-abbrev pub taken_out : State → Event → List Entry
-taken_out state (Delete kind pattern) = entries_taken_out kind pattern state.held
-taken_out state event = []
+-- the entries of those held that an event deletes, as it was answered
+abbrev pub taken_out : List Entry → Event → Reply → List Entry
+taken_out held (Delete kind pattern) (Deleted keys rows samples) = entries_taken_out kind pattern held
+taken_out held event reply = []
 
--- the entries that deletions took out, from a state on
-abbrev pub deleted_from : Limits → Policy → State → History → List Entry
-deleted_from limits policy state acts = flat_map (λ m. taken_out m.before m.act.event) (acts_from limits policy state acts)
+-- the entries that deletions took out, from some on
+abbrev pub deleted_from : List Entry → History → List Entry
+deleted_from held acts = flat_map (λ m. taken_out m.held m.act.event m.act.reply) (acts_over held acts)
 
 -- those of a whole history
-abbrev pub deletions : Limits → Policy → History → List Entry
-deletions limits policy acts = deleted_from limits policy empty_state acts
+abbrev pub deletions : History → List Entry
+deletions acts = deleted_from [] acts
 
 -- how many samples a reply takes: 1 where it took one, and else 0
 abbrev pub taken_in : Reply → ℕ
@@ -90,12 +118,12 @@ abbrev pub dropped_in : Reply → ℕ
 dropped_in (Answered (Dropped cause)) = 1
 dropped_in reply = 0
 
--- how many entries a reply hands out
+-- how many samples the rows have that a reply hands out
 abbrev pub flushed_in : Reply → ℕ
-flushed_in (Swapped table) = length table.held
+flushed_in (Swapped table) = samples_in table.live
 flushed_in reply = 0
 
--- how many entries a reply deletes
+-- how many samples a reply deletes
 abbrev pub deleted_in : Reply → ℕ
 deleted_in (Deleted keys rows samples) = samples
 deleted_in reply = 0
@@ -113,50 +141,60 @@ pub record AreSums (acts : History) (last : State) : Type 0 where
 
 -- Each sample submitted has one fate. Those that were taken have the numbers 0, 1, 2 and so on, and stand, each once,
 -- in the journals of the swaps, in what the deletions took out, or among the entries held; the others were dropped.
--- The journals, and behind them the entries held, are in the order in which they came.
-pub record Places (acts : History) (gone : List Entry) (last : State) : Type 0 where
+-- The journals, and behind them the entries held, are in the order in which they came. The state counts them.
+pub record Places (acts : History) (last : State) : Type 0 where
   pub one_fate : map (λ f. f.arrival) (fates acts) ≡ arrivals acts
   pub own_number : map (λ e. e.number) (filed acts) ≡ range_with_len 0 last.taken
-  pub one_place : IsPermutation (filed acts) (journaled acts ++ gone ++ last.held)
-  pub in_order : IsStrictlyIncreasing (map (λ e. e.number) (journaled acts ++ last.held))
+  pub one_place : IsPermutation (filed acts) (journaled acts ++ deletions acts ++ held_after acts)
+  pub in_order : IsStrictlyIncreasing (map (λ e. e.number) (journaled acts ++ held_after acts))
   pub flushed : last.flushed ≡ length (journaled acts)
-  pub deleted : last.deleted ≡ length gone
+  pub deleted : last.deleted ≡ length (deletions acts)
   pub dropped : last.dropped ≡ min (length (causes acts)) last_number
-  pub sum : last.taken ≡ last.flushed + last.deleted + length last.held
+  pub held : last.held ≡ length (held_after acts)
+  pub sum : last.taken ≡ last.flushed + last.deleted + last.held
 
--- A history is accounted for by its replies, what its deletions took out, and the state after it.
+-- A history is accounted for by its replies and the state after it.
 abbrev pub Accounted : Limits → Policy → History → Type 0
-Accounted limits policy acts = Places acts (deletions limits policy acts) (state_after limits policy acts)
+Accounted limits policy acts = Places acts (state_after limits policy acts)
 
 -- how often a number stands among entries
 abbrev pub times : ℕ → List Entry → ℕ
 times number entries = count_by (λ e. e.number == number) entries
 
 -- A number stands once, in the journal of one swap, in what one deletion took out, or among the entries held.
-abbrev pub StandsOnce : Limits → Policy → History → ℕ → Type 0
-StandsOnce limits policy acts number =
-    sum_by (λ t. times number t.held) (tables acts)
-    + sum_by (λ m. times number (taken_out m.before m.act.event)) (acts_from limits policy empty_state acts)
-    + times number (state_after limits policy acts).held ≡ 1
+abbrev pub StandsOnce : History → ℕ → Type 0
+StandsOnce acts number =
+    sum_by (λ f. times number f.journal) (flushes acts)
+    + sum_by (λ m. times number (taken_out m.held m.act.event m.act.reply)) (acts_over [] acts)
+    + times number (held_after acts) ≡ 1
+
+-- Summaries are documented: the tables that the swaps answered are those of the flushes, and each tells its journal; the rows of
+-- the state tell the entries held, and its number of listed samples is theirs.
+pub record AreDocumented (limits : Limits) (policy : Policy) (acts : History) : Type 0 where
+  pub handed_out : map (λ f. f.table) (flushes acts) ≡ tables acts
+  pub tables : AllByRecursion (λ f. Tell f.table.live f.journal) (flushes acts)
+  pub last : Tell (state_after limits policy acts).live (held_after acts)
+  pub listed : (state_after limits policy acts).listed ≡ count_by (λ e. is_listed e.sample.kind) (held_after acts)
 
 -- rows carried in, and the rows of entries taken since
 abbrev pub rows_with : Rows → List Entry → Rows
-rows_with live entries = fold (λ rows e. touched rows (row_of e.sample)) live entries
+rows_with live entries = fold (λ rows e. touched rows e.sample) live entries
 
 -- what is carried on after an act: a swap carries what its policy says, and a deletion leaves what it doesn't take out
 abbrev pub carried_on : Policy → Rows → Event → Reply → Rows
-carried_on policy carried_in Swap (Swapped table) = carried policy table.live table.held
+carried_on policy carried_in Swap (Swapped table) = carried policy table.live
 carried_on policy carried_in (Delete kind pattern) reply = rows_left kind pattern carried_in
 carried_on policy carried_in event reply = carried_in
 
 -- a table has the rows carried in and those of its own journal
-abbrev pub HasRows : Rows → Option Table → Type 0
-HasRows carried_in None = ⊤
-HasRows carried_in (Some table) = table.live ≡ rows_with carried_in table.held
+abbrev pub HasRows : Rows → List Flushed → Type 0
+HasRows carried_in [] = ⊤
+HasRows carried_in (f ∷ fs) = f.table.live ≡ rows_with carried_in f.journal
 
 -- The rows that each swap answers are those that the swap before left, without those deleted since, and those of its own
 -- journal.
-abbrev pub RowsAreCarried : Policy → Rows → History → Type 0
-RowsAreCarried policy carried_in [] = ⊤
-RowsAreCarried policy carried_in (a ∷ acts) =
-    HasRows carried_in (table_in a.reply) × RowsAreCarried policy (carried_on policy carried_in a.event a.reply) acts
+abbrev pub RowsAreCarried : Policy → Rows → List Entry → History → Type 0
+RowsAreCarried policy carried_in held [] = ⊤
+RowsAreCarried policy carried_in held (a ∷ acts) =
+    HasRows carried_in (flushed_by held a.event a.reply)
+    × RowsAreCarried policy (carried_on policy carried_in a.event a.reply) (held_by held a.who a.event a.reply) acts

@@ -2,17 +2,19 @@
 use Rattle.std.proofs.Common.{◌≡◌, ℕ, zero, suc, subst, ◌+◌, ◌<◌, ◌≤◌, Bool, true, false, cond, eqb, List, [], ◌∷◌, ◌++◌, length, map, refl, sym, ap, ◌∙◌, append-nil, arith}
 use Rattle.std.specs.Prelude.{not, fold, filter, sum_by, Result, Ok, Err, Option, Some, None}
 use Rattle.std.specs.List.{range_with_len}
+use Rattle.std.specs.FinMap.{empty}
 use Rattle.std.proofs.lemmas.List.{map-append, length-map, length-append}
 use Rattle.std.proofs.lemmas.List.Elements.{filter-append}
 use Rattle.std.proofs.lemmas.List.Sums.{sum_by-cons}
 use Rattle.std.proofs.Math.Nat.{mod-lt}
 use Rattle.sd_model_text.specs.Names.{Kind, fnv1a}
 use Rattle.sd_model_text.specs.Lines.{Sample, samples_of}
-use Rattle.sd_model_shard.specs.Rows.{Entry, row_of}
-use Rattle.sd_model_shard.specs.Commands.{is_hit, entries_taken_out}
-use Rattle.sd_model_shard.specs.Shard.{State, Cause, Limits, Policy, Event, Submit, Swap, Delete, Dump, step, admitted, refusal, after_swap, after_delete}
+use Rattle.sd_model_shard.specs.Rows.{Rows, Entry, row_of}
+use Rattle.sd_model_shard.specs.Commands.{is_hit, rows_left, entries_taken_out, entries_left}
+use Rattle.sd_model_shard.specs.Shard.{State, Cause, Limits, Policy, Event, Submit, Swap, Delete, Dump, step, admitted, refusal, carried, after_swap, after_delete}
 use Rattle.sd_model_shard.specs.History.{Asked, act_of, answered, part_of}
 use Rattle.sd_model_shard.specs.Whereabouts.{causes}
+use Rattle.sd_model_shard.proofs.CarriedLemmas.{Stands, Stands-empty, Stands-sample, Stands-swap, Stands-delete, deleted_told}
 use Rattle.sd_model_shard.proofs.OrderLemmas.{weighed_once}
 use Rattle.sd_model_record.specs.Admin as admin
 use Rattle.sd_model_record.specs.Admin.{AdminFault}
@@ -48,13 +50,16 @@ books_event b (Dump kind) = b
 abbrev pub books_step : Books → Asked → Books
 books_step b q = books_event b q.event
 
--- a state has the numbers of such books
+-- A state has the numbers of such books: its rows are those of entries, whose samples are the ones held.
 record Tells (state : State) (b : Books) : Type 0 where
   taken : state.taken ≡ length b.came
   dropped : state.dropped ≡ 0
   flushed : state.flushed ≡ length b.flushed
   deleted : state.deleted ≡ length b.deleted
-  held : map (λ e. e.sample) state.held ≡ b.held
+  carried_in : Rows
+  journal : List Entry
+  stands : Stands carried_in state journal
+  held : map (λ e. e.sample) journal ≡ b.held
 
 abbrev sample_in : Entry → Sample
 sample_in e = e.sample
@@ -66,38 +71,56 @@ filter-samples p (e ∷ held) = by_test (p e.sample) (filter-samples p held) whe
   by_test true h = ap (λ rest. e.sample ∷ rest) h
   by_test false h = h
 
-sample_tells : (state : State) (b : Books) (who : ℕ) (s : Sample) → Tells state b → Tells (admitted state who s None).state (books_event b (Submit s))
-sample_tells state b who s h = record {
-  taken = omega (arith, h.taken, length-append b.came (s ∷ []));
-  dropped = h.dropped;
-  flushed = h.flushed;
-  deleted = h.deleted;
-  held = map-append sample_in state.held (record { who = who; number = state.taken; sample = s } ∷ []) ∙ ap (λ (held : List Sample). held ++ s ∷ []) h.held;
-}
+sample_tells : (state : State) (b : Books) (who : ℕ) (s : Sample) → Tells state b → Tells (admitted state s None).state (books_event b (Submit s))
+sample_tells state b who s h =
+    let e : Entry = record { who = who; number = state.taken; sample = s } in
+    record {
+      taken = omega (arith, h.taken, length-append b.came (s ∷ []));
+      dropped = h.dropped;
+      flushed = h.flushed;
+      deleted = h.deleted;
+      carried_in = h.carried_in;
+      journal = h.journal ++ e ∷ [];
+      stands = Stands-sample h.carried_in state h.journal who s h.stands;
+      held = map-append sample_in h.journal (e ∷ []) ∙ ap (λ (held : List Sample). held ++ s ∷ []) h.held;
+    }
 
 swap_tells : (policy : Policy) (state : State) (b : Books) → Tells state b → Tells (after_swap policy state) (books_event b Swap)
 swap_tells policy state b h = record {
   taken = h.taken;
   dropped = h.dropped;
-  flushed = omega (arith, h.flushed, length-append b.flushed b.held, ap length h.held, length-map state.held sample_in);
+  flushed = omega (arith, h.flushed, h.stands.held, length-append b.flushed b.held, ap length h.held, length-map h.journal sample_in);
   deleted = h.deleted;
+  carried_in = carried policy state.live;
+  journal = [];
+  stands = Stands-swap policy state;
   held = refl;
 }
 
 delete_tells : (kind : Kind) (pattern : List ℕ) (state : State) (b : Books) → Tells state b → Tells (after_delete kind pattern state) (books_event b (Delete kind pattern))
 delete_tells kind pattern state b h =
-    let gone = filter-samples (is_hit_by kind pattern) state.held ∙ ap (filter (is_hit_by kind pattern)) h.held in
+    let gone = filter-samples (is_hit_by kind pattern) h.journal ∙ ap (filter (is_hit_by kind pattern)) h.held in
     record {
       taken = h.taken;
       dropped = h.dropped;
       flushed = h.flushed;
-      deleted = omega (arith, h.deleted, length-append b.deleted (filter (is_hit_by kind pattern) b.held), ap length gone, length-map (entries_taken_out kind pattern state.held) sample_in);
-      held = filter-samples (is_left_by kind pattern) state.held ∙ ap (filter (is_left_by kind pattern)) h.held;
+      deleted = omega (
+        arith,
+        h.deleted,
+        deleted_told kind pattern h.carried_in state h.journal h.stands,
+        length-append b.deleted (filter (is_hit_by kind pattern) b.held),
+        ap length gone,
+        length-map (entries_taken_out kind pattern h.journal) sample_in,
+      );
+      carried_in = rows_left kind pattern h.carried_in;
+      journal = entries_left kind pattern h.journal;
+      stands = Stands-delete kind pattern h.carried_in state h.journal h.stands;
+      held = filter-samples (is_left_by kind pattern) h.journal ∙ ap (filter (is_left_by kind pattern)) h.held;
     }
 
 sample_taken : (limits : Limits) (policy : Policy) (state : State) (who : ℕ) (s : Sample) (answer : Option Cause) (asked : List Asked) (b : Books) → Tells state b
-    → causes (record { who = who; event = Submit s; reply = (admitted state who s answer).reply } ∷ answered limits policy (admitted state who s answer).state asked) ≡ []
-    → (causes (answered limits policy (admitted state who s answer).state asked) ≡ []) × Tells (admitted state who s answer).state (books_event b (Submit s))
+    → causes (record { who = who; event = Submit s; reply = (admitted state s answer).reply } ∷ answered limits policy (admitted state s answer).state asked) ≡ []
+    → (causes (answered limits policy (admitted state s answer).state asked) ≡ []) × Tells (admitted state s answer).state (books_event b (Submit s))
 sample_taken limits policy state who s None asked b h none = (none, sample_tells state b who s h)
 sample_taken limits policy state who s (Some cause) asked b h none = absurd (cc)
 
@@ -105,10 +128,10 @@ tells_asked : (limits : Limits) (policy : Policy) (state : State) (b : Books) (a
 tells_asked limits policy state b [] h none = h
 tells_asked limits policy state b (q ∷ asked) h none =
     let parts = by_event q.who q.event none in
-    tells_asked limits policy (step limits policy state q.who q.event).state (books_step b q) asked parts.1 parts.0 where
+    tells_asked limits policy (step limits policy state q.event).state (books_step b q) asked parts.1 parts.0 where
       by_event : (who : ℕ) (event : Event)
-          → causes (act_of limits policy state who event ∷ answered limits policy (step limits policy state who event).state asked) ≡ []
-          → (causes (answered limits policy (step limits policy state who event).state asked) ≡ []) × Tells (step limits policy state who event).state (books_event b event)
+          → causes (act_of limits policy state who event ∷ answered limits policy (step limits policy state event).state asked) ≡ []
+          → (causes (answered limits policy (step limits policy state event).state asked) ≡ []) × Tells (step limits policy state event).state (books_event b event)
       by_event who (Submit s) none = sample_taken limits policy state who s (refusal limits state s) asked b h none
       by_event who Swap none = (none, swap_tells policy state b h)
       by_event who (Delete kind pattern) none = (none, delete_tells kind pattern state b h)
@@ -234,18 +257,18 @@ pub record AreSummed (bounds : Bounds) (run : Run) (b : Books) : Type 0 where
   pub taken : summed bounds.shards run.shards (λ state. state.taken) ≡ length b.came
   pub dropped : summed bounds.shards run.shards (λ state. state.dropped) ≡ 0
   pub flushed : summed bounds.shards run.shards (λ state. state.flushed) ≡ length b.flushed
-  pub held : summed bounds.shards run.shards (λ state. length state.held) ≡ length b.held
+  pub held : summed bounds.shards run.shards (λ state. state.held) ≡ length b.held
   pub deleted : summed bounds.shards run.shards (λ state. state.deleted) ≡ length b.deleted
 
 pub books_summed : (bounds : Bounds) → 1 ≤ bounds.shards → (played : List Played) → NoneDropped bounds played → AreSummed bounds (run_of bounds (first_run played) played) (books_of no_books played)
 books_summed bounds some played none =
     let b = books_of no_books played in
     let last = (run_of bounds (first_run played) played).shards in
-    let h = shares_after bounds (first_run played) no_books played (λ i below. record { taken = refl; dropped = refl; flushed = refl; deleted = refl; held = refl }) none in
+    let h = shares_after bounds (first_run played) no_books played (λ i below. record { taken = refl; dropped = refl; flushed = refl; deleted = refl; carried_in = empty; journal = []; stands = Stands-empty; held = refl }) none in
     record {
       taken = sum_of_parts bounds some (λ i. (last i).taken) b.came (λ i below. (h i below).taken);
       dropped = none_summed (λ i. (last i).dropped) bounds.shards 0 bounds.shards (omega arith) (λ i below. (h i below).dropped);
       flushed = sum_of_parts bounds some (λ i. (last i).flushed) b.flushed (λ i below. (h i below).flushed);
-      held = sum_of_parts bounds some (λ i. length (last i).held) b.held (λ i below. sym (length-map (last i).held sample_in) ∙ ap length (h i below).held);
+      held = sum_of_parts bounds some (λ i. (last i).held) b.held (λ i below. (h i below).stands.held ∙ sym (length-map (h i below).journal sample_in) ∙ ap length (h i below).held);
       deleted = sum_of_parts bounds some (λ i. (last i).deleted) b.deleted (λ i below. (h i below).deleted);
     }

@@ -10,7 +10,7 @@ use Rattle.sd_model_shard.specs.Shard.{State, Cause, Limits, Policy, Event, Subm
 use Rattle.sd_model_shard.specs.History.{Act, History, Asked, answered, part_of}
 use Rattle.sd_model_shard.specs.Whereabouts.{Fate, causes, cause_in, fate_in, fates}
 use Rattle.sd_model_shard.proofs.AnsweredLemmas.{answered-append}
-use Rattle.sd_model_shard.proofs.DeletionLemmas.{same_row}
+use Rattle.sd_model_shard.proofs.DeletionLemmas.{same_row, get-rows_left}
 use Rattle.sd_model_record.specs.Admin as admin
 use Rattle.sd_model_record.specs.Admin.{AdminFault}
 use Rattle.sd_model_replay.specs.Settings.{Bounds}
@@ -18,7 +18,7 @@ use Rattle.sd_model_replay.specs.Script.{Command, Packet, Flush, Admin}
 use Rattle.sd_model_record.specs.Replies.{admin_events}
 use Rattle.sd_model_serve.specs.Receiving.{administrator, flusher}
 use Rattle.sd_model_replay.specs.Replay.{home_of, events_in, acts_in, Run}
-use Rattle.sd_model_shards.proofs.ViewLemmas.{View, nothing, view, row_event, row_step, view-asked, view-delete, after_asked}
+use Rattle.sd_model_shards.proofs.ViewLemmas.{View, nothing, view, row_event, row_step, view-asked, after_asked}
 
 abbrev pub submits : ℕ → List Sample → List Asked
 submits who samples = map (λ s. record { who = who; event = Submit s }) samples
@@ -128,7 +128,7 @@ seen_left kind name seen id = cond (not (is_hit kind name id)) (seen id) nothing
 
 pub Reflects-delete : (kind : Kind) (name : List ℕ) (shards : ℕ) (states : ℕ → State) (seen : RowId → View) → Reflects shards states seen → Reflects shards (λ i. after_delete kind name (states i)) (seen_left kind name seen)
 Reflects-delete kind name shards states seen h i below id =
-    view-delete kind name (states i) id ∙ ap (λ (v : View). cond (not (is_hit kind name id)) v nothing) (h i below id) ∙ by_shard (eqb i (shard id.key shards)) where
+    get-rows_left kind name (states i).live id ∙ ap (λ (v : View). cond (not (is_hit kind name id)) v nothing) (h i below id) ∙ by_shard (eqb i (shard id.key shards)) where
       by_shard : (b : Bool) → cond (not (is_hit kind name id)) (cond b (seen id) nothing) nothing ≡ cond b (seen_left kind name seen id) nothing
       by_shard true = refl
       by_shard false = same_or_none (not (is_hit kind name id)) nothing

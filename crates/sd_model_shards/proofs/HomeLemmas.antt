@@ -5,18 +5,19 @@ use Rattle.std.specs.Prelude.{⊤, Option, Some, None, not, option_map, option_a
 use Rattle.std.specs.List.{AllByRecursion, IsDistinct, list_any, range_with_len}
 use Rattle.std.specs.Ordering.{nat_cmp, eq_by_cmp}
 use Rattle.std.specs.Cmp.Lexicographic.{slice_cmp}
-use Rattle.std.specs.FinMap.{contains_key, entries, entries_sorted, find, get, get-empty, get-insert, get-entries, retain_keys}
+use Rattle.std.specs.FinMap.{contains_key, entries, entries_sorted, find, get, get-empty, get-entries, retain_keys}
 use Rattle.std.specs.FinMap.Entries.{is_some-find}
 use Rattle.std.proofs.lemmas.Bool.{eqb-true}
 use Rattle.std.proofs.lemmas.List.{map-append}
 use Rattle.sd_model_text.specs.Names.{Kind, shard}
 use Rattle.sd_model_text.specs.Lines.{Sample, samples_of}
-use Rattle.sd_model_shard.specs.Rows.{RowId, row_cmp, Kept, row_of, base_of, is_same_row}
+use Rattle.sd_model_shard.specs.Rows.{RowId, row_cmp, Kept, row_of, is_same_row}
+use Rattle.sd_model_shard.specs.Summaries.{sampled, row_in}
 use Rattle.sd_model_shard.specs.Commands.{DumpRow, dump_of, dump_row, is_hit, is_of_kind, keys_of, rows_taken_out}
 use Rattle.sd_model_shard.specs.Shard.{State, Cause, Limits, Policy, Event, Submit, Swap, Delete, Dump, step, admitted, refusal, left_of, after_swap, after_delete, empty_state, Table}
 use Rattle.sd_model_shard.specs.History.{Asked, part_of}
 use Rattle.sd_model_shard.proofs.RowLemmas.{rows_total}
-use Rattle.sd_model_shard.proofs.CarriedLemmas.{get-carried}
+use Rattle.sd_model_shard.proofs.SummaryLemmas.{get-carried, get-touched}
 use Rattle.sd_model_shard.proofs.DeletionLemmas.{get-rows_left}
 use Rattle.sd_model_shard.proofs.EntryLemmas.{StandApart, StandApart-sorted}
 use Rattle.sd_model_record.specs.Admin as admin
@@ -46,24 +47,23 @@ neither : (b : Bool) (o : Option Kept) → o ≡ None → cond b o None ≡ None
 neither true o h = h
 neither false o h = refl
 
-absent_sample : (state : State) (who : ℕ) (s : Sample) (answer : Option Cause) (id : RowId) → is_same_row id (row_of s) ≡ false → get state.live id ≡ None → get (admitted state who s answer).state.live id ≡ None
-absent_sample state who s None id foreign none =
-    let kept : Kept = record { base = base_of state.live (row_of s); swaps = 0 } in
-    get-insert rows_total state.live (row_of s) kept id ∙ ap (λ t. cond t (Some kept) (get state.live id)) foreign ∙ none
-absent_sample state who s (Some cause) id foreign none = none
+absent_sample : (state : State) (s : Sample) (answer : Option Cause) (id : RowId) → is_same_row id (row_of s) ≡ false → get state.live id ≡ None → get (admitted state s answer).state.live id ≡ None
+absent_sample state s None id foreign none =
+    get-touched state.live s id ∙ ap (λ t. cond t (Some (sampled s.kind (row_in state.live (row_of s)) s)) (get state.live id)) foreign ∙ none
+absent_sample state s (Some cause) id foreign none = none
 
 absent_delete : (kind : Kind) (pattern : List ℕ) (state : State) (id : RowId) → get state.live id ≡ None → get (after_delete kind pattern state).live id ≡ None
 absent_delete kind pattern state id none = get-rows_left kind pattern state.live id ∙ neither (not (is_hit kind pattern id)) (get state.live id) none
 
-absent_step : (limits : Limits) (policy : Policy) (state : State) (who : ℕ) (event : Event) (id : RowId) → IsForeign id event → get state.live id ≡ None → get (step limits policy state who event).state.live id ≡ None
-absent_step limits policy state who (Submit s) id foreign none = absent_sample state who s (refusal limits state s) id foreign none
-absent_step limits policy state who Swap id foreign none = get-carried policy state.live state.held id ∙ ap (option_and_then (left_of policy state.held id)) none
-absent_step limits policy state who (Delete kind pattern) id foreign none = absent_delete kind pattern state id none
-absent_step limits policy state who (Dump kind) id foreign none = none
+absent_step : (limits : Limits) (policy : Policy) (state : State) (event : Event) (id : RowId) → IsForeign id event → get state.live id ≡ None → get (step limits policy state event).state.live id ≡ None
+absent_step limits policy state (Submit s) id foreign none = absent_sample state s (refusal limits state s) id foreign none
+absent_step limits policy state Swap id foreign none = get-carried policy state.live id ∙ ap (option_and_then (left_of policy id)) none
+absent_step limits policy state (Delete kind pattern) id foreign none = absent_delete kind pattern state id none
+absent_step limits policy state (Dump kind) id foreign none = none
 
 absent_asked : (limits : Limits) (policy : Policy) (state : State) (asked : List Asked) (id : RowId) → AreForeign id asked → get state.live id ≡ None → get (after_asked limits policy state asked).live id ≡ None
 absent_asked limits policy state [] id foreign none = none
-absent_asked limits policy state (q ∷ asked) id foreign none = absent_asked limits policy (step limits policy state q.who q.event).state asked id foreign.1 (absent_step limits policy state q.who q.event id foreign.0 none)
+absent_asked limits policy state (q ∷ asked) id foreign none = absent_asked limits policy (step limits policy state q.event).state asked id foreign.1 (absent_step limits policy state q.event id foreign.0 none)
 
 -- the samples of a shard are of none of the rows of others
 pub foreign_samples : (shards i : ℕ) (id : RowId) → eqb i (shard id.key shards) ≡ false → (who : ℕ) (samples : List Sample) → AreForeign id (submits who (part_of (λ s. shard s.key shards) i samples))
@@ -111,7 +111,7 @@ pub AtHome-delete : (kind : Kind) (name : List ℕ) (shards : ℕ) (states : ℕ
 AtHome-delete kind name shards states h i id away = absent_delete kind name (states i) id (h i id away)
 
 pub AtHome-swap : (policy : Policy) (shards : ℕ) (states : ℕ → State) → AtHome shards states → AtHome shards (λ i. after_swap policy (states i))
-AtHome-swap policy shards states h i id away = get-carried policy (states i).live (states i).held id ∙ ap (option_and_then (left_of policy (states i).held id)) (h i id away)
+AtHome-swap policy shards states h i id away = get-carried policy (states i).live id ∙ ap (option_and_then (left_of policy id)) (h i id away)
 
 -- a row stands in the shard of its key
 pub home_of_row : (shards : ℕ) (states : ℕ → State) → AtHome shards states → (i : ℕ) (id : RowId) → contains_key (states i).live id ≡ true → shard id.key shards ≡ i
@@ -164,9 +164,9 @@ module _ (shards : ℕ) (states : ℕ → State) (h : AtHome shards states) wher
   all_keys_once kind name =
       told_apart (λ (key : List ℕ). key) kind (is_hit kind name) (hit_of_kind kind name) (λ state row. row.0.key) (λ state e. refl) (λ i below. keys_once kind name (states i).live)
 
-  pub all_rows_once : (kind : Kind) → StandOnce (λ (row : DumpRow). row.key) (flat_map (λ i. dump_of kind (states i).live (states i).held) (range_with_len 0 shards))
+  pub all_rows_once : (kind : Kind) → StandOnce (λ (row : DumpRow). row.key) (flat_map (λ i. dump_of kind (states i).live) (range_with_len 0 shards))
   all_rows_once kind =
-      told_apart (λ (row : DumpRow). row.key) kind (is_of_kind kind) (λ id is. is) (λ state. dump_row state.held) (λ state e. refl) (λ i below. rows_once kind (states i).live (states i).held)
+      told_apart (λ (row : DumpRow). row.key) kind (is_of_kind kind) (λ id is. is) (λ state. dump_row) (λ state e. refl) (λ i below. rows_once kind (states i).live)
 
 -- the tables of a round are at home, as states are
 abbrev pub TablesAtHome : ℕ → (ℕ → Table) → Type 0

@@ -37,26 +37,26 @@ use Rattle.sd_model_settings.specs.Settings.{Settings, plan_of, names_of}
 
 -- events of which none is dropped are answered with no drop
 sample_answered : (limits : Limits) (policy : Policy) (state : State) (who : ℕ) (s : Sample) (answer : Option Cause) (asked : List Asked)
-    → (causes (answered limits policy (admitted state who s answer).state asked) ≡ [] → sum_by dropped_in (map (λ (a : Act). a.reply) (answered limits policy (admitted state who s answer).state asked)) ≡ 0)
-    → causes (record { who = who; event = Submit s; reply = (admitted state who s answer).reply } ∷ answered limits policy (admitted state who s answer).state asked) ≡ []
-    → sum_by dropped_in ((admitted state who s answer).reply ∷ map (λ (a : Act). a.reply) (answered limits policy (admitted state who s answer).state asked)) ≡ 0
+    → (causes (answered limits policy (admitted state s answer).state asked) ≡ [] → sum_by dropped_in (map (λ (a : Act). a.reply) (answered limits policy (admitted state s answer).state asked)) ≡ 0)
+    → causes (record { who = who; event = Submit s; reply = (admitted state s answer).reply } ∷ answered limits policy (admitted state s answer).state asked) ≡ []
+    → sum_by dropped_in ((admitted state s answer).reply ∷ map (λ (a : Act). a.reply) (answered limits policy (admitted state s answer).state asked)) ≡ 0
 sample_answered limits policy state who s None asked rest none =
-    omega (arith, rest none, sum_by-cons dropped_in ((admitted state who s None).reply) (map (λ (a : Act). a.reply) (answered limits policy (admitted state who s None).state asked)))
+    omega (arith, rest none, sum_by-cons dropped_in ((admitted state s None).reply) (map (λ (a : Act). a.reply) (answered limits policy (admitted state s None).state asked)))
 sample_answered limits policy state who s (Some cause) asked rest none = absurd (cc)
 
 none_answered : (limits : Limits) (policy : Policy) (state : State) (asked : List Asked) → causes (answered limits policy state asked) ≡ [] → sum_by dropped_in (map (λ (a : Act). a.reply) (answered limits policy state asked)) ≡ 0
 none_answered limits policy state [] none = refl
-none_answered limits policy state (q ∷ asked) none = by_event q.who q.event (λ h. none_answered limits policy (step limits policy state q.who q.event).state asked h) none where
+none_answered limits policy state (q ∷ asked) none = by_event q.who q.event (λ h. none_answered limits policy (step limits policy state q.event).state asked h) none where
   by_event : (who : ℕ) (event : Event)
-      → (causes (answered limits policy (step limits policy state who event).state asked) ≡ [] → sum_by dropped_in (map (λ (a : Act). a.reply) (answered limits policy (step limits policy state who event).state asked)) ≡ 0)
-      → causes (act_of limits policy state who event ∷ answered limits policy (step limits policy state who event).state asked) ≡ []
-      → sum_by dropped_in ((step limits policy state who event).reply ∷ map (λ (a : Act). a.reply) (answered limits policy (step limits policy state who event).state asked)) ≡ 0
+      → (causes (answered limits policy (step limits policy state event).state asked) ≡ [] → sum_by dropped_in (map (λ (a : Act). a.reply) (answered limits policy (step limits policy state event).state asked)) ≡ 0)
+      → causes (act_of limits policy state who event ∷ answered limits policy (step limits policy state event).state asked) ≡ []
+      → sum_by dropped_in ((step limits policy state event).reply ∷ map (λ (a : Act). a.reply) (answered limits policy (step limits policy state event).state asked)) ≡ 0
   by_event who (Submit s) rest none = sample_answered limits policy state who s (refusal limits state s) asked rest none
-  by_event who Swap rest none = omega (arith, rest none, sum_by-cons dropped_in ((step limits policy state who Swap).reply) (map (λ (a : Act). a.reply) (answered limits policy (step limits policy state who Swap).state asked)))
+  by_event who Swap rest none = omega (arith, rest none, sum_by-cons dropped_in ((step limits policy state Swap).reply) (map (λ (a : Act). a.reply) (answered limits policy (step limits policy state Swap).state asked)))
   by_event who (Delete kind pattern) rest none =
-      omega (arith, rest none, sum_by-cons dropped_in ((step limits policy state who (Delete kind pattern)).reply) (map (λ (a : Act). a.reply) (answered limits policy (step limits policy state who (Delete kind pattern)).state asked)))
+      omega (arith, rest none, sum_by-cons dropped_in ((step limits policy state (Delete kind pattern)).reply) (map (λ (a : Act). a.reply) (answered limits policy (step limits policy state (Delete kind pattern)).state asked)))
   by_event who (Dump kind) rest none =
-      omega (arith, rest none, sum_by-cons dropped_in ((step limits policy state who (Dump kind)).reply) (map (λ (a : Act). a.reply) (answered limits policy state asked)))
+      omega (arith, rest none, sum_by-cons dropped_in ((step limits policy state (Dump kind)).reply) (map (λ (a : Act). a.reply) (answered limits policy state asked)))
 
 -- a sum over all shards of what is 0 in each
 pub none_summed : (f : ℕ → ℕ) (shards start count : ℕ) → start + count ≤ shards → ((i : ℕ) → i < shards → f i ≡ 0) → sum_by f (range_with_len start count) ≡ 0
@@ -205,9 +205,9 @@ module _ (settings : Settings) (n m : ℕ) (some_n : 1 ≤ n) (some_m : 1 ≤ m)
   line_alike one another seen moment line (Ok admin.Quit) is shows h = refl
   line_alike one another seen moment line (Ok (admin.Show kind)) is shows h = ap (λ rows. Rows kind rows ∷ []) (
       ap (λ answer. rows_told (answers_at (bounds_of S) one.shards (admin_events answer) 0)) is
-      ∙ ap (in_key_order (λ row. row.key)) (flat_map-map rows_in (λ i. Dumped (dump_of kind (one.shards i).live (one.shards i).held)) (range_with_len 0 n))
+      ∙ ap (in_key_order (λ row. row.key)) (flat_map-map rows_in (λ i. Dumped (dump_of kind (one.shards i).live)) (range_with_len 0 n))
       ∙ rows_alike n m some_n some_m one.shards another.shards seen h.left h.right kind
-      ∙ sym (ap (in_key_order (λ row. row.key)) (flat_map-map rows_in (λ i. Dumped (dump_of kind (another.shards i).live (another.shards i).held)) (range_with_len 0 m)))
+      ∙ sym (ap (in_key_order (λ row. row.key)) (flat_map-map rows_in (λ i. Dumped (dump_of kind (another.shards i).live)) (range_with_len 0 m)))
       ∙ sym (ap (λ answer. rows_told (answers_at (bounds_of T) another.shards (admin_events answer) 0)) is))
   line_alike one another seen moment line (Ok (admin.Delete kind names)) is shows h = ap (λ replies. replies ++ Finish ∷ []) (
       names_told names (answers_at (bounds_of S) one.shards (admin_events (admin.command line))) (answers_at (bounds_of T) another.shards (admin_events (admin.command line))) (λ k.

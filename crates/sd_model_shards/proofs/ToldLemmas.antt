@@ -1,89 +1,25 @@
 -- What records, deletions and dumps tell of a row: what is seen of it.
-use Rattle.std.proofs.Common.{◌≡◌, ℕ, ◌*◌, ◌<◌, ◌≤◌, Bool, true, false, cond, eqb, List, [], ◌∷◌, length, map, refl, sym, ap, ◌∙◌}
-use Rattle.std.specs.Prelude.{Option, Some, None, option_map, flat_map, ℤ, pos}
+use Rattle.std.proofs.Common.{◌≡◌, ℕ, ◌<◌, ◌≤◌, Bool, true, false, cond, eqb, List, [], ◌∷◌, map, refl, sym, ap, ◌∙◌}
+use Rattle.std.specs.Prelude.{Option, Some, None, option_map, flat_map}
 use Rattle.std.specs.List.{range_with_len}
 use Rattle.std.specs.Ordering.{nat_cmp, eq_by_cmp}
 use Rattle.std.specs.Cmp.Lexicographic.{slice_cmp, nat_list_cmp_total}
 use Rattle.std.specs.FinMap.{FinMap, get, entries, find, from_entries, retain_keys, get-entries, get-retain_keys, nat_cmp-IsAntisymmetric, slice_cmp-IsAntisymmetric}
 use Rattle.std.proofs.lemmas.Bool.{eq-eqb}
-use Rattle.std.proofs.lemmas.List.{length-map}
-use Rattle.std.proofs.lemmas.List.Folds.{fold-map}
-use Rattle.std.proofs.lemmas.Simd.{map-map}
-use Rattle.sd_model_text.specs.Names.{Kind, Counter, Timer, Gauge, Set, rank, shard}
-use Rattle.sd_model_text.specs.Lines.{Sample}
-use Rattle.sd_model_text.specs.Numbers.{per_second}
+use Rattle.sd_model_text.specs.Names.{Kind, rank, shard}
 use Rattle.sd_model_settings.specs.Settings.{Plan}
-use Rattle.sd_model_shard.specs.Rows.{RowId, row_cmp, Kept, Rows, Entry, entries_of}
-use Rattle.sd_model_shard.specs.Values.{total, distinct}
-use Rattle.sd_model_shard.specs.Statistics.{sample_weight, weight_of, values_of, members_of, gauge_value, gauge_after, amount_by}
+use Rattle.sd_model_shard.specs.Rows.{RowId, row_cmp, Kept, Rows}
 use Rattle.sd_model_shard.specs.Commands.{DumpRow, dump_row, dump_of, in_key_order, is_hit, is_of_kind, keys_of, rows_taken_out}
 use Rattle.sd_model_shard.specs.Shard.{State, table_of}
 use Rattle.sd_model_shard.proofs.RowLemmas.{rows_exact, rows_total}
 use Rattle.sd_model_shard.proofs.DeletionLemmas.{same_row}
-use Rattle.sd_model_record.specs.Record.{Row, CounterRow, TimerRow, GaugeRow, SetRow, timer_figures, row_of_kind, row_value, table_rows}
+use Rattle.sd_model_record.specs.Record.{Row, row_value, table_rows}
 use Rattle.sd_model_shard.proofs.ToldLemmas.{by_key}
 use Rattle.sd_model_record.proofs.OrderLemmas.{by_key-flat_map, AreOfKind, retained_of_kind, hit_of_kind, tie_by_key}
 use Rattle.sd_model_replay.proofs.AccountingLemmas.{in_range}
-use Rattle.sd_model_shards.proofs.ViewLemmas.{View, nothing, view, came_to, gauge_from}
+use Rattle.sd_model_shards.proofs.ViewLemmas.{View, nothing, view}
 use Rattle.sd_model_shards.proofs.EventsLemmas.{Reflects}
 use Rattle.sd_model_shards.proofs.MergedLemmas.{merged_alike}
-
--- what a row's samples come to, by the samples alone
-abbrev weight_in : RowId → List Sample → ℤ
-weight_in id came = total (map (sample_weight id.kind) came)
-
-abbrev values_in : List Sample → List ℤ
-values_in came = map (λ s. s.value) came
-
-abbrev members_in : List Sample → List (List ℕ)
-members_in came = map (λ s. s.member) came
-
-weight-seen : (id : RowId) (held : List Entry) → weight_of id held ≡ weight_in id (came_to id held)
-weight-seen id held = ap total (sym (map-map (sample_weight id.kind) (λ (e : Entry). e.sample) (entries_of id held)))
-
-values-seen : (id : RowId) (held : List Entry) → values_of id held ≡ values_in (came_to id held)
-values-seen id held = sym (map-map (λ (s : Sample). s.value) (λ (e : Entry). e.sample) (entries_of id held))
-
-members-seen : (id : RowId) (held : List Entry) → members_of id held ≡ members_in (came_to id held)
-members-seen id held = sym (map-map (λ (s : Sample). s.member) (λ (e : Entry). e.sample) (entries_of id held))
-
-gauge-seen : (id : RowId) (base : ℤ) (held : List Entry) → gauge_value id base held ≡ gauge_from base (came_to id held)
-gauge-seen id base held = sym (fold-map gauge_after (λ (e : Entry). e.sample) base (entries_of id held))
-
-abbrev amount_in : Kind → RowId → ℤ → List Sample → ℤ
-amount_in Counter id base came = weight_in id came
-amount_in Timer id base came = total (values_in came)
-amount_in Gauge id base came = gauge_from base came
-amount_in Set id base came = pos (distinct (members_in came) * 1000000)
-
-amount-seen : (kind : Kind) (id : RowId) (base : ℤ) (held : List Entry) → amount_by kind id base held ≡ amount_in kind id base (came_to id held)
-amount-seen Counter id base held = weight-seen id held
-amount-seen Timer id base held = ap total (values-seen id held)
-amount-seen Gauge id base held = gauge-seen id base held
-amount-seen Set id base held = ap (λ members. pos (distinct members * 1000000)) (members-seen id held)
-
--- a row of a record
-abbrev row_in : Kind → Plan → List Sample → RowId → Kept → Row
-row_in Counter plan came id kept = CounterRow id.key (weight_in id came) (per_second (weight_in id came) plan.interval_ms)
-row_in Timer plan came id kept = TimerRow id.key (timer_figures plan id.key (weight_in id came) (values_in came))
-row_in Gauge plan came id kept = GaugeRow id.key (gauge_from kept.base came)
-row_in Set plan came id kept = SetRow id.key (distinct (members_in came))
-
-row-seen : (kind : Kind) (plan : Plan) (held : List Entry) (id : RowId) (kept : Kept) → row_of_kind kind plan held id kept ≡ row_in kind plan (came_to id held) id kept
-row-seen Counter plan held id kept = ap (λ count. CounterRow id.key count (per_second count plan.interval_ms)) (weight-seen id held)
-row-seen Timer plan held id kept = λ k. TimerRow id.key (timer_figures plan id.key (weight-seen id held k) (values-seen id held k))
-row-seen Gauge plan held id kept = ap (GaugeRow id.key) (gauge-seen id kept.base held)
-row-seen Set plan held id kept = ap (λ members. SetRow id.key (distinct members)) (members-seen id held)
-
--- a row of a dump
-abbrev row_told : RowId → List Sample → Kept → DumpRow
-row_told id came kept = record { key = id.key; samples = length came; amount = amount_in id.kind id kept.base came }
-
-row-told : (held : List Entry) (id : RowId) (kept : Kept) → dump_row held (id, kept) ≡ row_told id (came_to id held) kept
-row-told held id kept =
-    let many = sym (length-map (entries_of id held) (λ (e : Entry). e.sample)) in
-    let amount = amount-seen id.kind id kept.base held in
-    λ k. record { key = id.key; samples = many k; amount = amount k }
 
 -- what is told of a row that isn't there is nothing
 masked : {X : Type 0} (f : View → Option X) (b : Bool) (v : View) → f nothing ≡ None → f (cond b v nothing) ≡ cond b (f v) None
@@ -114,34 +50,26 @@ module _ {X : Type 0} (key : X → List ℕ) (kind : Kind) where
         ∙ ap (option_map (λ kept. f (id, kept))) (sym (get-entries (retain_keys live p) id) ∙ get-retain_keys live p id (λ x tie. ap p (sym (rows_exact id x tie))))
 
     -- what is told of a row, by what is seen of it
-    module _ (f : State → RowId × Kept → X) (same : (state : State) (e : RowId × Kept) → key (f state e) ≡ e.0.key) (g : RowId → List Sample → Kept → X)
-        (reads : (state : State) (id : RowId) (kept : Kept) → f state (id, kept) ≡ g id (came_to id state.held) kept) where
+    module _ (f : RowId × Kept → X) (same : (e : RowId × Kept) → key (f e) ≡ e.0.key) where
       abbrev seen_told : List ℕ → View → Option X
-      seen_told q v = option_map (g (record { kind = kind; key = q }) v.came) (cond (p (record { kind = kind; key = q })) v.kept None)
+      seen_told q v = option_map (λ kept. f (record { kind = kind; key = q }, kept)) (cond (p (record { kind = kind; key = q })) v None)
 
       told_reflected : (shards : ℕ) (states : ℕ → State) (seen : RowId → View) → Reflects shards states seen → (q : List ℕ) (i : ℕ) → i < shards
-          → find (slice_cmp nat_cmp) q (by_key key (map (f (states i)) (entries (retain_keys (states i).live p)))) ≡ cond (eqb i (shard q shards)) (seen_told q (seen (record { kind = kind; key = q }))) None
+          → find (slice_cmp nat_cmp) q (by_key key (map f (entries (retain_keys (states i).live p)))) ≡ cond (eqb i (shard q shards)) (seen_told q (seen (record { kind = kind; key = q }))) None
       told_reflected shards states seen h q i below =
           let id : RowId = record { kind = kind; key = q } in
-          find_retained (f (states i)) (same (states i)) (states i).live q
-          ∙ by_kept (states i) id (cond (p id) (get (states i).live id) None)
-          ∙ ap (seen_told q) (h i below id)
-          ∙ masked (seen_told q) (eqb i (shard q shards)) (seen id) (none_told (p id)) where
-            by_kept : (state : State) (id : RowId) (o : Option Kept) → option_map (λ kept. f state (id, kept)) o ≡ option_map (g id (came_to id state.held)) o
-            by_kept state id None = refl
-            by_kept state id (Some kept) = ap Some (reads state id kept)
-
-            none_told : (b : Bool) → option_map (g (record { kind = kind; key = q }) []) (cond b None None) ≡ None
+          find_retained f same (states i).live q ∙ ap (seen_told q) (h i below id) ∙ masked (seen_told q) (eqb i (shard q shards)) (seen id) (none_told (p id)) where
+            none_told : (b : Bool) → option_map (λ (kept : Kept). f (record { kind = kind; key = q }, kept)) (cond b None None) ≡ None
             none_told true = refl
             none_told false = refl
 
       pub told_alike : (n m : ℕ) → 1 ≤ n → 1 ≤ m → (states others : ℕ → State) (seen : RowId → View) → Reflects n states seen → Reflects m others seen
-          → in_key_order key (flat_map (λ i. map (f (states i)) (entries (retain_keys (states i).live p))) (range_with_len 0 n))
-          ≡ in_key_order key (flat_map (λ i. map (f (others i)) (entries (retain_keys (others i).live p))) (range_with_len 0 m))
+          → in_key_order key (flat_map (λ i. map f (entries (retain_keys (states i).live p))) (range_with_len 0 n))
+          ≡ in_key_order key (flat_map (λ i. map f (entries (retain_keys (others i).live p))) (range_with_len 0 m))
       told_alike n m some_n some_m states others seen h g' =
           let exact = slice_cmp-IsAntisymmetric nat_cmp-IsAntisymmetric in
-          let Told : ℕ → List X = λ i. map (f (states i)) (entries (retain_keys (states i).live p)) in
-          let Other : ℕ → List X = λ i. map (f (others i)) (entries (retain_keys (others i).live p)) in
+          let Told : ℕ → List X = λ i. map f (entries (retain_keys (states i).live p)) in
+          let Other : ℕ → List X = λ i. map f (entries (retain_keys (others i).live p)) in
           ap (λ es. map (λ (e : List ℕ × X). e.1) (entries (from_entries {R = slice_cmp nat_cmp} es))) (by_key-flat_map key Told (range_with_len 0 n))
           ∙ ap (λ (m : FinMap (slice_cmp nat_cmp) X). map (λ e. e.1) (entries m))
           (merged_alike (slice_cmp nat_cmp) nat_list_cmp_total exact (λ i. by_key key (Told i)) (λ i. by_key key (Other i)) n m (λ q. shard q n) (λ q. shard q m)
@@ -153,32 +81,29 @@ module _ (n m : ℕ) (some_n : 1 ≤ n) (some_m : 1 ≤ m) (states others : ℕ 
   pub keys_alike : (kind : Kind) (name : List ℕ)
       → in_key_order (λ key. key) (flat_map (λ i. keys_of (rows_taken_out kind name (states i).live)) (range_with_len 0 n)) ≡ in_key_order (λ key. key) (flat_map (λ i. keys_of (rows_taken_out kind name (others i).live)) (range_with_len 0 m))
   keys_alike kind name =
-      told_alike (λ (key : List ℕ). key) kind (is_hit kind name) (hit_of_kind kind name) (λ state row. row.0.key) (λ state e. refl) (λ id came kept. id.key) (λ state id kept. refl) n m some_n some_m states others seen h g
+      told_alike (λ (key : List ℕ). key) kind (is_hit kind name) (hit_of_kind kind name) (λ row. row.0.key) (λ e. refl) n m some_n some_m states others seen h g
 
   pub rows_alike : (kind : Kind)
-      → in_key_order (λ row. row.key) (flat_map (λ i. dump_of kind (states i).live (states i).held) (range_with_len 0 n)) ≡ in_key_order (λ row. row.key) (flat_map (λ i. dump_of kind (others i).live (others i).held) (range_with_len 0 m))
+      → in_key_order (λ row. row.key) (flat_map (λ i. dump_of kind (states i).live) (range_with_len 0 n)) ≡ in_key_order (λ row. row.key) (flat_map (λ i. dump_of kind (others i).live) (range_with_len 0 m))
   rows_alike kind =
-      told_alike (λ (row : DumpRow). row.key) kind (is_of_kind kind) (λ id is. is) (λ state. dump_row state.held) (λ state e. refl) row_told (λ state id kept. row-told state.held id kept) n m some_n some_m states others seen h g
+      told_alike (λ (row : DumpRow). row.key) kind (is_of_kind kind) (λ id is. is) dump_row (λ e. refl) n m some_n some_m states others seen h g
 
 -- the rows of the tables of all shards
 module _ (plan : Plan) where
   abbrev value_told : RowId → View → Option Row
-  value_told q v = option_map (row_in q.kind plan v.came q) v.kept
+  value_told q v = option_map (row_value plan q) v
 
-  pub find_value : (held : List Entry) (q : RowId) (es : List (RowId × Kept)) → find row_cmp q (map (λ e. (e.0, row_value plan held e.0 e.1)) es) ≡ option_map (row_value plan held q) (find row_cmp q es)
-  find_value held q [] = refl
-  find_value held q (e ∷ es) = by_tie (eq_by_cmp row_cmp q e.0) refl (find_value held q es) where
+  find_value : (q : RowId) (es : List (RowId × Kept)) → find row_cmp q (map {B = RowId × Row} (λ e. (e.0, row_value plan e.0 e.1)) es) ≡ option_map (row_value plan q) (find row_cmp q es)
+  find_value q [] = refl
+  find_value q (e ∷ es) = by_tie (eq_by_cmp row_cmp q e.0) refl (find_value q es) where
     by_tie : (b : Bool) → eq_by_cmp row_cmp q e.0 ≡ b
-        → find row_cmp q (map (λ e. (e.0, row_value plan held e.0 e.1)) es) ≡ option_map (row_value plan held q) (find row_cmp q es)
-        → cond b (Some (row_value plan held e.0 e.1)) (find row_cmp q (map (λ e. (e.0, row_value plan held e.0 e.1)) es)) ≡ option_map (row_value plan held q) (cond b (Some e.1) (find row_cmp q es))
-    by_tie true is rest = ap (λ (id : RowId). Some (row_value plan held id e.1)) (sym (same_row q e.0 is))
+        → find row_cmp q (map {B = RowId × Row} (λ e. (e.0, row_value plan e.0 e.1)) es) ≡ option_map (row_value plan q) (find row_cmp q es)
+        → cond b (Some (row_value plan e.0 e.1)) (find row_cmp q (map {B = RowId × Row} (λ e. (e.0, row_value plan e.0 e.1)) es)) ≡ option_map (row_value plan q) (cond b (Some e.1) (find row_cmp q es))
+    by_tie true is rest = ap (λ (id : RowId). Some (row_value plan id e.1)) (sym (same_row q e.0 is))
     by_tie false is rest = rest
 
   value_seen : (state : State) (q : RowId) → find row_cmp q (table_rows plan (table_of state)) ≡ value_told q (view state q)
-  value_seen state q = find_value state.held q (entries state.live) ∙ ap (option_map (row_value plan state.held q)) (sym (get-entries state.live q)) ∙ by_kept (get state.live q) where
-    by_kept : (o : Option Kept) → option_map (row_value plan state.held q) o ≡ option_map (row_in q.kind plan (came_to q state.held) q) o
-    by_kept None = refl
-    by_kept (Some kept) = ap Some (row-seen q.kind plan state.held q kept)
+  value_seen state q = find_value q (entries state.live) ∙ ap (option_map (row_value plan q)) (sym (get-entries state.live q))
 
   value_reflected : (shards : ℕ) (states : ℕ → State) (seen : RowId → View) → Reflects shards states seen → (q : RowId) (i : ℕ) → i < shards
       → find row_cmp q (table_rows plan (table_of (states i))) ≡ cond (eqb i (shard q.key shards)) (value_told q (seen q)) None

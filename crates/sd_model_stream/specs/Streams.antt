@@ -1,14 +1,15 @@
 -- The lines of a stream, each of which is read as a datagram is; streams that were read one after another, what their lines asked
 -- of the shards and counted for; and what a cutter holds of a stream that comes piece by piece.
-use Rattle.std.specs.Prelude.{◌≡◌, ℕ, ◌+◌, ◌<◌, Bool, true, false, List, [], ◌∷◌, length, flat_map, sum_by, All, if◌then◌else◌, nat_le, map, ◌==◌, ◌++◌, suc}
-use Rattle.std.specs.List.{concat, list_any, AllZip}
+use Rattle.std.specs.Prelude.{◌≡◌, ⊤, ℕ, ◌+◌, ◌<◌, Bool, true, false, List, [], ◌∷◌, length, flat_map, sum_by, All, if◌then◌else◌, nat_le, map, ◌==◌, ◌++◌, suc}
+use Rattle.std.specs.List.{AllByRecursion, concat, list_any, AllZip}
 use Rattle.sd_model_outside.specs.Outside.{Object, IsAtEnd, Reads, Rose}
 use Rattle.sd_model_shard.specs.History.{History}
 use Rattle.sd_model_record.specs.Record.{Tally}
-use Rattle.sd_model_record.specs.Counts.{Part, HasCounted, plus, of_tally, of_sessions}
+use Rattle.sd_model_record.specs.DeskHistory.{DeskCall, DeskEvent, Add, AdminFault, Look}
+use Rattle.sd_model_record.specs.Counts.{Part, HasCalled, HasCounted, plus, of_tally, of_sessions}
 use Rattle.sd_model_serve.specs.Doors.{Visit, ServesDoor, faults_among}
 use Rattle.sd_model_serve.specs.Ends.{LoopEnd, most_turns}
-use Rattle.sd_model_serve.specs.Receiving.{HasFiled}
+use Rattle.sd_model_serve.specs.Receiving.{Addition, HasFiled, additions_in}
 use Rattle.sd_model_text.specs.Lists.{split}
 use Rattle.sd_model_text.specs.Lines.{Sample, samples_of, pieces, bad_of}
 
@@ -101,11 +102,34 @@ pub record ReadsStream (s : Stream) (source source_now : Object) : Type 0 where
   pub place : source_now.opened_at ≡ source.opened_at
   pub ends : EndsStream s.ended (length s.reads) source source_now
 
+-- the events at the desk of who reads lines: tallies are added, sessions that failed are counted, and the desk is looked at
+abbrev pub IsLining : DeskEvent → Type 0
+IsLining (Add tally now) = ⊤
+IsLining AdminFault = ⊤
+IsLining Look = ⊤
+IsLining event = ⊥
+
+-- A read of a stream was counted so: as no packet, at a moment that the clock may say.
+pub record IsCountOfRead (says : ℕ → Type 0) (a : Addition) : Type 0 where
+  pub packets : a.tally.packets ≡ 0
+  pub moment : says a.now
+
+-- The calls of who read so many times of streams: each read was counted once, and besides only sessions that failed.
+pub record CountsReads (says : ℕ → Type 0) (reads : ℕ) (calls : List DeskCall) : Type 0 where
+  pub only : AllByRecursion (λ c. IsLining c.event) calls
+  pub each : AllByRecursion (IsCountOfRead says) (additions_in calls)
+  pub count : length (additions_in calls) ≡ reads
+
+-- how many reads there were of streams
+abbrev pub reads_in : List Stream → ℕ
+reads_in streams = sum_by (λ s. length s.reads) streams
+
 -- A stream was so read, the samples of its lines were submitted, and what they count for was added at the desk.
-pub record HasStreamed (shards : ℕ) (s : Stream) (source source_now : Object) (own own_now : ℕ → History) (part part_now : Part) (tally : Tally) (taken : ℕ) : Type 0 where
+pub record HasStreamed (says : ℕ → Type 0) (shards : ℕ) (s : Stream) (source source_now : Object) (own own_now : ℕ → History) (part part_now : Part) (tally : Tally) (taken : ℕ) : Type 0 where
   pub read : ReadsStream s source source_now
   pub filed : FilesLines shards (stream_lines (bytes_in s)) own own_now tally taken
   pub counted : HasCounted (of_tally tally) part part_now
+  pub called : HasCalled (CountsReads says (length s.reads)) part part_now
 
 -- whether the reading of a stream ended since its source failed
 abbrev pub ends_by_failure : StreamEnd → Bool
@@ -133,13 +157,14 @@ AreStreamsOf = AllZip IsStreamOf
 
 -- The sessions of a door were read as streams, one after another, and given back. The samples of their lines were submitted,
 -- and what they count for was added at the desk, with each failure of the door and each session that is a fault.
-pub record ServesStreams (shards : ℕ) (streams : List Stream) (own own_now : ℕ → History) (door door_now : Object) (part part_now : Part) (tally : Tally) (taken : ℕ) : Type 0 where
+pub record ServesStreams (says : ℕ → Type 0) (shards : ℕ) (streams : List Stream) (own own_now : ℕ → History) (door door_now : Object) (part part_now : Part) (tally : Tally) (taken : ℕ) : Type 0 where
   pub visits : List Visit
   pub failures : ℕ
   pub served : ServesDoor visits failures door door_now
   pub went : AreStreamsOf visits streams
   pub filed : FilesLines shards (lines_in streams) own own_now tally taken
   pub counted : HasCounted (plus (of_tally tally) (of_sessions (failures + faults_among visits))) part part_now
+  pub called : HasCalled (CountsReads says (reads_in streams)) part part_now
 
 -- What a keeper of lines did: the sessions of its door that it read, each as the stream that it was; the door's failures; and how it
 -- ended.

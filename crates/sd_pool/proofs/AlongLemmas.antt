@@ -1,7 +1,7 @@
 -- Lists side by side.
 use Rattle.std.proofs.Common.{◌≡◌, ℕ, zero, suc, ◌+◌, ◌<◌, ◌≤◌, List, [], ◌∷◌, ◌++◌, length, get_or, set, take, drop, refl, sym, ap, subst, arith}
 use Rattle.std.specs.List.{AllByRecursion}
-use Rattle.sd_seats.specs.Lists.{span}
+use Rattle.sd_turn.specs.Lists.{span}
 use Rattle.sd_pool.specs.Along.{Along, Walked}
 
 module _ {X T : Type 0} (R : X → X → T → Type 0) where

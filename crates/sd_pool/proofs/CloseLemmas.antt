@@ -11,8 +11,8 @@ use Rattle.sd_model_shard.specs.History.{Act, History, Legal, state_after}
 use Rattle.sd_model_shard.specs.Whereabouts.{told_by}
 use Rattle.sd_model_serve.specs.Receiving.{acts_by}
 use Rattle.sd_shard.specs.declared.shard.ShardBook.{ShardBook}
-use Rattle.sd_seats.specs.Lists.{total, span}
-use Rattle.sd_seats.proofs.Totals.{total-map}
+use Rattle.sd_turn.specs.Lists.{total, span}
+use Rattle.sd_turn.proofs.Totals.{total-map}
 use Rattle.sd_turn.specs.Entries.{Begins, entries_by}
 use Rattle.sd_turn.specs.Turn.{opened_with, seats_of, number_of, seen, own, IsSeatOf as IsTurnSeatOf}
 use Rattle.sd_pool.specs.Setup.{Setup, IsOwn, who_of}
@@ -32,7 +32,7 @@ use Rattle.sd_pool.specs.declared.seat.Seat.{Seat}
 use Rattle.sd_pool.proofs.WhoLemmas.{acts_own, Begins-acts, own_acts}
 use Rattle.sd_pool.proofs.SeatLemmas.{at_map, seat_at}
 use Rattle.sd_pool.proofs.AlongLemmas.{Along-long, drop_more, drop_at}
-use Rattle.sd_pool.proofs.ShareLemmas.{total_by_number}
+use Rattle.sd_turn.proofs.Sums.{total_by_number}
 
 -- the seats that were moved are of the first turn, and the others are of the rest
 module _ (t : ShardTurn) (turns : List ShardTurn) where

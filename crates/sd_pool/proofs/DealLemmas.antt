@@ -5,7 +5,7 @@ use Rattle.std.specs.List.{AllByRecursion}
 use Rattle.std.proofs.lemmas.Bool.{cases_lt, eqb-true, ltb-true, lt-ltb}
 use Rattle.std.proofs.lemmas.List.{map_push, length-map}
 use Rattle.sd_model_shard.specs.Shard.{Limits, Policy}
-use Rattle.sd_seats.specs.Lists.{span}
+use Rattle.sd_turn.specs.Lists.{span}
 use Rattle.sd_turn.specs.declared.stepped.Stepped.{Ghosts}
 use Rattle.sd_turn.specs.declared.turn.Turn.{Turn}
 use Rattle.sd_turn.specs.declared.turn_seat.TurnSeat.{TurnSeat}

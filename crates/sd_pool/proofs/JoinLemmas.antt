@@ -3,7 +3,7 @@ use Rattle.std.proofs.Common.{◌≡◌, ◌≢◌, ℕ, zero, suc, ◌+◌, ◌
 use Rattle.std.specs.List.{AllByRecursion}
 use Rattle.std.proofs.lemmas.Bool.{ne_eqb}
 use Rattle.std.proofs.lemmas.List.{length-map}
-use Rattle.sd_seats.specs.Lists.{span}
+use Rattle.sd_turn.specs.Lists.{span}
 use Rattle.sd_model_shard.specs.History.{History}
 use Rattle.sd_model_serve.specs.Receiving.{flusher, administrator, acts_by}
 use Rattle.sd_model_serve.specs.Rounds.{JoinsAs}

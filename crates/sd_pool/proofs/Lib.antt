@@ -6,7 +6,6 @@ mod FirstLemmas
 pub mod JoinLemmas
 pub mod OwnLemmas
 mod SeatLemmas
-mod ShareLemmas
 mod StandsLemmas
 mod ToldLemmas
 mod WhoLemmas

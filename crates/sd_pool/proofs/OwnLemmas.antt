@@ -1,14 +1,14 @@
 -- A shard that has rows of its own keys alone gets no others by a step of its own.
 use Rattle.std.proofs.Common.{◌≡◌, ℕ, Bool, true, false, cond, eqb, eq-eqb, refl, sym, ap, ◌∙◌}
 use Rattle.std.specs.Prelude.{Option, Some, None, not, option_and_then}
-use Rattle.std.specs.FinMap.{get, get-insert, get-empty}
+use Rattle.std.specs.FinMap.{get, get-empty}
 use Rattle.sd_model_text.specs.Names.{shard}
 use Rattle.sd_model_text.specs.Lines.{Sample}
-use Rattle.sd_model_shard.specs.Rows.{RowId, row_cmp, Kept, row_of, base_of, is_same_row}
+use Rattle.sd_model_shard.specs.Rows.{RowId, row_cmp, Kept, row_of, is_same_row}
+use Rattle.sd_model_shard.specs.Summaries.{sampled, row_in}
 use Rattle.sd_model_shard.specs.Commands.{is_hit}
 use Rattle.sd_model_shard.specs.Shard.{State, Cause, Event, Submit, Swap, Delete, Dump, empty_state, step, admitted, refusal, left_of}
-use Rattle.sd_model_shard.proofs.RowLemmas.{rows_total}
-use Rattle.sd_model_shard.proofs.CarriedLemmas.{get-carried}
+use Rattle.sd_model_shard.proofs.SummaryLemmas.{get-carried, get-touched}
 use Rattle.sd_model_shard.proofs.DeletionLemmas.{get-rows_left, same_row}
 use Rattle.sd_pool.specs.Setup.{Setup, IsOwn, OnlyOf}
 
@@ -23,18 +23,18 @@ other_row i shards id s own away = by_tie (is_same_row id (row_of s)) refl where
   by_tie true is = absurd (let both : eqb i (shard id.key shards) ≡ true = eq-eqb i (shard id.key shards) (sym own ∙ ap (λ (r : RowId). shard r.key shards) (sym (same_row id (row_of s) is))) in let clash = sym both ∙ away in cc)
   by_tie false is = refl
 
-none_sampled : (state : State) (who : ℕ) (s : Sample) (answer : Option Cause) (id : RowId) → is_same_row id (row_of s) ≡ false → get state.live id ≡ None → get (admitted state who s answer).state.live id ≡ None
-none_sampled state who s None id other none =
-    let kept : Kept = record { base = base_of state.live (row_of s); swaps = 0 } in
-    get-insert rows_total state.live (row_of s) kept id ∙ ap (λ t. cond t (Some kept) (get state.live id)) other ∙ none
-none_sampled state who s (Some cause) id other none = none
+none_sampled : (state : State) (s : Sample) (answer : Option Cause) (id : RowId) → is_same_row id (row_of s) ≡ false → get state.live id ≡ None → get (admitted state s answer).state.live id ≡ None
+none_sampled state s None id other none =
+    let kept : Kept = sampled s.kind (row_in state.live (row_of s)) s in
+    get-touched state.live s id ∙ ap (λ t. cond t (Some kept) (get state.live id)) other ∙ none
+none_sampled state s (Some cause) id other none = none
 
-pub OnlyOf-step : (setup : Setup) (state : State) (who : ℕ) (event : Event) → IsOwn setup event → OnlyOf setup.shard setup.shards state.live → OnlyOf setup.shard setup.shards (step setup.limits setup.policy state who event).state.live
-OnlyOf-step setup state who (Submit s) own only id away =
-    none_sampled state who s (refusal setup.limits state s) id (other_row setup.shard setup.shards id s own away) (only id away)
-OnlyOf-step setup state who Swap own only id away = get-carried setup.policy state.live state.held id ∙ ap (option_and_then (left_of setup.policy state.held id)) (only id away)
-OnlyOf-step setup state who (Delete kind pattern) own only id away = get-rows_left kind pattern state.live id ∙ neither (not (is_hit kind pattern id)) (get state.live id) (only id away)
-OnlyOf-step setup state who (Dump kind) own only id away = only id away
+pub OnlyOf-step : (setup : Setup) (state : State) (event : Event) → IsOwn setup event → OnlyOf setup.shard setup.shards state.live → OnlyOf setup.shard setup.shards (step setup.limits setup.policy state event).state.live
+OnlyOf-step setup state (Submit s) own only id away =
+    none_sampled state s (refusal setup.limits state s) id (other_row setup.shard setup.shards id s own away) (only id away)
+OnlyOf-step setup state Swap own only id away = get-carried setup.policy state.live id ∙ ap (option_and_then (left_of setup.policy id)) (only id away)
+OnlyOf-step setup state (Delete kind pattern) own only id away = get-rows_left kind pattern state.live id ∙ neither (not (is_hit kind pattern id)) (get state.live id) (only id away)
+OnlyOf-step setup state (Dump kind) own only id away = only id away
 
 pub OnlyOf-empty : (i shards : ℕ) → OnlyOf i shards empty_state.live
 OnlyOf-empty i shards id away = get-empty row_cmp id

@@ -18,16 +18,16 @@ All-push P (y ∷ xs) x all here = (all.0, All-push P xs x all.1 here)
 pub acts-push : (log : List Noted) (n : Noted) → acts (log ++ n ∷ []) ≡ acts log ++ n.act ∷ []
 acts-push log n = map_push (λ (m : Noted). m.act) log n
 
-pub Stands-push : (old new : Behind) (log : List Noted) (n : Noted) → Stands old log → Steps old new n.act.who n.act.event n.act.reply → IsOwn (setup_of old) n.act.event
+pub Stands-push : (old new : Behind) (log : List Noted) (n : Noted) → Stands old log → Steps old new n.act.event n.act.reply → IsOwn (setup_of old) n.act.event
     → n.number < old.receivers + 2 → n.act.who ≡ who_of old.receivers n.number → Stands new (log ++ n ∷ [])
 Stands-push old new log n stands steps own below mine =
     let f = setup_of old in
     let before = state_after f.limits f.policy (acts log) in
     let a = n.act in
     let legal : Legal f.limits f.policy (acts log ++ a ∷ []) =
-    LegalFrom-push f.limits f.policy empty_state (acts log) a stands.legal.legal (steps.reply ∙ ap (λ (s : State). (step f.limits f.policy s a.who a.event).reply) stands.state) in
+    LegalFrom-push f.limits f.policy empty_state (acts log) a stands.legal.legal (steps.reply ∙ ap (λ (s : State). (step f.limits f.policy s a.event).reply) stands.state) in
     let left : state_of new.shard ≡ state_after f.limits f.policy (acts log ++ a ∷ []) =
-    steps.state ∙ ap (λ (s : State). (step f.limits f.policy s a.who a.event).state) stands.state ∙ sym (fold_push (after f.limits f.policy) empty_state (acts log) a) in
+    steps.state ∙ ap (λ (s : State). (step f.limits f.policy s a.event).state) stands.state ∙ sym (fold_push (after f.limits f.policy) empty_state (acts log) a) in
     let all : IsLegal f (log ++ n ∷ []) = record {
       legal = subst (Legal f.limits f.policy) (sym (acts-push log n)) legal;
       own = All-push (λ m. IsOwn f m.act.event) log n stands.legal.own own;

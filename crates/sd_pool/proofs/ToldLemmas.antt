@@ -47,14 +47,14 @@ module _ (b : Behind) (kind : Kind) where
       room = same;
     }
 
-  module _ (old new : DumpList) (is : Appends (dump_of kind (live_of b.shard.table) b.shard.table.held) (rows_of old) (rows_of new)) where
-    told_rows : in_key_order (λ row. row.key) (beyond (rows_of old) (rows_of new)) ≡ dump_of kind (live_of b.shard.table) b.shard.table.held
+  module _ (old new : DumpList) (is : Appends (dump_of kind (live_of b.shard.table)) (rows_of old) (rows_of new)) where
+    told_rows : in_key_order (λ row. row.key) (beyond (rows_of old) (rows_of new)) ≡ dump_of kind (live_of b.shard.table)
     told_rows =
         let t = b.shard.table in
-        ap (in_key_order (λ (row : DumpRow). row.key)) (beyond-appended (dump_of kind (live_of t) t.held) (rows_of old) (rows_of new) is)
-        ∙ told_in_any_order (λ (row : DumpRow). row.key) (dump_row t.held) (λ e. refl) (rank kind) (live_of t) (is_of_kind kind) (λ id hit. eqb-true (rank id.kind) (rank kind) hit) is.0 is.2
+        ap (in_key_order (λ (row : DumpRow). row.key)) (beyond-appended (dump_of kind (live_of t)) (rows_of old) (rows_of new) is)
+        ∙ told_in_any_order (λ (row : DumpRow). row.key) dump_row (λ e. refl) (rank kind) (live_of t) (is_of_kind kind) (λ id hit. eqb-true (rank id.kind) (rank kind) hit) is.0 is.2
 
-    pub shown_told : shown_of (rows_of old) (rows_of new) ≡ model.Dumped (dump_of kind (live_of b.shard.table) b.shard.table.held)
+    pub shown_told : shown_of (rows_of old) (rows_of new) ≡ model.Dumped (dump_of kind (live_of b.shard.table))
     shown_told = ap model.Dumped told_rows
 
     pub rows_go_on : length new.items ≤ length old.items + b.shard.table.limits.rows → new.room ≡ old.room → RowsGoOn (setup_of b) old new

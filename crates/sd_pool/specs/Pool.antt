@@ -45,7 +45,7 @@ turns_in turns = map (λ t. t.turn) turns
 -- of no shard
 abbrev pub no_setup : Setup
 no_setup =
-    record { limits = record { rows = 0; entries = 0 }; policy = record { counters = false; timers = false; gauges = false; sets = false; max_ttl = 0 }; shard = 0; shards = 0; receivers = 0 }
+    record { limits = record { rows = 0; entries = 0; sums_on_arrival = false }; policy = record { counters = false; timers = false; gauges = false; sets = false; max_ttl = 0 }; shard = 0; shards = 0; receivers = 0 }
 
 -- what is fixed of shard i, by the turns
 abbrev pub setup_in : List ShardTurn → ℕ → Setup

@@ -3,7 +3,7 @@ ghost use Rattle.std.specs.Prelude.{◌≡◌, ◌+◌, ◌<◌, ◌≤◌, [], 
 ghost use Rattle.std.specs.List.{AllByRecursion};
 ghost use Rattle.sd_epoch.specs.Limits.{limits_of as limits_seen, AreLimits};
 ghost use Rattle.sd_shard.specs.Policy.{policy_of as policy_seen};
-ghost use Rattle.sd_seats.specs.Lists.{span};
+ghost use Rattle.sd_turn.specs.Lists.{span};
 ghost use Rattle.sd_turn.specs.Turn.{opened_with, number_of, seats_of, IsNewSeatOf as IsNewTurnSeatOf};
 ghost use Rattle.sd_pool.specs.Behind.{setup_of};
 ghost use Rattle.sd_pool.specs.Along.{Along};

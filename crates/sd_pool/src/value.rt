@@ -96,39 +96,38 @@ impl ShardValue {
         self.shard.book()
     }
 
-    fn sample(&mut self, who: Who, s: &Sample) -> Placed
+    fn sample(&mut self, s: &Sample) -> Placed
         requires own { shard s.now.key self.old.shards ≡ self.old.number }
-        ensures step { IsStep self.old self.new who.0 (Submit s.now) (Answered (placed_of result)) }
+        ensures step { IsStep self.old self.new (Submit s.now) (Answered (placed_of result)) }
     {
-        self.shard.sample(who, s)
+        self.shard.sample(s)
     }
 
-    fn delete(&mut self, who: Who, kind: Kind, pattern: &Pattern, out: &mut Keys) -> Deleted
+    fn delete(&mut self, kind: Kind, pattern: &Pattern, out: &mut Keys) -> Deleted
         requires room { length out.old.items + self.old.shard.table.limits.rows ≤ out.old.room }
-        ensures step { IsStep self.old self.new who.0 (Delete (kind_of kind) pattern.now) (gone_of out.old.items out.new.items result) }
+        ensures step { IsStep self.old self.new (Delete (kind_of kind) pattern.now) (gone_of out.old.items out.new.items result) }
         ensures out { KeysGoOn (setup_of self.old) out.old out.new result }
     {
         // It has no more rows than its limits say, for which there is room.
-        let _ = (who, self.shard.rows());
+        let _ = self.shard.rows();
         self.shard.delete(kind, pattern, out)
     }
 
-    fn dump(&mut self, who: Who, kind: Kind, out: &mut Dump)
+    fn dump(&mut self, kind: Kind, out: &mut Dump)
         requires room { length out.old.items + self.old.shard.table.limits.rows ≤ out.old.room }
-        ensures step { IsStep self.old self.new who.0 (DumpOf (kind_of kind)) (shown_of (rows_of out.old) (rows_of out.new)) }
+        ensures step { IsStep self.old self.new (DumpOf (kind_of kind)) (shown_of (rows_of out.old) (rows_of out.new)) }
         ensures out { RowsGoOn (setup_of self.old) out.old out.new }
     {
         // It has no more rows than its limits say, for which there is room.
-        let _ = (who, self.shard.rows());
+        let _ = self.shard.rows();
         self.shard.dump(kind, out);
     }
 
-    fn swap(&mut self, who: Who, spare: Table) -> Table
+    fn swap(&mut self, spare: Table) -> Table
         requires spare { IsSpare self.old.shard.table.limits spare }
-        ensures step { IsStep self.old self.new who.0 Swap (Swapped (table_of result)) }
+        ensures step { IsStep self.old self.new Swap (Swapped (table_of result)) }
         ensures table { IsOwnTable (setup_of self.old) result }
     {
-        let _ = who;
         swap_shard(&mut self.shard, spare)
     }
 }
@@ -164,10 +163,11 @@ impl Stepped for ShardValue {
     ghost replies = { Replies };
 
     fn apply(&mut self, number: u16, ask: ShardAsk) -> ShardReply {
-        let who = caller(self.receivers, number);
+        // (what a shard does is one for all callers)
+        let _ = number;
         match ask {
             ShardAsk::Sample { samples } => {
-                let placed = self.sample(who, &samples[0]);
+                let placed = self.sample(&samples[0]);
                 ShardReply::Placed { placed, samples }
             }
             ShardAsk::Delete {
@@ -175,7 +175,7 @@ impl Stepped for ShardValue {
                 patterns,
                 mut out,
             } => {
-                let gone = self.delete(who, kind, &patterns[0], &mut out);
+                let gone = self.delete(kind, &patterns[0], &mut out);
                 ShardReply::Deleted {
                     gone,
                     patterns,
@@ -183,10 +183,10 @@ impl Stepped for ShardValue {
                 }
             }
             ShardAsk::Dump { kind, mut out } => {
-                self.dump(who, kind, &mut out);
+                self.dump(kind, &mut out);
                 ShardReply::Dumped(out)
             }
-            ShardAsk::Swap(spare) => ShardReply::Swapped(self.swap(who, spare)),
+            ShardAsk::Swap(spare) => ShardReply::Swapped(self.swap(spare)),
         }
     }
 

@@ -1,6 +1,6 @@
 -- What a receiver of a proxy did, one turn of its source after another.
-use Rattle.std.proofs.Common.{◌≡◌, ◌∙◌, ℕ, ◌+◌, ◌<◌, ◌≤◌, min, List, [], ◌∷◌, ◌++◌, length, length-append, append-nil, map, refl, sym, ap, subst, arith}
-use Rattle.std.specs.Prelude.{All, None, Some, flat_map}
+use Rattle.std.proofs.Common.{◌≡◌, ◌∙◌, ℕ, ◌+◌, ◌<◌, ◌≤◌, min, List, [], ◌∷◌, ◌++◌, length, length-append, append-nil, append_assoc, map, refl, sym, ap, subst, arith}
+use Rattle.std.specs.Prelude.{All, None, Some, flat_map, slice_get}
 use Rattle.std.specs.List.{last_or}
 use Rattle.std.proofs.lemmas.List.{map-append}
 use Rattle.std.proofs.lemmas.List.Concat.{flat_map-append, flat_map-cons}
@@ -13,10 +13,10 @@ use Rattle.sd_model_serve.specs.Ends.{EndsReceiver, most_turns}
 use Rattle.sd_model_proxy.specs.Routes.{Read, lines_of_read, no_totals}
 use Rattle.sd_model_proxy.specs.Relays.{IsRelay, Relay, relay_totals}
 use Rattle.sd_model_replay.specs.Totals.{Total}
-use Rattle.sd_model_live.specs.Proxy.{Begins, HaveAnswered}
-use Rattle.sd_model_live.proofs.LookLemmas.{answered_more, one_answered}
+use Rattle.sd_model_live.specs.Proxy.{Begins, HaveAnswered, last_place}
+use Rattle.sd_model_live.proofs.LookLemmas.{answered_more, begun, last_at, none_answered, one_answered}
 use Rattle.sd_proxy.specs.Forwarding.{Forwards}
-use Rattle.sd_proxy.specs.Proxying.{Proxies, ProxiesByLooks}
+use Rattle.sd_proxy.specs.Proxying.{LooksForEach, Proxies, ProxiesByLooks}
 use Rattle.sd_proxy.specs.Views.{end_view, totals_view}
 use Rattle.sd_outside.specs.declared.datagrams.Ended.{Ended}
 use Rattle.sd_proxy.specs.declared.proxied.Proxied.{Proxied}
@@ -37,8 +37,23 @@ abbrev pub under : ℕ → List Read → Type 0
 under up reads = All (λ (r : Read). r.up ≡ up) reads
 
 -- the nodes that were up for datagrams are what looks answered, one each
-abbrev pub looked : (history now : List ℕ) → List Read → Type 0
-looked history now reads = HaveAnswered history now (map (λ (r : Read). r.up) reads)
+pub record Looked (history now looks looks_now : List ℕ) (reads : List Read) : Type 0 where
+  pub each : LooksForEach now looks looks_now reads
+  pub answered : HaveAnswered history now (map (λ (r : Read). r.up) reads)
+
+-- no datagram, and no look
+pub looked-none : (history looks : List ℕ) → Looked history history looks looks []
+looked-none history looks = record { each = record { places = []; made = sym (append-nil looks); told = refl }; answered = none_answered history }
+
+-- what looks were told stands where the history went on
+told_on : (mid now : List ℕ) → Begins mid now → (places : List ℕ) (reads : List Read) → map (λ p. slice_get mid p) places ≡ map (λ (r : Read). Some r.up) reads → map (λ p. slice_get now p) places ≡ map (λ (r : Read). Some r.up) reads
+told_on mid now goes_on [] [] told = refl
+told_on mid now goes_on [] (r ∷ reads) told = absurd (cc)
+told_on mid now goes_on (p ∷ places) [] told = absurd (cc)
+told_on mid now goes_on (p ∷ places) (r ∷ reads) told =
+    let first : slice_get mid p ≡ Some r.up = cc in
+    let rest : map (λ p. slice_get mid p) places ≡ map (λ (r : Read). Some r.up) reads = cc in
+    λ i. begun mid now goes_on p r.up first i ∷ told_on mid now goes_on places reads rest i
 
 -- one datagram more
 pub under-next : (up : ℕ) (datagram : List ℕ) (reads : List Read) → under up reads → under up (reads ++ read_of datagram up ∷ [])
@@ -47,10 +62,19 @@ under-next up datagram reads all =
     All-append P reads (read_of datagram up ∷ []) all (All-cons P (read_of datagram up) [] refl (All-nil P))
 
 -- one datagram more, and its look
-pub looked-next : (history mid now : List ℕ) (up : ℕ) (datagram : List ℕ) → Begins mid now → last_or None now ≡ Some up → (reads : List Read) → looked history mid reads → looked history now (reads ++ read_of datagram up ∷ [])
-looked-next history mid now up datagram goes_on last reads looks =
-    subst (HaveAnswered history now) (sym (map-append (λ (r : Read). r.up) reads (read_of datagram up ∷ [])))
-    (answered_more history mid now (map (λ (r : Read). r.up) reads) (up ∷ []) looks (one_answered mid now up goes_on last))
+pub looked-next : (history mid now looks looks_mid looks_now : List ℕ) (up : ℕ) (datagram : List ℕ) → Begins mid now → last_or None now ≡ Some up → looks_now ≡ looks_mid ++ last_place now ∷ [] → (reads : List Read)
+    → Looked history mid looks looks_mid reads → Looked history now looks looks_now (reads ++ read_of datagram up ∷ [])
+looked-next history mid now looks looks_mid looks_now up datagram goes_on last one reads h =
+    let place = last_place now in
+    record {
+      each = record {
+        places = h.each.places ++ place ∷ [];
+        made = one ∙ ap (λ (l : List ℕ). l ++ place ∷ []) h.each.made ∙ append_assoc looks h.each.places (place ∷ []);
+        told = map-append (λ p. slice_get now p) h.each.places (place ∷ []) ∙ (λ i. told_on mid now goes_on h.each.places reads h.each.told i ++ last_at up now last i ∷ []) ∙ sym (map-append (λ (r : Read). Some r.up) reads (read_of datagram up ∷ []));
+      };
+      answered = subst (HaveAnswered history now) (sym (map-append (λ (r : Read). r.up) reads (read_of datagram up ∷ [])))
+          (answered_more history mid now (map (λ (r : Read). r.up) reads) (up ∷ []) h.answered (one_answered mid now up goes_on last));
+    }
 
 -- What a receiver did in so many turns of its source, in which the source didn't fail, and what is known of its datagrams.
 pub record Ran (nodes : List Node) (known : List Read → Type 0) (source source_now : Object) (took : ℕ) (wires wires_now : List Object) (totals : List Total) : Type 0 where
@@ -172,5 +196,5 @@ pub out_under : (nodes : List Node) (up : ℕ) (source now : Object) (wires wire
 out_under nodes up source now wires wires_now p out = record { relay = out.relay; under = out.are; relays = out.relays; totals = out.totals; ended = out.ended }
 
 -- what a receiver did by looks
-pub out_looked : (nodes : List Node) (history history_now : List ℕ) (source now : Object) (wires wires_now : List Object) (p : Proxied) → Out nodes (looked history history_now) source now wires wires_now p → ProxiesByLooks nodes history history_now source now wires wires_now p
-out_looked nodes history history_now source now wires wires_now p out = record { relay = out.relay; looks = out.are; relays = out.relays; totals = out.totals; ended = out.ended }
+pub out_looked : (nodes : List Node) (history history_now looks looks_now : List ℕ) (source now : Object) (wires wires_now : List Object) (p : Proxied) → Out nodes (Looked history history_now looks looks_now) source now wires wires_now p → ProxiesByLooks nodes history history_now looks looks_now source now wires wires_now p
+out_looked nodes history history_now looks looks_now source now wires wires_now p out = record { relay = out.relay; each = out.are.each; looks = out.are.answered; relays = out.relays; totals = out.totals; ended = out.ended }

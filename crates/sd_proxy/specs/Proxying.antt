@@ -1,8 +1,9 @@
 -- What a proxy did.
-use Rattle.std.specs.Prelude.{◌≡◌, ℕ, List, All, map}
+use Rattle.std.specs.Prelude.{◌≡◌, ℕ, List, All, map, ◌++◌, slice_get, Some}
 use Rattle.sd_model_outside.specs.Outside.{Object}
 use Rattle.sd_model_settings.specs.Entries.{Node}
 use Rattle.sd_model_proxy.specs.Relays.{IsRelay, Relay, relay_totals}
+use Rattle.sd_model_proxy.specs.Routes.{Read}
 use Rattle.sd_model_live.specs.Proxy.{HaveAnswered}
 use Rattle.sd_proxy.specs.Views.{end_view, totals_view}
 use Rattle.sd_proxy.specs.declared.proxied.Proxied.{Proxied}
@@ -16,10 +17,18 @@ pub record Proxies (nodes : List Node) (up : ℕ) (source source_now : Object) (
   pub totals : totals_view p.totals ≡ relay_totals nodes relay
   pub ended : end_view p.ended ≡ relay.ended
 
+-- For each datagram one look was made, behind those before, and the nodes up for it are those of the set at the place that its look
+-- was told.
+pub record LooksForEach (history : List ℕ) (looks looks_now : List ℕ) (reads : List Read) : Type 0 where
+  pub places : List ℕ
+  pub made : looks_now ≡ looks ++ places
+  pub told : map (λ p. slice_get history p) places ≡ map (λ r. Some r.up) reads
+
 -- A receiver sent the lines of its datagrams on the wires of their owners, with the nodes up for each datagram that one look
 -- answered at the history of the sets, which went on meanwhile; and it left what it counted, and how it ended.
-pub record ProxiesByLooks (nodes : List Node) (history history_now : List ℕ) (source source_now : Object) (wires wires_now : List Object) (p : Proxied) : Type 0 where
+pub record ProxiesByLooks (nodes : List Node) (history history_now looks_before looks_now : List ℕ) (source source_now : Object) (wires wires_now : List Object) (p : Proxied) : Type 0 where
   pub relay : Relay
+  pub each : LooksForEach history_now looks_before looks_now relay.reads
   pub looks : HaveAnswered history history_now (map (λ r. r.up) relay.reads)
   pub relays : IsRelay nodes relay source source_now wires wires_now
   pub totals : totals_view p.totals ≡ relay_totals nodes relay

@@ -1,6 +1,6 @@
 ghost use Rattle.std.specs.Prelude.{◌≡◌, ◌≤◌, length, map};
 ghost use Rattle.sd_model_outside.specs.Turns.{most_datagram};
-ghost use Rattle.sd_live.specs.Live.{IsPassOf, publishes, seen};
+ghost use Rattle.sd_live.specs.Live.{IsPassOf, looks_of, publishes, seen};
 ghost use Rattle.sd_proxy.specs.Proxying.{ProxiesByLooks};
 
 use crate::forwarding::forward_datagram;
@@ -30,7 +30,7 @@ pub fn proxy_part<D: Datagrams, L: Wire, R: Wait>(
     ensures pass { IsPassOf cell.now pass.new × (publishes pass.new ≡ publishes pass.old) }
     ensures wires { length wires.new ≡ length wires.old }
     ensures room { length buf.new ≡ length buf.old }
-    ensures proxies { ProxiesByLooks ring.old (seen pass.old) (seen pass.new) (D.seen packets.old) (D.seen packets.new) (map L.seen wires.old) (map L.seen wires.new) result }
+    ensures proxies { ProxiesByLooks ring.old (seen pass.old) (seen pass.new) (looks_of pass.old) (looks_of pass.new) (D.seen packets.old) (D.seen packets.new) (map L.seen wires.old) (map L.seen wires.new) result }
 {
     let mut totals = ProxyTotals::none();
     for _turn in 0..MOST_TURNS {

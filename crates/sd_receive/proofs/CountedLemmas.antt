@@ -1,33 +1,42 @@
 -- What receivers count at a desk, one turn after the other.
-use Rattle.std.proofs.Common.{◌≡◌, ℕ, ◌+◌, ◌<◌, refl, sym, subst, arith}
+use Rattle.std.proofs.Common.{◌≡◌, ℕ, ◌+◌, sym, subst, arith}
+use Rattle.std.specs.Prelude.{min}
 use Rattle.sd_model_record.specs.Record.{Tally}
 use Rattle.sd_model_record.specs.Desk.{last_counted, add_tally, no_tally}
 use Rattle.sd_model_record.specs.Counts.{Count, TotalPackets, TotalLines, TotalBad, TotalDropped, TakenPackets, TakenLines, TakenBad, TakenDropped, RoundsMade, GraphiteFaults, ConsoleFaults, RepeaterFaults, AdminFaults, Amounts, Part, HasCounted, plus, of_tally, of_sends}
 use Rattle.sd_model_record.proofs.CountLemmas.{counted_next, nothing_counted}
 
+-- amounts that are the same, up to the last count
+pub record AreAlike (a b : Amounts) : Type 0 where
+  pub same : (c : Count) → min (a c) last_counted ≡ min (b c) last_counted
+
 -- the same amounts in other words
-pub counted_as : (a b : Amounts) (old new : Part) → ((c : Count) → old.seen c + a c < last_counted → b c ≡ a c) → HasCounted a old new → HasCounted b old new
-counted_as a b old new same counted = record {
+pub counted_as : (a b : Amounts) (old new : Part) → AreAlike a b → HasCounted a old new → HasCounted b old new
+counted_as a b old new alike counted = record {
   rises = counted.rises;
-  grows = λ c few. omega (arith, counted.grows c few, same c (omega (arith, counted.grows c few, few)));
-  adds = λ c few. omega (arith, counted.adds c few, same c (omega (arith, counted.grows c few, few)));
+  grows = λ c few. omega (arith, counted.grows c few, alike.same c, few);
+  adds = λ c. omega (arith, counted.adds c, alike.same c);
 }
 
 -- what two turns came to, as one
-pub merged : (s t : Tally) (m n seen : ℕ) (c : Count) → seen + plus (plus (of_tally s) (of_sends m)) (plus (of_tally t) (of_sends n)) c < last_counted → plus (of_tally (add_tally s t)) (of_sends (m + n)) c ≡ plus (plus (of_tally s) (of_sends m)) (plus (of_tally t) (of_sends n)) c
-merged s t m n seen TotalPackets few = omega arith
-merged s t m n seen TotalLines few = omega arith
-merged s t m n seen TotalBad few = omega arith
-merged s t m n seen TotalDropped few = omega arith
-merged s t m n seen TakenPackets few = omega arith
-merged s t m n seen TakenLines few = omega arith
-merged s t m n seen TakenBad few = omega arith
-merged s t m n seen TakenDropped few = omega arith
-merged s t m n seen RoundsMade few = omega arith
-merged s t m n seen GraphiteFaults few = omega arith
-merged s t m n seen ConsoleFaults few = omega arith
-merged s t m n seen RepeaterFaults few = omega arith
-merged s t m n seen AdminFaults few = omega arith
+together : (s t : Tally) (m n : ℕ) (c : Count)
+    → min (plus (plus (of_tally s) (of_sends m)) (plus (of_tally t) (of_sends n)) c) last_counted ≡ min (plus (of_tally (add_tally s t)) (of_sends (m + n)) c) last_counted
+together s t m n TotalPackets = omega arith
+together s t m n TotalLines = omega arith
+together s t m n TotalBad = omega arith
+together s t m n TotalDropped = omega arith
+together s t m n TakenPackets = omega arith
+together s t m n TakenLines = omega arith
+together s t m n TakenBad = omega arith
+together s t m n TakenDropped = omega arith
+together s t m n RoundsMade = omega arith
+together s t m n GraphiteFaults = omega arith
+together s t m n ConsoleFaults = omega arith
+together s t m n RepeaterFaults = omega arith
+together s t m n AdminFaults = omega arith
+
+pub merged : (s t : Tally) (m n : ℕ) → AreAlike (plus (plus (of_tally s) (of_sends m)) (plus (of_tally t) (of_sends n))) (plus (of_tally (add_tally s t)) (of_sends (m + n)))
+merged s t m n = record { same = λ c. together s t m n c }
 
 -- nothing was counted
 pub no_counts : (c : Count) → plus (of_tally no_tally) (of_sends 0) c ≡ 0

@@ -1,4 +1,5 @@
 pub mod FiledLemmas
+pub mod CalledLemmas
 pub mod CountedLemmas
 pub mod ReadLemmas
 pub mod LineLemmas

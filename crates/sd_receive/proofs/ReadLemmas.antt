@@ -1,6 +1,7 @@
 -- What a receiver read, one turn after the other.
-use Rattle.std.proofs.Common.{◌≡◌, ℕ, ◌+◌, ◌<◌, List, [], ◌∷◌, ◌++◌, refl, sym, ap, subst, ◌∙◌, arith, append-nil, append_assoc}
+use Rattle.std.proofs.Common.{◌≡◌, ℕ, ◌+◌, ◌<◌, ◌≤◌, List, [], ◌∷◌, ◌++◌, refl, sym, ap, subst, ◌∙◌, arith, append-nil, append_assoc, length-append}
 use Rattle.std.specs.Prelude.{length, All}
+use Rattle.std.specs.List.{AllByRecursion}
 use Rattle.std.proofs.lemmas.List.Elements.{All-nil, All-cons, All-append}
 use Rattle.std.proofs.lemmas.List.{map-append}
 use Rattle.std.proofs.lemmas.List.Sums.{sum_by-append, sum_by-cons}
@@ -9,15 +10,17 @@ use Rattle.sd_model_outside.specs.Turns.{with_datagrams}
 use Rattle.sd_model_shard.specs.History.{History}
 use Rattle.sd_model_record.specs.Record.{Tally}
 use Rattle.sd_model_record.specs.Desk.{add_tally, no_tally, counted}
-use Rattle.sd_model_record.specs.Counts.{Part, HasCounted, plus, nothing, of_tally, of_sends}
+use Rattle.sd_model_record.specs.Counts.{Part, HasCalled, HasCounted, IsLook, plus, nothing, of_tally, of_sends}
 use Rattle.sd_model_record.specs.WireSends.{Sending, AreRepeated, failures}
 use Rattle.sd_model_record.proofs.CountLemmas.{counted_next}
+use Rattle.sd_model_record.proofs.DeskLemmas.{called_as, called_next}
 use Rattle.sd_model_record.proofs.WireLemmas.{AreRepeated-next, AreRepeated-none, AreRepeated-one, length-sent}
 use Rattle.sd_model_serve.specs.Ends.{most_turns}
-use Rattle.sd_model_serve.specs.Receiving.{HasReceived, failed_sends}
+use Rattle.sd_model_serve.specs.Receiving.{CountsDatagrams, HasReceived, failed_sends}
 use Rattle.sd_outside.specs.declared.datagrams.Ended.{Ended}
 use Rattle.sd_outside.specs.declared.datagrams.Ended.TheVariants.{End, Failed, Stopped, Worn}
 use Rattle.sd_receive.specs.Receiving.{EndsSo, TakesDatagram}
+use Rattle.sd_receive.proofs.CalledLemmas.{counts_next, counts_none}
 use Rattle.sd_receive.proofs.FiledLemmas.{HasFiled-none, FilesDatagrams-next}
 use Rattle.sd_receive.proofs.CountedLemmas.{counted_as, merged, no_counts}
 
@@ -50,12 +53,13 @@ given_none (Ticks left) = refl
 given_none (Sessions left back) = refl
 given_none (Replies left questions) = refl
 
-module _ {shards : ℕ} where
+module _ {says : ℕ → Type 0} {shards : ℕ} where
   -- a turn that took nothing
-  pub takes_none : (source source_now : Object) (wires : List Object) (own : ℕ → History) (part part_now : Part) → source_now.told ≡ source.told → HasCounted nothing part part_now
-      → HasReceived shards source source_now wires wires own own part part_now no_tally 0
-  takes_none source source_now wires own part part_now same counts = record {
+  pub takes_none : (turns : ℕ) (source source_now : Object) (wires : List Object) (own : ℕ → History) (part part_now : Part) → source_now.told ≡ source.told → HasCounted nothing part part_now
+      → HasCalled (AllByRecursion IsLook) part part_now → HasReceived says shards turns source source_now wires wires own own part part_now no_tally 0
+  takes_none turns source source_now wires own part part_now same counts looked = record {
     read = [];
+    many = omega arith;
     sendings = [];
     passed = record {
       given = sym same ∙ given_none source_now.told;
@@ -64,19 +68,21 @@ module _ {shards : ℕ} where
       sends = AreRepeated-none wires;
     };
     filed = HasFiled-none own;
-    counted = counted_as nothing (plus (of_tally no_tally) (of_sends 0)) part part_now (λ c few. no_counts c) counts;
+    counted = counted_as nothing (plus (of_tally no_tally) (of_sends 0)) part part_now (record { same = λ c. omega (arith, no_counts c) }) counts;
+    called = called_as (AllByRecursion IsLook) (CountsDatagrams says []) part part_now (counts_none says) looked;
   }
 
   -- a turn that took a datagram
   pub takes_one : (source source_now : Object) (datagram : List ℕ) (wires wires_now : List Object) (own own_now : ℕ → History) (part mid part_now : Part) (tally : Tally) (taken : ℕ)
-      → source.told ≡ with_datagrams (datagram ∷ []) source_now.told → HasCounted nothing part mid → TakesDatagram shards datagram wires wires_now own own_now mid part_now tally taken
-      → HasReceived shards source source_now wires wires_now own own_now part part_now tally taken
-  takes_one source source_now datagram wires wires_now own own_now part mid part_now tally taken given before takes =
+      → source.told ≡ with_datagrams (datagram ∷ []) source_now.told → HasCounted nothing part mid → HasCalled (AllByRecursion IsLook) part mid → TakesDatagram says shards datagram wires wires_now own own_now mid part_now tally taken
+      → HasReceived says shards 1 source source_now wires wires_now own own_now part part_now tally taken
+  takes_one source source_now datagram wires wires_now own own_now part mid part_now tally taken given before looked takes =
       let sending : Sending = record { packet = datagram; failed = takes.failed } in
       let amounts = plus (of_tally tally) (of_sends (failures takes.failed)) in
       let one : failed_sends (sending ∷ []) ≡ failures takes.failed = sum_by-cons (λ (s : Sending). failures s.failed) sending [] ∙ omega arith in
       record {
         read = datagram ∷ [];
+        many = omega arith;
         sendings = sending ∷ [];
         passed = record {
           given = given;
@@ -89,18 +95,21 @@ module _ {shards : ℕ} where
         filed = takes.filed;
         counted =
             subst (λ n. HasCounted (plus (of_tally tally) (of_sends n)) part part_now) (sym one)
-            (counted_as (plus nothing amounts) amounts part part_now (λ c few. omega arith) (counted_next nothing amounts part mid part_now before takes.counted));
+            (counted_as (plus nothing amounts) amounts part part_now (record { same = λ c. omega arith }) (counted_next nothing amounts part mid part_now before takes.counted));
+        called = called_next (AllByRecursion IsLook) (CountsDatagrams says (datagram ∷ [])) (CountsDatagrams says (datagram ∷ [])) part mid part_now
+            (λ xs ys looks counts. counts_next says [] (datagram ∷ []) xs ys (counts_none says xs looks) counts) looked takes.called;
       }
 
   -- turns that took datagrams, one after another
-  pub takes_next : (a b c : Object) (u v w : List Object) (f g h : ℕ → History) (p q r : Part) (s t : Tally) (m n : ℕ) → length v ≡ length u
-      → HasReceived shards a b u v f g p q s m → HasReceived shards b c v w g h q r t n → HasReceived shards a c u w f h p r (add_tally s t) (counted m n)
-  takes_next a b c u v w f g h p q r s t m n same first second =
+  pub takes_next : (a b c : Object) (u v w : List Object) (f g h : ℕ → History) (p q r : Part) (s t : Tally) (m n j k l : ℕ) → length v ≡ length u → j + k ≤ l
+      → HasReceived says shards j a b u v f g p q s m → HasReceived says shards k b c v w g h q r t n → HasReceived says shards l a c u w f h p r (add_tally s t) (counted m n)
+  takes_next a b c u v w f g h p q r s t m n j k l same few first second =
       let x = failed_sends first.sendings in
       let y = failed_sends second.sendings in
       let both : failed_sends (first.sendings ++ second.sendings) ≡ x + y = sum_by-append (λ (s : Sending). failures s.failed) first.sendings second.sendings in
       record {
         read = first.read ++ second.read;
+        many = omega (arith, length-append first.read second.read, first.many, second.many, few);
         sendings = first.sendings ++ second.sendings;
         passed = record {
           given = given_next first.read second.read a.told b.told c.told first.passed.given second.passed.given;
@@ -114,8 +123,10 @@ module _ {shards : ℕ} where
         counted =
             subst (λ k. HasCounted (plus (of_tally (add_tally s t)) (of_sends k)) p r) (sym both)
             (counted_as (plus (plus (of_tally s) (of_sends x)) (plus (of_tally t) (of_sends y))) (plus (of_tally (add_tally s t)) (of_sends (x + y))) p r
-            (λ k few. merged s t x y (p.seen k) k few)
+            (merged s t x y)
             (counted_next (plus (of_tally s) (of_sends x)) (plus (of_tally t) (of_sends y)) p q r first.counted second.counted));
+        called = called_next (CountsDatagrams says first.read) (CountsDatagrams says second.read) (CountsDatagrams says (first.read ++ second.read)) p q r
+            (counts_next says first.read second.read) first.called second.called;
       }
 
 -- how a turn ended, after the turns before it

@@ -8,18 +8,20 @@ use Rattle.sd_model_outside.specs.Outside.{Object, Told, HasRead, Reads, Rose, t
 use Rattle.sd_model_outside.proofs.OutsideLemmas.{Reads-nil}
 use Rattle.sd_model_shard.specs.History.{History}
 use Rattle.sd_model_record.specs.Record.{Tally}
-use Rattle.sd_model_record.specs.Desk.{add_tally, counted, last_counted, no_tally}
-use Rattle.sd_model_record.specs.Counts.{Count, Part, HasCounted, nothing, plus, of_sends, of_tally}
+use Rattle.sd_model_record.specs.Desk.{add_tally, counted, no_tally}
+use Rattle.sd_model_record.specs.Counts.{Count, Part, HasCalled, HasCounted, nothing, plus, of_sends, of_tally}
 use Rattle.sd_model_record.proofs.CountLemmas.{counted_next, counted_none}
+use Rattle.sd_model_record.proofs.DeskLemmas.{called_next, called_none}
 use Rattle.sd_model_serve.specs.Ends.{most_turns}
-use Rattle.sd_model_stream.specs.Streams.{Cut, stream_lines, FilesLines, HasStreamed, ReadsStream, Stream, WornOut, Cutting, HasCut, nothing_cut}
+use Rattle.sd_model_stream.specs.Streams.{CountsReads, Cut, stream_lines, FilesLines, HasStreamed, ReadsStream, Stream, WornOut, Cutting, HasCut, nothing_cut}
 use Rattle.sd_model_stream.proofs.CutLemmas.{HasCut-none, all_given}
 use Rattle.sd_model_stream.proofs.StreamLemmas.{concat-push}
 use Rattle.sd_outside.proofs.ReadLemmas.{reads_on}
 use Rattle.sd_receive.specs.Streaming.{CannotRead, TakesRead, end_of}
 use Rattle.sd_receive.specs.declared.streamed.StreamEnd.{StreamEnd}
 use Rattle.sd_receive.specs.declared.streamed.StreamEnd.TheVariants.{End, Failed, Worn}
-use Rattle.sd_receive.proofs.CountedLemmas.{counted_as, merged, no_counts}
+use Rattle.sd_receive.proofs.CalledLemmas.{reads_next, reads_none}
+use Rattle.sd_receive.proofs.CountedLemmas.{AreAlike, counted_as, merged, no_counts}
 use Rattle.sd_receive.proofs.LineLemmas.{FilesLines-none, FilesLines-next}
 
 -- nothing is of no send, and of no tally
@@ -31,16 +33,16 @@ no_lines c = omega (arith, no_counts c)
 
 -- no line was counted
 tallied_none : (part : Part) → HasCounted (of_tally no_tally) part part
-tallied_none part = counted_as nothing (of_tally no_tally) part part (λ c few. no_lines c) (counted_none part)
+tallied_none part = counted_as nothing (of_tally no_tally) part part (record { same = λ c. omega (arith, no_lines c) }) (counted_none part)
 
--- two tallies that don't reach the last count, as one
-pub both_tallies : (s t : Tally) (seen : ℕ) (c : Count) → seen + plus (of_tally s) (of_tally t) c < last_counted → of_tally (add_tally s t) c ≡ plus (of_tally s) (of_tally t) c
-both_tallies s t seen c few = let none = no_sends c in omega (arith, none, merged s t 0 0 seen c (omega (arith, none, few)))
+-- two tallies, as one
+pub both_tallies : (s t : Tally) → AreAlike (plus (of_tally s) (of_tally t)) (of_tally (add_tally s t))
+both_tallies s t = record { same = λ c. omega (arith, no_sends c, (merged s t 0 0).same c) }
 
 -- tallies were counted one after the other
 tallied_next : (s t : Tally) (old mid new : Part) → HasCounted (of_tally s) old mid → HasCounted (of_tally t) mid new → HasCounted (of_tally (add_tally s t)) old new
 tallied_next s t old mid new first second =
-    counted_as (plus (of_tally s) (of_tally t)) (of_tally (add_tally s t)) old new (λ c few. both_tallies s t (old.seen c) c few)
+    counted_as (plus (of_tally s) (of_tally t)) (of_tally (add_tally s t)) old new (both_tallies s t)
     (counted_next (of_tally s) (of_tally t) old mid new first second)
 
 -- what was read, and how that ended
@@ -64,7 +66,7 @@ streamed_so reads Failed source mid now some read few h = record {
 }
 streamed_so reads (Worn turns) source mid now some read few h = absurd h
 
-module _ (shards : ℕ) where
+module _ (says : ℕ → Type 0) (shards : ℕ) where
   -- a stream so far, after so many reads
   pub record SoFar (count : ℕ) (source source_now : Object) (cutter : Cutting) (own own_now : ℕ → History) (part part_now : Part) (tally : Tally) (taken : ℕ) : Type 0 where
     pub reads : List (List ℕ)
@@ -74,6 +76,7 @@ module _ (shards : ℕ) where
     pub cut : HasCut (stream_lines (concat reads)) (concat reads) cutter
     pub filed : FilesLines shards (stream_lines (concat reads)) own own_now tally taken
     pub counted : HasCounted (of_tally tally) part part_now
+    pub called : HasCalled (CountsReads says (length reads)) part part_now
 
   pub SoFar-none : (source : Object) (own : ℕ → History) (part : Part) → SoFar 0 source source nothing_cut own own part part no_tally 0
   SoFar-none source own part = record {
@@ -84,10 +87,11 @@ module _ (shards : ℕ) where
     cut = HasCut-none;
     filed = FilesLines-none own;
     counted = tallied_none part;
+    called = called_none (CountsReads says 0) part (reads_none says);
   }
 
   pub SoFar-next : (count : ℕ) (source mid now : Object) (c d : Cutting) (f g h : ℕ → History) (p q r : Part) (s t : Tally) (m n : ℕ) → d.is_ready ≡ false
-      → SoFar count source mid c f g p q s m → TakesRead shards mid now c d g h q r t n → SoFar (count + 1) source now d f h p r (add_tally s t) (counted m n)
+      → SoFar count source mid c f g p q s m → TakesRead says shards mid now c d g h q r t n → SoFar (count + 1) source now d f h p r (add_tally s t) (counted m n)
   SoFar-next count source mid now c d f g h p q r s t m n none a b =
       let before = concat a.reads in
       let whole : concat (a.reads ++ b.bytes ∷ []) ≡ before ++ b.bytes = concat-push a.reads b.bytes in
@@ -104,18 +108,22 @@ module _ (shards : ℕ) where
             (subst (λ (bytes : List ℕ). HasCut (stream_lines before ++ b.takes.lines) bytes d) (sym whole) cut);
         filed = subst (λ (ls : List Cut). FilesLines shards ls f h (add_tally s t) (counted m n)) lines (FilesLines-next (stream_lines before) b.takes.lines f g h s t m n a.filed b.takes.filed);
         counted = tallied_next s t p q r a.counted b.counted;
+        called =
+            subst (λ (k : ℕ). HasCalled (CountsReads says k) p r) (sym (length_push a.reads b.bytes))
+            (called_next (CountsReads says (length a.reads)) (CountsReads says 1) (CountsReads says (length a.reads + 1)) p q r (reads_next says (length a.reads) 1) a.called b.called);
       }
 
   pub SoFar-ended : (count : ℕ) (ended : StreamEnd) (source mid now : Object) (c : Cutting) (f g : ℕ → History) (p q : Part) (s : Tally) (m : ℕ) → count < most_turns → CannotRead ended mid now
-      → (a : SoFar count source mid c f g p q s m) → HasStreamed shards (read_so a.reads ended) source now f g p q s m
+      → (a : SoFar count source mid c f g p q s m) → HasStreamed says shards (read_so a.reads ended) source now f g p q s m
   SoFar-ended count ended source mid now c f g p q s m few cannot a = record {
     read = streamed_so a.reads ended source mid now a.some a.read (omega (arith, few, a.count_is)) cannot;
     filed = a.filed;
     counted = a.counted;
+    called = a.called;
   }
 
   pub SoFar-worn : (count : ℕ) (source now : Object) (c : Cutting) (f g : ℕ → History) (p q : Part) (s : Tally) (m : ℕ) → count ≡ most_turns
-      → (a : SoFar count source now c f g p q s m) → HasStreamed shards (record { reads = a.reads; ended = WornOut most_turns }) source now f g p q s m
+      → (a : SoFar count source now c f g p q s m) → HasStreamed says shards (record { reads = a.reads; ended = WornOut most_turns }) source now f g p q s m
   SoFar-worn count source now c f g p q s m all a = record {
     read = record {
       some = a.some;
@@ -125,4 +133,5 @@ module _ (shards : ℕ) where
     };
     filed = a.filed;
     counted = a.counted;
+    called = a.called;
   }

@@ -3,11 +3,12 @@ use Rattle.std.specs.Prelude.{◌≡◌, ℕ, ◌+◌, ◌<◌, true, false, ◌
 use Rattle.sd_model_outside.specs.Outside.{Object}
 use Rattle.sd_model_shard.specs.History.{History}
 use Rattle.sd_model_record.specs.Counts.{Amounts, Part, of_tally}
+use Rattle.sd_model_record.specs.DeskHistory.{DeskCall}
 use Rattle.sd_model_record.specs.Desk.{add_tally, counted, no_tally}
 use Rattle.sd_model_record.specs.Record.{Tally}
 use Rattle.sd_model_serve.specs.Doors.{Visit}
 use Rattle.sd_model_serve.specs.Ends.{most_turns}
-use Rattle.sd_model_stream.specs.Streams.{stream_lines, FilesLines, IsStreamOf, ServesStreams, Stream, any_worn, bytes_in, is_worn}
+use Rattle.sd_model_stream.specs.Streams.{CountsReads, stream_lines, FilesLines, IsStreamOf, ServesStreams, Stream, any_worn, bytes_in, is_worn}
 use Rattle.sd_desk.specs.Tally.{tally_of}
 use Rattle.sd_outside.specs.declared.door.DoorEnd.TheVariants.{Worn}
 use Rattle.sd_pool.specs.Pool.{IsSeatOf, own_at, shards_of, who_is}
@@ -32,12 +33,13 @@ module _ {C : Type 0} where
     pub pool : new.pool.now ≡ old.pool.now
     pub who : who_is new.seat.now ≡ who_is old.seat.now
     pub room : length new.buf.now ≡ length old.buf.now
+    pub clock : new.clock.now ≡ old.clock.now
     pub seat : new.seat.ghost_name ≡ old.seat.ghost_name
     pub cutter : new.cutter.ghost_name ≡ old.cutter.ghost_name
     pub buf : new.buf.ghost_name ≡ old.buf.ghost_name
 
   -- A session was read as a stream, and what its lines count for was counted.
-  pub record HasVisited (old new : LineVisitor C) (v : Visit) (amounts : Amounts) : Type 0 where
+  pub record HasVisited (may_say : C → ℕ → Type 0) (old new : LineVisitor C) (v : Visit) (amounts : Amounts) (calls : List DeskCall) : Type 0 where
     pub works : WorksOn old new
     pub stream : Stream
     pub tally : Tally
@@ -45,15 +47,16 @@ module _ {C : Type 0} where
     pub went : IsStreamOf v stream
     pub filed : FilesLines (shards_of old.pool.now) (stream_lines (bytes_in stream)) (own_at old.seat.now) (own_at new.seat.now) tally taken
     pub counts : amounts ≡ of_tally tally
+    pub called : CountsReads (may_say old.clock.now) (length stream.reads) calls
     pub tally_is : tally_of new.account.tally ≡ add_tally (tally_of old.account.tally) tally
     pub taken_is : new.account.taken ≡ counted old.account.taken taken
     pub worn_is : new.is_worn ≡ (old.is_worn || is_worn stream.ended)
 
 -- What the reading of a door's streams did, and how it ended, after so many turns of the door: where a stream was worn, by that, and
 -- else as the keeping of the door did.
-pub record KeepsLines (shards run_flushes : ℕ) (own own_now : ℕ → History) (door door_now : Object) (part part_now : Part) (got : Lined) : Type 0 where
+pub record KeepsLines (says : ℕ → Type 0) (shards run_flushes : ℕ) (own own_now : ℕ → History) (door door_now : Object) (part part_now : Part) (got : Lined) : Type 0 where
   pub streams : List Stream
-  pub serves : ServesStreams shards streams own own_now door door_now part part_now (tally_of got.tally) got.taken
+  pub serves : ServesStreams says shards streams own own_now door door_now part part_now (tally_of got.tally) got.taken
   pub turned : ℕ
   pub turns : door_now.turns ≡ door.turns + turned
   pub worn : any_worn streams ≡ true → got.ended ≡ Worn most_turns

@@ -26,7 +26,7 @@ module _ {D L : Type 0} where
     pub own_is : IsDeskSeatOf desk post.own
 
   -- The post was run, and has what that did. Its seats are still those of the same callers, and its room is as it was.
-  pub record HasRun (seen : D → Object) (wire_seen : L → Object) (pool : Pool) (desk : SharedDesk) (run_flushes : ℕ) (old new : Post D L) : Type 0 where
+  pub record HasRun (seen : D → Object) (wire_seen : L → Object) (says : ℕ → Type 0) (pool : Pool) (desk : SharedDesk) (run_flushes : ℕ) (old new : Post D L) : Type 0 where
     pub got : Received
     pub got_is : new.got ≡ Some got
     pub seat_is : IsSeatOf pool new.seat
@@ -35,7 +35,7 @@ module _ {D L : Type 0} where
     pub number : number_of_seat new.own ≡ number_of_seat old.own
     pub wires : vec_len new.wires ≡ vec_len old.wires
     pub room : vec_len new.buf ≡ vec_len old.buf
-    pub receives : Receives (shards_of pool) run_flushes (seen old.packets) (seen new.packets) (map wire_seen old.wires.items) (map wire_seen new.wires.items) (own_at old.seat) (own_at new.seat) (part_of old.own) (part_of new.own) got
+    pub receives : Receives says (shards_of pool) run_flushes (seen old.packets) (seen new.packets) (map wire_seen old.wires.items) (map wire_seen new.wires.items) (own_at old.seat) (own_at new.seat) (part_of old.own) (part_of new.own) got
 
   -- a post was run
   abbrev pub WasRun : Post D L → Type 0

@@ -2,9 +2,9 @@
 use Rattle.std.specs.Prelude.{◌≡◌, ℕ, ◌<◌, List, length}
 use Rattle.sd_model_outside.specs.Outside.{Object, HasFailed, HasRead, IsAtEnd}
 use Rattle.sd_model_shard.specs.History.{History}
-use Rattle.sd_model_record.specs.Counts.{Part, HasCounted, of_tally}
+use Rattle.sd_model_record.specs.Counts.{Part, HasCalled, HasCounted, of_tally}
 use Rattle.sd_model_record.specs.Record.{Tally}
-use Rattle.sd_model_stream.specs.Streams.{Cut, FilesLines, HasStreamed, Stream, Cutting, CutsOn}
+use Rattle.sd_model_stream.specs.Streams.{CountsReads, Cut, FilesLines, HasStreamed, Stream, Cutting, CutsOn}
 use Rattle.sd_model_stream.specs.Streams as model
 use Rattle.sd_desk.specs.Tally.{tally_of}
 use Rattle.sd_receive.specs.declared.streamed.StreamEnd.{StreamEnd}
@@ -18,12 +18,13 @@ pub record TakesBytes (shards : ℕ) (bytes : List ℕ) (cutter cutter_now : Cut
   pub filed : FilesLines shards lines own own_now tally taken
 
 -- Bytes were read, at least one, and so taken, and what their lines count for was added at the desk.
-pub record TakesRead (shards : ℕ) (source source_now : Object) (cutter cutter_now : Cutting) (own own_now : ℕ → History) (part part_now : Part) (tally : Tally) (taken : ℕ) : Type 0 where
+pub record TakesRead (says : ℕ → Type 0) (shards : ℕ) (source source_now : Object) (cutter cutter_now : Cutting) (own own_now : ℕ → History) (part part_now : Part) (tally : Tally) (taken : ℕ) : Type 0 where
   pub bytes : List ℕ
   pub some : 0 < length bytes
   pub read : HasRead bytes source source_now
   pub takes : TakesBytes shards bytes cutter cutter_now own own_now tally taken
   pub counted : HasCounted (of_tally tally) part part_now
+  pub called : HasCalled (CountsReads says 1) part part_now
 
 -- an end of the code, as the definitions have it
 abbrev pub end_of : StreamEnd → model.StreamEnd
@@ -38,7 +39,7 @@ CannotRead Failed source source_now = HasFailed source source_now
 CannotRead (Worn turns) source source_now = ⊥
 
 -- What the reading of a stream did, and how it ended.
-pub record Streams (shards : ℕ) (source source_now : Object) (own own_now : ℕ → History) (part part_now : Part) (got : Streamed) : Type 0 where
+pub record Streams (says : ℕ → Type 0) (shards : ℕ) (source source_now : Object) (own own_now : ℕ → History) (part part_now : Part) (got : Streamed) : Type 0 where
   pub stream : Stream
   pub ended : stream.ended ≡ end_of got.ended
-  pub went : HasStreamed shards stream source source_now own own_now part part_now (tally_of got.tally) got.taken
+  pub went : HasStreamed says shards stream source source_now own own_now part part_now (tally_of got.tally) got.taken

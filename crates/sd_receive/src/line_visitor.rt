@@ -51,7 +51,7 @@ impl<C: Clock> Visitor for LineVisitor<'_, '_, '_, '_, '_, C> {
 
     ghost can_visit = { CanVisit };
 
-    ghost has_visited = { HasVisited };
+    ghost has_visited = { HasVisited C.may_say };
 
     fn visit<A: Source, T: Sink, R: Wait>(
         &mut self,

@@ -57,7 +57,7 @@ fn read_all<E: Door, C: Clock, G: Gate, R: Wait>(
     ensures ready { CanVisit visitor.new }
     ensures works { WorksOn visitor.old visitor.new }
     ensures own { IsDeskSeatOf desk.now own.new × (number_of_seat own.new ≡ number_of_seat own.old) }
-    ensures keeps { KeepsLines (shards_of visitor.old.pool.now) run_flushes (own_at visitor.old.seat.now) (own_at visitor.new.seat.now) (E.seen door.old) (E.seen door.new) (part_of own.old) (part_of own.new) result }
+    ensures keeps { KeepsLines (C.may_say visitor.old.clock.now) (shards_of visitor.old.pool.now) run_flushes (own_at visitor.old.seat.now) (own_at visitor.new.seat.now) (E.seen door.old) (E.seen door.new) (part_of own.old) (part_of own.new) result }
 {
     let kept = keep_door(rt, desk, own, visitor, door, gate, run_flushes);
     Lined {
@@ -91,7 +91,7 @@ pub fn linekeep<E: Door, C: Clock, G: Gate, R: Wait>(
     ensures own { IsDeskSeatOf desk.now own.new × (number_of_seat own.new ≡ number_of_seat own.old) }
     ensures seat { IsSeatOf pool.now seat.new × (who_is seat.new ≡ who_is seat.old) }
     ensures room { length buf.new ≡ length buf.old }
-    ensures keeps { KeepsLines (shards_of pool.now) run_flushes (own_at seat.old) (own_at seat.new) (E.seen door.old) (E.seen door.new) (part_of own.old) (part_of own.new) result }
+    ensures keeps { KeepsLines (C.may_say clock.now) (shards_of pool.now) run_flushes (own_at seat.old) (own_at seat.new) (E.seen door.old) (E.seen door.new) (part_of own.old) (part_of own.new) result }
 {
     let mut visitor = LineVisitor {
         pool,

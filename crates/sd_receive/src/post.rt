@@ -32,7 +32,7 @@ impl<D: Datagrams, L: Wire> Post<D, L> {
         run_flushes: u64,
     )
         requires { IsReady pool.now desk.now self.old }
-        ensures { HasRun D.seen L.seen pool.now desk.now run_flushes self.old self.new }
+        ensures { HasRun D.seen L.seen (C.may_say clock.now) pool.now desk.now run_flushes self.old self.new }
     {
         let got = receive(
             rt,
@@ -56,7 +56,7 @@ impl<'a, D: Datagrams, L: Wire, G: Gate, C: Clock> Worker<Shared<'a, G, C>> for 
 
     ghost can_run = { λ shared post. IsReady shared.pool.now shared.desk.now post };
 
-    ghost has_run = { λ shared old new. HasRun D.seen L.seen shared.pool.now shared.desk.now shared.run_flushes old new };
+    ghost has_run = { λ shared old new. HasRun D.seen L.seen (C.may_say shared.clock.now) shared.pool.now shared.desk.now shared.run_flushes old new };
 
     fn run<R: Wait>(&mut self, rt: &R, shared: &Shared<'a, G, C>) {
         self.run(

@@ -51,7 +51,7 @@ pub fn receive<D: Datagrams, L: Wire, G: Gate, C: Clock, R: Wait>(
     ensures seat { IsSeatOf pool.now seat.new × (who_is seat.new ≡ who_is seat.old) }
     ensures wires { length wires.new ≡ length wires.old }
     ensures room { length buf.new ≡ length buf.old }
-    ensures receives { Receives (shards_of pool.now) run_flushes (D.seen packets.old) (D.seen packets.new) (map L.seen wires.old) (map L.seen wires.new) (own_at seat.old) (own_at seat.new) (part_of own.old) (part_of own.new) result }
+    ensures receives { Receives (C.may_say clock.now) (shards_of pool.now) run_flushes (D.seen packets.old) (D.seen packets.new) (map L.seen wires.old) (map L.seen wires.new) (own_at seat.old) (own_at seat.new) (part_of own.old) (part_of own.new) result }
 {
     let shared = Shared {
         pool,

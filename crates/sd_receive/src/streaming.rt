@@ -37,7 +37,7 @@ fn take_read<A: Source, C: Clock, R: Wait>(
     ensures seat { IsSeatOf pool.now seat.new × (who_is seat.new ≡ who_is seat.old) }
     ensures none_ready { cutter.new.is_ready ≡ false }
     ensures room { length buf.new ≡ length buf.old }
-    ensures takes { IfOk result (λ account. TakesRead (shards_of pool.now) (A.seen source.old) (A.seen source.new) cutter.old cutter.new (own_at seat.old) (own_at seat.new) (part_of own.old) (part_of own.new) (tally_of account.tally) account.taken) }
+    ensures takes { IfOk result (λ account. TakesRead (C.may_say clock.now) (shards_of pool.now) (A.seen source.old) (A.seen source.new) cutter.old cutter.new (own_at seat.old) (own_at seat.new) (part_of own.old) (part_of own.new) (tally_of account.tally) account.taken) }
     ensures ends { IfErr result (λ ended. CannotRead ended (A.seen source.old) (A.seen source.new)) }
     ensures unchanged { OnErr result ((own.new ≡ own.old) × (seat.new ≡ seat.old)) }
 {
@@ -73,7 +73,7 @@ pub fn stream<A: Source, C: Clock, R: Wait>(
     ensures own { IsDeskSeatOf desk.now own.new × (number_of_seat own.new ≡ number_of_seat own.old) }
     ensures seat { IsSeatOf pool.now seat.new × (who_is seat.new ≡ who_is seat.old) }
     ensures room { length buf.new ≡ length buf.old }
-    ensures streams { Streams (shards_of pool.now) (A.seen source.old) (A.seen source.new) (own_at seat.old) (own_at seat.new) (part_of own.old) (part_of own.new) result }
+    ensures streams { Streams (C.may_say clock.now) (shards_of pool.now) (A.seen source.old) (A.seen source.new) (own_at seat.old) (own_at seat.new) (part_of own.old) (part_of own.new) result }
 {
     cutter.reset();
     let mut account = Account::none();

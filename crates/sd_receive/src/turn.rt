@@ -1,13 +1,14 @@
 ghost use Rattle.std.specs.Prelude.{◌≡◌, ◌<◌, ◌≤◌, ◌^◌, length, map, IfNone, IfSome, None};
 ghost use Rattle.sd_model_outside.specs.Outside.{raised};
 ghost use Rattle.sd_model_outside.specs.Turns.{most_datagram};
-ghost use Rattle.sd_model_record.specs.Counts.{HasCounted, of_sends};
+ghost use Rattle.sd_model_record.specs.Counts.{HasCalled, HasCounted, of_sends};
+ghost use Rattle.std.specs.List.{AllByRecursion};
 ghost use Rattle.sd_model_record.specs.Desk.{no_tally};
 ghost use Rattle.sd_desk.specs.Tally.{tally_of};
 ghost use Rattle.sd_pool.specs.Pool.{IsSeatOf, own_at, shards_of, who_is};
 ghost use Rattle.sd_shared_desk.specs.Shared.{IsSeatOf as IsDeskSeatOf, number_of_seat, part_of};
 ghost use Rattle.sd_model_serve.specs.Receiving.{HasReceived};
-ghost use Rattle.sd_receive.specs.Receiving.{EndsSo, TakesDatagram};
+ghost use Rattle.sd_receive.specs.Receiving.{EndsSo, IsFailedSend, TakesDatagram, most_read};
 
 use crate::shared::Shared;
 use crate::submitting::Submitting;
@@ -45,6 +46,7 @@ fn count_sends<R: Wait>(rt: &R, desk: &SharedDesk, own: &mut DeskSeat, failed: u
     requires { IsDeskSeatOf desk.now own.old }
     ensures own { IsDeskSeatOf desk.now own.new × (number_of_seat own.new ≡ number_of_seat own.old) }
     ensures counted { HasCounted (of_sends failed) (part_of own.old) (part_of own.new) }
+    ensures called { HasCalled (AllByRecursion IsFailedSend) (part_of own.old) (part_of own.new) }
 {
     if failed > 0 {
         desk.repeater_faults(rt, failed, own);
@@ -67,7 +69,7 @@ fn take_datagram<L: Wire, G: Gate, C: Clock, R: Wait>(
     ensures own { IsDeskSeatOf shared.now.desk.now own.new × (number_of_seat own.new ≡ number_of_seat own.old) }
     ensures seat { IsSeatOf shared.now.pool.now seat.new × (who_is seat.new ≡ who_is seat.old) }
     ensures wires { length wires.new ≡ length wires.old }
-    ensures takes { TakesDatagram (shards_of shared.now.pool.now) datagram.now (map L.seen wires.old) (map L.seen wires.new) (own_at seat.old) (own_at seat.new) (part_of own.old) (part_of own.new) (tally_of result.tally) result.taken }
+    ensures takes { TakesDatagram (C.may_say shared.now.clock.now) (shards_of shared.now.pool.now) datagram.now (map L.seen wires.old) (map L.seen wires.new) (own_at seat.old) (own_at seat.new) (part_of own.old) (part_of own.new) (tally_of result.tally) result.taken }
     ensures goes_on { result.ended ≡ None }
 {
     let failed = repeat(datagram, wires);
@@ -110,7 +112,7 @@ pub(crate) fn take_turn<D: Datagrams, L: Wire, G: Gate, C: Clock, R: Wait>(
     ensures seat { IsSeatOf shared.now.pool.now seat.new × (who_is seat.new ≡ who_is seat.old) }
     ensures wires { length wires.new ≡ length wires.old }
     ensures room { length buf.new ≡ length buf.old }
-    ensures takes { HasReceived (shards_of shared.now.pool.now) (D.seen packets.old) (D.seen packets.new) (map L.seen wires.old) (map L.seen wires.new) (own_at seat.old) (own_at seat.new) (part_of own.old) (part_of own.new) (tally_of result.tally) result.taken }
+    ensures takes { HasReceived (C.may_say shared.now.clock.now) (shards_of shared.now.pool.now) (most_read result.ended) (D.seen packets.old) (D.seen packets.new) (map L.seen wires.old) (map L.seen wires.new) (own_at seat.old) (own_at seat.new) (part_of own.old) (part_of own.new) (tally_of result.tally) result.taken }
     ensures place { (D.seen packets.new).opened_at ≡ (D.seen packets.old).opened_at }
     ensures goes_on { IfNone result.ended (((D.seen packets.new).turns ≡ raised (D.seen packets.old).turns) × ((D.seen packets.new).faults ≡ (D.seen packets.old).faults)) }
     ensures ends { IfSome result.ended (λ ended. EndsSo shared.now.run_flushes ended (D.seen packets.old) (D.seen packets.new) (part_of own.new) 0 × ((D.seen packets.new).turns ≡ (D.seen packets.old).turns)) }

@@ -22,7 +22,7 @@ more_mapped f front xs ys i y so_far next =
 -- how many rows a table has
 pub rows_as_listed : (t : Listing) → length (rows_in t) ≡ length t.listed
 rows_as_listed t =
-    let made : RowId × Kept → TableRow = λ e. record { id = e.0; kept = e.1; held = t.held } in
+    let made : RowId × Kept → TableRow = λ e. record { id = e.0; kept = e.1 } in
     length-map t.listed made
 
 -- the row at a place of a table

@@ -80,7 +80,7 @@ keys_as_listed : (plan : Plan) (tables : List Listing) → map (λ e. e.0) (list
 unfolding listed_in valued
 keys_as_listed plan [] = refl
 keys_as_listed plan (t ∷ tables) =
-    let made : RowId × Kept → TableRow = λ e. record { id = e.0; kept = e.1; held = t.held } in
+    let made : RowId × Kept → TableRow = λ e. record { id = e.0; kept = e.1 } in
     map-append (λ e. e.0) t.listed (listed_in tables)
     ∙ ap (λ ids. map (λ e. e.0) t.listed ++ ids) (keys_as_listed plan tables)
     ∙ ap (λ ids. ids ++ map (λ e. e.0) (map (valued plan) (all_rows tables))) (sym (map-map (λ e. e.0) (valued plan) (rows_in t) ∙ map-map (λ r. r.id) made t.listed))
@@ -108,8 +108,8 @@ find-both q (e ∷ es) fs =
 find-table : (plan : Plan) (q : RowId) (t : Listing) → find row_cmp q (table_rows plan (table_of t)) ≡ find row_cmp q (map (valued plan) (rows_in t))
 unfolding valued
 find-table plan q t =
-    let f : RowId → Kept → Row = λ id kept. row_value plan t.held id kept in
-    let made : RowId × Kept → TableRow = λ e. record { id = e.0; kept = e.1; held = t.held } in
+    let f : RowId → Kept → Row = λ id kept. row_value plan id kept in
+    let made : RowId × Kept → TableRow = λ e. record { id = e.0; kept = e.1 } in
     find-valued f q (entries (live_of t))
     ∙ ap (option_map (f q)) (sym (get-entries (live_of t) q) ∙ get-from_entries rows_total t.listed q)
     ∙ sym (find-valued f q t.listed)

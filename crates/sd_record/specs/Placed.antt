@@ -1,10 +1,11 @@
 -- Rows by their places in tables.
-use Rattle.std.specs.Prelude.{◌≡◌, ◌≤◌, pos, List, [], map, length, All, Option, IsSome, slice_get, option_and_then, unwrap_or}
+use Rattle.std.specs.Prelude.{◌≡◌, ◌≤◌, pos, List, [], map, All, Option, IsSome, slice_get, option_and_then, unwrap_or}
 use Rattle.std.specs.declared.cmp.Ordering.TheVariants.{Less}
 use Rattle.sd_model_text.specs.Names.{Counter}
 use Rattle.sd_model_settings.specs.Settings.{Plan}
 use Rattle.sd_model_record.specs.Record as model
 use Rattle.sd_model_shard.specs.Rows.{RowId, row_cmp}
+use Rattle.sd_model_shard.specs.Summaries.{without_samples}
 use Rattle.sd_epoch.specs.Table.{Listing, table_of}
 use Rattle.sd_record.specs.Rows.{Room, TableRow, rows_in, value_of}
 use Rattle.sd_record.specs.declared.placed.Place.{Place}
@@ -15,7 +16,7 @@ row_at tables place = option_and_then (λ t. slice_get (rows_in t) place.row) (s
 
 -- a row of no table
 abbrev pub no_row : TableRow
-no_row = record { id = record { kind = Counter; key = [] }; kept = record { base = pos 0; swaps = 0 }; held = [] }
+no_row = record { id = record { kind = Counter; key = [] }; kept = without_samples (pos 0) 0 }
 
 -- the id of the row at a place
 abbrev pub id_at : List Listing → Place → RowId
@@ -43,4 +44,4 @@ GoesBefore tables a b = row_cmp (id_at tables a) (id_at tables b) ≡ Less
 pub record AreInOrder (plan : Plan) (tables : List Listing) (places : Places) : Type 0 where
   pub rows : map (value_at plan tables) places.placed ≡ model.record_rows plan (map table_of tables)
   pub placed : All (IsPlaced tables) places.placed
-  pub entries : All (λ t. length t.held ≤ places.room.entries) tables
+  pub entries : All (λ t. t.entries ≤ places.room.entries) tables

@@ -3,7 +3,7 @@ use Rattle.std.specs.Prelude.{◌≡◌, ℕ, true, false, List, [], ◌∷◌, 
 use Rattle.std.specs.FinMap.{contains_key}
 use Rattle.sd_model_settings.specs.Settings.{Plan}
 use Rattle.sd_model_record.specs.Record as model
-use Rattle.sd_model_shard.specs.Rows.{RowId, Kept, Entry}
+use Rattle.sd_model_shard.specs.Rows.{RowId, Kept}
 use Rattle.sd_epoch.specs.Table.{Listing, live_of}
 
 -- for how many rows of all tables there is room, and for how many entries of each table
@@ -20,15 +20,14 @@ abbrev pub AreDisjoint : List Listing → Type 0
 AreDisjoint [] = ⊤
 AreDisjoint (t ∷ tables) = All (ShareNone t) tables × AreDisjoint tables
 
--- a row of a table, with the entries of its table
+-- a row of a table
 pub record TableRow : Type 0 where
   pub id : RowId
   pub kept : Kept
-  pub held : List Entry
 
 -- the rows of a table, as they are listed
 abbrev pub rows_in : Listing → List TableRow
-rows_in t = map (λ e. record { id = e.0; kept = e.1; held = t.held }) t.listed
+rows_in t = map (λ e. record { id = e.0; kept = e.1 }) t.listed
 
 -- the rows of all tables
 abbrev pub all_rows : List Listing → List TableRow
@@ -36,4 +35,4 @@ all_rows tables = flat_map rows_in tables
 
 -- the row of a record for a row of a table
 abbrev pub value_of : Plan → TableRow → model.Row
-value_of plan row = model.row_value plan row.held row.id row.kept
+value_of plan row = model.row_value plan row.id row.kept

@@ -38,7 +38,7 @@ impl<'a> Record<'a> {
         ts: u64,
     ) -> Record<'a>
         requires rows { sum_by (λ t. length t.listed) tables.now ≤ scratch.old.room.rows }
-        requires entries { All (λ t. length t.held ≤ scratch.old.room.entries) tables.now }
+        requires entries { All (λ t. t.entries ≤ scratch.old.room.entries) tables.now }
         requires disjoint { AreDisjoint tables.now }
         ensures record { record_view result
             ≡ record_of (plan_view plan.now) (map table_of tables.now) (tally_of tally) ts }

@@ -80,7 +80,7 @@ impl RecordScratch {
     pub(crate) fn put_row(&mut self, i: usize, tables: &[Table], plan: &Reckoning, row: &mut Row)
         requires row { i < length self.old.placed }
         requires placed { All (IsPlaced tables.now) self.old.placed }
-        requires room { All (λ t. length t.held ≤ self.old.room.entries) tables.now }
+        requires room { All (λ t. t.entries ≤ self.old.room.entries) tables.now }
         ensures row { slice_get (map (value_at (plan_view plan.now) tables.now) self.old.placed) i ≡ Some (row_view row.new) }
         ensures same { self.new ≡ self.old }
     {

@@ -1,4 +1,4 @@
-ghost use Rattle.std.specs.Prelude.{◌≡◌, ◌^◌, ◌≤◌, length, map, unsigned_abs, All};
+ghost use Rattle.std.specs.Prelude.{◌≡◌, ◌*◌, ◌^◌, ◌≤◌, length, map, unsigned_abs, All};
 ghost use Rattle.sd_model_record.specs.Record.{timer_figures, limits_for};
 ghost use Rattle.sd_plan.specs.Entries.{limits_of, classes_view};
 ghost use Rattle.sd_plan.specs.Plan.{plan_view};
@@ -21,7 +21,7 @@ pub(crate) fn put_timer_of(
     plan: &Reckoning,
     timer: &mut TimerRow,
 )
-    requires weight { unsigned_abs weight.0 ≤ 10 ^ 34 }
+    requires weight { unsigned_abs weight.0 ≤ 17 * 10 ^ 34 }
     requires range { All IsTimerValue values.old }
     requires many { length values.old ≤ 2 ^ 20 }
     ensures { timer_view timer.new ≡ timer_figures (plan_view plan.now) key.now weight.0 (numbers values.old) }

@@ -1,7 +1,6 @@
-ghost use Rattle.std.specs.Prelude.{◌≡◌, ◌^◌, ◌<◌, ◌≤◌, length, slice_get, unsigned_abs, All, IfSome};
+ghost use Rattle.std.specs.Prelude.{◌≡◌, ◌*◌, ◌^◌, ◌<◌, ◌≤◌, length, slice_get, unsigned_abs, All, IfSome};
 ghost use Rattle.sd_model_text.specs.Names.{Counter, Timer};
 ghost use Rattle.sd_model_record.specs.Record.{row_value, row_of_kind, timer_figures, TimerRow as RowOfTimer, GaugeRow, SetRow};
-ghost use Rattle.sd_model_shard.specs.Statistics.{gauge_value, members_of};
 ghost use Rattle.sd_model_shard.specs.Values.{distinct};
 ghost use Rattle.sd_plan.specs.Plan.{plan_view};
 ghost use Rattle.sd_stats.specs.Timer.{numbers, IsTimerValue};
@@ -22,8 +21,8 @@ use sd_stats::distinct;
 /// as many bytes as a timer has.
 pub(crate) fn put_row(table: &Table, i: u32, plan: &Reckoning, room: &mut Scratch, row: &mut Row)
     requires place { i < length table.now.listed }
-    requires room { length table.now.held ≤ room.old.room }
-    ensures row { IfSome (slice_get table.now.listed i) (λ e. row_view row.new ≡ row_value (plan_view plan.now) table.now.held e.0 e.1) }
+    requires room { table.now.entries ≤ room.old.room }
+    ensures row { IfSome (slice_get table.now.listed i) (λ e. row_view row.new ≡ row_value (plan_view plan.now) e.0 e.1) }
     ensures room { room.new.room ≡ room.old.room }
 {
     match table.get(i).kind {
@@ -45,7 +44,7 @@ fn key_of(table: &Table, i: u32) -> Key
 /// Puts the i-th row of a table into `row` as a counter.
 fn put_counter(table: &Table, i: u32, plan: &Reckoning, row: &mut Row)
     requires { i < length table.now.listed }
-    ensures { IfSome (slice_get table.now.listed i) (λ e. row_view row.new ≡ row_of_kind Counter (plan_view plan.now) table.now.held e.0 e.1) }
+    ensures { IfSome (slice_get table.now.listed i) (λ e. row_view row.new ≡ row_of_kind Counter (plan_view plan.now) e.0.key e.1.since) }
 {
     let weight = table.row(i).weight;
     let per_second = per_second(weight, plan.interval_ms);
@@ -66,8 +65,8 @@ fn put_counter(table: &Table, i: u32, plan: &Reckoning, row: &mut Row)
 fn put_timer(table: &Table, i: u32, plan: &Reckoning, room: &mut Scratch, row: &mut Row)
     requires place { i < length table.now.listed }
     requires kind { IfSome (slice_get table.now.listed i) (λ e. e.0.kind ≡ Timer) }
-    requires room { length table.now.held ≤ room.old.room }
-    ensures row { IfSome (slice_get table.now.listed i) (λ e. row_view row.new ≡ row_of_kind Timer (plan_view plan.now) table.now.held e.0 e.1) }
+    requires room { table.now.entries ≤ room.old.room }
+    ensures row { IfSome (slice_get table.now.listed i) (λ e. row_view row.new ≡ row_of_kind Timer (plan_view plan.now) e.0.key e.1.since) }
     ensures room { room.new.room ≡ room.old.room }
 {
     let weight = table.row(i).weight;
@@ -82,7 +81,7 @@ fn put_timer(table: &Table, i: u32, plan: &Reckoning, room: &mut Scratch, row: &
 
 /// Puts a timer of this key, weight and values, made anew, into `row`. The slice is sorted.
 fn put_new_timer(key: &Key, weight: Sum, values: &mut [Micro], plan: &Reckoning, row: &mut Row)
-    requires weight { unsigned_abs weight.0 ≤ 10 ^ 34 }
+    requires weight { unsigned_abs weight.0 ≤ 17 * 10 ^ 34 }
     requires range { All IsTimerValue values.old }
     requires many { length values.old ≤ 2 ^ 20 }
     ensures { row_view row.new ≡ RowOfTimer key.now (timer_figures (plan_view plan.now) key.now weight.0 (numbers values.old)) }
@@ -98,7 +97,7 @@ fn put_new_timer(key: &Key, weight: Sum, values: &mut [Micro], plan: &Reckoning,
 /// Puts the i-th row of a table into `row` as a gauge.
 fn put_gauge(table: &Table, i: u32, row: &mut Row)
     requires { i < length table.now.listed }
-    ensures { IfSome (slice_get table.now.listed i) (λ e. row_view row.new ≡ GaugeRow e.0.key (gauge_value e.0 e.1.base table.now.held)) }
+    ensures { IfSome (slice_get table.now.listed i) (λ e. row_view row.new ≡ GaugeRow e.0.key e.1.since.gauge) }
 {
     let gauge = table.gauge_of(i);
     if let Row::Gauge { key, value } = row {
@@ -115,8 +114,8 @@ fn put_gauge(table: &Table, i: u32, row: &mut Row)
 /// Puts the i-th row of a table into `row` as a set.
 fn put_set(table: &Table, i: u32, room: &mut Scratch, row: &mut Row)
     requires place { i < length table.now.listed }
-    requires room { length table.now.held ≤ room.old.room }
-    ensures row { IfSome (slice_get table.now.listed i) (λ e. row_view row.new ≡ SetRow e.0.key (distinct (members_of e.0 table.now.held))) }
+    requires room { table.now.entries ≤ room.old.room }
+    ensures row { IfSome (slice_get table.now.listed i) (λ e. row_view row.new ≡ SetRow e.0.key (distinct e.1.since.members)) }
     ensures room { room.new.room ≡ room.old.room }
 {
     table.members_of(i, room);

@@ -3,7 +3,7 @@ use Rattle.std.specs.Prelude.{◌≡◌, ◌≤◌, length, map, vec_len, Some}
 use Rattle.sd_model_outside.specs.Outside.{Object}
 use Rattle.sd_model_outside.specs.Turns.{most_datagram}
 use Rattle.sd_live.specs.declared.up_cell.UpCell.{UpCell}
-use Rattle.sd_live.specs.Live.{IsPassOf, publishes, seen as history_in}
+use Rattle.sd_live.specs.Live.{IsPassOf, looks_of, publishes, seen as history_in}
 use Rattle.sd_proxy.specs.Proxying.{ProxiesByLooks}
 use Rattle.sd_proxy.specs.declared.proxied.Proxied.{Proxied}
 use Rattle.sd_relay.specs.declared.post.Post.{Post}
@@ -24,4 +24,4 @@ module _ {D L : Type 0} where
     pub publishes_same : publishes new.pass ≡ publishes old.pass
     pub wires : vec_len new.wires ≡ vec_len old.wires
     pub room : vec_len new.buf ≡ vec_len old.buf
-    pub proxies : ProxiesByLooks old.ring (history_in old.pass) (history_in new.pass) (seen old.packets) (seen new.packets) (map wire_seen old.wires.items) (map wire_seen new.wires.items) got
+    pub proxies : ProxiesByLooks old.ring (history_in old.pass) (history_in new.pass) (looks_of old.pass) (looks_of new.pass) (seen old.packets) (seen new.packets) (map wire_seen old.wires.items) (map wire_seen new.wires.items) got

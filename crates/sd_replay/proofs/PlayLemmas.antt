@@ -14,7 +14,7 @@ use Rattle.sd_model_outside.proofs.WriteLemmas.{given-given}
 use Rattle.sd_model_shard.specs.Shard.{State, empty_state, Policy, Submit, after_swap, carried, left_of, table_of}
 use Rattle.sd_model_shard.specs.Rows.{Rows, Kept, row_cmp}
 use Rattle.sd_model_shard.proofs.RowLemmas.{rows_total, rows_exact}
-use Rattle.sd_model_shard.proofs.CarriedLemmas.{get-carried}
+use Rattle.sd_model_shard.proofs.SummaryLemmas.{get-carried}
 use Rattle.sd_model_shard.specs.History.{after_all, answered, part_of}
 use Rattle.sd_model_shard.specs.Whereabouts.{dropped_in}
 use Rattle.sd_model_record.specs.Desk.{Desk, Marks, new_desk, with_tally, with_repeater_faults, with_round}
@@ -97,7 +97,7 @@ none_there f (Some kept) none = absurd (cc)
 idle_swap : (policy : Policy) → after_swap policy empty_state ≡ empty_state
 idle_swap policy =
     ap (λ (live : Rows). record empty_state { live = live })
-    (same_map rows_total rows_exact (carried policy empty []) empty (λ q. get-carried policy empty [] q ∙ none_there (left_of policy [] q) (get empty q) (get-empty row_cmp q)))
+    (same_map rows_total rows_exact (carried policy empty) empty (λ q. get-carried policy empty q ∙ none_there (left_of policy q) (get empty q) (get-empty row_cmp q)))
 
 -- What a record does to shards. Beyond the last of them it does nothing.
 module _ (bounds : Bounds) (some : 0 < bounds.shards) where

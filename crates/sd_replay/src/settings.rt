@@ -12,7 +12,7 @@ use sd_outside::Name;
 use sd_plan::Target;
 use sd_shard::Policy;
 
-/// How many rows and entries a shard may have.
+/// How many rows and entries a shard may have, and whether it makes sums on arrival.
 pub fn limits_of(settings: &Settings) -> Limits
     ensures value { limits_view result ≡ limits_by settings.now }
     ensures range { AreLimits (limits_view result) }
@@ -20,6 +20,7 @@ pub fn limits_of(settings: &Settings) -> Limits
     Limits {
         rows: settings.rows(),
         entries: settings.entries(),
+        sums_on_arrival: settings.sums_on_arrival(),
     }
 }
 

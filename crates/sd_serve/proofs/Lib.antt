@@ -1,6 +1,7 @@
 mod LineLemmas
 mod PostLemmas
 mod RoomLemmas
+mod DeskLemmas
 mod ServeLemmas
 mod ServedLemmas
 mod ThroughLemmas

@@ -1,12 +1,12 @@
 -- The keeper of lines, if there is one: what its post tells of a run.
 use Rattle.std.proofs.Common.{◌≡◌, ℕ, zero, suc, ◌<◌, ◌≤◌, Bool, true, false, List, [], ◌∷◌, ◌++◌, length, map, get_or, All, refl, sym, ap, subst, ◌∙◌, arith, append-nil}
-use Rattle.std.specs.Prelude.{Option, Some, None, IfSome, option_to_list, sum_by}
+use Rattle.std.specs.Prelude.{Option, Some, None, IfSome, min, option_to_list, sum_by}
 use Rattle.std.specs.List.{AllByRecursion}
 use Rattle.std.proofs.lemmas.List.Elements.{All-nil, All-cons}
 use Rattle.std.proofs.lemmas.List.Sums.{sum_by-cons}
 use Rattle.sd_model_outside.specs.Outside.{Object}
 use Rattle.sd_model_shard.specs.Whereabouts.{dropped_in, told_by}
-use Rattle.sd_model_record.specs.Counts.{Count, TotalPackets, TotalLines, TotalBad, TotalDropped, TakenPackets, TakenLines, TakenBad, TakenDropped, RoundsMade, GraphiteFaults, ConsoleFaults, RepeaterFaults, AdminFaults, Part, HasCounted, plus, of_sessions, of_tally}
+use Rattle.sd_model_record.specs.Counts.{Count, TotalPackets, TotalLines, TotalBad, TotalDropped, TakenPackets, TakenLines, TakenBad, TakenDropped, RoundsMade, GraphiteFaults, ConsoleFaults, RepeaterFaults, AdminFaults, Part, HasCounted, plus, share, of_sessions, of_tally}
 use Rattle.sd_model_record.specs.Desk.{last_counted}
 use Rattle.sd_model_record.specs.Record.{Tally}
 use Rattle.sd_model_record.proofs.CountLemmas.{nothing_counted}
@@ -21,9 +21,10 @@ use Rattle.sd_door.specs.Keeping.{EndsAfter}
 use Rattle.sd_pool.specs.Pool.{IsSeatOf, own_at, shards_of, who_is}
 use Rattle.sd_pool.specs.declared.pool.Pool.{Pool}
 use Rattle.sd_pool.specs.declared.seat.Seat.{Seat}
-use Rattle.sd_shared_desk.specs.Shared.{IsSeatOf as IsDeskSeatOf, OwnSeat as DeskSeat, part_of}
+use Rattle.sd_shared_desk.specs.Shared.{IsSeatOf as IsDeskSeatOf, OwnSeat as DeskSeat, number_of_seat, part_of}
 use Rattle.sd_shared_desk.specs.declared.shared_desk.SharedDesk.{SharedDesk}
 use Rattle.sd_serve.specs.LinePost.{AreLinedBy, WasLined, line_keepers, line_owns, line_seats}
+use Rattle.sd_serve.proofs.PostLemmas.{no_share}
 use Rattle.sd_serve.specs.Serving.{door_end_of}
 use Rattle.sd_serve.specs.declared.line_post.LinePost.{LinePost}
 
@@ -35,7 +36,7 @@ keeper_as asked (closed.Worn turns) door_now part turned h = h
 
 -- the seats of a keeper of lines had made nothing
 abbrev pub IsNewLine : Option LinePost → Type 0
-IsNewLine post = IfSome post (λ p. ((i : ℕ) → own_at p.seat i ≡ []) × ((count : Count) → (part_of p.own).share count ≡ 0))
+IsNewLine post = IfSome post (λ p. ((i : ℕ) → own_at p.seat i ≡ []) × ((part_of p.own).own ≡ []))
 
 -- what one keeper of lines counts, with so many drops
 one_lined : (l : Lining) (drops : ℕ) (count : Count)
@@ -50,13 +51,13 @@ one_lined l drops count =
 none_lined : (count : Count) → lined_by [] 0 count ≡ 0
 none_lined count = omega (arith, nothing_counted count)
 
-module _ (pool : Pool) (desk : SharedDesk) (asked : ℕ) where
+module _ (says : ℕ → Type 0) (pool : Pool) (desk : SharedDesk) (asked : ℕ) where
   -- a post was run, if there is one
   abbrev pub Lined : Option LinePost → Option LinePost → Option DoorEnd → Object → Object → Type 0
-  Lined p q ended door door_now = AreLinedBy pool desk asked p q ended door door_now
+  Lined p q ended door door_now = AreLinedBy says pool desk asked p q ended door door_now
 
   -- what the keeper of lines did
-  abbrev pub lining_of : (p q : LinePost) (ended : DoorEnd) (door door_now : Object) → WasLined pool desk asked p q ended door door_now → Lining
+  abbrev pub lining_of : (p q : LinePost) (ended : DoorEnd) (door door_now : Object) → WasLined says pool desk asked p q ended door door_now → Lining
   lining_of p q ended door door_now w = record { visits = w.keeps.serves.visits; streams = w.keeps.streams; failures = w.keeps.serves.failures; ended = door_end_of ended }
 
   abbrev pub linings_of : (p q : Option LinePost) (ended : Option DoorEnd) (door door_now : Object) → Lined p q ended door door_now → List Lining
@@ -87,6 +88,13 @@ module _ (pool : Pool) (desk : SharedDesk) (asked : ℕ) where
   line_callers (Some p) None ended door door_now h = absurd h
   line_callers (Some p) (Some q) None door door_now h = absurd h
   line_callers (Some p) (Some q) (Some e) door door_now h = (λ i. h.who i ∷ [])
+
+  pub line_numbers : (p q : Option LinePost) (ended : Option DoorEnd) (door door_now : Object) → Lined p q ended door door_now → map number_of_seat (line_owns q) ≡ map number_of_seat (line_owns p)
+  line_numbers None None ended door door_now h = refl
+  line_numbers None (Some q) ended door door_now h = absurd h
+  line_numbers (Some p) None ended door door_now h = absurd h
+  line_numbers (Some p) (Some q) None door door_now h = absurd h
+  line_numbers (Some p) (Some q) (Some e) door door_now h = (λ i. h.number i ∷ [])
 
   pub line_longs : (p q : Option LinePost) (ended : Option DoorEnd) (door door_now : Object) → Lined p q ended door door_now → (length (line_seats q) ≡ length (line_seats p)) × (length (line_owns q) ≡ length (line_owns p))
   line_longs None None ended door door_now h = (refl, refl)
@@ -131,7 +139,7 @@ module _ (pool : Pool) (desk : SharedDesk) (asked : ℕ) where
   }
 
   -- what the keeper's new seat has made is what it made since
-  line_made : (p q : LinePost) (e : DoorEnd) (door door_now : Object) (w : WasLined pool desk asked p q e door door_now) → ((i : ℕ) → own_at p.seat i ≡ []) → (i : ℕ) → i < shards_of pool → own_at q.seat i ≡ w.keeps.serves.filed.acts i
+  line_made : (p q : LinePost) (e : DoorEnd) (door door_now : Object) (w : WasLined says pool desk asked p q e door door_now) → ((i : ℕ) → own_at p.seat i ≡ []) → (i : ℕ) → i < shards_of pool → own_at q.seat i ≡ w.keeps.serves.filed.acts i
   line_made p q e door door_now w none i below = w.keeps.serves.filed.added i below ∙ ap (λ h. h ++ w.keeps.serves.filed.acts i) (none i)
 
   pub line_asked : (p q : Option LinePost) (ended : Option DoorEnd) (door door_now : Object) (h : Lined p q ended door door_now) → IsNewLine p → (i : ℕ) → i < shards_of pool
@@ -148,9 +156,9 @@ module _ (pool : Pool) (desk : SharedDesk) (asked : ℕ) where
   abbrev pub line_drops : Option LinePost → ℕ
   line_drops q = sum_by (λ (s : Seat). told_in dropped_in (shards_of pool) (own_at s)) (line_seats q)
 
-  line_share : (p q : LinePost) (e : DoorEnd) (door door_now : Object) (w : WasLined pool desk asked p q e door door_now) → ((i : ℕ) → own_at p.seat i ≡ []) → ((count : Count) → (part_of p.own).share count ≡ 0) → (count : Count) → (part_of q.own).seen count < last_counted
-      → (part_of q.own).share count ≡ lined_by (lining_of p q e door door_now w ∷ []) (told_in dropped_in (shards_of pool) (own_at q.seat)) count
-  line_share p q e door door_now w none zero_shares count few =
+  line_share : (p q : LinePost) (e : DoorEnd) (door door_now : Object) (w : WasLined says pool desk asked p q e door door_now) → ((i : ℕ) → own_at p.seat i ≡ []) → ((count : Count) → share (part_of p.own) count ≡ 0) → (count : Count)
+      → min (share (part_of q.own) count) last_counted ≡ min (lined_by (lining_of p q e door door_now w ∷ []) (told_in dropped_in (shards_of pool) (own_at q.seat)) count) last_counted
+  line_share p q e door door_now w none zero_shares count =
       let serves = w.keeps.serves in
       let l : Lining = lining_of p q e door door_now w in
       let cuts = lines_in w.keeps.streams in
@@ -159,18 +167,19 @@ module _ (pool : Pool) (desk : SharedDesk) (asked : ℕ) where
       (λ i below. ap (told_by dropped_in) (sym (line_made p q e door door_now w none i (omega (arith, below))))) in
       let tally = serves.filed.tally_is ∙ ap (λ n. tally_of 0 (sum_by pieces_of_line cuts) (sum_by bad_of_line cuts) n) drops in
       exact_share 0 (sum_by pieces_of_line cuts) (sum_by bad_of_line cuts) (told_in dropped_in (shards_of pool) (own_at q.seat)) (of_sessions (faults_in_lines l)) (part_of p.own) (part_of q.own)
-      (subst (λ (t : Tally). HasCounted (plus (of_tally t) (of_sessions (faults_in_lines l))) (part_of p.own) (part_of q.own)) tally serves.counted) zero_shares count few
-      ∙ one_lined l (told_in dropped_in (shards_of pool) (own_at q.seat)) count
+      (subst (λ (t : Tally). HasCounted (plus (of_tally t) (of_sessions (faults_in_lines l))) (part_of p.own) (part_of q.own)) tally serves.counted) zero_shares count
+      ∙ ap (λ n. min n last_counted) (one_lined l (told_in dropped_in (shards_of pool) (own_at q.seat)) count)
 
-  pub line_shares : (p q : Option LinePost) (ended : Option DoorEnd) (door door_now : Object) (h : Lined p q ended door door_now) → IsNewLine p → (count : Count) → AllByRecursion (λ (o : DeskSeat). (part_of o).seen count < last_counted) (line_owns q)
-      → sum_by (λ (o : DeskSeat). (part_of o).share count) (line_owns q) ≡ lined_by (linings_of p q ended door door_now h) (line_drops q) count
-  line_shares None None None door door_now h new count few = sym (none_lined count)
-  line_shares None None (Some e) door door_now h new count few = absurd h
-  line_shares None (Some q) ended door door_now h new count few = absurd h
-  line_shares (Some p) None ended door door_now h new count few = absurd h
-  line_shares (Some p) (Some q) None door door_now h new count few = absurd h
-  line_shares (Some p) (Some q) (Some e) door door_now h new count few =
-      let one = line_share p q e door door_now h new.0 new.1 count few.0 in
-      let sum : sum_by (λ (o : DeskSeat). (part_of o).share count) (q.own ∷ []) ≡ (part_of q.own).share count = (let cons = sum_by-cons (λ (o : DeskSeat). (part_of o).share count) q.own [] in omega (arith, cons)) in
+  pub line_shares : (p q : Option LinePost) (ended : Option DoorEnd) (door door_now : Object) (h : Lined p q ended door door_now) → IsNewLine p → (count : Count)
+      → min (sum_by (λ (o : DeskSeat). share (part_of o) count) (line_owns q)) last_counted ≡ min (lined_by (linings_of p q ended door door_now h) (line_drops q) count) last_counted
+  line_shares None None None door door_now h new count = let none = none_lined count in omega (arith, none)
+  line_shares None None (Some e) door door_now h new count = absurd h
+  line_shares None (Some q) ended door door_now h new count = absurd h
+  line_shares (Some p) None ended door door_now h new count = absurd h
+  line_shares (Some p) (Some q) None door door_now h new count = absurd h
+  line_shares (Some p) (Some q) (Some e) door door_now h new count =
+      let one = line_share p q e door door_now h new.0 (λ c. no_share (part_of p.own) new.1 c) count in
+      let sum : sum_by (λ (o : DeskSeat). share (part_of o) count) (q.own ∷ []) ≡ share (part_of q.own) count = (let cons = sum_by-cons (λ (o : DeskSeat). share (part_of o) count) q.own [] in omega (arith, cons)) in
       let drops : line_drops (Some q) ≡ told_in dropped_in (shards_of pool) (own_at q.seat) = (let cons = sum_by-cons (λ (s : Seat). told_in dropped_in (shards_of pool) (own_at s)) q.seat [] in omega (arith, cons)) in
-      sum ∙ one ∙ ap (λ n. lined_by (linings_of (Some p) (Some q) (Some e) door door_now h) n count) (sym drops)
+      let whole = ap (λ n. lined_by (linings_of (Some p) (Some q) (Some e) door door_now h) n count) drops in
+      omega (arith, sum, one, whole)

@@ -1,13 +1,14 @@
 -- Posts that were run: what their parts tell together.
 use Rattle.std.proofs.Common.{◌≡◌, ℕ, zero, suc, ◌<◌, ◌≤◌, List, [], ◌∷◌, ◌++◌, length, map, flat_map, take, drop, get_or, All, refl, sym, ap, subst, ◌∙◌, arith, append_assoc, length-append}
-use Rattle.std.specs.Prelude.{slice_index_or, sum_by}
+use Rattle.std.specs.Prelude.{min, slice_index_or, sum_by}
 use Rattle.std.specs.List.{AllByRecursion}
 use Rattle.std.proofs.lemmas.List.Elements.{All-nil, All-cons}
 use Rattle.std.proofs.lemmas.List.Sums.{sum_by-cons}
 use Rattle.sd_model_outside.specs.Outside.{Object}
 use Rattle.sd_model_text.specs.Lines.{Sample, pieces, bad_of}
 use Rattle.sd_model_shard.specs.Whereabouts.{dropped_in, told_by}
-use Rattle.sd_model_record.specs.Counts.{Count, RoundsMade, Part, HasCounted, plus, of_tally, of_sends}
+use Rattle.sd_model_record.specs.Counts.{Count, RoundsMade, Part, HasCounted, plus, share, of_calls, of_tally, of_sends}
+use Rattle.sd_model_record.specs.DeskHistory.{DeskCall}
 use Rattle.sd_model_record.specs.Desk.{last_counted}
 use Rattle.sd_model_record.specs.Record.{Tally}
 use Rattle.sd_model_serve.specs.Receiving.{asks, events_of, told_in, failed_sends, tally_of, Reception, brought_by}
@@ -22,7 +23,7 @@ use Rattle.sd_pool.specs.declared.pool.Pool.{Pool}
 use Rattle.sd_pool.specs.declared.seat.Seat.{Seat}
 use Rattle.sd_receive.specs.Receiving.{EndsSo}
 use Rattle.sd_receive.specs.declared.post.Post.{Post}
-use Rattle.sd_shared_desk.specs.Shared.{IsSeatOf as IsDeskSeatOf, OwnSeat as DeskSeat, part_of}
+use Rattle.sd_shared_desk.specs.Shared.{IsSeatOf as IsDeskSeatOf, OwnSeat as DeskSeat, number_of_seat, part_of}
 use Rattle.sd_shared_desk.specs.declared.shared_desk.SharedDesk.{SharedDesk}
 use Rattle.sd_receive.specs.Posts.{HasRun, WasRun, ended_by, ended_in}
 use Rattle.sd_serve.specs.Parts.{IsFitted, own_in, seat_in, source_in, wires_in}
@@ -48,14 +49,18 @@ drop_run see zero (w ∷ first) behind len = absurd (omega (arith, len))
 drop_run see (suc n) [] behind len = absurd (omega (arith, len))
 drop_run see (suc n) (w ∷ first) behind len = drop_run see n first behind (omega (arith, len))
 
+-- who has called nothing has added nothing
+pub no_share : (part : Part) → part.own ≡ [] → (count : Count) → share part count ≡ 0
+no_share part none count = ap (λ (l : List DeskCall). of_calls l count) none
+
 -- the seats of posts had made nothing
 abbrev pub AreNew : {D L : Type 0} → List (Post D L) → Type 0
-AreNew posts = AllByRecursion (λ p. ((i : ℕ) → own_at p.seat i ≡ []) × ((count : Count) → (part_of p.own).share count ≡ 0)) posts
+AreNew posts = AllByRecursion (λ p. ((i : ℕ) → own_at p.seat i ≡ []) × ((part_of p.own).own ≡ [])) posts
 
-module _ {D L : Type 0} (seen : D → Object) (wire_seen : L → Object) (pool : Pool) (desk : SharedDesk) (asked : ℕ) where
+module _ {D L : Type 0} (seen : D → Object) (wire_seen : L → Object) (says : ℕ → Type 0) (pool : Pool) (desk : SharedDesk) (asked : ℕ) where
   -- a post was run
   abbrev pub Ran : Post D L → Post D L → Type 0
-  Ran x y = HasRun seen wire_seen pool desk asked x y
+  Ran x y = HasRun seen wire_seen says pool desk asked x y
 
   pub all_ran : (xs ys : List (Post D L)) → length ys ≡ length xs → ((i : ℕ) (d : Post D L) → i < length xs → Ran (slice_index_or xs i d) (slice_index_or ys i d)) → Pairs Ran xs ys
   all_ran [] [] same each = tt
@@ -74,6 +79,12 @@ module _ {D L : Type 0} (seen : D → Object) (wire_seen : L → Object) (pool :
   ran_callers [] (y ∷ ys) all = absurd all
   ran_callers (x ∷ xs) [] all = absurd all
   ran_callers (x ∷ xs) (y ∷ ys) all = (λ i. all.0.who i ∷ ran_callers xs ys all.1 i)
+
+  pub ran_numbers : (xs ys : List (Post D L)) → Pairs Ran xs ys → map number_of_seat (map own_in ys) ≡ map number_of_seat (map own_in xs)
+  ran_numbers [] [] all = refl
+  ran_numbers [] (y ∷ ys) all = absurd all
+  ran_numbers (x ∷ xs) [] all = absurd all
+  ran_numbers (x ∷ xs) (y ∷ ys) all = λ i. all.0.number i ∷ ran_numbers xs ys all.1 i
 
   pub ran_owns : (xs ys : List (Post D L)) → Pairs Ran xs ys → All (IsDeskSeatOf desk) (map own_in ys)
   ran_owns [] [] all = All-nil (IsDeskSeatOf desk)
@@ -126,6 +137,7 @@ module _ {D L : Type 0} (seen : D → Object) (wire_seen : L → Object) (pool :
     place = ran.receives.place;
     turned = ran.receives.turned;
     turns = ran.receives.turns;
+    many = ran.receives.takes.many;
     seen = (part_of y.own).seen RoundsMade;
     known = known;
     ends = ends_as asked ran.got.ended (seen x.packets) (seen y.packets) (part_of y.own) ran.receives.turned ran.receives.ends;
@@ -174,26 +186,27 @@ module _ {D L : Type 0} (seen : D → Object) (wire_seen : L → Object) (pool :
   abbrev pub drops_of : Seat → ℕ
   drops_of s = told_in dropped_in (shards_of pool) (own_at s)
 
-  one_share : (x y : Post D L) (ran : Ran x y) → ((i : ℕ) → own_at x.seat i ≡ []) → ((count : Count) → (part_of x.own).share count ≡ 0) → (count : Count) → (part_of y.own).seen count < last_counted
-      → (part_of y.own).share count ≡ one_by (reception_of x y ran) (drops_of y.seat) count
-  one_share x y ran none zero_shares count few =
+  one_share : (x y : Post D L) (ran : Ran x y) → ((i : ℕ) → own_at x.seat i ≡ []) → ((count : Count) → share (part_of x.own) count ≡ 0) → (count : Count)
+      → min (share (part_of y.own) count) last_counted ≡ min (one_by (reception_of x y ran) (drops_of y.seat) count) last_counted
+  one_share x y ran none zero_shares count =
       let takes = ran.receives.takes in
       let drops : told_in dropped_in (shards_of pool) takes.filed.acts ≡ drops_of y.seat =
       sum_by-range (λ i. told_by dropped_in (takes.filed.acts i)) (λ i. told_by dropped_in (own_at y.seat i)) 0 (shards_of pool)
       (λ i below. ap (told_by dropped_in) (sym (made_since x y ran none i (omega (arith, below))))) in
       let tally = takes.filed.tally_is ∙ ap (λ n. tally_of (length takes.read) (sum_by (λ d. length (pieces d)) takes.read) (sum_by bad_of takes.read) n) drops in
       exact_share (length takes.read) (sum_by (λ d. length (pieces d)) takes.read) (sum_by bad_of takes.read) (drops_of y.seat) (of_sends (failed_sends takes.sendings)) (part_of x.own) (part_of y.own)
-      (subst (λ (t : Tally). HasCounted (plus (of_tally t) (of_sends (failed_sends takes.sendings))) (part_of x.own) (part_of y.own)) tally takes.counted) zero_shares count few
+      (subst (λ (t : Tally). HasCounted (plus (of_tally t) (of_sends (failed_sends takes.sendings))) (part_of x.own) (part_of y.own)) tally takes.counted) zero_shares count
 
-  pub all_shares : (xs ys : List (Post D L)) (all : Pairs Ran xs ys) → AreNew xs → (count : Count) → AllByRecursion (λ (o : DeskSeat). (part_of o).seen count < last_counted) (map own_in ys)
-      → sum_by (λ (o : DeskSeat). (part_of o).share count) (map own_in ys) ≡ received_by (receptions_of xs ys all) (sum_by drops_of (map seat_in ys)) count
-  all_shares [] [] all new count few = sym (none_received count)
-  all_shares [] (y ∷ ys) all new count few = absurd all
-  all_shares (x ∷ xs) [] all new count few = absurd all
-  all_shares (x ∷ xs) (y ∷ ys) all new count few =
-      let one = one_share x y all.0 new.0.0 new.0.1 count few.0 in
-      let rest = all_shares xs ys all.1 new.1 count few.1 in
-      let sum = sum_by-cons (λ (o : DeskSeat). (part_of o).share count) y.own (map own_in ys) in
+  pub all_shares : (xs ys : List (Post D L)) (all : Pairs Ran xs ys) → AreNew xs → (count : Count)
+      → min (sum_by (λ (o : DeskSeat). share (part_of o) count) (map own_in ys)) last_counted ≡ min (received_by (receptions_of xs ys all) (sum_by drops_of (map seat_in ys)) count) last_counted
+  all_shares [] [] all new count = let none = none_received count in omega (arith, none)
+  all_shares [] (y ∷ ys) all new count = absurd all
+  all_shares (x ∷ xs) [] all new count = absurd all
+  all_shares (x ∷ xs) (y ∷ ys) all new count =
+      let one = one_share x y all.0 new.0.0 (λ c. no_share (part_of x.own) new.0.1 c) count in
+      let rest = all_shares xs ys all.1 new.1 count in
+      let sum = sum_by-cons (λ (o : DeskSeat). share (part_of o) count) y.own (map own_in ys) in
       let drops = sum_by-cons drops_of y.seat (map seat_in ys) in
       let next = received_next (reception_of x y all.0) (receptions_of xs ys all.1) (drops_of y.seat) (sum_by drops_of (map seat_in ys)) count in
-      sum ∙ omega (arith, one, rest) ∙ sym next ∙ ap (λ n. received_by (receptions_of (x ∷ xs) (y ∷ ys) all) n count) (sym drops)
+      let whole = ap (λ n. received_by (receptions_of (x ∷ xs) (y ∷ ys) all) n count) drops in
+      omega (arith, sum, one, rest, next, whole)

@@ -5,7 +5,7 @@ use Rattle.std.specs.List.{AllByRecursion}
 use Rattle.std.proofs.Math.Nat.{suc-mul, zero-mul}
 use Rattle.std.proofs.lemmas.List.{length-map}
 use Rattle.std.proofs.lemmas.List.Elements.{All-nil, All-cons}
-use Rattle.sd_seats.specs.Lists.{span}
+use Rattle.sd_turn.specs.Lists.{span}
 use Rattle.sd_model_outside.specs.Outside.{Object}
 use Rattle.sd_outside.specs.declared.door.DoorEnd.{DoorEnd}
 use Rattle.sd_pool.specs.Pool.{IsNewSeatOf}
@@ -36,14 +36,14 @@ left_behind all front rest n m is whole first = let both = ap length is ∙ leng
 module _ {D L : Type 0} (pool : Pool) (desk : SharedDesk) where
   pub new_posts : (xs : List (Post D L)) (seats : List Seat) (owns : List DeskSeat) → AllByRecursion (IsNewSeatOf pool) (map seat_in xs ++ seats) → AllByRecursion (IsNewDeskSeatOf desk) (map own_in xs ++ owns) → AreNew xs
   new_posts [] seats owns new_seats new_owns = tt
-  new_posts (x ∷ xs) seats owns new_seats new_owns = ((new_seats.0.own, new_owns.0.share), new_posts xs seats owns new_seats.1 new_owns.1)
+  new_posts (x ∷ xs) seats owns new_seats new_owns = ((new_seats.0.own, new_owns.0.own), new_posts xs seats owns new_seats.1 new_owns.1)
 
   pub ready_posts : (run : ℕ) → run < 2 ^ 32 → (xs : List (Post D L)) (seats : List Seat) (owns : List DeskSeat) → AllByRecursion (IsNewSeatOf pool) (map seat_in xs ++ seats) → AllByRecursion (IsNewDeskSeatOf desk) (map own_in xs ++ owns)
       → AllByRecursion (IsFitted run) xs → All (IsReady pool desk) xs
   ready_posts run few [] seats owns new_seats new_owns fitted = All-nil (IsReady pool desk)
   ready_posts run few (x ∷ xs) seats owns new_seats new_owns fitted =
       All-cons (IsReady pool desk) x xs
-      (record { room = let big = fitted.0.1 in omega (arith, big, x.buf.ok.0); few_wires = let len = fitted.0.0 in omega (arith, len, few, x.wires.ok.0); seat_is = new_seats.0.seat_is; own_is = new_owns.0.own })
+      (record { room = let big = fitted.0.1 in omega (arith, big, x.buf.ok.0); few_wires = let len = fitted.0.0 in omega (arith, len, few, x.wires.ok.0); seat_is = new_seats.0.seat_is; own_is = new_owns.0.seat_is })
       (ready_posts run few xs seats owns new_seats.1 new_owns.1 fitted.1)
 
 -- Parts were put back before what was left.
@@ -81,11 +81,11 @@ lines_long post room is =
     (length-map (option_to_list post) (λ (p : LinePost). p.seat) ∙ line_long post room is, length-map (option_to_list post) (λ (p : LinePost). p.own) ∙ line_long post room is)
 
 -- and as many once they were run
-pub lines_after : (pool : Pool) (desk : SharedDesk) (run_flushes : ℕ) (streams : Bool) (room : Option LineRoom) (post now : Option LinePost) (ended : Option DoorEnd) (door door_now : Object) → HasLineRoom streams room → line_rooms post ≡ lines_in room →
-    AreLinedBy pool desk run_flushes post now ended door door_now → (length (line_seats now) ≡ line_keepers streams) × (length (line_owns now) ≡ line_keepers streams)
-lines_after pool desk run_flushes streams room post now ended door door_now there is ran =
+pub lines_after : (says : ℕ → Type 0) (pool : Pool) (desk : SharedDesk) (run_flushes : ℕ) (streams : Bool) (room : Option LineRoom) (post now : Option LinePost) (ended : Option DoorEnd) (door door_now : Object) → HasLineRoom streams room → line_rooms post ≡ lines_in room →
+    AreLinedBy says pool desk run_flushes post now ended door door_now → (length (line_seats now) ≡ line_keepers streams) × (length (line_owns now) ≡ line_keepers streams)
+lines_after says pool desk run_flushes streams room post now ended door door_now there is ran =
     let before = lines_long post room is in
-    let after = line_longs pool desk run_flushes post now ended door door_now ran in
+    let after = line_longs says pool desk run_flushes post now ended door door_now ran in
     let all = line_there streams room there in
     (after.0 ∙ before.0 ∙ all, after.1 ∙ before.1 ∙ all)
 
@@ -98,11 +98,11 @@ line_room true (Some room) r h is = subst (λ (q : LineRoom). 0 < vec_len q.buf)
 pub line_ready : (pool : Pool) (desk : SharedDesk) (streams : Bool) (room : Option LineRoom) (post : Option LinePost) → HasLineRoom streams room → line_rooms post ≡ lines_in room → AllByRecursion (IsNewSeatOf pool) (line_seats post) → AllByRecursion (IsNewDeskSeatOf desk) (line_owns post)
     → IfSome post (IsLineReady pool desk)
 line_ready pool desk streams room None has is seats owns = tt
-line_ready pool desk streams room (Some p) has is seats owns = record { seat_is = seats.0.seat_is; own_is = owns.0.own; room = line_room streams room p.room has is }
+line_ready pool desk streams room (Some p) has is seats owns = record { seat_is = seats.0.seat_is; own_is = owns.0.seat_is; room = line_room streams room p.room has is }
 
 pub line_new : (pool : Pool) (desk : SharedDesk) (post : Option LinePost) → AllByRecursion (IsNewSeatOf pool) (line_seats post) → AllByRecursion (IsNewDeskSeatOf desk) (line_owns post) → IsNewLine post
 line_new pool desk None seats owns = tt
-line_new pool desk (Some p) seats owns = (seats.0.own, owns.0.share)
+line_new pool desk (Some p) seats owns = (seats.0.own, owns.0.own)
 
 -- how many wires posts have together
 pub wires_of_posts : {D L : Type 0} (run : ℕ) (xs : List (Post D L)) → AllByRecursion (IsFitted run) xs → length (flat_map wires_in xs) ≡ length xs * run

@@ -1,11 +1,11 @@
 -- A run of the server, put together from what its workers tell, and the closing of its pool and its desk.
 use Rattle.std.proofs.Common.{◌≡◌, ◌⊎◌, ℕ, suc, ◌+◌, ◌<◌, ◌≤◌, Bool, Option, List, [], ◌∷◌, ◌++◌, length, map, flat_map, get_or, All, inl, inr, refl, sym, ap, subst, ◌∙◌, arith, length-append, append_assoc}
-use Rattle.std.specs.Prelude.{option_to_list, sum_by}
+use Rattle.std.specs.Prelude.{Some, IfSome, min, option_to_list, slice_get, sum_by}
 use Rattle.std.specs.List.{AllByRecursion, range_with_len}
 use Rattle.std.proofs.lemmas.Bool.{cases_lt}
 use Rattle.std.proofs.lemmas.List.{length-map, map-append}
 use Rattle.std.proofs.lemmas.List.Sums.{sum_by-append, sum_by-cons}
-use Rattle.sd_seats.specs.Lists.{span}
+use Rattle.sd_turn.specs.Lists.{span}
 use Rattle.sd_model_outside.specs.Deliveries.{Delivery, AfterDeliveries}
 use Rattle.sd_model_outside.specs.Outside.{Object}
 use Rattle.sd_model_outside.proofs.DeliveryLemmas.{AfterDeliveries-push}
@@ -15,16 +15,17 @@ use Rattle.sd_model_shard.specs.History.{History, state_after}
 use Rattle.sd_model_shard.specs.Shard.{empty_state}
 use Rattle.sd_model_shard.specs.Whereabouts.{dropped_in, told_by}
 use Rattle.sd_model_record.specs.Backends.{Backend, mark_of}
-use Rattle.sd_model_serve.specs.Receiving.{administrator, flusher, Adds, events_by, events_of, told_in, brought_by}
-use Rattle.sd_model_record.specs.Counts.{Count, RoundsMade, TotalPackets, TotalLines, TotalBad, TotalDropped, TakenPackets, TakenLines, TakenBad, TakenDropped, HasCounted, Part, number_of}
+use Rattle.sd_model_serve.specs.Receiving.{CountsDatagrams, administrator, flusher, Adds, events_by, events_of, told_in, brought_by}
+use Rattle.sd_model_record.specs.Counts.{Among, HasCalled, IsKeeping, share, Count, RoundsMade, TotalPackets, TotalLines, TotalBad, TotalDropped, TakenPackets, TakenLines, TakenBad, TakenDropped, HasCounted, Part, number_of}
 use Rattle.sd_model_record.specs.Desk.{Desk, IsBalanced, Marks, last_counted}
+use Rattle.sd_model_record.specs.DeskHistory.{DeskCall, IsDeskHistory, calls_by, desk_after}
 use Rattle.sd_model_serve.specs.Ends.{EndsFlusher}
-use Rattle.sd_model_serve.specs.Rounds.{Round, of_rounds, round_deliveries, round_text, swaps_at, AreCommands, JoinsAs, Ran}
+use Rattle.sd_model_serve.specs.Rounds.{Round, last_second, of_rounds, round_calls, round_deliveries, round_text, swaps_at, AreCommands, JoinsAs, Ran}
 use Rattle.sd_model_serve.specs.Sessions.{acts_in, events_in}
-use Rattle.sd_model_serve.specs.Doors.{ServesSessions, asked_by}
+use Rattle.sd_model_serve.specs.Doors.{ServesSessions, asked_by, called_in}
 use Rattle.sd_model_serve.proofs.ServedLemmas.{events_of_acts, ran_by_callers}
-use Rattle.sd_model_run.specs.Run.{Course, Terms, brought_in, counts_of, IsRun, Objects, ServerTheorem}
-use Rattle.sd_model_stream.specs.Streams.{brought_in_lines}
+use Rattle.sd_model_run.specs.Run.{Course, Terms, brought_in, counts_of, HasOneDesk, IsRun, Objects, ServerTheorem}
+use Rattle.sd_model_stream.specs.Streams.{CountsReads, Lining, brought_in_lines, reads_in}
 use Rattle.sd_model_run.proofs.CountedLemmas.{counts_add_up, no_drops, sum_by-across, sum_by-range, swaps_drop_nothing}
 use Rattle.sd_model_run.proofs.RunLemmas.{run_accounted}
 use Rattle.sd_outside.specs.declared.datagrams.Ended.{Ended}
@@ -40,21 +41,24 @@ use Rattle.sd_pool.proofs.AlongLemmas.{AllByRecursion-back, AllByRecursion-front
 use Rattle.sd_pool.proofs.JoinLemmas.{histories_join}
 use Rattle.sd_rows.specs.declared.row.Row.{Row}
 use Rattle.sd_shard.specs.declared.shard.ShardBook.{ShardBook}
-use Rattle.sd_shared_desk.specs.Shared.{OwnSeat as DeskSeat, part_of, start_of}
+use Rattle.sd_shared_desk.specs.Shared.{OwnSeat as DeskSeat, number_of_seat, part_of, start_of}
 use Rattle.sd_shared_desk.specs.declared.shared_desk.SharedDesk.{SharedDesk}
 use Rattle.sd_door.specs.Keeping.{EndsKeeping}
 use Rattle.sd_flush.specs.Flushing.{EndsSo, MakesRoundAt, form_of}
-use Rattle.sd_flush.proofs.RoundLemmas.{round_counted, swapped_next}
+use Rattle.sd_flush.specs.declared.flushed.Flushed.{Flushed}
+use Rattle.sd_flush.proofs.RoundLemmas.{round_called, round_counted, swapped_next}
 use Rattle.sd_receive.specs.declared.post.Post.{Post}
 use Rattle.sd_serve.specs.Closing.{IsClosed}
 use Rattle.sd_serve.specs.LinePost.{AreLinedBy, line_keepers, line_owns, line_seats}
 use Rattle.sd_serve.specs.Parts.{IsFitted, own_in, seat_in, source_in, wires_in}
 use Rattle.sd_serve.specs.Serving.{door_end_of, end_of}
 use Rattle.sd_serve.specs.Through.{FlushesThrough}
+use Rattle.sd_model_run.specs.Outlets.{OutletRoom, any_buffers}
 use Rattle.sd_serve.specs.declared.line_post.LinePost.{LinePost}
 use Rattle.sd_serve.specs.declared.workers_out.OutCounts.{OutCounts}
 use Rattle.sd_serve.proofs.LineLemmas.{IsNewLine, is_lined, keeper_as, line_asked, line_drops, line_shares, linings_count, linings_of}
-use Rattle.sd_serve.proofs.PostLemmas.{AreNew, all_asked, all_receptions, all_shares, drops_of, receptions_count, receptions_of}
+use Rattle.sd_serve.proofs.DeskLemmas.{Owns, called_since, last_two, lined_so, nobody_else, numbers_of_line, received_so}
+use Rattle.sd_serve.proofs.PostLemmas.{AreNew, all_asked, all_receptions, all_shares, drops_of, no_share, receptions_count, receptions_of}
 use Rattle.sd_serve.proofs.PostLemmas as posts
 
 -- the end of the flusher, as the definitions have it
@@ -63,6 +67,11 @@ flusher_as asked ended.End beat beat_now made h = h
 flusher_as asked ended.Failed beat beat_now made h = h
 flusher_as asked (ended.Stopped rounds) beat beat_now made h = h
 flusher_as asked (ended.Worn turns) beat beat_now made h = h
+
+-- the last round's second, of a moment that the clock said
+pub said_so : (says : ℕ → Type 0) (now ts : ℕ) (before : Option ℕ) → says now → (ts ≡ now) ⊎ (before ≡ Some ts) → says ts ⊎ (before ≡ Some ts)
+said_so says now ts before said (inl is) = inl (subst says (sym is) said)
+said_so says now ts before said (inr is) = inr is
 
 -- what holds of each by its place holds of each
 pub by_recursion : {X : Type 0} (P : X → Type 0) (xs : List X) → All P xs → AllByRecursion P xs
@@ -82,14 +91,14 @@ each_of P Q (x ∷ xs) all each = (each x all.0, each_of P Q xs all.1 each)
 made_new : (shards : ℕ) (acts old new : ℕ → History) → Adds shards acts old new → ((i : ℕ) → old i ≡ []) → (i : ℕ) → i < shards → new i ≡ acts i
 made_new shards acts old new added none i below = added i below ∙ ap (λ h. h ++ acts i) (none i)
 
-module _ {D L : Type 0} (seen : D → Object) (wire_seen : L → Object) (pool : Pool) (desk : SharedDesk) (plan : Reckoning) (names : Names) (used : Backend → Bool) (settings : file.Settings) (receivers run : ℕ) (streams outlets : Bool) (asked : ℕ) (says : ℕ → Type 0) where
+module _ {D L : Type 0} (seen : D → Object) (wire_seen : L → Object) (pool : Pool) (desk : SharedDesk) (plan : Reckoning) (names : Names) (used : Backend → Bool) (settings : file.Settings) (receivers run : ℕ) (streams : Bool) (outlets : OutletRoom) (asked : ℕ) (says : ℕ → Type 0) where
   -- All that is told: by the posts, the flusher and its last round, the keepers of the doors, and the closing.
   pub record Told : Type 0 where
     pub xs : List (Post D L)
     pub ys : List (Post D L)
     pub more : List D
     pub rest : List L
-    pub all : Pairs (posts.Ran seen wire_seen pool desk asked) xs ys
+    pub all : Pairs (posts.Ran seen wire_seen says pool desk asked) xs ys
     pub new_posts : AreNew xs
     pub fitted : AllByRecursion (IsFitted run) xs
     pub count : length ys ≡ receivers
@@ -98,7 +107,7 @@ module _ {D L : Type 0} (seen : D → Object) (wire_seen : L → Object) (pool :
     pub line_end : Option DoorEnd
     pub stream_door : Object
     pub stream_door_now : Object
-    pub lines : AreLinedBy pool desk asked line line_now line_end stream_door stream_door_now
+    pub lines : AreLinedBy says pool desk asked line line_now line_end stream_door stream_door_now
     pub new_line : IsNewLine line
     pub there : length (option_to_list line) ≡ line_keepers streams
     pub flushing : Seat
@@ -113,24 +122,25 @@ module _ {D L : Type 0} (seen : D → Object) (wire_seen : L → Object) (pool :
     pub no_flush : (i : ℕ) → flushed i ≡ []
     pub part : Part
     pub part_mid : Part
-    pub no_share : (c : Count) → part.share c ≡ 0
+    pub no_call : part.own ≡ []
     pub back : Backend → Object
     pub back_mid : Backend → Object
     pub back_now : Backend → Object
     pub beat : Object
     pub beat_now : Object
-    pub end : Ended
+    pub end : Flushed
     pub counts : Option OutCounts
-    pub flushes : FlushesThrough (form_of pool plan names) used outlets asked flushed flushed_mid part part_mid back back_mid beat beat_now end counts
+    pub flushes : FlushesThrough (form_of pool plan names) used (any_buffers outlets) (λ b. outlets) asked flushed flushed_mid part part_mid back back_mid beat beat_now end counts
     pub ts : ℕ
     pub marks : Marks
     pub waiting : List (List (Option Row))
     pub last : MakesRoundAt (form_of pool plan names) used ts marks flushed_mid (own_at flushing) part_mid (part_of own) back_mid back_now waiting
-    pub told_by_clock : says ts
+    pub told_so : says ts ⊎ (end.last ≡ Some ts)
+    pub in_order : IfSome end.last (λ second. second ≤ ts)
     pub commanded : ℕ → History
     pub no_command : (i : ℕ) → commanded i ≡ []
     pub admin_part : Part
-    pub no_admin_share : (c : Count) → admin_part.share c ≡ 0
+    pub no_admin_call : admin_part.own ≡ []
     pub door : Object
     pub door_now : Object
     pub serves : ServesSessions (shards_of pool) settings says commanded (own_at administering) door door_now admin_part (part_of admin_own)
@@ -138,6 +148,7 @@ module _ {D L : Type 0} (seen : D → Object) (wire_seen : L → Object) (pool :
     pub keeps : EndsKeeping asked door_end door door_now (part_of admin_own)
     pub books : List ShardBook
     pub after : Desk
+    pub numbers_are : map number_of_seat ((map own_in ys ++ line_owns line_now) ++ own ∷ admin_own ∷ []) ≡ span 0 (length ((map own_in ys ++ line_owns line_now) ++ own ∷ admin_own ∷ []))
     pub closed : IsClosed pool desk ((map seat_in ys ++ line_seats line_now) ++ flushing ∷ administering ∷ []) ((map own_in ys ++ line_owns line_now) ++ own ∷ admin_own ∷ []) books after
     pub start : says (start_of desk)
 
@@ -207,24 +218,25 @@ module _ {D L : Type 0} (seen : D → Object) (wire_seen : L → Object) (pool :
     abbrev pub course : Course
     course = record {
       histories = logs;
-      receptions = receptions_of seen wire_seen pool desk asked t.xs t.ys t.all;
-      linings = linings_of pool desk asked t.line t.line_now t.line_end t.stream_door t.stream_door_now t.lines;
+      receptions = receptions_of seen wire_seen says pool desk asked t.xs t.ys t.all;
+      linings = linings_of says pool desk asked t.line t.line_now t.line_end t.stream_door t.stream_door_now t.lines;
       ticked = t.flushes.rounds;
       last = t.last.round;
       outflows = t.flushes.outflows;
       visits = t.serves.visits;
       dialogues = t.serves.dialogues;
       failures = t.serves.failures;
-      flusher_ended = end_of t.end;
+      flusher_ended = end_of t.end.ended;
       keeper_ended = door_end_of t.door_end;
       desk = t.after;
+      calls = t.closed.history.log;
     }
 
     -- as many bring samples as submit them
     bringers : length front ≡ length (brought_in course)
     bringers =
-        let receptions = receptions_count seen wire_seen pool desk asked t.xs t.ys t.all in
-        let linings = linings_count pool desk asked t.line t.line_now t.line_end t.stream_door t.stream_door_now t.lines in
+        let receptions = receptions_count seen wire_seen says pool desk asked t.xs t.ys t.all in
+        let linings = linings_count says pool desk asked t.line t.line_now t.line_end t.stream_door t.stream_door_now t.lines in
         let seats = length-append (map seat_in t.ys) (line_seats t.line_now) in
         let brought = length-append (map brought_by course.receptions) (map brought_in_lines course.linings) in
         let posts = length-map t.ys seat_in in
@@ -237,8 +249,8 @@ module _ {D L : Type 0} (seen : D → Object) (wire_seen : L → Object) (pool :
     ran i below =
         ran_by_callers (limits_of pool) (policy_of pool) (shards_of pool) i (brought_in course) rounds (asked_by t.serves.dialogues) (map (λ (s : Seat). own_at s i) front) (logs i)
         (length-map front (λ (s : Seat). own_at s i) ∙ bringers)
-        (λ r inside. all_asked seen wire_seen pool desk asked (line_seats t.line_now) (map brought_in_lines course.linings) i below
-        (λ k under. line_asked pool desk asked t.line t.line_now t.line_end t.stream_door t.stream_door_now t.lines t.new_line i below k under) t.xs t.ys t.all t.new_posts r inside)
+        (λ r inside. all_asked seen wire_seen says pool desk asked (line_seats t.line_now) (map brought_in_lines course.linings) i below
+        (λ k under. line_asked says pool desk asked t.line t.line_now t.line_end t.stream_door t.stream_door_now t.lines t.new_line i below k under) t.xs t.ys t.all t.new_posts r inside)
         t.serves.commands
         (subst (λ c. JoinsAs (limits_of pool) (policy_of pool) (map (λ (s : Seat). own_at s i) front) (swaps_at rounds i) c (logs i)) (commands i below)
         (subst (λ s. JoinsAs (limits_of pool) (policy_of pool) (map (λ (s : Seat). own_at s i) front) s (own_at t.administering i) (logs i)) (swaps i below) (joins i below)))
@@ -260,10 +272,10 @@ module _ {D L : Type 0} (seen : D → Object) (wire_seen : L → Object) (pool :
         omega (arith, all, both, first, second, none, nothing)
 
     abbrev drops : ℕ
-    drops = sum_by (drops_of seen wire_seen pool desk asked) (map seat_in t.ys)
+    drops = sum_by (drops_of seen wire_seen says pool desk asked) (map seat_in t.ys)
 
     abbrev lined : ℕ
-    lined = line_drops pool desk asked t.line_now
+    lined = line_drops says pool desk asked t.line_now
 
     all_drops : drops + lined ≡ told_in dropped_in (shards_of pool) logs
     all_drops =
@@ -293,24 +305,22 @@ module _ {D L : Type 0} (seen : D → Object) (wire_seen : L → Object) (pool :
     last_sees : AllByRecursion Sees (t.own ∷ t.admin_own ∷ [])
     last_sees = AllByRecursion-back Sees front_owns (t.own ∷ t.admin_own ∷ []) sees
 
-    counted : (c : Count) → number_of t.after c < last_counted → number_of t.after c ≡ counts_of (shards_of pool) course c
-    counted c few =
-        let f : DeskSeat → ℕ = λ o. (part_of o).share c in
-        let Few : DeskSeat → Type 0 = λ o. (part_of o).seen c < last_counted in
-        let below : (o : DeskSeat) → Sees o → Few o = λ o h. let most = h c in omega (arith, most, few) in
-        let all = t.closed.sums c in
+    counted : (c : Count) → number_of t.after c ≡ min (counts_of (shards_of pool) course c) last_counted
+    counted c =
+        let f : DeskSeat → ℕ = λ o. share (part_of o) c in
+        let sums = t.closed.sums c in
         let both = sum_by-append f front_owns (t.own ∷ t.admin_own ∷ []) in
         let submitted = sum_by-append f (map own_in t.ys) (line_owns t.line_now) in
         let first = sum_by-cons f t.own (t.admin_own ∷ []) in
         let second = sum_by-cons f t.admin_own [] in
-        let receivers = all_shares seen wire_seen pool desk asked t.xs t.ys t.all t.new_posts c (in_front Sees Few (map own_in t.ys) (line_owns t.line_now) front_sees below) in
-        let line = line_shares pool desk asked t.line t.line_now t.line_end t.stream_door t.stream_door_now t.lines t.new_line c (each_of Sees Few (line_owns t.line_now) line_sees below) in
-        let by_flusher = rounds_counted.adds c (let most = last_sees.0 c in omega (arith, most, few)) in
-        let by_keeper = t.serves.keeps.counted.adds c (let most = last_sees.1.0 c in omega (arith, most, few)) in
-        let no_part = t.no_share c in
-        let no_admin = t.no_admin_share c in
+        let receivers = all_shares seen wire_seen says pool desk asked t.xs t.ys t.all t.new_posts c in
+        let line = line_shares says pool desk asked t.line t.line_now t.line_end t.stream_door t.stream_door_now t.lines t.new_line c in
+        let by_flusher = rounds_counted.adds c in
+        let by_keeper = t.serves.keeps.counted.adds c in
+        let no_part = no_share t.part t.no_call c in
+        let no_admin = no_share t.admin_part t.no_admin_call c in
         let whole = counts_add_up (form_of pool plan names) course drops lined all_drops c in
-        all ∙ omega (arith, both, submitted, first, second, receivers, line, by_flusher, by_keeper, no_part, no_admin) ∙ sym whole
+        omega (arith, sums, both, submitted, first, second, receivers, line, by_flusher, by_keeper, no_part, no_admin, whole)
 
     balanced : IsBalanced t.after
     balanced =
@@ -322,6 +332,55 @@ module _ {D L : Type 0} (seen : D → Object) (wire_seen : L → Object) (pool :
           dropped = λ few. let a = t.closed.sums TotalDropped in let b = t.closed.sums TakenDropped in let w = conserved.dropped (omega (arith, a, few)) in omega (arith, a, b, w);
         }
 
+    -- the desk's one history
+    desk_owns : AllByRecursion (Owns t.closed.history.log) owns
+    desk_owns = by_recursion (Owns t.closed.history.log) owns t.closed.history.own
+
+    rounds_called : (part_of t.own).own ≡ flat_map round_calls rounds
+    rounds_called =
+        round_called t.part t.part_mid (part_of t.own) t.flushes.rounds t.last.round t.flushes.called t.last.made.called
+        ∙ ap (λ (l : List DeskCall). l ++ flat_map round_calls rounds) t.no_call
+
+    owns_long : length front_owns ≡ length (brought_in course)
+    owns_long =
+        let seats = length-append (map seat_in t.ys) (line_seats t.line_now) in
+        let desk_seats = length-append (map own_in t.ys) (line_owns t.line_now) in
+        let one = length-map t.ys seat_in in
+        let two = length-map t.ys own_in in
+        let three = length-map (option_to_list t.line_now) (λ (p : LinePost). p.seat) in
+        let four = length-map (option_to_list t.line_now) (λ (p : LinePost). p.own) in
+        let brought = bringers in
+        omega (arith, seats, desk_seats, one, two, three, four, brought)
+
+    receivers_long : length (map own_in t.ys) ≡ length course.receptions
+    receivers_long = length-map t.ys own_in ∙ sym (receptions_count seen wire_seen says pool desk asked t.xs t.ys t.all)
+
+    behind_receivers : owns ≡ map own_in t.ys ++ (line_owns t.line_now ++ t.own ∷ t.admin_own ∷ [])
+    behind_receivers = append_assoc (map own_in t.ys) (line_owns t.line_now) (t.own ∷ t.admin_own ∷ [])
+
+    one_desk : HasOneDesk says course
+    one_desk =
+        let log = t.closed.history.log in
+        let last = AllByRecursion-back (Owns log) front_owns (t.own ∷ t.admin_own ∷ []) desk_owns in
+        let two = last_two front_owns t.own t.admin_own log t.numbers_are last.0 last.1.0 in
+        let by_order = subst (AllByRecursion (Owns log)) behind_receivers desk_owns in
+        let numbers = subst (λ (l : List DeskSeat). map number_of_seat l ≡ span 0 (length l)) behind_receivers t.numbers_are in
+        record {
+          legal = subst (λ (n : ℕ). IsDeskHistory n log) (sym t.closed.start) t.closed.history.legal;
+          left = t.closed.history.left ∙ ap (λ (n : ℕ). desk_after n log) (sym t.closed.start);
+          received = λ r x is.
+              subst (λ (n : ℕ). CountsDatagrams says x.read (calls_by n log)) (let same : 0 + r ≡ r = omega arith in same)
+              (received_so seen wire_seen says pool desk asked log 0 (line_owns t.line_now ++ t.own ∷ t.admin_own ∷ []) t.xs t.ys t.all t.new_posts by_order numbers r x is);
+          lined = subst (λ (n : ℕ). (l : ℕ) (x : Lining) → slice_get course.linings l ≡ Some x → CountsReads says (reads_in x.streams) (calls_by (n + l) log)) receivers_long
+              (lined_so says pool desk asked log (length (map own_in t.ys)) (t.own ∷ t.admin_own ∷ []) t.line t.line_now t.line_end t.stream_door t.stream_door_now t.lines t.new_line
+              (AllByRecursion-back (Owns log) (map own_in t.ys) (line_owns t.line_now ++ t.own ∷ t.admin_own ∷ []) by_order) (numbers_of_line (map own_in t.ys) (line_owns t.line_now) (t.own ∷ t.admin_own ∷ []) numbers));
+          flushed = ap (λ (n : ℕ). calls_by n log) (sym owns_long) ∙ two.0 ∙ rounds_called;
+          kept = subst (λ (n : ℕ). Among IsKeeping (called_in course.dialogues) (calls_by (n + 1) log)) owns_long
+              (subst (Among IsKeeping (called_in course.dialogues)) (sym two.1) (called_since (Among IsKeeping (called_in course.dialogues)) t.admin_part (part_of t.admin_own) t.no_admin_call t.serves.called));
+          others = λ who past. nobody_else owns log t.numbers_are t.closed.history.whose who
+              (let all = length-append front_owns (t.own ∷ t.admin_own ∷ []) in let long = owns_long in omega (arith, all, long, past));
+        }
+
     abbrev pub objects_before : Objects
     objects_before = record { sources = map seen (map source_in t.xs ++ t.more); wires = map wire_seen (flat_map wires_in t.xs ++ t.rest); beat = t.beat; backs = t.back; door = t.door; streams = t.stream_door }
 
@@ -331,15 +390,16 @@ module _ {D L : Type 0} (seen : D → Object) (wire_seen : L → Object) (pool :
     is_run : IsRun terms_by says course objects_before objects_behind
     is_run = record {
       ran = ran;
-      count = receptions_count seen wire_seen pool desk asked t.xs t.ys t.all ∙ t.count;
-      received = all_receptions seen wire_seen pool desk asked t.after.facts.rounds run t.more t.rest t.xs t.ys t.all (in_front Sees (λ o. (part_of o).seen RoundsMade ≤ t.after.facts.rounds) (map own_in t.ys) (line_owns t.line_now) front_sees (λ o h. h RoundsMade)) t.fitted;
+      count = receptions_count seen wire_seen says pool desk asked t.xs t.ys t.all ∙ t.count;
+      received = all_receptions seen wire_seen says pool desk asked t.after.facts.rounds run t.more t.rest t.xs t.ys t.all (in_front Sees (λ o. (part_of o).seen RoundsMade ≤ t.after.facts.rounds) (map own_in t.ys) (line_owns t.line_now) front_sees (λ o h. h RoundsMade)) t.fitted;
       flushed = record {
         given = t.flushes.given;
         turns = t.flushes.turns;
         same = t.flushes.same;
-        ends = flusher_as asked t.end t.beat t.beat_now (length t.flushes.rounds) t.flushes.ends;
+        ends = flusher_as asked t.end.ended t.beat t.beat_now (length t.flushes.rounds) t.flushes.ends;
       };
-      last = subst says (sym t.last.second) t.told_by_clock;
+      last = subst (λ n. says n ⊎ (last_second t.flushes.rounds ≡ Some n)) (sym t.last.second) (subst (λ (o : Option ℕ). says t.ts ⊎ (o ≡ Some t.ts)) t.flushes.last t.told_so);
+      in_order = subst (λ n. IfSome (last_second t.flushes.rounds) (λ second. second ≤ n)) (sym t.last.second) (subst (λ (o : Option ℕ). IfSome o (λ second. second ≤ t.ts)) t.flushes.last t.in_order);
       used = t.flushes.fits;
       used_last = t.last.made.used;
       flowed = t.flushes.flowed;
@@ -353,10 +413,11 @@ module _ {D L : Type 0} (seen : D → Object) (wire_seen : L → Object) (pool :
         known = last_sees.1.0 RoundsMade;
         ends = keeper_as asked t.door_end t.door_now (part_of t.admin_own) t.keeps.turns t.keeps.ends;
       };
-      lined = is_lined pool desk asked t.after.facts.rounds streams t.line t.line_now t.line_end t.stream_door t.stream_door_now t.lines t.there (each_of Sees (λ o. (part_of o).seen RoundsMade ≤ t.after.facts.rounds) (line_owns t.line_now) line_sees (λ o h. h RoundsMade));
+      lined = is_lined says pool desk asked t.after.facts.rounds streams t.line t.line_now t.line_end t.stream_door t.stream_door_now t.lines t.there (each_of Sees (λ o. (part_of o).seen RoundsMade ≤ t.after.facts.rounds) (line_owns t.line_now) line_sees (λ o h. h RoundsMade));
       started = subst says (sym t.closed.start) t.start;
       counted = counted;
       balanced = balanced;
+      called = one_desk;
     }
 
     pub theorem : ServerTheorem terms_by says course objects_before objects_behind

@@ -15,9 +15,10 @@ use Rattle.sd_pool.specs.Books.{IsBookOf, no_book}
 use Rattle.sd_pool.specs.Pool.{limits_of, policy_of, shards_of}
 use Rattle.sd_pool.specs.declared.pool.Pool.{Pool}
 use Rattle.sd_flush.specs.Flushing.{uses}
+use Rattle.sd_flush.specs.declared.flushed.Flushed.{Flushed}
 use Rattle.sd_shared_desk.specs.declared.shared_desk.SharedDesk.{SharedDesk}
 use Rattle.sd_serve.specs.Parts.{source_in, wires_in}
-use Rattle.sd_serve.specs.Room.{Sizing, with_outlets}
+use Rattle.sd_serve.specs.Room.{Sizing, outlets_of, with_outlets}
 use Rattle.sd_serve.specs.Serving.{HasServed, door_end_of, end_of, terms_of}
 use Rattle.sd_serve.specs.Through.{AreCounted, has_counts}
 use Rattle.sd_serve.specs.declared.serving.Served.{Served}
@@ -27,19 +28,19 @@ use Rattle.sd_serve.proofs.ServeLemmas.{Told, course, numbers, objects_before, o
 
 module _ {D L B : Type 0} (seen : D → Object) (wire_seen : L → Object) (pool : Pool) (desk : SharedDesk) (run : ℕ) (says : ℕ → Type 0) (sizing : Sizing) (plan : Reckoning) (names : Names) (settings : file.Settings) (backs : Backs B) (asked : ℕ) where
   abbrev pub ToldOf : Type 0
-  ToldOf = Told seen wire_seen pool desk plan names (uses backs) settings sizing.receivers run sizing.streams (with_outlets sizing) asked says
+  ToldOf = Told seen wire_seen pool desk plan names (uses backs) settings sizing.receivers run sizing.streams (outlets_of sizing) asked says
 
   abbrev pub course_of : ToldOf → Course
-  course_of t = course seen wire_seen pool desk plan names (uses backs) settings sizing.receivers run sizing.streams (with_outlets sizing) asked says t
+  course_of t = course seen wire_seen pool desk plan names (uses backs) settings sizing.receivers run sizing.streams (outlets_of sizing) asked says t
 
   abbrev terms_at : Terms
-  terms_at = terms_by seen wire_seen pool desk plan names (uses backs) settings sizing.receivers run sizing.streams (with_outlets sizing) asked says
+  terms_at = terms_by seen wire_seen pool desk plan names (uses backs) settings sizing.receivers run sizing.streams (outlets_of sizing) asked says
 
   abbrev before : ToldOf → Objects
-  before t = objects_before seen wire_seen pool desk plan names (uses backs) settings sizing.receivers run sizing.streams (with_outlets sizing) asked says t
+  before t = objects_before seen wire_seen pool desk plan names (uses backs) settings sizing.receivers run sizing.streams (outlets_of sizing) asked says t
 
   abbrev behind : ToldOf → Objects
-  behind t = objects_behind seen wire_seen pool desk plan names (uses backs) settings sizing.receivers run sizing.streams (with_outlets sizing) asked says t
+  behind t = objects_behind seen wire_seen pool desk plan names (uses backs) settings sizing.receivers run sizing.streams (outlets_of sizing) asked says t
 
   pub served_as : (t : ToldOf)
       → shards_of pool ≡ sizing.shards → limits_of pool ≡ sizing.limits → policy_of pool ≡ sizing.policy → run ≡ sizing.wires
@@ -53,24 +54,24 @@ module _ {D L B : Type 0} (seen : D → Object) (wire_seen : L → Object) (pool
   served_as t shards limits policy wires_each {packets} {packets_now} {wires} {wires_now} {served} old old_wires now now_wires received flusher keeper liner has counts desk_is books =
       let at : HasServed terms_at says (before t) (behind t) served = record {
         course = course_of t;
-        theorem = theorem seen wire_seen pool desk plan names (uses backs) settings sizing.receivers run sizing.streams (with_outlets sizing) asked says t;
+        theorem = theorem seen wire_seen pool desk plan names (uses backs) settings sizing.receivers run sizing.streams (outlets_of sizing) asked says t;
         received = received;
-        flusher = ap end_of flusher;
+        flusher = ap (λ (f : Flushed). end_of f.ended) flusher;
         keeper = ap door_end_of keeper;
-        liner = ap (λ (o : Option DoorEnd). map door_end_of (option_to_list o)) liner ∙ linings_ended pool desk asked t.line t.line_now t.line_end t.stream_door t.stream_door_now t.lines;
+        liner = ap (λ (o : Option DoorEnd). map door_end_of (option_to_list o)) liner ∙ linings_ended says pool desk asked t.line t.line_now t.line_end t.stream_door t.stream_door_now t.lines;
         outlets = has;
         outs = subst (λ (o : Option OutCounts). AreCounted o (course_of t).outflows) (sym counts) t.flushes.are_counted;
         desk = desk_is;
         shards = ap length books ∙ t.closed.shards;
         books = λ i below. subst (λ bs. IsBookOf (get_or bs i no_book) (state_after (limits_of pool) (policy_of pool) ((course_of t).histories i))) (sym books)
-            (numbers seen wire_seen pool desk plan names (uses backs) settings sizing.receivers run sizing.streams (with_outlets sizing) asked says t i below);
+            (numbers seen wire_seen pool desk plan names (uses backs) settings sizing.receivers run sizing.streams (outlets_of sizing) asked says t i below);
       } in
       let terms : terms_at ≡ terms_of sizing plan names settings backs asked = (λ i. record {
         limits = limits i;
         policy = policy i;
         form = record { shards = shards i; plan = plan_view plan; names = names };
         uses = uses backs;
-        outlets = with_outlets sizing;
+        outlets = outlets_of sizing;
         settings = settings;
         receivers = sizing.receivers;
         wires = wires_each i;

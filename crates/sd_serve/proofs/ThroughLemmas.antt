@@ -1,5 +1,5 @@
 -- What the flusher left, with outlets and without.
-use Rattle.std.proofs.Common.{◌≡◌, ◌≢◌, ℕ, suc, ◌+◌, Bool, true, false, List, [], ◌∷◌, ◌++◌, length, map, min, refl, sym, ap, subst, ◌∙◌, arith}
+use Rattle.std.proofs.Common.{◌≡◌, ◌≢◌, ℕ, suc, ◌+◌, Bool, true, false, List, [], ◌∷◌, ◌++◌, length, map, min, refl, sym, ap, subst, ◌∙◌, arith, inl, inr, length-append}
 use Rattle.std.specs.Prelude.{Option, Some, None, flat_map}
 use Rattle.std.specs.List.{AllByRecursion}
 use Rattle.std.proofs.lemmas.List.{length-map}
@@ -11,29 +11,35 @@ use Rattle.sd_model_record.specs.Backends.{Backend, Graphite, Console, mark_of}
 use Rattle.sd_model_record.specs.Counts.{Part}
 use Rattle.sd_model_record.specs.Desk.{Marks}
 use Rattle.sd_model_serve.specs.Rounds.{Form, MarksFit, Round, round_deliveries, round_text}
-use Rattle.sd_model_run.specs.Outlets.{HasFlowed, Outflow, WentThrough, chosen, has_outlet, no_outflow, uses_at_ticks}
-use Rattle.sd_outside.specs.declared.datagrams.Ended.{Ended}
+use Rattle.sd_model_run.specs.Outlets.{AreChosen, HasFlowed, Outflow, OutletRoom, WentThrough, chosen, has_outlet, no_outflow, uses_at_ticks}
+use Rattle.sd_outlet.specs.declared.feed.Feed.{Feed}
+use Rattle.sd_outlet.specs.declared.outlet.Outlet.{Outlet}
 use Rattle.sd_outlet.specs.declared.worked.Worked.{Worked}
+use Rattle.sd_outlet.specs.Feed.{buffers, bytes_of, sent}
 use Rattle.sd_outlet.specs.Worked.{EachUsed, HasWorked}
 use Rattle.sd_flush.specs.Flushing.{Flushes}
 use Rattle.sd_flush.specs.FlushingOut.{FlushesOut, no_marks}
-use Rattle.sd_flush.specs.Offers.{Offer, queued_by, texts_queued}
+use Rattle.sd_flush.specs.Offers.{AfterOffers, AfterOut, Offer, queued_by, texts_queued}
+use Rattle.sd_flush.specs.declared.flushed.Flushed.{Flushed}
 use Rattle.sd_flush.specs.declared.outs.OutMark.{OutMark}
 use Rattle.sd_flush.specs.declared.outs.OutMark.TheVariants.{NotUsed, Queued, Skipped}
-use Rattle.sd_serve.specs.OutRoom.{IsOutRoom}
+use Rattle.sd_flush.specs.declared.outs.Skip.TheVariants.{Full, Long, Spent}
+use Rattle.sd_serve.specs.OutRoom.{HasOutRooms, IsOutRoom, feed_in, has_rooms, outlet_in, room_seen, rooms_at, rooms_of}
 use Rattle.sd_serve.specs.Through.{AreCounted, FlushesThrough, faults_at, skips_at}
 use Rattle.sd_serve.specs.Written.{HasWritten, WritesQueued, written_by}
 use Rattle.sd_serve.specs.declared.out_room.OutRoom.{OutRoom}
+use Rattle.sd_serve.specs.declared.out_room.OutRooms.{OutRooms}
 use Rattle.sd_serve.specs.declared.workers_out.OutCounts.{OutCounts}
 
 -- without outlets all goes straight to the backends
-pub straight : (form : Form) (used : Backend → Bool) (asked : ℕ) (own own_now : ℕ → History) (part part_now : Part) (back back_now : Backend → Object) (beat beat_now : Object) (ended : Ended)
-    → Flushes form used asked own own_now part part_now back back_now beat beat_now ended → FlushesThrough form used false asked own own_now part part_now back back_now beat beat_now ended None
-straight form used asked own own_now part part_now back back_now beat beat_now ended h = record {
+pub straight : (form : Form) (used : Backend → Bool) (room_at : Backend → OutletRoom) (asked : ℕ) (own own_now : ℕ → History) (part part_now : Part) (back back_now : Backend → Object) (beat beat_now : Object) (flushed : Flushed)
+    → Flushes form used asked own own_now part part_now back back_now beat beat_now flushed → FlushesThrough form used false room_at asked own own_now part part_now back back_now beat beat_now flushed None
+straight form used room_at asked own own_now part part_now back back_now beat beat_now flushed h = record {
   rounds = h.rounds;
   swapped = h.made.swapped;
   fits = h.made.used;
   counted = h.made.counted;
+  called = h.made.called;
   outflows = λ b. no_outflow;
   flowed = λ b. refl;
   are_counted = record { skips = λ b. refl; faults = λ b. refl };
@@ -42,6 +48,7 @@ straight form used asked own own_now part part_now back back_now beat beat_now e
   turns = h.turns;
   same = h.same;
   ends = h.ends;
+  last = h.last;
 }
 
 -- whether a text was queued
@@ -59,6 +66,22 @@ are_chosen (f ∷ offers) = by_mark f.mark (are_chosen offers) where
   by_mark NotUsed rest = rest
   by_mark Queued rest = ap (λ (l : List (List ℕ)). f.text ∷ l) rest
   by_mark (Skipped skip) rest = rest
+
+-- of these offers, behind so many texts that were sent, each that was sent fits a buffer, and each other one had a reason
+abbrev Reasoned : Outlet → ℕ → List Offer → Type 0
+Reasoned o before offers = AreChosen (record { buffers = buffers o; bytes = bytes_of o }) before (map (λ (f : Offer). is_queued f.mark) offers) (map (λ (f : Offer). f.text) offers)
+
+one_reasoned : (o : Outlet) (text : List ℕ) (offers : List Offer) (old mid : Feed) (m : OutMark) → AfterOut m text o old mid → Reasoned o (length (sent mid)) offers
+    → AreChosen (record { buffers = buffers o; bytes = bytes_of o }) (length (sent old)) (is_queued m ∷ map (λ (f : Offer). is_queued f.mark) offers) (text ∷ map (λ (f : Offer). f.text) offers)
+one_reasoned o text offers old mid NotUsed one rest = absurd one
+one_reasoned o text offers old mid Queued one rest = (one.fits, subst (λ n. Reasoned o n offers) (ap length one.queued ∙ length-append (sent old) (text ∷ [])) rest)
+one_reasoned o text offers old mid (Skipped (Long len)) one rest = (inl one.longer, subst (λ (f : Feed). Reasoned o (length (sent f)) offers) one.same rest)
+one_reasoned o text offers old mid (Skipped Full) one rest = (inr (inl one.in_use), subst (λ (ts : List (List ℕ)). Reasoned o (length ts) offers) one.same rest)
+one_reasoned o text offers old mid (Skipped (Spent sends)) one rest = (inr (inr one.all), subst (λ (f : Feed). Reasoned o (length (sent f)) offers) one.same rest)
+
+are_reasoned : (o : Outlet) (offers : List Offer) (old new : Feed) → AfterOffers o offers old new → Reasoned o (length (sent old)) offers
+are_reasoned o [] old new h = tt
+are_reasoned o (f ∷ offers) old new h = one_reasoned o f.text offers old h.0 f.mark h.1 (are_reasoned o offers h.0 new h.2)
 
 each_used : (ds : List Delivery) → EachUsed ds → AllByRecursion (λ (d : Delivery). FitsUse true d.mark) ds
 each_used [] h = tt
@@ -86,19 +109,21 @@ module _ (room : OutRoom) (texts : List (List ℕ)) (skipped : ℕ) (w : Worked)
   outflow true h = record { queued = h.worked.deliveries; skipped = skipped }
   outflow false h = no_outflow
 
-  has_flowed : (used : Bool) (h : HasWritten used room texts skipped w old new) → HasFlowed used texts (outflow used h)
-  has_flowed true h =
+  has_flowed : (used : Bool) → IsOutRoom room → (h : HasWritten used room texts skipped w old new) → HasFlowed used (room_seen room) texts (outflow used h)
+  has_flowed true ready h =
       let f = h.offered in
       let long = length-map h.worked.deliveries (λ (d : Delivery). d.text) in
       let queued = ap length h.worked.of_texts in
       record {
         choice = map (λ (o : Offer). is_queued o.mark) f.offers;
-        each = length-map f.offers (λ (o : Offer). is_queued o.mark) ∙ sym (length-map f.offers (λ (o : Offer). o.text)) ∙ ap length f.of_texts;
+        chosen_so = subst (AreChosen (room_seen room) 0 (map (λ (o : Offer). is_queued o.mark) f.offers)) f.of_texts
+            (subst (λ n. AreChosen (room_seen room) n (map (λ (o : Offer). is_queued o.mark) f.offers) (map (λ (o : Offer). o.text) f.offers)) (sym ready.feed_is.counted ∙ ready.is_new.sends)
+            (are_reasoned (outlet_in room) f.offers (feed_in room) h.last f.after));
         queued = h.worked.of_texts ∙ are_chosen f.offers ∙ ap (chosen (map (λ (o : Offer). is_queued o.mark) f.offers)) f.of_texts;
         used = each_used h.worked.deliveries h.worked.used;
         others = omega (arith, long, queued, f.others);
       }
-  has_flowed false h = refl
+  has_flowed false ready h = refl
 
   skips_of : (used : Bool) (h : HasWritten used room texts skipped w old new) → skipped ≡ (outflow used h).skipped
   skips_of true h = refl
@@ -113,8 +138,9 @@ module _ (room : OutRoom) (texts : List (List ℕ)) (skipped : ℕ) (w : Worked)
   delivered_of false h = h.1
 
 -- with outlets all goes through them
-module _ (form : Form) (used : Backend → Bool) (graphite console : OutRoom) (counts : OutCounts) (asked : ℕ) (own own_now : ℕ → History) (part part_now : Part) (back back_now : Backend → Object) (beat beat_now : Object) (ended : Ended)
-    (h : FlushesOut form (written_by used graphite console counts back back_now) asked own own_now part part_now beat beat_now ended) where
+module _ (form : Form) (used : Backend → Bool) (graphite console : OutRoom) (counts : OutCounts) (asked : ℕ) (own own_now : ℕ → History) (part part_now : Part) (back back_now : Backend → Object) (beat beat_now : Object) (flushed : Flushed)
+    (graphite_is : IsOutRoom graphite) (console_is : IsOutRoom console)
+    (h : FlushesOut form (written_by used graphite console counts back back_now) asked own own_now part part_now beat beat_now flushed) where
   abbrev texts_of : Backend → List (List ℕ)
   texts_of b = map (round_text form b) h.rounds
 
@@ -122,9 +148,9 @@ module _ (form : Form) (used : Backend → Bool) (graphite console : OutRoom) (c
   flow Graphite = outflow graphite (texts_of Graphite) counts.skips.graphite counts.graphite (back Graphite) (back_now Graphite) (used Graphite) (h.texts Graphite)
   flow Console = outflow console (texts_of Console) counts.skips.console counts.console (back Console) (back_now Console) (used Console) (h.texts Console)
 
-  flows : (b : Backend) → HasFlowed (used b) (texts_of b) (flow b)
-  flows Graphite = has_flowed graphite (texts_of Graphite) counts.skips.graphite counts.graphite (back Graphite) (back_now Graphite) (used Graphite) (h.texts Graphite)
-  flows Console = has_flowed console (texts_of Console) counts.skips.console counts.console (back Console) (back_now Console) (used Console) (h.texts Console)
+  flows : (b : Backend) → HasFlowed (used b) (rooms_at graphite console b) (texts_of b) (flow b)
+  flows Graphite = has_flowed graphite (texts_of Graphite) counts.skips.graphite counts.graphite (back Graphite) (back_now Graphite) (used Graphite) graphite_is (h.texts Graphite)
+  flows Console = has_flowed console (texts_of Console) counts.skips.console counts.console (back Console) (back_now Console) (used Console) console_is (h.texts Console)
 
   skips : (b : Backend) → skips_at (Some counts) b ≡ (flow b).skipped
   skips Graphite = skips_of graphite (texts_of Graphite) counts.skips.graphite counts.graphite (back Graphite) (back_now Graphite) (used Graphite) (h.texts Graphite)
@@ -138,7 +164,7 @@ module _ (form : Form) (used : Backend → Bool) (graphite console : OutRoom) (c
   given_to Graphite = delivered_of graphite (texts_of Graphite) counts.skips.graphite counts.graphite (back Graphite) (back_now Graphite) (used Graphite) (h.texts Graphite)
   given_to Console = delivered_of console (texts_of Console) counts.skips.console counts.console (back Console) (back_now Console) (used Console) (h.texts Console)
 
-  pub through : FlushesThrough form used true asked own own_now part part_now back back_now beat beat_now ended (Some counts)
+  pub through : FlushesThrough form used true (rooms_at graphite console) asked own own_now part part_now back back_now beat beat_now flushed (Some counts)
   through =
       let none = fit_none h.rounds h.taken.unused in
       record {
@@ -146,6 +172,7 @@ module _ (form : Form) (used : Backend → Bool) (graphite console : OutRoom) (c
         swapped = h.taken.swapped;
         fits = none;
         counted = h.taken.counted;
+        called = h.taken.called;
         outflows = flow;
         flowed = flows;
         are_counted = record { skips = skips; faults = faults };
@@ -154,4 +181,34 @@ module _ (form : Form) (used : Backend → Bool) (graphite console : OutRoom) (c
         turns = h.turns;
         same = h.same;
         ends = h.ends;
+        last = h.last;
       }
+
+-- the outlets have the room that they were opened for
+module _ (form : Form) (used : Backend → Bool) (asked : ℕ) (own own_now : ℕ → History) (part part_now : Part) (back back_now : Backend → Object) (beat beat_now : Object) (flushed : Flushed) (counts : Option OutCounts) (n bytes : ℕ) where
+  abbrev Through : Bool → (Backend → OutletRoom) → Type 0
+  Through outlets room_at = FlushesThrough form used outlets room_at asked own own_now part part_now back back_now beat beat_now flushed counts
+
+  pub sized : (outlets : Bool) (rooms : Option OutRooms) → HasOutRooms outlets n bytes rooms → Through (has_rooms rooms) (rooms_of rooms) → Through outlets (λ b. record { buffers = n; bytes = bytes })
+  sized false None has h = record {
+    rounds = h.rounds;
+    swapped = h.swapped;
+    fits = h.fits;
+    counted = h.counted;
+    called = h.called;
+    outflows = h.outflows;
+    flowed = h.flowed;
+    are_counted = h.are_counted;
+    delivered = h.delivered;
+    given = h.given;
+    turns = h.turns;
+    same = h.same;
+    ends = h.ends;
+    last = h.last;
+  }
+  sized false (Some rooms) has h = absurd has
+  sized true None has h = absurd has
+  sized true (Some rooms) has h = subst (Through true) (λ i b. each b i) h where
+    each : (b : Backend) → rooms_of (Some rooms) b ≡ record { buffers = n; bytes = bytes }
+    each Graphite = λ i. record { buffers = has.0.count i; bytes = has.0.size i }
+    each Console = λ i. record { buffers = has.1.count i; bytes = has.1.size i }

@@ -47,20 +47,20 @@ pub record IsLineReady (pool : Pool) (desk : SharedDesk) (post : LinePost) : Typ
   pub room : 0 < vec_len post.room.buf
 
 -- The post was run over a door, which ended so. Its seats are still those of the same callers.
-pub record WasLined (pool : Pool) (desk : SharedDesk) (run_flushes : ℕ) (old new : LinePost) (ended : DoorEnd) (door door_now : Object) : Type 0 where
+pub record WasLined (says : ℕ → Type 0) (pool : Pool) (desk : SharedDesk) (run_flushes : ℕ) (old new : LinePost) (ended : DoorEnd) (door door_now : Object) : Type 0 where
   pub seat_is : IsSeatOf pool new.seat
   pub who : who_is new.seat ≡ who_is old.seat
   pub own_is : IsDeskSeatOf desk new.own
   pub number : number_of_seat new.own ≡ number_of_seat old.own
   pub got : Lined
   pub ended_is : ended ≡ got.ended
-  pub keeps : KeepsLines (shards_of pool) run_flushes (own_at old.seat) (own_at new.seat) door door_now (part_of old.own) (part_of new.own) got
+  pub keeps : KeepsLines says (shards_of pool) run_flushes (own_at old.seat) (own_at new.seat) door door_now (part_of old.own) (part_of new.own) got
 
 -- the same of a post that may not be there; where it isn't, the door is as it was
-abbrev pub AreLinedBy : Pool → SharedDesk → ℕ → (old new : Option LinePost) → Option DoorEnd → (door door_now : Object) → Type 0
-AreLinedBy pool desk run_flushes None None None door door_now = door_now ≡ door
-AreLinedBy pool desk run_flushes None None (Some ended) door door_now = ⊥
-AreLinedBy pool desk run_flushes None (Some new) ended door door_now = ⊥
-AreLinedBy pool desk run_flushes (Some old) None ended door door_now = ⊥
-AreLinedBy pool desk run_flushes (Some old) (Some new) None door door_now = ⊥
-AreLinedBy pool desk run_flushes (Some old) (Some new) (Some ended) door door_now = WasLined pool desk run_flushes old new ended door door_now
+abbrev pub AreLinedBy : (says : ℕ → Type 0) → Pool → SharedDesk → ℕ → (old new : Option LinePost) → Option DoorEnd → (door door_now : Object) → Type 0
+AreLinedBy says pool desk run_flushes None None None door door_now = door_now ≡ door
+AreLinedBy says pool desk run_flushes None None (Some ended) door door_now = ⊥
+AreLinedBy says pool desk run_flushes None (Some new) ended door door_now = ⊥
+AreLinedBy says pool desk run_flushes (Some old) None ended door door_now = ⊥
+AreLinedBy says pool desk run_flushes (Some old) (Some new) None door door_now = ⊥
+AreLinedBy says pool desk run_flushes (Some old) (Some new) (Some ended) door door_now = WasLined says pool desk run_flushes old new ended door door_now

@@ -15,7 +15,7 @@ module _ {E : Type 0} where
     pub turns : (seen l.door.now).turns < 2 ^ 62
 
   -- Its post was run, if it is there, and it works with the same as before.
-  pub record HasLined (seen : E → Object) (pool : Pool) (desk : SharedDesk) (run_flushes : ℕ) (old new : Lining E) : Type 0 where
+  pub record HasLined (seen : E → Object) (says : ℕ → Type 0) (pool : Pool) (desk : SharedDesk) (run_flushes : ℕ) (old new : Lining E) : Type 0 where
     pub post_stays : new.post.ghost_name ≡ old.post.ghost_name
     pub door_stays : new.door.ghost_name ≡ old.door.ghost_name
-    pub lined : AreLinedBy pool desk run_flushes old.post.now new.post.now new.ended (seen old.door.now) (seen new.door.now)
+    pub lined : AreLinedBy says pool desk run_flushes old.post.now new.post.now new.ended (seen old.door.now) (seen new.door.now)

@@ -1,5 +1,7 @@
 -- What an outlet's room was opened for, and what is done with its ends.
 use Rattle.std.specs.Prelude.{◌≡◌, ℕ, Bool, true, false, [], Option, Some, None, ⊤}
+use Rattle.sd_model_record.specs.Backends.{Backend, Graphite, Console}
+use Rattle.sd_model_run.specs.Outlets.{OutletRoom}
 use Rattle.sd_outlet.specs.declared.feed.Feed.{Feed}
 use Rattle.sd_outlet.specs.declared.outlet.Outlet.{Outlet}
 use Rattle.sd_outlet.specs.Drain.{IsDrainOf, got}
@@ -15,6 +17,20 @@ outlet_in room = room.outlet
 -- its feed
 abbrev pub feed_in : OutRoom → Feed
 feed_in room = room.feed
+
+-- its buffers, as the definitions have them
+abbrev pub room_seen : OutRoom → OutletRoom
+room_seen room = record { buffers = buffers room.outlet; bytes = bytes_of room.outlet }
+
+-- those of each backend's outlet
+abbrev pub rooms_at : (graphite console : OutRoom) → Backend → OutletRoom
+rooms_at graphite console Graphite = room_seen graphite
+rooms_at graphite console Console = room_seen console
+
+-- the same, if there are any
+abbrev pub rooms_of : Option OutRooms → Backend → OutletRoom
+rooms_of None back = record { buffers = 0; bytes = 0 }
+rooms_of (Some rooms) back = rooms_at rooms.graphite rooms.console back
 
 -- the ends are the outlet's, and nothing was sent or got
 pub record IsOutRoom (room : OutRoom) : Type 0 where

@@ -4,9 +4,10 @@ use Rattle.std.specs.List.{AllByRecursion}
 use Rattle.sd_model_shard.specs.Shard as model
 use Rattle.sd_model_serve.specs.Receiving.{administrator, flusher}
 use Rattle.sd_model_record.specs.Desk.{new_desk}
+use Rattle.sd_model_run.specs.Outlets.{OutletRoom}
 use Rattle.sd_epoch.specs.Limits.{AreLimits, limits_of as limits_seen}
 use Rattle.sd_shard.specs.Policy.{policy_of as policy_seen}
-use Rattle.sd_seats.specs.Lists.{span}
+use Rattle.sd_turn.specs.Lists.{span}
 use Rattle.sd_pool.specs.Pool.{IsNewSeatOf, IsRoomOf as IsClosingRoomOf, limits_of, policy_of, receivers_of, seats_in, shards_of, who_is}
 use Rattle.sd_shared_desk.specs.Shared.{IsNewSeatOf as IsNewDeskSeatOf, number_of_seat, opened_with, seats_of, start_of}
 use Rattle.sd_flush.specs.Tables.{AreTablesFor}
@@ -33,6 +34,10 @@ pub record Sizing : Type 0 where
 abbrev pub sizing_of : Sizes → Sizing
 sizing_of s =
     record { limits = limits_seen s.limits; policy = policy_seen s.policy; shards = s.shards; receivers = s.receivers; wires = s.wires; streams = s.streams; outlets = s.outlets; outlet_bytes = s.outlet_bytes }
+
+-- the room of each outlet
+abbrev pub outlets_of : Sizing → OutletRoom
+outlets_of sizing = record { buffers = sizing.outlets; bytes = sizing.outlet_bytes }
 
 -- whether there are outlets
 abbrev pub with_outlets : Sizing → Bool
@@ -74,7 +79,7 @@ pub record IsRoom {D L : Type 0} (room : ServerRoom D L) : Type 0 where
   pub commands : who_is room.seats.admin ≡ administrator
   pub seats : AllByRecursion (IsNewSeatOf room.pool) (seats_in room.seats)
   pub closing : IsClosingRoomOf room.pool room.seats.room
-  pub desk : opened_with room.desk ≡ new_desk (start_in room)
+  pub desk : (opened_with room.desk).desk ≡ new_desk (start_in room)
   pub desk_seats : seats_of room.desk ≡ submitters (sizing_in room) + 2
   pub numbers : map number_of_seat room.owns.items ≡ span 0 (submitters (sizing_in room) + 2)
   pub owns : All (IsNewDeskSeatOf room.desk) room.owns.items

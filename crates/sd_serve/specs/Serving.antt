@@ -6,6 +6,7 @@ use Rattle.sd_model_settings.specs.Settings as file
 use Rattle.sd_model_shard.specs.History.{state_after}
 use Rattle.sd_model_serve.specs.Ends as model
 use Rattle.sd_model_serve.specs.Ends.{LoopEnd, Spent, Enough, WornOut}
+use Rattle.sd_model_run.specs.Outlets.{any_buffers}
 use Rattle.sd_model_run.specs.Run.{Course, Terms, ServerTheorem, Objects}
 use Rattle.sd_outside.specs.declared.backend.Backs.{Backs}
 use Rattle.sd_outside.specs.declared.datagrams.Ended.{Ended}
@@ -16,7 +17,7 @@ use Rattle.sd_plan.specs.Plan.{plan_view}
 use Rattle.sd_plan.specs.declared.reckoning.Reckoning.{Reckoning}
 use Rattle.sd_pool.specs.Books.{IsBookOf, no_book}
 use Rattle.sd_flush.specs.Flushing.{back_of, uses}
-use Rattle.sd_serve.specs.Room.{Sizing, with_outlets}
+use Rattle.sd_serve.specs.Room.{Sizing, outlets_of}
 use Rattle.sd_serve.specs.Through.{AreCounted, has_counts}
 use Rattle.sd_serve.specs.declared.serving.Served.{Served}
 
@@ -41,7 +42,7 @@ terms_of sizing plan names settings backs run_flushes =
       policy = sizing.policy;
       form = record { shards = sizing.shards; plan = plan_view plan; names = names };
       uses = uses backs;
-      outlets = with_outlets sizing;
+      outlets = outlets_of sizing;
       settings = settings;
       receivers = sizing.receivers;
       wires = sizing.wires;
@@ -60,10 +61,10 @@ pub record HasServed (terms : Terms) (says : ℕ → Type 0) (old new : Objects)
   pub course : Course
   pub theorem : ServerTheorem terms says course old new
   pub received : map end_of served.received.items ≡ map (λ r. r.ended) course.receptions
-  pub flusher : end_of served.ends.flusher ≡ course.flusher_ended
+  pub flusher : end_of served.ends.flusher.ended ≡ course.flusher_ended
   pub keeper : door_end_of served.ends.keeper ≡ course.keeper_ended
   pub liner : map door_end_of (option_to_list served.ends.liner) ≡ map (λ l. l.ended) course.linings
-  pub outlets : has_counts served.outs ≡ terms.outlets
+  pub outlets : has_counts served.outs ≡ any_buffers terms.outlets
   pub outs : AreCounted served.outs course.outflows
   pub desk : served.desk ≡ course.desk
   pub shards : length served.books.items ≡ terms.form.shards

@@ -1,5 +1,5 @@
 -- What the flusher left, whether its texts went straight to the backends or through outlets.
-use Rattle.std.specs.Prelude.{◌≡◌, ℕ, ◌+◌, Bool, true, false, List, ◌++◌, length, map, min, Option, Some, None}
+use Rattle.std.specs.Prelude.{◌≡◌, ℕ, ◌+◌, Bool, true, false, List, ◌++◌, flat_map, length, map, min, Option, Some, None}
 use Rattle.std.specs.List.{AllByRecursion}
 use Rattle.sd_model_outside.specs.Deliveries.{AfterDeliveries, missed}
 use Rattle.sd_model_outside.specs.Outside.{Object, last_count}
@@ -8,10 +8,10 @@ use Rattle.sd_model_shard.specs.History.{History}
 use Rattle.sd_model_record.specs.Backends.{Backend, Graphite, Console}
 use Rattle.sd_model_record.specs.Counts.{Part, HasCounted}
 use Rattle.sd_model_serve.specs.Receiving.{Adds}
-use Rattle.sd_model_serve.specs.Rounds.{Form, MarksFit, Round, of_rounds, round_deliveries, round_text, swaps_at}
-use Rattle.sd_model_run.specs.Outlets.{HasFlowed, Outflow, has_outlet, uses_at_ticks}
-use Rattle.sd_outside.specs.declared.datagrams.Ended.{Ended}
+use Rattle.sd_model_serve.specs.Rounds.{Form, MarksFit, Round, last_second, of_rounds, round_calls, round_deliveries, round_text, swaps_at}
+use Rattle.sd_model_run.specs.Outlets.{HasFlowed, Outflow, OutletRoom, has_outlet, uses_at_ticks}
 use Rattle.sd_flush.specs.Flushing.{EndsSo}
+use Rattle.sd_flush.specs.declared.flushed.Flushed.{Flushed}
 use Rattle.sd_serve.specs.declared.workers_out.OutCounts.{OutCounts}
 
 -- whether outlets counted anything: whether there were any
@@ -36,18 +36,21 @@ pub record AreCounted (counts : Option OutCounts) (outflows : Backend → Outflo
   pub skips : (b : Backend) → skips_at counts b ≡ (outflows b).skipped
   pub faults : (b : Backend) → faults_at counts b ≡ min (missed (outflows b).queued) last_count
 
--- The flusher made a round at each tick that the beat gave, which is otherwise as it was, and ended so. Where there are outlets, the
--- texts of the rounds went through those of the backends that are used; where there are none, each round wrote to these backends.
-pub record FlushesThrough (form : Form) (used : Backend → Bool) (outlets : Bool) (run_flushes : ℕ) (own own_now : ℕ → History) (part part_now : Part) (back back_now : Backend → Object) (beat beat_now : Object) (ended : Ended) (counts : Option OutCounts) : Type 0 where
+-- The flusher made a round at each tick that the beat gave, which is otherwise as it was, and ended so, with the second of the last
+-- round. Where there are outlets, the texts of the rounds went through those of the backends that are used, each of its room; where
+-- there are none, each round wrote to these backends.
+pub record FlushesThrough (form : Form) (used : Backend → Bool) (outlets : Bool) (room_at : Backend → OutletRoom) (run_flushes : ℕ) (own own_now : ℕ → History) (part part_now : Part) (back back_now : Backend → Object) (beat beat_now : Object) (flushed : Flushed) (counts : Option OutCounts) : Type 0 where
   pub rounds : List Round
   pub swapped : Adds form.shards (swaps_at rounds) own own_now
   pub fits : AllByRecursion (MarksFit (uses_at_ticks outlets used)) rounds
   pub counted : HasCounted (of_rounds rounds) part part_now
+  pub called : part_now.own ≡ part.own ++ flat_map round_calls rounds
   pub outflows : Backend → Outflow
-  pub flowed : (b : Backend) → HasFlowed (has_outlet outlets used b) (map (round_text form b) rounds) (outflows b)
+  pub flowed : (b : Backend) → HasFlowed (has_outlet outlets used b) (room_at b) (map (round_text form b) rounds) (outflows b)
   pub are_counted : AreCounted counts outflows
   pub delivered : (b : Backend) → AfterDeliveries ((outflows b).queued ++ round_deliveries form b rounds) (back b) (back_now b)
   pub given : beat.told ≡ with_ticks (map (λ r. r.ts) rounds) beat_now.told
   pub turns : beat_now.turns ≡ beat.turns + length rounds
   pub same : beat_now ≡ record beat { told = beat_now.told; faults = beat_now.faults; turns = beat_now.turns }
-  pub ends : EndsSo run_flushes ended beat beat_now (length rounds)
+  pub ends : EndsSo run_flushes flushed.ended beat beat_now (length rounds)
+  pub last : flushed.last ≡ last_second rounds

@@ -17,7 +17,7 @@ pub(crate) struct Feeding<'s, 'o, 't, 'p, 'n, 'u, 'l, 'e, E> {
     pub names: &'n Names,
     pub outs: &'u mut Outs<'l>,
     pub beat: &'e mut E,
-    pub flushed: FlushedOut,
+    pub fed: FlushedOut,
 }
 
 impl<'a, E: Beat, G: Gate, C: Clock> Worker<Shared<'a, G, C>>
@@ -29,7 +29,7 @@ impl<'a, E: Beat, G: Gate, C: Clock> Worker<Shared<'a, G, C>>
     ghost has_run = { λ shared old new. HasFed E.seen shared.pool.now shared.desk.now shared.run_flushes old new };
 
     fn run<R: Wait>(&mut self, rt: &R, shared: &Shared<'a, G, C>) {
-        self.flushed = flush_all_out(
+        self.fed = flush_all_out(
             rt,
             shared.pool,
             shared.desk,

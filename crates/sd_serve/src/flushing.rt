@@ -1,5 +1,5 @@
-use sd_flush::{Tables, flush_all};
-use sd_outside::{Backend, Backs, Beat, Clock, Ended, Gate};
+use sd_flush::{Flushed, Tables, flush_all};
+use sd_outside::{Backend, Backs, Beat, Clock, Gate};
 use sd_plan::{Names, Reckoning};
 use sd_pool::Seat;
 use sd_receive::Shared;
@@ -17,7 +17,7 @@ pub(crate) struct Flushing<'s, 'o, 't, 'p, 'n, 'b, 'e, B, E> {
     pub names: &'n Names,
     pub backs: &'b mut Backs<B>,
     pub beat: &'e mut E,
-    pub ended: Ended,
+    pub flushed: Flushed,
 }
 
 impl<'a, B: Backend, E: Beat, G: Gate, C: Clock> Worker<Shared<'a, G, C>>
@@ -29,7 +29,7 @@ impl<'a, B: Backend, E: Beat, G: Gate, C: Clock> Worker<Shared<'a, G, C>>
     ghost has_run = { λ shared old new. HasFlushed B.seen E.seen shared.pool.now shared.desk.now shared.run_flushes old new };
 
     fn run<R: Wait>(&mut self, rt: &R, shared: &Shared<'a, G, C>) {
-        self.ended = flush_all(
+        self.flushed = flush_all(
             rt,
             shared.pool,
             shared.desk,

@@ -39,7 +39,7 @@ impl LinePost {
         requires ready { IsLineReady shared.now.pool.now shared.now.desk.now self.old }
         requires none_out { (E.seen door.old).is_out ≡ false }
         requires turns { (E.seen door.old).turns < 2 ^ 62 }
-        ensures { WasLined shared.now.pool.now shared.now.desk.now shared.now.run_flushes self.old self.new result (E.seen door.old) (E.seen door.new) }
+        ensures { WasLined (C.may_say shared.now.clock.now) shared.now.pool.now shared.now.desk.now shared.now.run_flushes self.old self.new result (E.seen door.old) (E.seen door.new) }
     {
         let lined = linekeep(
             rt,

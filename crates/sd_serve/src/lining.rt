@@ -17,7 +17,7 @@ impl<'a, E: Door, G: Gate, C: Clock> Worker<Shared<'a, G, C>> for Lining<'_, '_,
 
     ghost can_run = { λ shared lining. CanLine E.seen shared.pool.now shared.desk.now lining };
 
-    ghost has_run = { λ shared old new. HasLined E.seen shared.pool.now shared.desk.now shared.run_flushes old new };
+    ghost has_run = { λ shared old new. HasLined E.seen (C.may_say shared.clock.now) shared.pool.now shared.desk.now shared.run_flushes old new };
 
     fn run<R: Wait>(&mut self, rt: &R, shared: &Shared<'a, G, C>) {
         if let Some(post) = &mut *self.post {

@@ -1,5 +1,5 @@
 //! A server from its room to its books.
-ghost use Rattle.std.specs.Prelude.{◌≡◌, ◌+◌, ◌*◌, ◌<◌, ◌≤◌, ◌^◌, [], ◌∷◌, ◌++◌, false, All, flat_map, length, map, vec_capacity};
+ghost use Rattle.std.specs.Prelude.{◌≡◌, ◌⊎◌, ◌+◌, ◌*◌, ◌<◌, ◌≤◌, ◌^◌, [], ◌∷◌, ◌++◌, false, All, IfSome, Some, flat_map, length, map, vec_capacity};
 ghost use Rattle.std.specs.List.{AllByRecursion};
 ghost use Rattle.sd_pool.specs.Pool.{IsRoomOf, IsSeatOf, receivers_of};
 ghost use Rattle.sd_shared_desk.specs.Shared.{IsSeatOf as IsDeskSeatOf, seats_of};
@@ -76,10 +76,21 @@ fn close<D: Datagrams + Drop, L: Wire + Drop>(
     (pool.close(seats), desk.close(owns))
 }
 
+// The second of the last round: now, or that of the round before it, where that is later.
+fn last_round_at(now: u64, before: Option<u64>) -> u64
+    ensures at { (result ≡ now) ⊎ (before ≡ Some result) }
+    ensures in_order { IfSome before (λ second. second ≤ result) }
+{
+    match before {
+        Some(second) if now < second => second,
+        _ => now,
+    }
+}
+
 /// Runs the server's workers over the room's sources, each with its run of wires, and both doors, of which that of streams is read
 /// only where the room is for that, until all have ended, with outlets before the backends, where the room has them; then makes a
-/// last round, at a moment that the clock tells, which writes to the backends itself, and closes the pool and the desk. Sources and
-/// wires then stand where they stood. It takes no memory.
+/// last round, at a moment that the clock tells, or at the second of the round before it where that is later, which writes to the
+/// backends itself, and closes the pool and the desk. Sources and wires then stand where they stood. It takes no memory.
 pub fn serve<K: Kinds, R: Threads + Wait + Sync>(
     rt: &R,
     room: ServerRoom<K::D, K::L>,
@@ -171,7 +182,7 @@ pub fn serve<K: Kinds, R: Threads + Wait + Sync>(
         &mut tables,
         plan,
         names,
-        clock.now(),
+        last_round_at(clock.now(), ends.flusher.last),
         backs,
         gate,
     );

@@ -9,7 +9,7 @@ ghost use Rattle.sd_door.specs.Keeping.{EndsKeeping};
 ghost use Rattle.sd_model_serve.specs.Doors.{ServesSessions};
 ghost use Rattle.sd_session.specs.Space.{IsSpaceFor};
 ghost use Rattle.sd_serve.specs.LinePost.{AreLinedBy, IsLineReady};
-ghost use Rattle.sd_serve.specs.OutRoom.{IsOutRoom, has_rooms};
+ghost use Rattle.sd_serve.specs.OutRoom.{IsOutRoom, has_rooms, rooms_of};
 ghost use Rattle.sd_serve.specs.Through.{FlushesThrough, has_counts};
 
 use crate::beside::run_with_third;
@@ -21,7 +21,7 @@ use crate::lining::Lining;
 use crate::out_room::OutRooms;
 use crate::workers_out::{OutCounts, run_server_out};
 use sd_config::Settings;
-use sd_flush::Tables;
+use sd_flush::{Flushed, Tables};
 use sd_outside::{Backs, DoorEnd, Ended};
 use sd_plan::{Names, Reckoning};
 use sd_pool::Seat;
@@ -34,7 +34,7 @@ use std::thread::Threads;
 /// How the flusher and the keeper of the admin door ended, and the keeper of lines, if there was one.
 #[derive(Clone, Copy, Debug, PartialEq, Eq)]
 pub struct Ends {
-    pub flusher: Ended,
+    pub flusher: Flushed,
     pub keeper: DoorEnd,
     pub liner: Option<DoorEnd>,
 }
@@ -83,9 +83,9 @@ fn run_server<K: Kinds, R: Threads + Wait + Sync>(
     ensures space { IsSpaceFor (limits_of shared.now.pool.now) (shards_of shared.now.pool.now) space.new }
     ensures serves { ServesSessions (shards_of shared.now.pool.now) settings.now (K.T.may_say shared.now.clock.now) (own_at admin_seat.old) (own_at admin_seat.new) (K.E.seen door.old) (K.E.seen door.new) (part_of admin_own.old) (part_of admin_own.new) }
     ensures keeper { EndsKeeping shared.now.run_flushes result.keeper (K.E.seen door.old) (K.E.seen door.new) (part_of admin_own.new) }
-    ensures lines { AreLinedBy shared.now.pool.now shared.now.desk.now shared.now.run_flushes line_post.old line_post.new result.liner (K.S.seen streams.old) (K.S.seen streams.new) }
+    ensures lines { AreLinedBy (K.T.may_say shared.now.clock.now) shared.now.pool.now shared.now.desk.now shared.now.run_flushes line_post.old line_post.new result.liner (K.S.seen streams.old) (K.S.seen streams.new) }
     ensures len { length posts.new ≡ length posts.old }
-    ensures each { (i : ℕ) (d : _) → i < length posts.old → HasRun K.D.seen K.L.seen shared.now.pool.now shared.now.desk.now shared.now.run_flushes (slice_index_or posts.old i d) (slice_index_or posts.new i d) }
+    ensures each { (i : ℕ) (d : _) → i < length posts.old → HasRun K.D.seen K.L.seen (K.T.may_say shared.now.clock.now) shared.now.pool.now shared.now.desk.now shared.now.run_flushes (slice_index_or posts.old i d) (slice_index_or posts.new i d) }
 {
     let mut flushing = Flushing {
         seat,
@@ -95,7 +95,10 @@ fn run_server<K: Kinds, R: Threads + Wait + Sync>(
         names,
         backs,
         beat,
-        ended: Ended::End,
+        flushed: Flushed {
+            ended: Ended::End,
+            last: None,
+        },
     };
     let mut keeping = Keeping {
         seat: admin_seat,
@@ -112,7 +115,7 @@ fn run_server<K: Kinds, R: Threads + Wait + Sync>(
     };
     run_with_third(rt, shared, &mut flushing, &mut keeping, &mut lining, posts);
     Ends {
-        flusher: flushing.ended,
+        flusher: flushing.flushed,
         keeper: keeping.ended,
         liner: lining.ended,
     }
@@ -155,7 +158,7 @@ pub(crate) fn run_all<K: Kinds, R: Threads + Wait + Sync>(
     ensures own { IsDeskSeatOf shared.now.desk.now own.new × (number_of_seat own.new ≡ number_of_seat own.old) }
     ensures seat { IsSeatOf shared.now.pool.now seat.new × (who_is seat.new ≡ flusher) }
     ensures tables { AreTablesFor (limits_of shared.now.pool.now) (shards_of shared.now.pool.now) tables.new }
-    ensures flushes { FlushesThrough (form_of shared.now.pool.now plan.now names.now) (uses backs.old) (has_rooms outs) shared.now.run_flushes (own_at seat.old) (own_at seat.new) (part_of own.old) (part_of own.new)
+    ensures flushes { FlushesThrough (form_of shared.now.pool.now plan.now names.now) (uses backs.old) (has_rooms outs) (rooms_of outs) shared.now.run_flushes (own_at seat.old) (own_at seat.new) (part_of own.old) (part_of own.new)
         (back_of K.B.seen backs.old) (back_of K.B.seen backs.new) (K.P.seen beat.old) (K.P.seen beat.new) result.0.flusher result.1 }
     ensures counts { has_counts result.1 ≡ has_rooms outs }
     ensures graphite_flag { backs.new.graphite_used ≡ backs.old.graphite_used }
@@ -165,9 +168,9 @@ pub(crate) fn run_all<K: Kinds, R: Threads + Wait + Sync>(
     ensures space { IsSpaceFor (limits_of shared.now.pool.now) (shards_of shared.now.pool.now) space.new }
     ensures serves { ServesSessions (shards_of shared.now.pool.now) settings.now (K.T.may_say shared.now.clock.now) (own_at admin_seat.old) (own_at admin_seat.new) (K.E.seen door.old) (K.E.seen door.new) (part_of admin_own.old) (part_of admin_own.new) }
     ensures keeper { EndsKeeping shared.now.run_flushes result.0.keeper (K.E.seen door.old) (K.E.seen door.new) (part_of admin_own.new) }
-    ensures lines { AreLinedBy shared.now.pool.now shared.now.desk.now shared.now.run_flushes line_post.old line_post.new result.0.liner (K.S.seen streams.old) (K.S.seen streams.new) }
+    ensures lines { AreLinedBy (K.T.may_say shared.now.clock.now) shared.now.pool.now shared.now.desk.now shared.now.run_flushes line_post.old line_post.new result.0.liner (K.S.seen streams.old) (K.S.seen streams.new) }
     ensures len { length posts.new ≡ length posts.old }
-    ensures each { (i : ℕ) (d : _) → i < length posts.old → HasRun K.D.seen K.L.seen shared.now.pool.now shared.now.desk.now shared.now.run_flushes (slice_index_or posts.old i d) (slice_index_or posts.new i d) }
+    ensures each { (i : ℕ) (d : _) → i < length posts.old → HasRun K.D.seen K.L.seen (K.T.may_say shared.now.clock.now) shared.now.pool.now shared.now.desk.now shared.now.run_flushes (slice_index_or posts.old i d) (slice_index_or posts.new i d) }
 {
     let Some(outs) = outs else {
         let ends = run_server::<K, R>(

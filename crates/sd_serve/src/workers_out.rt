@@ -29,7 +29,7 @@ use crate::lining::Lining;
 use crate::out_room::{OutRoom, OutRooms};
 use crate::workers::Ends;
 use sd_config::Settings;
-use sd_flush::{FlushedOut, Lead, Outs, Skips, Tables};
+use sd_flush::{Flushed, FlushedOut, Lead, Outs, Skips, Tables};
 use sd_outlet::{Drain, Feed, Outlet, Worked};
 use sd_outside::{Backend, Backs, DoorEnd, Ended};
 use sd_plan::{Names, Reckoning};
@@ -161,10 +161,10 @@ fn run_beside<K: Kinds, R: Threads + Wait + Sync>(
     ensures space { IsSpaceFor (limits_of shared.now.pool.now) (shards_of shared.now.pool.now) space.new }
     ensures serves { ServesSessions (shards_of shared.now.pool.now) settings.now (K.T.may_say shared.now.clock.now) (own_at admin_seat.old) (own_at admin_seat.new) (K.E.seen door.old) (K.E.seen door.new) (part_of admin_own.old) (part_of admin_own.new) }
     ensures keeper { EndsKeeping shared.now.run_flushes result.ends.keeper (K.E.seen door.old) (K.E.seen door.new) (part_of admin_own.new) }
-    ensures lining { HasLined K.S.seen shared.now.pool.now shared.now.desk.now shared.now.run_flushes lining.old lining.new }
+    ensures lining { HasLined K.S.seen (K.T.may_say shared.now.clock.now) shared.now.pool.now shared.now.desk.now shared.now.run_flushes lining.old lining.new }
     ensures liner { result.ends.liner ≡ (lining.new).ended }
     ensures len { length posts.new ≡ length posts.old }
-    ensures each { (i : ℕ) (d : _) → i < length posts.old → HasRun K.D.seen K.L.seen shared.now.pool.now shared.now.desk.now shared.now.run_flushes (slice_index_or posts.old i d) (slice_index_or posts.new i d) }
+    ensures each { (i : ℕ) (d : _) → i < length posts.old → HasRun K.D.seen K.L.seen (K.T.may_say shared.now.clock.now) shared.now.pool.now shared.now.desk.now shared.now.run_flushes (slice_index_or posts.old i d) (slice_index_or posts.new i d) }
 {
     let mut feeding = Feeding {
         seat,
@@ -174,8 +174,11 @@ fn run_beside<K: Kinds, R: Threads + Wait + Sync>(
         names,
         outs,
         beat,
-        flushed: FlushedOut {
-            ended: Ended::End,
+        fed: FlushedOut {
+            flushed: Flushed {
+                ended: Ended::End,
+                last: None,
+            },
             skips: Skips {
                 graphite: 0,
                 console: 0,
@@ -214,12 +217,12 @@ fn run_beside<K: Kinds, R: Threads + Wait + Sync>(
     );
     OutEnds {
         ends: Ends {
-            flusher: feeding.flushed.ended,
+            flusher: feeding.fed.flushed,
             keeper: keeping.ended,
             liner: lining.ended,
         },
         counts: OutCounts {
-            skips: feeding.flushed.skips,
+            skips: feeding.fed.skips,
             graphite: to_graphite.worked,
             console: to_console.worked,
         },
@@ -271,10 +274,10 @@ pub(crate) fn run_server_out<K: Kinds, R: Threads + Wait + Sync>(
     ensures space { IsSpaceFor (limits_of shared.now.pool.now) (shards_of shared.now.pool.now) space.new }
     ensures serves { ServesSessions (shards_of shared.now.pool.now) settings.now (K.T.may_say shared.now.clock.now) (own_at admin_seat.old) (own_at admin_seat.new) (K.E.seen door.old) (K.E.seen door.new) (part_of admin_own.old) (part_of admin_own.new) }
     ensures keeper { EndsKeeping shared.now.run_flushes result.ends.keeper (K.E.seen door.old) (K.E.seen door.new) (part_of admin_own.new) }
-    ensures lining { HasLined K.S.seen shared.now.pool.now shared.now.desk.now shared.now.run_flushes lining.old lining.new }
+    ensures lining { HasLined K.S.seen (K.T.may_say shared.now.clock.now) shared.now.pool.now shared.now.desk.now shared.now.run_flushes lining.old lining.new }
     ensures liner { result.ends.liner ≡ (lining.new).ended }
     ensures len { length posts.new ≡ length posts.old }
-    ensures each { (i : ℕ) (d : _) → i < length posts.old → HasRun K.D.seen K.L.seen shared.now.pool.now shared.now.desk.now shared.now.run_flushes (slice_index_or posts.old i d) (slice_index_or posts.new i d) }
+    ensures each { (i : ℕ) (d : _) → i < length posts.old → HasRun K.D.seen K.L.seen (K.T.may_say shared.now.clock.now) shared.now.pool.now shared.now.desk.now shared.now.run_flushes (slice_index_or posts.old i d) (slice_index_or posts.new i d) }
 {
     let OutRoom {
         outlet: graphite,

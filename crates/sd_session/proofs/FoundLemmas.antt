@@ -13,13 +13,13 @@ use Rattle.sd_pool.proofs.OwnLemmas.{OnlyOf-step, OnlyOf-empty}
 -- a shard has rows of its own keys alone after many acts, of which more follow
 OnlyOf-acts : (setup : Setup) (state : State) (acts more : History) → AllByRecursion (λ a. IsOwn setup a.event) (acts ++ more) → OnlyOf setup.shard setup.shards state.live → OnlyOf setup.shard setup.shards (after_all setup.limits setup.policy state acts).live
 OnlyOf-acts setup state [] more own only = only
-OnlyOf-acts setup state (a ∷ acts) more own only = OnlyOf-acts setup (after setup.limits setup.policy state a) acts more own.1 (OnlyOf-step setup state a.who a.event own.0 only)
+OnlyOf-acts setup state (a ∷ acts) more own only = OnlyOf-acts setup (after setup.limits setup.policy state a) acts more own.1 (OnlyOf-step setup state a.event own.0 only)
 
 -- A shard of a pool was found in this state, with rows of its own keys alone, and replied from it.
 pub record Found (pool : Pool) (i : ℕ) (a : Act) : Type 0 where
   pub state : State
   pub home : OnlyOf i (shards_of pool) state.live
-  pub replied : a.reply ≡ (step (limits_of pool) (policy_of pool) state a.who a.event).reply
+  pub replied : a.reply ≡ (step (limits_of pool) (policy_of pool) state a.event).reply
 
 pub found_by : (pool : Pool) (old new : Seat) (i : ℕ) (a : Act) → IsPool pool → i < shards_of pool → Acts pool old new i a → Found pool i a
 found_by pool old new i a is below acts =

@@ -1,6 +1,5 @@
 mod FoundLemmas
 mod TogetherLemmas
 mod CarryLemmas
-mod CommandLemmas
 mod SessionLemmas
 mod VisitLemmas

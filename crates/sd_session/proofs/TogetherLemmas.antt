@@ -114,10 +114,10 @@ module _ (shards : ℕ) (kind : Kind) (found : List State) (home : AtHome shards
       keys_in_order told sorted (all_keys_once shards (found_at found) home kind name) (subst (λ (ts : List (List ℕ)). IsPermutation ts sorted) (by_number tell found shards count) (moved (flat_map tell found) new sorted all sort)) up
       ∙ ap (in_key_order (λ (key : List ℕ). key)) (sym (flat_map-map keys_in (λ i. deletion_of kind name (found_at found i)) (range_with_len 0 shards)))
 
-  pub rows_are : (new sorted : List DumpRow) → Appends (flat_map (λ s. dump_of kind s.live s.held) found) [] new → IsPermutation new sorted → IsSortedByKey (λ (row : DumpRow). row.key) (slice_cmp nat_cmp) sorted
-      → sorted ≡ rows_told (all_replies shards (broadcast_of shards (shard.Dump kind) (λ s. shard.Dumped (dump_of kind s.live s.held)) found))
+  pub rows_are : (new sorted : List DumpRow) → Appends (flat_map (λ s. dump_of kind s.live) found) [] new → IsPermutation new sorted → IsSortedByKey (λ (row : DumpRow). row.key) (slice_cmp nat_cmp) sorted
+      → sorted ≡ rows_told (all_replies shards (broadcast_of shards (shard.Dump kind) (λ s. shard.Dumped (dump_of kind s.live)) found))
   rows_are new sorted all sort up =
-      let tell : State → List DumpRow = λ s. dump_of kind s.live s.held in
+      let tell : State → List DumpRow = λ s. dump_of kind s.live in
       let told = flat_map (λ i. tell (found_at found i)) (range_with_len 0 shards) in
       in_key_order_is (λ (row : DumpRow). row.key) told sorted (all_rows_once shards (found_at found) home kind) (subst (λ (ts : List DumpRow). IsPermutation ts sorted) (by_number tell found shards count) (moved (flat_map tell found) new sorted all sort)) up
-      ∙ ap (in_key_order (λ (row : DumpRow). row.key)) (sym (flat_map-map rows_in (λ i. shard.Dumped (dump_of kind (found_at found i).live (found_at found i).held)) (range_with_len 0 shards)))
+      ∙ ap (in_key_order (λ (row : DumpRow). row.key)) (sym (flat_map-map rows_in (λ i. shard.Dumped (dump_of kind (found_at found i).live)) (range_with_len 0 shards)))

@@ -1,8 +1,9 @@
 -- The visits of admin sessions, one after another.
-use Rattle.std.proofs.Common.{◌≡◌, ℕ, ◌+◌, List, [], ◌∷◌, ap, subst, sym, ◌∙◌, arith}
+use Rattle.std.proofs.Common.{◌≡◌, ℕ, ◌+◌, List, [], ◌∷◌, ◌++◌, flat_map, ap, subst, sym, ◌∙◌, arith}
 use Rattle.sd_model_settings.specs.Settings as file
 use Rattle.sd_model_record.specs.Counts.{Amounts, Count, HasCounted, Part, nothing, plus}
-use Rattle.sd_model_serve.specs.Doors.{Visit, AreVisitsOf, asked_by}
+use Rattle.sd_model_record.specs.DeskHistory.{DeskCall}
+use Rattle.sd_model_serve.specs.Doors.{Visit, AreVisitsOf, asked_by, called_in, line_calls}
 use Rattle.sd_model_serve.specs.Sessions.{Broadcasts, Dialogue, asked_in, lines_in}
 use Rattle.sd_pool.specs.Pool.{own_at, shards_of}
 use Rattle.sd_pool.specs.declared.pool.Pool.{Pool}
@@ -17,12 +18,17 @@ none_and_none a b first second = (λ i. plus (first i) (second i)) ∙ (λ i c. 
   same : (c : Count) → plus nothing nothing c ≡ nothing c
   same c = omega arith
 
+-- the lines of sessions, one session after another
+calls_of_one : (d : Dialogue) (dialogues : List Dialogue) (first rest calls : List DeskCall) → first ≡ flat_map line_calls (lines_in d) → rest ≡ called_in dialogues → calls ≡ first ++ rest → calls ≡ called_in (d ∷ dialogues)
+calls_of_one d dialogues first rest calls a b both = both ∙ ap (λ (l : List DeskCall). l ++ rest) a ∙ ap (λ (l : List DeskCall). flat_map line_calls (lines_in d) ++ l) b
+
 module _ {C : Type 0} (may_say : C → ℕ → Type 0) where
   -- all visits, and the sessions that they held
-  pub record HasVisitedAll (visits : List Visit) (old new : AdminVisitor C) (amounts : Amounts) : Type 0 where
+  pub record HasVisitedAll (visits : List Visit) (old new : AdminVisitor C) (amounts : Amounts) (calls : List DeskCall) : Type 0 where
     pub works : WorksOn old new
     pub none : amounts ≡ nothing
     pub dialogues : List Dialogue
+    pub called : calls ≡ called_in dialogues
     pub went : AreVisitsOf (shards_of old.pool.now) old.settings.now (may_say old.clock.now) visits dialogues
     pub asked : Broadcasts (shards_of old.pool.now) (asked_by dialogues) (own_at old.seat.now) (own_at new.seat.now)
 
@@ -35,8 +41,8 @@ module _ {C : Type 0} (may_say : C → ℕ → Type 0) where
     space = b.space ∙ a.space;
   }
 
-  pub visited_all : (visits : List Visit) (old new : AdminVisitor C) (amounts : Amounts) → Visited (HasVisited may_say) visits old new amounts → HasVisitedAll visits old new amounts
-  visited_all [] old new amounts h = let same = h.0 in record {
+  pub visited_all : (visits : List Visit) (old new : AdminVisitor C) (amounts : Amounts) (calls : List DeskCall) → Visited (HasVisited may_say) visits old new amounts calls → HasVisitedAll visits old new amounts calls
+  visited_all [] old new amounts calls h = let same = h.0 in record {
     works = record {
       pool = ap (λ (v : AdminVisitor C). v.pool.now) same;
       settings = ap (λ (v : AdminVisitor C). v.settings.now) same;
@@ -46,17 +52,19 @@ module _ {C : Type 0} (may_say : C → ℕ → Type 0) where
     };
     none = h.1;
     dialogues = [];
+    called = h.2;
     went = tt;
     asked = subst (λ (v : AdminVisitor C). Broadcasts (shards_of old.pool.now) [] (own_at old.seat.now) (own_at v.seat.now)) (sym same) (Broadcasts-none (shards_of old.pool.now) (own_at old.seat.now));
   }
-  visited_all (v ∷ visits) old new amounts h =
+  visited_all (v ∷ visits) old new amounts calls h =
       let mid = h.0 in
-      let first = h.3 in
-      let rest = visited_all visits mid new h.2 h.4 in
+      let first = h.5 in
+      let rest = visited_all visits mid new h.2 h.4 h.6 in
       record {
         works = on_the_same old mid new first.works rest.works;
-        none = h.5 ∙ none_and_none h.1 h.2 first.none rest.none;
+        none = h.7 ∙ none_and_none h.1 h.2 first.none rest.none;
         dialogues = first.dialogue ∷ rest.dialogues;
+        called = calls_of_one first.dialogue rest.dialogues h.3 h.4 calls first.called rest.called h.8;
         went = (
           first.went,
           subst (λ (p : Pool). AreVisitsOf (shards_of p) old.settings.now (may_say old.clock.now) visits rest.dialogues) first.works.pool

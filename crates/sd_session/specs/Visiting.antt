@@ -1,8 +1,9 @@
 -- The visitor of admin sessions: what it needs, and what a visit leaves.
-use Rattle.std.specs.Prelude.{◌≡◌, ℕ}
+use Rattle.std.specs.Prelude.{◌≡◌, ℕ, List, flat_map}
 use Rattle.sd_model_serve.specs.Receiving.{administrator}
 use Rattle.sd_model_record.specs.Counts.{Amounts, nothing}
-use Rattle.sd_model_serve.specs.Doors.{Visit, IsVisitOf}
+use Rattle.sd_model_record.specs.DeskHistory.{DeskCall}
+use Rattle.sd_model_serve.specs.Doors.{Visit, IsVisitOf, line_calls}
 use Rattle.sd_model_serve.specs.Sessions.{Dialogue, Broadcasts, asked_in, lines_in}
 use Rattle.sd_pool.specs.Pool.{IsSeatOf, limits_of, own_at, shards_of, who_is}
 use Rattle.sd_session.specs.Space.{IsSpaceFor}
@@ -23,10 +24,11 @@ module _ {C : Type 0} where
     pub seat : new.seat.ghost_name ≡ old.seat.ghost_name
     pub space : new.space.ghost_name ≡ old.space.ghost_name
 
-  -- a session was visited, and went so, and nothing was counted for it
-  pub record HasVisited (may_say : C → ℕ → Type 0) (old new : AdminVisitor C) (v : Visit) (amounts : Amounts) : Type 0 where
+  -- a session was visited, and went so, its lines' calls of the desk were made, and nothing was counted for it
+  pub record HasVisited (may_say : C → ℕ → Type 0) (old new : AdminVisitor C) (v : Visit) (amounts : Amounts) (calls : List DeskCall) : Type 0 where
     pub works : WorksOn old new
     pub none : amounts ≡ nothing
     pub dialogue : Dialogue
+    pub called : calls ≡ flat_map line_calls (lines_in dialogue)
     pub went : IsVisitOf (shards_of old.pool.now) old.settings.now (may_say old.clock.now) v dialogue
     pub asked : Broadcasts (shards_of old.pool.now) (asked_in (lines_in dialogue)) (own_at old.seat.now) (own_at new.seat.now)

@@ -1,7 +1,8 @@
-ghost use Rattle.std.specs.Prelude.{◌≡◌, ◌*◌, ◌≤◌};
+ghost use Rattle.std.specs.Prelude.{◌≡◌, ◌*◌, ◌≤◌, ◌++◌};
 ghost use Rattle.sd_model_record.specs.Admin.{command};
 ghost use Rattle.sd_model_serve.specs.Receiving.{administrator};
 ghost use Rattle.sd_model_record.specs.Counts.{HasCounted, nothing};
+ghost use Rattle.sd_model_serve.specs.Doors.{health_calls};
 ghost use Rattle.sd_model_serve.specs.Sessions.{is_quit};
 ghost use Rattle.sd_pool.specs.Pool.{IsSeatOf, limits_of, own_at, shards_of, who_is};
 ghost use Rattle.sd_shared_desk.specs.Shared.{IsSeatOf as IsDeskSeatOf, number_of_seat, part_of};
@@ -39,6 +40,7 @@ fn set_health<R: Wait>(rt: &R, desk: &SharedDesk, own: &mut DeskSeat, line: &[u8
     requires { IsDeskSeatOf desk.now own.old }
     ensures own { IsDeskSeatOf desk.now own.new × (number_of_seat own.new ≡ number_of_seat own.old) }
     ensures counted { HasCounted nothing (part_of own.old) (part_of own.new) }
+    ensures called { (part_of own.new).own ≡ (part_of own.old).own ++ health_calls (command line.now) }
 {
     match Command::read(line) {
         Ok(Command::Health(HealthWord::Up)) => desk.set_health(rt, true, own),
@@ -70,7 +72,7 @@ pub(crate) fn tell_line<O: Sink, C: Clock, R: Wait>(
     ensures keys { keys.new.room ≡ keys.old.room }
     ensures dump { dump.new.room ≡ dump.old.room }
     ensures counted { HasCounted nothing (part_of own.old) (part_of own.new) }
-    ensures tells { TellsLine (shards_of pool.now) settings.now (C.may_say clock.now) line.now result (own_at seat.old) (own_at seat.new) (O.seen sink.old) (O.seen sink.new) }
+    ensures tells { TellsLine (shards_of pool.now) settings.now (C.may_say clock.now) line.now result (own_at seat.old) (own_at seat.new) (part_of own.old) (part_of own.new) (O.seen sink.old) (O.seen sink.new) }
 {
     if asks_for_end(line) {
         return Told::Quit;

@@ -103,8 +103,8 @@ fn take_turn<A: Source, O: Sink, C: Clock, R: Wait>(
     ensures space { IsSpaceFor (limits_of pool.now) (shards_of pool.now) space.new }
     ensures len { len.new ≤ too_many }
     ensures counted { HasCounted nothing (part_of own.old) (part_of own.new) }
-    ensures on { IfNone result (Listens (shards_of pool.now) settings.now (C.may_say clock.now) (own_at seat.old) (own_at seat.new) (take len.old space.old.line.items) (take len.new space.new.line.items) (A.seen source.old) (A.seen source.new) (O.seen sink.old) (O.seen sink.new)) }
-    ensures ends { IfSome result (λ ended. Stops (shards_of pool.now) settings.now (C.may_say clock.now) (end_of ended) (own_at seat.old) (own_at seat.new) (take len.old space.old.line.items) (A.seen source.old) (A.seen source.new) (O.seen sink.old) (O.seen sink.new)) }
+    ensures on { IfNone result (Listens (shards_of pool.now) settings.now (C.may_say clock.now) (own_at seat.old) (own_at seat.new) (part_of own.old) (part_of own.new) (take len.old space.old.line.items) (take len.new space.new.line.items) (A.seen source.old) (A.seen source.new) (O.seen sink.old) (O.seen sink.new)) }
+    ensures ends { IfSome result (λ ended. Stops (shards_of pool.now) settings.now (C.may_say clock.now) (end_of ended) (own_at seat.old) (own_at seat.new) (part_of own.old) (part_of own.new) (take len.old space.old.line.items) (A.seen source.old) (A.seen source.new) (O.seen sink.old) (O.seen sink.new)) }
 {
     let left = &space.line[..*len];
     let Some(end) = line_len(left) else {
@@ -149,7 +149,7 @@ pub fn session<A: Source, O: Sink, C: Clock, R: Wait>(
     ensures own { IsDeskSeatOf desk.now own.new × (number_of_seat own.new ≡ number_of_seat own.old) }
     ensures space { IsSpaceFor (limits_of pool.now) (shards_of pool.now) space.new }
     ensures counted { HasCounted nothing (part_of own.old) (part_of own.new) }
-    ensures held { HoldsSession (shards_of pool.now) settings.now (C.may_say clock.now) result (own_at seat.old) (own_at seat.new) (A.seen source.old) (A.seen source.new) (O.seen sink.old) (O.seen sink.new) }
+    ensures held { HoldsSession (shards_of pool.now) settings.now (C.may_say clock.now) result (own_at seat.old) (own_at seat.new) (part_of own.old) (part_of own.new) (A.seen source.old) (A.seen source.new) (O.seen sink.old) (O.seen sink.new) }
 {
     let mut len = 0;
     for _ in rt.forever() {

@@ -1,4 +1,3 @@
-mod CarryLemmas
 mod CommandLemmas
 mod DumpLemmas
 mod RoomLemmas

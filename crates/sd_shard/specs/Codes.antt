@@ -5,9 +5,9 @@ use Rattle.std.specs.FinMap.{code}
 use Rattle.std.specs.Coded.{Coded, code_by, coded×, coded⊎, coded_bool, coded_ℕ, coded_ℤ, coded_list}
 use Rattle.sd_model_text.specs.Names.{Kind, Counter, Timer, Gauge, Set, rank}
 use Rattle.sd_model_text.specs.Lines.{Sample}
-use Rattle.sd_model_shard.specs.Rows.{RowId, Kept, Rows, Entry}
+use Rattle.sd_model_shard.specs.Rows.{RowId, Summary, Kept, Rows}
 use Rattle.sd_model_shard.specs.Commands.{DumpRow}
-use Rattle.sd_model_shard.specs.Shard.{Limits, Policy, State, Cause, NoRow, NoEntry, NoNumber, Placed, Taken, Dropped, Table, Event, Submit, Swap, Delete, Dump, Reply, Answered, Swapped, Deleted, Dumped}
+use Rattle.sd_model_shard.specs.Shard.{Limits, Policy, State, Cause, NoRow, NoEntry, NoSum, NoNumber, Placed, Taken, Dropped, Table, Event, Submit, Swap, Delete, Dump, Reply, Answered, Swapped, Deleted, Dumped}
 use Rattle.sd_model_shard.specs.History.{Act}
 
 -- the kind at a place
@@ -29,8 +29,16 @@ kind_code = code_by ℕ coded_ℕ rank kind_at kind_at-rank
 abbrev pub id_code : Coded RowId
 id_code = code_by (Kind × List ℕ) (coded× kind_code (coded_list coded_ℕ)) (λ id. (id.kind, id.key)) (λ p. record { kind = p.0; key = p.1 }) (λ _. refl)
 
+abbrev pub summary_code : Coded Summary
+summary_code =
+    code_by (ℕ × (ℤ × (ℤ × (List ℤ × List (List ℕ))))) (coded× coded_ℕ (coded× coded_ℤ (coded× coded_ℤ (coded× (coded_list coded_ℤ) (coded_list (coded_list coded_ℕ))))))
+    (λ s. (s.samples, (s.weight, (s.gauge, (s.values, s.members)))))
+    (λ p. record { samples = p.0; weight = p.1.0; gauge = p.1.1.0; values = p.1.1.1.0; members = p.1.1.1.1 }) (λ _. refl)
+
 abbrev pub kept_code : Coded Kept
-kept_code = code_by (ℤ × ℕ) (coded× coded_ℤ coded_ℕ) (λ kept. (kept.base, kept.swaps)) (λ p. record { base = p.0; swaps = p.1 }) (λ _. refl)
+kept_code =
+    code_by (ℤ × (ℕ × Summary)) (coded× coded_ℤ (coded× coded_ℕ summary_code)) (λ kept. (kept.base, (kept.swaps, kept.since)))
+    (λ p. record { base = p.0; swaps = p.1.0; since = p.1.1 }) (λ _. refl)
 
 abbrev pub rows_code : Coded Rows
 rows_code = code id_code kept_code
@@ -41,31 +49,31 @@ sample_code =
     (λ s. (record { kind = s.kind; key = s.key }, (s.value, (s.rate, (s.is_signed, s.member)))))
     (λ p. record { kind = p.0.kind; key = p.0.key; value = p.1.0; rate = p.1.1.0; is_signed = p.1.1.1.0; member = p.1.1.1.1 }) (λ _. refl)
 
-abbrev pub entry_code : Coded Entry
-entry_code =
-    code_by (ℕ × (ℕ × Sample)) (coded× coded_ℕ (coded× coded_ℕ sample_code)) (λ e. (e.who, (e.number, e.sample)))
-    (λ p. record { who = p.0; number = p.1.0; sample = p.1.1 }) (λ _. refl)
-
 abbrev pub table_code : Coded Table
-table_code = code_by (Rows × List Entry) (coded× rows_code (coded_list entry_code)) (λ t. (t.live, t.held)) (λ p. record { live = p.0; held = p.1 }) (λ _. refl)
+table_code = code_by Rows rows_code (λ t. t.live) (λ live. record { live = live }) (λ _. refl)
 
-abbrev from_cause : Cause → ((ℕ × ℕ) ⊎ (ℕ × ℕ)) ⊎ ℕ
+abbrev from_cause : Cause → ((ℕ × ℕ) ⊎ (ℕ × ℕ)) ⊎ ((ℕ × ℕ) ⊎ ℕ)
 from_cause (NoRow live limit) = inl (inl (live, limit))
-from_cause (NoEntry held limit) = inl (inr (held, limit))
-from_cause (NoNumber taken) = inr taken
+from_cause (NoEntry entries limit) = inl (inr (entries, limit))
+from_cause (NoSum summed limit) = inr (inl (summed, limit))
+from_cause (NoNumber taken) = inr (inr taken)
 
-abbrev to_cause : ((ℕ × ℕ) ⊎ (ℕ × ℕ)) ⊎ ℕ → Cause
+abbrev to_cause : ((ℕ × ℕ) ⊎ (ℕ × ℕ)) ⊎ ((ℕ × ℕ) ⊎ ℕ) → Cause
 to_cause (inl (inl p)) = NoRow p.0 p.1
 to_cause (inl (inr p)) = NoEntry p.0 p.1
-to_cause (inr n) = NoNumber n
+to_cause (inr (inl p)) = NoSum p.0 p.1
+to_cause (inr (inr n)) = NoNumber n
 
 pub cause_back : (cause : Cause) → to_cause (from_cause cause) ≡ cause
 cause_back (NoRow live limit) = refl
-cause_back (NoEntry held limit) = refl
+cause_back (NoEntry entries limit) = refl
+cause_back (NoSum summed limit) = refl
 cause_back (NoNumber taken) = refl
 
 abbrev pub cause_code : Coded Cause
-cause_code = code_by (((ℕ × ℕ) ⊎ (ℕ × ℕ)) ⊎ ℕ) (coded⊎ (coded⊎ (coded× coded_ℕ coded_ℕ) (coded× coded_ℕ coded_ℕ)) coded_ℕ) from_cause to_cause cause_back
+cause_code =
+    code_by (((ℕ × ℕ) ⊎ (ℕ × ℕ)) ⊎ ((ℕ × ℕ) ⊎ ℕ)) (coded⊎ (coded⊎ (coded× coded_ℕ coded_ℕ) (coded× coded_ℕ coded_ℕ)) (coded⊎ (coded× coded_ℕ coded_ℕ) coded_ℕ))
+    from_cause to_cause cause_back
 
 abbrev from_placed : Placed → ℕ ⊎ Cause
 from_placed (Taken number) = inl number
@@ -138,12 +146,14 @@ act_code =
 
 abbrev pub state_code : Coded State
 state_code =
-    code_by (Table × (ℕ × (ℕ × (ℕ × ℕ)))) (coded× table_code (coded× coded_ℕ (coded× coded_ℕ (coded× coded_ℕ coded_ℕ))))
-    (λ s. (record { live = s.live; held = s.held }, (s.taken, (s.flushed, (s.deleted, s.dropped)))))
-    (λ p. record { live = p.0.live; held = p.0.held; taken = p.1.0; flushed = p.1.1.0; deleted = p.1.1.1.0; dropped = p.1.1.1.1 }) (λ _. refl)
+    code_by (Rows × (ℕ × (ℕ × (ℕ × (ℕ × (ℕ × ℕ)))))) (coded× rows_code (coded× coded_ℕ (coded× coded_ℕ (coded× coded_ℕ (coded× coded_ℕ (coded× coded_ℕ coded_ℕ))))))
+    (λ s. (s.live, (s.held, (s.listed, (s.taken, (s.flushed, (s.deleted, s.dropped)))))))
+    (λ p. record { live = p.0; held = p.1.0; listed = p.1.1.0; taken = p.1.1.1.0; flushed = p.1.1.1.1.0; deleted = p.1.1.1.1.1.0; dropped = p.1.1.1.1.1.1 }) (λ _. refl)
 
 abbrev pub limits_code : Coded Limits
-limits_code = code_by (ℕ × ℕ) (coded× coded_ℕ coded_ℕ) (λ l. (l.rows, l.entries)) (λ p. record { rows = p.0; entries = p.1 }) (λ _. refl)
+limits_code =
+    code_by (ℕ × (ℕ × Bool)) (coded× coded_ℕ (coded× coded_ℕ coded_bool)) (λ l. (l.rows, (l.entries, l.sums_on_arrival)))
+    (λ p. record { rows = p.0; entries = p.1.0; sums_on_arrival = p.1.1 }) (λ _. refl)
 
 abbrev pub policy_code : Coded Policy
 policy_code =

@@ -1,6 +1,8 @@
-ghost use Rattle.std.specs.Prelude.{◌≡◌, ◌≢◌, ℕ, ◌+◌, ◌<◌, ◌≤◌, [], Some, None, is_some, set, map, ◌↔◌, IsTrue, MatchOption, IfSome, sum_by};
+ghost use Rattle.std.specs.Prelude.{◌≡◌, ◌≢◌, ℕ, ◌+◌, ◌<◌, ◌≤◌, Some, None, is_some, set, map, option_map, ◌↔◌, IsTrue, MatchOption, IfSome, sum_by};
+ghost use Rattle.std.specs.FinMap.{get};
 ghost use Rattle.std.specs.List.{range_with_len};
 ghost use Rattle.sd_model_shard.specs.Shard.{kept_by, carried};
+ghost use Rattle.sd_model_shard.specs.Summaries.{without_samples};
 ghost use Rattle.sd_key.specs.Kind.{kind_of};
 ghost use Rattle.sd_rows.specs.Rows.{row_at, StandsNowhereElse, reset};
 ghost use Rattle.sd_rows.specs.RowMap.{copy_steps};
@@ -27,27 +29,28 @@ struct Left {
 
 /// What the row of a table's place keeps at a swap.
 fn kept_at(table: &Table, at: u32, row: &Row) -> Left
-    requires { row_at table.now.places at ≡ Some row.now }
-    ensures { record { base = result.base.0; swaps = result.swaps } ≡ kept_by (kind_of row.now.kind) table.now.held (row_view row.now).0 (row_view row.now).1 }
+    requires row { row_at table.now.places at ≡ Some row.now }
+    requires listing { HasPlaces table.now }
+    ensures { option_map (kept_by (kind_of row.now.kind)) (get (live_of table.now) (row_view row.now).0) ≡ Some (without_samples result.base.0 result.swaps) }
 {
-    if row.kind == Kind::Gauge {
-        Left {
+    match row.kind {
+        Kind::Gauge => Left {
             base: table.gauge_at(at),
             swaps: row.swaps.saturating_add(1).min(LAST_SWAPS),
-        }
-    } else {
-        Left {
+        },
+        Kind::Counter | Kind::Timer | Kind::Set => Left {
             base: row.base,
             swaps: row.swaps,
-        }
+        },
     }
 }
 
 /// What is left of the row of a table's place at a swap.
 fn left_at(table: &Table, at: u32, policy: &Policy) -> Option<Left>
-    requires { at < table.now.limits.rows }
-    ensures left { MatchOption result (row_left (policy_of policy.now) table.now.held (row_at table.now.places at) ≡ None)
-        (λ left. row_left (policy_of policy.now) table.now.held (row_at table.now.places at) ≡ reset (row_at table.now.places at) left.base left.swaps) }
+    requires within { at < table.now.limits.rows }
+    requires listing { HasPlaces table.now }
+    ensures left { MatchOption result (row_left (policy_of policy.now) (live_of table.now) (row_at table.now.places at) ≡ None)
+        (λ left. row_left (policy_of policy.now) (live_of table.now) (row_at table.now.places at) ≡ reset (row_at table.now.places at) left.base left.swaps) }
     ensures live { IfSome result (λ left. row_at table.now.places at ≢ None) }
 {
     let row = table.get_at(at)?;
@@ -81,13 +84,16 @@ fn is_same_at(table: &Table, other: &Table, at: u32) -> bool
 /// Empties a place of the spare table, unless it has the kind and key of the row that is carried there.
 fn empty_other(table: &Table, at: u32, policy: &Policy, into: &mut Table)
     requires within { at < table.now.limits.rows }
+    requires table { HasPlaces table.now }
     requires limits { into.old.limits ≡ table.now.limits }
-    requires no_entries { into.old.held ≡ [] }
+    requires no_samples { into.old.held ≡ 0 }
+    requires no_entries { into.old.entries ≡ 0 }
     requires listing { HasPlaces into.old }
-    ensures places { into.new.places ≡ set into.old.places at (staying (row_left (policy_of policy.now) table.now.held (row_at table.now.places at)) (row_at into.old.places at)) }
+    ensures places { into.new.places ≡ set into.old.places at (staying (row_left (policy_of policy.now) (live_of table.now) (row_at table.now.places at)) (row_at into.old.places at)) }
     ensures listing { HasPlaces into.new }
     ensures limits { into.new.limits ≡ into.old.limits }
-    ensures entries { into.new.held ≡ [] }
+    ensures held { into.new.held ≡ 0 }
+    ensures entries { into.new.entries ≡ 0 }
 {
     if into.get_at(at).is_some()
         && (left_at(table, at, policy).is_none() || !is_same_at(table, into, at))
@@ -98,13 +104,16 @@ fn empty_other(table: &Table, at: u32, policy: &Policy, into: &mut Table)
 
 /// Empties each place of the spare table whose row isn't carried there.
 fn empty_others(table: &Table, policy: &Policy, into: &mut Table)
+    requires table { HasPlaces table.now }
     requires limits { into.old.limits ≡ table.now.limits }
-    requires no_entries { into.old.held ≡ [] }
+    requires no_samples { into.old.held ≡ 0 }
+    requires no_entries { into.old.entries ≡ 0 }
     ensures places { (p : ℕ) → row_at into.new.places p
-        ≡ staying (row_left (policy_of policy.now) table.now.held (row_at table.now.places p)) (row_at into.old.places p) }
+        ≡ staying (row_left (policy_of policy.now) (live_of table.now) (row_at table.now.places p)) (row_at into.old.places p) }
     ensures listing { HasPlaces into.new }
     ensures limits { into.new.limits ≡ into.old.limits }
-    ensures entries { into.new.held ≡ [] }
+    ensures held { into.new.held ≡ 0 }
+    ensures entries { into.new.entries ≡ 0 }
 {
     for at in 0..into.limits().rows {
         empty_other(table, at, policy, into);
@@ -120,16 +129,19 @@ fn carry_at<L: Ledger>(
     steps: &mut Steps<L>,
 )
     requires within { at < table.now.limits.rows }
+    requires table { HasPlaces table.now }
     requires limits { into.old.limits ≡ table.now.limits }
-    requires no_entries { into.old.held ≡ [] }
+    requires no_samples { into.old.held ≡ 0 }
+    requires no_entries { into.old.entries ≡ 0 }
     requires listing { HasPlaces into.old }
     requires apart { StandsNowhereElse (row_at table.now.places at) at into.old.places }
-    requires empty { row_left (policy_of policy.now) table.now.held (row_at table.now.places at) ≡ None → row_at into.old.places at ≡ None }
-    ensures places { into.new.places ≡ set into.old.places at (row_left (policy_of policy.now) table.now.held (row_at table.now.places at)) }
+    requires empty { row_left (policy_of policy.now) (live_of table.now) (row_at table.now.places at) ≡ None → row_at into.old.places at ≡ None }
+    ensures places { into.new.places ≡ set into.old.places at (row_left (policy_of policy.now) (live_of table.now) (row_at table.now.places at)) }
     ensures listing { HasPlaces into.new }
     ensures limits { into.new.limits ≡ into.old.limits }
-    ensures entries { into.new.held ≡ [] }
-    ensures steps { steps.new ≤ steps.old + copy_steps (row_left (policy_of policy.now) table.now.held (row_at table.now.places at)) (row_at into.old.places at) }
+    ensures held { into.new.held ≡ 0 }
+    ensures entries { into.new.entries ≡ 0 }
+    ensures steps { steps.new ≤ steps.old + copy_steps (row_left (policy_of policy.now) (live_of table.now) (row_at table.now.places at)) (row_at into.old.places at) }
 {
     if let Some(left) = left_at(table, at, policy) {
         into.carry_row(table, at, left.base, left.swaps, steps);
@@ -137,19 +149,29 @@ fn carry_at<L: Ledger>(
 }
 
 /// Carries the rows that stay into a table that has no other rows than these, each in its place.
-fn carry_rows<L: Ledger>(table: &Table, policy: &Policy, into: &mut Table, steps: &mut Steps<L>)
+fn carry_rows<L: Ledger>(
+    table: &Table,
+    rows: u32,
+    policy: &Policy,
+    into: &mut Table,
+    steps: &mut Steps<L>,
+)
+    requires rows { rows ≡ table.now.limits.rows }
+    requires table { HasPlaces table.now }
     requires limits { into.old.limits ≡ table.now.limits }
-    requires no_entries { into.old.held ≡ [] }
+    requires no_samples { into.old.held ≡ 0 }
+    requires no_entries { into.old.entries ≡ 0 }
     requires listing { HasPlaces into.old }
     requires staying { (p : ℕ) → row_at into.old.places p
-        ≡ staying (row_left (policy_of policy.now) table.now.held (row_at table.now.places p)) (row_at into.old.places p) }
-    ensures places { into.new.places ≡ map (row_left (policy_of policy.now) table.now.held) table.now.places }
-    ensures live { live_of into.new ≡ carried (policy_of policy.now) (live_of table.now) table.now.held }
+        ≡ staying (row_left (policy_of policy.now) (live_of table.now) (row_at table.now.places p)) (row_at into.old.places p) }
+    ensures places { into.new.places ≡ map (row_left (policy_of policy.now) (live_of table.now)) table.now.places }
+    ensures live { live_of into.new ≡ carried (policy_of policy.now) (live_of table.now) }
     ensures limits { into.new.limits ≡ into.old.limits }
-    ensures entries { into.new.held ≡ [] }
+    ensures held { into.new.held ≡ 0 }
+    ensures entries { into.new.entries ≡ 0 }
     ensures steps { steps.new ≤ steps.old + swap_steps (policy_of policy.now) table.now into.old }
 {
-    for at in 0..table.limits().rows {
+    for at in 0..rows {
         carry_at(table, at, policy, into, steps);
     }
 }
@@ -162,12 +184,15 @@ pub(crate) fn carry<L: Ledger>(
     steps: &mut Steps<L>,
 )
     requires limits { into.old.limits ≡ table.now.limits }
-    requires no_entries { into.old.held ≡ [] }
-    ensures live { live_of into.new ≡ carried (policy_of policy.now) (live_of table.now) table.now.held }
+    requires no_samples { into.old.held ≡ 0 }
+    requires no_entries { into.old.entries ≡ 0 }
+    ensures live { live_of into.new ≡ carried (policy_of policy.now) (live_of table.now) }
     ensures limits { into.new.limits ≡ into.old.limits }
-    ensures held { into.new.held ≡ [] }
+    ensures held { into.new.held ≡ 0 }
+    ensures entries { into.new.entries ≡ 0 }
     ensures steps { steps.new ≤ steps.old + swap_steps (policy_of policy.now) table.now into.old }
 {
+    let rows = table.limits().rows;
     empty_others(table, policy, into);
-    carry_rows(table, policy, into, steps);
+    carry_rows(table, rows, policy, into, steps);
 }

@@ -32,7 +32,7 @@ pub(crate) fn push_keys(table: &Table, kind: Kind, pattern: &Pattern, out: &mut 
 /// A table's i-th row as a dump tells it.
 fn dump_row(table: &Table, i: u32) -> DumpRow
     requires { i < length table.now.listed }
-    ensures { IfSome (slice_get table.now.listed i) (λ row. dump_row_of result ≡ dump_row table.now.held row) }
+    ensures { IfSome (slice_get table.now.listed i) (λ row. dump_row_of result ≡ dump_row row) }
 {
     let facts = table.row(i);
     DumpRow {
@@ -45,7 +45,7 @@ fn dump_row(table: &Table, i: u32) -> DumpRow
 /// Appends the rows of a kind.
 pub(crate) fn push_rows(table: &Table, kind: Kind, out: &mut Dump)
     requires { length out.old.items + length table.now.listed ≤ out.old.room }
-    ensures rows { rows_of out.new ≡ rows_of out.old ++ map (dump_row table.now.held) (filter (λ row. is_of_kind (kind_of kind) row.0) table.now.listed) }
+    ensures rows { rows_of out.new ≡ rows_of out.old ++ map dump_row (filter (λ row. is_of_kind (kind_of kind) row.0) table.now.listed) }
     ensures few { length out.new.items ≤ length out.old.items + table.now.limits.rows }
     ensures room { out.new.room ≡ out.old.room }
     ensures apart { AreApart table.now.listed }

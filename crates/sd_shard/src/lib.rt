@@ -1,4 +1,4 @@
-//! A shard: rows and entries, and the events that change them.
+//! A shard: rows with what came to them, and the events that change them.
 //!
 //! `sd_shards` has the shards of a replay, and `sd_pool` those of a server. What a sample, a swap, a deletion and a dump do is
 //! the definitions' step, and nothing else. Only `open` takes memory, of a shard as of the lists that it fills. A shard knows no

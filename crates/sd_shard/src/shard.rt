@@ -1,5 +1,6 @@
-ghost use Rattle.std.specs.Prelude.{◌≡◌, ℕ, ◌+◌, ◌≤◌, [], length, option_map, IfOk};
-ghost use Rattle.sd_model_shard.specs.Shard.{empty_state, refusal, step, Answered, Submit, Swap, Swapped, Delete, Dump as DumpOf};
+ghost use Rattle.std.specs.Prelude.{◌≡◌, ◌+◌, ◌≤◌, nat_lt, not, is_some, length, option_map, IfOk, IfSome};
+ghost use Rattle.sd_model_shard.specs.Shard.{empty_state, is_full, full_cause, NoEntry, refusal, step, Answered, Submit, Swap, Swapped, Delete, Dump as DumpOf};
+ghost use Rattle.sd_model_shard.specs.Summaries.{is_listed};
 ghost use Rattle.sd_key.specs.Kind.{kind_of};
 ghost use Rattle.sd_epoch.specs.Limits.{limits_of, AreLimits};
 ghost use Rattle.sd_epoch.specs.Table.{table_of};
@@ -13,7 +14,7 @@ use crate::commands::{push_keys, push_rows};
 use crate::dump::Dump;
 use crate::keys::Keys;
 use crate::policy::Policy;
-use sd_epoch::{Limits, Table, Who};
+use sd_epoch::{Limits, Table};
 use sd_key::{Kind, Pattern};
 use sd_line::Sample;
 use sd_rows::Steps;
@@ -25,13 +26,18 @@ use std::sync::ledger::Ledger;
 /// Where the numbers of a shard end.
 const LAST_NUMBER: u64 = 1 << 63;
 
+/// How many samples a shard may sum up where sums are made on arrival.
+const LAST_SUMMED: u64 = 1 << 37;
+
 /// Why a sample wasn't taken, with what was compared.
 #[derive(Clone, Copy, Debug, PartialEq, Eq)]
 pub enum Cause {
     /// Its row isn't there, and there are as many rows as the limit says.
     NoRow { live: u32, limit: u32 },
     /// There are as many entries as the limit says.
-    NoEntry { held: u32, limit: u32 },
+    NoEntry { entries: u64, limit: u32 },
+    /// As many samples are summed up as there may be.
+    NoSum { summed: u64, limit: u64 },
     /// No number is left.
     NoNumber { taken: u64 },
 }
@@ -45,7 +51,7 @@ pub enum Placed {
     Dropped(Cause),
 }
 
-/// What a deletion took out: so many rows, and so many entries of theirs.
+/// What a deletion took out: so many rows, and so many samples of theirs.
 #[derive(Clone, Copy, Debug, PartialEq, Eq)]
 pub struct Deleted {
     pub rows: u32,
@@ -62,7 +68,7 @@ pub struct ShardBook {
     pub held: u64,
 }
 
-/// Rows and entries behind one turn. One event at a time changes it.
+/// Rows with what came to them, behind one turn. One event at a time changes it.
 #[derive(Debug, Drop)]
 pub struct Shard {
     policy: Policy,
@@ -85,6 +91,25 @@ impl Model for Shard {
     ghost invariant = { IsShard };
 }
 
+/// Whether the samples of a kind are listed.
+fn is_listed(kind: Kind) -> bool
+    ensures { result ≡ is_listed (kind_of kind) }
+{
+    matches!(kind, Kind::Timer | Kind::Set)
+}
+
+/// Why there is no room for one more entry, where there is none.
+fn no_entry(entries: u64, limit: u32) -> Option<Cause>
+    ensures full { is_some result ≡ not (nat_lt entries limit) }
+    ensures cause { IfSome result (λ cause. cause_of cause ≡ NoEntry entries limit) }
+{
+    if entries < u64::from(limit) {
+        None
+    } else {
+        Some(Cause::NoEntry { entries, limit })
+    }
+}
+
 impl Shard {
     /// An empty shard. All of its room is taken here.
     pub fn open(alloc: Global, limits: Limits, policy: Policy) -> Result<Shard, AllocError>
@@ -103,13 +128,43 @@ impl Shard {
         })
     }
 
-    /// Why a sample doesn't fit, where it doesn't.
-    fn refusal(&self, s: &Sample) -> Option<Cause>
-        ensures { option_map cause_of result ≡ refusal self.now.table.limits (state_of self.now) s.now }
+    /// Why there is no room for one more sample of a kind, where there is none.
+    fn full(&self, kind: Kind) -> Option<Cause>
+        ensures full { is_some result ≡ is_full self.now.table.limits (state_of self.now) self.now.table.limits.sums_on_arrival (is_listed (kind_of kind)) }
+        ensures cause { IfSome result (λ cause. cause_of cause ≡ full_cause self.now.table.limits (state_of self.now) self.now.table.limits.sums_on_arrival (is_listed (kind_of kind))) }
+        ensures counted { self.now.table.entries ≤ self.now.table.held }
+        ensures within { self.now.table.entries ≤ self.now.table.limits.entries }
+        ensures range { AreLimits self.now.table.limits }
     {
         let limits = self.table.limits();
+        let held = self.table.held();
+        let listed = u64::from(self.table.entries());
+        if !limits.sums_on_arrival {
+            return no_entry(held, limits.entries);
+        }
+        if is_listed(kind) {
+            return no_entry(listed, limits.entries);
+        }
+        let summed = held.saturating_sub(listed);
+        if summed < LAST_SUMMED {
+            return None;
+        }
+        Some(Cause::NoSum {
+            summed,
+            limit: LAST_SUMMED,
+        })
+    }
+
+    /// Why a sample doesn't fit, where it doesn't.
+    fn refusal(&self, s: &Sample) -> Option<Cause>
+        ensures refusal { option_map cause_of result ≡ refusal self.now.table.limits (state_of self.now) s.now }
+        ensures counted { self.now.table.entries ≤ self.now.table.held }
+        ensures within { self.now.table.entries ≤ self.now.table.limits.entries }
+        ensures range { AreLimits self.now.table.limits }
+    {
+        let full = self.full(s.kind);
+        let limits = self.table.limits();
         let live = self.table.rows();
-        let held = self.table.entries();
         // (a row is searched for only where there is no room for another)
         if live >= limits.rows && !self.table.has_row(s.kind, &s.key) {
             return Some(Cause::NoRow {
@@ -117,11 +172,8 @@ impl Shard {
                 limit: limits.rows,
             });
         }
-        if held >= limits.entries {
-            return Some(Cause::NoEntry {
-                held,
-                limit: limits.entries,
-            });
+        if let Some(cause) = full {
+            return Some(cause);
         }
         if self.taken >= LAST_NUMBER {
             return Some(Cause::NoNumber { taken: self.taken });
@@ -129,12 +181,12 @@ impl Shard {
         None
     }
 
-    /// Takes a sample of a caller, or drops it where the shard is full.
-    pub fn sample(&mut self, who: Who, s: &Sample) -> Placed
+    /// Takes a sample, or drops it where the shard is full.
+    pub fn sample(&mut self, s: &Sample) -> Placed
         ensures state { state_of self.new
-            ≡ (step self.old.table.limits self.old.policy (state_of self.old) who.0 (Submit s.now)).state }
+            ≡ (step self.old.table.limits self.old.policy (state_of self.old) (Submit s.now)).state }
         ensures answer { Answered (placed_of result)
-            ≡ (step self.old.table.limits self.old.policy (state_of self.old) who.0 (Submit s.now)).reply }
+            ≡ (step self.old.table.limits self.old.policy (state_of self.old) (Submit s.now)).reply }
         ensures limits { self.new.table.limits ≡ self.old.table.limits }
         ensures policy { self.new.policy ≡ self.old.policy }
     {
@@ -143,7 +195,7 @@ impl Shard {
             return Placed::Dropped(cause);
         }
         let number = self.taken;
-        self.table.push(who, number, s);
+        self.table.sample(s);
         self.taken += 1;
         Placed::Taken { number }
     }
@@ -154,30 +206,31 @@ impl Shard {
     /// at which the spare table doesn't have that kind and key.
     pub fn swap<L: Ledger>(&mut self, spare: Table, steps: &mut Steps<L>) -> Table
         requires limits { spare.limits ≡ self.old.table.limits }
-        requires no_entries { spare.held ≡ [] }
-        ensures table { (who : ℕ) → Swapped (table_of result)
-            ≡ (step self.old.table.limits self.old.policy (state_of self.old) who Swap).reply }
+        requires no_samples { spare.held ≡ 0 }
+        requires no_entries { spare.entries ≡ 0 }
+        ensures table { Swapped (table_of result)
+            ≡ (step self.old.table.limits self.old.policy (state_of self.old) Swap).reply }
         ensures table_limits { result.limits ≡ self.old.table.limits }
         ensures table_rows { length result.listed ≤ result.limits.rows }
-        ensures table_entries { length result.held ≤ result.limits.entries }
-        ensures state { (who : ℕ) → state_of self.new
-            ≡ (step self.old.table.limits self.old.policy (state_of self.old) who Swap).state }
+        ensures table_entries { result.entries ≤ result.limits.entries }
+        ensures state { state_of self.new
+            ≡ (step self.old.table.limits self.old.policy (state_of self.old) Swap).state }
         ensures limits { self.new.table.limits ≡ self.old.table.limits }
         ensures policy { self.new.policy ≡ self.old.policy }
         ensures steps { steps.new ≤ steps.old + swap_steps self.old.policy self.old.table spare }
     {
         let table = mem::replace(&mut self.table, spare);
         carry(&table, &self.policy, &mut self.table, steps);
-        self.flushed += u64::from(table.entries());
+        self.flushed += table.held();
         table
     }
 
-    /// Takes the rows of a kind that a pattern matches out, with all their entries, and appends their keys.
+    /// Takes the rows of a kind that a pattern matches out, with all their samples, and appends their keys.
     pub fn delete(&mut self, kind: Kind, pattern: &Pattern, out: &mut Keys) -> Deleted
         requires { length out.old.items + length self.old.table.listed ≤ out.old.room }
-        ensures state { (who : ℕ) → state_of self.new
-            ≡ (step self.old.table.limits self.old.policy (state_of self.old) who (Delete (kind_of kind) pattern.now)).state }
-        ensures answer { (who : ℕ) → IsDeletion (step self.old.table.limits self.old.policy (state_of self.old) who (Delete (kind_of kind) pattern.now)).reply
+        ensures state { state_of self.new
+            ≡ (step self.old.table.limits self.old.policy (state_of self.old) (Delete (kind_of kind) pattern.now)).state }
+        ensures answer { IsDeletion (step self.old.table.limits self.old.policy (state_of self.old) (Delete (kind_of kind) pattern.now)).reply
             out.old.items out.new.items result }
         ensures few { length out.new.items ≤ length out.old.items + self.old.table.limits.rows }
         ensures room { out.new.room ≡ out.old.room }
@@ -193,9 +246,9 @@ impl Shard {
     /// Appends each row of a kind with what its samples come to.
     pub fn dump(&self, kind: Kind, out: &mut Dump)
         requires { length out.old.items + length self.now.table.listed ≤ out.old.room }
-        ensures state { (who : ℕ) → state_of self.now
-            ≡ (step self.now.table.limits self.now.policy (state_of self.now) who (DumpOf (kind_of kind))).state }
-        ensures answer { (who : ℕ) → IsDump (step self.now.table.limits self.now.policy (state_of self.now) who (DumpOf (kind_of kind))).reply
+        ensures state { state_of self.now
+            ≡ (step self.now.table.limits self.now.policy (state_of self.now) (DumpOf (kind_of kind))).state }
+        ensures answer { IsDump (step self.now.table.limits self.now.policy (state_of self.now) (DumpOf (kind_of kind))).reply
             (rows_of out.old) (rows_of out.new) }
         ensures few { length out.new.items ≤ length out.old.items + self.now.table.limits.rows }
         ensures room { out.new.room ≡ out.old.room }
@@ -217,7 +270,7 @@ impl Shard {
         ensures flushed { result.flushed ≡ (state_of self.now).flushed }
         ensures deleted { result.deleted ≡ (state_of self.now).deleted }
         ensures dropped { result.dropped ≡ (state_of self.now).dropped }
-        ensures held { result.held ≡ length (state_of self.now).held }
+        ensures held { result.held ≡ (state_of self.now).held }
         ensures conserved { result.taken ≡ result.flushed + result.deleted + result.held }
         ensures range { IsInRange result }
     {
@@ -226,7 +279,7 @@ impl Shard {
             flushed: self.flushed,
             deleted: self.deleted,
             dropped: self.dropped,
-            held: u64::from(self.table.entries()),
+            held: self.table.held(),
         }
     }
 }

@@ -23,14 +23,14 @@ use Rattle.sd_shards.proofs.StandingLemmas.{GoBy-first, GoTogether-by, state_in-
 
 -- the shard of a sample's key took its step
 pub played_one : (who : ℕ) (s : Sample) (shards : List Standing) (i : ℕ) (before after : Standing) (reply : Reply) → before ≡ get_or shards i before → i ≡ shard s.key (length shards) → i < length shards → GoTogether shards
-    → state_of after ≡ (step before.table.limits before.policy (state_of before) who (Submit s)).state
-    → reply ≡ (step before.table.limits before.policy (state_of before) who (Submit s)).reply
+    → state_of after ≡ (step before.table.limits before.policy (state_of before) (Submit s)).state
+    → reply ≡ (step before.table.limits before.policy (state_of before) (Submit s)).reply
     → after.table.limits ≡ before.table.limits → after.policy ≡ before.policy
     → HavePlayed shards (set shards i after) (one_at (shard s.key (length shards)) (record { who = who; event = Submit s; reply = reply }))
 played_one who s shards i before after reply there at below together state answer limits policy =
     let home = shard s.key (length shards) in
     let a : Act = record { who = who; event = Submit s; reply = reply } in
-    let goes : State → Limits → Policy → Stepped = λ st l p. step l p st who (Submit s) in
+    let goes : State → Limits → Policy → Stepped = λ st l p. step l p st (Submit s) in
     let Alike : Standing → Type 0 = λ x. (x.table.limits ≡ limits_in shards) × (x.policy ≡ policy_in shards) in
     let mine : Alike before = subst Alike (sym there) (All-get_or Alike shards i before below together) in
     let same : goes (state_of before) before.table.limits before.policy ≡ goes (state_in shards i) (limits_in shards) (policy_in shards) =

@@ -39,12 +39,12 @@ module _ (shards : List Standing) (home : AtHome (length shards) (state_in shard
       ∙ ap (in_key_order (λ (key : List ℕ). key)) (sym (flat_map-map keys_in (λ i. deletion_of kind name (state_in shards i)) (range_with_len 0 (length shards))))
 
   -- the rows that a dump tells, sorted
-  pub rows_sorted : (new sorted : List DumpRow) → Appends (flat_map (λ s. dump_of kind (state_of s).live (state_of s).held) shards) [] new
+  pub rows_sorted : (new sorted : List DumpRow) → Appends (flat_map (λ s. dump_of kind (state_of s).live) shards) [] new
       → IsPermutation new sorted → IsSortedByKey (λ (row : DumpRow). row.key) (slice_cmp nat_cmp) sorted
-      → sorted ≡ rows_told (map (λ i. Dumped (dump_of kind (state_in shards i).live (state_in shards i).held)) (range_with_len 0 (length shards)))
+      → sorted ≡ rows_told (map (λ i. Dumped (dump_of kind (state_in shards i).live)) (range_with_len 0 (length shards)))
   rows_sorted new sorted all sort up =
-      let tell : State → List DumpRow = λ state. dump_of kind state.live state.held in
+      let tell : State → List DumpRow = λ state. dump_of kind state.live in
       let told = flat_map (λ i. tell (state_in shards i)) (range_with_len 0 (length shards)) in
       let same : flat_map (λ s. tell (state_of s)) shards ≡ told = sym (flat_map-states shards tell) in
       in_key_order_is (λ (row : DumpRow). row.key) told sorted (all_rows_once (length shards) (state_in shards) home kind) (subst (λ ts. IsPermutation ts sorted) same (moved (flat_map (λ s. tell (state_of s)) shards) new sorted all sort)) up
-      ∙ ap (in_key_order (λ (row : DumpRow). row.key)) (sym (flat_map-map rows_in (λ i. Dumped (dump_of kind (state_in shards i).live (state_in shards i).held)) (range_with_len 0 (length shards))))
+      ∙ ap (in_key_order (λ (row : DumpRow). row.key)) (sym (flat_map-map rows_in (λ i. Dumped (dump_of kind (state_in shards i).live)) (range_with_len 0 (length shards))))

@@ -10,7 +10,7 @@ state_in shards i = get_or (map state_of shards) i empty_state
 
 -- the limits of the first
 abbrev pub limits_in : List Standing → Limits
-limits_in [] = record { rows = 0; entries = 0 }
+limits_in [] = record { rows = 0; entries = 0; sums_on_arrival = false }
 limits_in (s ∷ shards) = s.table.limits
 
 -- the policy of the first

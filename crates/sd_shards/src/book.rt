@@ -20,7 +20,7 @@ pub(crate) fn book_of(shards: &[Shard]) -> ShardsBook
     ensures flushed { result.flushed ≡ sum_by (λ s. (state_of s).flushed) shards.now }
     ensures deleted { result.deleted ≡ sum_by (λ s. (state_of s).deleted) shards.now }
     ensures dropped { result.dropped ≡ sum_by (λ s. (state_of s).dropped) shards.now }
-    ensures held { result.held ≡ sum_by (λ s. length (state_of s).held) shards.now }
+    ensures held { result.held ≡ sum_by (λ s. (state_of s).held) shards.now }
     ensures conserved { result.taken ≡ result.flushed + result.deleted + result.held }
 {
     let mut sums = ShardsBook {

@@ -42,7 +42,7 @@ pub(crate) fn delete_all(shards: &mut [Shard], kind: Kind, name: &Pattern, keys:
 /// Appends what a shard tells of the rows of a kind.
 fn dump_one(shard: &Shard, kind: Kind, dump: &mut Dump)
     requires { length dump.old.items + shard.now.table.limits.rows ≤ dump.old.room }
-    ensures rows { Appends (dump_of (kind_of kind) (state_of shard.now).live (state_of shard.now).held) (rows_of dump.old) (rows_of dump.new) }
+    ensures rows { Appends (dump_of (kind_of kind) (state_of shard.now).live) (rows_of dump.old) (rows_of dump.new) }
     ensures few { length dump.new.items ≤ length dump.old.items + shard.now.table.limits.rows }
     ensures room { dump.new.room ≡ dump.old.room }
 {
@@ -55,7 +55,7 @@ fn dump_one(shard: &Shard, kind: Kind, dump: &mut Dump)
 pub(crate) fn dump_all(shards: &[Shard], kind: Kind, dump: &mut Dump)
     requires bounds { GoTogether shards.now }
     requires room { length dump.old.items + length shards.now * (limits_in shards.now).rows ≤ dump.old.room }
-    ensures rows { Appends (flat_map (λ s. dump_of (kind_of kind) (state_of s).live (state_of s).held) shards.now) (rows_of dump.old) (rows_of dump.new) }
+    ensures rows { Appends (flat_map (λ s. dump_of (kind_of kind) (state_of s).live) shards.now) (rows_of dump.old) (rows_of dump.new) }
     ensures room { dump.new.room ≡ dump.old.room }
 {
     for shard in shards {

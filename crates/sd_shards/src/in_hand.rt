@@ -25,7 +25,7 @@ impl Submit<Vec<Shard>> for InHand {
 
     fn submit(&self, seat: &mut Vec<Shard>, s: &Sample) -> Placed {
         let home = shard_of(&s.key, seat.len() as u16);
-        seat[usize::from(home)].sample(self.who, s)
+        seat[usize::from(home)].sample(s)
     }
 
     ghost some_shards = { λ caller shards ready. ready.some };

@@ -31,7 +31,7 @@ use sd_spares::Spares;
 use std::alloc::{AllocError, Global};
 use std::marker::Model;
 
-/// The shards of a server: each has the rows and entries of its own keys.
+/// The shards of a server: each has the rows of its own keys, with what came to them.
 #[derive(Debug, Drop)]
 pub struct Shards {
     shards: Vec<Shard>,
@@ -113,13 +113,13 @@ impl Shards {
     pub fn swapped(&self) -> &[Table]
         ensures tables { map table_seen result.now ≡ self.now.swapped }
         ensures rows { sum_by (λ t. length t.listed) result.now ≤ self.now.limits.rows * length self.now.states }
-        ensures entries { All (λ t. length t.held ≤ self.now.limits.entries) result.now }
+        ensures entries { All (λ t. t.entries ≤ self.now.limits.entries) result.now }
         ensures disjoint { AreDisjoint result.now }
     {
         self.spares.swapped()
     }
 
-    /// Takes the rows of a kind that a pattern matches out of each shard, with all their entries, and leaves their keys, in
+    /// Takes the rows of a kind that a pattern matches out of each shard, with all their samples, and leaves their keys, in
     /// the order of their bytes.
     pub fn delete(&mut self, kind: Kind, name: &Pattern, keys: &mut Keys)
         requires { length self.old.states * self.old.limits.rows ≤ keys.old.room }
@@ -141,7 +141,7 @@ impl Shards {
     pub fn dump(&self, kind: Kind, dump: &mut Dump)
         requires { length self.now.states * self.now.limits.rows ≤ dump.old.room }
         ensures rows { rows_of dump.new
-            ≡ rows_told (map (λ i. Dumped (dump_of (kind_of kind) (state_at self.now i).live (state_at self.now i).held)) (numbers self.now)) }
+            ≡ rows_told (map (λ i. Dumped (dump_of (kind_of kind) (state_at self.now i).live)) (numbers self.now)) }
         ensures sorted { IsSortedByKey (λ row. row.key) (slice_cmp nat_cmp) (rows_of dump.new) }
         ensures room { dump.new.room ≡ dump.old.room }
     {
@@ -156,7 +156,7 @@ impl Shards {
         ensures flushed { result.flushed ≡ summed (length self.now.states) (state_at self.now) (λ s. s.flushed) }
         ensures deleted { result.deleted ≡ summed (length self.now.states) (state_at self.now) (λ s. s.deleted) }
         ensures dropped { result.dropped ≡ summed (length self.now.states) (state_at self.now) (λ s. s.dropped) }
-        ensures held { result.held ≡ summed (length self.now.states) (state_at self.now) (λ s. length s.held) }
+        ensures held { result.held ≡ summed (length self.now.states) (state_at self.now) (λ s. s.held) }
         ensures conserved { result.taken ≡ result.flushed + result.deleted + result.held }
     {
         book_of(&self.shards)

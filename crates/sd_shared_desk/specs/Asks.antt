@@ -1,7 +1,8 @@
 -- What a shared desk is asked for, and what it does.
-use Rattle.std.specs.Prelude.{◌≡◌}
-use Rattle.sd_model_record.specs.Desk.{Desk, with_tally, taken, with_health, marked, with_admin_fault, with_repeater_faults}
-use Rattle.sd_model_record.specs.Counts.{Amounts, IsInRange, nothing, of_tally, of_taken, of_marks, of_sessions, of_sends}
+use Rattle.std.specs.Prelude.{◌≡◌, ℕ, List, map}
+use Rattle.sd_model_record.specs.Desk.{Desk}
+use Rattle.sd_model_record.specs.DeskHistory.{DeskAct, DeskAnswer, DeskCall, DeskEvent, DeskHistory, desk_step}
+use Rattle.sd_model_record.specs.DeskHistory as model
 use Rattle.sd_desk.specs.Facts.{facts_view}
 use Rattle.sd_desk.specs.Marks.{marks_of}
 use Rattle.sd_desk.specs.Tally.{tally_of}
@@ -11,39 +12,59 @@ use Rattle.sd_shared_desk.specs.declared.ask.DeskAsk.{DeskAsk}
 use Rattle.sd_shared_desk.specs.declared.ask.DeskAsk.TheVariants.{Add, Take, SetHealth, Mark, AdminFault, RepeaterFaults, Facts}
 use Rattle.sd_shared_desk.specs.declared.ask.DeskReply.{DeskReply}
 use Rattle.sd_shared_desk.specs.declared.ask.DeskReply.TheVariants as reply
+use Rattle.sd_shared_desk.specs.declared.noted.Noted.{Noted}
 
--- what an ask makes of a desk: what the call of its name does
-abbrev pub asked_of : Desk → DeskAsk → Desk
-asked_of d (Add t now) = with_tally d (tally_of t) now
-asked_of d Take = taken d
-asked_of d (SetHealth up) = with_health d up
-asked_of d (Mark m) = marked d (marks_of m)
-asked_of d AdminFault = with_admin_fault d
-asked_of d (RepeaterFaults n) = with_repeater_faults d n
-asked_of d Facts = d
+-- the event that an ask is
+abbrev pub event_of : DeskAsk → DeskEvent
+event_of (Add t now) = model.Add (tally_of t) now
+event_of Take = model.Take
+event_of (SetHealth up) = model.SetHealth up
+event_of (Mark m) = model.Mark (marks_of m)
+event_of AdminFault = model.AdminFault
+event_of (RepeaterFaults n) = model.RepeaterFaults n
+event_of Facts = model.Look
 
--- what it adds to the desk's numbers
-abbrev pub added_by : Desk → DeskAsk → Amounts
-added_by d (Add t now) = of_tally (tally_of t)
-added_by d Take = of_taken d.tally
-added_by d (SetHealth up) = nothing
-added_by d (Mark m) = of_marks (marks_of m)
-added_by d AdminFault = of_sessions 1
-added_by d (RepeaterFaults n) = of_sends n
-added_by d Facts = nothing
+-- the answer that a reply is
+abbrev pub answer_of : DeskReply → DeskAnswer
+answer_of reply.Done = model.Done
+answer_of (reply.Took t) = model.Took (tally_of t)
+answer_of (reply.Told f) = model.Told (facts_view f)
 
--- a reply has the name of its ask, and what that call of a desk answers
+-- the call of an ask and its reply
+abbrev pub call_of : DeskAsk → DeskReply → DeskCall
+call_of ask answer = record { event = event_of ask; answer = answer_of answer }
+
+-- the entry of a seat's number, an ask and a reply
+abbrev pub entry_of : ℕ → DeskAsk → DeskReply → Noted
+entry_of number ask answer = record { number = number; ask = ask; reply = answer }
+
+-- the call of an entry
+abbrev pub call_in : Noted → DeskCall
+call_in n = call_of n.ask n.reply
+
+-- the calls of entries, in order
+abbrev pub calls : List Noted → List DeskCall
+calls log = map call_in log
+
+-- the act of an entry
+abbrev pub act_in : Noted → DeskAct
+act_in n = record { who = n.number; call = call_in n }
+
+-- the acts of entries, in order
+abbrev pub acts : List Noted → DeskHistory
+acts log = map act_in log
+
+-- a reply is what the call of the ask's name answers of a desk
 abbrev pub Answers : Desk → DeskAsk → DeskReply → Type 0
-Answers d (Add t now) answer = answer ≡ reply.Add
-Answers d Take answer = (t : Tally) × (answer ≡ reply.Take t) × (tally_of t ≡ d.tally)
-Answers d (SetHealth up) answer = answer ≡ reply.SetHealth
-Answers d (Mark m) answer = answer ≡ reply.Mark
-Answers d AdminFault answer = answer ≡ reply.AdminFault
-Answers d (RepeaterFaults n) answer = answer ≡ reply.RepeaterFaults
-Answers d Facts answer = (f : DeskFacts) × (answer ≡ reply.Facts f) × (facts_view f ≡ d.facts)
+Answers d Take answer = (t : Tally) × (answer ≡ reply.Took t) × (tally_of t ≡ d.tally)
+Answers d Facts answer = (f : DeskFacts) × (answer ≡ reply.Told f) × (facts_view f ≡ d.facts)
+Answers d ask answer = answer ≡ reply.Done
+
+-- a reply is what that call answers of some desk
+abbrev pub IsReplyTo : DeskAsk → DeskReply → Type 0
+IsReplyTo ask answer = (d : Desk) × Answers d ask answer
 
 -- a desk was asked, and left and answered as the call of that name does
 pub record Does (before : Desk) (ask : DeskAsk) (after : Desk) (answer : DeskReply) : Type 0 where
-  pub changed : after ≡ asked_of before ask
+  pub changed : after ≡ desk_step before (event_of ask)
   pub answered : Answers before ask answer
-  pub in_range : IsInRange before

@@ -1,2 +1,4 @@
 pub mod Asks
+pub mod Behind
+pub mod BehindInside
 pub mod Shared

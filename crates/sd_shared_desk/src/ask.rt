@@ -12,14 +12,10 @@ pub enum DeskAsk {
     Facts,
 }
 
-/// What a caller is answered: the name of the ask, with what the call of that name answers.
+/// What a caller is answered: that it is done, or what the call of the ask's name answers.
 #[derive(Clone, Copy, Debug, PartialEq, Eq)]
 pub enum DeskReply {
-    Add,
-    Take(Tally),
-    SetHealth,
-    Mark,
-    AdminFault,
-    RepeaterFaults,
-    Facts(DeskFacts),
+    Done,
+    Took(Tally),
+    Told(DeskFacts),
 }

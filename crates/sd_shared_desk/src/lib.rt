@@ -1,4 +1,4 @@
-//! The desk that threads share: it stands behind a turn, and each of its thirteen numbers is the sum of what its callers added.
+//! The desk that threads share: it stands behind a turn, and has one legal history of the calls of those who share it.
 //!
 //! The server's workers call it: receivers add tallies, rounds take them and mark, the keepers of doors count faults, and
 //! sessions set the health and ask for the facts. Each call waits for the desk's turn. Only `open` takes memory. It reads no
@@ -6,6 +6,7 @@
 #![tactic(auto)]
 
 mod ask;
+mod noted;
 mod shared_desk;
 mod value;
 

@@ -1,32 +1,34 @@
-ghost use Rattle.std.specs.Prelude.{◌≡◌, ◌<◌, ◌≤◌, ⊤, length, map, IfOk, IfSome, IfNone, All};
-ghost use Rattle.sd_seats.specs.Lists.{span};
-ghost use Rattle.sd_model_record.specs.Desk.{new_desk, with_tally, taken, with_health, marked, with_admin_fault, with_repeater_faults};
-ghost use Rattle.sd_model_record.specs.Counts.{Count, RoundsMade, HasCounted, AreSeen, nothing, number_of, of_tally, of_taken, of_marks, of_sessions, of_sends};
+ghost use Rattle.std.specs.Prelude.{◌≡◌, ◌<◌, ◌≤◌, List, [], ◌++◌, length, map, min, IfOk, IfSome, IfNone, All};
+ghost use Rattle.std.specs.List.{AllByRecursion};
+ghost use Rattle.sd_turn.specs.Lists.{span};
+ghost use Rattle.sd_model_record.specs.Desk.{last_counted, new_desk};
+ghost use Rattle.sd_model_record.specs.DeskHistory.{DeskCall, Add, Take, SetHealth, Mark, AdminFault, RepeaterFaults, Look, Done, Took, Told};
+ghost use Rattle.sd_model_record.specs.Counts.{Count, RoundsMade, HasCalled, HasCounted, AreSeen, IsLook, nothing, number_of, of_tally, of_taken, of_marks, of_sessions, of_sends};
 ghost use Rattle.sd_desk.specs.Facts.{facts_view};
 ghost use Rattle.sd_desk.specs.Marks.{marks_of};
 ghost use Rattle.sd_desk.specs.Tally.{tally_of};
 
 use crate::ask::{DeskAsk, DeskReply};
-use crate::value::BookedDesk;
+use crate::value::DeskValue;
 use sd_desk::{Desk, DeskFacts, RoundMarks, Tally};
-use sd_ledger::{BookSeat, Booked};
+use sd_turn::{Turn, TurnSeat};
 use std::alloc::{AllocError, Global};
 use std::sync::Wait;
 
-/// What one caller asks a shared desk with. It has for each of the desk's thirteen numbers a share, what it has added to it,
-/// and the number as it has last seen it, both seen by contracts alone.
-pub type DeskSeat = BookSeat<BookedDesk>;
+/// What one caller asks a shared desk with. It has the calls that its caller made, and the desk's history as it has last seen it,
+/// both seen by contracts alone.
+pub type DeskSeat = TurnSeat<DeskValue>;
 
-/// A desk that threads share. Each call waits for the desk's turn, does to the desk what the call of that name does to a
-/// `Desk`, and raises the shares of the caller's seat by what it adds. Only `open` takes memory.
+/// A desk that threads share. Each call waits for the desk's turn, and does to the desk what the call of that name does to a
+/// `Desk`. All calls stand in one history, of which each caller's own are its own, in order. Only `open` takes memory.
 #[derive(Drop)]
 pub struct SharedDesk {
-    book: Booked<BookedDesk>,
+    turn: Turn<DeskValue>,
 }
 
 impl SharedDesk {
-    ghost use Rattle.sd_shared_desk.specs.Asks.{Answers, asked_of};
-    ghost use Rattle.sd_shared_desk.specs.Shared.{Changes, IsConserved, IsNewSeatOf, IsSeatOf, all_added, number_of_seat, opened_with, part_of, seats_of, start_of};
+    ghost use Rattle.sd_shared_desk.specs.Asks.{IsReplyTo, call_of};
+    ghost use Rattle.sd_shared_desk.specs.Shared.{Calls, History, IsConserved, IsNewSeatOf, IsSeatOf, all_added, number_of_seat, opened_with, part_of, seats_of, start_of};
 
     /// The desk of a server that starts at this Unix second, and its seats, which have the numbers from 0 on, in order.
     pub fn open(
@@ -35,32 +37,33 @@ impl SharedDesk {
         seats: u16,
     ) -> Result<(SharedDesk, Vec<DeskSeat>), AllocError>
         requires { 0 < seats }
-        ensures desk { IfOk result (λ r. (opened_with r.0 ≡ new_desk start) × (seats_of r.0 ≡ seats)) }
+        ensures desk { IfOk result (λ r. (opened_with r.0 ≡ record { desk = new_desk start; seats = seats }) × (seats_of r.0 ≡ seats)) }
         ensures numbers { IfOk result (λ r. map number_of_seat r.1.items ≡ span 0 seats) }
         ensures seats { IfOk result (λ r. All (IsNewSeatOf r.0) r.1.items) }
     {
-        let (book, made) = Booked::open(alloc, BookedDesk::new(Desk::new(start)), seats)?;
-        Ok((SharedDesk { book }, made))
+        let (turn, made) = Turn::open(alloc, DeskValue::new(start, seats), seats)?;
+        Ok((SharedDesk { turn }, made))
     }
 
     // One call.
     fn ask<R: Wait>(&self, rt: &R, own: &mut DeskSeat, ask: DeskAsk) -> DeskReply
         requires { IsSeatOf self.now own.old }
         ensures seat { IsSeatOf self.now own.new × (number_of_seat own.new ≡ number_of_seat own.old) }
-        ensures changes { Changes self.now own.old own.new (λ d. asked_of d ask) (λ d. Answers d ask result) }
+        ensures calls { Calls self.now own.old own.new (call_of ask result) }
+        ensures replies { IsReplyTo ask result }
     {
-        self.book.with_book(rt, own, ask, || ())
+        self.turn.with_turn(rt, own, ask, || ())
     }
 
     /// Adds what a datagram counts for, which came at this Unix second.
     pub fn add<R: Wait>(&self, rt: &R, t: Tally, now: u64, own: &mut DeskSeat)
         requires { IsSeatOf self.now own.old }
         ensures seat { IsSeatOf self.now own.new × (number_of_seat own.new ≡ number_of_seat own.old) }
-        ensures changes { Changes self.now own.old own.new (λ d. with_tally d (tally_of t) now) (λ d. ⊤) }
+        ensures calls { Calls self.now own.old own.new (record { event = Add (tally_of t) now; answer = Done }) }
         ensures counted { HasCounted (of_tally (tally_of t)) (part_of own.old) (part_of own.new) }
     {
         match self.ask(rt, own, DeskAsk::Add { t, now }) {
-            DeskReply::Add => {}
+            DeskReply::Done => {}
             _ => unreachable!(),
         }
     }
@@ -69,11 +72,11 @@ impl SharedDesk {
     pub fn take<R: Wait>(&self, rt: &R, own: &mut DeskSeat) -> Tally
         requires { IsSeatOf self.now own.old }
         ensures seat { IsSeatOf self.now own.new × (number_of_seat own.new ≡ number_of_seat own.old) }
-        ensures changes { Changes self.now own.old own.new taken (λ d. tally_of result ≡ d.tally) }
+        ensures calls { Calls self.now own.old own.new (record { event = Take; answer = Took (tally_of result) }) }
         ensures counted { HasCounted (of_taken (tally_of result)) (part_of own.old) (part_of own.new) }
     {
         match self.ask(rt, own, DeskAsk::Take) {
-            DeskReply::Take(t) => t,
+            DeskReply::Took(t) => t,
             _ => unreachable!(),
         }
     }
@@ -82,11 +85,11 @@ impl SharedDesk {
     pub fn set_health<R: Wait>(&self, rt: &R, up: bool, own: &mut DeskSeat)
         requires { IsSeatOf self.now own.old }
         ensures seat { IsSeatOf self.now own.new × (number_of_seat own.new ≡ number_of_seat own.old) }
-        ensures changes { Changes self.now own.old own.new (λ d. with_health d up) (λ d. ⊤) }
+        ensures calls { Calls self.now own.old own.new (record { event = SetHealth up; answer = Done }) }
         ensures counted { HasCounted nothing (part_of own.old) (part_of own.new) }
     {
         match self.ask(rt, own, DeskAsk::SetHealth { up }) {
-            DeskReply::SetHealth => {}
+            DeskReply::Done => {}
             _ => unreachable!(),
         }
     }
@@ -95,11 +98,11 @@ impl SharedDesk {
     pub fn mark<R: Wait>(&self, rt: &R, m: RoundMarks, own: &mut DeskSeat)
         requires { IsSeatOf self.now own.old }
         ensures seat { IsSeatOf self.now own.new × (number_of_seat own.new ≡ number_of_seat own.old) }
-        ensures changes { Changes self.now own.old own.new (λ d. marked d (marks_of m)) (λ d. ⊤) }
+        ensures calls { Calls self.now own.old own.new (record { event = Mark (marks_of m); answer = Done }) }
         ensures counted { HasCounted (of_marks (marks_of m)) (part_of own.old) (part_of own.new) }
     {
         match self.ask(rt, own, DeskAsk::Mark { m }) {
-            DeskReply::Mark => {}
+            DeskReply::Done => {}
             _ => unreachable!(),
         }
     }
@@ -108,11 +111,11 @@ impl SharedDesk {
     pub fn admin_fault<R: Wait>(&self, rt: &R, own: &mut DeskSeat)
         requires { IsSeatOf self.now own.old }
         ensures seat { IsSeatOf self.now own.new × (number_of_seat own.new ≡ number_of_seat own.old) }
-        ensures changes { Changes self.now own.old own.new with_admin_fault (λ d. ⊤) }
+        ensures calls { Calls self.now own.old own.new (record { event = AdminFault; answer = Done }) }
         ensures counted { HasCounted (of_sessions 1) (part_of own.old) (part_of own.new) }
     {
         match self.ask(rt, own, DeskAsk::AdminFault) {
-            DeskReply::AdminFault => {}
+            DeskReply::Done => {}
             _ => unreachable!(),
         }
     }
@@ -121,11 +124,11 @@ impl SharedDesk {
     pub fn repeater_faults<R: Wait>(&self, rt: &R, n: u32, own: &mut DeskSeat)
         requires { IsSeatOf self.now own.old }
         ensures seat { IsSeatOf self.now own.new × (number_of_seat own.new ≡ number_of_seat own.old) }
-        ensures changes { Changes self.now own.old own.new (λ d. with_repeater_faults d n) (λ d. ⊤) }
+        ensures calls { Calls self.now own.old own.new (record { event = RepeaterFaults n; answer = Done }) }
         ensures counted { HasCounted (of_sends n) (part_of own.old) (part_of own.new) }
     {
         match self.ask(rt, own, DeskAsk::RepeaterFaults { n }) {
-            DeskReply::RepeaterFaults => {}
+            DeskReply::Done => {}
             _ => unreachable!(),
         }
     }
@@ -136,11 +139,11 @@ impl SharedDesk {
         ensures seat { IsSeatOf self.now own.new × (number_of_seat own.new ≡ number_of_seat own.old) }
         ensures start { result.start ≡ start_of self.now }
         ensures seen { AreSeen (facts_view result) (part_of own.new).seen }
-        ensures changes { Changes self.now own.old own.new (λ d. d) (λ d. facts_view result ≡ d.facts) }
+        ensures calls { Calls self.now own.old own.new (record { event = Look; answer = Told (facts_view result) }) }
         ensures counted { HasCounted nothing (part_of own.old) (part_of own.new) }
     {
         match self.ask(rt, own, DeskAsk::Facts) {
-            DeskReply::Facts(facts) => facts,
+            DeskReply::Told(facts) => facts,
             _ => unreachable!(),
         }
     }
@@ -151,6 +154,7 @@ impl SharedDesk {
         requires { IsSeatOf self.now own.old }
         ensures seat { IsSeatOf self.now own.new × (number_of_seat own.new ≡ number_of_seat own.old) }
         ensures reached { IfSome result (λ rounds. (0 < enough) × (enough ≤ rounds) × (rounds ≡ (part_of own.new).seen RoundsMade)) }
+        ensures called { HasCalled (AllByRecursion IsLook) (part_of own.old) (part_of own.new) }
         ensures short { IfNone result (0 < enough → (part_of own.new).seen RoundsMade < enough) }
         ensures counted { HasCounted nothing (part_of own.old) (part_of own.new) }
     {
@@ -161,19 +165,18 @@ impl SharedDesk {
         (rounds >= enough).then_some(rounds)
     }
 
-    /// The desk, from all its seats. Each of its numbers is the sum of the seats' shares, and at least what each seat has
-    /// seen of it. What was added to the totals is what was taken and what the desk still has.
+    /// The desk, from all its seats: what is left of its one history, of which each seat has seen a beginning, and in which the
+    /// calls of each seat are its own. Each of the desk's numbers is the sum of what the seats added, up to 2^63, and at least what
+    /// each seat has seen of it. What was added to the totals is what was taken and what the desk still has.
     pub fn close(self, seats: Vec<DeskSeat>) -> Desk
         requires all { length seats.items ≡ seats_of self }
         requires seats { All (IsSeatOf self) seats.items }
+        ensures history { History self seats.items result }
         ensures start { result.facts.start ≡ start_of self }
-        ensures sums { (count : Count) → number_of result count ≡ all_added count seats.items }
+        ensures sums { (count : Count) → number_of result count ≡ min (all_added count seats.items) last_counted }
         ensures seen { All (λ s. (count : Count) → (part_of s).seen count ≤ number_of result count) seats.items }
         ensures conserved { IsConserved seats.items result }
     {
-        let desk = self.book.close(seats).into_desk();
-        // The facts tell that the totals are the tallies taken and the tally.
-        let _ = desk.facts();
-        desk
+        self.turn.close(seats).into_desk()
     }
 }

@@ -1,91 +1,119 @@
 //! What stands behind the turn of a shared desk.
-ghost use Rattle.std.specs.Prelude.{◌≡◌};
-ghost use Rattle.sd_model_record.specs.Counts.{numbers_in};
+ghost use Rattle.std.specs.Prelude.{◌≡◌, []};
 ghost use Rattle.sd_shared_desk.specs.Asks.{Does};
+ghost use Rattle.sd_shared_desk.specs.Behind.{Stands};
 
 use crate::ask::{DeskAsk, DeskReply};
+use crate::noted::{Noted, Setup};
 use sd_desk::Desk;
-use sd_ledger::Sums;
+use sd_turn::Stepped;
 use std::marker::Model;
 
-/// A desk behind a turn. Contracts see the desk.
+/// A desk behind a turn, and how many seats there are.
 #[derive(Debug, Drop)]
-pub struct BookedDesk {
+pub struct DeskValue {
     desk: Desk,
+    seats: u16,
 }
 
-impl Model for BookedDesk {
-    ghost use Rattle.sd_model_record.specs.Desk.{Desk as Value'};
+impl Model for DeskValue {
+    ghost use Rattle.sd_shared_desk.specs.Behind.{Behind};
 
-    ghost Value = { Value' };
+    ghost Value = { Behind };
 
-    ghost view = { λ b. b.desk };
+    ghost use Rattle.sd_shared_desk.specs.BehindInside.{behind_in};
+
+    ghost view = { behind_in };
 }
 
-impl BookedDesk {
-    pub(crate) fn new(desk: Desk) -> BookedDesk
-        ensures { result ≡ desk }
+impl DeskValue {
+    ghost use Rattle.sd_model_record.specs.Desk.{new_desk};
+
+    // The desk of a server that starts at this Unix second.
+    pub(crate) fn new(start: u64, seats: u16) -> DeskValue
+        ensures value { result ≡ record { desk = new_desk start; seats = seats } }
+        ensures stands { Stands result [] }
     {
-        BookedDesk { desk }
+        DeskValue {
+            desk: Desk::new(start),
+            seats,
+        }
     }
 
     pub(crate) fn into_desk(self) -> Desk
-        ensures { result ≡ self }
+        ensures { result ≡ self.desk }
     {
-        let BookedDesk { desk } = self;
+        let DeskValue { desk, seats: _ } = self;
         desk
     }
 
     // Does what the call of the ask's name does to a desk.
     fn act(&mut self, ask: DeskAsk) -> DeskReply
-        ensures { Does self.old ask self.new result }
+        ensures seats { self.new.seats ≡ self.old.seats }
+        ensures does { Does self.old.desk ask self.new.desk result }
     {
-        // The facts tell the ranges of the desk as it was found.
-        let facts = self.desk.facts();
         match ask {
             DeskAsk::Add { t, now } => {
                 self.desk.add(t, now);
-                DeskReply::Add
+                DeskReply::Done
             }
-            DeskAsk::Take => DeskReply::Take(self.desk.take()),
+            DeskAsk::Take => DeskReply::Took(self.desk.take()),
             DeskAsk::SetHealth { up } => {
                 self.desk.set_health(up);
-                DeskReply::SetHealth
+                DeskReply::Done
             }
             DeskAsk::Mark { m } => {
                 self.desk.mark(m);
-                DeskReply::Mark
+                DeskReply::Done
             }
             DeskAsk::AdminFault => {
                 self.desk.admin_fault();
-                DeskReply::AdminFault
+                DeskReply::Done
             }
             DeskAsk::RepeaterFaults { n } => {
                 self.desk.repeater_faults(n);
-                DeskReply::RepeaterFaults
+                DeskReply::Done
             }
-            DeskAsk::Facts => DeskReply::Facts(facts),
+            DeskAsk::Facts => DeskReply::Told(self.desk.facts()),
         }
     }
 }
 
-impl Sums for BookedDesk {
+impl Stepped for DeskValue {
     type Ask = DeskAsk;
 
     type Reply = DeskReply;
 
-    type Fixed = u64;
+    type Noted = Noted;
 
-    ghost numbers = { numbers_in };
+    type Fixed = Setup;
 
-    ghost fixed = { λ d. d.facts.start };
+    ghost use Rattle.std.specs.Prelude.{refl};
+    ghost use Rattle.sd_shared_desk.specs.Asks.{IsReplyTo, entry_of};
+    ghost use Rattle.sd_shared_desk.specs.Behind.{IsLegal, Stands, setup_of};
 
-    ghost allows = { λ start ask. Unit {0} };
+    ghost fixed = { setup_of };
 
-    ghost relates = { λ before number ask after reply. Does before ask after reply };
+    ghost seats = { λ setup. setup.seats };
+
+    ghost allows = { λ setup ask. Unit {0} };
+
+    ghost legal = { IsLegal };
+
+    ghost stands = { Stands };
+
+    ghost entry = { λ setup number ask reply. entry_of number ask reply };
+
+    ghost who = { λ n. n.number };
+
+    ghost replies = { λ setup ask reply. IsReplyTo ask reply };
 
     fn apply(&mut self, number: u16, ask: DeskAsk) -> DeskReply {
         let _ = number;
         self.act(ask)
     }
+
+    ghost stands_legal = { λ v log stands. stands.legal };
+
+    ghost entry_names = { λ setup number ask reply. refl };
 }

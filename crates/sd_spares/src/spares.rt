@@ -45,17 +45,18 @@ fn open_tables(alloc: Global, n: u16, limits: Limits) -> Result<Vec<Table>, Allo
     Ok(spares)
 }
 
-// The table without its entries. Its rows stay where they are.
+// The table without its samples. Its rows stay where they are.
 fn into_spare(mut table: Table) -> Table
     ensures limits { result.limits ≡ table.limits }
-    ensures no_entries { result.held ≡ [] }
+    ensures no_samples { result.held ≡ 0 }
+    ensures no_entries { result.entries ≡ 0 }
     ensures places { result.places ≡ table.places }
 {
-    table.clear_entries();
+    table.clear_samples();
     table
 }
 
-// Takes the entries out of the tables that were swapped out, and makes them spares with their rows in place. The last spare is
+// Takes the samples out of the tables that were swapped out, and makes them spares with their rows in place. The last spare is
 // then the one that was swapped out first.
 fn move_back(swapped: &mut Vec<Table>, spares: &mut Vec<Table>)
     requires { vec_len spares.old + vec_len swapped.old ≤ vec_capacity spares.old }
@@ -125,7 +126,7 @@ impl Spares {
         self.swapped.as_slice()
     }
 
-    /// Takes the entries out of the tables that were swapped out, and makes them spares with their rows in place: they come next,
+    /// Takes the samples out of the tables that were swapped out, and makes them spares with their rows in place: they come next,
     /// in the order in which they were kept.
     pub fn reclaim(&mut self)
         ensures { self.new ≡ record self.old { waiting = map (λ table. table.places) self.old.swapped ++ self.old.waiting; swapped = [] } }

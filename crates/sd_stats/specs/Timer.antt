@@ -1,5 +1,5 @@
 -- A timer and its statistics, as the definitions have them.
-use Rattle.std.specs.Prelude.{ℕ, ◌^◌, ◌<◌, ◌≤◌, ℤ, pos, ◌≤ℤ◌, unsigned_abs, List, length, map, All}
+use Rattle.std.specs.Prelude.{ℕ, ◌*◌, ◌^◌, ◌<◌, ◌≤◌, ℤ, pos, ◌≤ℤ◌, unsigned_abs, List, length, map, All}
 use Rattle.std.specs.Ordering.{int_cmp}
 use Rattle.std.specs.List.Sorted.{IsSortedByKey}
 use Rattle.sd_model_text.specs.Numbers as text
@@ -30,7 +30,7 @@ pub record IsTimer (values : List Micro) (weight : Sum) (interval_ms : ℕ) : Ty
   pub rises : IsSortedByKey (λ v. v.0) int_cmp values
   pub within : AreTimerValues values
   pub some : 0 < length values
-  pub small : unsigned_abs weight.0 ≤ 10 ^ 34
+  pub small : unsigned_abs weight.0 ≤ 17 * 10 ^ 34
   pub lasts : 0 < interval_ms
 
 -- the statistics of all values

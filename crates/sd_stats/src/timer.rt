@@ -16,7 +16,7 @@ pub struct TimerStats<'a> {
 }
 
 impl<'a> TimerStats<'a> {
-    ghost use Rattle.std.specs.Prelude.{◌≡◌, ◌≢◌, ◌^◌, ◌<◌, ◌≤◌, unsigned_abs, length, All, option_map};
+    ghost use Rattle.std.specs.Prelude.{◌≡◌, ◌≢◌, ◌*◌, ◌^◌, ◌<◌, ◌≤◌, unsigned_abs, length, All, option_map};
     ghost use Rattle.sd_model_text.specs.Numbers.{Below};
     ghost use Rattle.sd_model_shard.specs.Values.{timer_of, whole, pct, bin};
     ghost use Rattle.sd_stats.specs.Timer.{numbers, IsTimerValue, whole_of, part_of, limit_of};
@@ -27,7 +27,7 @@ impl<'a> TimerStats<'a> {
         requires some { 0 < length values.old }
         requires many { length values.old ≤ 2 ^ 20 }
         requires range { All IsTimerValue values.old }
-        requires weight { unsigned_abs weight.0 ≤ 10 ^ 34 }
+        requires weight { unsigned_abs weight.0 ≤ 17 * 10 ^ 34 }
         requires interval { 0 < interval_ms }
         ensures timer { timer_seen result ≡ timer_of (numbers values.old) weight.0 interval_ms }
 

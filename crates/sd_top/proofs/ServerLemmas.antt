@@ -60,7 +60,7 @@ totals_are s c books desk outs left has counts count are =
     let taken = summed_books (λ b. b.taken) (λ i. (state i).taken) books s.sizes.shards count (λ i h. (are i h).taken) in
     let dropped = summed_books (λ b. b.dropped) (λ i. (state i).dropped) books s.sizes.shards count (λ i h. (are i h).dropped) in
     let flushed = summed_books (λ b. b.flushed) (λ i. (state i).flushed) books s.sizes.shards count (λ i h. (are i h).flushed) in
-    let held = summed_books (λ b. b.held) (λ i. length (state i).held) books s.sizes.shards count (λ i h. (are i h).held) in
+    let held = summed_books (λ b. b.held) (λ i. (state i).held) books s.sizes.shards count (λ i h. (are i h).held) in
     let deleted = summed_books (λ b. b.deleted) (λ i. (state i).deleted) books s.sizes.shards count (λ i h. (are i h).deleted) in
     let skips = skips_are s c outs has counts in
     λ i. totals_by (record { taken = taken i; flushed = flushed i; deleted = deleted i; dropped = dropped i; held = held i }) (record (left i).facts {

@@ -24,7 +24,7 @@ sizing_by s = record { limits = limits_of s; policy = policy_of s; shards = s.si
 
 -- how a run is answered whose workers ended so
 abbrev pub ends_of : List Ended → Ends → Answer
-ends_of received ends = ends_answer (map end_of received) (end_of ends.flusher) (door_end_of ends.keeper ∷ map door_end_of (option_to_list ends.liner))
+ends_of received ends = ends_answer (map end_of received) (end_of ends.flusher.ended) (door_end_of ends.keeper ∷ map door_end_of (option_to_list ends.liner))
 
 -- the numbers of all shards together
 abbrev pub sums_of : List ShardBook → ShardsBook

@@ -7,6 +7,7 @@
 //! `World`.
 #![tactic(auto)]
 
+mod audit;
 mod call;
 mod completeness;
 mod drill;
@@ -20,6 +21,7 @@ mod settings;
 mod status;
 mod words;
 
+pub use audit::served_totals_add_up;
 pub use call::{World, statsd};
 pub use completeness::unhindered_servers_serve;
 pub use status::{Part, Status, explain};

@@ -109,14 +109,14 @@ fn liner_worn(ended: &Option<DoorEnd>) -> bool
 
 /// Whether a worker beside the receivers did.
 fn other_worn(ends: &Ends) -> bool
-    ensures { result ≡ list_any is_worn (end_of (ends.now).flusher ∷ door_end_of (ends.now).keeper ∷ map door_end_of (option_to_list (ends.now).liner)) }
+    ensures { result ≡ list_any is_worn (end_of (ends.now).flusher.ended ∷ door_end_of (ends.now).keeper ∷ map door_end_of (option_to_list (ends.now).liner)) }
 {
-    took_most_turns(&ends.flusher) || keeper_worn(&ends.keeper) || liner_worn(&ends.liner)
+    took_most_turns(&ends.flusher.ended) || keeper_worn(&ends.keeper) || liner_worn(&ends.liner)
 }
 
 /// Whether any worker did.
 fn some_worn(received: &[Ended], ends: &Ends) -> bool
-    ensures { result ≡ list_any is_worn (map end_of received.now ++ end_of (ends.now).flusher ∷ door_end_of (ends.now).keeper ∷ map door_end_of (option_to_list (ends.now).liner)) }
+    ensures { result ≡ list_any is_worn (map end_of received.now ++ end_of (ends.now).flusher.ended ∷ door_end_of (ends.now).keeper ∷ map door_end_of (option_to_list (ends.now).liner)) }
 {
     any_worn(received) || other_worn(ends)
 }
@@ -126,7 +126,7 @@ fn status_after(received: &[Ended], ends: &Ends) -> Status
     requires { length received.now ≤ 16 }
     ensures { answer_of result ≡ ends_of received.now ends.now }
 {
-    let by_beat = match ends.flusher {
+    let by_beat = match ends.flusher.ended {
         Ended::Failed => Status::ReadFault { part: Part::Beat },
         _ => by_turns(some_worn(received, ends)),
     };

@@ -1,8 +1,8 @@
 -- A history with one entry more.
 use Rattle.std.proofs.Common.{◌≡◌, ℕ, ◌<◌, Bool, true, false, eqb, eq-eqb, ne_eqb, ◌≢◌, List, [], ◌∷◌, ◌++◌, refl, sym, ap, ◌∙◌, append_assoc, append-nil, map, zero-le, arith, Any}
-use Rattle.sd_seats.specs.declared.view.Account.{Account}
-use Rattle.sd_seats.specs.Lists.{total, span, Each}
-use Rattle.sd_seats.proofs.Totals.{total-map, is, span_has, Any-numbered}
+use Rattle.sd_turn.specs.declared.view.Account.{Account}
+use Rattle.sd_turn.specs.Lists.{total, span, Each}
+use Rattle.sd_turn.proofs.Totals.{total-map, is, span_has, Any-numbered}
 use Rattle.sd_turn.specs.Entries.{Begins, pick, entries_by}
 
 module _ {N : Type 0} where

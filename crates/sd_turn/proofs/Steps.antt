@@ -4,11 +4,11 @@ use Rattle.std.proofs.Math.Nat.{mod-add-mod}
 use mathlib.Core.Option.{Option, none}
 use Rattle.atomic_table.specs.Table.{State, Me, step, stepped, Act, keeps, Valid, carried_after, Allows}
 use Rattle.atomic_table.proofs.Lists.{set_else}
-use Rattle.sd_seats.specs.declared.view.View.{View}
-use Rattle.sd_seats.specs.Views.{account, IsPlain, own_of, seen_of, holding, released}
-use Rattle.sd_seats.specs.Rule.{Kept, Grows}
-use Rattle.sd_seats.proofs.Totals.{set_at}
-use Rattle.sd_seats.proofs.Steps.{single, plain_is, holder, changes, gives_turn}
+use Rattle.sd_turn.specs.declared.view.View.{View}
+use Rattle.sd_turn.specs.Views.{account, IsPlain, own_of, seen_of, holding, released}
+use Rattle.sd_turn.specs.Rule.{Kept, Grows}
+use Rattle.sd_turn.proofs.Totals.{set_at}
+use Rattle.sd_turn.proofs.TableSteps.{single, plain_is, holder, changes, gives_turn}
 use Rattle.sd_turn.specs.History.{history_terms, noting, noted, gave, HasTurn, Holds}
 use Rattle.sd_turn.proofs.EntryLists.{begins_more, own_entry, other_entry, inside_more}
 

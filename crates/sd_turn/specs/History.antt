@@ -3,11 +3,11 @@
 use Rattle.std.specs.Prelude.{◌≡◌, ℕ, ◌<◌, ◌%◌, ◌^◌, true, List, [], ◌∷◌, ◌++◌, length, Some, refl}
 use Rattle.std.proofs.Common.{sym, append-nil}
 use Rattle.atomic_table.specs.Table.{Me, Step, rest}
-use Rattle.sd_seats.specs.declared.view.Account.{Account}
-use Rattle.sd_seats.specs.declared.view.View.{View}
-use Rattle.sd_seats.specs.Lists.{Each}
-use Rattle.sd_seats.specs.Views.{account, view, own_of, seen_of, released}
-use Rattle.sd_seats.specs.Rule.{Terms, Laws}
+use Rattle.sd_turn.specs.declared.view.Account.{Account}
+use Rattle.sd_turn.specs.declared.view.View.{View}
+use Rattle.sd_turn.specs.Lists.{Each}
+use Rattle.sd_turn.specs.Views.{account, view, own_of, seen_of, released}
+use Rattle.sd_turn.specs.Rule.{Terms, Laws}
 use Rattle.sd_turn.specs.Entries.{Begins, entries_by}
 
 -- The history is legal for the fixed part, and its entries have numbers below the count of seats. Each seat has seen a beginning of it, and its own entries are all that the history has by its number. A number that no seat has yet has made none

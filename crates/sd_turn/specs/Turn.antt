@@ -1,8 +1,8 @@
 -- What contracts read of a turn with a history and of its seats.
 use Rattle.std.specs.Prelude.{◌≡◌, ℕ, ◌<◌, List, [], map, Some, All, Any}
-use Rattle.sd_seats.specs.declared.view.Account.{Account}
-use Rattle.sd_seats.specs.Lists.{total, span}
-use Rattle.sd_seats.specs.Views.{first_account}
+use Rattle.sd_turn.specs.declared.view.Account.{Account}
+use Rattle.sd_turn.specs.Lists.{total, span}
+use Rattle.sd_turn.specs.Views.{first_account}
 use Rattle.sd_turn.specs.Entries.{Begins, entries_by}
 use Rattle.sd_turn.specs.declared.stepped.Stepped.{Ghosts}
 use Rattle.sd_turn.specs.declared.turn.Turn.{Turn}

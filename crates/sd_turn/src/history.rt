@@ -1,9 +1,10 @@
 //! What is behind a turn with a history, and what its own steps tell.
 ghost use Rattle.sd_turn.specs.History.{history_terms, history_laws, noted, gave};
 
+use crate::behind::Behind;
 use crate::stepped::Stepped;
+use crate::view::View;
 use atomic_table::Play;
-use sd_seats::{Behind, View};
 use std::marker::{Brand, PhantomData};
 
 /// The rule of a turn with a history.

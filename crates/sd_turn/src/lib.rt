@@ -1,13 +1,19 @@
 //! A value behind a turn, with one history of all changes that contracts alone see.
 //!
-//! `sd_pool` puts each shard behind one. A call waits for the turn, and the change itself for nobody. Only `open` takes memory:
-//! the history has no bytes.
+//! `sd_pool` puts each shard behind one, and `sd_shared_desk` the desk. Below lies a table of seats: what a seat knows, the rule of
+//! the value, its steps, and how a caller waits. Who finds the turn taken tries a while, and then sleeps until it is woken; the
+//! change itself waits for nobody. That a caller comes to its turn, and in which order callers do, no clause says. Only `open` takes
+//! memory: the history has no bytes.
 #![tactic(auto)]
 
+mod behind;
 mod history;
+mod plain_seat;
 mod stepped;
 mod turn;
 mod turn_seat;
+mod turn_table;
+mod view;
 
 pub use stepped::Stepped;
 pub use turn::Turn;

@@ -1,15 +1,16 @@
 //! A value behind a turn with a history.
 ghost use Rattle.std.specs.Prelude.{◌≡◌, ◌<◌, List, [], ◌∷◌, ◌++◌, length, map, false, IfOk, All};
-ghost use Rattle.sd_seats.specs.Lists.{span};
-ghost use Rattle.sd_seats.specs.Views.{own_of, seen_of};
+ghost use Rattle.sd_turn.specs.Lists.{span};
+ghost use Rattle.sd_turn.specs.Views.{own_of, seen_of};
 ghost use Rattle.sd_turn.specs.Entries.{GoesOn, entries_by};
 ghost use Rattle.sd_turn.specs.History.{noting, HasTurn, Holds};
 
 use crate::history::{Chosen, Give, History, Note};
 use crate::stepped::Stepped;
 use crate::turn_seat::TurnSeat;
+use crate::turn_table::TurnTable;
+use crate::view::View;
 use atomic_table::Seat;
-use sd_seats::{TurnTable, View};
 use std::alloc::{AllocError, Global};
 use std::marker::Brand;
 use std::snapshot::Snapshot;

@@ -27,9 +27,9 @@ returns c =
       receiver_is = (AllByRecursion-back Is c.pop-3.new.self.items (c.in-Some-pop-2.receiver ∷ []) first).0;
       flusher_is = behind.0;
       who = c.in_ok-pool.ensures.callers.1;
-      own_is = (subst (λ (o : _). IfSome o Own) c.in-Some.is last.1).own;
-      adder_is = (subst (λ (o : _). IfSome o Own) c.in-Some-pop.is next.1).own;
-      watcher_is = λ x is. (subst (λ (o : _). IfSome o Own) is top.1).own;
+      own_is = (subst (λ (o : _). IfSome o Own) c.in-Some.is last.1).seat_is;
+      adder_is = (subst (λ (o : _). IfSome o Own) c.in-Some-pop.is next.1).seat_is;
+      watcher_is = λ x is. (subst (λ (o : _). IfSome o Own) is top.1).seat_is;
       tables_are = subst (λ (l : Limits). AreTablesFor l (shards_of pool) c.in_ok-tables.tables) (sym c.in_ok-pool.ensures.limits)
           (subst (λ (n : ℕ). AreTablesFor (limits_of c.args.limits) n c.in_ok-tables.tables) (sym c.in_ok-pool.ensures.shards) c.in_ok-tables.ensures);
       spares_are = record {

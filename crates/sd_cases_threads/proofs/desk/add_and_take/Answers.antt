@@ -12,4 +12,4 @@ join-adders-requires-after_bounds g c κs within =
     let own = subst (λ o. IfSome o new) c.in-Some.is first_pop.1 in
     let two = subst (λ o. IfSome o new) c.in-Some-pop.is second_pop.1 in
     let one = subst (λ o. IfSome o new) c.in-Some-pop-2.is third_pop.1 in
-    (((one.own, two.own), search rules), own.own)
+    (((one.seat_is, two.seat_is), search rules), own.seat_is)

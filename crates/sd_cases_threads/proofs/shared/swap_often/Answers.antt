@@ -10,6 +10,6 @@ loop-preserved g c =
     let grown = ap (told_by answered_in) c.swap-spare.ensures.act.own ∙ told_by-push answered_in (own_at c.loop.seat c.args.i) _ in
     record {
       seat = c.swap-spare.ensures.seat;
-      spare = record { limits = c.clear_entries.ensures.limits ∙ c.swap-spare.ensures.within.limits; no_entries = c.clear_entries.ensures.entries };
+      spare = record { limits = c.clear_samples.ensures.limits ∙ c.swap-spare.ensures.within.limits; no_samples = c.clear_samples.ensures.held; no_entries = c.clear_samples.ensures.entries };
       made = omega (arith, grown, c.loop.invariant.made);
     }

@@ -2,7 +2,7 @@ use Rattle.std.proofs.Common.{◌≡◌, ℕ, ◌<◌, ◌≤◌, length}
 use Rattle.sd_model_shard.specs.Commands.{is_hit}
 use Rattle.sd_key.specs.Kind.{kind_of}
 use Rattle.sd_rows.specs.Rows.{row_at}
-use Rattle.sd_epoch.specs.Entries.{left_by}
+use Rattle.sd_epoch.specs.Places.{left_by}
 use Rattle.sd_epoch.proofs.forget.drop_hits.Given as goal
 
 -- the rows of the places so far that are hit are gone

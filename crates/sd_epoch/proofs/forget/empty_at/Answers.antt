@@ -1,6 +1,6 @@
 use Rattle.std.proofs.Common.{List, Option, sym, subst, ◌∙◌}
 use Rattle.sd_rows.specs.declared.row.Row.{Row}
-use Rattle.sd_epoch.specs.Entries.{AreRows}
+use Rattle.sd_epoch.specs.Places.{AreRows}
 use Rattle.sd_epoch.proofs.TurnLemmas.{emptied_rows, taken_by}
 use Rattle.sd_epoch.proofs.forget.empty_at.Goals as goal
 

@@ -2,9 +2,9 @@ use Rattle.std.proofs.Common.{◌≡◌, ℕ, ◌<◌, List, length, set, Option
 use Rattle.std.proofs.lemmas.List.{set-set}
 use Rattle.sd_rows.specs.Rows.{row_at, reset}
 use Rattle.sd_rows.specs.declared.row.Row.{Row}
-use Rattle.sd_epoch.specs.Entries.{AreRows, live_in, StayAt}
-use Rattle.sd_epoch.proofs.PlaceLemmas.{written, unwritten, add_rows, add_live, add_stays}
-use Rattle.sd_epoch.proofs.HeldLemmas.{count_below, add_tallies}
+use Rattle.sd_epoch.specs.Places.{AreRows, StayAt}
+use Rattle.sd_epoch.proofs.PlaceLemmas.{written, unwritten, add_rows, add_stays}
+use Rattle.sd_epoch.proofs.CountLemmas.{count_below}
 use Rattle.sd_epoch.proofs.TurnLemmas.{absent_place}
 use Rattle.sd_epoch.proofs.placing.add_row.Goals as goal
 
@@ -39,15 +39,6 @@ returns-clause-rows c =
     (subst (AreRows (set c.args.rows.now at (Some row))) (sym c.push.ensures.places)
     (add_rows c.args.rows.now at row c.add-place.ensures.within c.add-place.ensures.empty c.requires.absent c.args.order.now.places.items c.requires.rows))
 
-pub returns-clause-live : goal.returns-clause-live
-returns-clause-live c =
-    let row : Row = record { kind = c.args.kind; key = c.args.key.now; base = c.args.base; swaps = c.args.swaps } in
-    let at = c.add-place.result in
-    let are = rows_are c.args.rows.now c.add-place.new.self c.set.new.self at _ row c.add-place.ensures.within c.add-place.ensures.places c.set.ensures refl refl in
-    ap (λ (xs : List (Option Row)). live_in xs c.push.new.self.places.items) are
-    ∙ ap (λ (ps : List ℕ). live_in (set c.args.rows.now at (Some row)) ps) c.push.ensures.places
-    ∙ add_live c.args.rows.now at row c.add-place.ensures.within c.add-place.ensures.empty c.requires.absent c.args.order.now.places.items c.requires.rows
-
 pub returns-clause-stay : goal.returns-clause-stay
 returns-clause-stay c =
     let row : Row = record { kind = c.args.kind; key = c.args.key.now; base = c.args.base; swaps = c.args.swaps } in
@@ -55,13 +46,10 @@ returns-clause-stay c =
     let are = rows_are c.args.rows.now c.add-place.new.self c.set.new.self at _ row c.add-place.ensures.within c.add-place.ensures.places c.set.ensures refl refl in
     subst (StayAt c.args.rows.now) (sym are) (add_stays c.args.rows.now at row c.add-place.ensures.within c.add-place.ensures.empty c.requires.absent)
 
-pub returns-clause-tallies : goal.returns-clause-tallies
-returns-clause-tallies c held w none =
+pub returns-clause-others : goal.returns-clause-others
+returns-clause-others c p ne =
     let row : Row = record { kind = c.args.kind; key = c.args.key.now; base = c.args.base; swaps = c.args.swaps } in
     let at = c.add-place.result in
     let within = c.add-place.ensures.within in
     let are = rows_are c.args.rows.now c.add-place.new.self c.set.new.self at _ row within c.add-place.ensures.places c.set.ensures refl refl in
-    add_tallies c.args.rows.now c.set.new.self c.args.tallies.now.items at row c.empty_tally.result held w (omega (arith, within, c.requires.tally_room))
-    (ap (λ (xs : List (Option Row)). row_at xs at) are ∙ written c.args.rows.now at row within)
-    (λ p ne. ap (λ (xs : List (Option Row)). row_at xs p) are ∙ unwritten c.args.rows.now at row within p ne)
-    none c.empty_tally.ensures.samples c.empty_tally.ensures.weight c.empty_tally.ensures.sum c.empty_tally.ensures.gauge
+    ap (λ (xs : List (Option Row)). row_at xs p) are ∙ unwritten c.args.rows.now at row within p ne

@@ -1,10 +1,9 @@
-use Rattle.std.proofs.Common.{◌≡◌, List, [], set, Option, Some, None, not, refl, sym, ap, subst, ◌∙◌, arith}
+use Rattle.std.proofs.Common.{◌≡◌, List, set, Option, Some, None, not, sym, ap, subst, ◌∙◌, arith}
 use Rattle.sd_rows.specs.Rows.{row_at, reset, StandsNowhereElse}
 use Rattle.sd_rows.specs.declared.row.Row.{Row}
 use Rattle.sd_rows.proofs.IndexLemmas.{some_of, taken_count-lt}
-use Rattle.sd_epoch.specs.Entries.{AreRows}
-use Rattle.sd_epoch.proofs.PlaceLemmas.{written, unwritten, add_rows}
-use Rattle.sd_epoch.proofs.HeldLemmas.{add_tallies}
+use Rattle.sd_epoch.specs.Places.{AreRows}
+use Rattle.sd_epoch.proofs.PlaceLemmas.{add_rows}
 use Rattle.sd_epoch.proofs.TurnLemmas.{absent_place, carried_are, carried_over, carried_new, order_count, empty_by, taken_by}
 use Rattle.sd_epoch.proofs.placing.carry_in.Goals as goal
 use Rattle.sd_epoch.proofs.placing.carry_in.Goals.{then-was_empty, else-was_empty}
@@ -46,18 +45,3 @@ returns-clause-rows g c =
           rw w.order-is
           (carried_over rows at row within nowhere order c.requires.rows (taken_by _ rows at _ c.row.result (c.is_none-was_empty.ensures ∙ ap not w.if-was_empty.false) c.row.ensures))
     ])
-
-pub returns-clause-tallies : goal.returns-clause-tallies
-returns-clause-tallies g c tallied =
-    let rows = c.args.rows.now in
-    let at = c.args.at in
-    let within = c.requires.within in
-    let there = some_of (row_at c.args.from.now at) c.requires.live in
-    let row : Row = record there.0 { base = c.args.base; swaps = c.args.swaps } in
-    let are : c.set.new.self ≡ set rows at (Some row) =
-    carried_are rows c.copy_row.new.self c.set.new.self (row_at c.args.from.now at) at c.args.base c.args.swaps within c.copy_row.ensures.places c.set.ensures
-    ∙ ap (λ (o : Option Row). set rows at (reset o c.args.base c.args.swaps)) there.1 in
-    add_tallies rows c.set.new.self c.args.tallies.now.items at row c.empty_tally.result [] tallied (omega (arith, within, c.requires.tally_room))
-    (ap (λ (xs : List (Option Row)). row_at xs at) are ∙ written rows at row within)
-    (λ p ne. ap (λ (xs : List (Option Row)). row_at xs p) are ∙ unwritten rows at row within p ne)
-    refl c.empty_tally.ensures.samples c.empty_tally.ensures.weight c.empty_tally.ensures.sum c.empty_tally.ensures.gauge

@@ -1,15 +1,13 @@
-use Rattle.std.proofs.Common.{◌≡◌, ℕ, ◌<◌, [], length, get_or, Some}
-use Rattle.sd_key.specs.Kind.{kind_of}
+use Rattle.std.proofs.Common.{◌≡◌, ℕ, ◌<◌, length, get_or, Some}
 use Rattle.sd_rows.specs.Rows.{row_at}
 use Rattle.sd_rows.specs.declared.row.Row.{Row}
-use Rattle.sd_epoch.specs.Entries.{IsTally}
-use Rattle.sd_epoch.specs.declared.tally.Tally.{Tally}
+use Rattle.sd_epoch.specs.Since.{no_tally, IsFresh}
 use Rattle.sd_epoch.proofs.placing.clear_tallies.Given as goal
 
 -- the tallies of the places so far are without samples
 abbrev pub invariant-loop-at : goal.invariant-loop-at
 invariant-loop-at l = record {
-  done : (p : ℕ) (row : Row) (other : Tally) → p < l.at → row_at l.rows p ≡ Some row → IsTally (kind_of row.kind) row.base.0 [] (get_or l.tallies.items p other);
+  done : (p : ℕ) (row : Row) → p < l.at → row_at l.rows p ≡ Some row → IsFresh row.base.0 (get_or l.tallies.items p no_tally);
   len : length l.tallies.items ≡ length l.fn.tallies.items;
   all : l.at-end ≡ length l.rows;
 }

@@ -28,6 +28,6 @@ loop-made-preserved g c =
       graphite_flag = made.graphite_flag ∙ inv.graphite_flag;
       console_flag = made.console_flag ∙ inv.console_flag;
       few = λ some. let before = inv.few some in omega (arith, before, some);
-      so_far = SoFar-next _ _ _ _ _ _ _ _ _ _ _ _ _ _ _ _ _ _ (omega (arith, c.requires.turns, c.loop-made-test.true)) inv.so_far c.in-At.ensures
+      so_far = SoFar-next _ _ _ _ _ _ _ _ _ _ _ _ _ _ _ _ _ _ _ (omega (arith, c.requires.turns, c.loop-made-test.true)) inv.so_far c.in-At.ensures
           (round_by _ _ _ _ _ _ _ _ _ _ _ _ _ _ inv.graphite_flag inv.console_flag made.round);
     }

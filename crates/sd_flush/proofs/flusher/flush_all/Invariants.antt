@@ -18,5 +18,5 @@ invariant-loop-made g l = record {
   console_flag : l.backs.console_used ≡ l.initial.backs.console_used;
   few : 0 < l.run_flushes → l.made ≤ l.run_flushes;
   so_far : SoFar (form_of l.pool l.plan l.names) (uses l.initial.backs) (own_at l.initial.seat) (own_at l.seat) (part_of l.initial.own) (part_of l.own)
-      (back_of g.B.Faulty.seen l.initial.backs) (back_of g.B.Faulty.seen l.backs) (g.E.Faulty.seen l.initial.beat) (g.E.Faulty.seen l.beat) l.made;
+      (back_of g.B.Faulty.seen l.initial.backs) (back_of g.B.Faulty.seen l.backs) (g.E.Faulty.seen l.initial.beat) (g.E.Faulty.seen l.beat) l.made l.last;
 }

@@ -32,6 +32,6 @@ loop-made-preserved g c =
       graphite = omega (arith, inv.graphite, c.count.ensures.graphite, one_skip marks.graphite);
       console = omega (arith, inv.console, c.count.ensures.console, one_skip marks.console);
       few = λ some. let before = inv.few some in omega (arith, before, some);
-      so_far = SoFarOut-next _ _ _ _ _ _ _ _ _ _ _ _ marks c.loop-made.skips c.count.new.self c.args.outs.now c.loop-made.outs c.round_out-marks.new.outs _
+      so_far = SoFarOut-next _ _ _ _ _ _ _ _ _ _ _ _ _ marks c.loop-made.skips c.count.new.self c.args.outs.now c.loop-made.outs c.round_out-marks.new.outs _
           (omega (arith, c.requires.turns, c.loop-made-test.true)) inv.so_far c.in-At.ensures made.round c.count.ensures.graphite c.count.ensures.console;
     }

@@ -20,5 +20,5 @@ invariant-loop-made g l = record {
   console : l.skips.console ≤ l.made;
   few : 0 < l.run_flushes → l.made ≤ l.run_flushes;
   so_far : SoFarOut (form_of l.pool l.plan l.names) (offered_by l.skips l.initial.outs l.outs) (own_at l.initial.seat) (own_at l.seat) (part_of l.initial.own) (part_of l.own)
-      (g.E.Faulty.seen l.initial.beat) (g.E.Faulty.seen l.beat) l.made;
+      (g.E.Faulty.seen l.initial.beat) (g.E.Faulty.seen l.beat) l.made l.last;
 }

@@ -12,7 +12,7 @@ use Rattle.sd_epoch.specs.Table.{table_of}
 use Rattle.sd_desk.specs.Marks.{marks_of, mark_of as seen_mark}
 use Rattle.sd_desk.specs.Tally.{tally_of}
 use Rattle.sd_flush.specs.Flushing.{form_of, uses, back_of}
-use Rattle.sd_flush.proofs.RoundLemmas.{at_both}
+use Rattle.sd_flush.proofs.RoundLemmas.{at_both, both_calls}
 use Rattle.sd_flush.proofs.SwapLemmas.{tables_all, turned_out}
 use Rattle.sd_flush.proofs.rounds.round.Goals as goal
 
@@ -40,6 +40,7 @@ returns-clause-round g c =
         whole = at_both (λ b. uses c.args.backs.now b ≡ true → ¬ Rose (back b).faults (back_now b).faults → mark_of b round.marks ≡ Written)
             (λ used sound. ap seen_mark (wrote.graphite_written used sound)) (λ used sound. ap seen_mark (wrote.console_written used sound));
         counted = counted_next _ _ _ _ _ c.begin_round-tally.ensures.counted c.end_round.ensures.counted;
+        called = both_calls _ _ _ _ _ c.begin_round-tally.ensures.called c.end_round.ensures.called;
       };
       tables = listings;
       handed_out = sym all;

@@ -11,6 +11,7 @@ use Rattle.sd_desk.specs.Tally.{tally_of}
 use Rattle.sd_flush.specs.Flushing.{form_of}
 use Rattle.sd_flush.specs.FlushingOut.{no_marks}
 use Rattle.sd_flush.specs.Outs.{AfterText}
+use Rattle.sd_flush.proofs.RoundLemmas.{both_calls}
 use Rattle.sd_flush.proofs.SwapLemmas.{tables_all, turned_out}
 use Rattle.sd_flush.proofs.rounds_out.round_out.Goals as goal
 
@@ -32,6 +33,7 @@ returns-clause-round g c =
         swapped = swaps.added;
         unused = refl;
         counted = counted_next _ _ _ _ _ c.begin_round-tally.ensures.counted c.end_round.ensures.counted;
+        called = both_calls _ _ _ _ _ c.begin_round-tally.ensures.called c.end_round.ensures.called;
       };
       to_graphite = subst (λ (ts : List Table). AfterText marks.graphite (graphite_text form.names (record_of form.plan ts round.tally round.ts)) outs.graphite outs_now.graphite) (sym all) c.queue_record-marks.ensures.graphite;
       to_console = subst (λ (ts : List Table). AfterText marks.console (console_text (record_of form.plan ts round.tally round.ts)) outs.console outs_now.console) (sym all) c.queue_record-marks.ensures.console;

@@ -1,4 +1,4 @@
-use Rattle.sd_model_settings.proofs.EarlierLemmas.{settings_kept, earlier_rules_in_force, earlier_transport_in_force, settings_kept_before_outlets, transport_before_outlets, settings_kept_before_room, no_room_before_room}
+use Rattle.sd_model_settings.proofs.EarlierLemmas.{settings_kept, earlier_rules_in_force, earlier_transport_in_force, settings_kept_before_outlets, transport_before_outlets, settings_kept_before_sums, no_sums_before_sums, no_room_before_sums}
 use Rattle.sd_model_settings.proofs.earlier.earlier_files.Goals as goal
 
 pub returns-clause-kept : goal.returns-clause-kept
@@ -16,8 +16,11 @@ returns-clause-kept_before_outlets c = settings_kept_before_outlets
 pub returns-clause-none_before_outlets : goal.returns-clause-none_before_outlets
 returns-clause-none_before_outlets c = transport_before_outlets
 
-pub returns-clause-kept_before_room : goal.returns-clause-kept_before_room
-returns-clause-kept_before_room c = settings_kept_before_room
+pub returns-clause-kept_before_sums : goal.returns-clause-kept_before_sums
+returns-clause-kept_before_sums c = settings_kept_before_sums
+
+pub returns-clause-no_sums_before : goal.returns-clause-no_sums_before
+returns-clause-no_sums_before c = no_sums_before_sums
 
 pub returns-clause-no_room_before : goal.returns-clause-no_room_before
-returns-clause-no_room_before c = no_room_before_room
+returns-clause-no_room_before c = no_room_before_sums

@@ -2,23 +2,23 @@ use Rattle.std.proofs.Common.{◌∙◌, ◌^◌, List, map, take, refl, subst, 
 use Rattle.std.proofs.lemmas.List.{length-map}
 use Rattle.sd_model_settings.specs.Entries.{Node}
 use Rattle.sd_model_proxy.specs.Routes.{lines_of_read}
-use Rattle.sd_model_live.proofs.LookLemmas.{none_answered}
 use Rattle.sd_outside.specs.declared.datagrams.Ended.TheVariants.{End, Failed, Worn}
-use Rattle.sd_live.specs.Live.{seen}
+use Rattle.sd_live.specs.Live.{looks_of, seen}
 use Rattle.sd_proxy.specs.Forwarding.{Forwards}
 use Rattle.sd_proxy.specs.Views.{totals_view}
-use Rattle.sd_proxy.proofs.RelayLemmas.{looked, looked-next, read_of, ran_first, ran_read, ran_out, out_looked, ends_failed, ends_spent, same_faults}
+use Rattle.sd_proxy.proofs.RelayLemmas.{Looked, looked-next, looked-none, read_of, ran_first, ran_read, ran_out, out_looked, ends_failed, ends_spent, same_faults}
 use Rattle.sd_proxy.proofs.looking.proxy_part.Goals as goal
 
 pub loop-turn-init : goal.loop-turn-init
 loop-turn-init g c =
     let history = seen c.args.pass.now in
+    let looks = looks_of c.args.pass.now in
     record {
       ring = refl;
       pass = (c.requires.pass, refl);
       wires = refl;
       room = refl;
-      ran = ran_first _ (looked history history) _ _ _ (none_answered history) (g.met.D.Datagrams.turns_fit c.args.packets.now) c.none-totals.ensures;
+      ran = ran_first _ (Looked history history looks looks) _ _ _ (looked-none history looks) (g.met.D.Datagrams.turns_fit c.args.packets.now) c.none-totals.ensures;
     }
 
 pub loop-turn-preserved : goal.loop-turn-preserved
@@ -30,6 +30,9 @@ loop-turn-preserved g c =
     let history = seen c.args.pass.now in
     let before = seen c.loop-turn.pass in
     let after = seen c.look-up.new.pass in
+    let looks = looks_of c.args.pass.now in
+    let looks_before = looks_of c.loop-turn.pass in
+    let looks_after = looks_of c.look-up.new.pass in
     let forward = c.forward_datagram.ensures in
     let datagram = take c.in-Packet.len c.next.new.buf in
     let forwards =
@@ -40,29 +43,29 @@ loop-turn-preserved g c =
       pass = (look.pass.0, look.pass.1 ∙ loop.pass.1);
       wires = forward.wires ∙ loop.wires;
       room = c.next.auto.buf ∙ loop.room;
-      ran = ran_read _ (looked history before) _ _ _ _ (looked history after) datagram up _ _ _ _ _ (looked-next history before after up datagram look.seen look.answer) loop.ran c.in-Packet.ensures.1 forwards;
+      ran = ran_read _ (Looked history before looks looks_before) _ _ _ _ (Looked history after looks looks_after) datagram up _ _ _ _ _ (looked-next history before after looks looks_before looks_after up datagram look.seen look.answer look.looks) loop.ran c.in-Packet.ensures.1 forwards;
     }
 
 pub returns-in-End-clause-proxies : goal.returns-in-End-clause-proxies
 returns-in-End-clause-proxies g c =
     let loop = c.loop-turn.invariant in
-    let known = looked (seen c.args.pass.now) (seen c.loop-turn.pass) in
-    out_looked _ _ _ _ _ _ _ _
+    let known = Looked (seen c.args.pass.now) (seen c.loop-turn.pass) (looks_of c.args.pass.now) (looks_of c.loop-turn.pass) in
+    out_looked _ _ _ _ _ _ _ _ _ _
     (ran_out _ known _ _ _ _ _ _ End c.loop-turn.totals c.proxied.result c.proxied.ensures.ended c.proxied.ensures.totals loop.ran (length-map _ _ ∙ c.requires.wires) (same_faults _ _ c.in-End.ensures.0)
     (ends_spent _ known _ _ _ _ _ _ _ loop.ran c.in-End.ensures.0 c.in-End.ensures.1 (omega arith)))
 
 pub returns-in-Failed-clause-proxies : goal.returns-in-Failed-clause-proxies
 returns-in-Failed-clause-proxies g c =
     let loop = c.loop-turn.invariant in
-    let known = looked (seen c.args.pass.now) (seen c.loop-turn.pass) in
-    out_looked _ _ _ _ _ _ _ _
+    let known = Looked (seen c.args.pass.now) (seen c.loop-turn.pass) (looks_of c.args.pass.now) (looks_of c.loop-turn.pass) in
+    out_looked _ _ _ _ _ _ _ _ _ _
     (ran_out _ known _ _ _ _ _ _ Failed c.loop-turn.totals c.proxied-in-Failed.result c.proxied-in-Failed.ensures.ended c.proxied-in-Failed.ensures.totals loop.ran (length-map _ _ ∙ c.requires.wires) c.in-Failed.ensures.same
     (ends_failed _ known _ _ _ _ _ _ _ loop.ran c.in-Failed.ensures (omega arith)))
 
 pub returns-clause-proxies : goal.returns-clause-proxies
 returns-clause-proxies g c =
     let loop = c.loop-turn.invariant in
-    let known = looked (seen c.args.pass.now) (seen c.loop-turn.pass) in
-    out_looked _ _ _ _ _ _ _ _
+    let known = Looked (seen c.args.pass.now) (seen c.loop-turn.pass) (looks_of c.args.pass.now) (looks_of c.loop-turn.pass) in
+    out_looked _ _ _ _ _ _ _ _ _ _
     (ran_out _ known _ _ _ _ _ _ (Worn (2 ^ 62)) c.loop-turn.totals c.proxied-2.result c.proxied-2.ensures.ended c.proxied-2.ensures.totals loop.ran (length-map _ _ ∙ c.requires.wires) refl
     (refl, omega arith, loop.ran.faults))

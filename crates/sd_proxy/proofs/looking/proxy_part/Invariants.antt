@@ -1,7 +1,7 @@
 use Rattle.std.proofs.Common.{◌≡◌, length, map}
-use Rattle.sd_live.specs.Live.{IsPassOf, publishes, seen}
+use Rattle.sd_live.specs.Live.{IsPassOf, looks_of, publishes, seen}
 use Rattle.sd_proxy.specs.Views.{totals_view}
-use Rattle.sd_proxy.proofs.RelayLemmas.{Ran, looked}
+use Rattle.sd_proxy.proofs.RelayLemmas.{Looked, Ran}
 use Rattle.sd_proxy.proofs.looking.proxy_part.Given as goal
 
 abbrev pub invariant-loop-turn : goal.invariant-loop-turn
@@ -12,5 +12,5 @@ invariant-loop-turn g l =
       pass : IsPassOf l.cell l.pass × (publishes l.pass ≡ publishes l.fn.pass);
       wires : length l.wires ≡ length l.fn.wires;
       room : length l.buf ≡ length l.fn.buf;
-      ran : Ran l.fn.ring (looked (seen l.fn.pass) (seen l.pass)) (g.D.Faulty.seen l.fn.packets) (g.D.Faulty.seen l.packets) l._turn (map wire l.fn.wires) (map wire l.wires) (totals_view l.totals);
+      ran : Ran l.fn.ring (Looked (seen l.fn.pass) (seen l.pass) (looks_of l.fn.pass) (looks_of l.pass)) (g.D.Faulty.seen l.fn.packets) (g.D.Faulty.seen l.packets) l._turn (map wire l.fn.wires) (map wire l.wires) (totals_view l.totals);
     }

@@ -1,20 +1,23 @@
 use Rattle.std.proofs.Common.{◌≡◌, Bool, ◌||◌, sym, ap, subst, ◌∙◌}
-use Rattle.sd_model_stream.specs.Streams.{any_worn}
+use Rattle.sd_model_record.specs.Counts.{Among, IsKeeping}
+use Rattle.sd_model_record.proofs.DeskLemmas.{called_as}
+use Rattle.sd_model_stream.specs.Streams.{CountsReads, any_worn, reads_in}
 use Rattle.sd_outside.specs.declared.door.DoorEnd.{DoorEnd}
 use Rattle.sd_shared_desk.specs.Shared.{part_of}
 use Rattle.sd_door.specs.Keeping.{EndsAfter}
+use Rattle.sd_receive.proofs.CalledLemmas.{reads_among}
 use Rattle.sd_receive.proofs.DoorLemmas.{counted_whole, read_by}
 use Rattle.sd_receive.proofs.lining.read_all.Goals as goal
 
 pub returns-clause-works : goal.returns-clause-works
 returns-clause-works g c =
     let k = c.keep_door-kept.ensures.kept in
-    (read_by k.visits c.args.visitor.now c.keep_door-kept.new.visitor k.amounts c.requires.new k.visited).works
+    (read_by g.C.Clock.may_say k.visits c.args.visitor.now c.keep_door-kept.new.visitor k.amounts k.calls c.requires.new k.visited).works
 
 pub returns-clause-keeps : goal.returns-clause-keeps
 returns-clause-keeps g c =
     let k = c.keep_door-kept.ensures.kept in
-    let all = read_by k.visits c.args.visitor.now c.keep_door-kept.new.visitor k.amounts c.requires.new k.visited in
+    let all = read_by g.C.Clock.may_say k.visits c.args.visitor.now c.keep_door-kept.new.visitor k.amounts k.calls c.requires.new k.visited in
     let worn : c.keep_door-kept.new.visitor.is_worn ≡ any_worn all.streams = all.worn_is ∙ ap (λ (b : Bool). b || any_worn all.streams) c.requires.new.whole in
     record {
       streams = all.streams;
@@ -24,6 +27,7 @@ returns-clause-keeps g c =
         served = k.served;
         went = all.went;
         filed = all.filed;
+        called = called_as (Among IsKeeping k.calls) (CountsReads _ (reads_in all.streams)) _ _ (λ xs among. reads_among _ (reads_in all.streams) k.calls xs among all.called) k.called;
         counted = counted_whole k.amounts _ _ _ _ all.has k.counted;
       };
       turned = c.keep_door-kept.ensures.ends.turns;

@@ -1,6 +1,7 @@
 use Rattle.std.proofs.Common.{sym, ◌∙◌, refl, arith, rules}
 use Rattle.std.proofs.lemmas.List.{length-map}
 use Rattle.sd_model_record.proofs.CountLemmas.{counted_none}
+use Rattle.sd_model_record.proofs.DeskLemmas.{called_none}
 use Rattle.sd_receive.proofs.ReadLemmas.{takes_none, takes_next, EndsSo-after}
 use Rattle.sd_receive.proofs.receiving.receive.Goals as goal
 
@@ -12,7 +13,7 @@ loop-turn-init g c = record {
   who = refl;
   wires = refl;
   room = refl;
-  takes = rw c.none-tally.ensures (takes_none _ _ _ _ _ _ refl (counted_none _));
+  takes = rw c.none-tally.ensures (takes_none _ _ _ _ _ _ _ refl (counted_none _) (called_none _ _ tt));
   turns = omega (arith, g.met.D.Datagrams.turns_fit c.args.packets.now);
   place = refl;
   faults = refl;
@@ -23,9 +24,10 @@ returns-in-Some-clause-receives g c =
     let loop = c.loop-turn.invariant in
     let turn = c.take_turn-turn.ensures in
     let ends = rw c.in-Some.is at turn.ends in
+    let took = rw c.in-Some.is at turn.takes in
     let wires = length-map _ _ ∙ loop.wires ∙ sym (length-map _ _) in
     record {
-      takes = rw (c.and-tally.ensures, c.counted-taken.ensures) (takes_next _ _ _ _ _ _ _ _ _ _ _ _ _ _ _ _ wires loop.takes turn.takes);
+      takes = rw (c.and-tally.ensures, c.counted-taken.ensures) (takes_next _ _ _ _ _ _ _ _ _ _ _ _ _ _ _ _ _ _ _ wires (omega arith) loop.takes took);
       turned = c.loop-turn._turn;
       turns = ends.1 ∙ loop.turns;
       place = turn.place ∙ loop.place;
@@ -37,6 +39,7 @@ loop-turn-preserved g c =
     let loop = c.loop-turn.invariant in
     let turn = c.take_turn-turn.ensures in
     let on = rw c.in_default.is at turn.goes_on in
+    let took = rw c.in_default.is at turn.takes in
     let wires = length-map _ _ ∙ loop.wires ∙ sym (length-map _ _) in
     record {
       own = turn.own.0;
@@ -45,7 +48,7 @@ loop-turn-preserved g c =
       who = turn.seat.1 ∙ loop.who;
       wires = turn.wires ∙ loop.wires;
       room = turn.room ∙ loop.room;
-      takes = rw (c.and-tally.ensures, c.counted-taken.ensures) (takes_next _ _ _ _ _ _ _ _ _ _ _ _ _ _ _ _ wires loop.takes turn.takes);
+      takes = rw (c.and-tally.ensures, c.counted-taken.ensures) (takes_next _ _ _ _ _ _ _ _ _ _ _ _ _ _ _ _ _ _ _ wires (omega arith) loop.takes took);
       turns = omega (arith, on.0, loop.turns);
       place = turn.place ∙ loop.place;
       faults = on.1 ∙ loop.faults;

@@ -1,9 +1,10 @@
-use Rattle.std.proofs.Common.{◌∙◌, ◌++◌, All, length, map, flat_map, sym, ap, subst, arith, length-append}
+use Rattle.std.proofs.Common.{ℕ, List, ◌∷◌, ◌∙◌, ◌++◌, All, length, map, flat_map, sym, ap, subst, arith, length-append}
 use Rattle.std.specs.List.{AllByRecursion}
 use Rattle.std.proofs.lemmas.List.{with_items_is, length-map}
 use Rattle.sd_model_proxy.specs.Routes.{sums_of_totals}
-use Rattle.sd_model_live.specs.Proxy.{Begins}
-use Rattle.sd_model_live.specs.Checks.{HasChecked}
+use Rattle.sd_model_live.specs.Proxy.{Begins, all_of, first_history}
+use Rattle.sd_model_live.specs.Checks.{Check, HasChecked}
+use Rattle.sd_model_live.proofs.OrderLemmas.{one_order}
 use Rattle.sd_plan.specs.Entries.{node_view}
 use Rattle.sd_live.specs.Live.{IsPassOf, seen}
 use Rattle.sd_live.specs.declared.pass.UpPass.{UpPass}
@@ -128,13 +129,18 @@ returns g c =
     let sources_now = c.close.ensures.packets ∙ ap (λ l. map source_in l ++ more) same in
     let wires = gathered.wires ∙ ap (λ l. flat_map wires_in l ++ rest) (sym value) in
     let wires_now = c.close.ensures.wires ∙ ap (λ l. flat_map wires_in l ++ rest) same in
+    let checked = subst (λ h. HasChecked nodes checks.made (checking.end_view ran.result.ended) h history (g.P.Faulty.seen c.args.beat.now) (g.P.Faulty.seen ran.new.beat) (g.Q.Faulty.seen c.args.probe.now) (g.Q.Faulty.seen ran.new.probe)) c.requires.room.first checks.checked in
+    let pubs = map (λ (k : Check). k.up) checks.made in
+    let order = one_order nodes history pubs relays checked.published (relays_looked g.D.Faulty.seen g.L.Faulty.seen cell nodes history xs ys all fresh begins) in
     record {
       relays = relays;
       checks = checks.made;
       theorem = record {
-        history = history;
-        checked = subst (λ h. HasChecked nodes checks.made (checking.end_view ran.result.ended) h history (g.P.Faulty.seen c.args.beat.now) (g.P.Faulty.seen ran.new.beat) (g.Q.Faulty.seen c.args.probe.now) (g.Q.Faulty.seen ran.new.probe)) c.requires.room.first checks.checked;
-        looked = relays_looked g.D.Faulty.seen g.L.Faulty.seen cell nodes history xs ys all fresh begins;
+        steps = order.steps;
+        current = order.current;
+        told = order.told;
+        checked = subst (λ h. HasChecked nodes checks.made (checking.end_view ran.result.ended) (first_history nodes) h (g.P.Faulty.seen c.args.beat.now) (g.P.Faulty.seen ran.new.beat) (g.Q.Faulty.seen c.args.probe.now) (g.Q.Faulty.seen ran.new.probe))
+            (checked.published ∙ ap (λ (l : List ℕ). all_of (length nodes) ∷ l) (sym order.published)) checked;
         are = rw (sources, sources_now, wires, wires_now) told;
       };
       count = relays_count g.D.Faulty.seen g.L.Faulty.seen cell xs ys all ∙ ran.ensures.len ∙ ap length value ∙ gathered.len;

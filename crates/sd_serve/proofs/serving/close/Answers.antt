@@ -1,5 +1,6 @@
 use Rattle.std.proofs.Common.{◌≤◌, List, [], ◌∷◌, ◌++◌, All, map, sym, ap, subst, ◌∙◌, append-nil}
-use Rattle.std.specs.Prelude.{get_or}
+use Rattle.std.specs.Prelude.{get_or, min}
+use Rattle.sd_model_record.specs.Desk.{last_counted}
 use Rattle.std.specs.List.{AllByRecursion}
 use Rattle.std.proofs.lemmas.List.Elements.{All-nil, All-cons, All-append}
 use Rattle.sd_model_record.specs.Counts.{Count, number_of}
@@ -7,7 +8,7 @@ use Rattle.sd_pool.specs.Books.{no_book}
 use Rattle.sd_pool.specs.Pool.{IsSeatOf as IsPoolSeatOf, ShardHistory}
 use Rattle.sd_pool.specs.declared.seat.Seat.{Seat}
 use Rattle.sd_pool.proofs.AlongLemmas.{AllByRecursion-append}
-use Rattle.sd_shared_desk.specs.Shared.{IsConserved, IsSeatOf, OwnSeat, all_added, part_of}
+use Rattle.sd_shared_desk.specs.Shared.{History, IsConserved, IsSeatOf, OwnSeat, all_added, part_of}
 use Rattle.sd_serve.specs.LinePost.{line_owns, line_seats}
 use Rattle.sd_serve.specs.Parts.{own_in, seat_in}
 use Rattle.sd_serve.proofs.RoomLemmas.{put_back}
@@ -39,8 +40,9 @@ returns-clause-closed g c =
     record {
       shards = c.close.ensures.len;
       histories = λ i below. subst (λ l. ShardHistory c.args.pool l i (get_or c.close.result.items i no_book)) seats (c.close.ensures.histories i below);
+      history = subst (λ l. History c.args.desk l c.close-2.result) owns c.close-2.ensures.history;
       start = c.close-2.ensures.start;
-      sums = λ count. c.close-2.ensures.sums count ∙ ap (all_added count) owns;
+      sums = λ count. c.close-2.ensures.sums count ∙ ap (λ l. min (all_added count l) last_counted) owns;
       seen = subst (λ (l : List OwnSeat). All (λ s. (count : Count) → (part_of s).seen count ≤ number_of c.close-2.result count) l) owns c.close-2.ensures.seen;
       conserved = subst (λ l. IsConserved l c.close-2.result) owns c.close-2.ensures.conserved;
     }

@@ -2,7 +2,7 @@ use Rattle.std.proofs.Common.{◌≡◌, ℕ, ◌+◌, ◌++◌, ◌∷◌, [], 
 use Rattle.std.specs.List.{AllByRecursion}
 use Rattle.std.proofs.lemmas.List.{with_items_is, length-map, map-append}
 use Rattle.std.proofs.lemmas.List.Elements.{All-append}
-use Rattle.sd_seats.specs.Lists.{span}
+use Rattle.sd_turn.specs.Lists.{span}
 use Rattle.sd_desk.specs.Marks.{marks_of}
 use Rattle.sd_pool.specs.Pool.{IsNewSeatOf, IsSeatOf, own_at, who_is}
 use Rattle.sd_pool.specs.declared.seat.Seat.{Seat}
@@ -15,13 +15,14 @@ use Rattle.sd_serve.specs.Closing.{IsClosed}
 use Rattle.sd_serve.specs.LinePost.{line_keepers, line_owns, line_seats}
 use Rattle.sd_serve.specs.OutRoom.{has_rooms}
 use Rattle.sd_serve.specs.Parts.{IsFitted, own_in, seat_in, source_in, wires_in}
-use Rattle.sd_serve.specs.Room.{sizing_in, submitters, with_outlets}
+use Rattle.sd_serve.specs.Room.{outlets_of, sizing_in, submitters, with_outlets}
 use Rattle.sd_serve.specs.Serving.{end_of}
-use Rattle.sd_serve.specs.Through.{FlushesThrough}
-use Rattle.sd_serve.proofs.LineLemmas.{line_callers, line_owns_are, line_seats_are}
-use Rattle.sd_serve.proofs.PostLemmas.{AreNew, all_ran, all_were_run, ran_callers, ran_owns, ran_seats, ran_wires, receptions_ended}
+use Rattle.sd_serve.proofs.ThroughLemmas.{sized}
+use Rattle.sd_serve.proofs.DeskLemmas.{numbers_kept}
+use Rattle.sd_serve.proofs.LineLemmas.{line_numbers, line_callers, line_owns_are, line_seats_are}
+use Rattle.sd_serve.proofs.PostLemmas.{ran_numbers, AreNew, all_ran, all_were_run, ran_callers, ran_owns, ran_seats, ran_wires, receptions_ended}
 use Rattle.sd_serve.proofs.RoomLemmas.{counted_by, left_behind, line_long, line_new, line_ready, line_there, lines_after, lines_long, new_posts, part_behind, parts_behind, ready_posts, rooms_ready, rooms_there}
-use Rattle.sd_serve.proofs.ServeLemmas.{Told, by_recursion}
+use Rattle.sd_serve.proofs.ServeLemmas.{Told, by_recursion, said_so}
 use Rattle.sd_serve.proofs.ServedLemmas.{served_as}
 use Rattle.sd_serve.proofs.serving.serve.Goals as goal
 
@@ -86,13 +87,13 @@ pub run_all-counts-requires-clause-own : goal.run_all-counts-requires-clause-own
 run_all-counts-requires-clause-own g c κs within =
     let room = c.args.room in
     (parts_behind (IsNewDeskSeatOf room.desk) room.owns.items (map own_in c.gather.new.posts.items) c.gather.new.owns.items (line_owns c.take_line_post-line_post.result) c.take_line_post-line_post.new.owns.items c.take_first-own.new.items.items c.take_first-admin_own.new.items.items
-    c.take_first-own.result c.take_first-admin_own.result (by_recursion (IsNewDeskSeatOf room.desk) room.owns.items c.requires.room.owns) c.gather.ensures.owns c.take_line_post-line_post.ensures.owns c.take_first-own.ensures.items c.take_first-admin_own.ensures.items).1.own
+    c.take_first-own.result c.take_first-admin_own.result (by_recursion (IsNewDeskSeatOf room.desk) room.owns.items c.requires.room.owns) c.gather.ensures.owns c.take_line_post-line_post.ensures.owns c.take_first-own.ensures.items c.take_first-admin_own.ensures.items).1.seat_is
 
 pub run_all-counts-requires-clause-admin_own : goal.run_all-counts-requires-clause-admin_own
 run_all-counts-requires-clause-admin_own g c κs within =
     let room = c.args.room in
     (parts_behind (IsNewDeskSeatOf room.desk) room.owns.items (map own_in c.gather.new.posts.items) c.gather.new.owns.items (line_owns c.take_line_post-line_post.result) c.take_line_post-line_post.new.owns.items c.take_first-own.new.items.items c.take_first-admin_own.new.items.items
-    c.take_first-own.result c.take_first-admin_own.result (by_recursion (IsNewDeskSeatOf room.desk) room.owns.items c.requires.room.owns) c.gather.ensures.owns c.take_line_post-line_post.ensures.owns c.take_first-own.ensures.items c.take_first-admin_own.ensures.items).2.own
+    c.take_first-own.result c.take_first-admin_own.result (by_recursion (IsNewDeskSeatOf room.desk) room.owns.items c.requires.room.owns) c.gather.ensures.owns c.take_line_post-line_post.ensures.owns c.take_first-own.ensures.items c.take_first-admin_own.ensures.items).2.seat_is
 
 pub run_all-counts-requires-clause-line_post : goal.run_all-counts-requires-clause-line_post
 run_all-counts-requires-clause-line_post g c κs within =
@@ -132,8 +133,8 @@ ends_in-received-requires-clause-run g c =
     let ran = c.run_all-counts in
     let slice = c.as_mut_slice in
     let same = with_items_is c.gather.new.posts ran.new.posts (ran.ensures.len ∙ slice.ensures.len) in
-    let all = all_ran g.K.D.Faulty.seen g.K.L.Faulty.seen c.args.room.pool c.args.room.desk c.args.run_flushes slice.result.now ran.new.posts ran.ensures.len ran.ensures.each in
-    subst (All WasRun) (sym (c.deref.ensures.value ∙ same)) (all_were_run g.K.D.Faulty.seen g.K.L.Faulty.seen c.args.room.pool c.args.room.desk c.args.run_flushes slice.result.now ran.new.posts all)
+    let all = all_ran g.K.D.Faulty.seen g.K.L.Faulty.seen (g.K.T.Clock.may_say c.args.clock.now) c.args.room.pool c.args.room.desk c.args.run_flushes slice.result.now ran.new.posts ran.ensures.len ran.ensures.each in
+    subst (All WasRun) (sym (c.deref.ensures.value ∙ same)) (all_were_run g.K.D.Faulty.seen g.K.L.Faulty.seen (g.K.T.Clock.may_say c.args.clock.now) c.args.room.pool c.args.room.desk c.args.run_flushes slice.result.now ran.new.posts all)
 
 pub close-books-requires-clause-packets : goal.close-books-requires-clause-packets
 close-books-requires-clause-packets g c =
@@ -151,8 +152,8 @@ close-books-requires-clause-wires g c =
     let slice = c.as_mut_slice in
     let xs = c.gather.new.posts.items in
     let same = with_items_is c.gather.new.posts ran.new.posts (ran.ensures.len ∙ slice.ensures.len) in
-    let all = all_ran g.K.D.Faulty.seen g.K.L.Faulty.seen c.args.room.pool c.args.room.desk c.args.run_flushes slice.result.now ran.new.posts ran.ensures.len ran.ensures.each in
-    let wires = ap (λ l. length (flat_map wires_in l)) same ∙ ran_wires g.K.D.Faulty.seen g.K.L.Faulty.seen c.args.room.pool c.args.room.desk c.args.run_flushes slice.result.now ran.new.posts all ∙ ap (λ l. length (flat_map wires_in l)) slice.ensures.value in
+    let all = all_ran g.K.D.Faulty.seen g.K.L.Faulty.seen (g.K.T.Clock.may_say c.args.clock.now) c.args.room.pool c.args.room.desk c.args.run_flushes slice.result.now ran.new.posts ran.ensures.len ran.ensures.each in
+    let wires = ap (λ l. length (flat_map wires_in l)) same ∙ ran_wires g.K.D.Faulty.seen g.K.L.Faulty.seen (g.K.T.Clock.may_say c.args.clock.now) c.args.room.pool c.args.room.desk c.args.run_flushes slice.result.now ran.new.posts all ∙ ap (λ l. length (flat_map wires_in l)) slice.ensures.value in
     let both = ap length c.gather.ensures.wires ∙ length-append (flat_map wires_in xs) c.gather.new.wires.items in
     omega (arith, wires, both, c.gather.ensures.wires_room, c.args.wires.now.ok.0, c.args.wires.now.ok.1)
 
@@ -186,7 +187,7 @@ close-books-requires-clause-places g c =
     let sizing = sizing_in c.args.room in
     let count = ap length (with_items_is c.gather.new.posts ran.new.posts (ran.ensures.len ∙ c.as_mut_slice.ensures.len)) ∙ ran.ensures.len ∙ ap length c.as_mut_slice.ensures.value in
     let seats = counted_by who_is c.args.room.seats.receivers.items (submitters sizing) c.requires.room.callers in
-    let now = lines_after c.args.room.pool c.args.room.desk c.args.run_flushes sizing.streams c.args.room.lines line.result ran.new.line_post ran.result.0.liner (g.K.S.Faulty.seen c.args.streams.now) (g.K.S.Faulty.seen ran.new.streams) c.requires.room.lines line.ensures.room ran.ensures.lines in
+    let now = lines_after (g.K.T.Clock.may_say c.args.clock.now) c.args.room.pool c.args.room.desk c.args.run_flushes sizing.streams c.args.room.lines line.result ran.new.line_post ran.result.0.liner (g.K.S.Faulty.seen c.args.streams.now) (g.K.S.Faulty.seen ran.new.streams) c.requires.room.lines line.ensures.room ran.ensures.lines in
     omega (arith, count, c.gather.ensures.len, c.requires.room.places, seats, now.0, c.gather.ensures.seats_room, line.ensures.seats_room, c.args.room.seats.receivers.ok.0, c.args.room.seats.receivers.ok.1)
 
 pub close-books-requires-clause-own_places : goal.close-books-requires-clause-own_places
@@ -196,7 +197,7 @@ close-books-requires-clause-own_places g c =
     let sizing = sizing_in c.args.room in
     let count = ap length (with_items_is c.gather.new.posts ran.new.posts (ran.ensures.len ∙ c.as_mut_slice.ensures.len)) ∙ ran.ensures.len ∙ ap length c.as_mut_slice.ensures.value in
     let owns = counted_by number_of_seat c.args.room.owns.items (submitters sizing + 2) c.requires.room.numbers in
-    let now = lines_after c.args.room.pool c.args.room.desk c.args.run_flushes sizing.streams c.args.room.lines line.result ran.new.line_post ran.result.0.liner (g.K.S.Faulty.seen c.args.streams.now) (g.K.S.Faulty.seen ran.new.streams) c.requires.room.lines line.ensures.room ran.ensures.lines in
+    let now = lines_after (g.K.T.Clock.may_say c.args.clock.now) c.args.room.pool c.args.room.desk c.args.run_flushes sizing.streams c.args.room.lines line.result ran.new.line_post ran.result.0.liner (g.K.S.Faulty.seen c.args.streams.now) (g.K.S.Faulty.seen ran.new.streams) c.requires.room.lines line.ensures.room ran.ensures.lines in
     omega (arith, count, c.gather.ensures.len, c.requires.room.places, owns, now.1, c.gather.ensures.owns_room, line.ensures.owns_room, c.take_first-own.ensures.capacity, c.take_first-admin_own.ensures.capacity, c.args.room.owns.ok.0, c.args.room.owns.ok.1)
 
 pub close-books-requires-clause-count : goal.close-books-requires-clause-count
@@ -204,7 +205,7 @@ close-books-requires-clause-count g c =
     let ran = c.run_all-counts in
     let line = c.take_line_post-line_post in
     let count = ap length (with_items_is c.gather.new.posts ran.new.posts (ran.ensures.len ∙ c.as_mut_slice.ensures.len)) ∙ ran.ensures.len ∙ ap length c.as_mut_slice.ensures.value in
-    let now = lines_after c.args.room.pool c.args.room.desk c.args.run_flushes (sizing_in c.args.room).streams c.args.room.lines line.result ran.new.line_post ran.result.0.liner (g.K.S.Faulty.seen c.args.streams.now) (g.K.S.Faulty.seen ran.new.streams) c.requires.room.lines line.ensures.room ran.ensures.lines in
+    let now = lines_after (g.K.T.Clock.may_say c.args.clock.now) c.args.room.pool c.args.room.desk c.args.run_flushes (sizing_in c.args.room).streams c.args.room.lines line.result ran.new.line_post ran.result.0.liner (g.K.S.Faulty.seen c.args.streams.now) (g.K.S.Faulty.seen ran.new.streams) c.requires.room.lines line.ensures.room ran.ensures.lines in
     omega (arith, count, c.gather.ensures.len, c.requires.room.places, c.requires.room.receivers, now.0)
 
 pub close-books-requires-clause-own_count : goal.close-books-requires-clause-own_count
@@ -212,7 +213,7 @@ close-books-requires-clause-own_count g c =
     let ran = c.run_all-counts in
     let line = c.take_line_post-line_post in
     let count = ap length (with_items_is c.gather.new.posts ran.new.posts (ran.ensures.len ∙ c.as_mut_slice.ensures.len)) ∙ ran.ensures.len ∙ ap length c.as_mut_slice.ensures.value in
-    let now = lines_after c.args.room.pool c.args.room.desk c.args.run_flushes (sizing_in c.args.room).streams c.args.room.lines line.result ran.new.line_post ran.result.0.liner (g.K.S.Faulty.seen c.args.streams.now) (g.K.S.Faulty.seen ran.new.streams) c.requires.room.lines line.ensures.room ran.ensures.lines in
+    let now = lines_after (g.K.T.Clock.may_say c.args.clock.now) c.args.room.pool c.args.room.desk c.args.run_flushes (sizing_in c.args.room).streams c.args.room.lines line.result ran.new.line_post ran.result.0.liner (g.K.S.Faulty.seen c.args.streams.now) (g.K.S.Faulty.seen ran.new.streams) c.requires.room.lines line.ensures.room ran.ensures.lines in
     omega (arith, count, c.gather.ensures.len, c.requires.room.places, c.requires.room.desk_seats, now.1)
 
 pub close-books-requires-clause-receivers : goal.close-books-requires-clause-receivers
@@ -220,20 +221,20 @@ close-books-requires-clause-receivers g c =
     let ran = c.run_all-counts in
     let slice = c.as_mut_slice in
     let same = with_items_is c.gather.new.posts ran.new.posts (ran.ensures.len ∙ slice.ensures.len) in
-    let all = all_ran g.K.D.Faulty.seen g.K.L.Faulty.seen c.args.room.pool c.args.room.desk c.args.run_flushes slice.result.now ran.new.posts ran.ensures.len ran.ensures.each in
-    let line = line_seats_are c.args.room.pool c.args.room.desk c.args.run_flushes c.take_line_post-line_post.result ran.new.line_post ran.result.0.liner (g.K.S.Faulty.seen c.args.streams.now) (g.K.S.Faulty.seen ran.new.streams) ran.ensures.lines in
+    let all = all_ran g.K.D.Faulty.seen g.K.L.Faulty.seen (g.K.T.Clock.may_say c.args.clock.now) c.args.room.pool c.args.room.desk c.args.run_flushes slice.result.now ran.new.posts ran.ensures.len ran.ensures.each in
+    let line = line_seats_are (g.K.T.Clock.may_say c.args.clock.now) c.args.room.pool c.args.room.desk c.args.run_flushes c.take_line_post-line_post.result ran.new.line_post ran.result.0.liner (g.K.S.Faulty.seen c.args.streams.now) (g.K.S.Faulty.seen ran.new.streams) ran.ensures.lines in
     subst (λ l. AllByRecursion (IsSeatOf c.args.room.pool) (map seat_in l ++ line_seats ran.new.line_post)) (sym same)
-    (AllByRecursion-append (IsSeatOf c.args.room.pool) (map seat_in ran.new.posts) (line_seats ran.new.line_post) (ran_seats g.K.D.Faulty.seen g.K.L.Faulty.seen c.args.room.pool c.args.room.desk c.args.run_flushes slice.result.now ran.new.posts all) line)
+    (AllByRecursion-append (IsSeatOf c.args.room.pool) (map seat_in ran.new.posts) (line_seats ran.new.line_post) (ran_seats g.K.D.Faulty.seen g.K.L.Faulty.seen (g.K.T.Clock.may_say c.args.clock.now) c.args.room.pool c.args.room.desk c.args.run_flushes slice.result.now ran.new.posts all) line)
 
 pub close-books-requires-clause-owns : goal.close-books-requires-clause-owns
 close-books-requires-clause-owns g c =
     let ran = c.run_all-counts in
     let slice = c.as_mut_slice in
     let same = with_items_is c.gather.new.posts ran.new.posts (ran.ensures.len ∙ slice.ensures.len) in
-    let all = all_ran g.K.D.Faulty.seen g.K.L.Faulty.seen c.args.room.pool c.args.room.desk c.args.run_flushes slice.result.now ran.new.posts ran.ensures.len ran.ensures.each in
-    let line = line_owns_are c.args.room.pool c.args.room.desk c.args.run_flushes c.take_line_post-line_post.result ran.new.line_post ran.result.0.liner (g.K.S.Faulty.seen c.args.streams.now) (g.K.S.Faulty.seen ran.new.streams) ran.ensures.lines in
+    let all = all_ran g.K.D.Faulty.seen g.K.L.Faulty.seen (g.K.T.Clock.may_say c.args.clock.now) c.args.room.pool c.args.room.desk c.args.run_flushes slice.result.now ran.new.posts ran.ensures.len ran.ensures.each in
+    let line = line_owns_are (g.K.T.Clock.may_say c.args.clock.now) c.args.room.pool c.args.room.desk c.args.run_flushes c.take_line_post-line_post.result ran.new.line_post ran.result.0.liner (g.K.S.Faulty.seen c.args.streams.now) (g.K.S.Faulty.seen ran.new.streams) ran.ensures.lines in
     subst (λ l. All (IsDeskSeatOf c.args.room.desk) (map own_in l ++ line_owns ran.new.line_post)) (sym same)
-    (All-append (IsDeskSeatOf c.args.room.desk) (map own_in ran.new.posts) (line_owns ran.new.line_post) (ran_owns g.K.D.Faulty.seen g.K.L.Faulty.seen c.args.room.pool c.args.room.desk c.args.run_flushes slice.result.now ran.new.posts all) line)
+    (All-append (IsDeskSeatOf c.args.room.desk) (map own_in ran.new.posts) (line_owns ran.new.line_post) (ran_owns g.K.D.Faulty.seen g.K.L.Faulty.seen (g.K.T.Clock.may_say c.args.clock.now) c.args.room.pool c.args.room.desk c.args.run_flushes slice.result.now ran.new.posts all) line)
 
 pub returns-clause-served : goal.returns-clause-served
 returns-clause-served g c =
@@ -247,7 +248,7 @@ returns-clause-served g c =
     let ys = ran.new.posts in
     let value = slice.ensures.value in
     let same = with_items_is c.gather.new.posts ys (ran.ensures.len ∙ slice.ensures.len) in
-    let all = all_ran g.K.D.Faulty.seen g.K.L.Faulty.seen room.pool room.desk c.args.run_flushes xs ys ran.ensures.len ran.ensures.each in
+    let all = all_ran g.K.D.Faulty.seen g.K.L.Faulty.seen (g.K.T.Clock.may_say c.args.clock.now) room.pool room.desk c.args.run_flushes xs ys ran.ensures.len ran.ensures.each in
     let seats = AllByRecursion-front (IsNewSeatOf room.pool) room.seats.receivers.items (room.seats.flusher ∷ room.seats.admin ∷ []) is.seats in
     let others = AllByRecursion-back (IsNewSeatOf room.pool) room.seats.receivers.items (room.seats.flusher ∷ room.seats.admin ∷ []) is.seats in
     let owns = subst (AllByRecursion (IsNewDeskSeatOf room.desk)) gathered.owns (by_recursion (IsNewDeskSeatOf room.desk) room.owns.items is.owns) in
@@ -260,7 +261,7 @@ returns-clause-served g c =
     let k = line_keepers (sizing_in room).streams in
     let there = line_there (sizing_in room).streams room.lines is.lines in
     let long = lines_long line.result room.lines line.ensures.room in
-    let now_long = lines_after room.pool room.desk c.args.run_flushes (sizing_in room).streams room.lines line.result ran.new.line_post ran.result.0.liner streams_before streams_behind is.lines line.ensures.room ran.ensures.lines in
+    let now_long = lines_after (g.K.T.Clock.may_say c.args.clock.now) room.pool room.desk c.args.run_flushes (sizing_in room).streams room.lines line.result ran.new.line_post ran.result.0.liner streams_before streams_behind is.lines line.ensures.room ran.ensures.lines in
     let new_xs = new_posts room.pool room.desk c.gather.new.posts.items c.gather.new.seats.items c.gather.new.owns.items (subst (AllByRecursion (IsNewSeatOf room.pool)) gathered.seats seats) owns in
     let count : length ys ≡ n = ran.ensures.len ∙ ap length value ∙ gathered.len ∙ is.places in
     let first = length-map c.gather.new.posts.items seat_in ∙ gathered.len ∙ is.places in
@@ -273,12 +274,12 @@ returns-clause-served g c =
     (let both = length-append (map seat_in ys) (line_seats ran.new.line_post) in let posts_long = length-map ys seat_in in omega (arith, both, posts_long, count, now_long.0)) in
     let callers : map who_is (map seat_in ys ++ line_seats ran.new.line_post) ≡ span 0 (length (map seat_in ys ++ line_seats ran.new.line_post)) =
     map-append who_is (map seat_in ys) (line_seats ran.new.line_post)
-    ∙ ap (λ (l : List ℕ). l ++ map who_is (line_seats ran.new.line_post)) (ran_callers g.K.D.Faulty.seen g.K.L.Faulty.seen room.pool room.desk c.args.run_flushes xs ys all ∙ ap (λ l. map who_is (map seat_in l)) value)
-    ∙ ap (λ (l : List ℕ). map who_is (map seat_in c.gather.new.posts.items) ++ l) (line_callers room.pool room.desk c.args.run_flushes line.result ran.new.line_post ran.result.0.liner streams_before streams_behind ran.ensures.lines)
+    ∙ ap (λ (l : List ℕ). l ++ map who_is (line_seats ran.new.line_post)) (ran_callers g.K.D.Faulty.seen g.K.L.Faulty.seen (g.K.T.Clock.may_say c.args.clock.now) room.pool room.desk c.args.run_flushes xs ys all ∙ ap (λ l. map who_is (map seat_in l)) value)
+    ∙ ap (λ (l : List ℕ). map who_is (map seat_in c.gather.new.posts.items) ++ l) (line_callers (g.K.T.Clock.may_say c.args.clock.now) room.pool room.desk c.args.run_flushes line.result ran.new.line_post ran.result.0.liner streams_before streams_behind ran.ensures.lines)
     ∙ sym (map-append who_is (map seat_in c.gather.new.posts.items) (line_seats line.result)) ∙ sym (ap (map who_is) all_seats) ∙ is.callers ∙ ap (span 0) (sym front_long) in
     let outlets : has_rooms room.outs ≡ with_outlets (sizing_in room) = rooms_there (with_outlets (sizing_in room)) (sizing_in room).outlets (sizing_in room).outlet_bytes room.outs is.outs in
     let flags : uses ran.new.backs ≡ uses c.args.backs.now = (λ i. uses_by (ran.ensures.graphite_flag i) (ran.ensures.console_flag i)) in
-    let told : Told g.K.D.Faulty.seen g.K.L.Faulty.seen room.pool room.desk c.args.plan.now c.args.names.now (uses c.args.backs.now) c.args.settings.now n c.from.result (sizing_in room).streams (with_outlets (sizing_in room)) c.args.run_flushes (g.K.T.Clock.may_say c.args.clock.now) = record {
+    let told : Told g.K.D.Faulty.seen g.K.L.Faulty.seen room.pool room.desk c.args.plan.now c.args.names.now (uses c.args.backs.now) c.args.settings.now n c.from.result (sizing_in room).streams (outlets_of (sizing_in room)) c.args.run_flushes (g.K.T.Clock.may_say c.args.clock.now) = record {
       xs = xs;
       ys = ys;
       more = c.gather.new.packets.items;
@@ -307,7 +308,7 @@ returns-clause-served g c =
       no_flush = others.0.own;
       part = part_of c.take_first-own.result;
       part_mid = part_of ran.new.own;
-      no_share = left.1.share;
+      no_call = left.1.own;
       back = back_of g.K.B.Faulty.seen c.args.backs.now;
       back_mid = back_of g.K.B.Faulty.seen ran.new.backs;
       back_now = back_of g.K.B.Faulty.seen c.round.new.backs;
@@ -315,18 +316,20 @@ returns-clause-served g c =
       beat_now = g.K.P.Faulty.seen ran.new.beat;
       end = ran.result.0.flusher;
       counts = ran.result.1;
-      flushes = subst (λ (b : Bool). FlushesThrough (form_of room.pool c.args.plan.now c.args.names.now) (uses c.args.backs.now) b c.args.run_flushes (own_at room.seats.flusher) (own_at ran.new.seat) (part_of c.take_first-own.result) (part_of ran.new.own)
-          (back_of g.K.B.Faulty.seen c.args.backs.now) (back_of g.K.B.Faulty.seen ran.new.backs) (g.K.P.Faulty.seen c.args.beat.now) (g.K.P.Faulty.seen ran.new.beat) ran.result.0.flusher ran.result.1) outlets ran.ensures.flushes;
-      ts = c.now.result;
+      flushes = sized (form_of room.pool c.args.plan.now c.args.names.now) (uses c.args.backs.now) c.args.run_flushes (own_at room.seats.flusher) (own_at ran.new.seat) (part_of c.take_first-own.result) (part_of ran.new.own)
+          (back_of g.K.B.Faulty.seen c.args.backs.now) (back_of g.K.B.Faulty.seen ran.new.backs) (g.K.P.Faulty.seen c.args.beat.now) (g.K.P.Faulty.seen ran.new.beat) ran.result.0.flusher ran.result.1
+          (sizing_in room).outlets (sizing_in room).outlet_bytes (with_outlets (sizing_in room)) room.outs is.outs ran.ensures.flushes;
+      ts = c.last_round_at.result;
       marks = marks_of c.round.result;
       waiting = waiting_in c.round.new.tables;
-      last = subst (λ used. MakesRoundAt (form_of room.pool c.args.plan.now c.args.names.now) used c.now.result (marks_of c.round.result) (own_at ran.new.seat) (own_at c.round.new.seat) (part_of ran.new.own) (part_of c.round.new.own)
+      last = subst (λ used. MakesRoundAt (form_of room.pool c.args.plan.now c.args.names.now) used c.last_round_at.result (marks_of c.round.result) (own_at ran.new.seat) (own_at c.round.new.seat) (part_of ran.new.own) (part_of c.round.new.own)
           (back_of g.K.B.Faulty.seen ran.new.backs) (back_of g.K.B.Faulty.seen c.round.new.backs) (waiting_in c.round.new.tables)) flags c.round.ensures.round;
-      told_by_clock = c.now.ensures;
+      told_so = said_so (g.K.T.Clock.may_say c.args.clock.now) c.now.result c.last_round_at.result ran.result.0.flusher.last c.now.ensures c.last_round_at.ensures.at;
+      in_order = c.last_round_at.ensures.in_order;
       commanded = own_at room.seats.admin;
       no_command = others.1.0.own;
       admin_part = part_of c.take_first-admin_own.result;
-      no_admin_share = left.2.share;
+      no_admin_call = left.2.own;
       door = g.K.E.Faulty.seen c.args.door.now;
       door_now = g.K.E.Faulty.seen ran.new.door;
       serves = ran.ensures.serves;
@@ -334,6 +337,12 @@ returns-clause-served g c =
       keeps = ran.ensures.keeper;
       books = c.close-books.result.0.items;
       after = c.close-books.result.1;
+      numbers_are = numbers_kept room.owns.items (map own_in c.gather.new.posts.items) c.gather.new.owns.items (line_owns line.result) line.new.owns.items c.take_first-own.new.items.items c.take_first-admin_own.new.items.items (map own_in ys) (line_owns ran.new.line_post)
+          c.take_first-own.result c.take_first-admin_own.result c.round.new.own ran.new.admin_own (submitters (sizing_in room) + 2) is.numbers gathered.owns line.ensures.owns c.take_first-own.ensures.items c.take_first-admin_own.ensures.items
+          (let posts_long = length-map c.gather.new.posts.items own_in ∙ gathered.len ∙ is.places in let line_long = long.1 ∙ there in omega (arith, posts_long, line_long))
+          (ran_numbers g.K.D.Faulty.seen g.K.L.Faulty.seen (g.K.T.Clock.may_say c.args.clock.now) room.pool room.desk c.args.run_flushes xs ys all ∙ ap (λ l. map number_of_seat (map own_in l)) value)
+          (line_numbers (g.K.T.Clock.may_say c.args.clock.now) room.pool room.desk c.args.run_flushes line.result ran.new.line_post ran.result.0.liner streams_before streams_behind ran.ensures.lines)
+          (c.round.ensures.own.1 ∙ ran.ensures.own.1) ran.ensures.admin_own.1;
       closed = subst (λ l. IsClosed room.pool room.desk ((map seat_in l ++ line_seats ran.new.line_post) ++ c.round.new.seat ∷ ran.new.admin_seat ∷ []) ((map own_in l ++ line_owns ran.new.line_post) ++ c.round.new.own ∷ ran.new.admin_own ∷ []) c.close-books.result.0.items c.close-books.result.1) same c.close-books.ensures.closed;
       start = c.requires.start;
     } in
@@ -343,4 +352,4 @@ returns-clause-served g c =
     (sym (gathered.wires ∙ ap (λ l. flat_map wires_in l ++ c.gather.new.wires.items) (sym value)))
     (sym (c.close-books.ensures.packets ∙ ap (λ l. map source_in l ++ c.gather.new.packets.items) same))
     (sym (c.close-books.ensures.wires ∙ ap (λ l. flat_map wires_in l ++ c.gather.new.wires.items) same))
-    (ap (map end_of) (c.ends_in-received.ensures ∙ ap (map ended_in) (c.deref.ensures.value ∙ same)) ∙ receptions_ended g.K.D.Faulty.seen g.K.L.Faulty.seen room.pool room.desk c.args.run_flushes xs ys all) refl refl refl (ran.ensures.counts ∙ outlets) refl refl refl
+    (ap (map end_of) (c.ends_in-received.ensures ∙ ap (map ended_in) (c.deref.ensures.value ∙ same)) ∙ receptions_ended g.K.D.Faulty.seen g.K.L.Faulty.seen (g.K.T.Clock.may_say c.args.clock.now) room.pool room.desk c.args.run_flushes xs ys all) refl refl refl (ran.ensures.counts ∙ outlets) refl refl refl

@@ -16,5 +16,5 @@ invariant-loop g l = record {
   space : IsSpaceFor (limits_of l.pool) (shards_of l.pool) l.space;
   within : l.len ≤ too_many;
   counted : HasCounted nothing (part_of l.initial.own) (part_of l.own);
-  listens : Listens (shards_of l.pool) l.settings (g.C.Clock.may_say l.clock) (own_at l.initial.seat) (own_at l.seat) [] (take l.len l.space.line.items) (g.A.Faulty.seen l.initial.source) (g.A.Faulty.seen l.source) (g.O.Faulty.seen l.initial.sink) (g.O.Faulty.seen l.sink);
+  listens : Listens (shards_of l.pool) l.settings (g.C.Clock.may_say l.clock) (own_at l.initial.seat) (own_at l.seat) (part_of l.initial.own) (part_of l.own) [] (take l.len l.space.line.items) (g.A.Faulty.seen l.initial.source) (g.A.Faulty.seen l.source) (g.O.Faulty.seen l.initial.sink) (g.O.Faulty.seen l.sink);
 }

@@ -16,7 +16,7 @@ loop-i-init g c =
     record {
       seat = c.requires.seat;
       found = [];
-      asked = Asked-none (shards_of c.args.pool.now) (shard.Dump kind) (λ s. shard.Dumped (dump_of kind s.live s.held)) (own_at c.args.seat.now);
+      asked = Asked-none (shards_of c.args.pool.now) (shard.Dump kind) (λ s. shard.Dumped (dump_of kind s.live)) (own_at c.args.seat.now);
       rows = rw c.clear.ensures.items Appends-none;
       few = rw c.clear.ensures.items (omega arith);
       room = c.clear.ensures.room;
@@ -30,7 +30,7 @@ loop-i-preserved g c =
     let pool = c.args.pool.now in
     let i = c.loop-i.i in
     let event = shard.Dump kind in
-    let reply : State → shard.Reply = λ s. shard.Dumped (dump_of kind s.live s.held) in
+    let reply : State → shard.Reply = λ s. shard.Dumped (dump_of kind s.live) in
     let found = found_by pool c.loop-i.seat c.dump.new.seat i (act_by c.loop-i.seat event d.0) inv.seat.0.sits.pool_is (search rules) d.1 in
     record {
       seat = (c.dump.ensures.seat, d.1.who ∙ inv.seat.1);
@@ -38,7 +38,7 @@ loop-i-preserved g c =
       asked =
           Asked-next (shards_of pool) event reply i inv.found (own_at c.args.seat.now) (own_at c.loop-i.seat) (own_at c.dump.new.seat) found.state inv.asked found.home
           (d.1.own ∙ (λ j. own_at c.loop-i.seat i ++ record { who = inv.seat.1 j; event = event; reply = found.replied j } ∷ [])) (λ j other. (d.1.others j other).1);
-      rows = Appends-more (λ s. dump_of kind s.live s.held) inv.found found.state [] (rows_of c.loop-i.dump) (rows_of c.dump.new.out) inv.rows (subst (λ r. IsDump r (rows_of c.loop-i.dump) (rows_of c.dump.new.out)) found.replied d.2);
+      rows = Appends-more (λ s. dump_of kind s.live) inv.found found.state [] (rows_of c.loop-i.dump) (rows_of c.dump.new.out) inv.rows (subst (λ r. IsDump r (rows_of c.loop-i.dump) (rows_of c.dump.new.out)) found.replied d.2);
       few = omega (arith, inv.few, c.dump.ensures.few);
       room = c.dump.ensures.room ∙ inv.room;
     }
@@ -47,7 +47,7 @@ pub returns-clause-dumps : goal.returns-clause-dumps
 returns-clause-dumps g c =
     let inv = c.loop-i.invariant in
     let kind = kind_of c.args.kind in
-    let reply : State → shard.Reply = λ s. shard.Dumped (dump_of kind s.live s.held) in
+    let reply : State → shard.Reply = λ s. shard.Dumped (dump_of kind s.live) in
     let shards = shards_of c.args.pool.now in
     let end : c.loop-i.i ≡ shards = search rules in
     let asked = subst (λ n. Asked shards (shard.Dump kind) reply n inv.found (own_at c.args.seat.now) (own_at c.loop-i.seat)) end inv.asked in

@@ -14,8 +14,8 @@ abbrev pub invariant-loop-i : goal.invariant-loop-i
 invariant-loop-i g l = record {
   seat : IsSeatOf l.pool l.seat × (who_is l.seat ≡ administrator);
   found : List State;
-  asked : Asked (shards_of l.pool) (Dump (kind_of l.kind)) (λ s. Dumped (dump_of (kind_of l.kind) s.live s.held)) l.i found (own_at l.initial.seat) (own_at l.seat);
-  rows : Appends (flat_map (λ s. dump_of (kind_of l.kind) s.live s.held) found) [] (rows_of l.dump);
+  asked : Asked (shards_of l.pool) (Dump (kind_of l.kind)) (λ s. Dumped (dump_of (kind_of l.kind) s.live)) l.i found (own_at l.initial.seat) (own_at l.seat);
+  rows : Appends (flat_map (λ s. dump_of (kind_of l.kind) s.live) found) [] (rows_of l.dump);
   few : length l.dump.items ≤ l.i * (limits_of l.pool).rows;
   room : l.dump.room ≡ l.fn.dump.room;
 }

@@ -9,7 +9,7 @@ abbrev pub invariant-loop-i : goal.invariant-loop-i
 invariant-loop-i l =
     let told = filter (λ row. is_of_kind (kind_of l.kind) row.0) (take l.i l.table.listed) in
     record {
-      rows : rows_of l.out ≡ rows_of l.fn.out ++ map (dump_row l.table.held) told;
+      rows : rows_of l.out ≡ rows_of l.fn.out ++ map dump_row told;
       few : length told ≤ l.i;
       all : l.i-end ≡ length l.table.listed;
       room : l.out.room ≡ l.fn.out.room;

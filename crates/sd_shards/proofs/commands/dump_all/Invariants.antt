@@ -10,7 +10,7 @@ use Rattle.sd_shards.proofs.commands.dump_all.Given as goal
 -- the rows of the shards so far
 abbrev pub invariant-loop-shard : goal.invariant-loop-shard
 invariant-loop-shard l = record {
-  rows : Appends (flat_map (λ s. dump_of (kind_of l.kind) (state_of s).live (state_of s).held) (take l.shard-index l.shards)) (rows_of l.fn.dump) (rows_of l.dump);
+  rows : Appends (flat_map (λ s. dump_of (kind_of l.kind) (state_of s).live) (take l.shard-index l.shards)) (rows_of l.fn.dump) (rows_of l.dump);
   few : length l.dump.items ≤ length l.fn.dump.items + l.shard-index * (limits_in l.shards).rows;
   room : l.dump.room ≡ l.fn.dump.room;
 }

@@ -22,7 +22,7 @@ loop-table-preserved c =
           let within = (All-pop (IsWithin limits) c.loop-table.swapped.items rest (Some table) popped (inv.swapped limits swapped)).1 in
           subst (All (IsSpare limits)) (sym c.push_reserved.ensures.items)
           (All-push (IsSpare limits) spares c.into_spare.result (inv.spares limits given swapped)
-          (record { limits = c.into_spare.ensures.limits ∙ within.limits; no_entries = c.into_spare.ensures.no_entries }));
+          (record { limits = c.into_spare.ensures.limits ∙ within.limits; no_samples = c.into_spare.ensures.no_samples; no_entries = c.into_spare.ensures.no_entries }));
       swapped = λ limits swapped. (All-pop (IsWithin limits) c.loop-table.swapped.items rest (Some table) popped (inv.swapped limits swapped)).0;
       turned = ap (λ (ts : List Listing). map places ts ++ reverse (map places rest)) c.push_reserved.ensures.items
           ∙ ap (λ (ps : List (List (Option Row))). ps ++ reverse (map places rest)) (map-append places spares (c.into_spare.result ∷ []))

@@ -12,5 +12,5 @@ loop-i-preserved c =
       len = omega arith;
       room = omega arith;
       empty = subst (All fits) (sym c.push_reserved.ensures.items) (All-push fits c.loop-i.spares.items c.in_ok-open.field-0 c.loop-i.invariant.empty
-          (record { limits = c.in_ok-open.ensures.limits; no_entries = c.in_ok-open.ensures.entries }));
+          (record { limits = c.in_ok-open.ensures.limits; no_samples = c.in_ok-open.ensures.held; no_entries = c.in_ok-open.ensures.entries }));
     }

@@ -5,7 +5,7 @@ use Rattle.sd_spares.proofs.TableLemmas.{same_table}
 use Rattle.sd_spares.proofs.swap.swap_counted.Goals as goal
 
 pub returns-clause-table : goal.returns-clause-table
-returns-clause-table g c = same_table (table_of c.swap.result) (handed_out (state_of c.args.shard.now)) (c.swap.ensures.table 0)
+returns-clause-table g c = same_table (table_of c.swap.result) (handed_out (state_of c.args.shard.now)) c.swap.ensures.table
 
 pub returns-clause-state : goal.returns-clause-state
-returns-clause-state g c = c.swap.ensures.state 0
+returns-clause-state g c = c.swap.ensures.state

@@ -10,7 +10,7 @@ use Rattle.sd_model_call.specs.Opening.{Flags, World}
 use Rattle.sd_model_call.specs.Server.{back_in, begun, has_streams, objects_in, server_openings, serves_by}
 use Rattle.sd_flush.specs.Flushing.{back_of, uses_by}
 use Rattle.sd_outside.specs.declared.backend.Backs.{Backs}
-use Rattle.sd_serve.specs.Room.{sizing_in, start_in, with_outlets}
+use Rattle.sd_serve.specs.Room.{outlets_of, sizing_in, start_in}
 use Rattle.sd_serve.specs.Serving.{HasServed, end_of, objects_of, terms_of}
 use Rattle.sd_top.specs.World.{world_of}
 use Rattle.sd_top.proofs.server.run_server.Goals as goal
@@ -81,7 +81,7 @@ returns-clause-served g c =
       policy = (sizes i).policy;
       form = record { shards = (sizes i).shards; plan = c.plan.ensures i; names = c.of-names.ensures i };
       uses = λ b. used b i;
-      outlets = with_outlets (sizes i);
+      outlets = outlets_of (sizes i);
       settings = s;
       receivers = (sizes i).receivers;
       wires = (sizes i).wires;

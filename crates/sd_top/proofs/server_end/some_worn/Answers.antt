@@ -9,10 +9,10 @@ use Rattle.sd_top.proofs.server_end.some_worn.Goals as goal
 
 pub returns-then-any_worn : goal.returns-then-any_worn
 returns-then-any_worn c =
-    let es = end_of c.args.ends.now.flusher ∷ door_end_of c.args.ends.now.keeper ∷ map door_end_of (option_to_list c.args.ends.now.liner) in
+    let es = end_of c.args.ends.now.flusher.ended ∷ door_end_of c.args.ends.now.keeper ∷ map door_end_of (option_to_list c.args.ends.now.liner) in
     c.if-any_worn.true ∙ sym (worn_among c.args.received.now es ∙ ap (λ a. a || list_any is_worn es) (sym c.any_worn.ensures ∙ c.if-any_worn.true))
 
 pub returns-else-any_worn : goal.returns-else-any_worn
 returns-else-any_worn c =
-    let es = end_of c.args.ends.now.flusher ∷ door_end_of c.args.ends.now.keeper ∷ map door_end_of (option_to_list c.args.ends.now.liner) in
+    let es = end_of c.args.ends.now.flusher.ended ∷ door_end_of c.args.ends.now.keeper ∷ map door_end_of (option_to_list c.args.ends.now.liner) in
     c.other_worn.ensures ∙ sym (worn_among c.args.received.now es ∙ ap (λ a. a || list_any is_worn es) (sym c.any_worn.ensures ∙ c.if-any_worn.false))

@@ -1,5 +1,5 @@
 use Rattle.std.proofs.Common.{rules, ◌≡◌, ◌+◌, ◌%◌, ◌^◌, [], ◌∷◌, ◌++◌, sym, ap, ◌∙◌}
-use Rattle.sd_seats.proofs.Totals.{map-push}
+use Rattle.sd_turn.proofs.Totals.{map-push}
 use Rattle.sd_cases_threads.specs.declared.register.Event.{Event}
 use Rattle.sd_cases_threads.specs.Puts.{event}
 use Rattle.sd_cases_threads.proofs.PutLists.{sum_after-snoc, IsLegal-snoc}

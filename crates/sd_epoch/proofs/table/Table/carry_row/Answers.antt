@@ -1,12 +1,20 @@
-use Rattle.std.proofs.Common.{List, length, sym, ap, subst, ◌∙◌, arith, All}
+use Rattle.std.proofs.Common.{◌≡◌, ◌≢◌, ℕ, ◌<◌, true, List, set, Option, Some, None, length, sym, ap, subst, ◌∙◌, arith}
 use Rattle.std.proofs.lemmas.List.{length-set}
-use Rattle.std.proofs.lemmas.List.Elements.{All-nil}
+use Rattle.sd_model_shard.specs.Rows.{Summary}
 use Rattle.sd_rows.specs.Rows.{row_at, reset}
-use Rattle.sd_rows.proofs.IndexLemmas.{taken_count-le}
-use Rattle.sd_epoch.specs.Entries.{AreTallies, AllLive, held_in, places_of, IsTimed}
+use Rattle.sd_rows.specs.declared.row.Row.{Row}
+use Rattle.sd_rows.proofs.IndexLemmas.{present_within, some_of, taken_count-le}
+use Rattle.sd_epoch.specs.Members.{member_places}
+use Rattle.sd_epoch.specs.Places.{AllLive}
+use Rattle.sd_epoch.specs.Since.{since_at}
 use Rattle.sd_epoch.specs.Table.{Listing}
-use Rattle.sd_epoch.specs.Held.{Filed}
-use Rattle.sd_epoch.proofs.TurnLemmas.{no_entries, map_of_places, order_count}
+use Rattle.sd_epoch.specs.Values.{value_places}
+use Rattle.sd_epoch.specs.declared.members.SetMember.{SetMember}
+use Rattle.sd_epoch.specs.declared.values.TimerValue.{TimerValue}
+use Rattle.sd_epoch.proofs.FreshLemmas.{no_values, no_members, fresh_since, fresh_samples, carried_fresh}
+use Rattle.sd_epoch.proofs.PlaceLemmas.{written, unwritten}
+use Rattle.sd_epoch.proofs.SumLemmas.{none_told}
+use Rattle.sd_epoch.proofs.TurnLemmas.{has_places, order_count}
 use Rattle.sd_epoch.proofs.table.Table.carry_row.Goals as goal
 
 pub invariant_of-self : goal.invariant_of-self
@@ -16,31 +24,47 @@ invariant_of-self g c =
     let rows = c.carry_in.new.rows in
     let order = c.carry_in.new.order in
     let tallies = c.carry_in.new.tallies.items in
-    let none = no_entries t.rows t.entries.items (ap (λ (s : Listing). s.held) c.self.view_is ∙ c.requires.no_entries) in
+    let since : ℕ → Summary = since_at tallies t.values.items.items t.members.items.items in
+    let none = ap (λ (s : Listing). s.held) c.self.view_is ∙ c.requires.no_samples in
+    let live : row_at c.from.inside.rows c.args.at ≢ None = subst (λ (s : Listing). row_at s.places c.args.at ≢ None) (sym c.from.view_is) c.requires.live in
+    let there = some_of (row_at c.from.inside.rows c.args.at) live in
+    let row : Row = record there.0 { base = c.args.base; swaps = c.args.swaps } in
+    let within : c.args.at < length t.rows =
+    omega (arith, present_within c.from.inside.rows c.args.at live, c.from.invariant.places, w.places, ap (λ (s : Listing). s.limits.rows) c.self.view_is, ap (λ (s : Listing). s.limits.rows) c.from.view_is, ap (λ l. l.rows) c.requires.limits) in
+    let are : rows ≡ set t.rows c.args.at (Some row) = c.carry_in.ensures.places ∙ ap (λ (o : Option Row). set t.rows c.args.at (reset o c.args.base c.args.swaps)) there.1 in
+    let fresh = carried_fresh t w none rows c.args.at row tallies
+    (ap (λ (xs : List (Option Row)). row_at xs c.args.at) are ∙ written t.rows c.args.at row within)
+    (λ p ne. ap (λ (xs : List (Option Row)). row_at xs p) are ∙ unwritten t.rows c.args.at row within p ne)
+    c.carry_in.ensures.tally c.carry_in.ensures.other_tallies in
     let places = ap length c.carry_in.ensures.places ∙ length-set t.rows c.args.at (reset (row_at c.from.inside.rows c.args.at) c.args.base c.args.swaps) ∙ w.places in record {
       limits = w.limits;
       rows = c.carry_in.ensures.rows;
       ranked = c.carry_in.ensures.ranked;
       ranks = c.carry_in.ensures.ranks ∙ w.ranks;
-      tallies = subst (λ (es : List Filed). AreTallies rows tallies (held_in rows es)) (sym none)
-          (c.carry_in.ensures.tallies (subst (λ (es : List Filed). AreTallies t.rows t.tallies.items (held_in t.rows es)) none w.tallies));
-      owned = subst (λ (es : List Filed). AllLive rows (places_of es)) (sym none) tt;
-      timed = subst (λ (es : List Filed). All IsTimed (held_in rows es)) (sym none) (All-nil IsTimed);
-      chain = w.chain;
+      since = fresh_since rows since fresh;
+      held = none ∙ sym (none_told (λ id. true) rows since order.places.items c.carry_in.ensures.rows (fresh_samples rows since fresh));
+      few_held = w.few_held;
+      values = w.values;
+      owned_values = subst (λ (vs : List TimerValue). AllLive rows (value_places vs)) (sym (no_values t w none)) tt;
+      members = w.members;
+      owned_members = subst (λ (ms : List SetMember). AllLive rows (member_places ms)) (sym (no_members t w none)) tt;
       places = places;
       tally_places = c.carry_in.ensures.tally_places ∙ w.tally_places;
-      chain_places = w.chain_places;
+      value_places = w.value_places;
+      member_places = w.member_places;
       order = omega (arith, order_count rows order.places.items c.carry_in.ensures.rows, taken_count-le rows, places, order.places.ok.0);
       order_room = omega (arith, c.carry_in.ensures.capacity, w.order_room);
       entries = w.entries;
-      entry_room = w.entry_room;
-      link_room = w.link_room;
+      value_room = w.value_room;
+      member_room = w.member_room;
     }
 
 pub returns-clause-listing : goal.returns-clause-listing
-returns-clause-listing g c =
-    let t = c.self.inside in record {
-      len = ap length c.carry_in.ensures.places ∙ length-set t.rows c.args.at (reset (row_at c.from.inside.rows c.args.at) c.args.base c.args.swaps) ∙ c.self.invariant.places;
-      apart = c.carry_in.ensures.rows.apart;
-      rows = map_of_places c.carry_in.new.rows c.carry_in.new.order.places.items c.carry_in.ensures.rows;
-    }
+returns-clause-listing g c = has_places _ (invariant_of-self g c)
+
+pub returns-clause-entries : goal.returns-clause-entries
+returns-clause-entries g c =
+    let t = c.self.inside in
+    let w = c.self.invariant in
+    let none = ap (λ (s : Listing). s.held) c.self.view_is ∙ c.requires.no_samples in
+    omega (arith, ap length (no_values t w none), ap length (no_members t w none))

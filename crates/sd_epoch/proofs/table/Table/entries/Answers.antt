@@ -1,15 +1,16 @@
-use Rattle.std.proofs.Common.{◌≡◌, false, [], sym, subst, ◌∙◌}
-use Rattle.std.specs.FinMap.{contains_key}
-use Rattle.sd_model_shard.specs.Rows.{RowId, entries_of}
-use Rattle.sd_epoch.specs.Entries.{listed_in}
+use Rattle.std.proofs.Common.{◌≡◌, ap, subst, sym, arith}
+use Rattle.sd_model_shard.specs.Summaries.{listed_in as samples_listed}
 use Rattle.sd_epoch.specs.Table.{Listing, live_of}
-use Rattle.sd_epoch.proofs.ListingLemmas.{contains-listed}
-use Rattle.sd_epoch.proofs.TableLemmas.{none_listed}
+use Rattle.sd_epoch.proofs.OrderLemmas.{ranked_different}
+use Rattle.sd_epoch.proofs.SumLemmas.{entries_are}
 use Rattle.sd_epoch.proofs.table.Table.entries.Goals as goal
 
-pub returns-clause-owned : goal.returns-clause-owned
-returns-clause-owned c =
+pub returns-clause-listed : goal.returns-clause-listed
+returns-clause-listed c =
     let t = c.self.inside in
-    let order = t.order.places.items in
-    subst (λ (s : Listing). (id : RowId) → contains_key (live_of s) id ≡ false → entries_of id s.held ≡ []) c.self.view_is
-    (λ id absent. none_listed t.rows order id t.entries.items c.self.invariant.rows c.self.invariant.owned (sym (contains-listed id (listed_in t.rows order)) ∙ absent))
+    let w = c.self.invariant in
+    subst (λ (s : Listing). s.entries ≡ samples_listed (live_of s)) c.self.view_is
+    (sym (entries_are t.rows t.tallies.items t.values.items.items t.members.items.items t.order.places.items w.rows (ranked_different t.order.places.items t.order.rank.items w.ranked) w.since w.owned_values w.owned_members))
+
+pub returns-clause-within : goal.returns-clause-within
+returns-clause-within c = omega (arith, c.self.invariant.entries, ap (λ (s : Listing). s.limits.entries) c.self.view_is)

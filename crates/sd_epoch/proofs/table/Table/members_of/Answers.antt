@@ -1,22 +1,27 @@
-use Rattle.std.proofs.Common.{length, ap, ◌∙◌, arith}
-use Rattle.std.proofs.lemmas.List.{length-map}
-use Rattle.sd_model_shard.specs.Rows as model
-use Rattle.sd_epoch.specs.Entries.{entry_view, entries_at}
+use Rattle.std.proofs.Common.{◌≡◌, Option, ap, sym, subst, arith}
+use Rattle.std.specs.Prelude.{IfSome}
+use Rattle.std.specs.List.{slice_get}
+use Rattle.sd_model_shard.specs.Rows.{RowId, Kept}
+use Rattle.sd_rows.specs.Rows.{row_at}
+use Rattle.sd_rows.proofs.IndexLemmas.{some_of}
 use Rattle.sd_epoch.specs.Scratch.{texts}
 use Rattle.sd_epoch.specs.Table.{Listing}
-use Rattle.sd_epoch.proofs.OwnLemmas.{place_chained, told_here}
-use Rattle.sd_epoch.proofs.TableLemmas.{members_same}
+use Rattle.sd_epoch.proofs.TableLemmas.{place_live, place_within, at_place}
 use Rattle.sd_epoch.proofs.table.Table.members_of.Goals as goal
 
 pub put_members-requires-clause-room : goal.put_members-requires-clause-room
-put_members-requires-clause-room c = omega (arith, c.requires.room, ap (λ (s : Listing). length s.held) c.self.view_is, length-map c.self.inside.entries.items (entry_view c.self.inside.rows))
+put_members-requires-clause-room c = omega (arith, c.requires.room, ap (λ (s : Listing). s.entries) c.self.view_is)
 
 pub put_members-requires-clause-within : goal.put_members-requires-clause-within
-put_members-requires-clause-within c = place_chained c.self.inside c.self.invariant c.args.self.now c.self.view_is c.args.i c.index.result.now c.requires.place c.index.ensures
+put_members-requires-clause-within c =
+    let w = c.self.invariant in
+    omega (arith, place_within c.self.inside c.self.invariant c.args.self.now c.self.view_is c.args.i c.index.result.now c.requires.place c.index.ensures, w.places, w.member_places)
 
 pub returns-clause-members : goal.returns-clause-members
 returns-clause-members c =
     let t = c.self.inside in
     let place = c.index.result.now in
-    told_here t c.self.invariant c.args.self.now c.self.view_is c.args.i place c.requires.place c.index.ensures (λ (e : model.Entry). e.sample.member) (texts c.put_members.new.self.members)
-    (c.put_members.ensures.members ∙ members_same t.rows (entries_at place t.entries.items))
+    let there = some_of (row_at t.rows place) (place_live c.self.inside c.self.invariant c.args.self.now c.self.view_is c.args.i place c.requires.place c.index.ensures) in
+    let at = at_place c.self.inside c.self.invariant c.args.self.now c.self.view_is c.args.i place c.requires.place c.index.ensures there.0 there.1 in
+    subst (λ (s : Listing). IfSome (slice_get s.listed c.args.i) (λ row. texts c.put_members.new.self.members ≡ row.1.since.members)) c.self.view_is
+    (subst (λ (o : Option (RowId × Kept)). IfSome o (λ row. texts c.put_members.new.self.members ≡ row.1.since.members)) (sym at.listed) c.put_members.ensures.members)

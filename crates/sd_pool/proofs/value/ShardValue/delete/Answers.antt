@@ -13,22 +13,22 @@ use Rattle.sd_pool.proofs.value.ShardValue.delete.Goals as goal
 pub invariant_of-self : goal.invariant_of-self
 invariant_of-self c =
     let v = c.self.inside in
-    subst (λ (state : State). OnlyOf v.number v.shards state.live) (sym (c.delete.ensures.state c.args.who.0))
-    (OnlyOf-step (setup_of (behind_in v)) (state_of v.shard) c.args.who.0 (Delete (kind_of c.args.kind) c.args.pattern.now) tt c.self.invariant)
+    subst (λ (state : State). OnlyOf v.number v.shards state.live) (sym c.delete.ensures.state)
+    (OnlyOf-step (setup_of (behind_in v)) (state_of v.shard) (Delete (kind_of c.args.kind) c.args.pattern.now) tt c.self.invariant)
 
 pub returns-clause-step : goal.returns-clause-step
 returns-clause-step c =
     let v = c.self.inside in
     let new : Behind = record { shard = c.delete.new.self; number = v.number; shards = v.shards; receivers = v.receivers } in
-    subst (λ (b : Behind). Steps b new c.args.who.0 (Delete (kind_of c.args.kind) c.args.pattern.now) (gone_of c.args.out.now.items c.delete.new.out.items c.delete.result)) c.self.view_is
+    subst (λ (b : Behind). Steps b new (Delete (kind_of c.args.kind) c.args.pattern.now) (gone_of c.args.out.now.items c.delete.new.out.items c.delete.result)) c.self.view_is
     (record {
       setup = λ i. record { limits = c.delete.ensures.limits i; policy = c.delete.ensures.policy i; shard = v.number; shards = v.shards; receivers = v.receivers };
-      state = c.delete.ensures.state c.args.who.0;
-      reply = gone_told (behind_in v) (kind_of c.args.kind) c.args.pattern.now c.args.out.now c.delete.new.out c.delete.result (c.delete.ensures.answer 0);
+      state = c.delete.ensures.state;
+      reply = gone_told (behind_in v) (kind_of c.args.kind) c.args.pattern.now c.args.out.now c.delete.new.out c.delete.result c.delete.ensures.answer;
     })
 
 pub returns-clause-out : goal.returns-clause-out
 returns-clause-out c =
     let v = c.self.inside in
     subst (λ (b : Behind). KeysGoOn (setup_of b) c.args.out.now c.delete.new.out c.delete.result) c.self.view_is
-    (keys_go_on (behind_in v) (kind_of c.args.kind) c.args.pattern.now c.args.out.now c.delete.new.out c.delete.result (c.delete.ensures.answer 0) c.delete.ensures.few c.delete.ensures.room)
+    (keys_go_on (behind_in v) (kind_of c.args.kind) c.args.pattern.now c.args.out.now c.delete.new.out c.delete.result c.delete.ensures.answer c.delete.ensures.few c.delete.ensures.room)

@@ -11,15 +11,15 @@ use Rattle.sd_pool.proofs.value.ShardValue.dump.Goals as goal
 pub returns-clause-step : goal.returns-clause-step
 returns-clause-step c =
     let v = c.self.inside in
-    subst (λ (b : Behind). Steps b b c.args.who.0 (Dump (kind_of c.args.kind)) (shown_of (rows_of c.args.out.now) (rows_of c.dump.new.out))) c.self.view_is
+    subst (λ (b : Behind). Steps b b (Dump (kind_of c.args.kind)) (shown_of (rows_of c.args.out.now) (rows_of c.dump.new.out))) c.self.view_is
     (record {
       setup = refl;
-      state = c.dump.ensures.state c.args.who.0;
-      reply = shown_told (behind_in v) (kind_of c.args.kind) c.args.out.now c.dump.new.out (c.dump.ensures.answer 0);
+      state = c.dump.ensures.state;
+      reply = shown_told (behind_in v) (kind_of c.args.kind) c.args.out.now c.dump.new.out c.dump.ensures.answer;
     })
 
 pub returns-clause-out : goal.returns-clause-out
 returns-clause-out c =
     let v = c.self.inside in
     subst (λ (b : Behind). RowsGoOn (setup_of b) c.args.out.now c.dump.new.out) c.self.view_is
-    (rows_go_on (behind_in v) (kind_of c.args.kind) c.args.out.now c.dump.new.out (c.dump.ensures.answer 0) c.dump.ensures.few c.dump.ensures.room)
+    (rows_go_on (behind_in v) (kind_of c.args.kind) c.args.out.now c.dump.new.out c.dump.ensures.answer c.dump.ensures.few c.dump.ensures.room)

@@ -14,13 +14,13 @@ pub invariant_of-self : goal.invariant_of-self
 invariant_of-self c =
     let v = c.self.inside in
     subst (λ (state : State). OnlyOf v.number v.shards state.live) (sym c.swap_shard.ensures.state)
-    (OnlyOf-step (setup_of (behind_in v)) (state_of v.shard) c.args.who.0 Swap tt c.self.invariant)
+    (OnlyOf-step (setup_of (behind_in v)) (state_of v.shard) Swap tt c.self.invariant)
 
 pub returns-clause-step : goal.returns-clause-step
 returns-clause-step c =
     let v = c.self.inside in
     let new : Behind = record { shard = c.swap_shard.new.shard; number = v.number; shards = v.shards; receivers = v.receivers } in
-    subst (λ (b : Behind). Steps b new c.args.who.0 Swap (Swapped (table_of c.swap_shard.result))) c.self.view_is
+    subst (λ (b : Behind). Steps b new Swap (Swapped (table_of c.swap_shard.result))) c.self.view_is
     (record {
       setup = λ i. record { limits = c.swap_shard.ensures.limits i; policy = c.swap_shard.ensures.policy i; shard = v.number; shards = v.shards; receivers = v.receivers };
       state = c.swap_shard.ensures.state;

@@ -10,6 +10,8 @@ returns-clause-visited g c =
     let got = c.stream-streamed.result in
     record {
       amounts = of_tally (tally_of got.tally);
+      calls = read.went.called.calls;
+      made = read.went.called.made;
       holds = record {
         works = search rules;
         stream = read.stream;
@@ -18,6 +20,7 @@ returns-clause-visited g c =
         went = record { read = read.went.read; fault = c.is_failure.ensures ∙ sym (ap ends_by_failure read.ended); untold = refl };
         filed = read.went.filed;
         counts = refl;
+        called = read.went.called.are_so;
         tally_is = c.and-self.ensures.tally;
         taken_is = c.and-self.ensures.taken;
         worn_is = search rules;

@@ -1,4 +1,4 @@
-use Rattle.std.proofs.Common.{◌≤◌, length, sym, subst}
+use Rattle.std.proofs.Common.{◌≤◌, sym, subst}
 use Rattle.std.specs.Prelude.{All}
 use Rattle.sd_record.specs.Rows.{Room}
 use Rattle.sd_record.proofs.RecordLemmas.{rows-placed, all-placed}
@@ -12,6 +12,6 @@ invariant_of-result c =
       kept = record {
         rows = rows-placed _ tables placed c.requires.disjoint c.fill.ensures.apart c.fill.ensures.rows c.fill.ensures.order;
         placed = all-placed tables placed c.fill.ensures.rows;
-        entries = subst (λ (room : Room). All (λ t. length t.held ≤ room.entries) tables) (sym c.fill.ensures.room) c.requires.entries;
+        entries = subst (λ (room : Room). All (λ t. t.entries ≤ room.entries) tables) (sym c.fill.ensures.room) c.requires.entries;
       };
     }

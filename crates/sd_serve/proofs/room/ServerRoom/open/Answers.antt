@@ -1,6 +1,7 @@
 use Rattle.std.proofs.Common.{◌∙◌, ◌+◌, sym, ap}
-use Rattle.sd_seats.specs.Lists.{span}
-use Rattle.sd_model_record.specs.Desk.{Desk, new_desk}
+use Rattle.sd_turn.specs.Lists.{span}
+use Rattle.sd_model_record.specs.Desk.{new_desk}
+use Rattle.sd_shared_desk.specs.Behind.{Behind}
 use Rattle.sd_serve.proofs.room.ServerRoom.open.Goals as goal
 
 pub returns-clause-room : goal.returns-clause-room
@@ -21,7 +22,7 @@ returns-clause-room g c =
       commands = pool.callers.2;
       seats = pool.seats;
       closing = pool.room;
-      desk = desk.desk.0 ∙ ap new_desk (sym (ap (λ (d : Desk). d.facts.start) desk.desk.0));
+      desk = ap (λ (b : Behind). b.desk) desk.desk.0 ∙ ap new_desk (sym (ap (λ (b : Behind). b.desk.facts.start) desk.desk.0));
       desk_seats = desk.desk.1 ∙ ap (λ n. n + 2) many;
       numbers = desk.numbers ∙ ap (λ n. span 0 (n + 2)) many;
       owns = desk.seats;
@@ -38,4 +39,4 @@ returns-clause-room g c =
     }
 
 pub returns-clause-start : goal.returns-clause-start
-returns-clause-start g c = ap (λ (d : Desk). d.facts.start) c.in_ok-desk.ensures.desk.0
+returns-clause-start g c = ap (λ (b : Behind). b.desk.facts.start) c.in_ok-desk.ensures.desk.0

@@ -1,36 +1,28 @@
-use Rattle.std.proofs.Common.{◌≡◌, ℕ, List, length, filter, map, not, refl, ap, subst, IsPermutation, arith}
+use Rattle.std.proofs.Common.{◌≡◌, ℕ, List, length, filter, map, subst, IsPermutation, arith}
 use Rattle.std.proofs.lemmas.List.{length-map}
 use Rattle.std.proofs.lemmas.List.Sorted.{length_permutation}
-use Rattle.std.proofs.lemmas.List.Filters.{length-filter_both}
 use Rattle.sd_key.specs.Kind.{kind_of}
-use Rattle.sd_model_shard.specs.Rows.{RowId, Kept, Entry, row_of}
+use Rattle.sd_model_shard.specs.Rows.{RowId, Kept}
 use Rattle.sd_model_shard.specs.Commands.{is_hit, keys_of, rows_taken_out}
 use Rattle.sd_model_shard.specs.Shard.{deletion_of}
 use Rattle.sd_model_shard.proofs.ListedLemmas.{told_permutes}
 use Rattle.sd_epoch.specs.Table.{live_of}
 use Rattle.sd_epoch.proofs.ForgetLemmas.{StandApart-rows}
 use Rattle.sd_shard.specs.Shard.{Standing, state_of, IsDeletion}
-use Rattle.sd_shard.proofs.CommandLemmas.{length-filter_within}
+use Rattle.sd_shard.proofs.RoomLemmas.{listed_few}
 use Rattle.sd_shard.proofs.shard.Shard.delete.Goals as goal
-
-pub overflow_add-self : goal.overflow_add-self
-overflow_add-self c =
-    let kind = kind_of c.args.kind in
-    let few = length-filter_within (λ (e : Entry). is_hit kind c.args.pattern.now (row_of e.sample)) c.self.inside.table.held in
-    omega (arith, few, c.forget_rows-samples.ensures.count, c.self.invariant.conserved, c.self.invariant.taken)
 
 pub invariant_of-self : goal.invariant_of-self
 invariant_of-self c =
-    let p = λ (e : Entry). is_hit (kind_of c.args.kind) c.args.pattern.now (row_of e.sample) in
-    let both = length-filter_both p (λ (e : Entry). not (p e)) (λ e. refl) c.self.inside.table.held in
-    record {
-      conserved = omega (arith, both, ap length c.forget_rows-samples.ensures.held, c.forget_rows-samples.ensures.count, c.self.invariant.conserved);
+    let out = rows_taken_out (kind_of c.args.kind) c.args.pattern.now (live_of c.self.inside.table) in record {
+      conserved = omega (arith, c.forget_rows-samples.ensures.held, c.self.invariant.conserved);
+      summed = omega (arith, c.forget_rows-samples.ensures.held, c.forget_rows-samples.ensures.entries, c.forget_rows-samples.ensures.samples, listed_few out, c.self.invariant.summed);
       taken = c.self.invariant.taken;
       dropped = c.self.invariant.dropped;
     }
 
 pub returns-clause-answer : goal.returns-clause-answer
-returns-clause-answer c = λ who.
+returns-clause-answer c =
     let kind = kind_of c.args.kind in
     let pattern = c.args.pattern.now in
     let t = c.self.inside.table in
@@ -41,4 +33,4 @@ returns-clause-answer c = λ who.
     let count : c.push_keys-rows.result ≡ length (keys_of (rows_taken_out kind pattern (live_of t))) =
     omega (arith, c.push_keys-rows.ensures.count, length-map hits key, length_permutation (map key hits) (keys_of (rows_taken_out kind pattern (live_of t))) told) in
     subst (λ (s : Standing). IsDeletion (deletion_of kind pattern (state_of s)) c.args.out.now.items c.push_keys-rows.new.out.items (record { rows = c.push_keys-rows.result; samples = c.forget_rows-samples.result }))
-    c.self.view_is ((map key hits, c.push_keys-rows.ensures.keys, told), count, c.forget_rows-samples.ensures.count)
+    c.self.view_is ((map key hits, c.push_keys-rows.ensures.keys, told), count, c.forget_rows-samples.ensures.samples)

@@ -11,12 +11,12 @@ use Rattle.sd_shard.specs.Shard.{Standing, IsDump}
 use Rattle.sd_shard.proofs.shard.Shard.dump.Goals as goal
 
 pub returns-clause-answer : goal.returns-clause-answer
-returns-clause-answer c = λ who.
+returns-clause-answer c =
     let kind = kind_of c.args.kind in
     let t = c.self.inside.table in
     let rows = filter (λ (row : RowId × Kept). is_of_kind kind row.0) t.listed in
-    subst (λ (s : Standing). IsDump (Dumped (dump_of kind (live_of s.table) s.table.held)) (rows_of c.args.out.now) (rows_of c.push_rows.new.out)) c.self.view_is (
-      map (dump_row t.held) rows,
+    subst (λ (s : Standing). IsDump (Dumped (dump_of kind (live_of s.table))) (rows_of c.args.out.now) (rows_of c.push_rows.new.out)) c.self.view_is (
+      map dump_row rows,
       c.push_rows.ensures.rows,
-      told_permutes (dump_row t.held) (is_of_kind kind) t.listed (StandApart-rows t.listed c.push_rows.ensures.apart),
+      told_permutes dump_row (is_of_kind kind) t.listed (StandApart-rows t.listed c.push_rows.ensures.apart),
     )

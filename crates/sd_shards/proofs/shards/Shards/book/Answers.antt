@@ -1,4 +1,4 @@
-use Rattle.std.proofs.Common.{length, sym, ap, ◌∙◌}
+use Rattle.std.proofs.Common.{sym, ap, ◌∙◌}
 use Rattle.std.specs.Prelude.{sum_by}
 use Rattle.sd_model_shard.specs.Shard.{State}
 use Rattle.sd_shard.specs.Shard.{Standing}
@@ -28,5 +28,5 @@ returns-clause-dropped c =
 
 pub returns-clause-held : goal.returns-clause-held
 returns-clause-held c =
-    c.book_of.ensures.held ∙ ap (sum_by (λ (s : Standing). length s.table.held)) c.deref.ensures.value
-    ∙ sym (summed-group c.args.self.now c.self.inside.shards.items (ap (λ (g : Group). g.states) (sym c.self.view_is)) (λ (s : State). length s.held))
+    c.book_of.ensures.held ∙ ap (sum_by (λ (s : Standing). s.table.held)) c.deref.ensures.value
+    ∙ sym (summed-group c.args.self.now c.self.inside.shards.items (ap (λ (g : Group). g.states) (sym c.self.view_is)) (λ (s : State). s.held))

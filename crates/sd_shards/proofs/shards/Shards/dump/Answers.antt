@@ -18,6 +18,6 @@ returns-clause-rows c =
     let old = c.deref.result.now in
     let kind = kind_of c.args.kind in
     let home : AtHome (length old) (state_in old) = subst (λ xs. AtHome (length xs) (state_in xs)) (sym c.deref.ensures.value) c.self.invariant.home in
-    let told = flat_map (λ (s : Standing). dump_of kind (state_of s).live (state_of s).held) old in
+    let told = flat_map (λ (s : Standing). dump_of kind (state_of s).live) old in
     rows_sorted old home kind (rows_of c.dump_all.new.dump) (rows_of c.sort.new.self) (subst (λ (rs : List DumpRow). Appends told rs (rows_of c.dump_all.new.dump)) (ap (map dump_row_of) c.clear.ensures.items) c.dump_all.ensures.rows) c.sort.ensures.permutation c.sort.ensures.sorted
-    ∙ ap rows_told (sym (map-group c.args.self.now old (ap (λ (g : Group). g.states) (sym c.self.view_is) ∙ ap (map state_of) (sym c.deref.ensures.value)) (λ (s : State). Dumped (dump_of kind s.live s.held))))
+    ∙ ap rows_told (sym (map-group c.args.self.now old (ap (λ (g : Group). g.states) (sym c.self.view_is) ∙ ap (map state_of) (sym c.deref.ensures.value)) (λ (s : State). Dumped (dump_of kind s.live))))

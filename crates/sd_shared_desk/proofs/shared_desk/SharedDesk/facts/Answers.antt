@@ -1,5 +1,9 @@
-use Rattle.sd_shared_desk.proofs.Calling.{facts_told}
+use Rattle.sd_desk.specs.Facts.{facts_view}
+use Rattle.sd_shared_desk.proofs.CallLemmas.{facts_seen, told_start}
 use Rattle.sd_shared_desk.proofs.shared_desk.SharedDesk.facts.Goals as goal
 
+pub returns-clause-start : goal.returns-clause-start
+returns-clause-start g c = told_start c.args.self.now c.args.own.now c.ask.new.own (facts_view c.in-Told.facts) c.in-Told.ensures.calls
+
 pub returns-clause-seen : goal.returns-clause-seen
-returns-clause-seen g c = facts_told c.args.self.now c.args.own.now c.ask.new.own c.in-Facts.facts c.in-Facts.ensures.changes
+returns-clause-seen g c = facts_seen c.args.self.now c.args.own.now c.ask.new.own (facts_view c.in-Told.facts) c.in-Told.ensures.calls

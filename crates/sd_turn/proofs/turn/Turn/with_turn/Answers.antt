@@ -1,5 +1,5 @@
 use Rattle.std.proofs.Common.{[], ◌∷◌, ◌++◌, sym, ap, ◌∙◌}
-use Rattle.sd_seats.specs.Views.{first_account, own_of, seen_of, released}
+use Rattle.sd_turn.specs.Views.{first_account, own_of, seen_of, released}
 use Rattle.sd_turn.specs.Entries.{entries_by}
 use Rattle.sd_turn.specs.History.{noting}
 use Rattle.sd_turn.specs.Turn.{opened_with}

@@ -1,0 +1,10 @@
+use Rattle.std.proofs.Common.{◌<◌, length, arith}
+use Rattle.sd_epoch.specs.declared.members.SetMember.{SetMember}
+use Rattle.sd_epoch.proofs.PlacedLemmas.{same_length, place_same}
+use Rattle.sd_epoch.proofs.members.chain_anew.Goals as goal
+
+pub chain_at-requires-clause-place : goal.chain_at-requires-clause-place
+chain_at-requires-clause-place c d =
+    let inv = c.loop-at.invariant in
+    let here : c.loop-at.at < length c.args.members.now = omega (arith, inv.all, c.loop-at-test.true, same_length (λ (m : SetMember). m.place) (λ (m : SetMember). m.member.items) _ _ inv.items) in
+    omega (arith, place_same (λ (m : SetMember). m.place) (λ (m : SetMember). m.member.items) _ _ inv.items c.loop-at.at d, c.requires.within c.loop-at.at d here, inv.places)

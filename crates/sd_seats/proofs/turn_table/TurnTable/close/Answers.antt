@@ -1,5 +1,0 @@
-use Rattle.sd_seats.proofs.Steps.{closes}
-use Rattle.sd_seats.proofs.turn_table.TurnTable.close.Goals as goal
-
-pub returns : goal.returns
-returns g c = closes g.B.Behind.terms _ _ g.B.Behind.laws _ _ _ _ c.close_with-closed.ensures.values.2 c.requires.keeper.1 c.requires.all _ c.take-value.ensures.value

@@ -1,4 +1,0 @@
-pub mod Lists
-pub mod Views
-pub mod Rule
-pub mod TurnTable
