@@ -5,6 +5,7 @@ import random
 import re
 import signal
 import socket
+import struct
 import subprocess
 import sys
 import tempfile
@@ -334,6 +335,18 @@ class Client:
         self.rest = b"".join(lines[count:]) if count is not None else b""
         return b"".join(lines[:count]).decode()
 
+    def is_closed(self):
+        """Whether the other end has closed the connection."""
+        try:
+            self.socket.setblocking(False)
+            return self.socket.recv(1, socket.MSG_PEEK) == b""
+        except BlockingIOError:
+            return False
+        except ConnectionError:
+            return True
+        finally:
+            self.socket.settimeout(WAIT)
+
     def close(self):
         self.socket.close()
 
@@ -414,7 +427,7 @@ class Pour(threading.Thread):
 
 class Graphite(threading.Thread):
     """A Graphite that takes what each connection brings, takes one connection a second, of which one waits (slow), closes each at once
-    (closes), or reads nothing (stalls)."""
+    (closes), breaks each off once something came (resets), takes all and never ends its side (stays), or reads nothing (stalls)."""
 
     def __init__(self, manner):
         super().__init__(daemon=True)
@@ -438,9 +451,14 @@ class Graphite(threading.Thread):
 
     def take(self, peer):
         peer.settimeout(WAIT)
+        if self.manner == "stays":
+            peer = peer.dup()
         with peer:
             while self.manner != "closes":
                 got = peer.recv(65536)
+                if self.manner == "resets":
+                    peer.setsockopt(socket.SOL_SOCKET, socket.SO_LINGER, struct.pack("ii", 1, 0))
+                    break
                 if not got:
                     break
                 self.got += got

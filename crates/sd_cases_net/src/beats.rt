@@ -1,6 +1,6 @@
 use crate::common::{step, stop_name};
 use sd_case::Answer;
-use sd_net::{Stop, SystemClock, TickBeat};
+use sd_net::{Pace, Stop, SystemClock, TickBeat};
 use sd_outside::{Beat, Clock, Tick};
 use std::thread::{Threads, join, sleep};
 use std::time::{self, Duration};
@@ -34,8 +34,9 @@ fn millis_since(rt: &HostRuntime, from: Duration) -> io::Result<u128> {
 
 /// Ticks in time, and late ones.
 fn ticks<'a>(rt: &'a HostRuntime, stop: &'a Stop, out: &mut Answer) -> io::Result<()> {
-    let clock = SystemClock::new(rt);
-    let mut beat = TickBeat::new(rt, stop);
+    let pace = Pace::new();
+    let clock = SystemClock::new(rt, &pace);
+    let mut beat = TickBeat::new(rt, stop, &pace);
     let before = time::Clock::monotonic(rt)?;
     beat.start(INTERVAL);
     let started = time::Clock::monotonic(rt)?;
@@ -80,7 +81,8 @@ fn ticks<'a>(rt: &'a HostRuntime, stop: &'a Stop, out: &mut Answer) -> io::Resul
 
 /// A beat that isn't started.
 fn unstarted<'a>(rt: &'a HostRuntime, stop: &'a Stop, out: &mut Answer) {
-    let mut beat = TickBeat::new(rt, stop);
+    let pace = Pace::new();
+    let mut beat = TickBeat::new(rt, stop, &pace);
     step(out, "one that isn't started, twice");
     out.text(tick_text(beat.next()));
     out.text(told_text(stop));
@@ -95,7 +97,8 @@ fn next_beside<'a>(
     stop: &'a Stop,
     name: &str,
 ) -> (bool, Tick) {
-    let mut beat = TickBeat::new(rt, stop);
+    let pace = Pace::new();
+    let mut beat = TickBeat::new(rt, stop, &pace);
     beat.start(10_000);
     join(
         threads,

@@ -3,7 +3,7 @@ ghost use Rattle.std.specs.Prelude.{◌≡◌, ◌≤◌, false, length};
 use crate::clients::{client_of, show_next};
 use crate::common::{here, no_sockets, room, step, stuck};
 use sd_case::Answer;
-use sd_net::{DoorSizes, LongLines, Stop, TcpDoor};
+use sd_net::{DoorSizes, LongLines, Share, Stop, TcpDoor};
 use sd_outside::{Address, Door, Entry, Faulty, Name, OpenRefusal, Opens, read_full, write_all};
 use std::io::{self, Write};
 use std::net::TcpStream;
@@ -18,6 +18,8 @@ pub(crate) const SIZES: DoorSizes = DoorSizes {
     clients: 64,
     line: ROOM,
     long_lines: LongLines::Split,
+    share: Share::Lines,
+    replies: 1 << 20,
 };
 
 /// What sessions are told.
@@ -274,7 +276,7 @@ fn two_clients<'a>(
     Ok(())
 }
 
-/// More clients than a door holds, of whom the last says something, and then the others leave.
+/// More clients than a door holds, of whom the last says something.
 fn crowd<'a>(
     rt: &HostRuntime,
     door: &mut TcpDoor<'a, HostRuntime>,
@@ -287,7 +289,7 @@ fn crowd<'a>(
 {
     step(
         out,
-        "a line of the seventieth client, before and after the others left",
+        "a line of the seventieth client while the others say nothing, of whom the first ones go",
     );
     let mut silent = Vec::new(rt.alloc());
     for _ in 0..69 {
@@ -295,10 +297,10 @@ fn crowd<'a>(
     }
     let mut last = client_of(rt, port)?;
     last.write_all(b"last\n")?;
-    rest(door, buf, YES, out);
-    rest(door, buf, YES, out);
-    silent.clear();
     serve(door, buf, YES, out);
     show_next(&mut last, buf, out);
+    if let Some(first) = silent.first_mut() {
+        show_next(first, buf, out);
+    }
     Ok(())
 }

@@ -21,7 +21,7 @@ fn main(rt: HostRuntime) -> io::Result<()> {
     receivers::run(&rt, &mut out)?;
     handed::run(&rt, &mut out)?;
     beats::run(&rt, &rt, &mut out)?;
-    links::run(&rt, &mut out)?;
+    links::run(&rt, &rt, &mut out)?;
     probes::run(&rt, &rt, &mut out)?;
     doors::run(&rt, &mut out)?;
     streams::run(&rt, &mut out)?;

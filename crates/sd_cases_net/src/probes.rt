@@ -1,7 +1,7 @@
 use crate::common::{here, host_at, socket_here, step};
 use arrayvec::ArrayVec;
 use sd_case::Answer;
-use sd_net::TcpProbe;
+use sd_net::{Hosts, TcpProbe};
 use sd_outside::{Address, Failed, Name, Probe};
 use std::io::{self, Read, Write};
 use std::net::TcpListener;
@@ -22,17 +22,18 @@ struct Asked {
 }
 
 /// Asks by a probe of its own.
-fn ask(rt: &HostRuntime, at: &Address) -> Asked {
-    let mut probe = TcpProbe::new(rt);
+fn ask(threads: &(impl Threads + Sync), rt: &HostRuntime, at: &Address) -> io::Result<Asked> {
+    let hosts = Hosts::open(rt.alloc())?;
+    let mut probe = TcpProbe::new(rt, threads, &hosts);
     let mut line = ArrayVec::new();
     let answer = match probe.ask(at, &mut line) {
         Ok(()) => Ok(line),
         Err(Failed) => Err(Failed),
     };
-    Asked {
+    Ok(Asked {
         answer,
         faults: probe.faults(),
-    }
+    })
 }
 
 fn show(asked: &Asked, out: &mut Answer) {
@@ -58,15 +59,19 @@ fn reply(rt: &HostRuntime, listener: &TcpListener, pieces: &[&[u8]]) -> io::Resu
 
 /// A question to a server that answers in these pieces.
 fn answered(
-    threads: &impl Threads,
+    threads: &(impl Threads + Sync),
     rt: &HostRuntime,
     pieces: &[&[u8]],
     out: &mut Answer,
 ) -> io::Result<()> {
     let listener = TcpListener::bind(rt, socket_here(0))?;
     let at = here(listener.local_addr()?.port());
-    let (replied, asked) = join(threads, || reply(rt, &listener, pieces), || ask(rt, &at));
-    show(&asked, out);
+    let (replied, asked) = join(
+        threads,
+        || reply(rt, &listener, pieces),
+        || ask(threads, rt, &at),
+    );
+    show(&asked?, out);
     if !replied? {
         out.text(" to another question");
     }
@@ -74,19 +79,24 @@ fn answered(
 }
 
 /// A question to a port where nobody listens any more.
-fn unheard(rt: &HostRuntime, out: &mut Answer) -> io::Result<()> {
+fn unheard(threads: &(impl Threads + Sync), rt: &HostRuntime, out: &mut Answer) -> io::Result<()> {
     let listener = TcpListener::bind(rt, socket_here(0))?;
     let at = here(listener.local_addr()?.port());
     drop(listener);
-    show(&ask(rt, &at), out);
+    show(&ask(threads, rt, &at)?, out);
     Ok(())
 }
 
 /// A question to a listener that doesn't answer.
-fn unanswered(rt: &HostRuntime, out: &mut Answer) -> io::Result<()> {
+fn unanswered(
+    threads: &(impl Threads + Sync),
+    rt: &HostRuntime,
+    out: &mut Answer,
+) -> io::Result<()> {
     let listener = TcpListener::bind(rt, socket_here(0))?;
     let before = rt.monotonic()?;
-    show(&ask(rt, &here(listener.local_addr()?.port())), out);
+    let at = here(listener.local_addr()?.port());
+    show(&ask(threads, rt, &at)?, out);
     let took = rt.monotonic()?.saturating_sub(before);
     let is_early = took < Duration::from_secs(LIMIT);
     out.text(if is_early { ", in time" } else { ", too late" });
@@ -94,15 +104,19 @@ fn unanswered(rt: &HostRuntime, out: &mut Answer) -> io::Result<()> {
 }
 
 /// Questions to places where nobody answers, and to servers that answer in several ways.
-pub(crate) fn run(threads: &impl Threads, rt: &HostRuntime, out: &mut Answer) -> io::Result<()> {
+pub(crate) fn run(
+    threads: &(impl Threads + Sync),
+    rt: &HostRuntime,
+    out: &mut Answer,
+) -> io::Result<()> {
     out.text("\nprobes");
     step(out, "a file, a host with a byte 255");
-    show(&ask(rt, &Address::File(Name::new())), out);
-    show(&ask(rt, &host_at(b"\xff", 1)), out);
+    show(&ask(threads, rt, &Address::File(Name::new()))?, out);
+    show(&ask(threads, rt, &host_at(b"\xff", 1))?, out);
     step(out, "a port where nobody listens");
-    unheard(rt, out)?;
+    unheard(threads, rt, out)?;
     step(out, "a listener that doesn't answer");
-    unanswered(rt, out)?;
+    unanswered(threads, rt, out)?;
     step(out, "a line with another behind it");
     answered(threads, rt, &[b"health: up\nEND\n"], out)?;
     step(out, "a line in pieces, with a carriage return");

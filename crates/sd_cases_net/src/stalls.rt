@@ -4,7 +4,7 @@ use crate::clients::client_of;
 use crate::common::{here, no_sockets, room, socket_here, step, stuck};
 use crate::doors::SIZES;
 use sd_case::Answer;
-use sd_net::{GraphiteLink, Stop, TcpDoor};
+use sd_net::{GraphiteLink, Pace, Stop, TcpDoor};
 use sd_outside::{Backend, Door, Entry, Faulty, Opens, Sink};
 use std::io::{self, Write};
 use std::net::TcpListener;
@@ -34,10 +34,11 @@ fn gives_up<K: Sink>(sink: &mut K, piece: &[u8]) -> bool {
 }
 
 /// A link to a listener that doesn't read.
-fn link_gives_up(rt: &HostRuntime) -> io::Result<bool> {
+fn link_gives_up(threads: &(impl Threads + Sync), rt: &HostRuntime) -> io::Result<bool> {
     let piece = room(rt.alloc(), PIECE)?;
     let listener = TcpListener::bind(rt, socket_here(0))?;
-    let mut link = GraphiteLink::new(rt);
+    let (stop, pace) = (Stop::new(None), Pace::new());
+    let mut link = GraphiteLink::new(rt, threads, &stop, &pace);
     if link.open_at(&here(listener.local_addr()?.port())).is_err() || link.begin().is_err() {
         return Err(stuck());
     }
@@ -87,10 +88,14 @@ fn stall_text(given_up: io::Result<bool>) -> &'static str {
 }
 
 /// Peers that take nothing of what they are told.
-pub(crate) fn run(threads: &impl Threads, rt: &HostRuntime, out: &mut Answer) -> io::Result<()> {
+pub(crate) fn run(
+    threads: &(impl Threads + Sync),
+    rt: &HostRuntime,
+    out: &mut Answer,
+) -> io::Result<()> {
     out.text("\npeers that take nothing");
     let before = rt.monotonic()?;
-    let (link, door) = join(threads, || link_gives_up(rt), || door_gives_up(rt));
+    let (link, door) = join(threads, || link_gives_up(threads, rt), || door_gives_up(rt));
     let took = rt.monotonic()?.saturating_sub(before);
     step(out, "Graphite");
     out.text(stall_text(link));

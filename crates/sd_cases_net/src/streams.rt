@@ -4,7 +4,7 @@ use crate::clients::client_of;
 use crate::common::{here, no_sockets, room, step, stuck};
 use crate::doors::{open, rest, serve};
 use sd_case::Answer;
-use sd_net::{DoorSizes, LongLines, Stop, TcpDoor};
+use sd_net::{DoorSizes, LongLines, Share, Stop, TcpDoor};
 use sd_outside::{Door, Entry, Faulty, Source};
 use std::io::{self, Write};
 use std::thread::sleep;
@@ -15,6 +15,8 @@ const SIZES: DoorSizes = DoorSizes {
     clients: 2,
     line: 16,
     long_lines: LongLines::Cut,
+    share: Share::Lines,
+    replies: 0,
 };
 
 /// How many bytes a client sends before a stop, more than the door reads at two looks.

@@ -1,6 +1,6 @@
 -- A run of the server between two times: what it goes by, its course from the side of its callers, what it counts, and what is seen
 -- of the objects that its workers use.
-use Rattle.std.specs.Prelude.{◌≡◌, ◌⊎◌, ℕ, ◌+◌, Some, IfSome, slice_get, ◌<◌, ◌≤◌, min, Bool, true, false, List, [], ◌∷◌, length, map, ◌++◌, flat_map, sum_by}
+use Rattle.std.specs.Prelude.{◌≡◌, ℕ, ◌+◌, Option, None, Some, slice_get, ◌<◌, ◌≤◌, min, max, Bool, true, false, List, [], ◌∷◌, length, map, ◌++◌, flat_map, sum_by}
 use Rattle.std.specs.List.{AllByRecursion}
 use Rattle.sd_model_outside.specs.Outside.{Object, last_count}
 use Rattle.sd_model_outside.specs.Deliveries.{AfterDeliveries, Delivery, fault_of}
@@ -71,6 +71,11 @@ brought_in c = map brought_by c.receptions ++ map brought_in_lines c.linings
 -- all rounds, in order
 abbrev pub rounds_in : Course → List Round
 rounds_in c = c.ticked ++ c.last ∷ []
+
+-- the later one of a moment and a second before it, if there was one
+abbrev pub later : Option ℕ → ℕ → ℕ
+later None now = now
+later (Some second) now = max second now
 
 -- What a backend was given: what went through its outlet, and then the text of each round that wrote to it.
 abbrev pub deliveries_in : Form → Course → Backend → List Delivery
@@ -187,8 +192,7 @@ pub record IsRun (terms : Terms) (says : ℕ → Type 0) (c : Course) (old new :
   -- there was a round at each tick, and a last one at a moment of the clock, or at the second of the round before it where that is
   -- later
   pub flushed : IsFlushed terms.run_flushes c.flusher_ended c.ticked old.beat new.beat
-  pub last : says c.last.ts ⊎ (last_second c.ticked ≡ Some c.last.ts)
-  pub in_order : IfSome (last_second c.ticked) (λ second. second ≤ c.last.ts)
+  pub last : (now : ℕ) × says now × (c.last.ts ≡ later (last_second c.ticked) now)
   -- the last round wrote to just the backends that are used, and those at the ticks too, but where there are outlets to none; there
   -- the texts of their records went through the outlets
   pub used : AllByRecursion (MarksFit (uses_at_ticks (any_buffers terms.outlets) terms.uses)) c.ticked

@@ -7,14 +7,21 @@
 //! one of its own, all at one address. They know no samples and no settings.
 #![tactic(auto)]
 
+mod client;
 mod clients;
 mod connection;
+mod conversation;
 mod door_sizes;
 mod draining;
 mod graphite_link;
-mod line_buffer;
+mod hall;
+mod hosts;
 mod look;
+mod moments;
+mod output;
+mod pace;
 mod place;
+mod resolved;
 mod session_sink;
 mod session_source;
 mod sockets;
@@ -22,13 +29,21 @@ mod stop;
 mod system_clock;
 mod tcp_door;
 mod tcp_probe;
+mod text_room;
 mod threads;
 mod tick_beat;
 mod turns;
 mod udp_receiver;
+mod udp_wire;
+mod waiting;
+mod watched_door;
 
-pub use door_sizes::{DoorSizes, LongLines};
+pub use door_sizes::{DoorSizes, Share};
 pub use graphite_link::GraphiteLink;
+pub use hosts::Hosts;
+pub use output::{Output, Text};
+pub use pace::Pace;
+pub use sd_edge::LongLines;
 pub use session_sink::SessionSink;
 pub use session_source::SessionSource;
 pub use sockets::Sockets;
@@ -38,3 +53,5 @@ pub use tcp_door::TcpDoor;
 pub use tcp_probe::TcpProbe;
 pub use tick_beat::TickBeat;
 pub use udp_receiver::UdpReceiver;
+pub use udp_wire::UdpWire;
+pub use watched_door::WatchedDoor;

@@ -1,12 +1,15 @@
-use crate::line_buffer::LineBuffer;
+use crate::door_sizes::Share;
+use sd_edge::LineBuffer;
 use sd_outside::{Address, Failed, Faulty, OpenRefusal, Opens, Source, opening_fault};
 
-/// What a client of a door asks in one session: the whole lines that it had sent, or a piece of a line that is split. It
-/// doesn't tell what it has left.
+/// What a client of a door asks in one session: whole lines that it has sent, or a piece of a line that is split. It doesn't tell
+/// what it has left.
 #[derive(Drop)]
 pub struct SessionSource {
     pub(crate) place: usize,
     pub(crate) lines: LineBuffer,
+    /// How many bytes of the lines the session has left.
+    left: usize,
     pub(crate) is_read: bool,
     faults: u64,
 }
@@ -15,13 +18,18 @@ impl SessionSource {
     ghost use Rattle.std.specs.Prelude.{◌≡◌, ◌<◌, ◌↔◌, IsTrue};
     ghost use Rattle.sd_model_outside.specs.Outside.{Untold, fresh};
 
-    /// What the client at a place has sent.
-    pub(crate) fn new(place: usize, lines: LineBuffer) -> SessionSource
+    /// So much of what the client at a place has sent.
+    pub(crate) fn new(place: usize, lines: LineBuffer, share: Share) -> SessionSource
         ensures { ⟦<SessionSource as Faulty>⟧.seen result ≡ fresh Untold }
     {
+        let left = match share {
+            Share::Line => lines.first_line(),
+            Share::Lines => usize::MAX,
+        };
         SessionSource {
             place,
             lines,
+            left,
             is_read: false,
             faults: 0,
         }
@@ -54,7 +62,9 @@ impl Opens for SessionSource {
 
 impl Source for SessionSource {
     fn read(&mut self, buf: &mut [u8]) -> Result<usize, Failed> {
-        let count = self.lines.take(buf);
+        let most = buf.len().min(self.left);
+        let count = self.lines.take(&mut buf[..most]);
+        self.left = self.left.saturating_sub(count);
         self.is_read = count == 0;
         Ok(count)
     }

@@ -1,7 +1,6 @@
-use crate::clients::Clients;
+use crate::clients::Ended;
 use crate::door_sizes::DoorSizes;
-use crate::draining::has_drained;
-use crate::look::Look;
+use crate::hall::{Hall, Next};
 use crate::place::{host_of, refusal};
 use crate::session_sink::SessionSink;
 use crate::session_source::SessionSource;
@@ -14,17 +13,22 @@ use std::net::{Net, TcpListener, TcpStream};
 use std::thread::sleep;
 use std::time::{Clock, Duration};
 
-/// How long a nap is while no client has sent a line, in milliseconds.
-const NAP_MS: u64 = 20;
+/// How long a door that isn't open waits before it says so, in milliseconds.
+const NAP_MS: u64 = 50;
 
-/// How long a door looks on once it has seen that it is to stop, where something new comes at each look, in seconds.
-const DRAIN: u64 = 1;
-
-/// A door over TCP, at a socket of its own or at one that was handed over, which holds all open connections and gives as a session what one of them has sent up to and with its last
-/// newline. What becomes of a line that is too long, its sizes say. What a client has sent behind its last newline is lost
-/// where it leaves. A session that was read to its end leaves its connection open, any other closes it. A client that says
-/// nothing for an hour is let go. Once `stop` is set, the door looks on until a look brought nothing new, or for a second,
-/// gives the sessions that it has, and then ends.
+/// A door over TCP, at a socket of its own or at one that was handed over, which holds all open connections and gives as a session
+/// whole lines that one of them has sent: one line, or all that are there. The next one is that whose client's last sign of life is
+/// the oldest, and at each second turn that whose is the latest. What becomes of a line that is too long, its sizes say. What a
+/// client has sent behind its last newline is lost where it leaves. A session that was read to its end leaves its connection open;
+/// any other closes it, once what was told is taken. What a client doesn't take of what it is told is held for it, and it is let go
+/// where it takes nothing for five seconds.
+///
+/// Where all places are taken and another client comes, the one goes whose last sign of life is the oldest, unless it has sent
+/// what a session has, or has had less than a second to take what it was told. A client that says nothing for an hour is let go.
+/// Who is let go before it has taken all is a fault.
+///
+/// Once `stop` is set, the door looks on until a look brought nothing new and all that was told is taken, or for 0.8 seconds,
+/// gives the sessions that it has, as long as that is no more than four seconds ago, and then ends.
 #[derive(Drop)]
 pub struct TcpDoor<'a, R> {
     host: &'a R,
@@ -32,10 +36,7 @@ pub struct TcpDoor<'a, R> {
     sockets: &'a Sockets,
     stop: &'a Stop,
     sizes: DoorSizes,
-    listener: Option<TcpListener>,
-    clients: Clients,
-    saw_stop: Option<Duration>,
-    looked_last: bool,
+    hall: Option<Hall>,
     is_out: bool,
     opened_at: Option<Address>,
     faults: u64,
@@ -62,10 +63,7 @@ impl<'a, R> TcpDoor<'a, R> {
             sockets,
             stop,
             sizes,
-            listener: None,
-            clients: Clients::none(alloc),
-            saw_stop: None,
-            looked_last: false,
+            hall: None,
             is_out: false,
             opened_at: None,
             faults: 0,
@@ -82,24 +80,8 @@ impl<'a, R> TcpDoor<'a, R> {
 
     /// The port that it listens at, where it is open.
     pub fn port(&self) -> Option<u16> {
-        match self.listener.as_ref()?.local_addr() {
-            Ok(addr) => Some(addr.port()),
-            Err(_) => None,
-        }
+        self.hall.as_ref()?.port()
     }
-}
-
-/// Takes the connections that wait, and reads what all clients have sent.
-fn look_at(host: &impl Clock, listener: &Option<TcpListener>, clients: &mut Clients) -> Look {
-    let (Some(listener), Ok(now)) = (listener, host.monotonic()) else {
-        return Look::FAULT;
-    };
-    let accepted = clients.accept(listener, now);
-    accepted.and(clients.listen(now))
-}
-
-fn nap(host: &impl Clock) {
-    sleep(host, Duration::from_millis(NAP_MS));
 }
 
 impl<'a, R> Faulty for TcpDoor<'a, R> {
@@ -126,13 +108,13 @@ impl<'a, R: Net<Listener = TcpListener, Stream = TcpStream> + Clock> Opens for T
         let Some(place) = host_of(at) else {
             return Err(opening_fault(&mut self.faults));
         };
-        let Ok(clients) = Clients::open(self.alloc, self.sizes) else {
-            return Err(OpenRefusal::OutOfMemory);
+        let hall = match self.sockets.listener_at(self.host, place) {
+            Ok(listener) => Hall::open(self.host, self.alloc, listener, self.sizes),
+            Err(e) => Err(e),
         };
-        match self.sockets.listener_at(self.host, place) {
-            Ok(listener) => {
-                self.listener = Some(listener);
-                self.clients = clients;
+        match hall {
+            Ok(hall) => {
+                self.hall = Some(hall);
                 self.opened_at = Some(at.copied());
                 Ok(())
             }
@@ -141,53 +123,64 @@ impl<'a, R: Net<Listener = TcpListener, Stream = TcpStream> + Clock> Opens for T
     }
 }
 
+/// What comes next of a door that may be open.
+fn next_of<R: Clock>(host: &R, stop: &Stop, hall: &mut Option<Hall>) -> Next {
+    match hall {
+        Some(hall) => hall.next(host, stop),
+        None if stop.is_set() => Next::End,
+        None => {
+            sleep(host, Duration::from_millis(NAP_MS));
+            Next::Failed
+        }
+    }
+}
+
 impl<'a, R: Net<Listener = TcpListener, Stream = TcpStream> + Clock> Door for TcpDoor<'a, R> {
     type Asking = SessionSource;
 
-    type Telling = SessionSink<'a, R>;
+    type Telling = SessionSink;
 
     ghost use Rattle.std.proofs.Common.{arith};
 
-    fn next_session(&mut self) -> Entry<SessionSource, SessionSink<'a, R>> {
-        if !self.looked_last && !self.clients.is_one_ready() {
-            let is_stopped = self.stop.is_set();
-            let is_over = has_drained(self.host, self.stop, &mut self.saw_stop, DRAIN);
-            let look = look_at(self.host, &self.listener, &mut self.clients);
-            self.looked_last = is_over || (is_stopped && !look.is_new);
-            if look.has_failed {
-                nap(self.host);
+    fn next_session(&mut self) -> Entry<SessionSource, SessionSink> {
+        match next_of(self.host, self.stop, &mut self.hall) {
+            Next::Visit(visit) => {
+                self.is_out = true;
+                take_turn(&mut self.turns);
+                Entry::Session(
+                    SessionSource::new(visit.place, visit.lines, self.sizes.share),
+                    SessionSink::new(visit.client, visit.room),
+                )
+            }
+            Next::Nothing => {
+                take_turn(&mut self.turns);
+                Entry::Idle
+            }
+            Next::Failed => {
                 fault(&mut self.faults);
                 take_turn(&mut self.turns);
-                return Entry::Failed;
+                Entry::Failed
             }
+            Next::End => Entry::End,
         }
-        if let Some(visit) = self.clients.next_visit(self.alloc) {
-            self.is_out = true;
-            take_turn(&mut self.turns);
-            return Entry::Session(
-                SessionSource::new(visit.place, visit.lines),
-                SessionSink::new(self.host, visit.client),
-            );
-        }
-        if self.looked_last {
-            return Entry::End;
-        }
-        if self.saw_stop.is_none() {
-            nap(self.host);
-        }
-        take_turn(&mut self.turns);
-        Entry::Idle
     }
 
-    fn leave(&mut self, asking: SessionSource, telling: SessionSink<'a, R>) {
+    fn leave(&mut self, asking: SessionSource, telling: SessionSink) {
         let has_failed = asking.has_failed() || telling.has_failed();
         if has_failed {
             fault(&mut self.faults);
         }
         self.is_out = false;
-        let stays = asking.is_read && !has_failed;
-        self.clients
-            .take_back(asking.place, asking.lines, telling.client, stays);
+        let ended = if has_failed {
+            Ended::Failed
+        } else if asking.is_read {
+            Ended::Read
+        } else {
+            Ended::Asked
+        };
+        if let Some(hall) = &mut self.hall {
+            hall.take_back(self.host, asking.place, asking.lines, telling.client, ended);
+        }
     }
 
     ghost turns_fit = { λ s. omega arith };

@@ -7,6 +7,7 @@ use crate::tcp_probe::TcpProbe;
 use crate::tick_beat::TickBeat;
 use crate::udp_receiver::UdpReceiver;
 use sd_outside::{Backend, Beat, Clock, Datagrams, Door, Gate, NoGate, Probe};
+use std::thread::Threads;
 
 fn is_receiver<D: Datagrams + Send>(_receiver: &D) {}
 
@@ -23,12 +24,12 @@ fn is_gate<G: Gate + Sync>(_gate: &G) {}
 fn is_clock<C: Clock + Sync>(_clock: &C) {}
 
 /// What a server is given.
-pub(crate) fn are_for_workers(
+pub(crate) fn are_for_workers<X: Threads + Sync>(
     receiver: &UdpReceiver<'_, HostRuntime>,
     beat: &TickBeat<'_, HostRuntime>,
-    link: &GraphiteLink<'_, HostRuntime>,
+    link: &GraphiteLink<'_, X>,
     door: &TcpDoor<'_, HostRuntime>,
-    probe: &TcpProbe<'_, HostRuntime>,
+    probe: &TcpProbe<'_, X>,
     gate: &NoGate,
     clock: &SystemClock<'_, HostRuntime>,
 ) {

@@ -5,6 +5,7 @@ use crate::place::{datagrams_of, refusal};
 use crate::sockets::Sockets;
 use crate::stop::Stop;
 use crate::turns::take_turn;
+use sd_edge::Backoff;
 use sd_outside::{Address, Datagrams, Faulty, Next, OpenRefusal, Opens, fault, opening_fault};
 use sd_socket::receive_buffer;
 use std::fs::Files;
@@ -12,8 +13,9 @@ use std::io::{self, ErrorKind};
 use std::net::{Net, UdpSocket};
 use std::time::{Clock, Duration};
 
-/// How long a receiver waits for a datagram before it says that none came for now, in milliseconds.
-const WAIT_MS: u64 = 100;
+/// How long a receiver waits for a datagram before it says that none came for now, in milliseconds: at first, and at most once none
+/// has come for a while.
+const WAIT_MS: (u64, u64) = (100, 2_000);
 
 /// How long a receiver goes on once it has seen that it is to stop, where datagrams don't cease to come, in seconds.
 const DRAIN: u64 = 2;
@@ -26,7 +28,8 @@ const MOST_DATAGRAM: usize = 65_527;
 
 /// A receiver of the datagrams that come to a UDP socket of its own. Several receivers have their sockets at one address, and the
 /// system gives what one client's socket sends to one of them, in order. It looks for the stop file where none came within its
-/// time limit, and at each 64th turn. Once it is to stop, it goes on until none came within that limit, or for two seconds.
+/// time limit, and at each 64th turn, unless a beat does. Once it is to stop, it goes on until none came within that limit, or for
+/// two seconds. The limit is the longer, the longer none came.
 /// Where its socket fails it sets `stop`, so that a server doesn't go on without it.
 ///
 /// All parts of a program are opened before a receiver is first asked. Where a socket that was handed over is still nobody's by
@@ -38,6 +41,7 @@ pub struct UdpReceiver<'a, R> {
     sockets: &'a Sockets,
     stop: &'a Stop,
     socket: Option<UdpSocket>,
+    wait: Backoff,
     saw_stop: Option<Duration>,
     opened_at: Option<Address>,
     faults: u64,
@@ -57,6 +61,7 @@ impl<'a, R> UdpReceiver<'a, R> {
             sockets,
             stop,
             socket: None,
+            wait: Backoff::between(WAIT_MS.0, WAIT_MS.1),
             saw_stop: None,
             opened_at: None,
             faults: 0,
@@ -89,8 +94,16 @@ impl<'a, R: Net + Clock + Files> UdpReceiver<'a, R> {
     /// Its socket, whose calls wait for a limited time.
     fn socket_at(&self, place: (&str, u16), receive_buffer: u32) -> io::Result<UdpSocket> {
         let socket = self.sockets.datagrams_at(self.host, place, receive_buffer)?;
-        socket.set_read_timeout(Some(Duration::from_millis(WAIT_MS)))?;
+        socket.set_read_timeout(Some(Duration::from_millis(self.wait.least)))?;
         Ok(socket)
+    }
+}
+
+/// Has a socket's calls wait for so long from now on, where that is another limit than before.
+fn set_wait(socket: &UdpSocket, before: u64, wait: u64) {
+    if before != wait {
+        // where the system refuses it, the limit from before holds
+        let _ = socket.set_read_timeout(Some(Duration::from_millis(wait)));
     }
 }
 
@@ -141,7 +154,7 @@ impl<'a, R: Net + Clock + Files> Datagrams for UdpReceiver<'a, R> {
 
     fn next(&mut self, buf: &mut [u8]) -> Next {
         if self.turns % TURNS_TO_LOOK == 0 {
-            self.stop.look(self.host);
+            self.stop.look_unwatched(self.host);
         }
         if has_drained(self.host, self.stop, &mut self.saw_stop, DRAIN) {
             return Next::End;
@@ -157,13 +170,19 @@ impl<'a, R: Net + Clock + Files> Datagrams for UdpReceiver<'a, R> {
         };
         match receive(socket, buf, MOST_DATAGRAM) {
             Ok(len) => {
+                let before = self.wait.wait;
+                self.wait.reset();
+                set_wait(socket, before, self.wait.wait);
                 take_turn(&mut self.turns);
                 Next::Packet { len }
             }
             Err(e) if e.kind() == ErrorKind::WouldBlock => {
-                if self.stop.look(self.host) {
+                if self.stop.look_unwatched(self.host) {
                     return Next::End;
                 }
+                let before = self.wait.wait;
+                self.wait.grow();
+                set_wait(socket, before, self.wait.wait);
                 take_turn(&mut self.turns);
                 Next::Idle
             }

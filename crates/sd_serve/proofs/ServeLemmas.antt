@@ -1,6 +1,6 @@
 -- A run of the server, put together from what its workers tell, and the closing of its pool and its desk.
 use Rattle.std.proofs.Common.{◌≡◌, ◌⊎◌, ℕ, suc, ◌+◌, ◌<◌, ◌≤◌, Bool, Option, List, [], ◌∷◌, ◌++◌, length, map, flat_map, get_or, All, inl, inr, refl, sym, ap, subst, ◌∙◌, arith, length-append, append_assoc}
-use Rattle.std.specs.Prelude.{Some, IfSome, min, option_to_list, slice_get, sum_by}
+use Rattle.std.specs.Prelude.{Some, min, option_to_list, slice_get, sum_by}
 use Rattle.std.specs.List.{AllByRecursion, range_with_len}
 use Rattle.std.proofs.lemmas.Bool.{cases_lt}
 use Rattle.std.proofs.lemmas.List.{length-map, map-append}
@@ -24,7 +24,7 @@ use Rattle.sd_model_serve.specs.Rounds.{Round, last_second, of_rounds, round_cal
 use Rattle.sd_model_serve.specs.Sessions.{acts_in, events_in}
 use Rattle.sd_model_serve.specs.Doors.{ServesSessions, asked_by, called_in}
 use Rattle.sd_model_serve.proofs.ServedLemmas.{events_of_acts, ran_by_callers}
-use Rattle.sd_model_run.specs.Run.{Course, Terms, brought_in, counts_of, HasOneDesk, IsRun, Objects, ServerTheorem}
+use Rattle.sd_model_run.specs.Run.{Course, Terms, brought_in, counts_of, HasOneDesk, IsRun, Objects, ServerTheorem, later}
 use Rattle.sd_model_stream.specs.Streams.{CountsReads, Lining, brought_in_lines, reads_in}
 use Rattle.sd_model_run.proofs.CountedLemmas.{counts_add_up, no_drops, sum_by-across, sum_by-range, swaps_drop_nothing}
 use Rattle.sd_model_run.proofs.RunLemmas.{run_accounted}
@@ -67,11 +67,6 @@ flusher_as asked ended.End beat beat_now made h = h
 flusher_as asked ended.Failed beat beat_now made h = h
 flusher_as asked (ended.Stopped rounds) beat beat_now made h = h
 flusher_as asked (ended.Worn turns) beat beat_now made h = h
-
--- the last round's second, of a moment that the clock said
-pub said_so : (says : ℕ → Type 0) (now ts : ℕ) (before : Option ℕ) → says now → (ts ≡ now) ⊎ (before ≡ Some ts) → says ts ⊎ (before ≡ Some ts)
-said_so says now ts before said (inl is) = inl (subst says (sym is) said)
-said_so says now ts before said (inr is) = inr is
 
 -- what holds of each by its place holds of each
 pub by_recursion : {X : Type 0} (P : X → Type 0) (xs : List X) → All P xs → AllByRecursion P xs
@@ -135,8 +130,7 @@ module _ {D L : Type 0} (seen : D → Object) (wire_seen : L → Object) (pool :
     pub marks : Marks
     pub waiting : List (List (Option Row))
     pub last : MakesRoundAt (form_of pool plan names) used ts marks flushed_mid (own_at flushing) part_mid (part_of own) back_mid back_now waiting
-    pub told_so : says ts ⊎ (end.last ≡ Some ts)
-    pub in_order : IfSome end.last (λ second. second ≤ ts)
+    pub told_so : (now : ℕ) × says now × (ts ≡ later end.last now)
     pub commanded : ℕ → History
     pub no_command : (i : ℕ) → commanded i ≡ []
     pub admin_part : Part
@@ -398,8 +392,7 @@ module _ {D L : Type 0} (seen : D → Object) (wire_seen : L → Object) (pool :
         same = t.flushes.same;
         ends = flusher_as asked t.end.ended t.beat t.beat_now (length t.flushes.rounds) t.flushes.ends;
       };
-      last = subst (λ n. says n ⊎ (last_second t.flushes.rounds ≡ Some n)) (sym t.last.second) (subst (λ (o : Option ℕ). says t.ts ⊎ (o ≡ Some t.ts)) t.flushes.last t.told_so);
-      in_order = subst (λ n. IfSome (last_second t.flushes.rounds) (λ second. second ≤ n)) (sym t.last.second) (subst (λ (o : Option ℕ). IfSome o (λ second. second ≤ t.ts)) t.flushes.last t.in_order);
+      last = (t.told_so.0, t.told_so.1, t.last.second ∙ t.told_so.2 ∙ ap (λ (o : Option ℕ). later o t.told_so.0) t.flushes.last);
       used = t.flushes.fits;
       used_last = t.last.made.used;
       flowed = t.flushes.flowed;

@@ -1,6 +1,7 @@
 //! A server from its room to its books.
-ghost use Rattle.std.specs.Prelude.{◌≡◌, ◌⊎◌, ◌+◌, ◌*◌, ◌<◌, ◌≤◌, ◌^◌, [], ◌∷◌, ◌++◌, false, All, IfSome, Some, flat_map, length, map, vec_capacity};
+ghost use Rattle.std.specs.Prelude.{◌≡◌, ◌+◌, ◌*◌, ◌<◌, ◌≤◌, ◌^◌, [], ◌∷◌, ◌++◌, false, All, flat_map, length, map, vec_capacity};
 ghost use Rattle.std.specs.List.{AllByRecursion};
+ghost use Rattle.sd_model_run.specs.Run.{later};
 ghost use Rattle.sd_pool.specs.Pool.{IsRoomOf, IsSeatOf, receivers_of};
 ghost use Rattle.sd_shared_desk.specs.Shared.{IsSeatOf as IsDeskSeatOf, seats_of};
 ghost use Rattle.sd_serve.specs.Closing.{IsClosed};
@@ -78,12 +79,11 @@ fn close<D: Datagrams + Drop, L: Wire + Drop>(
 
 // The second of the last round: now, or that of the round before it, where that is later.
 fn last_round_at(now: u64, before: Option<u64>) -> u64
-    ensures at { (result ≡ now) ⊎ (before ≡ Some result) }
-    ensures in_order { IfSome before (λ second. second ≤ result) }
+    ensures { result ≡ later before now }
 {
     match before {
-        Some(second) if now < second => second,
-        _ => now,
+        Some(second) => second.max(now),
+        None => now,
     }
 }
 

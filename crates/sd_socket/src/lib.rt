@@ -11,7 +11,9 @@ mod datagrams;
 mod handed_over;
 mod offered;
 mod options;
+mod ready;
 
 pub use datagrams::SharedAddress;
 pub use handed_over::HandedOver;
 pub use options::{ask_receive_buffer, receive_buffer};
+pub use ready::{most_of_output, waits_for_output};

@@ -5,5 +5,5 @@ use Rattle.sd_outside.specs.Places.{last_place}
 use Rattle.statsd.specs.declared.adapter.Adapter.{Adapter}
 
 -- nothing of its content, how often it failed, and where it was last opened
-abbrev pub seen_of : {T : Type 0} → Adapter T → Object
+abbrev pub seen_of : {X T : Type 0} → Adapter X T → Object
 seen_of a = object_of Untold (min a.faults last_count) (last_place a.opened_at)

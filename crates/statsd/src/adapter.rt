@@ -4,24 +4,33 @@ ghost use Rattle.sd_model_outside.specs.Outside.{HasFailed, opened};
 ghost use Rattle.sd_outside.specs.Places.{place_of};
 ghost use Rattle.statsd.specs.Adapter.{seen_of};
 
+use crate::shared::Shared;
 use sd_outside::{Address, Faulty, OpenRefusal, opening_fault};
 use std::io::{Error, ErrorKind};
 
 /// An object of the system: what stands for it once it is opened, where it was last opened, and how often it failed. It tells
 /// nothing of its content.
 #[derive(Drop)]
-pub(crate) struct Adapter<'a, T> {
+pub(crate) struct Adapter<'a, X, T> {
     pub rt: &'a HostRuntime,
+    pub threads: &'a X,
+    pub shared: &'a Shared,
     pub object: Option<T>,
     pub faults: u64,
     opened_at: Option<Address>,
 }
 
-impl<'a, T: Drop> Adapter<'a, T> {
+impl<'a, X, T: Drop> Adapter<'a, X, T> {
     /// It is opened later.
-    pub(crate) fn new(rt: &'a HostRuntime) -> Adapter<'a, T> {
+    pub(crate) fn new(
+        rt: &'a HostRuntime,
+        threads: &'a X,
+        shared: &'a Shared,
+    ) -> Adapter<'a, X, T> {
         Adapter {
             rt,
+            threads,
+            shared,
             object: None,
             faults: 0,
             opened_at: None,
@@ -56,7 +65,7 @@ impl<'a, T: Drop> Adapter<'a, T> {
     }
 }
 
-impl<'a, T> Faulty for Adapter<'a, T> {
+impl<'a, X, T> Faulty for Adapter<'a, X, T> {
     ghost use Rattle.std.proofs.Common.{arith};
     ghost use Rattle.statsd.specs.Adapter.{seen_of};
 

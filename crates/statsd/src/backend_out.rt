@@ -1,48 +1,53 @@
 use crate::adapter::Adapter;
-use crate::standard_out::StandardOut;
-use sd_net::GraphiteLink;
+use crate::shared::Shared;
+use crate::standard_out::{is_standard, write_text};
+use sd_net::{GraphiteLink, Text};
 use sd_outside::{Address, Backend, Failed, OpenRefusal, Opens, Sink, fault};
+use std::thread::Threads;
 
 /// Where a backend's text goes.
 #[derive(Drop)]
-pub(crate) enum Destination<'a> {
-    Standard(StandardOut<'a>),
-    Graphite(GraphiteLink<'a, HostRuntime>),
+pub(crate) enum Destination<'a, X> {
+    Standard,
+    Graphite(GraphiteLink<'a, X>),
 }
 
 /// A backend that writes to standard output, where it doesn't set the lists apart, if it is opened at the file with the empty
 /// name, and to Graphite if it is opened at a host. It doesn't tell what it was given.
-pub(crate) type BackendOut<'a> = Adapter<'a, Destination<'a>>;
+pub(crate) type BackendOut<'a, X> = Adapter<'a, X, Destination<'a, X>>;
 
 /// The destination at an address.
-fn destination_at<'a>(rt: &'a HostRuntime, at: &Address) -> Result<Destination<'a>, OpenRefusal> {
-    match at {
-        Address::File(_) => {
-            let mut output = StandardOut::new(rt);
-            output.open_at(at)?;
-            Ok(Destination::Standard(output))
-        }
-        Address::Host { .. } => {
-            let mut link = GraphiteLink::new(rt);
-            link.open_at(at)?;
-            Ok(Destination::Graphite(link))
-        }
-        Address::Datagrams { .. } => Err(OpenRefusal::Failed),
+fn destination_at<'a, X: Threads>(
+    rt: &'a HostRuntime,
+    threads: &'a X,
+    shared: &'a Shared,
+    at: &Address,
+) -> Result<Destination<'a, X>, OpenRefusal> {
+    if is_standard(at) {
+        return Ok(Destination::Standard);
     }
+    let mut link = GraphiteLink::new(rt, threads, &shared.stop, &shared.pace);
+    link.open_at(at)?;
+    Ok(Destination::Graphite(link))
 }
 
-impl<'a> Opens for Adapter<'a, Destination<'a>> {
+impl<'a, X: Threads> Opens for Adapter<'a, X, Destination<'a, X>> {
     fn open_at(&mut self, at: &Address) -> Result<(), OpenRefusal> {
-        let destination = destination_at(self.rt, at);
+        let destination = destination_at(self.rt, self.threads, self.shared, at);
         self.keep(at, destination)
     }
 }
 
-impl<'a> Sink for Adapter<'a, Destination<'a>> {
+impl<'a, X: Threads> Sink for Adapter<'a, X, Destination<'a, X>> {
     fn write(&mut self, bytes: &[u8]) -> Result<usize, Failed> {
         let written = match &mut self.object {
             None => Err(Failed),
-            Some(Destination::Standard(output)) => output.write(bytes),
+            Some(Destination::Standard) => {
+                match write_text(self.rt, self.shared, Text::Flush, bytes) {
+                    Ok(n) => Ok(n),
+                    Err(_) => Err(Failed),
+                }
+            }
             Some(Destination::Graphite(link)) => link.write(bytes),
         };
         match written {
@@ -54,11 +59,11 @@ impl<'a> Sink for Adapter<'a, Destination<'a>> {
     ghost number_fits = { λ s. tt };
 }
 
-impl<'a> Backend for Adapter<'a, Destination<'a>> {
+impl<'a, X: Threads> Backend for Adapter<'a, X, Destination<'a, X>> {
     fn begin(&mut self) -> Result<(), Failed> {
         let begun = match &mut self.object {
             None => Err(Failed),
-            Some(Destination::Standard(_)) => Ok(()),
+            Some(Destination::Standard) => Ok(()),
             Some(Destination::Graphite(link)) => link.begin(),
         };
         match begun {
@@ -70,7 +75,7 @@ impl<'a> Backend for Adapter<'a, Destination<'a>> {
     fn finish(&mut self) -> Result<(), Failed> {
         let finished = match &mut self.object {
             None => Err(Failed),
-            Some(Destination::Standard(_)) => Ok(()),
+            Some(Destination::Standard) => Ok(()),
             Some(Destination::Graphite(link)) => link.finish(),
         };
         match finished {

@@ -5,7 +5,7 @@ use std::io::Read;
 use std::str;
 
 /// A file that bytes are read from. It doesn't tell what it has left.
-pub(crate) type FileSource<'a> = Adapter<'a, File>;
+pub(crate) type FileSource<'a, X> = Adapter<'a, X, File>;
 
 /// The file of an address.
 fn file_at(rt: &HostRuntime, at: &Address) -> Result<File, OpenRefusal> {
@@ -18,14 +18,14 @@ fn file_at(rt: &HostRuntime, at: &Address) -> Result<File, OpenRefusal> {
     File::open(rt, path).map_err(refusal_of)
 }
 
-impl<'a> Opens for Adapter<'a, File> {
+impl<'a, X> Opens for Adapter<'a, X, File> {
     fn open_at(&mut self, at: &Address) -> Result<(), OpenRefusal> {
         let file = file_at(self.rt, at);
         self.keep(at, file)
     }
 }
 
-impl<'a> Source for Adapter<'a, File> {
+impl<'a, X> Source for Adapter<'a, X, File> {
     fn read(&mut self, buf: &mut [u8]) -> Result<usize, Failed> {
         let Some(file) = &mut self.object else {
             return Err(fault(&mut self.faults));

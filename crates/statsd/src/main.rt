@@ -8,31 +8,32 @@
 
 ghost use Rattle.std.specs.Prelude.{◌≡◌, drop, length, IfOk};
 ghost use Rattle.std.specs.Process.{exit_status};
+ghost use Rattle.sd_model_outside.specs.Outside.{Untold, fresh};
 ghost use Rattle.sd_top.specs.Status.{exit_code};
 
 mod adapter;
 mod backend_out;
 mod file_source;
+mod shared;
 mod standard_out;
-mod udp_wire;
 
 use backend_out::BackendOut;
 use file_source::FileSource;
 use sd_decimal::Line;
 use sd_net::{
-    DoorSizes, LongLines, Sockets, Stop, SystemClock, TcpDoor, TcpProbe, TickBeat, UdpReceiver,
+    DoorSizes, LongLines, Share, SystemClock, TcpDoor, TcpProbe, TickBeat, UdpReceiver, UdpWire,
+    WatchedDoor,
 };
-use sd_outside::{Backs, NoGate};
-use sd_socket::HandedOver;
+use sd_outside::{Backs, Faulty, NoGate};
 use sd_top::{Status, World, explain, statsd};
+use shared::{Shared, no_memory};
 use standard_out::StandardOut;
 use std::alloc::{AllocError, Global};
-use std::env::{self, VarError};
+use std::env;
 use std::io::{ErrorKind, Write};
-use std::process::{self, ExitCode};
+use std::process::ExitCode;
 use std::sync::Wait;
 use std::thread::Threads;
-use udp_wire::UdpWire;
 
 /// The words of the command line, with the program's name first.
 ///
@@ -45,12 +46,6 @@ fn words(rt: &HostRuntime) -> Result<Vec<String>, Status> {
         Err(e) if e.kind() == ErrorKind::OutOfMemory => Err(Status::OutOfMemory),
         Err(_) => Err(Status::Usage),
     }
-}
-
-fn no_memory(_: AllocError) -> Status
-    ensures { result ≡ Status.OutOfMemory }
-{
-    Status::OutOfMemory
 }
 
 /// The words behind the program's name.
@@ -81,6 +76,8 @@ const ADMIN_SIZES: DoorSizes = DoorSizes {
     clients: 64,
     line: 1_024,
     long_lines: LongLines::Split,
+    share: Share::Line,
+    replies: 256 << 20,
 };
 
 /// What the port for streams of lines holds of its clients: one byte more than a line may have, so that a longer one is known.
@@ -88,36 +85,9 @@ const STREAM_SIZES: DoorSizes = DoorSizes {
     clients: 256,
     line: 65_508,
     long_lines: LongLines::Cut,
+    share: Share::Lines,
+    replies: 0,
 };
-
-/// The variable of the environment that names the file whose being there stops a server or a proxy.
-const STOP_FILE: &str = "STATSD_STOP";
-
-/// What the objects of a server or a proxy share.
-#[derive(Drop)]
-struct Shared {
-    sockets: Sockets,
-    stop: Stop,
-}
-
-impl Shared {
-    /// # Errors
-    ///
-    /// `OutOfMemory`, and `Usage` where the name of the stop file isn't UTF-8.
-    fn new(rt: &HostRuntime) -> Result<Shared, Status> {
-        let stop_file = match env::var(rt, STOP_FILE) {
-            Ok(name) => Some(name),
-            Err(VarError::NotPresent) => None,
-            Err(VarError::NotUnicode) => return Err(Status::Usage),
-            Err(VarError::OutOfMemory) => return Err(Status::OutOfMemory),
-        };
-        let handed = HandedOver::of_process(rt, rt.alloc(), process::id(rt.process()));
-        Ok(Shared {
-            sockets: Sockets::new(handed.map_err(no_memory)?),
-            stop: Stop::new(stop_file),
-        })
-    }
-}
 
 /// Receivers of datagrams that are opened later.
 ///
@@ -142,19 +112,34 @@ fn receivers<'a>(
 /// # Errors
 ///
 /// Where no memory is left for the list.
-fn wires(rt: &HostRuntime) -> Result<Vec<UdpWire<'_>>, AllocError>
+fn wires<'a, X>(
+    rt: &'a HostRuntime,
+    threads: &'a X,
+    shared: &'a Shared,
+) -> Result<Vec<UdpWire<'a, X>>, AllocError>
     ensures { IfOk result (λ wires. length wires.items ≡ 256) }
 {
     let mut wires = Vec::with_capacity(rt.alloc(), WIRES)?;
     for _ in 0..WIRES {
-        wires.push(UdpWire::new(rt))?;
+        wires.push(UdpWire::new(rt, threads, &shared.hosts))?;
     }
     Ok(wires)
 }
 
+/// The admin port, which is opened later.
+fn admin_door<'a>(
+    rt: &'a HostRuntime,
+    shared: &'a Shared,
+) -> WatchedDoor<'a, TcpDoor<'a, HostRuntime>>
+    ensures { ⟦<WatchedDoor<'a, TcpDoor<'a, HostRuntime>> as Faulty>⟧.seen result ≡ fresh Untold }
+{
+    let door = TcpDoor::new(rt, rt.alloc(), &shared.sockets, &shared.stop, ADMIN_SIZES);
+    WatchedDoor::of(door, &shared.pace)
+}
+
 /// Carries out what the words ask for.
 fn run<'a>(
-    threads: &(impl Threads + Wait + Sync),
+    threads: &'a (impl Threads + Wait + Sync),
     rt: &'a HostRuntime,
     shared: &'a Shared,
 ) -> Status {
@@ -166,26 +151,26 @@ fn run<'a>(
     let Ok(packets) = receivers(rt, shared) else {
         return Status::OutOfMemory;
     };
-    let Ok(wires) = wires(rt) else {
+    let Ok(wires) = wires(rt, threads, shared) else {
         return Status::OutOfMemory;
     };
     let mut world = World {
-        settings: FileSource::new(rt),
-        script: FileSource::new(rt),
-        output: StandardOut::new(rt),
+        settings: FileSource::new(rt, threads, shared),
+        script: FileSource::new(rt, threads, shared),
+        output: StandardOut::new(rt, threads, shared),
         backs: Backs {
-            graphite: BackendOut::new(rt),
-            console: BackendOut::new(rt),
+            graphite: BackendOut::new(rt, threads, shared),
+            console: BackendOut::new(rt, threads, shared),
             graphite_used: true,
             console_used: false,
         },
         packets,
         wires,
-        door: TcpDoor::new(rt, alloc, &shared.sockets, &shared.stop, ADMIN_SIZES),
-        beat: TickBeat::new(rt, &shared.stop),
+        door: admin_door(rt, shared),
+        beat: TickBeat::new(rt, &shared.stop, &shared.pace),
         gate: NoGate,
-        clock: SystemClock::new(rt),
-        probe: TcpProbe::new(rt),
+        clock: SystemClock::new(rt, &shared.pace),
+        probe: TcpProbe::new(rt, threads, &shared.hosts),
         streams: TcpDoor::new(rt, alloc, &shared.sockets, &shared.stop, STREAM_SIZES),
     };
     statsd(threads, alloc, behind_name(words.as_slice()), &mut world)

@@ -22,7 +22,7 @@ use Rattle.sd_serve.proofs.DeskLemmas.{numbers_kept}
 use Rattle.sd_serve.proofs.LineLemmas.{line_numbers, line_callers, line_owns_are, line_seats_are}
 use Rattle.sd_serve.proofs.PostLemmas.{ran_numbers, AreNew, all_ran, all_were_run, ran_callers, ran_owns, ran_seats, ran_wires, receptions_ended}
 use Rattle.sd_serve.proofs.RoomLemmas.{counted_by, left_behind, line_long, line_new, line_ready, line_there, lines_after, lines_long, new_posts, part_behind, parts_behind, ready_posts, rooms_ready, rooms_there}
-use Rattle.sd_serve.proofs.ServeLemmas.{Told, by_recursion, said_so}
+use Rattle.sd_serve.proofs.ServeLemmas.{Told, by_recursion}
 use Rattle.sd_serve.proofs.ServedLemmas.{served_as}
 use Rattle.sd_serve.proofs.serving.serve.Goals as goal
 
@@ -324,8 +324,7 @@ returns-clause-served g c =
       waiting = waiting_in c.round.new.tables;
       last = subst (λ used. MakesRoundAt (form_of room.pool c.args.plan.now c.args.names.now) used c.last_round_at.result (marks_of c.round.result) (own_at ran.new.seat) (own_at c.round.new.seat) (part_of ran.new.own) (part_of c.round.new.own)
           (back_of g.K.B.Faulty.seen ran.new.backs) (back_of g.K.B.Faulty.seen c.round.new.backs) (waiting_in c.round.new.tables)) flags c.round.ensures.round;
-      told_so = said_so (g.K.T.Clock.may_say c.args.clock.now) c.now.result c.last_round_at.result ran.result.0.flusher.last c.now.ensures c.last_round_at.ensures.at;
-      in_order = c.last_round_at.ensures.in_order;
+      told_so = (c.now.result, c.now.ensures, c.last_round_at.ensures);
       commanded = own_at room.seats.admin;
       no_command = others.1.0.own;
       admin_part = part_of c.take_first-admin_own.result;

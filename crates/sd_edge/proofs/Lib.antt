@@ -1,0 +1,3 @@
+pub mod GuestLemmas
+pub mod KeptLemmas
+pub mod NewlineLemmas

@@ -1,0 +1,5 @@
+pub mod Addresses
+pub mod Guests
+pub mod Lines
+pub mod Seconds
+pub mod Times
