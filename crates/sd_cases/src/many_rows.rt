@@ -22,14 +22,25 @@ fn key_of(number: u32) -> Option<Key> {
     Key::of(&bytes)
 }
 
+/// The finisher fmix64 of MurmurHash3, by which rows spread the hashes of keys.
+fn mix(number: u64) -> u64 {
+    let once = (number ^ (number >> 33)).wrapping_mul(0xff51_afd7_ed55_8ccd);
+    let twice = (once ^ (once >> 33)).wrapping_mul(0xc4ce_b9fe_1a85_ec53);
+    twice ^ (twice >> 33)
+}
+
+/// Whether the search for a counter of this key begins at the first cell, among so many places.
+fn is_first(key: &Key, places: u32) -> bool {
+    let homes = 2 * u64::from(places);
+    let hash = mix(fnv1a(key.as_slice())) >> 32;
+    homes != 0 && hash.wrapping_mul(homes) >> 32 == 0
+}
+
 /// Whether a counter of this key is of the family, among so many places.
 fn is_in(family: Family, key: &Key, places: u32) -> bool {
     match family {
         Family::Any => true,
-        Family::OneHome => {
-            let homes = 2 * u64::from(places);
-            homes != 0 && fnv1a(key.as_slice()) / 16 % homes == 0
-        }
+        Family::OneHome => is_first(key, places),
     }
 }
 
@@ -112,7 +123,7 @@ fn copy_place(rows: &Rows, spare: &mut Rows, at: u32) -> bool {
             false
         }
         Some(row) => {
-            make_room(spare, row.kind, &row.key, at);
+            make_room(spare, row.kind, row.key, at);
             copy_counted::<Brand>(rows, spare, at, Blank::new(1));
             true
         }
@@ -121,8 +132,8 @@ fn copy_place(rows: &Rows, spare: &mut Rows, at: u32) -> bool {
 
 /// Removes a row that doesn't stand in this place.
 fn make_room(rows: &mut Rows, kind: Kind, key: &Key, at: u32)
-    ensures apart { (p : ℕ) → Holds kind key.now (row_at rows.new p) → p ≡ at }
-    ensures len { length rows.new ≡ length rows.old }
+    ensures apart { (p : ℕ) → Holds kind key.now (row_at rows.new.rows p) → p ≡ at }
+    ensures len { length rows.new.rows ≡ length rows.old.rows }
 {
     match rows.find(kind, key) {
         Some(other) if other != at => rows.remove(other),
@@ -132,13 +143,13 @@ fn make_room(rows: &mut Rows, kind: Kind, key: &Key, at: u32)
 
 /// Copies a place, with steps that are counted in a ledger of its own.
 fn copy_counted<L: Ledger>(rows: &Rows, spare: &mut Rows, at: u32, blank: Blank)
-    requires within { at < length spare.old }
-    requires from { at < length rows.now }
-    requires apart { StandsNowhereElse (row_at rows.now at) at spare.old }
+    requires within { at < length spare.old.rows }
+    requires from { at < length rows.now.rows }
+    requires apart { StandsNowhereElse (row_at rows.now.rows at) at spare.old.rows }
     requires name { blank.name ≡ L.name }
     requires parts { blank.parts ≡ L.parts }
     requires some { 0 < blank.parts }
-    ensures { spare.new ≡ set spare.old at (row_at rows.now at) }
+    ensures { spare.new.rows ≡ set spare.old.rows at (row_at rows.now.rows at) }
 {
     let mut steps: Steps<L> = Steps::new(blank);
     spare.copy_row(rows, at, &mut steps);

@@ -6,6 +6,9 @@ use sd_rows::Rows;
 use std::alloc::{AllocError, Global};
 use std::mem;
 
+/// The seed of the hashes by which rows are found.
+const SEED: u64 = 0;
+
 /// The rows that a case calls, and spare ones of the same size.
 #[derive(Drop)]
 struct Tables {
@@ -21,8 +24,8 @@ pub fn calls_of(
     out: &mut Answer,
 ) -> Result<(), Refusal> {
     let mut tables = Tables {
-        rows: Rows::open(alloc, places)?,
-        spare: Rows::open(alloc, places)?,
+        rows: Rows::open(alloc, places, SEED)?,
+        spare: Rows::open(alloc, places, SEED)?,
     };
     tables.answer_all(alloc, calls, out)
 }

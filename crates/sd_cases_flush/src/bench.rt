@@ -64,7 +64,7 @@ pub fn open(alloc: Global, shards: u16, limits: Limits) -> Result<Bench, Refusal
 {
     let backs = backs_of(alloc)?;
     let tables = Tables::open(alloc, limits, shards)?;
-    let spares = Spares::open(alloc, shards, limits)?;
+    let spares = Spares::open(alloc, shards, limits, 0)?;
     let (desk, mut owns) = SharedDesk::open(alloc, 0, 3)?;
     let watcher = owns.pop();
     let Some(own) = owns.pop() else {
@@ -73,7 +73,7 @@ pub fn open(alloc: Global, shards: u16, limits: Limits) -> Result<Bench, Refusal
     let Some(adder) = owns.pop() else {
         unreachable!()
     };
-    let (pool, seats) = Pool::open(alloc, limits, POLICY, shards, 1)?;
+    let (pool, seats) = Pool::open(alloc, limits, POLICY, shards, 1, 0)?;
     let Seats {
         mut receivers,
         flusher,

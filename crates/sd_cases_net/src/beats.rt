@@ -1,13 +1,21 @@
 use crate::common::{step, stop_name};
 use sd_case::Answer;
 use sd_net::{Pace, Stop, SystemClock, TickBeat};
-use sd_outside::{Beat, Clock, Tick};
+use sd_outside::{Beat, Clock, Interval, Tick};
 use std::thread::{Threads, join, sleep};
 use std::time::{self, Duration};
 use std::{fs, io};
 
 /// The interval of the beat that ticks, in milliseconds.
 const INTERVAL: u32 = 100;
+
+/// So many milliseconds, counted from the start on.
+fn every(ms: u32) -> Interval {
+    Interval {
+        ms,
+        is_aligned: false,
+    }
+}
 
 /// What a beat answered.
 fn tick_text(tick: Tick) -> &'static str {
@@ -38,7 +46,7 @@ fn ticks<'a>(rt: &'a HostRuntime, stop: &'a Stop, out: &mut Answer) -> io::Resul
     let clock = SystemClock::new(rt, &pace);
     let mut beat = TickBeat::new(rt, stop, &pace);
     let before = time::Clock::monotonic(rt)?;
-    beat.start(INTERVAL);
+    beat.start(every(INTERVAL));
     let started = time::Clock::monotonic(rt)?;
     let interval = u128::from(INTERVAL);
     step(
@@ -99,7 +107,7 @@ fn next_beside<'a>(
 ) -> (bool, Tick) {
     let pace = Pace::new();
     let mut beat = TickBeat::new(rt, stop, &pace);
-    beat.start(10_000);
+    beat.start(every(10_000));
     join(
         threads,
         || fs::write(rt, name, b"").is_ok(),

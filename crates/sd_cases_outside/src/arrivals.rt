@@ -4,7 +4,7 @@ use crate::sources::{fail_on, open, show_address};
 use crate::steps::each_step;
 use sd_case::{Answer, Refusal, bytes_of, number};
 use sd_outside::{
-    Beat, Clock, Datagrams, Gate, MemBeat, MemClock, MemDatagrams, Next, NoGate, Tick,
+    Beat, Clock, Datagrams, Gate, Interval, MemBeat, MemClock, MemDatagrams, Next, NoGate, Tick,
 };
 use std::alloc::Global;
 
@@ -128,7 +128,10 @@ fn show_ticks(beat: &MemBeat, out: &mut Answer) {
 /// Appends the interval of a beat's last start.
 fn show_interval(beat: &MemBeat, out: &mut Answer) {
     match beat.interval() {
-        Some(interval) => out.count("", u64::from(interval)),
+        Some(interval) => {
+            out.count("", u64::from(interval.ms));
+            out.text(if interval.is_aligned { ", aligned" } else { "" });
+        }
         None => out.text("none"),
     }
 }
@@ -164,7 +167,11 @@ fn ticks_of(alloc: Global, word: &str) -> Result<Vec<u64>, Refusal> {
 
 /// Starts a beat with the interval that a word writes.
 fn start(beat: &mut MemBeat, interval: &str, out: &mut Answer) -> Result<(), Refusal> {
-    beat.start(number(interval)?);
+    let (ms, is_aligned) = match interval.strip_suffix("!") {
+        Some(ms) => (number(ms)?, true),
+        None => (number(interval)?, false),
+    };
+    beat.start(Interval { ms, is_aligned });
     out.text("ok");
     Ok(())
 }

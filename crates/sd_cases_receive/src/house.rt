@@ -65,7 +65,7 @@ pub(crate) fn tables_of<R: Wait>(
 {
     let mut tables = Vec::new(alloc);
     for i in 0..pool.shards() {
-        let spare = Table::open(alloc, limits)?;
+        let spare = Table::open(alloc, limits, 0)?;
         tables.push(pool.swap(rt, i, flusher, spare))?;
     }
     Ok(tables)
@@ -87,7 +87,7 @@ pub fn serve<L: Wire + Send + Drop, G: Gate + Sync, C: Clock + Sync, R: Threads 
     };
     let shards = setup.shards.clamp(1, 16);
     let receivers = setup.posts.clamp(1, 17);
-    let (pool, seats) = Pool::open(alloc, limits, KEEPS_ALL, shards, receivers)?;
+    let (pool, seats) = Pool::open(alloc, limits, KEEPS_ALL, shards, receivers, 0)?;
     let Seats {
         receivers: seats,
         mut flusher,

@@ -55,7 +55,7 @@ impl House {
     {
         let buf = vec![in alloc; 0; plan.room]?;
         let cutter = Cutter::open(alloc)?;
-        let (pool, seats) = Pool::open(alloc, LIMITS, KEEPS_ALL, plan.shards, 1)?;
+        let (pool, seats) = Pool::open(alloc, LIMITS, KEEPS_ALL, plan.shards, 1, 0)?;
         let Seats {
             mut receivers,
             flusher,

@@ -73,8 +73,13 @@ fn show_sources(sources: &[MemDatagrams], out: &mut Answer) {
 /// Appends what came of the beat, where it was started.
 pub(crate) fn show_beat(beat: &MemBeat, out: &mut Answer) {
     if let Some(interval) = beat.interval() {
-        out.count("\n  beat: every ", u64::from(interval));
-        out.count(" ms, faults ", beat.faults());
+        out.count("\n  beat: every ", u64::from(interval.ms));
+        out.text(if interval.is_aligned {
+            " ms of the clock"
+        } else {
+            " ms"
+        });
+        out.count(", faults ", beat.faults());
         out.count(", left ", beat.remaining().len() as u64);
     }
 }

@@ -74,7 +74,7 @@ fn open_pool<R: Wait>(rt: &R, alloc: Global, plan: &Plan) -> Result<(Pool, Seat)
     ensures shards { IfOk result (λ r. shards_of r.0 ≡ plan.now.shards) }
     ensures limits { IfOk result (λ r. limits_of r.0 ≡ record { rows = 16; entries = 64; sums_on_arrival = false }) }
 {
-    let (pool, seats) = Pool::open(alloc, LIMITS, KEEPS_ALL, plan.shards, 1)?;
+    let (pool, seats) = Pool::open(alloc, LIMITS, KEEPS_ALL, plan.shards, 1, 0)?;
     let Seats {
         mut receivers,
         flusher,

@@ -48,7 +48,7 @@ impl Server {
     fn open(alloc: Global) -> Result<Server, Refusal> {
         Ok(Server {
             output: MemSink::open(alloc, ROOM)?,
-            shard: Shard::open(alloc, LIMITS, KEEPS_ALL)?,
+            shard: Shard::open(alloc, LIMITS, KEEPS_ALL, 0)?,
             settings: settings_of(alloc, "")?,
             desk: Desk::new(0),
             now: 0,

@@ -33,7 +33,7 @@ fn call(alloc: Global, words: &[&str], out: &mut Answer) -> Result<(), Refusal> 
         ["room", file] => rooms::open_room(alloc, file, out),
         ["plain"] => settings::show_plain(out),
         [
-            call @ ("read" | "all" | "config" | "config_text" | "plan" | "names"),
+            call @ ("read" | "all" | "allowed" | "config" | "config_text" | "plan" | "names"),
             file,
             calls @ ..,
         ] => settings::ask(alloc, call, file, calls, out),

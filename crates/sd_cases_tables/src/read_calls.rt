@@ -5,7 +5,7 @@ use sd_outside::Name;
 use sd_plan::{Classes, Names, Node, Target};
 
 /// The read calls in the order of the settings.
-pub(crate) const CALLS: [&str; 39] = [
+pub(crate) const CALLS: [&str; 42] = [
     "port",
     "mgmt_port",
     "flush_interval",
@@ -44,6 +44,9 @@ pub(crate) const CALLS: [&str; 39] = [
     "outlet_bytes",
     "tcp_port",
     "sums_on_arrival",
+    "proxy_mgmt_port",
+    "align_flushes",
+    "batch_bytes",
     "receive_buffer",
 ];
 
@@ -79,6 +82,8 @@ fn number_of(settings: &Settings, call: &str) -> Option<u32> {
         "outlets" => Some(settings.outlets()),
         "outlet_bytes" => Some(settings.outlet_bytes()),
         "tcp_port" => Some(settings.tcp_port()),
+        "proxy_mgmt_port" => Some(settings.proxy_mgmt_port()),
+        "batch_bytes" => Some(settings.batch_bytes()),
         "receive_buffer" => Some(settings.receive_buffer()),
         _ => None,
     }
@@ -94,6 +99,7 @@ fn flag_of(settings: &Settings, call: &str) -> Option<bool> {
         "delete_gauges" => Some(settings.delete_gauges()),
         "legacy_namespace" => Some(settings.legacy_namespace()),
         "sums_on_arrival" => Some(settings.sums_on_arrival()),
+        "align_flushes" => Some(settings.align_flushes()),
         _ => None,
     }
 }

@@ -19,7 +19,13 @@ pub(crate) fn ask(
 ) -> Result<(), Refusal> {
     match Settings::read(alloc, &bytes_of(alloc, file)?) {
         Ok(settings) => show_settings(alloc, &settings, call, calls, out),
-        Err(fault) => show_fault(&fault, out),
+        Err(fault) => {
+            show_fault(&fault, out)?;
+            if call == "allowed" {
+                show_allowed(&fault, out);
+            }
+            Ok(())
+        }
     }
 }
 
@@ -140,6 +146,17 @@ fn show_fault(fault: &ConfigFault, out: &mut Answer) -> Result<(), Refusal> {
         ConfigFault::OutOfRange { name } => show_name(" = out of range ", name, out),
     }
     Ok(())
+}
+
+/// Appends what is allowed, in words.
+fn show_allowed(fault: &ConfigFault, out: &mut Answer) {
+    match fault.allowed() {
+        Some(words) => {
+            out.text("; allowed is ");
+            out.text(words);
+        }
+        None => out.text("; no words"),
+    }
 }
 
 /// Appends a fault with its name.

@@ -133,7 +133,7 @@ impl Bench {
 
     /// Swaps in an empty table, and shows the one that comes out.
     fn swap(&mut self, alloc: Global, out: &mut Answer) -> Result<(), Refusal> {
-        let spare = Table::open(alloc, self.limits)?;
+        let spare = Table::open(alloc, self.limits, 0)?;
         let table = swap_counted::<Brand>(&mut self.shard, spare, Blank::new(1));
         show_table(alloc, &table, out)
     }
@@ -142,7 +142,7 @@ impl Bench {
     fn turn(&mut self, alloc: Global, out: &mut Answer) -> Result<(), Refusal> {
         let spare = match self.spare.take() {
             Some(table) => table,
-            None => Table::open(alloc, self.limits)?,
+            None => Table::open(alloc, self.limits, 0)?,
         };
         let there = rows_at(alloc, &spare)?;
         let mut table = swap_counted::<Brand>(&mut self.shard, spare, Blank::new(1));
@@ -293,7 +293,7 @@ pub(crate) fn steps_on_shard(
 ) -> Result<(), Refusal> {
     let limits = limits_from(limits)?;
     let policy = policy_from(kinds)?;
-    let shard = Shard::open(alloc, limits, policy)?;
+    let shard = Shard::open(alloc, limits, policy, 0)?;
     let mut bench = Bench {
         limits,
         policy,

@@ -43,7 +43,7 @@ impl Bench {
         Ok(Bench {
             limits,
             gathered: Scratch::open(alloc, limits)?,
-            table: Table::open(alloc, limits)?,
+            table: Table::open(alloc, limits, 0)?,
             scratch: RecordScratch::open(alloc, limits, 1)?,
         })
     }
@@ -204,7 +204,7 @@ fn show_parts(
     for i in 0..table.rows() {
         let row = table.get(i);
         let mut line = Answer::new(alloc);
-        show_name(row.kind, &row.key, &mut line);
+        show_name(row.kind, row.key, &mut line);
         show_part(table, i, part, gathered, &mut line);
         lines.push(line.finish()?)?;
     }

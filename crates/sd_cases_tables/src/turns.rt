@@ -3,7 +3,7 @@ ghost use Rattle.std.specs.Prelude.{◌≡◌, ◌<◌};
 use sd_case::Refusal;
 use sd_epoch::Table;
 use sd_key::Kind;
-use sd_rows::{Row, Steps};
+use sd_rows::{Row, RowView, Steps};
 use sd_shard::{Policy, Shard};
 use std::alloc::Global;
 use std::sync::ledger::{Blank, Ledger};
@@ -27,7 +27,7 @@ pub(crate) fn swap_counted<L: Ledger>(shard: &mut Shard, spare: Table, blank: Bl
 pub(crate) fn rows_at(alloc: Global, table: &Table) -> Result<Vec<Option<Row>>, Refusal> {
     let mut rows = Vec::new(alloc);
     for at in 0..table.limits().rows {
-        rows.push(table.get_at(at).map(|row| row.clone().unwrap()))?;
+        rows.push(table.get_at(at).map(|row| row.to_row()))?;
     }
     Ok(rows)
 }
@@ -38,10 +38,10 @@ pub(crate) fn most_steps(table: &Table, policy: &Policy, spare: &[Option<Row>]) 
     let mut most = 0_u64;
     for at in 0..table.limits().rows {
         if let Some(row) = table.get_at(at)
-            && stays(row, policy)
+            && stays(&row, policy)
             && !spare
                 .get(at as usize)
-                .is_some_and(|there| is_same(row, there))
+                .is_some_and(|there| is_same(&row, there))
         {
             most = most.saturating_add(1);
         }
@@ -50,15 +50,15 @@ pub(crate) fn most_steps(table: &Table, policy: &Policy, spare: &[Option<Row>]) 
 }
 
 /// Whether a row stays at a swap.
-fn stays(row: &Row, policy: &Policy) -> bool {
+fn stays(row: &RowView<'_>, policy: &Policy) -> bool {
     let more = u32::from(row.kind == Kind::Gauge);
     !policy.goes_idle(row.kind, row.swaps.saturating_add(more))
 }
 
 /// Whether a place has a row of the kind and key of this one.
-fn is_same(row: &Row, there: &Option<Row>) -> bool {
+fn is_same(row: &RowView<'_>, there: &Option<Row>) -> bool {
     match there {
-        Some(other) => row.kind == other.kind && row.key == other.key,
+        Some(other) => row.is_of(other.kind, &other.key),
         None => false,
     }
 }

@@ -4,7 +4,7 @@ ghost use Rattle.sd_turn.specs.Turn.{IsSeatOf, number_of};
 ghost use Rattle.sd_cases_threads.specs.Puts.{IsLegal, sum_after};
 ghost use Rattle.sd_cases_threads.specs.declared.register.Event.{Event};
 
-use crate::register::{Put, Register, Was};
+use crate::register::{Put, Register};
 use sd_turn::{Turn, TurnSeat};
 use std::alloc::{AllocError, Global};
 use std::sync::Wait;
@@ -25,7 +25,7 @@ pub struct Putter {
     found: Vec<u64>,
 }
 
-// Puts 1 so many times. The list goes along with each, and has the answers in the end.
+// Puts 1 so many times. The list is lent to each, and has the answers in the end.
 fn put_often<R: Wait>(
     rt: &R,
     turn: &Turn<Register>,
@@ -38,20 +38,16 @@ fn put_often<R: Wait>(
 {
     let Putter {
         mut seat,
-        found: mut list,
+        mut found,
     } = putter;
     for _ in 0..times {
-        let Was { sum, list: back } = turn.with_turn(
-            rt,
-            &mut seat,
-            Put { more: 1, list },
-            || count_up(inside),
-        );
-        list = back;
-        // No memory for an answer shows in what is printed.
-        let _ = list.push(sum);
+        let mut put = Put {
+            more: 1,
+            found: &mut found,
+        };
+        let _ = turn.with_turn(rt, &mut seat, &mut put, || count_up(inside));
     }
-    Putter { seat, found: list }
+    Putter { seat, found }
 }
 
 /// What two threads did: the register, and the answers that each got.

@@ -1,7 +1,7 @@
 //! A value with a history: a sum, and a log of who put something in.
 ghost use Rattle.std.specs.Prelude.{◌≡◌, false, map, refl, [], ◌∷◌, ◌++◌};
 
-use sd_turn::Stepped;
+use sd_turn::{Change, Stepped};
 
 /// A sum modulo 2^64, with the numbers of the seats that put something in, in order. It has missed
 /// some of these once there is no memory for more.
@@ -13,18 +13,11 @@ pub struct Register {
     pub missed: bool,
 }
 
-/// Adds a number, and brings a list along.
+/// Adds a number. The sum as it was before goes to the end of a list that is lent, where there is memory for it.
 #[derive(Drop)]
-pub struct Put {
+pub struct Put<'a> {
     pub more: u64,
-    pub list: Vec<u64>,
-}
-
-/// The sum as it was before, and the list that was brought.
-#[derive(Drop)]
-pub struct Was {
-    pub sum: u64,
-    pub list: Vec<u64>,
+    pub found: &'a mut Vec<u64>,
 }
 
 /// An entry of the history. No value of it is made.
@@ -47,42 +40,46 @@ impl Register {
 }
 
 impl Stepped for Register {
-    type Ask = Put;
-
-    type Reply = Was;
-
     type Noted = Event;
 
     type Fixed = u64;
 
-    ghost use Rattle.sd_cases_threads.specs.Puts.{IsLegal, sum_after, event};
+    ghost use Rattle.sd_cases_threads.specs.Puts.{IsLegal, sum_after};
     ghost use Rattle.sd_cases_threads.specs.declared.register.Event.{Event};
 
     ghost fixed = { λ r. r.seats };
 
     ghost seats = { λ seats. seats };
 
-    ghost allows = { λ seats put. Unit {0} };
-
     ghost legal = { λ seats log. IsLegal 0 log };
 
     ghost stands = { λ r log. (r.sum ≡ sum_after 0 log) × IsLegal 0 log × (r.missed ≡ false → r.log.items ≡ map (λ (e : Event). e.who) log) };
 
-    ghost entry = { λ seats number put was. event number put.more was.sum };
-
     ghost who = { λ e. e.who };
 
-    ghost replies = { λ seats put was. was.list ≡ put.list };
+    ghost stands_legal = { λ v log stands. stands.1 };
+}
 
-    fn apply(&mut self, number: u16, ask: Put) -> Was {
-        let Put { more, list } = ask;
-        let sum = self.sum;
-        self.sum = sum.wrapping_add(more);
-        self.note(number);
-        Was { sum, list }
+impl Change<Register> for Put<'_> {
+    /// The sum as it was before.
+    type Answer = u64;
+
+    ghost use Rattle.sd_cases_threads.specs.Puts.{event};
+
+    ghost allows = { λ put seats. Unit {0} };
+
+    ghost entries = { λ put then was seats number. event number put.more was ∷ [] };
+
+    ghost told = { λ put then was seats. then.found.ghost_name ≡ put.found.ghost_name };
+
+    fn apply(&mut self, value: &mut Register, number: u16) -> u64 {
+        let sum = value.sum;
+        value.sum = sum.wrapping_add(self.more);
+        value.note(number);
+        // No memory for an answer shows in what is printed.
+        let _ = self.found.push(sum);
+        sum
     }
 
-    ghost stands_legal = { λ v log stands. stands.1 };
-
-    ghost entry_names = { λ seats number put was. refl };
+    ghost entries_name = { λ put then was seats number. (refl, tt) };
 }

@@ -99,7 +99,7 @@ pub fn submit_and_swap<R: Threads + Wait + Sync>(
     alloc: Global,
     s: &Sample,
 ) -> Result<ShardBook, AllocError> {
-    let (pool, seats) = Pool::open(alloc, LIMITS, POLICY, 7, 2)?;
+    let (pool, seats) = Pool::open(alloc, LIMITS, POLICY, 7, 2, 0)?;
     let Seats {
         mut receivers,
         flusher,
@@ -112,7 +112,7 @@ pub fn submit_and_swap<R: Threads + Wait + Sync>(
     let Some(one) = receivers.pop() else {
         unreachable!()
     };
-    let spare = Table::open(alloc, LIMITS)?;
+    let spare = Table::open(alloc, LIMITS, 0)?;
     let shared = &pool;
     let ((one, two), flusher) = join(
         rt,

@@ -66,5 +66,8 @@ transport_view s =
       outlet_bytes = s.outlet_bytes;
       tcp_port = s.tcp_port;
       sums_on_arrival = s.sums_on_arrival;
+      proxy_mgmt_port = s.proxy_mgmt_port;
+      align_flushes = s.align_flushes;
+      batch_bytes = s.batch_bytes;
       receive_buffer = s.receive_buffer;
     }

@@ -7,58 +7,13 @@ ghost use Rattle.std.specs.List.Sorted.{IsStrictlySortedBy};
 ghost use Rattle.std.specs.Option.{option_map, option_copied};
 ghost use Rattle.toml.specs.Data.{get_member};
 ghost use Rattle.toml.specs.View.{view, items_view, table_view};
-ghost use Rattle.sd_model_settings.specs.Settings.{shown, names, first_unknown, unknown_in, unknown_among, unknown_in_list, unknown};
+ghost use Rattle.sd_model_settings.specs.Settings.{shown, names, first_unknown, unknown_in, unknown_among, unknown_in_list, tables, unknown};
 
 use crate::fault::shown;
 use crate::fields::found;
+use crate::table::{GRAPHITE, TOP};
 use sd_outside::Name;
 use toml::{Table, Value};
-
-const TOP: [&str; 33] = [
-    "port",
-    "mgmt_port",
-    "flushInterval",
-    "percentThreshold",
-    "deleteIdleStats",
-    "deleteCounters",
-    "deleteTimers",
-    "deleteSets",
-    "deleteGauges",
-    "prefixStats",
-    "address",
-    "mgmt_address",
-    "backends",
-    "graphiteHost",
-    "graphitePort",
-    "graphite",
-    "histogram",
-    "repeater",
-    "nodes",
-    "checkInterval",
-    "cacheSize",
-    "shards",
-    "rows",
-    "entries",
-    "receivers",
-    "runFlushes",
-    "gaugesMaxTTL",
-    "calculatedTimerMetrics",
-    "outlets",
-    "outletBytes",
-    "tcp_port",
-    "sumsOnArrival",
-    "receiveBuffer",
-];
-
-const GRAPHITE: [&str; 7] = [
-    "legacyNamespace",
-    "globalPrefix",
-    "prefixCounter",
-    "prefixTimer",
-    "prefixGauge",
-    "prefixSet",
-    "globalSuffix",
-];
 
 const HISTOGRAM: [&str; 2] = ["metric", "bins"];
 
@@ -120,7 +75,7 @@ fn unknown_in_list(value: Option<&Value>, prefix: &str, known: &[&str]) -> Optio
 /// The first name of a file that isn't known.
 #[tactic(auto, unfolding(sd_model_settings::specs::Settings::unknown))]
 pub(crate) fn unknown(table: &Table) -> Option<Name>
-    ensures { option_map (λ n. n.items) result ≡ option_map shown (unknown (table_view table.now)) }
+    ensures { option_map (λ n. n.items) result ≡ option_map shown (unknown tables (table_view table.now)) }
 {
     if let Some(name) = first_unknown(table, "", &TOP) {
         return Some(name);

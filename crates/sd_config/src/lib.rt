@@ -5,6 +5,7 @@
 //! file. `Settings::read` takes memory for the document and gives it back, and no other call takes any.
 #![tactic(auto)]
 
+mod allowed;
 mod backends;
 mod bins;
 mod entries;
@@ -16,6 +17,7 @@ mod lists;
 mod names;
 mod section;
 mod settings;
+mod table;
 mod thresholds;
 mod values;
 

@@ -4,7 +4,8 @@ ghost use Rattle.toml.specs.Data.{get_member, no_members};
 ghost use Rattle.toml.specs.View.{view, table_view};
 ghost use Rattle.sd_model_settings.specs.Values.{whole, flag, text, listed, members};
 ghost use Rattle.sd_model_settings.specs.Entries.{thresholds, backends, class_names};
-ghost use Rattle.sd_model_settings.specs.Settings.{named, setting, within_product};
+ghost use Rattle.sd_model_settings.specs.Kinds.{Share, read_as};
+ghost use Rattle.sd_model_settings.specs.Settings.{named, found};
 ghost use Rattle.sd_config.specs.Answers.{Gives, seen_by};
 ghost use Rattle.sd_config.specs.Values.{passes, section_of, members_of};
 ghost use Rattle.sd_plan.specs.Values.{micros, name_bytes};
@@ -72,7 +73,7 @@ impl<'a> Section<'a> {
         default: u32,
     ) -> Result<u32, ConfigFault>
         ensures { Gives (λ n. n) result
-            (setting (section_of self.now) name.now (whole least most) default) }
+            (found (section_of self.now) name.now (whole least most) default) }
     {
         match self.get(name) {
             None => Ok(default),
@@ -80,28 +81,28 @@ impl<'a> Section<'a> {
         }
     }
 
-    /// The number, where its product with that of an earlier setting is at most `most`.
-    pub(crate) fn within_product(
+    /// An integer from `least` to `most`, whose product with an earlier one is at most `all`.
+    pub(crate) fn share(
         &self,
         name: &str,
-        most: u64,
+        least: u32,
+        most: u32,
+        all: u64,
         earlier: u32,
-        number: u32,
+        default: u32,
     ) -> Result<u32, ConfigFault>
-        ensures { Gives (λ n. n) result (within_product (section_of self.now) name.now most earlier number) }
+        ensures { Gives (λ n. n) result
+            (found (section_of self.now) name.now (read_as (Share least most all earlier)) default) }
     {
-        if u64::from(earlier) * u64::from(number) <= most {
-            Ok(number)
-        } else {
-            Err(ConfigFault::OutOfRange {
-                name: shown(self.prefix, name),
-            })
+        match self.get(name) {
+            None => Ok(default),
+            Some(value) => self.named(name, values::share(value, least, most, all, earlier)),
         }
     }
 
     /// A boolean.
     pub(crate) fn flag(&self, name: &str, default: bool) -> Result<bool, ConfigFault>
-        ensures { Gives (λ b. b) result (setting (section_of self.now) name.now flag default) }
+        ensures { Gives (λ b. b) result (found (section_of self.now) name.now flag default) }
     {
         match self.get(name) {
             None => Ok(default),
@@ -118,7 +119,7 @@ impl<'a> Section<'a> {
     ) -> Result<Name, ConfigFault>
         requires { length default.now ≤ 255 }
         ensures { Gives (λ n. n.items) result
-            (setting (section_of self.now) name.now (text (passes rule)) default.now) }
+            (found (section_of self.now) name.now (text (passes rule)) default.now) }
     {
         match self.get(name) {
             None => Ok(name_of(default.as_bytes())),
@@ -133,7 +134,7 @@ impl<'a> Section<'a> {
         default: i64,
     ) -> Result<ArrayVec<Micro, 16>, ConfigFault>
         ensures { Gives (λ v. micros v.items) result
-            (setting (section_of self.now) name.now thresholds (default ∷ [])) }
+            (found (section_of self.now) name.now thresholds (default ∷ [])) }
     {
         match self.get(name) {
             None => {
@@ -153,7 +154,7 @@ impl<'a> Section<'a> {
     ) -> Result<ArrayVec<Name, 3>, ConfigFault>
         requires { length default.now ≤ 255 }
         ensures { Gives (λ v. name_bytes v.items) result
-            (setting (section_of self.now) name.now backends (default.now ∷ [])) }
+            (found (section_of self.now) name.now backends (default.now ∷ [])) }
     {
         match self.get(name) {
             None => {
@@ -168,7 +169,7 @@ impl<'a> Section<'a> {
     /// The names of classes of timers' lines, none where the setting isn't given.
     pub(crate) fn class_names(&self, name: &str) -> Result<ArrayVec<Name, 16>, ConfigFault>
         ensures { Gives (λ v. name_bytes v.items) result
-            (setting (section_of self.now) name.now class_names []) }
+            (found (section_of self.now) name.now class_names []) }
     {
         match self.get(name) {
             None => Ok(ArrayVec::new()),
@@ -182,7 +183,7 @@ impl<'a> Section<'a> {
         name: &str,
     ) -> Result<ArrayVec<T, N>, ConfigFault>
         ensures { Gives (λ v. map T.seen v.items) result
-            (setting (section_of self.now) name.now (listed N (T.reads tt)) []) }
+            (found (section_of self.now) name.now (listed N (T.reads tt)) []) }
     {
         match self.get(name) {
             None => Ok(ArrayVec::new()),
@@ -193,7 +194,7 @@ impl<'a> Section<'a> {
     /// The table under a name, where it is there.
     pub(crate) fn table(&self, name: &str) -> Result<Option<&'a Table>, ConfigFault>
         ensures { Gives members_of result
-            (setting (section_of self.now) name.now members no_members) }
+            (found (section_of self.now) name.now members no_members) }
     {
         match self.get(name) {
             None => Ok(None),

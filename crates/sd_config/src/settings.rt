@@ -1,6 +1,6 @@
 ghost use Rattle.std.specs.Prelude.{◌≡◌, ◌*◌, ◌<◌, ◌≤◌, length, map};
 ghost use Rattle.toml.specs.View.{table_view};
-ghost use Rattle.sd_model_settings.specs.Settings.{top, settings_in, document, settings, plan_of};
+ghost use Rattle.sd_model_settings.specs.Settings.{top, tables, settings_in, document, settings, plan_of};
 ghost use Rattle.sd_model_settings.specs.Ranges.{IsWithin, IsPrefix, IsHost, AreThresholds, AreBackends, AreClassNames, AreHistograms, AreTargets, AreNodes, InRange};
 ghost use Rattle.sd_config.specs.Answers.{Gives};
 ghost use Rattle.sd_plan.specs.Values.{IsSetting, micros, name_bytes};
@@ -44,7 +44,8 @@ pub struct Settings {
 impl Model for Settings {
     ghost use Rattle.std.specs.Prelude.{map};
     ghost use Rattle.sd_model_settings.specs.Settings.{Settings as ModelSettings};
-    ghost use Rattle.sd_model_settings.specs.Ranges.{IsWithin, AddressesInRange, NamespaceInRange, AreTargets, AreNodes, SizesInRange, TransportInRange};
+    ghost use Rattle.sd_model_settings.specs.Ranges.{IsWithin, NamespaceInRange, AreTargets, AreNodes, AreInRange};
+    ghost use Rattle.sd_model_settings.specs.Table.{addresses as address_table, sizes as size_table, transport as transport_table};
     ghost use Rattle.sd_plan.specs.Entries.{target_view, node_view};
     ghost use Rattle.sd_config.specs.Groups.{deletions_view, addresses_view, sizes_view, transport_view};
     ghost use Rattle.sd_plan.specs.Names.{namespace_view};
@@ -76,18 +77,18 @@ impl Model for Settings {
 
     // the ranges of what the plan has are kept by its own fields
     ghost invariant = { λ s. (IsWithin 1 65535 s.port × IsWithin 1 65535 s.mgmt_port)
-        × AddressesInRange (addresses_view s.addresses)
+        × AreInRange address_table (addresses_view s.addresses)
         × NamespaceInRange (namespace_view s.namespace)
         × AreTargets (map target_view s.repeater.items)
         × AreNodes (map node_view s.nodes.items)
-        × SizesInRange (sizes_view s.sizes)
+        × AreInRange size_table (sizes_view s.sizes)
         × IsWithin 1 1000000000 s.gauges_max_ttl
-        × TransportInRange (transport_view s.transport) };
+        × AreInRange transport_table (transport_view s.transport) };
 }
 
 #[tactic(auto, unfolding(sd_model_settings::specs::Settings::settings_in))]
 fn settings_in(table: &Table) -> Result<Settings, ConfigFault>
-    ensures { Gives (λ s. s) result (settings_in (top (table_view table.now))) }
+    ensures { Gives (λ s. s) result (settings_in tables (top (table_view table.now))) }
 {
     let top = Section {
         prefix: "",
@@ -101,7 +102,11 @@ fn settings_in(table: &Table) -> Result<Settings, ConfigFault>
     } = server_in(&top)?;
     let deletions = deletions_in(&top)?;
     let addresses = addresses_in(&top)?;
-    let namespace = namespace_in(&top)?;
+    let graphite = Section {
+        prefix: "graphite.",
+        table: top.table("graphite")?,
+    };
+    let namespace = namespace_in(&graphite)?;
     let EntryLists {
         histogram,
         repeater,
@@ -152,7 +157,7 @@ impl Settings {
     /// # Errors
     ///
     /// The file's first fault, or `OutOfMemory`, which alone may come whatever the file is.
-    #[tactic(auto, unfolding(sd_model_settings::specs::Settings::settings))]
+    #[tactic(auto, unfolding(sd_model_settings::specs::Settings::settings, sd_model_settings::specs::Settings::settings_by))]
     pub fn read(alloc: Global, text: &[u8]) -> Result<Settings, ConfigFault>
         ensures exact { Gives (λ s. s) result (settings text.now) }
     {
@@ -201,6 +206,27 @@ impl Settings {
         ensures { result ≡ self.now.transport.sums_on_arrival }
     {
         self.transport.sums_on_arrival
+    }
+
+    /// The port at which a proxy answers admin lines; 0 is none.
+    pub fn proxy_mgmt_port(&self) -> u32
+        ensures { IsSetting (λ n. n ≤ 65535) self.now.transport.proxy_mgmt_port result }
+    {
+        self.transport.proxy_mgmt_port
+    }
+
+    /// Whether flushes are at multiples of `flush_interval` of the system's clock.
+    pub fn align_flushes(&self) -> bool
+        ensures { result ≡ self.now.transport.align_flushes }
+    {
+        self.transport.align_flushes
+    }
+
+    /// How many bytes of lines a proxy puts into one datagram; 0 is a datagram a line.
+    pub fn batch_bytes(&self) -> u32
+        ensures { IsSetting (λ n. n ≤ 65507) self.now.transport.batch_bytes result }
+    {
+        self.transport.batch_bytes
     }
 
     /// How many bytes of room for the datagrams that wait for it each receiver asks the system for; 0 asks for none.

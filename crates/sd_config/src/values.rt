@@ -4,6 +4,7 @@ ghost use Rattle.toml.specs.View.{view};
 ghost use Rattle.sd_model_text.specs.Names.{is_name_byte};
 ghost use Rattle.sd_model_settings.specs.Values.{whole, flag, text, decimal, is_prefix, is_filled_prefix, is_metric, is_host, is_host_byte};
 ghost use Rattle.sd_model_settings.specs.Entries.{is_backend};
+ghost use Rattle.sd_model_settings.specs.Kinds.{Share, read_as};
 ghost use Rattle.sd_model_settings.specs.Ranges.{IsWithin};
 ghost use Rattle.sd_config.specs.Answers.{seen_by};
 ghost use Rattle.sd_config.specs.Values.{passes, longest};
@@ -40,6 +41,24 @@ pub(crate) fn whole(value: &Value, least: u32, most: u32) -> Result<u32, ValueFa
         Value::Integer(n) if i64::from(least) <= *n && *n <= i64::from(most) => Ok(*n as u32),
         Value::Integer(_) => Err(ValueFault::Range),
         _ => Err(ValueFault::Kind),
+    }
+}
+
+/// An integer from `least` to `most`, whose product with an earlier one is at most `all`.
+pub(crate) fn share(
+    value: &Value,
+    least: u32,
+    most: u32,
+    all: u64,
+    earlier: u32,
+) -> Result<u32, ValueFault>
+    ensures { seen_by (λ n. n) result ≡ read_as (Share least most all earlier) (view value.now) }
+{
+    let number = whole(value, least, most)?;
+    if u64::from(earlier) * u64::from(number) <= all {
+        Ok(number)
+    } else {
+        Err(ValueFault::Range)
     }
 }
 

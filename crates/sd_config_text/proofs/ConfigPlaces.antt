@@ -1,5 +1,5 @@
 -- What stands at a place of lists in a row, and of a list through a map.
-use Rattle.std.proofs.Common.{◌≡◌, ℕ, zero, suc, ◌-◌, ◌≤◌, List, [], ◌∷◌, ◌++◌, length, map, slice_get, All, Option, Some, None, option_map, refl, sym, ap, subst, ◌∙◌, arith, append_assoc}
+use Rattle.std.proofs.Common.{◌≡◌, ℕ, zero, suc, ◌-◌, ◌≤◌, List, [], ◌∷◌, ◌++◌, length, map, slice_get, All, Option, Some, None, option_map, refl, sym, ap, subst, ◌∙◌, arith, append_assoc, append-nil}
 use Rattle.std.proofs.Common.{Bor}
 use Rattle.std.proofs.lemmas.Option.{none-some, same_Some, slice_get-get_or, slice_get_past}
 use Rattle.std.specs.Slice.{IsItemAt}
@@ -17,13 +17,13 @@ through f g (x ∷ xs) zero r e = rw e refl
 through f g (x ∷ xs) (suc k) r e = through f g xs k r e
 
 -- lists in a row, one within the other
-pub in_a_row : {A : Type 0} (f h r n z : List A) → f ++ (h ++ r ++ n) ++ z ≡ f ++ (h ++ (r ++ (n ++ z)))
-in_a_row f h r n z = rw (append_assoc f (h ++ r ++ n) z, append_assoc (h ++ r) n z, append_assoc h r (n ++ z))
+pub in_a_row : {A : Type 0} (f h r n z : List A) → (f ++ (h ++ (r ++ (n ++ [])))) ++ z ≡ f ++ (h ++ (r ++ (n ++ z)))
+in_a_row f h r n z = rw (append-nil n, append_assoc f (h ++ (r ++ n)) z, append_assoc h (r ++ n) z, append_assoc r n z)
 
 -- an element of the last of five lists
 pub behind_all : {A : Type 0} (f h r n z : List A) (k a b c : ℕ) → length f ≡ 22 → length h ≡ a → length r ≡ b → length n ≡ c
     → 22 ≤ k → a ≤ k - 22 → b ≤ k - 22 - a → c ≤ k - 22 - a - b
-    → slice_get (f ++ (h ++ r ++ n) ++ z) k ≡ slice_get z (k - 22 - a - b - c)
+    → slice_get ((f ++ (h ++ (r ++ (n ++ [])))) ++ z) k ≡ slice_get z (k - 22 - a - b - c)
 behind_all f h r n z k a b c ef eh er en lf lh lr ln =
     ap (λ xs. slice_get xs k) (in_a_row f h r n z)
     ∙ get_behind f (h ++ (r ++ (n ++ z))) k (omega arith) ∙ ap (λ m. slice_get (h ++ (r ++ (n ++ z))) (k - m)) ef

@@ -1,23 +1,26 @@
-ghost use Rattle.std.specs.Prelude.{◌≡◌, ◌+◌, ◌≤◌, ◌∷◌, ◌++◌, length, map, slice_get, decimal, codes};
+ghost use Rattle.std.specs.Prelude.{◌≡◌, ◌+◌, ◌≤◌, [], ◌∷◌, ◌++◌, length, map, slice_get, decimal, codes};
 ghost use Rattle.std.specs.Option.{option_map};
 ghost use Rattle.arrayvec.specs.ArrayVec.{array_vec_len};
-ghost use Rattle.sd_model_text.specs.Numbers.{number_text};
-ghost use Rattle.sd_model_settings.specs.Ranges.{IsClasses, AreThresholds, AreBackends, AreClassNames, AreLimits, AreHistograms};
-ghost use Rattle.sd_model_settings.specs.ConfigText.{line, flag_line, limit_text, joined, server_lines, deletion_lines, address_lines, namespace_lines, front_lines, entry_lines, histogram_line, repeater_line, node_line, size_lines, rule_lines, transport_lines, back_lines, config_lines};
-ghost use Rattle.sd_plan.specs.Values.{micros, name_bytes};
+ghost use Rattle.sd_model_settings.specs.Ranges.{IsClasses, AreLimits, AreHistograms};
+ghost use Rattle.sd_model_settings.specs.ConfigText.{line, limit_text, joined, group_lines, front_lines, histogram_line, repeater_line, node_line, back_lines, config_lines};
+ghost use Rattle.sd_model_settings.specs.Table.{server, deletions, addresses, namespace, sizes, flush_rules, transport};
 ghost use Rattle.sd_plan.specs.Entries.{limits_of, classes_view, target_view, node_view};
 
 use crate::config_value::{ReplyLine, push_joined, push_text};
 use crate::line_text::{LineText, write_lines};
-use sd_config::Settings;
-use sd_decimal::{Limit, Line, Micro, write_whole};
-use sd_outside::{Failed, Name, Sink};
+use crate::value_lines;
+use sd_config::{
+    Settings, address_settings, deletion_settings, namespace_settings, rule_settings,
+    server_settings, size_settings, transport_settings,
+};
+use sd_decimal::{Limit, Line, write_whole};
+use sd_outside::{Failed, Sink};
 use sd_plan::{Classes, Node, Target};
 
 // how many lines stand before those of entries, and behind them
 const FRONT_LINES: usize = 22;
 
-const BACK_LINES: usize = 14;
+const BACK_LINES: usize = 17;
 
 /// The line of a name and a value.
 pub fn line_of(name: &[u8], value: &[u8]) -> ReplyLine
@@ -43,163 +46,63 @@ pub fn number_line(name: &[u8], number: u64) -> ReplyLine
     line_of(name, value.as_slice())
 }
 
-/// The line of a setting that is a whole number.
-fn setting_line(name: &str, number: u32) -> ReplyLine
-    requires { length name.now ≤ 64 }
-    ensures { result.items ≡ line name.now (decimal number) }
-{
-    number_line(name.as_bytes(), u64::from(number))
-}
-
-/// The line of a boolean.
-fn flag_line(name: &str, flag: bool) -> ReplyLine
-    requires { length name.now ≤ 64 }
-    ensures { result.items ≡ flag_line name.now flag }
-{
-    if flag {
-        line_of(name.as_bytes(), b"true")
-    } else {
-        line_of(name.as_bytes(), b"false")
-    }
-}
-
-/// The line of a text.
-fn text_line(name: &str, text: &Name) -> ReplyLine
-    requires { length name.now ≤ 64 }
-    ensures { result.items ≡ line name.now text.now.items }
-{
-    line_of(name.as_bytes(), text.as_slice())
+// The line of the setting at a place of a group, whose first has the number `first`.
+macro_rules! line_at {
+    (($settings:ident, $place:ident, $first:literal, $prefix:literal) $($number:literal $field:ident $read_call:ident: $name:literal, $kind:ident $range:tt, $allowed:literal;)*) => {{
+        $(if $place == $number - $first {
+            return Some(value_lines::$kind(concat!($prefix, $name), $settings.$read_call()));
+        })*
+        None
+    }};
 }
 
 /// The line of ports, the interval and thresholds at a place.
 fn server_line(settings: &Settings, place: usize) -> Option<ReplyLine>
-    ensures { option_map (λ l. l.items) result ≡ slice_get (server_lines settings.now.server) place }
+    ensures { option_map (λ l. l.items) result ≡ slice_get (group_lines [] server settings.now.server) place }
 {
-    match place {
-        0 => Some(setting_line("port", settings.port())),
-        1 => Some(setting_line("mgmt_port", settings.mgmt_port())),
-        2 => Some(setting_line("flushInterval", settings.flush_interval())),
-        3 => Some(thresholds_line(settings.percent_threshold())),
-        _ => None,
-    }
-}
-
-/// The line of thresholds.
-fn thresholds_line(thresholds: &[Micro]) -> ReplyLine
-    requires { AreThresholds (micros thresholds.now) }
-    ensures { result.items
-        ≡ line (codes "percentThreshold") (joined (map number_text (micros thresholds.now))) }
-{
-    let mut value = ReplyLine::new();
-    push_joined(thresholds, &mut value);
-    line_of(b"percentThreshold", value.as_slice())
-}
-
-/// The line of backends.
-fn backends_line(backends: &[Name]) -> ReplyLine
-    requires { AreBackends (name_bytes backends.now) }
-    ensures { result.items ≡ line (codes "backends") (joined (name_bytes backends.now)) }
-{
-    let mut value = ReplyLine::new();
-    push_joined(backends, &mut value);
-    line_of(b"backends", value.as_slice())
+    server_settings!(line_at(settings, place, 1, ""))
 }
 
 /// The line of what is deleted when idle, at a place.
 fn deletion_line(settings: &Settings, place: usize) -> Option<ReplyLine>
-    ensures { option_map (λ l. l.items) result ≡ slice_get (deletion_lines settings.now.deletions) place }
+    ensures { option_map (λ l. l.items) result ≡ slice_get (group_lines [] deletions settings.now.deletions) place }
 {
-    match place {
-        0 => Some(flag_line("deleteIdleStats", settings.delete_idle_stats())),
-        1 => Some(flag_line("deleteCounters", settings.delete_counters())),
-        2 => Some(flag_line("deleteTimers", settings.delete_timers())),
-        3 => Some(flag_line("deleteSets", settings.delete_sets())),
-        4 => Some(flag_line("deleteGauges", settings.delete_gauges())),
-        _ => None,
-    }
+    deletion_settings!(line_at(settings, place, 5, ""))
 }
 
 /// The line of an address or where records go, at a place.
 fn address_line(settings: &Settings, place: usize) -> Option<ReplyLine>
-    ensures { option_map (λ l. l.items) result ≡ slice_get (address_lines settings.now.addresses) place }
+    ensures { option_map (λ l. l.items) result ≡ slice_get (group_lines [] addresses settings.now.addresses) place }
 {
-    match place {
-        0 => Some(text_line("prefixStats", settings.prefix_stats())),
-        1 => Some(text_line("address", settings.address())),
-        2 => Some(text_line("mgmt_address", settings.mgmt_address())),
-        3 => Some(backends_line(settings.backends())),
-        4 => Some(text_line("graphiteHost", settings.graphite_host())),
-        5 => Some(setting_line("graphitePort", settings.graphite_port())),
-        _ => None,
-    }
+    address_settings!(line_at(settings, place, 10, ""))
 }
 
 /// The line of how Graphite's names are made, at a place.
 fn namespace_line(settings: &Settings, place: usize) -> Option<ReplyLine>
-    ensures { option_map (λ l. l.items) result ≡ slice_get (namespace_lines settings.now.namespace) place }
+    ensures { option_map (λ l. l.items) result ≡ slice_get (group_lines (codes "graphite.") namespace settings.now.namespace) place }
 {
-    match place {
-        0 => Some(flag_line("graphite.legacyNamespace", settings.legacy_namespace())),
-        1 => Some(text_line("graphite.globalPrefix", settings.global_prefix())),
-        2 => Some(text_line("graphite.prefixCounter", settings.prefix_counter())),
-        3 => Some(text_line("graphite.prefixTimer", settings.prefix_timer())),
-        4 => Some(text_line("graphite.prefixGauge", settings.prefix_gauge())),
-        5 => Some(text_line("graphite.prefixSet", settings.prefix_set())),
-        6 => Some(text_line("graphite.globalSuffix", settings.global_suffix())),
-        _ => None,
-    }
+    namespace_settings!(line_at(settings, place, 16, "graphite."))
 }
 
 /// The line of a time or a number of things, at a place.
 fn size_line(settings: &Settings, place: usize) -> Option<ReplyLine>
-    ensures { option_map (λ l. l.items) result ≡ slice_get (size_lines settings.now.sizes) place }
+    ensures { option_map (λ l. l.items) result ≡ slice_get (group_lines [] sizes settings.now.sizes) place }
 {
-    match place {
-        0 => Some(setting_line("checkInterval", settings.check_interval())),
-        1 => Some(setting_line("cacheSize", settings.cache_size())),
-        2 => Some(setting_line("shards", settings.shards())),
-        3 => Some(setting_line("rows", settings.rows())),
-        4 => Some(setting_line("entries", settings.entries())),
-        5 => Some(setting_line("receivers", settings.receivers())),
-        6 => Some(setting_line("runFlushes", settings.run_flushes())),
-        _ => None,
-    }
-}
-
-/// The line of the classes of timers' lines that are chosen.
-fn calculated_line(names: &[Name]) -> ReplyLine
-    requires { AreClassNames (name_bytes names.now) }
-    ensures { result.items
-        ≡ line (codes "calculatedTimerMetrics") (joined (name_bytes names.now)) }
-{
-    let mut value = ReplyLine::new();
-    push_joined(names, &mut value);
-    line_of(b"calculatedTimerMetrics", value.as_slice())
+    size_settings!(line_at(settings, place, 26, ""))
 }
 
 /// The line of when a gauge goes or which lines of timers are sent, at a place.
 fn rule_line(settings: &Settings, place: usize) -> Option<ReplyLine>
-    ensures { option_map (λ l. l.items) result ≡ slice_get (rule_lines settings.now.rules) place }
+    ensures { option_map (λ l. l.items) result ≡ slice_get (group_lines [] flush_rules settings.now.rules) place }
 {
-    match place {
-        0 => Some(setting_line("gaugesMaxTTL", settings.gauges_max_ttl())),
-        1 => Some(calculated_line(settings.calculated_timer_metrics())),
-        _ => None,
-    }
+    rule_settings!(line_at(settings, place, 33, ""))
 }
 
 /// The line of outlets, of the port of streams, of sums on arrival or of the receivers' room, at a place.
 fn transport_line(settings: &Settings, place: usize) -> Option<ReplyLine>
-    ensures { option_map (λ l. l.items) result ≡ slice_get (transport_lines settings.now.transport) place }
+    ensures { option_map (λ l. l.items) result ≡ slice_get (group_lines [] transport settings.now.transport) place }
 {
-    match place {
-        0 => Some(setting_line("outlets", settings.outlets())),
-        1 => Some(setting_line("outletBytes", settings.outlet_bytes())),
-        2 => Some(setting_line("tcp_port", settings.tcp_port())),
-        3 => Some(flag_line("sumsOnArrival", settings.sums_on_arrival())),
-        4 => Some(setting_line("receiveBuffer", settings.receive_buffer())),
-        _ => None,
-    }
+    transport_settings!(line_at(settings, place, 35, ""))
 }
 
 /// Appends limits joined by commas.
@@ -216,7 +119,7 @@ fn push_limits(limits: &[Limit], value: &mut ReplyLine)
 /// The line of an entry of `histogram`.
 fn histogram_line(classes: &Classes) -> ReplyLine
     requires { IsClasses (classes_view classes.now) }
-    ensures { result.items ≡ histogram_line (classes_view classes.now) }
+    ensures { result.items ≡ histogram_line (codes "histogram") (classes_view classes.now) }
 {
     let mut value = ReplyLine::new();
     push_text(classes.metric.as_slice(), &mut value);
@@ -239,7 +142,7 @@ fn push_port(port: u16, value: &mut ReplyLine)
 
 /// The line of an entry of `repeater`.
 fn repeater_line(target: &Target) -> ReplyLine
-    ensures { result.items ≡ repeater_line (target_view target.now) }
+    ensures { result.items ≡ repeater_line (codes "repeater") (target_view target.now) }
 {
     let mut value = ReplyLine::new();
     push_text(target.host.as_slice(), &mut value);
@@ -249,7 +152,7 @@ fn repeater_line(target: &Target) -> ReplyLine
 
 /// The line of an entry of `nodes`.
 fn node_line(node: &Node) -> ReplyLine
-    ensures { result.items ≡ node_line (node_view node.now) }
+    ensures { result.items ≡ node_line (codes "nodes") (node_view node.now) }
 {
     let mut value = ReplyLine::new();
     push_text(node.host.as_slice(), &mut value);
@@ -294,7 +197,7 @@ fn back_line(settings: &Settings, place: usize) -> Option<ReplyLine>
 fn histogram_at(histogram: &[Classes], place: usize) -> Option<ReplyLine>
     requires { AreHistograms (map classes_view histogram.now) }
     ensures { option_map (λ l. l.items) result
-        ≡ slice_get (map histogram_line (map classes_view histogram.now)) place }
+        ≡ slice_get (map (histogram_line (codes "histogram")) (map classes_view histogram.now)) place }
 {
     match histogram.get(place) {
         Some(classes) => Some(histogram_line(classes)),
@@ -305,7 +208,7 @@ fn histogram_at(histogram: &[Classes], place: usize) -> Option<ReplyLine>
 /// The line of the entry of `repeater` at a place.
 fn repeater_at(repeater: &[Target], place: usize) -> Option<ReplyLine>
     ensures { option_map (λ l. l.items) result
-        ≡ slice_get (map repeater_line (map target_view repeater.now)) place }
+        ≡ slice_get (map (repeater_line (codes "repeater")) (map target_view repeater.now)) place }
 {
     match repeater.get(place) {
         Some(target) => Some(repeater_line(target)),
@@ -316,7 +219,7 @@ fn repeater_at(repeater: &[Target], place: usize) -> Option<ReplyLine>
 /// The line of the entry of `nodes` at a place.
 fn node_at(nodes: &[Node], place: usize) -> Option<ReplyLine>
     ensures { option_map (λ l. l.items) result
-        ≡ slice_get (map node_line (map node_view nodes.now)) place }
+        ≡ slice_get (map (node_line (codes "nodes")) (map node_view nodes.now)) place }
 {
     match nodes.get(place) {
         Some(node) => Some(node_line(node)),
@@ -327,7 +230,7 @@ fn node_at(nodes: &[Node], place: usize) -> Option<ReplyLine>
 /// How many lines the reply to `config` has.
 pub fn config_line_count(settings: &Settings) -> usize
     ensures len { result ≡ length (config_lines settings.now) }
-    ensures short { result ≤ 132 }
+    ensures short { result ≤ 135 }
 {
     let entries = settings.histogram().len() + settings.repeater().len() + settings.nodes().len();
     FRONT_LINES + entries + BACK_LINES

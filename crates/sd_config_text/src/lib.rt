@@ -7,6 +7,7 @@
 mod config_lines;
 mod config_value;
 mod line_text;
+mod value_lines;
 
 pub use config_lines::{ConfigText, config_line, config_line_count, line_of, number_line};
 pub use config_value::{ReplyLine, push_text};

@@ -14,6 +14,7 @@ mod kept;
 mod limit;
 mod line_buffer;
 mod outbox;
+mod tick_times;
 mod time_limit;
 
 pub use address_turns::AddressTurns;
@@ -24,4 +25,5 @@ pub use kept::split_lines_keep_all_bytes;
 pub use limit::left_of;
 pub use line_buffer::{LineBuffer, LongLines, PIECE};
 pub use outbox::Outbox;
+pub use tick_times::TickTimes;
 pub use time_limit::{Delivery, TimeLimit, delivery_limit, text_limit};

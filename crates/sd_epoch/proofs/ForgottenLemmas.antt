@@ -20,7 +20,7 @@ use Rattle.sd_epoch.specs.declared.members.Members.{Members}
 use Rattle.sd_epoch.specs.declared.members.SetMember.{SetMember}
 use Rattle.sd_epoch.specs.declared.order.Order.{Order}
 use Rattle.sd_epoch.specs.declared.table.Table.TheInside.{Inside}
-use Rattle.sd_epoch.specs.declared.tally.Tally.{Tally}
+use Rattle.sd_rows.specs.declared.tally.Tally.{Tally}
 use Rattle.sd_epoch.specs.declared.values.TimerValue.{TimerValue}
 use Rattle.sd_epoch.specs.declared.values.Values.{Values}
 use Rattle.sd_epoch.proofs.LeftLemmas.{left_rows, left_was, left_stays, all_owned, own_left}
@@ -31,9 +31,9 @@ use Rattle.sd_epoch.proofs.ToldLemmas.{told_left}
 
 module _
     (t : Inside) (w : IsTable t) (gone : RowId → Bool) (rows : List (Option Row)) (order : Order) (values : Values) (members : Members)
-    (are : AreLeft gone t.rows rows) (closed : IsClosedUp rows t.order order t.values values t.members members) where
+    (are : AreLeft gone t.rows.rows rows) (closed : IsClosedUp rows t.order order t.values values t.members members) where
   abbrev pub since_now : ℕ → Summary
-  since_now = since_at t.tallies.items values.items.items members.items.items
+  since_now = since_at t.rows.tallies values.items.items members.items.items
 
   -- the values and the members whose place has a row, with the links that they had
   abbrev left_values : List TimerValue
@@ -45,18 +45,18 @@ module _
   -- what came to a row that is left stays
   same_since : (p : ℕ) → row_at rows p ≢ None → since_now p ≡ since_in t p
   same_since p l =
-      let tally = get_or t.tallies.items p no_tally in
+      let tally = get_or t.rows.tallies p no_tally in
       let mine = same_told (λ (v : TimerValue). v.place) (λ (v : TimerValue). v.value.0) values.items.items left_values closed.value_items p ∙ ap told_values (own_left (λ (v : TimerValue). v.place) rows p l t.values.items.items) in
       let named = same_told (λ (m : SetMember). m.place) (λ (m : SetMember). m.member.items) members.items.items left_members closed.member_items p ∙ ap told_members (own_left (λ (m : SetMember). m.place) rows p l t.members.items.items) in
       λ i. record { samples = tally.samples; weight = tally.weight.0; gauge = tally.gauge.0; values = mine i; members = named i }
 
   pub rows_now : AreRows rows order.places.items
-  rows_now = subst (AreRows rows) (sym closed.order) (left_rows gone t.rows rows are t.order.places.items w.rows)
+  rows_now = subst (AreRows rows) (sym closed.order) (left_rows gone t.rows.rows rows are t.order.places.items w.rows)
 
   pub all_since : AreSince rows since_now
   all_since p row is =
       let l : row_at rows p ≢ None = λ none. absurd (cc (is, none)) in
-      let was = left_was gone t.rows rows are p l in
+      let was = left_was gone t.rows.rows rows are p l in
       subst (IsSince (kind_of row.kind) row.base.0) (sym (same_since p l)) (w.since p row (sym was.2 ∙ is))
 
   pub owned_values_now : AllLive rows (value_places values.items.items)
@@ -66,48 +66,48 @@ module _
   owned_members_now = subst (AllLive rows) (sym (same_places (λ (m : SetMember). m.place) (λ (m : SetMember). m.member.items) members.items.items left_members closed.member_items)) (all_owned (λ (m : SetMember). m.place) rows t.members.items.items)
 
   -- the rows that are left, each with what came to it
-  pub live_now : told_live rows since_now order.places.items ≡ retain_keys (told_live t.rows (since_in t) t.order.places.items) (λ id. not (gone id))
+  pub live_now : told_live rows since_now order.places.items ≡ retain_keys (told_live t.rows.rows (since_in t) t.order.places.items) (λ id. not (gone id))
   live_now =
-      told_left gone t.rows rows t.order.places.items order.places.items (since_in t) since_now w.rows rows_now
+      told_left gone t.rows.rows rows t.order.places.items order.places.items (since_in t) since_now w.rows rows_now
       (λ p l.
-      let was = left_was gone t.rows rows are p l in
-      let kept : kept_in rows since_now p ≡ kept_in t.rows (since_in t) p = λ i. kept_as (was.2 i) (same_since p l i) in
+      let was = left_was gone t.rows.rows rows are p l in
+      let kept : kept_in rows since_now p ≡ kept_in t.rows.rows (since_in t) p = λ i. kept_as (was.2 i) (same_since p l i) in
       (was.0, was.1, kept, ap (λ (o : Option Row). (listed_as o).0) was.2))
-      (left_stays gone t.rows rows are)
+      (left_stays gone t.rows.rows rows are)
 
   -- those that go and those that are left
-  parts : (test : RowId → Bool) → samples_where test (told_live t.rows (since_in t) t.order.places.items)
-      ≡ samples_where test (retain_keys (told_live t.rows (since_in t) t.order.places.items) gone) + samples_where test (told_live rows since_now order.places.items)
+  parts : (test : RowId → Bool) → samples_where test (told_live t.rows.rows (since_in t) t.order.places.items)
+      ≡ samples_where test (retain_keys (told_live t.rows.rows (since_in t) t.order.places.items) gone) + samples_where test (told_live rows since_now order.places.items)
   parts test =
-      let m = told_live t.rows (since_in t) t.order.places.items in
+      let m = told_live t.rows.rows (since_in t) t.order.places.items in
       samples-parts test m gone ∙ ap (λ (live : model.Rows). samples_where test (retain_keys m gone) + samples_where test live) (sym live_now)
 
-  pub samples_parted : t.held ≡ samples_in (retain_keys (told_live t.rows (since_in t) t.order.places.items) gone) + samples_in (told_live rows since_now order.places.items)
+  pub samples_parted : t.held ≡ samples_in (retain_keys (told_live t.rows.rows (since_in t) t.order.places.items) gone) + samples_in (told_live rows since_now order.places.items)
   samples_parted = w.held ∙ parts (λ id. true)
 
   -- the samples of the rows that are left, place by place
-  pub left_samples : sum_by (λ p. (get_or t.tallies.items p no_tally).samples) order.places.items ≡ samples_in (told_live rows since_now order.places.items)
+  pub left_samples : sum_by (λ p. (get_or t.rows.tallies p no_tally).samples) order.places.items ≡ samples_in (told_live rows since_now order.places.items)
   left_samples = sym (samples_told (λ id. true) rows since_now order.places.items rows_now)
 
   -- the same of what was read, and its bound
-  pub held_is : (tallies : List Tally) (places : List ℕ) (held : ℕ) → places ≡ order.places.items → tallies ≡ t.tallies.items → held ≡ sum_by (λ p. (get_or tallies p no_tally).samples) places
+  pub held_is : (tallies : List Tally) (places : List ℕ) (held : ℕ) → places ≡ order.places.items → tallies ≡ t.rows.tallies → held ≡ sum_by (λ p. (get_or tallies p no_tally).samples) places
       → held ≡ samples_in (told_live rows since_now order.places.items)
   held_is tallies places held there same is = is ∙ (λ i. sum_by (λ (p : ℕ). (get_or (same i) p no_tally).samples) (there i)) ∙ left_samples
 
-  pub few_left : (tallies : List Tally) (places : List ℕ) → places ≡ order.places.items → tallies ≡ t.tallies.items → sum_by (λ p. (get_or tallies p no_tally).samples) places ≤ most_held
+  pub few_left : (tallies : List Tally) (places : List ℕ) → places ≡ order.places.items → tallies ≡ t.rows.tallies → sum_by (λ p. (get_or tallies p no_tally).samples) places ≤ most_held
   few_left tallies places there same = omega (arith, held_is tallies places (sum_by (λ p. (get_or tallies p no_tally).samples) places) there same refl, samples_parted, w.few_held)
 
   pub entries_parted : length t.values.items.items + length t.members.items.items
-      ≡ samples_listed (retain_keys (told_live t.rows (since_in t) t.order.places.items) gone) + (length values.items.items + length members.items.items)
+      ≡ samples_listed (retain_keys (told_live t.rows.rows (since_in t) t.order.places.items) gone) + (length values.items.items + length members.items.items)
   entries_parted =
-      let before = entries_are t.rows t.tallies.items t.values.items.items t.members.items.items t.order.places.items w.rows (ranked_different t.order.places.items t.order.rank.items w.ranked) w.since w.owned_values w.owned_members in
-      let after = entries_are rows t.tallies.items values.items.items members.items.items order.places.items rows_now (ranked_different order.places.items order.rank.items closed.ranked) all_since owned_values_now owned_members_now in
+      let before = entries_are t.rows.rows t.rows.tallies t.values.items.items t.members.items.items t.order.places.items w.rows (ranked_different t.order.places.items t.order.rank.items w.ranked) w.since w.owned_values w.owned_members in
+      let after = entries_are rows t.rows.tallies values.items.items members.items.items order.places.items rows_now (ranked_different order.places.items order.rank.items closed.ranked) all_since owned_values_now owned_members_now in
       omega (arith, before, after, parts (λ id. is_listed id.kind))
 
   -- what is left is a table
-  pub table_now : (held : ℕ) → length rows ≡ length t.rows → held ≡ samples_in (told_live rows since_now order.places.items)
-      → IsTable (record t { rows = rows; order = order; values = values; members = members; held = held })
-  table_now held long is = record {
+  pub table_now : (used held : ℕ) → length rows ≡ length t.rows.rows → held ≡ samples_in (told_live rows since_now order.places.items)
+      → IsTable (record t { rows = record { rows = rows; tallies = t.rows.tallies; used = used }; order = order; values = values; members = members; held = held })
+  table_now used held long is = record {
     limits = w.limits;
     rows = rows_now;
     ranked = closed.ranked;

@@ -14,7 +14,7 @@ use Rattle.sd_epoch.specs.Table.{fresh, freshened}
 use Rattle.sd_epoch.specs.TableInside.{since_in, IsTable}
 use Rattle.sd_epoch.specs.declared.members.SetMember.{SetMember}
 use Rattle.sd_epoch.specs.declared.table.Table.TheInside.{Inside}
-use Rattle.sd_epoch.specs.declared.tally.Tally.{Tally}
+use Rattle.sd_rows.specs.declared.tally.Tally.{Tally}
 use Rattle.sd_epoch.specs.declared.values.TimerValue.{TimerValue}
 use Rattle.sd_epoch.proofs.CountLemmas.{unset_none}
 use Rattle.sd_epoch.proofs.OrderLemmas.{ranked_different}
@@ -23,15 +23,15 @@ use Rattle.sd_epoch.proofs.SumLemmas.{entries_are, none_told}
 use Rattle.sd_epoch.proofs.TableLemmas.{few_samples}
 
 module _ (t : Inside) (w : IsTable t) (none : t.held ≡ 0) where
-  pub no_row_samples : (p : ℕ) → row_at t.rows p ≢ None → (since_in t p).samples ≡ 0
+  pub no_row_samples : (p : ℕ) → row_at t.rows.rows p ≢ None → (since_in t p).samples ≡ 0
   no_row_samples p l = omega (arith, few_samples t w p l, none)
 
   -- no sample is listed
   no_items : length t.values.items.items + length t.members.items.items ≡ 0
   no_items =
       let order = t.order.places.items in
-      let are = entries_are t.rows t.tallies.items t.values.items.items t.members.items.items order w.rows (ranked_different order t.order.rank.items w.ranked) w.since w.owned_values w.owned_members in
-      omega (arith, are, none_told (λ id. is_listed id.kind) t.rows (since_in t) order w.rows no_row_samples)
+      let are = entries_are t.rows.rows t.rows.tallies t.values.items.items t.members.items.items order w.rows (ranked_different order t.order.rank.items w.ranked) w.since w.owned_values w.owned_members in
+      omega (arith, are, none_told (λ id. is_listed id.kind) t.rows.rows (since_in t) order w.rows no_row_samples)
 
   pub no_values : t.values.items.items ≡ []
   no_values = nil_from_length t.values.items.items (omega (arith, no_items))
@@ -80,8 +80,8 @@ freshened_are rows since since' (p ∷ order) l none =
 
 -- A table without samples into which a row was carried.
 module _ (t : Inside) (w : IsTable t) (none : t.held ≡ 0) (rows : List (Option Row)) (at : ℕ) (row : Row) (tallies : List Tally)
-    (here : row_at rows at ≡ Some row) (others : (p : ℕ) → p ≢ at → row_at rows p ≡ row_at t.rows p)
-    (tally : IsFresh row.base.0 (get_or tallies at no_tally)) (other_tallies : (p : ℕ) → p ≢ at → get_or tallies p no_tally ≡ get_or t.tallies.items p no_tally) where
+    (here : row_at rows at ≡ Some row) (others : (p : ℕ) → p ≢ at → row_at rows p ≡ row_at t.rows.rows p)
+    (tally : IsFresh row.base.0 (get_or tallies at no_tally)) (other_tallies : (p : ℕ) → p ≢ at → get_or tallies p no_tally ≡ get_or t.rows.tallies p no_tally) where
   pub carried_fresh : (p : ℕ) (r : Row) → row_at rows p ≡ Some r → since_at tallies t.values.items.items t.members.items.items p ≡ no_samples r.base.0
   carried_fresh p r is = elim (cases_eq p at) as (λ _. since_at tallies t.values.items.items t.members.items.items p ≡ no_samples r.base.0) [
     | inl e ↦

@@ -11,7 +11,7 @@ use Rattle.sd_epoch.specs.Places.{AllLive, AreSince, IsSince}
 use Rattle.sd_epoch.specs.Since.{since_of, values_at, members_at, IsFresh}
 use Rattle.sd_epoch.specs.Values.{value_places}
 use Rattle.sd_epoch.specs.declared.members.SetMember.{SetMember}
-use Rattle.sd_epoch.specs.declared.tally.Tally.{Tally}
+use Rattle.sd_rows.specs.declared.tally.Tally.{Tally}
 use Rattle.sd_epoch.specs.declared.values.TimerValue.{TimerValue}
 use Rattle.sd_epoch.proofs.LeftLemmas.{none_own}
 use Rattle.sd_epoch.proofs.SinceLemmas.{fresh_is, since_none}

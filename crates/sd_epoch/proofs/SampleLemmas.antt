@@ -17,7 +17,7 @@ use Rattle.sd_rows.specs.declared.row.Row.{Row}
 use Rattle.sd_epoch.specs.Places.{id_in, kept_in, kept_as, told_live, AreRows, AreSince, IsSince}
 use Rattle.sd_epoch.specs.Since.{gauge_by, no_tally, since_at, values_at, members_at, told_values, told_members, values_with, members_with, without_swaps}
 use Rattle.sd_epoch.specs.declared.members.SetMember.{SetMember}
-use Rattle.sd_epoch.specs.declared.tally.Tally.{Tally}
+use Rattle.sd_rows.specs.declared.tally.Tally.{Tally}
 use Rattle.sd_epoch.specs.declared.values.TimerValue.{TimerValue}
 use Rattle.sd_epoch.proofs.ListingLemmas.{same_itself}
 use Rattle.sd_epoch.proofs.SinceLemmas.{summary_is, since_more}

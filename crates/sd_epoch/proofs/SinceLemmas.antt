@@ -9,7 +9,7 @@ use Rattle.sd_model_shard.specs.Statistics.{sample_weight}
 use Rattle.sd_model_shard.specs.Summaries.{no_samples, summary_after}
 use Rattle.sd_epoch.specs.Places.{IsSince}
 use Rattle.sd_epoch.specs.Since.{gauge_by, values_with, members_with, IsFresh}
-use Rattle.sd_epoch.specs.declared.tally.Tally.{Tally}
+use Rattle.sd_rows.specs.declared.tally.Tally.{Tally}
 
 add_none : (z : ℤ) → z +ℤ pos 0 ≡ z
 add_none z = omega (arith, ints)

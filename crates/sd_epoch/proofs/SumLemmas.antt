@@ -24,7 +24,7 @@ use Rattle.sd_epoch.specs.Since.{since_at, values_at, members_at}
 use Rattle.sd_epoch.specs.Table.{AreApart, listed_with}
 use Rattle.sd_epoch.specs.Values.{value_places}
 use Rattle.sd_epoch.specs.declared.members.SetMember.{SetMember}
-use Rattle.sd_epoch.specs.declared.tally.Tally.{Tally}
+use Rattle.sd_rows.specs.declared.tally.Tally.{Tally}
 use Rattle.sd_epoch.specs.declared.values.TimerValue.{TimerValue}
 use Rattle.sd_epoch.proofs.ChainLemmas.{own}
 use Rattle.sd_epoch.proofs.ListingLemmas.{not_found, same_itself, same_row}

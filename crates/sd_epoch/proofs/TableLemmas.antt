@@ -1,6 +1,6 @@
 -- What the fields of a table say of the rows and entries that it stands for.
 use Rattle.std.proofs.Common.{◌≡◌, ◌≢◌, ℕ, zero, suc, ◌<◌, ◌≤◌, List, [], ◌∷◌, length, get_or, map, replicate, true, false, cond, ◌==◌, pos, ◌≤ℤ◌, ◌^◌, All, Option, Some, None, is_some, option_map, MatchOption, refl, sym, ap, subst, ◌∙◌, arith}
-use Rattle.std.proofs.lemmas.List.{length-map, get_or_default, get_or_read, get_or_read_under}
+use Rattle.std.proofs.lemmas.List.{length-map, get_or_read_under}
 use Rattle.std.proofs.lemmas.List.Elements.{All-nil, All-cons, All-head, All-tail}
 use Rattle.std.proofs.lemmas.Option.{slice_get-map, slice_get_read}
 use Rattle.std.specs.List.{slice_get}
@@ -20,7 +20,7 @@ use Rattle.sd_epoch.specs.TableInside.{listing_of, since_in, IsTable}
 use Rattle.sd_epoch.specs.Values.{IsTimed}
 use Rattle.sd_epoch.specs.declared.table.RowFacts.{RowFacts}
 use Rattle.sd_epoch.specs.declared.table.Table.TheInside.{Inside}
-use Rattle.sd_epoch.specs.declared.tally.Tally.{Tally}
+use Rattle.sd_rows.specs.declared.tally.Tally.{Tally}
 use Rattle.sd_epoch.specs.declared.values.TimerValue.{TimerValue}
 use Rattle.sd_decimal.specs.declared.number.Micro.{Micro}
 use Rattle.sd_decimal.specs.declared.number.Sum.{Sum}
@@ -71,35 +71,35 @@ live_order rows (p ∷ order) (suc i) l lt = live_order rows order i l.1 (omega 
 -- the i-th place of a table's order, and the row there
 pub record IsAt (t : Inside) (i place : ℕ) (row : Row) : Type 0 where
   pub listed : slice_get (listing_of t).listed i ≡ Some ((row_view row).0, kept_as (Some row) (since_in t place))
-  pub is : row_at t.rows place ≡ Some row
-  pub live : row_at t.rows place ≢ None
-  pub within : place < length t.rows
+  pub is : row_at t.rows.rows place ≡ Some row
+  pub live : row_at t.rows.rows place ≢ None
+  pub within : place < length t.rows.rows
   pub since : IsSince (kind_of row.kind) row.base.0 (since_in t place)
   pub few : (since_in t place).samples ≤ t.held
 
 module _ (t : Inside) (w : IsTable t) where
   -- a row has no more samples than all together
-  pub few_samples : (place : ℕ) → row_at t.rows place ≢ None → (since_in t place).samples ≤ t.held
+  pub few_samples : (place : ℕ) → row_at t.rows.rows place ≢ None → (since_in t place).samples ≤ t.held
   few_samples place live =
       let order = t.order.places.items in
-      let found = samples_found (told_live t.rows (since_in t) order) (id_in t.rows place) (kept_in t.rows (since_in t) place) (told_at t.rows order w.rows (since_in t) place live) in
+      let found = samples_found (told_live t.rows.rows (since_in t) order) (id_in t.rows.rows place) (kept_in t.rows.rows (since_in t) place) (told_at t.rows.rows order w.rows (since_in t) place live) in
       omega (arith, found, w.held)
 
   module _ (self : Listing) (view : listing_of t ≡ self) (i place : ℕ) (below : i < length self.listed) (read : place ≡ get_or t.order.places.items i place) where
     in_order : i < length t.order.places.items
-    in_order = omega (arith, below, ap (λ (s : Listing). length s.listed) view, length-map {B = RowId × Kept} t.order.places.items (λ p. (id_in t.rows p, kept_in t.rows (since_in t) p)))
+    in_order = omega (arith, below, ap (λ (s : Listing). length s.listed) view, length-map {B = RowId × Kept} t.order.places.items (λ p. (id_in t.rows.rows p, kept_in t.rows.rows (since_in t) p)))
 
-    pub place_live : row_at t.rows place ≢ None
+    pub place_live : row_at t.rows.rows place ≢ None
     place_live none =
-        live_order t.rows t.order.places.items i w.rows.live in_order (ap (row_at t.rows) (sym (get_or_read_under t.order.places.items i t.order.places.len place 0 read (omega (arith, in_order, t.order.places.ok.0)) t.order.places.ok.0)) ∙ none)
+        live_order t.rows.rows t.order.places.items i w.rows.live in_order (ap (row_at t.rows.rows) (sym (get_or_read_under t.order.places.items i t.order.places.len place 0 read (omega (arith, in_order, t.order.places.ok.0)) t.order.places.ok.0)) ∙ none)
 
-    pub place_within : place < length t.rows
-    place_within = present_within t.rows place place_live
+    pub place_within : place < length t.rows.rows
+    place_within = present_within t.rows.rows place place_live
 
-    pub at_place : (row : Row) → row_at t.rows place ≡ Some row → IsAt t i place row
+    pub at_place : (row : Row) → row_at t.rows.rows place ≡ Some row → IsAt t i place row
     at_place row is = record {
-      listed = slice_get-map (λ p. (id_in t.rows p, kept_in t.rows (since_in t) p)) t.order.places.items i
-          ∙ ap (option_map (λ p. (id_in t.rows p, kept_in t.rows (since_in t) p))) (slice_get_read t.order.places.items t.order.places.len i place t.order.places.ok.0 (omega (arith, in_order, t.order.places.ok.0)) read)
+      listed = slice_get-map (λ p. (id_in t.rows.rows p, kept_in t.rows.rows (since_in t) p)) t.order.places.items i
+          ∙ ap (option_map (λ p. (id_in t.rows.rows p, kept_in t.rows.rows (since_in t) p))) (slice_get_read t.order.places.items t.order.places.len i place t.order.places.ok.0 (omega (arith, in_order, t.order.places.ok.0)) read)
           ∙ ap (λ (o : Option Row). Some ((listed_as o).0, kept_as o (since_in t place))) is;
       is = is;
       live = place_live;
@@ -108,12 +108,8 @@ module _ (t : Inside) (w : IsTable t) where
       few = few_samples place place_live;
     }
 
--- the tally of a place that was read
-pub tally_read : (t : Inside) → IsTable t → (place : ℕ) → place < length t.rows → (x : Tally) → x ≡ get_or t.tallies.items place x → x ≡ get_or t.tallies.items place no_tally
-tally_read t w place within x read = get_or_read t.tallies.items place x (omega (arith, within, w.places, w.tally_places)) read no_tally
-
 -- what is told of a row is what is kept of it
-pub facts_tell : (t : Inside) (row : Row) (place : ℕ) (x : Tally) (facts : RowFacts) → x ≡ get_or t.tallies.items place no_tally
+pub facts_tell : (t : Inside) (row : Row) (place : ℕ) (x : Tally) (facts : RowFacts) → x ≡ get_or t.rows.tallies place no_tally
     → row ≡ record { kind = facts.kind; key = facts.key; base = facts.base; swaps = facts.swaps } → facts.samples ≡ x.samples → facts.weight ≡ x.weight
     → Tells facts ((row_view row).0, kept_as (Some row) (since_in t place))
 facts_tell t row place x facts tally same samples weight = record {
@@ -142,13 +138,8 @@ timed_values (v ∷ own) timed =
     All-cons (λ (x : Micro). (pos 0 ≤ℤ x.0) × (x.0 ≤ℤ pos (10 ^ 16))) v.value (map (λ (x : TimerValue). x.value) own) (All-head IsTimed v own timed) (timed_values own (All-tail IsTimed v own timed))
 
 -- the row of a place is in the map
-pub found_here : (t : Inside) → IsTable t → (p : ℕ) (row : Row) → row_at t.rows p ≡ Some row → get (told_live t.rows (since_in t) t.order.places.items) (row_view row).0 ≡ Some (kept_as (Some row) (since_in t p))
+pub found_here : (t : Inside) → IsTable t → (p : ℕ) (row : Row) → row_at t.rows.rows p ≡ Some row → get (told_live t.rows.rows (since_in t) t.order.places.items) (row_view row).0 ≡ Some (kept_as (Some row) (since_in t p))
 found_here t w p row is =
-    let m = told_live t.rows (since_in t) t.order.places.items in
-    ap (get m) (sym (id_here t.rows p row is)) ∙ told_at t.rows t.order.places.items w.rows (since_in t) p (λ none. absurd (cc (is, none)))
+    let m = told_live t.rows.rows (since_in t) t.order.places.items in
+    ap (get m) (sym (id_here t.rows.rows p row is)) ∙ told_at t.rows.rows t.order.places.items w.rows (since_in t) p (λ none. absurd (cc (is, none)))
     ∙ ap (λ (o : Option Row). Some (kept_as o (since_in t p))) is
-
-pub tally_same : (t : Inside) → IsTable t → (p : ℕ) (row : Row) → row_at t.rows p ≡ Some row → (x : Tally) → get_or t.tallies.items p x ≡ get_or t.tallies.items p no_tally
-tally_same t w p row is x =
-    let within = present_within t.rows p (λ none. absurd (cc (is, none))) in
-    get_or_default t.tallies.items p x no_tally (omega (arith, within, w.places, w.tally_places))

@@ -134,9 +134,9 @@ pub has_places : (t : Inside) → IsTable t → HasPlaces (listing_of t)
 has_places t w = record {
   len = w.places;
   apart = w.rows.apart;
-  rows = told_places t.rows (since_in t) t.order.places.items w.rows;
+  rows = told_places t.rows.rows (since_in t) t.order.places.items w.rows;
   fresh_rows = λ none.
-      fresh_places t.rows (since_in t) t.order.places.items w.rows
+      fresh_places t.rows.rows (since_in t) t.order.places.items w.rows
       (λ p row is. (w.since p row is).none (no_row_samples t w none p (λ gone. absurd (cc (is, gone)))));
 }
 

@@ -5,7 +5,8 @@ use Rattle.sd_model_text.specs.Lines.{Sample}
 use Rattle.sd_model_shard.specs.Rows.{Summary, Kept}
 use Rattle.sd_model_shard.specs.Statistics.{gauge_after}
 use Rattle.sd_epoch.specs.declared.members.SetMember.{SetMember}
-use Rattle.sd_epoch.specs.declared.tally.Tally.{Tally}
+use Rattle.sd_rows.specs.declared.tally.Tally.{Tally}
+pub use Rattle.sd_rows.specs.Rows.{no_tally}
 use Rattle.sd_epoch.specs.declared.values.TimerValue.{TimerValue}
 
 -- the value as a gauge after a sample of a row of a kind
@@ -14,10 +15,6 @@ gauge_by Counter value s = value
 gauge_by Timer value s = value
 gauge_by Gauge value s = gauge_after value s
 gauge_by Set value s = value
-
--- what stands beyond the last tally
-abbrev pub no_tally : Tally
-no_tally = record { samples = 0; gauge = record { 0 = pos 0 }; weight = record { 0 = pos 0 } }
 
 -- what stands beyond the last value
 abbrev pub no_value : TimerValue

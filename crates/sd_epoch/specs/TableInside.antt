@@ -13,14 +13,14 @@ use Rattle.sd_epoch.specs.declared.table.Table.TheInside.{Inside}
 
 -- what came to the row of a place
 abbrev pub since_in : Inside → ℕ → Summary
-since_in t = since_at t.tallies.items t.values.items.items t.members.items.items
+since_in t = since_at t.rows.tallies t.values.items.items t.members.items.items
 
 abbrev pub listing_of : Inside → Listing
 listing_of t =
     record {
       limits = limits_of t.limits;
-      places = t.rows;
-      listed = told_in t.rows (since_in t) t.order.places.items;
+      places = t.rows.rows;
+      listed = told_in t.rows.rows (since_in t) t.order.places.items;
       held = t.held;
       entries = length t.values.items.items + length t.members.items.items;
     }
@@ -29,18 +29,18 @@ listing_of t =
 -- members that name it, and all rows have so many samples together.
 pub record IsTable (t : Inside) : Type 0 where
   pub limits : AreLimits (limits_of t.limits)
-  pub rows : AreRows t.rows t.order.places.items
+  pub rows : AreRows t.rows.rows t.order.places.items
   pub ranked : IsRanked t.order.places.items t.order.rank.items
   pub ranks : length t.order.rank.items ≡ t.limits.rows
-  pub since : AreSince t.rows (since_in t)
-  pub held : t.held ≡ samples_in (told_live t.rows (since_in t) t.order.places.items)
+  pub since : AreSince t.rows.rows (since_in t)
+  pub held : t.held ≡ samples_in (told_live t.rows.rows (since_in t) t.order.places.items)
   pub few_held : t.held ≤ most_held
   pub values : AreValues t.values
-  pub owned_values : AllLive t.rows (value_places t.values.items.items)
+  pub owned_values : AllLive t.rows.rows (value_places t.values.items.items)
   pub members : AreMembers t.members
-  pub owned_members : AllLive t.rows (member_places t.members.items.items)
-  pub places : length t.rows ≡ t.limits.rows
-  pub tally_places : length t.tallies.items ≡ t.limits.rows
+  pub owned_members : AllLive t.rows.rows (member_places t.members.items.items)
+  pub places : length t.rows.rows ≡ t.limits.rows
+  pub tally_places : length t.rows.tallies ≡ t.limits.rows
   pub value_places : length t.values.chain.last.items ≡ t.limits.rows
   pub member_places : length t.members.chain.last.items ≡ t.limits.rows
   pub order : vec_len t.order.places ≤ t.limits.rows

@@ -105,9 +105,9 @@ impl Members {
     /// Takes those out whose place has no row.
     pub(crate) fn retain_live(&mut self, rows: &Rows)
         requires members { AreMembers self.old }
-        requires places { length self.old.chain.last.items ≡ length rows.now }
+        requires places { length self.old.chain.last.items ≡ length rows.now.rows }
         requires few { length self.old.items.items ≤ 2 ^ 20 }
-        ensures items { placed_members self.new.items.items ≡ placed_members (filter (λ m. is_some (row_at rows.now m.place)) self.old.items.items) }
+        ensures items { placed_members self.new.items.items ≡ placed_members (filter (λ m. is_some (row_at rows.now.rows m.place)) self.old.items.items) }
         ensures members { AreMembers self.new }
         ensures places { length self.new.chain.last.items ≡ length self.old.chain.last.items }
         ensures capacity { vec_capacity self.new.items ≡ vec_capacity self.old.items }
@@ -194,7 +194,7 @@ impl Members {
 
 /// Takes the members out whose place has no row.
 fn drop_members(rows: &Rows, members: &mut Vec<SetMember>)
-    ensures members { members.new.items ≡ filter (λ m. is_some (row_at rows.now m.place)) members.old.items }
+    ensures members { members.new.items ≡ filter (λ m. is_some (row_at rows.now.rows m.place)) members.old.items }
     ensures few { vec_len members.new ≤ vec_len members.old }
     ensures capacity { vec_capacity members.new ≡ vec_capacity members.old }
 {

@@ -66,7 +66,7 @@ impl Order {
     /// Takes the places out that have no row.
     pub(crate) fn retain_live(&mut self, rows: &Rows)
         requires { IsRanked self.old.places.items self.old.rank.items }
-        ensures places { self.new.places.items ≡ filter (λ place. is_some (row_at rows.now place)) self.old.places.items }
+        ensures places { self.new.places.items ≡ filter (λ place. is_some (row_at rows.now.rows place)) self.old.places.items }
         ensures ranked { IsRanked self.new.places.items self.new.rank.items }
         ensures ranks { length self.new.rank.items ≡ length self.old.rank.items }
         ensures few { vec_len self.new.places ≤ vec_len self.old.places }
@@ -90,7 +90,7 @@ impl Order {
 
 /// Takes the places out that have no row, and keeps the order of the others.
 fn drop_places(rows: &Rows, places: &mut Vec<u32>)
-    ensures places { places.new.items ≡ filter (λ place. is_some (row_at rows.now place)) places.old.items }
+    ensures places { places.new.items ≡ filter (λ place. is_some (row_at rows.now.rows place)) places.old.items }
     ensures few { vec_len places.new ≤ vec_len places.old }
     ensures capacity { vec_capacity places.new ≡ vec_capacity places.old }
 {

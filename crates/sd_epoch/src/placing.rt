@@ -1,7 +1,7 @@
 ghost use Rattle.std.specs.Prelude.{◌≡◌, ◌≢◌, ℕ, ◌+◌, ◌^◌, ◌<◌, ◌≤◌, ◌==◌, [], ◌∷◌, ◌++◌, true, if◌then◌else◌, List, length, get_or, set, Option, Some, None, vec_len, vec_capacity};
 ghost use Rattle.std.specs.FinMap.{insert};
 ghost use Rattle.sd_model_shard.specs.Summaries.{is_listed, row_in};
-ghost use Rattle.sd_rows.specs.Rows.{row_at, Holds, IsAbsent, StandsNowhereElse, reset};
+ghost use Rattle.sd_rows.specs.Rows.{row_at, row_seen, Holds, IsAbsent, StandsNowhereElse, reset};
 ghost use Rattle.sd_rows.specs.RowMap.{copy_steps};
 ghost use Rattle.sd_rows.specs.declared.row.Row.{Row};
 ghost use Rattle.sd_epoch.specs.Members.{AreMembers, member_places};
@@ -15,18 +15,18 @@ ghost use Rattle.sd_epoch.specs.declared.values.TimerValue.{TimerValue};
 
 use crate::members::Members;
 use crate::order::Order;
-use crate::tally::{Tally, empty_tally};
+use crate::tally::empty_tally;
 use crate::values::Values;
 use sd_decimal::Micro;
 use sd_key::{Key, Kind};
 use sd_line::Sample;
-use sd_rows::{Row, Rows, Steps};
+use sd_rows::{RowView, Rows, Steps};
 use std::sync::ledger::Ledger;
 
 /// The row of a place that has one.
-pub(crate) fn live_row(rows: &Rows, place: u32) -> &Row
-    requires { row_at rows.now place ≢ None }
-    ensures { row_at rows.now place ≡ Some result.now }
+pub(crate) fn live_row(rows: &Rows, place: u32) -> RowView<'_>
+    requires { row_at rows.now.rows place ≢ None }
+    ensures { row_at rows.now.rows place ≡ Some (row_seen result) }
 {
     rows.row(place).unwrap()
 }
@@ -35,70 +35,63 @@ pub(crate) fn live_row(rows: &Rows, place: u32) -> &Row
 pub(crate) fn add_row(
     rows: &mut Rows,
     order: &mut Order,
-    tallies: &mut Vec<Tally>,
     kind: Kind,
     key: &Key,
     base: Micro,
     swaps: u32,
 ) -> u32
-    requires rows { AreRows rows.old order.old.places.items }
+    requires rows { AreRows rows.old.rows order.old.places.items }
     requires ranked { IsRanked order.old.places.items order.old.rank.items }
-    requires ranks { length order.old.rank.items ≡ length rows.old }
-    requires absent { IsAbsent kind key.now rows.old }
-    requires room { vec_len order.old.places < length rows.old }
+    requires ranks { length order.old.rank.items ≡ length rows.old.rows }
+    requires absent { IsAbsent kind key.now rows.old.rows }
+    requires room { vec_len order.old.places < length rows.old.rows }
     requires order_room { vec_len order.old.places < vec_capacity order.old.places }
-    requires tally_room { length tallies.old.items ≡ length rows.old }
-    ensures row { row_at rows.new result ≡ Some (record { kind = kind; key = key.now; base = base; swaps = swaps }) }
-    ensures rows { AreRows rows.new order.new.places.items }
+    requires tally_room { length rows.old.tallies ≡ length rows.old.rows }
+    ensures row { row_at rows.new.rows result ≡ Some (record { kind = kind; key = key.now; base = base; swaps = swaps }) }
+    ensures rows { AreRows rows.new.rows order.new.places.items }
     ensures ranked { IsRanked order.new.places.items order.new.rank.items }
     ensures ranks { length order.new.rank.items ≡ length order.old.rank.items }
-    ensures empty { row_at rows.old result ≡ None }
-    ensures others { (p : ℕ) → p ≢ result → row_at rows.new p ≡ row_at rows.old p }
+    ensures empty { row_at rows.old.rows result ≡ None }
+    ensures others { (p : ℕ) → p ≢ result → row_at rows.new.rows p ≡ row_at rows.old.rows p }
     ensures order { order.new.places.items ≡ order.old.places.items ++ result ∷ [] }
-    ensures stay { StayAt rows.old rows.new }
-    ensures tally { IsFresh base.0 (get_or tallies.new.items result no_tally) }
-    ensures other_tallies { (p : ℕ) → p ≢ result → get_or tallies.new.items p no_tally ≡ get_or tallies.old.items p no_tally }
-    ensures places { length rows.new ≡ length rows.old }
-    ensures tally_places { length tallies.new.items ≡ length tallies.old.items }
+    ensures stay { StayAt rows.old.rows rows.new.rows }
+    ensures tally { IsFresh base.0 (get_or rows.new.tallies result no_tally) }
+    ensures other_tallies { (p : ℕ) → p ≢ result → get_or rows.new.tallies p no_tally ≡ get_or rows.old.tallies p no_tally }
+    ensures places { length rows.new.rows ≡ length rows.old.rows }
+    ensures tally_places { length rows.new.tallies ≡ length rows.old.tallies }
     ensures len { vec_len order.new.places ≡ vec_len order.old.places + 1 }
     ensures capacity { vec_capacity order.new.places ≡ vec_capacity order.old.places }
 {
     let place = rows.add(kind, key);
     rows.set(place, base, swaps);
     order.push(place);
-    tallies[place as usize] = empty_tally(base);
+    rows.set_tally(place, empty_tally(base));
     place
 }
 
 /// Notes a sample of a row, which is made where it is absent. Answers its place.
-pub(crate) fn touch(
-    rows: &mut Rows,
-    order: &mut Order,
-    tallies: &mut Vec<Tally>,
-    kind: Kind,
-    key: &Key,
-) -> u32
-    requires rows { AreRows rows.old order.old.places.items }
+pub(crate) fn touch(rows: &mut Rows, order: &mut Order, kind: Kind, key: &Key) -> u32
+    requires rows { AreRows rows.old.rows order.old.places.items }
     requires ranked { IsRanked order.old.places.items order.old.rank.items }
-    requires ranks { length order.old.rank.items ≡ length rows.old }
-    requires few { vec_len order.old.places ≤ length rows.old }
-    requires room { IsAbsent kind key.now rows.old → vec_len order.old.places < length rows.old }
-    requires order_room { length rows.old ≤ vec_capacity order.old.places }
-    requires tally_room { length tallies.old.items ≡ length rows.old }
-    ensures row { Holds kind key.now (row_at rows.new result) }
-    ensures rows { AreRows rows.new order.new.places.items }
+    requires ranks { length order.old.rank.items ≡ length rows.old.rows }
+    requires few { vec_len order.old.places ≤ length rows.old.rows }
+    requires room { IsAbsent kind key.now rows.old.rows → vec_len order.old.places < length rows.old.rows }
+    requires order_room { length rows.old.rows ≤ vec_capacity order.old.places }
+    requires tally_room { length rows.old.tallies ≡ length rows.old.rows }
+    ensures row { Holds kind key.now (row_at rows.new.rows result) }
+    ensures rows { AreRows rows.new.rows order.new.places.items }
     ensures ranked { IsRanked order.new.places.items order.new.rank.items }
     ensures ranks { length order.new.rank.items ≡ length order.old.rank.items }
-    ensures live { (values : List TimerValue) (members : List SetMember) → AllLive rows.old (value_places values) → AllLive rows.old (member_places members)
-        → told_live rows.new (since_at tallies.new.items values members) order.new.places.items
-        ≡ insert (told_live rows.old (since_at tallies.old.items values members) order.old.places.items) (id_of kind key.now)
-        (without_swaps (row_in (told_live rows.old (since_at tallies.old.items values members) order.old.places.items) (id_of kind key.now))) }
-    ensures since { (values : List TimerValue) (members : List SetMember) → AllLive rows.old (value_places values) → AllLive rows.old (member_places members)
-        → AreSince rows.old (since_at tallies.old.items values members) → AreSince rows.new (since_at tallies.new.items values members) }
-    ensures stay { StayAt rows.old rows.new }
-    ensures places { length rows.new ≡ length rows.old }
-    ensures tally_places { length tallies.new.items ≡ length tallies.old.items }
-    ensures few { vec_len order.new.places ≤ length rows.new }
+    ensures live { (values : List TimerValue) (members : List SetMember) → AllLive rows.old.rows (value_places values) → AllLive rows.old.rows (member_places members)
+        → told_live rows.new.rows (since_at rows.new.tallies values members) order.new.places.items
+        ≡ insert (told_live rows.old.rows (since_at rows.old.tallies values members) order.old.places.items) (id_of kind key.now)
+        (without_swaps (row_in (told_live rows.old.rows (since_at rows.old.tallies values members) order.old.places.items) (id_of kind key.now))) }
+    ensures since { (values : List TimerValue) (members : List SetMember) → AllLive rows.old.rows (value_places values) → AllLive rows.old.rows (member_places members)
+        → AreSince rows.old.rows (since_at rows.old.tallies values members) → AreSince rows.new.rows (since_at rows.new.tallies values members) }
+    ensures stay { StayAt rows.old.rows rows.new.rows }
+    ensures places { length rows.new.rows ≡ length rows.old.rows }
+    ensures tally_places { length rows.new.tallies ≡ length rows.old.tallies }
+    ensures few { vec_len order.new.places ≤ length rows.new.rows }
     ensures capacity { vec_capacity order.new.places ≡ vec_capacity order.old.places }
 {
     match rows.find(kind, key) {
@@ -107,7 +100,7 @@ pub(crate) fn touch(
             rows.set(place, base, 0);
             place
         }
-        None => add_row(rows, order, tallies, kind, key, Micro(0), 0),
+        None => add_row(rows, order, kind, key, Micro(0), 0),
     }
 }
 
@@ -115,30 +108,29 @@ pub(crate) fn touch(
 pub(crate) fn carry_in<L: Ledger>(
     rows: &mut Rows,
     order: &mut Order,
-    tallies: &mut Vec<Tally>,
     from: &Rows,
     at: u32,
     base: Micro,
     swaps: u32,
     steps: &mut Steps<L>,
 )
-    requires rows { AreRows rows.old order.old.places.items }
+    requires rows { AreRows rows.old.rows order.old.places.items }
     requires ranked { IsRanked order.old.places.items order.old.rank.items }
-    requires ranks { length order.old.rank.items ≡ length rows.old }
-    requires within { at < length rows.old }
-    requires live { row_at from.now at ≢ None }
-    requires apart { StandsNowhereElse (row_at from.now at) at rows.old }
-    requires order_room { length rows.old ≤ vec_capacity order.old.places }
-    requires tally_room { length tallies.old.items ≡ length rows.old }
-    ensures places { rows.new ≡ set rows.old at (reset (row_at from.now at) base swaps) }
-    ensures rows { AreRows rows.new order.new.places.items }
+    requires ranks { length order.old.rank.items ≡ length rows.old.rows }
+    requires within { at < length rows.old.rows }
+    requires live { row_at from.now.rows at ≢ None }
+    requires apart { StandsNowhereElse (row_at from.now.rows at) at rows.old.rows }
+    requires order_room { length rows.old.rows ≤ vec_capacity order.old.places }
+    requires tally_room { length rows.old.tallies ≡ length rows.old.rows }
+    ensures places { rows.new.rows ≡ set rows.old.rows at (reset (row_at from.now.rows at) base swaps) }
+    ensures rows { AreRows rows.new.rows order.new.places.items }
     ensures ranked { IsRanked order.new.places.items order.new.rank.items }
     ensures ranks { length order.new.rank.items ≡ length order.old.rank.items }
-    ensures tally { IsFresh base.0 (get_or tallies.new.items at no_tally) }
-    ensures other_tallies { (p : ℕ) → p ≢ at → get_or tallies.new.items p no_tally ≡ get_or tallies.old.items p no_tally }
-    ensures tally_places { length tallies.new.items ≡ length tallies.old.items }
+    ensures tally { IsFresh base.0 (get_or rows.new.tallies at no_tally) }
+    ensures other_tallies { (p : ℕ) → p ≢ at → get_or rows.new.tallies p no_tally ≡ get_or rows.old.tallies p no_tally }
+    ensures tally_places { length rows.new.tallies ≡ length rows.old.tallies }
     ensures capacity { vec_capacity order.new.places ≡ vec_capacity order.old.places }
-    ensures steps { steps.new ≡ steps.old + copy_steps (row_at from.now at) (row_at rows.old at) }
+    ensures steps { steps.new ≡ steps.old + copy_steps (row_at from.now.rows at) (row_at rows.old.rows at) }
 {
     let was_empty = rows.row(at).is_none();
     rows.copy_row(from, at, steps);
@@ -146,19 +138,32 @@ pub(crate) fn carry_in<L: Ledger>(
     if was_empty {
         order.push(at);
     }
-    tallies[at as usize] = empty_tally(base);
+    rows.set_tally(at, empty_tally(base));
+}
+
+/// Makes the tally of a place one without samples, where it has a row.
+fn clear_tally(rows: &mut Rows, at: u32)
+    requires within { at < length rows.old.rows }
+    requires tally_room { length rows.old.tallies ≡ length rows.old.rows }
+    ensures rows { rows.new.rows ≡ rows.old.rows }
+    ensures tally { (row : Row) → row_at rows.old.rows at ≡ Some row → IsFresh row.base.0 (get_or rows.new.tallies at no_tally) }
+    ensures others { (p : ℕ) → p ≢ at → get_or rows.new.tallies p no_tally ≡ get_or rows.old.tallies p no_tally }
+    ensures tally_places { length rows.new.tallies ≡ length rows.old.tallies }
+{
+    if let Some(row) = rows.row(at) {
+        let base = row.base;
+        rows.set_tally(at, empty_tally(base));
+    }
 }
 
 /// Makes the tally of each row one without samples.
-pub(crate) fn clear_tallies(rows: &Rows, tallies: &mut Vec<Tally>)
-    requires { length tallies.old.items ≡ length rows.now }
-    ensures tallies { (p : ℕ) (row : Row) → row_at rows.now p ≡ Some row → IsFresh row.base.0 (get_or tallies.new.items p no_tally) }
-    ensures tally_places { length tallies.new.items ≡ length tallies.old.items }
+pub(crate) fn clear_tallies(rows: &mut Rows)
+    ensures rows { rows.new.rows ≡ rows.old.rows }
+    ensures tallies { (p : ℕ) (row : Row) → row_at rows.old.rows p ≡ Some row → IsFresh row.base.0 (get_or rows.new.tallies p no_tally) }
+    ensures tally_places { length rows.new.tallies ≡ length rows.old.tallies }
 {
     for at in 0..rows.len() {
-        if let Some(row) = rows.row(at) {
-            tallies[at as usize] = empty_tally(row.base);
-        }
+        clear_tally(rows, at);
     }
 }
 

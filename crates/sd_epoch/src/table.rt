@@ -5,7 +5,7 @@ ghost use Rattle.sd_model_shard.specs.Rows.{RowId, row_of};
 ghost use Rattle.sd_model_shard.specs.Commands.{rows_left, rows_taken_out};
 ghost use Rattle.sd_model_shard.specs.Summaries.{amount_by, is_listed, listed_in, row_in, samples_in, touched, without_samples};
 ghost use Rattle.sd_key.specs.Kind.{kind_of};
-ghost use Rattle.sd_rows.specs.Rows.{row_at, StandsNowhereElse, reset};
+ghost use Rattle.sd_rows.specs.Rows.{row_at, row_seen, StandsNowhereElse, reset};
 ghost use Rattle.sd_rows.specs.RowMap.{copy_steps};
 ghost use Rattle.sd_epoch.specs.Limits.{limits_of, AreLimits};
 ghost use Rattle.sd_epoch.specs.Scratch.{micros, texts, AreTimerValues};
@@ -17,12 +17,12 @@ use crate::members::Members;
 use crate::order::Order;
 use crate::placing::{add_row, carry_in, clear_tallies, list, live_row, touch};
 use crate::scratch::Scratch;
-use crate::tally::{Tally, empty_tally};
+use crate::tally::{gauge_sum, with_sample};
 use crate::values::Values;
 use sd_decimal::{Micro, Sum};
 use sd_key::{Key, Kind, Pattern};
 use sd_line::Sample;
-use sd_rows::{Row, Rows, Steps};
+use sd_rows::{RowView, Rows, Steps, Tally};
 use std::alloc::{AllocError, Global};
 use std::marker::Model;
 use std::sync::ledger::Ledger;
@@ -40,14 +40,13 @@ pub struct RowFacts {
 
 /// The rows of one epoch of a shard, each with what its samples come to, in room taken when it was opened.
 ///
-/// `order` has the places of the rows, and the rank of each. `tallies` has that of each place's row. The values of timers and the
+/// `order` has the places of the rows, and the rank of each. `rows` has each row's tally beside it. The values of timers and the
 /// members of sets stand apart, and so a counter's and a gauge's sample takes no room of its own.
 #[derive(Debug, Drop)]
 pub struct Table {
     limits: Limits,
     rows: Rows,
     order: Order,
-    tallies: Vec<Tally>,
     values: Values,
     members: Members,
     held: u64,
@@ -66,8 +65,8 @@ impl Model for Table {
 }
 
 impl Table {
-    /// An empty table with room for as many rows and entries as the limits say.
-    pub fn open(alloc: Global, limits: Limits) -> Result<Table, AllocError>
+    /// An empty table with room for as many rows and entries as the limits say, whose rows are found by hashes under a seed.
+    pub fn open(alloc: Global, limits: Limits, seed: u64) -> Result<Table, AllocError>
         requires { AreLimits (limits_of limits) }
         ensures limits { IfOk result (λ t. t.limits ≡ limits_of limits) }
         ensures rows { IfOk result (λ t. t.listed ≡ []) }
@@ -76,9 +75,8 @@ impl Table {
     {
         Ok(Table {
             limits,
-            rows: Rows::open(alloc, limits.rows)?,
+            rows: Rows::open(alloc, limits.rows, seed)?,
             order: Order::open(alloc, limits.rows)?,
-            tallies: vec![in alloc; empty_tally(Micro(0)); limits.rows as usize]?,
             values: Values::open(alloc, limits)?,
             members: Members::open(alloc, limits)?,
             held: 0,
@@ -139,14 +137,13 @@ impl Table {
     {
         let place = self.order.places[i as usize];
         let row = live_row(&self.rows, place);
-        let tally = self.tallies[place as usize];
-        facts_of(row, tally)
+        facts_of(&row, self.rows.tally(place))
     }
 
     /// Its i-th row, in some order.
-    pub fn get(&self, i: u32) -> &Row
+    pub fn get(&self, i: u32) -> RowView<'_>
         requires { i < length self.now.listed }
-        ensures { IfSome (slice_get self.now.listed i) (λ row. (row.0, fresh row.1) ≡ row_view result.now) }
+        ensures { IfSome (slice_get self.now.listed i) (λ row. (row.0, fresh row.1) ≡ row_view (row_seen result)) }
     {
         live_row(&self.rows, self.order.places[i as usize])
     }
@@ -156,7 +153,7 @@ impl Table {
         requires { i < length self.now.listed }
         ensures { IfSome (slice_get self.now.listed i) (λ row. result.0 ≡ row.1.since.gauge) }
     {
-        self.tallies[self.order.places[i as usize] as usize].gauge
+        self.rows.tally(self.order.places[i as usize]).gauge
     }
 
     /// Puts the values of its i-th row's samples into the scratch, in the order in which they came.
@@ -190,11 +187,11 @@ impl Table {
         ensures { IfSome (slice_get self.now.listed i) (λ row. result.0 ≡ amount_by row.0.kind row.1.since) }
     {
         let place = self.order.places[i as usize];
-        let tally = self.tallies[place as usize];
+        let tally = self.rows.tally(place);
         match live_row(&self.rows, place).kind {
             Kind::Counter => tally.weight,
             Kind::Timer => self.values.sum_at(place),
-            Kind::Gauge => tally.gauge_sum(),
+            Kind::Gauge => gauge_sum(tally),
             Kind::Set => self.members.distinct_sum(place),
         }
     }
@@ -214,7 +211,7 @@ impl Table {
             &mut self.members,
         );
         let before = self.held;
-        self.held = samples_at(&self.order.places, &self.tallies);
+        self.held = samples_at(&self.order.places, &self.rows);
         before - self.held
     }
 
@@ -234,7 +231,7 @@ impl Table {
             &mut self.members,
         );
         let before = self.held;
-        self.held = samples_at(&self.order.places, &self.tallies);
+        self.held = samples_at(&self.order.places, &self.rows);
         before - self.held
     }
 
@@ -248,15 +245,7 @@ impl Table {
         ensures held { self.new.held ≡ self.old.held }
         ensures entries { self.new.entries ≡ self.old.entries }
     {
-        add_row(
-            &mut self.rows,
-            &mut self.order,
-            &mut self.tallies,
-            kind,
-            key,
-            base,
-            swaps,
-        );
+        add_row(&mut self.rows, &mut self.order, kind, key, base, swaps);
     }
 
     /// Takes all rows out, with all their samples.
@@ -281,16 +270,16 @@ impl Table {
         ensures entries { self.new.entries ≡ 0 }
         ensures limits { self.new.limits ≡ self.old.limits }
     {
-        clear_tallies(&self.rows, &mut self.tallies);
+        clear_tallies(&mut self.rows);
         self.values.clear();
         self.members.clear();
         self.held = 0;
     }
 
     /// The row in a place, or none where it is empty.
-    pub fn get_at(&self, at: u32) -> Option<&Row>
+    pub fn get_at(&self, at: u32) -> Option<RowView<'_>>
         requires { at < self.now.limits.rows }
-        ensures { MatchOption result (row_at self.now.places at ≡ None) (λ row. row_at self.now.places at ≡ Some row.now) }
+        ensures { MatchOption result (row_at self.now.places at ≡ None) (λ row. row_at self.now.places at ≡ Some (row_seen row)) }
     {
         self.rows.row(at)
     }
@@ -300,7 +289,7 @@ impl Table {
         requires { row_at self.now.places at ≢ None }
         ensures { IfSome (row_at self.now.places at) (λ row. IfSome (get (live_of self.now) (row_view row).0) (λ kept. result.0 ≡ kept.since.gauge)) }
     {
-        self.tallies[at as usize].gauge
+        self.rows.tally(at).gauge
     }
 
     /// What it says of the row in a place, or none where it is empty.
@@ -313,7 +302,7 @@ impl Table {
     {
         match self.rows.row(at) {
             None => None,
-            Some(row) => Some(facts_of(row, self.tallies[at as usize])),
+            Some(row) => Some(facts_of(&row, self.rows.tally(at))),
         }
     }
 
@@ -355,7 +344,6 @@ impl Table {
         carry_in(
             &mut self.rows,
             &mut self.order,
-            &mut self.tallies,
             &from.rows,
             at,
             base,
@@ -374,14 +362,9 @@ impl Table {
         ensures entries { self.new.entries ≡ self.old.entries + (if is_listed s.now.kind then 1 else 0) }
         ensures limits { self.new.limits ≡ self.old.limits }
     {
-        let place = touch(
-            &mut self.rows,
-            &mut self.order,
-            &mut self.tallies,
-            s.kind,
-            &s.key,
-        );
-        self.tallies[place as usize].add(s);
+        let place = touch(&mut self.rows, &mut self.order, s.kind, &s.key);
+        let tally = with_sample(self.rows.tally(place), s);
+        self.rows.set_tally(place, tally);
         list(&mut self.values, &mut self.members, place, s);
         self.held += 1;
     }
@@ -395,14 +378,14 @@ fn copy_key(key: &Key) -> Key
 }
 
 /// What a row and its tally say.
-fn facts_of(row: &Row, tally: Tally) -> RowFacts
-    ensures row { row.now ≡ record { kind = result.kind; key = result.key; base = result.base; swaps = result.swaps } }
+fn facts_of(row: &RowView<'_>, tally: Tally) -> RowFacts
+    ensures row { row_seen row.now ≡ record { kind = result.kind; key = result.key; base = result.base; swaps = result.swaps } }
     ensures samples { result.samples ≡ tally.samples }
     ensures weight { result.weight ≡ tally.weight }
 {
     RowFacts {
         kind: row.kind,
-        key: copy_key(&row.key),
+        key: copy_key(row.key),
         base: row.base,
         swaps: row.swaps,
         samples: tally.samples,

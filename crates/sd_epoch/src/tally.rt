@@ -5,6 +5,7 @@ ghost use Rattle.sd_epoch.specs.Since.{gauge_by};
 use sd_decimal::{Micro, Sum, weigh};
 use sd_key::Kind;
 use sd_line::Sample;
+use sd_rows::Tally;
 
 /// The value 1.
 const ONE: Micro = Micro(1_000_000);
@@ -12,40 +13,27 @@ const ONE: Micro = Micro(1_000_000);
 /// The greatest magnitude of a gauge, 10^12.
 const GAUGE_LIMIT: i64 = 1_000_000_000_000_000_000;
 
-/// What the samples of a row come to so far: how many there are, the value of a gauge, and what the samples of a counter or a
-/// timer weigh together.
-#[derive(Clone, Copy, Debug)]
-pub(crate) struct Tally {
-    pub samples: u64,
-    pub gauge: Micro,
-    pub weight: Sum,
+/// The value of a tally as a gauge, as a sum.
+pub(crate) fn gauge_sum(tally: Tally) -> Sum
+    ensures { result.0 ≡ tally.gauge.0 }
+{
+    Sum(i128::from(tally.gauge.0))
 }
 
-const _: () = prove!(size_of::<Tally>() == 32);
-
-impl Tally {
-    ghost use Rattle.std.specs.Prelude.{◌≡◌};
-
-    /// The value as a gauge, as a sum.
-    pub(crate) fn gauge_sum(&self) -> Sum
-        ensures { result.0 ≡ self.now.gauge.0 }
-    {
-        Sum(i128::from(self.gauge.0))
-    }
-
-    /// Adds a sample of its row.
-    pub(crate) fn add(&mut self, s: &Sample)
-        requires few { self.old.samples < 2 ^ 38 }
-        requires bound { unsigned_abs self.old.weight.0 ≤ self.old.samples * 10 ^ 24 }
-        ensures samples { self.new.samples ≡ self.old.samples + 1 }
-        ensures gauge { self.new.gauge.0 ≡ gauge_by s.now.kind self.old.gauge.0 s.now }
-        ensures weight { self.new.weight.0 ≡ self.old.weight.0 +ℤ sample_weight s.now.kind s.now }
-        ensures bound { unsigned_abs self.new.weight.0 ≤ self.new.samples * 10 ^ 24 }
-    {
-        let weight = sample_weight(s);
-        self.samples += 1;
-        self.gauge = gauge_by(self.gauge, s);
-        self.weight = Sum(self.weight.0 + weight.0);
+/// A tally with a sample of its row more.
+pub(crate) fn with_sample(tally: Tally, s: &Sample) -> Tally
+    requires few { tally.samples < 2 ^ 38 }
+    requires bound { unsigned_abs tally.weight.0 ≤ tally.samples * 10 ^ 24 }
+    ensures samples { result.samples ≡ tally.samples + 1 }
+    ensures gauge { result.gauge.0 ≡ gauge_by s.now.kind tally.gauge.0 s.now }
+    ensures weight { result.weight.0 ≡ tally.weight.0 +ℤ sample_weight s.now.kind s.now }
+    ensures bound { unsigned_abs result.weight.0 ≤ result.samples * 10 ^ 24 }
+{
+    let weight = sample_weight(s);
+    Tally {
+        samples: tally.samples + 1,
+        gauge: gauge_by(tally.gauge, s),
+        weight: Sum(tally.weight.0 + weight.0),
     }
 }
 

@@ -68,9 +68,9 @@ impl Values {
     /// Takes those out whose place has no row.
     pub(crate) fn retain_live(&mut self, rows: &Rows)
         requires values { AreValues self.old }
-        requires places { length self.old.chain.last.items ≡ length rows.now }
+        requires places { length self.old.chain.last.items ≡ length rows.now.rows }
         requires few { length self.old.items.items ≤ 2 ^ 20 }
-        ensures items { placed_values self.new.items.items ≡ placed_values (filter (λ v. is_some (row_at rows.now v.place)) self.old.items.items) }
+        ensures items { placed_values self.new.items.items ≡ placed_values (filter (λ v. is_some (row_at rows.now.rows v.place)) self.old.items.items) }
         ensures values { AreValues self.new }
         ensures places { length self.new.chain.last.items ≡ length self.old.chain.last.items }
         ensures capacity { vec_capacity self.new.items ≡ vec_capacity self.old.items }
@@ -143,7 +143,7 @@ fn with_value(sum: Sum, value: Micro) -> Sum
 
 /// Takes the values out whose place has no row.
 fn drop_values(rows: &Rows, values: &mut Vec<TimerValue>)
-    ensures values { values.new.items ≡ filter (λ v. is_some (row_at rows.now v.place)) values.old.items }
+    ensures values { values.new.items ≡ filter (λ v. is_some (row_at rows.now.rows v.place)) values.old.items }
     ensures few { vec_len values.new ≤ vec_len values.old }
     ensures capacity { vec_capacity values.new ≡ vec_capacity values.old }
 {

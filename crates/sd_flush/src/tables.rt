@@ -6,6 +6,9 @@ use sd_record::RecordScratch;
 use sd_spares::Spares;
 use std::alloc::{AllocError, Global};
 
+/// The seed of the hashes by which rows are found.
+const SEED: u64 = 0;
+
 /// The tables that a flusher swaps the shards for, and room for a record of those that they give.
 #[derive(Debug, Drop)]
 pub struct Tables {
@@ -28,7 +31,7 @@ impl Tables {
         ensures { IfOk result (AreTablesFor (limits_of limits) shards) }
     {
         Ok(Tables {
-            spares: Spares::open(alloc, shards, limits)?,
+            spares: Spares::open(alloc, shards, limits, SEED)?,
             scratch: RecordScratch::open(alloc, limits, shards)?,
         })
     }

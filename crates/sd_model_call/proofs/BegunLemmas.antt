@@ -7,9 +7,9 @@ use Rattle.std.proofs.lemmas.Bool.{cond-true}
 use Rattle.std.proofs.lemmas.Bool.Decides.{nat_tests}
 use Rattle.std.proofs.Math.ListN.{get_or-map}
 use Rattle.std.proofs.Math.Seq.{map-set_same}
-use Rattle.sd_model_outside.specs.Outside.{File, HasRead, IsAtEnd, Left, Object, Place, Rose, Told, Untold, fresh, left_in, opened, put_back, telling}
+use Rattle.sd_model_outside.specs.Outside.{File, HasRead, Interval, IsAtEnd, Left, Object, Place, Rose, Told, Untold, fresh, left_in, opened, put_back, telling}
 use Rattle.sd_model_outside.specs.Turns.{with_interval}
-use Rattle.sd_model_settings.specs.Settings.{Settings, OutOfRange, SettingsFlaw, settings}
+use Rattle.sd_model_settings.specs.Settings.{Settings, OutOfRange, SettingsFlaw, settings, settings_by}
 use Rattle.sd_model_call.specs.Opening.{World, Opening, Part, OfSettings, OfScript, OfSource, OfBeat, OfWire, OfGraphite, OfConsole, OfDoor, OfStreams, AreRead, IsAccepted, IsFlawed, IsNotOpenedAt, longest_file, numbered, opened_all, opened_part, part_in, settled, with_part}
 use Rattle.sd_model_call.specs.Call.{Answer, Done, NoMemory, NoForm, Misset, BadScript, NotOpened, NotRead, NotWritten, Worn, IsNotTaken, NotBegun, NotTaken, StopsAmong, cut_answer}
 use Rattle.sd_model_call.specs.Server.{begun_with}
@@ -19,7 +19,7 @@ use Rattle.sd_model_call.proofs.ReplayEnds.{LeftBehind, left_behind}
 
 -- a file that is too long has that flaw
 too_long : (bytes : List ℕ) → longest_file < length bytes → settings bytes ≡ Err (OutOfRange (codes "file"))
-unfolding settings
+unfolding settings settings_by
 too_long bytes long = cond-true (nat_lt 65536 (length bytes)) _ _ (grind (arith, nat_tests))
 
 -- what was read of settings that tell their bytes says what these say
@@ -129,8 +129,8 @@ module _ {X : Type 0} (f : Object → X) (opens : (place : Place) (o : Object) �
   }
 
 -- so does what comes before workers begin, where starting the beat keeps it too
-module _ {X : Type 0} (f : Object → X) (opens : (place : Place) (o : Object) → f (opened place o) ≡ f o) (tells : (told : Told) (o : Object) → f (telling told o) ≡ f o) (starts : (interval : ℕ) (o : Object) → f (with_interval interval o) ≡ f o) where
-  same_begun : (parts : List Opening) (interval : ℕ) (w : World) → Same f (begun_with parts interval w) w
+module _ {X : Type 0} (f : Object → X) (opens : (place : Place) (o : Object) → f (opened place o) ≡ f o) (tells : (told : Told) (o : Object) → f (telling told o) ≡ f o) (starts : (interval : Interval) (o : Object) → f (with_interval interval o) ≡ f o) where
+  same_begun : (parts : List Opening) (interval : Interval) (w : World) → Same f (begun_with parts interval w) w
   same_begun parts interval w =
       let all = same_all f opens parts w in
       record {
@@ -146,7 +146,7 @@ module _ {X : Type 0} (f : Object → X) (opens : (place : Place) (o : Object) �
         output = all.output;
       }
 
-  pub same_start : (parts : List Opening) (interval : ℕ) (values : Settings) (settings : Object) (name : List ℕ) (w : World) → IsAccepted values (File name) w.settings settings → Same f (begun_with parts interval (settled values settings w)) w
+  pub same_start : (parts : List Opening) (interval : Interval) (values : Settings) (settings : Object) (name : List ℕ) (w : World) → IsAccepted values (File name) w.settings settings → Same f (begun_with parts interval (settled values settings w)) w
   same_start parts interval values settings name w taken = same_next f _ _ w (same_begun parts interval (settled values settings w)) (same_settled f opens tells values settings name w taken)
 
 module _ (name : List ℕ) (old new : World) (values : Settings) (settings : Object) (taken : IsAccepted values (File name) old.settings settings) where

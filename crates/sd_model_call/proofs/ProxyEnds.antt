@@ -15,7 +15,7 @@ use Rattle.sd_model_call.specs.Call.{Answer, Done, NoMemory, NoForm, Misset, Bad
 use Rattle.sd_model_call.specs.Completeness.{IsBlocked, IsWhole}
 use Rattle.sd_model_call.specs.Server.{is_worn, source_openings}
 use Rattle.sd_model_call.specs.ServerCompleteness.{AsksFor, SourceTookMost, AreRelaysSpent, IsOpenedToRelay, IsProxyCauseOf, IsRelayed, IsUnhinderedProxy, NoWireFailed, OneLoopTookMost}
-use Rattle.sd_model_call.specs.Proxy.{AnswersProxy, HasProxied, IsUnfit, ProxyAccounts, node_place, proxy_answer, proxy_begun, proxy_flaw, proxy_openings, relay_text}
+use Rattle.sd_model_call.specs.Proxy.{AnswersProxy, HasProxied, check_interval, IsUnfit, ProxyAccounts, node_place, proxy_answer, proxy_begun, proxy_flaw, proxy_openings, relay_text}
 use Rattle.sd_model_call.proofs.BegunLemmas.{Same, all_numbered, accepted_so, at_same, has_flaw, none_failed, not_begun, not_taken, same_start, uncut}
 use Rattle.sd_model_call.proofs.LoopEnds.{AreEnded, ComesFrom, OneSourceTookMost, all_done, beat_spent, comes_from, worn_one}
 use Rattle.sd_model_call.proofs.Openings.{all_append}
@@ -58,10 +58,10 @@ module _ (name : List ℕ) (answer : Answer) (old new : World) (h : HasProxied n
   received = map (λ r. r.ended) h.relays
 
   faults : Same (λ o. o.faults) start old
-  faults = same_start (λ o. o.faults) (λ place o. refl) (λ told o. refl) (λ interval o. refl) (proxy_openings h.values) h.values.sizes.check_interval h.values h.settings name old h.taken
+  faults = same_start (λ o. o.faults) (λ place o. refl) (λ told o. refl) (λ interval o. refl) (proxy_openings h.values) (check_interval h.values) h.values h.settings name old h.taken
 
   turns : Same (λ o. o.turns) start old
-  turns = same_start (λ o. o.turns) (λ place o. refl) (λ told o. refl) (λ interval o. refl) (proxy_openings h.values) h.values.sizes.check_interval h.values h.settings name old h.taken
+  turns = same_start (λ o. o.turns) (λ place o. refl) (λ told o. refl) (λ interval o. refl) (proxy_openings h.values) (check_interval h.values) h.values h.settings name old h.taken
 
   loops : AreEnded 0 0 received start.served.sources new.served.sources
   loops = looped h.values.lists.nodes h.relays start.served.sources new.served.sources start.seen.wires new.seen.wires h.theorem.are

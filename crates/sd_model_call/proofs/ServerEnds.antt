@@ -17,7 +17,7 @@ use Rattle.sd_model_call.specs.Opening.{World, Opening, Part, OfSettings, OfScri
 use Rattle.sd_model_call.specs.Call.{Answer, Done, NoMemory, NoForm, Misset, BadScript, NotOpened, NotRead, NotWritten, Worn, WritesTotals}
 use Rattle.sd_model_call.specs.Completeness.{IsWhole, IsBlocked}
 use Rattle.sd_model_replay.specs.Totals.{totals_text}
-use Rattle.sd_model_call.specs.Server.{AnswersServer, HasServed, ServerAccounts, begun, door_openings, has_streams, is_worn, run_answer, run_totals, server_openings, source_openings}
+use Rattle.sd_model_call.specs.Server.{AnswersServer, HasServed, ServerAccounts, begun, door_openings, flush_interval, has_streams, is_worn, run_answer, run_totals, server_openings, source_openings}
 use Rattle.sd_model_call.specs.ServerCompleteness.{AStreamTookMost, AreAllSpent, AsksFor, HasFaultOf, IsCauseOf, IsOpenedToServe, IsOutermost, IsServed, IsUnhinderedServer, NoneFailed, OneTookMost, TookMost}
 use Rattle.sd_model_call.proofs.BegunLemmas.{Same, all_numbered, accepted_so, at_same, has_flaw, none_failed, not_begun, not_taken, same_all, same_start, uncut}
 use Rattle.sd_model_call.proofs.LoopEnds.{AllDone, AreEnded, ComesFrom, OneSourceTookMost, all_done, beat_spent, both_false, comes_from, whole_done, worn_one}
@@ -101,10 +101,10 @@ module _ (name : List ℕ) (says : ℕ → Type 0) (answer : Answer) (old new : 
   keepers = course.keeper_ended ∷ map (λ l. l.ended) course.linings
 
   faults : Same (λ o. o.faults) start old
-  faults = same_start (λ o. o.faults) (λ place o. refl) (λ told o. refl) (λ interval o. refl) (server_openings h.values) h.values.server.flush_interval h.values h.settings name old h.taken
+  faults = same_start (λ o. o.faults) (λ place o. refl) (λ told o. refl) (λ interval o. refl) (server_openings h.values) (flush_interval h.values) h.values h.settings name old h.taken
 
   turns : Same (λ o. o.turns) start old
-  turns = same_start (λ o. o.turns) (λ place o. refl) (λ told o. refl) (λ interval o. refl) (server_openings h.values) h.values.server.flush_interval h.values h.settings name old h.taken
+  turns = same_start (λ o. o.turns) (λ place o. refl) (λ told o. refl) (λ interval o. refl) (server_openings h.values) (flush_interval h.values) h.values h.settings name old h.taken
 
   -- how many flushes may have been seen
   abbrev most : ℕ

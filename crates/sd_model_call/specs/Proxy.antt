@@ -1,6 +1,6 @@
 -- What the program answers where it is asked for the proxy, and what was done by then.
-use Rattle.std.specs.Prelude.{◌≡◌, ◌⊎◌, ℕ, ◌*◌, ◌^◌, ◌==◌, nat_lt, min, if◌then◌else◌, List, [], ◌∷◌, ◌++◌, length, map, codes, Option, Some, None, ⊤}
-use Rattle.sd_model_outside.specs.Outside.{Object, Place, File, Host}
+use Rattle.std.specs.Prelude.{◌≡◌, ◌⊎◌, ℕ, ◌*◌, ◌^◌, ◌==◌, nat_lt, min, false, if◌then◌else◌, List, [], ◌∷◌, ◌++◌, length, map, codes, Option, Some, None, ⊤}
+use Rattle.sd_model_outside.specs.Outside.{Interval, Object, Place, File, Host}
 use Rattle.sd_model_settings.specs.Entries.{Node}
 use Rattle.sd_model_settings.specs.Settings.{Settings, SettingsFlaw, OutOfRange}
 use Rattle.sd_model_serve.specs.Ends.{LoopEnd}
@@ -22,9 +22,13 @@ node_place n = Host n.host n.port
 abbrev pub proxy_openings : Settings → List Opening
 proxy_openings s = source_openings s ++ numbered OfWire 0 (repeated s.sizes.receivers (map node_place s.lists.nodes))
 
+-- how far the checks of a proxy are apart
+abbrev pub check_interval : Settings → Interval
+check_interval s = record { ms = s.sizes.check_interval; is_aligned = false }
+
 -- once all parts of the proxy were opened, and the beat was started with the interval of its checks
 abbrev pub proxy_begun : Settings → World → World
-proxy_begun s w = begun_with (proxy_openings s) s.sizes.check_interval w
+proxy_begun s w = begun_with (proxy_openings s) (check_interval s) w
 
 -- how many wires the proxy has at most
 abbrev pub most_wires : ℕ

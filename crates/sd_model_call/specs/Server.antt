@@ -1,7 +1,7 @@
 -- What a server opens and begins with, what the program answers where it is asked to serve, and what was done by then.
 use Rattle.std.specs.Prelude.{◌≡◌, ◌⊎◌, ℕ, ◌+◌, nat_lt, Bool, true, false, List, [], ◌∷◌, ◌++◌, length, codes, map, min, if◌then◌else◌, Option, Some, ⊤}
 use Rattle.std.specs.List.{list_any}
-use Rattle.sd_model_outside.specs.Outside.{File, Host, Datagrams, Object, last_count}
+use Rattle.sd_model_outside.specs.Outside.{File, Host, Datagrams, Interval, Object, last_count}
 use Rattle.sd_model_outside.specs.Deliveries.{missed}
 use Rattle.sd_model_outside.specs.Turns.{with_interval}
 use Rattle.sd_model_settings.specs.Settings.{plan_of, names_of, Settings}
@@ -69,12 +69,16 @@ abbrev pub objects_in : World → Objects
 objects_in w = record { sources = w.served.sources; wires = w.seen.wires; beat = w.served.beat; backs = back_in w; door = w.served.door; streams = w.served.streams }
 
 -- once these parts were opened, in their order, and then the beat was started, once, with this interval
-abbrev pub begun_with : List Opening → ℕ → World → World
+abbrev pub begun_with : List Opening → Interval → World → World
 begun_with parts interval w = let all = opened_all w parts in record all { served = record all.served { beat = with_interval interval all.served.beat } }
+
+-- how far the flushes of a server are apart, and whether they come at multiples of that of the clock
+abbrev pub flush_interval : Settings → Interval
+flush_interval s = record { ms = s.server.flush_interval; is_aligned = s.transport.align_flushes }
 
 -- once all parts of a server were opened, and the beat was started with the interval of the settings
 abbrev pub begun : Settings → World → World
-begun s w = begun_with (server_openings s) s.server.flush_interval w
+begun s w = begun_with (server_openings s) (flush_interval s) w
 
 -- a loop that took the most turns
 abbrev pub is_worn : LoopEnd → Bool

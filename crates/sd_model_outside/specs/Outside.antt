@@ -58,16 +58,21 @@ pub data Told : Type 0 where
   Sessions : (left back : List Session) → Told
   Replies : (left : List (List ℕ)) (questions : List Question) → Told
 
+-- How far the ticks of a beat are apart, in milliseconds, and whether they come where the system's clock is at a multiple of that.
+pub record Interval : Type 0 where
+  pub ms : ℕ
+  pub is_aligned : Bool
+
 -- What is seen of an object: what it tells, how often it failed, and where it was last opened, if it was; of a source of
 -- datagrams, a beat or a door the turns that it took; of a door whether a session is out; and of a beat the interval of
--- its last start, in milliseconds, if it was started.
+-- its last start, if it was started.
 pub record Object : Type 0 where
   pub told : Told
   pub faults : ℕ
   pub opened_at : Option Place
   pub turns : ℕ
   pub is_out : Bool
-  pub interval : Option ℕ
+  pub interval : Option Interval
 
 -- an object that takes no turns
 abbrev pub object_of : Told → ℕ → Option Place → Object

@@ -1,6 +1,6 @@
 -- Sources of datagrams, beats and doors, which count their turns.
 use Rattle.std.specs.Prelude.{◌≡◌, ℕ, ◌<◌, ◌≤◌, true, false, List, [], ◌∷◌, ◌++◌, Option, Some, None, ⊤}
-use Rattle.sd_model_outside.specs.Outside.{Told, Bytes, Buffer, Datagrams, Ticks, Sessions, Session, Object, Rose, left_in, raised, telling}
+use Rattle.sd_model_outside.specs.Outside.{Interval, Told, Bytes, Buffer, Datagrams, Ticks, Sessions, Session, Object, Rose, left_in, raised, telling}
 
 -- how many bytes a datagram has at most (RFC 768 over RFC 8200)
 abbrev pub most_datagram : ℕ
@@ -45,8 +45,8 @@ GivesDatagram datagram old new = turned old ≡ telling (with_datagrams (datagra
 abbrev pub GivesTick : ℕ → Object → Object → Type 0
 GivesTick second old new = turned old ≡ telling (with_ticks (second ∷ []) new.told) new
 
--- a beat once it was started with an interval, in milliseconds
-abbrev pub with_interval : ℕ → Object → Object
+-- a beat once it was started with an interval
+abbrev pub with_interval : Interval → Object → Object
 with_interval interval o = record o { interval = Some interval }
 
 -- the bytes that a sink was given, where it tells them

@@ -110,11 +110,13 @@ others_of_row kind row = of_line row.key (row_value kind row)
 
 others_of_entries : (s : file.Settings) → AreOthers (entry_lines s)
 others_of_entries s =
-    others-append (map histogram_line s.lists.histogram ++ map repeater_line s.lists.repeater) (map node_line s.lists.nodes)
-    (others-append (map histogram_line s.lists.histogram) (map repeater_line s.lists.repeater)
-    (others-map histogram_line (λ c. by_byte 58 (histogram_line c) refl refl) s.lists.histogram)
-    (others-map repeater_line (λ t. by_byte 58 (repeater_line t) refl refl) s.lists.repeater))
-    (others-map node_line (λ n. by_byte 58 (node_line n) refl refl) s.lists.nodes)
+    let histograms = map (histogram_line (codes "histogram")) s.lists.histogram in
+    let targets = map (repeater_line (codes "repeater")) s.lists.repeater in
+    let nodes = map (node_line (codes "nodes")) s.lists.nodes in
+    others-append histograms (targets ++ (nodes ++ []))
+    (others-map (histogram_line (codes "histogram")) (λ c. by_byte 58 (histogram_line (codes "histogram") c) refl refl) s.lists.histogram)
+    (others-append targets (nodes ++ []) (others-map (repeater_line (codes "repeater")) (λ t. by_byte 58 (repeater_line (codes "repeater") t) refl refl) s.lists.repeater)
+    (others-append nodes [] (others-map (node_line (codes "nodes")) (λ n. by_byte 58 (node_line (codes "nodes") n) refl refl) s.lists.nodes) tt))
 
 others_of_stats : (facts : Facts) (now : ℕ) → AreOthers (stats_lines facts now)
 others_of_stats facts now = with_colons (stats_lines facts now) refl

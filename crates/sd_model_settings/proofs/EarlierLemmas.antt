@@ -1,13 +1,13 @@
 -- A file that was accepted earlier sets the same values.
-use Rattle.std.proofs.Common.{◌≡◌, ℕ, ◌*◌, ◌≤◌, Bool, true, false, cond, ◌||◌, ◌&&◌, nat_le, nat_lt, pos, negsuc, List, [], ◌∷◌, ◌++◌, length, take, drop, codes, Option, Some, None, Result, Ok, Err, IfOk, refl, sym, ap, subst, ◌∙◌, inl, inr, arith}
+use Rattle.std.proofs.Common.{◌≡◌, ℕ, ◌*◌, ◌≤◌, Bool, true, false, cond, ◌||◌, ◌&&◌, not, nat_le, nat_lt, pos, negsuc, List, [], ◌∷◌, ◌++◌, length, codes, Option, Some, None, Result, Ok, Err, IfOk, refl, sym, ap, subst, ◌∙◌, inl, inr, arith}
 use Rattle.std.proofs.Common.{Ordering, nat_cmp, Less, Equal, Greater}
-use Rattle.std.specs.Prelude.{⊤}
-use Rattle.std.specs.List.{list_any}
+use Rattle.std.specs.List.{list_any, list_all}
 use Rattle.std.specs.Str.{bytes_eq}
 use Rattle.std.specs.Option.{option_or}
 use Rattle.std.specs.Ordering.{is_eq, match_ordering}
 use Rattle.std.specs.Cmp.Lexicographic.{slice_cmp}
-use Rattle.std.proofs.lemmas.Bool.{cases_Bool, false≢true}
+use Rattle.std.specs.Prelude.{⊤}
+use Rattle.std.proofs.lemmas.Bool.{cases_Bool, and_parts, false≢true}
 use Rattle.std.proofs.lemmas.Bool.Decides.{nat_tests}
 use Rattle.std.proofs.lemmas.List.Folds.{list_any-append}
 use Rattle.std.proofs.lemmas.Map.Text.{is_eq-slice_cmp}
@@ -15,16 +15,22 @@ use Rattle.std.proofs.lemmas.Nat.{mul-le}
 use Rattle.std.proofs.lemmas.Slice.Eq.{bytes_eq-Decides}
 use Rattle.std.proofs.lemmas.Result.{IfOk-at_ok}
 use Rattle.toml.specs.Data.{Data, integer, Members, no_members, member, get_member}
-use Rattle.sd_model_settings.specs.Values.{ValueFlaw, flag, whole}
-use Rattle.sd_model_settings.specs.Entries.{class_names}
-use Rattle.sd_model_settings.specs.Settings.{top_names, names, first_unknown, unknown_inside, unknown_by, unknown, SettingsFlaw, ◌>>=◌, in_force, Section, setting, within_product, top, server, deletions, addresses, namespace, entry_lists, Sizes, sizes, FlushRules, flush_rules, Transport, transport, Settings, settings_in, unless_unknown, document, settings}
-use Rattle.sd_model_settings.specs.Earlier.{earlier_rules, earlier_transport, earlier_sizes, transport_without_sums, values_by, settings_by, earlier_settings, settings_before_outlets, settings_before_sums}
+use Rattle.sd_model_settings.specs.Values.{members}
+use Rattle.sd_model_settings.specs.Kinds.{Whole, Share, Value, read_as}
+use Rattle.sd_model_settings.specs.Table.{Table, Values, Then, FlushRules, Transport, Sizes, setting_names, sizes_by, sizes, flush_rules, transport}
+use Rattle.sd_model_settings.specs.Settings.{names, first_unknown, unknown_inside, unknown, top_names, SettingsFlaw, ◌>>=◌, in_force, Section, found, read, Tables, tables, top, inside_graphite, Settings, settings_in, unless_unknown, document, settings_by, settings}
+use Rattle.sd_model_settings.specs.Earlier.{earlier_rules, earlier_transport, without, names_since_ttl, names_since_outlets, names_since_sums, names_since_batches, tables_without, earlier_settings, settings_before_outlets, settings_before_sums, settings_before_batches}
 use Rattle.sd_model_settings.specs.Ranges.{IsWithin}
-use Rattle.sd_model_settings.proofs.ValuesInRange.{bind_in_range, anything_in_range, setting_in_range, whole_in_range}
+use Rattle.sd_model_settings.proofs.ValuesInRange.{bind_in_range, found_in_range, whole_in_range}
+use Rattle.sd_model_settings.proofs.SettingsInRange.{value_then}
 
 -- the second gives what the first gives, where that gives a value
 abbrev Gives : {A : Type 0} → Result A SettingsFlaw → Result A SettingsFlaw → Type 0
 Gives r q = IfOk r (λ v. q ≡ Ok v)
+
+same : {A : Type 0} (r : Result A SettingsFlaw) → Gives r r
+same (Ok x) = refl
+same (Err flaw) = tt
 
 -- a step after the same value
 same_then : {A B : Type 0} (r : Result A SettingsFlaw) (f g : A → Result B SettingsFlaw) → ((x : A) → r ≡ Ok x → Gives (f x) (g x)) → Gives (r >>= f) (r >>= g)
@@ -36,143 +42,132 @@ given_then : {A B : Type 0} (r q : Result A SettingsFlaw) (f g : A → Result B 
 given_then (Ok x) q f g e h = subst (λ p. IfOk (f x) (λ v. (p >>= g) ≡ Ok v)) (sym e) (h x)
 given_then (Err flaw) q f g e h = tt
 
--- a step after a value that is known
-known_then : {A B : Type 0} (q : Result A SettingsFlaw) (x : A) (g : A → Result B SettingsFlaw) → q ≡ Ok x → (q >>= g) ≡ g x
-known_then q x g e = ap (λ p. p >>= g) e
-
-same : {A : Type 0} (r : Result A SettingsFlaw) → Gives r r
-same (Ok x) = refl
-same (Err flaw) = tt
+-- the same steps after a value
+same_bind : {A B : Type 0} (r : Result A SettingsFlaw) (f g : A → Result B SettingsFlaw) → ((x : A) → f x ≡ g x) → (r >>= f) ≡ (r >>= g)
+same_bind (Ok x) f g h = h x
+same_bind (Err flaw) f g h = refl
 
 -- so many shards have at most so many entries
-product_fits : (shards n : ℕ) → shards ≤ 16 → n ≤ 65536 → nat_le (shards * n) 2097152 ≡ true
-product_fits shards n few short =
-    let product : shards * n ≤ 16 * 65536 = mul-le shards n 16 65536 few short in
-    let most : shards * n ≤ 2097152 = omega arith in
+product_fits : (shards n most all : ℕ) → shards ≤ 16 → n ≤ most → 16 * most ≤ all → nat_le (shards * n) all ≡ true
+product_fits shards n most all few short room =
+    let product : shards * n ≤ 16 * most = mul-le shards n 16 most few short in
     grind (arith, nat_tests)
 
 module _ {B : Type 0} (s : Section) (shards : ℕ) (few : shards ≤ 16) (f g : ℕ → Result B SettingsFlaw) (h : (n : ℕ) → Gives (f n) (g n)) where
-  -- the rest, behind the number of entries and their product with the shards
-  abbrev rest : ℕ → Result B SettingsFlaw
-  rest n = within_product s (codes "entries") 2097152 shards n >>= g
-
-  within : (n : ℕ) → n ≤ 65536 → Gives (f n) (rest n)
-  within n short = rw (product_fits shards n few short) (h n)
-
-  by_number : (n : ℕ) → Gives (in_force (s.prefix ++ codes "entries") (whole 1 65536) 65536 (Some (integer (pos n))) >>= f) (in_force (s.prefix ++ codes "entries") (whole 1 1048576) 65536 (Some (integer (pos n))) >>= rest)
+  by_number : (n : ℕ) → Gives (in_force (s.prefix ++ codes "entries") (read_as (Share 1 65536 1048576 shards)) 65536 (Some (integer (pos n))) >>= f) (in_force (s.prefix ++ codes "entries") (read_as (Share 1 1048576 2097152 shards)) 65536 (Some (integer (pos n))) >>= g)
   by_number n = elim (cases_Bool (nat_le 1 n && nat_le n 65536)) [
     | inl e ↦
         let short : n ≤ 65536 = grind (arith, nat_tests) in
         let wide : (nat_le 1 n && nat_le n 1048576) ≡ true = grind (arith, nat_tests) in
-        rw (e, wide) (within n short)
+        rw (e, wide, product_fits shards n 65536 1048576 few short (omega arith), product_fits shards n 65536 2097152 few short (omega arith)) (h n)
     | inr e ↦ rw e tt
   ]
 
-  by_given : (given : Option Data) → Gives (in_force (s.prefix ++ codes "entries") (whole 1 65536) 65536 given >>= f) (in_force (s.prefix ++ codes "entries") (whole 1 1048576) 65536 given >>= rest)
-  by_given None = within 65536 (omega arith)
+  by_given : (given : Option Data) → Gives (in_force (s.prefix ++ codes "entries") (read_as (Share 1 65536 1048576 shards)) 65536 given >>= f) (in_force (s.prefix ++ codes "entries") (read_as (Share 1 1048576 2097152 shards)) 65536 given >>= g)
+  by_given None = h 65536
   by_given (Some (integer (pos n))) = by_number n
   by_given (Some (integer (negsuc n))) = tt
   by_given (Some _) = tt
 
-  entries_then : Gives (setting s (codes "entries") (whole 1 65536) 65536 >>= f) (setting s (codes "entries") (whole 1 1048576) 65536 >>= rest)
+  entries_then : Gives (found s (codes "entries") (read_as (Share 1 65536 1048576 shards)) 65536 >>= f) (found s (codes "entries") (read_as (Share 1 1048576 2097152 shards)) 65536 >>= g)
   entries_then = by_given (get_member (codes "entries") s.members)
 
-few_shards : (s : Section) (n : ℕ) → setting s (codes "shards") (whole 1 16) 4 ≡ Ok n → n ≤ 16
+few_shards : (s : Section) (n : ℕ) → found s (codes "shards") (read_as (Whole 1 16)) 4 ≡ Ok n → n ≤ 16
 few_shards s n e =
-    (IfOk-at_ok (IsWithin 1 16) e (setting_in_range s (codes "shards") (whole 1 16) 4 (IsWithin 1 16) (omega arith, omega arith) (whole_in_range 1 16))).1
+    (IfOk-at_ok (IsWithin 1 16) e (found_in_range s (codes "shards") (read_as (Whole 1 16)) 4 (IsWithin 1 16) (omega arith, omega arith) (whole_in_range 1 16))).1
 
-sizes_kept : (s : Section) → Gives (earlier_sizes s) (sizes s)
-unfolding earlier_sizes sizes
+sizes_kept : (s : Section) → Gives (read (sizes_by 65536 1048576) s) (read sizes s)
+unfolding read
 sizes_kept s =
-    same_then (setting s (codes "checkInterval") (whole 1 86400000) 10000) _ _ (λ check_interval _.
-    same_then (setting s (codes "cacheSize") (whole 1 1000000) 10000) _ _ (λ cache_size _.
-    same_then (setting s (codes "shards") (whole 1 16) 4) _ _ (λ shards few.
-    same_then (setting s (codes "rows") (whole 1 16384) 4096) _ _ (λ rows _.
+    same_then (found s (codes "checkInterval") (read_as (Whole 1 86400000)) 10000) _ _ (λ check_interval _.
+    same_then (found s (codes "cacheSize") (read_as (Whole 1 1000000)) 10000) _ _ (λ cache_size _.
+    same_then (found s (codes "shards") (read_as (Whole 1 16)) 4) _ _ (λ shards few.
+    same_then (found s (codes "rows") (read_as (Whole 1 16384)) 4096) _ _ (λ rows _.
     entries_then s shards (few_shards s shards few) _ _ (λ entries.
-    same_then (setting s (codes "receivers") (whole 1 16) 2) _ _ (λ receivers _.
-    same (setting s (codes "runFlushes") (whole 0 1000000000) 0 >>= (λ run_flushes. Ok (record { check_interval = check_interval; cache_size = cache_size; shards = shards; rows = rows; entries = entries; receivers = receivers; run_flushes = run_flushes })))))))))
+    same_then (found s (codes "receivers") (read_as (Whole 1 16)) 2) _ _ (λ receivers _.
+    same (found s (codes "runFlushes") (read_as (Whole 0 1000000000)) 0 >>= (λ run_flushes. Ok (record { check_interval = check_interval; cache_size = cache_size; shards = shards; rows = rows; entries = entries; receivers = receivers; run_flushes = run_flushes })))))))))
 
--- a setting that isn't given has its default
-by_default : {A : Type 0} (s : Section) (name : List ℕ) (read : Data → Result A ValueFlaw) (default : A) → get_member name s.members ≡ None → setting s name read default ≡ Ok default
-by_default s name read default none = ap (in_force (s.prefix ++ name) read default) none
+-- a name is among some
+abbrev IsAmong : List ℕ → List (List ℕ) → Type 0
+IsAmong name names = list_any (λ k. bytes_eq k name) names ≡ true
 
--- the rules where neither setting is given
-rules_kept : (s : Section) → get_member (codes "gaugesMaxTTL") s.members ≡ None → get_member (codes "calculatedTimerMetrics") s.members ≡ None → flush_rules s ≡ Ok earlier_rules
-unfolding flush_rules
-rules_kept s first second =
-    known_then (setting s (codes "gaugesMaxTTL") (whole 1 1000000000) 1) 1 _ (by_default s (codes "gaugesMaxTTL") (whole 1 1000000000) 1 first)
-    ∙ known_then (setting s (codes "calculatedTimerMetrics") class_names []) [] _ (by_default s (codes "calculatedTimerMetrics") class_names [] second)
+module _ (unset : List (List ℕ)) where
+  -- none of the names that aren't set stands in a table
+  abbrev AreAbsent : Members → Type 0
+  AreAbsent ms = (name : List ℕ) → IsAmong name unset → get_member name ms ≡ None
 
--- the rest behind the room where it isn't given
-room_unset : {B : Type 0} (s : Section) → get_member (codes "receiveBuffer") s.members ≡ None → (g : ℕ → Result B SettingsFlaw) → (setting s (codes "receiveBuffer") (whole 0 1073741824) 0 >>= g) ≡ g 0
-room_unset s none g =
-    known_then (setting s (codes "receiveBuffer") (whole 0 1073741824) 0) 0 g (by_default s (codes "receiveBuffer") (whole 0 1073741824) 0 none)
+  without_kept : {A : Type 0} (t : Table A) (s : Section) → AreAbsent s.members → read (without unset t) s ≡ read t s
+  unfolding read
+  without_kept (Values v) s absent = refl
+  without_kept {A} (Then x rest) s absent = by_test (list_any (λ k. bytes_eq k x.name) unset) refl (λ y. without_kept (rest y) s absent) where
+    by_test : (b : Bool) → list_any (λ k. bytes_eq k x.name) unset ≡ b → ((y : _) → read (without unset (rest y)) s ≡ read (rest y) s)
+        → read (cond b (without unset (rest x.default)) (Then x (λ y. without unset (rest y)))) s ≡ read (Then x rest) s
+    by_test true among others =
+        others x.default ∙ sym (ap (λ d. in_force (s.prefix ++ x.name) (read_as x.kind) x.default d >>= (λ y. read (rest y) s)) (absent x.name among))
+    by_test false apart others = same_bind (found s x.name (read_as x.kind) x.default) (λ y. read (without unset (rest y)) s) (λ y. read (rest y) s) others
 
--- the rest behind the sums on arrival where they aren't given
-sums_unset : {B : Type 0} (s : Section) → get_member (codes "sumsOnArrival") s.members ≡ None → (g : Bool → Result B SettingsFlaw) → (setting s (codes "sumsOnArrival") flag false >>= g) ≡ g false
-sums_unset s none g = known_then (setting s (codes "sumsOnArrival") flag false) false g (by_default s (codes "sumsOnArrival") flag false none)
+  -- what is among the names that are left is among all
+  among_all : {A : Type 0} (t : Table A) (name : List ℕ) → IsAmong name (setting_names (without unset t)) → IsAmong name (setting_names t)
+  among_all (Values v) name among = among
+  among_all (Then x rest) name among = by_test (list_any (λ k. bytes_eq k x.name) unset) among (among_all (rest x.default) name) where
+    by_test : (b : Bool) → IsAmong name (setting_names (cond b (without unset (rest x.default)) (Then x (λ y. without unset (rest y)))))
+        → (IsAmong name (setting_names (without unset (rest x.default))) → IsAmong name (setting_names (rest x.default)))
+        → (bytes_eq x.name name || list_any (λ k. bytes_eq k name) (setting_names (rest x.default))) ≡ true
+    by_test true among others = or_more (bytes_eq x.name name) _ (others among) where
+      or_more : (a b : Bool) → b ≡ true → (a || b) ≡ true
+      or_more true b h = refl
+      or_more false b h = h
+    by_test false among others = by_name (bytes_eq x.name name) among where
+      by_name : (a : Bool) → (a || list_any (λ k. bytes_eq k name) (setting_names (without unset (rest x.default)))) ≡ true
+          → (a || list_any (λ k. bytes_eq k name) (setting_names (rest x.default))) ≡ true
+      by_name true h = refl
+      by_name false h = others h
 
--- the transport where none of its settings is given
-transport_kept : (s : Section) → get_member (codes "outlets") s.members ≡ None → get_member (codes "outletBytes") s.members ≡ None → get_member (codes "tcp_port") s.members ≡ None
-    → get_member (codes "sumsOnArrival") s.members ≡ None → get_member (codes "receiveBuffer") s.members ≡ None → transport s ≡ Ok earlier_transport
-unfolding transport
-transport_kept s first second third fourth fifth =
-    known_then (setting s (codes "outlets") (whole 0 64) 0) 0 _ (by_default s (codes "outlets") (whole 0 64) 0 first)
-    ∙ known_then (setting s (codes "outletBytes") (whole 65536 16777216) 4194304) 4194304 _ (by_default s (codes "outletBytes") (whole 65536 16777216) 4194304 second)
-    ∙ known_then (setting s (codes "tcp_port") (whole 0 65535) 0) 0 _ (by_default s (codes "tcp_port") (whole 0 65535) 0 third)
-    ∙ sums_unset s fourth _
-    ∙ room_unset s fifth _
+-- what is among some is among them and more, in front or behind
+among_more : (name : List ℕ) (xs ys xs' ys' : List (List ℕ)) → (IsAmong name xs → IsAmong name xs') → (IsAmong name ys → IsAmong name ys') → IsAmong name (xs ++ ys) → IsAmong name (xs' ++ ys')
+among_more name xs ys xs' ys' front back among =
+    list_any-append (λ k. bytes_eq k name) xs' ys'
+    ∙ either (list_any (λ k. bytes_eq k name) xs) (list_any (λ k. bytes_eq k name) ys) (list_any (λ k. bytes_eq k name) xs') _ front back (sym (list_any-append (λ k. bytes_eq k name) xs ys) ∙ among)
+  where
+    either : (a b c d : Bool) → (a ≡ true → c ≡ true) → (b ≡ true → d ≡ true) → (a || b) ≡ true → (c || d) ≡ true
+    either true b c d f g h = ap (λ v. v || d) (f refl)
+    either false b true d f g h = refl
+    either false b false d f g h = g h
 
--- the transport where neither sums on arrival nor room are given
-rest_of_transport_kept : (s : Section) → get_member (codes "sumsOnArrival") s.members ≡ None → get_member (codes "receiveBuffer") s.members ≡ None → Gives (transport_without_sums s) (transport s)
-unfolding transport_without_sums transport
-rest_of_transport_kept s first second =
-    same_then (setting s (codes "outlets") (whole 0 64) 0) _ _ (λ outlets _.
-    same_then (setting s (codes "outletBytes") (whole 65536 16777216) 4194304) _ _ (λ per_outlet _.
-    same_then (within_product s (codes "outletBytes") 268435456 outlets per_outlet) _ _ (λ outlet_bytes _.
-    same_then (setting s (codes "tcp_port") (whole 0 65535) 0) _ _ (λ tcp_port _.
-    sums_unset s first _ ∙ room_unset s second _))))
-
--- the values, where sizes, rules and transport are kept
-values_kept : (of_sizes : Section → Result Sizes SettingsFlaw) (of_rules : Section → Result FlushRules SettingsFlaw) (of_transport : Section → Result Transport SettingsFlaw) (s : Section)
-    → Gives (of_sizes s) (sizes s) → Gives (of_rules s) (flush_rules s) → Gives (of_transport s) (transport s) → Gives (values_by of_sizes of_rules of_transport s) (settings_in s)
-unfolding settings_in
-values_kept of_sizes of_rules of_transport s sizes-same rules-same transport-same =
-    same_then (server s) _ _ (λ server-values _.
-    same_then (deletions s) _ _ (λ deletions-values _.
-    same_then (addresses s) _ _ (λ addresses-values _.
-    same_then (namespace s) _ _ (λ namespace-values _.
-    same_then (entry_lists s) _ _ (λ lists-values _.
-    given_then (of_sizes s) (sizes s) _ _ sizes-same (λ sizes-values.
-    given_then (of_rules s) (flush_rules s) _ _ rules-same (λ rules-values.
-    given_then (of_transport s) (transport s) _ _ transport-same (λ transport-values. refl))))))))
+-- the names that a table of settings without some knows are known today
+known_more : (unset : List (List ℕ)) (name : List ℕ) → IsAmong name (top_names (tables_without unset)) → IsAmong name (top_names tables)
+known_more unset name =
+    let front = (codes "graphite" ∷ []) ++ setting_names tables.server ++ setting_names tables.deletions ++ setting_names tables.addresses ++ setting_names tables.lists ++ setting_names tables.sizes in
+    among_more name (front ++ setting_names (without unset flush_rules)) (setting_names (without unset transport)) (front ++ setting_names flush_rules) (setting_names transport)
+    (among_more name front (setting_names (without unset flush_rules)) front (setting_names flush_rules) (λ h. h) (among_all unset flush_rules name)) (among_all unset transport name)
 
 none_of_both : {A : Type 0} (a b : Option A) → option_or a b ≡ None → (a ≡ None) × (b ≡ None)
 none_of_both None b h = (refl, h)
 none_of_both (Some x) b h = absurd (cc)
 
--- where fewer names are known
-module _ (fewer more : List (List ℕ)) where
-  -- names that are known among fewer are known
-  known_among_more : (name : List ℕ) → list_any (λ k. bytes_eq k name) fewer ≡ true → list_any (λ k. bytes_eq k name) (fewer ++ more) ≡ true
-  known_among_more name known =
-      list_any-append (λ k. bytes_eq k name) fewer more
-      ∙ ap (λ b. b || list_any (λ k. bytes_eq k name) more) known
+-- where the names that are known are known among more
+all_known : (fewer more ns : List (List ℕ)) → ((name : List ℕ) → IsAmong name fewer → IsAmong name more) → first_unknown [] fewer ns ≡ None → first_unknown [] more ns ≡ None
+all_known fewer more [] known h = refl
+all_known fewer more (n ∷ ns) known h = by_test (list_any (λ k. bytes_eq k n) fewer) refl h (all_known fewer more ns known) where
+  by_test : (b : Bool) → list_any (λ k. bytes_eq k n) fewer ≡ b → cond b (first_unknown [] fewer ns) (Some n) ≡ None
+      → (first_unknown [] fewer ns ≡ None → first_unknown [] more ns ≡ None) → first_unknown [] more (n ∷ ns) ≡ None
+  by_test true among rest others = ap (λ b. cond b (first_unknown [] more ns) (Some n)) (known n among) ∙ others rest
+  by_test false among rest others = absurd (cc)
 
-  all_known : (ns : List (List ℕ)) → first_unknown [] fewer ns ≡ None → first_unknown [] (fewer ++ more) ns ≡ None
-  all_known [] h = refl
-  all_known (n ∷ ns) h = by_test (list_any (λ k. bytes_eq k n) fewer) refl h (all_known ns) where
-    by_test : (b : Bool) → list_any (λ k. bytes_eq k n) fewer ≡ b → cond b (first_unknown [] fewer ns) (Some n) ≡ None
-        → (first_unknown [] fewer ns ≡ None → first_unknown [] (fewer ++ more) ns ≡ None) → first_unknown [] (fewer ++ more) (n ∷ ns) ≡ None
-    by_test true known rest others =
-        ap (λ b. cond b (first_unknown [] (fewer ++ more) ns) (Some n)) (known_among_more n known) ∙ others rest
-    by_test false known rest others = absurd (cc)
+-- no name of some is among others
+abbrev AreApart : List (List ℕ) → List (List ℕ) → Type 0
+AreApart unset known = list_all (λ k. not (list_any (λ n. bytes_eq n k) unset)) known ≡ true
 
-  -- a file without unknown names
-  file_known : (doc : Members) → unknown_by fewer doc ≡ None → unknown_by (fewer ++ more) doc ≡ None
-  file_known doc is =
-      let parts = none_of_both (first_unknown [] fewer (names doc)) (unknown_inside doc) is in
-      ap (λ o. option_or o (unknown_inside doc)) (all_known (names doc) parts.0) ∙ parts.1
+-- a name that isn't set isn't known
+apart : (unset known : List (List ℕ)) (name : List ℕ) → AreApart unset known → IsAmong name unset → list_any (λ k. bytes_eq k name) known ≡ false
+apart unset [] name are among = refl
+apart unset (k ∷ known) name are among = by_name (bytes_eq k name) refl (apart unset known name (and_parts (not (list_any (λ n. bytes_eq n k) unset)) _ are).1 among) where
+  by_name : (b : Bool) → bytes_eq k name ≡ b → list_any (λ k. bytes_eq k name) known ≡ false → (b || list_any (λ k. bytes_eq k name) known) ≡ false
+  by_name false other rest = rest
+  by_name true is rest =
+      let same : k ≡ name = (bytes_eq-Decides k name).0 is in
+      let out : not (list_any (λ n. bytes_eq n k) unset) ≡ true = (and_parts (not (list_any (λ n. bytes_eq n k) unset)) _ are).0 in
+      absurd (false≢true (ap not (sym (ap (λ n. list_any (λ m. bytes_eq m n) unset) same ∙ among)) ∙ out))
 
 -- a name that isn't known stands in no table without unknown names
 module _ (fewer : List (List ℕ)) (name : List ℕ) (other : list_any (λ k. bytes_eq k name) fewer ≡ false) where
@@ -184,146 +179,162 @@ module _ (fewer : List (List ℕ)) (name : List ℕ) (other : list_any (λ k. by
     by_order Equal e apart rest = absurd (cc)
     by_order Greater e apart rest = rest
 
-    apart : (b : Bool) → bytes_eq name l ≡ b → list_any (λ k. bytes_eq k l) fewer ≡ true → bytes_eq name l ≡ false
-    apart false e known = e
-    apart true e known =
+    unlike : (b : Bool) → bytes_eq name l ≡ b → list_any (λ k. bytes_eq k l) fewer ≡ true → bytes_eq name l ≡ false
+    unlike false e known = e
+    unlike true e known =
         let same : name ≡ l = (bytes_eq-Decides name l).0 e in
         absurd (false≢true (sym other ∙ ap (λ n. list_any (λ k. bytes_eq k n) fewer) same ∙ known))
 
     by_test : (b : Bool) → list_any (λ k. bytes_eq k l) fewer ≡ b → cond b (first_unknown [] fewer (names ms)) (Some l) ≡ None
         → (first_unknown [] fewer (names ms) ≡ None → get_member name ms ≡ None) → get_member name (member l d ms) ≡ None
     by_test true known rest others =
-        by_order (slice_cmp nat_cmp name l) (is_eq-slice_cmp name l) (apart (bytes_eq name l) refl known) (others rest)
+        by_order (slice_cmp nat_cmp name l) (is_eq-slice_cmp name l) (unlike (bytes_eq name l) refl known) (others rest)
     by_test false known rest others = absurd (cc)
 
-  absent : (doc : Members) → unknown_by fewer doc ≡ None → get_member name doc ≡ None
-  absent doc is = absent_in doc (none_of_both (first_unknown [] fewer (names doc)) (unknown_inside doc) is).0
-
--- the files that were accepted where fewer names were known set what their values were
-module _ (count : ℕ) (values : Section → Result Settings SettingsFlaw) (known : (doc : Members) → unknown_by (take count top_names) doc ≡ None → unknown doc ≡ None)
-    (same_values : (doc : Members) → unknown_by (take count top_names) doc ≡ None → Gives (values (top doc)) (settings_in (top doc))) where
-  file_kept : (doc : Members) (name : Option (List ℕ)) → unknown_by (take count top_names) doc ≡ name → Gives (unless_unknown name (values (top doc))) (unless_unknown (unknown doc) (settings_in (top doc)))
+-- the files that were accepted by an earlier table set what their values were
+module _ (t : Tables) (known : (name : List ℕ) → IsAmong name (top_names t) → IsAmong name (top_names tables))
+    (same_values : (doc : Members) → first_unknown [] (top_names t) (names doc) ≡ None → Gives (settings_in t (top doc)) (settings_in tables (top doc))) where
+  file_kept : (doc : Members) (name : Option (List ℕ)) → unknown t doc ≡ name → Gives (unless_unknown name (settings_in t (top doc))) (unless_unknown (unknown tables doc) (settings_in tables (top doc)))
+  unfolding unknown
   file_kept doc (Some name) is = tt
   file_kept doc None is =
-      subst (λ o. IfOk (values (top doc)) (λ v. unless_unknown o (settings_in (top doc)) ≡ Ok v)) (sym (known doc is)) (same_values doc is)
+      let parts = none_of_both (first_unknown [] (top_names t) (names doc)) (unknown_inside doc) is in
+      let none : unknown tables doc ≡ None =
+      ap (λ o. option_or o (unknown_inside doc)) (all_known (top_names t) (top_names tables) (names doc) known parts.0) ∙ parts.1 in
+      rw none (same_values doc parts.0)
 
-  all_kept : (bytes : List ℕ) → Gives (settings_by count values bytes) (settings bytes)
-  unfolding settings
+  all_kept : (bytes : List ℕ) → Gives (settings_by t bytes) (settings bytes)
+  unfolding settings_by settings
   all_kept bytes = elim (cases_Bool (nat_lt 65536 (length bytes))) [
     | inl e ↦ rw e tt
-    | inr e ↦ rw e (same_then (document bytes) _ _ (λ doc _. file_kept doc (unknown_by (take count top_names) doc) refl))
+    | inr e ↦ rw e (same_then (document bytes) _ _ (λ doc _. file_kept doc (unknown t doc) refl))
   ]
 
-no_transport : (count : ℕ) → list_any (λ k. bytes_eq k (codes "outlets")) (take count top_names) ≡ false → list_any (λ k. bytes_eq k (codes "outletBytes")) (take count top_names) ≡ false
-    → list_any (λ k. bytes_eq k (codes "tcp_port")) (take count top_names) ≡ false → list_any (λ k. bytes_eq k (codes "sumsOnArrival")) (take count top_names) ≡ false
-    → list_any (λ k. bytes_eq k (codes "receiveBuffer")) (take count top_names) ≡ false → (doc : Members) → unknown_by (take count top_names) doc ≡ None → transport (top doc) ≡ Ok earlier_transport
-no_transport count first second third fourth fifth doc is =
-    transport_kept (top doc) (absent (take count top_names) (codes "outlets") first doc is) (absent (take count top_names) (codes "outletBytes") second doc is) (absent (take count top_names) (codes "tcp_port") third doc is)
-    (absent (take count top_names) (codes "sumsOnArrival") fourth doc is) (absent (take count top_names) (codes "receiveBuffer") fifth doc is)
+-- the values, where sizes, rules and transport are kept
+values_kept : (t : Table Sizes) (unset : List (List ℕ)) (s : Section) → Gives (read t s) (read sizes s) → AreAbsent unset s.members
+    → Gives (settings_in (record (tables_without unset) { sizes = t }) s) (settings_in tables s)
+unfolding settings_in
+values_kept t unset s sizes-same absent =
+    same_then (read tables.server s) _ _ (λ of-server _.
+    same_then (read tables.deletions s) _ _ (λ of-deletions _.
+    same_then (read tables.addresses s) _ _ (λ of-addresses _.
+    same_then (found s (codes "graphite") members no_members) _ _ (λ graphite _.
+    same_then (read tables.namespace (inside_graphite graphite)) _ _ (λ of-namespace _.
+    same_then (read tables.lists s) _ _ (λ of-lists _.
+    given_then (read t s) (read sizes s) _ _ sizes-same (λ of-sizes.
+    given_then (read (without unset flush_rules) s) (read flush_rules s) _ _ (as_given (without_kept unset flush_rules s absent)) (λ of-rules.
+    given_then (read (without unset transport) s) (read transport s) _ _ (as_given (without_kept unset transport s absent)) (λ of-transport. refl)))))))))
+  where
+    as_given : {A : Type 0} {r q : Result A SettingsFlaw} → r ≡ q → Gives r q
+    as_given {A} {r} {q} e = subst (λ p. Gives r p) e (same r)
+
+module _ (t : Table Sizes) (names_as_today : setting_names t ≡ setting_names sizes) (sizes_same : (s : Section) → Gives (read t s) (read sizes s))
+    (unset : List (List ℕ)) (are_apart : AreApart unset (top_names (tables_without unset))) where
+  same_names : top_names (record (tables_without unset) { sizes = t }) ≡ top_names (tables_without unset)
+  same_names =
+      ap (λ n. (codes "graphite" ∷ []) ++ setting_names tables.server ++ setting_names tables.deletions ++ setting_names tables.addresses ++ setting_names tables.lists ++ n ++ setting_names (without unset flush_rules) ++ setting_names (without unset transport)) names_as_today
+
+  kept_without : (bytes : List ℕ) → Gives (settings_by (record (tables_without unset) { sizes = t }) bytes) (settings bytes)
+  kept_without =
+      all_kept (record (tables_without unset) { sizes = t }) (λ name among. known_more unset name (subst (IsAmong name) same_names among)) (λ doc all.
+      values_kept t unset (top doc) (sizes_same (top doc)) (λ name among.
+      absent_in (top_names (tables_without unset)) name (apart unset (top_names (tables_without unset)) name are_apart among) doc (subst (λ known. first_unknown [] known (names doc) ≡ None) same_names all)))
 
 pub settings_kept : (bytes : List ℕ) → IfOk (earlier_settings bytes) (λ v. settings bytes ≡ Ok v)
-unfolding earlier_settings unknown
-settings_kept =
-    all_kept 26 (values_by earlier_sizes (λ s. Ok earlier_rules) (λ s. Ok earlier_transport)) (file_known (take 26 top_names) (drop 26 top_names)) (λ doc is.
-    let rules : flush_rules (top doc) ≡ Ok earlier_rules =
-    rules_kept (top doc) (absent (take 26 top_names) (codes "gaugesMaxTTL") refl doc is) (absent (take 26 top_names) (codes "calculatedTimerMetrics") refl doc is) in
-    values_kept earlier_sizes (λ s. Ok earlier_rules) (λ s. Ok earlier_transport) (top doc) (sizes_kept (top doc)) rules (no_transport 26 refl refl refl refl refl doc is))
+unfolding earlier_settings
+settings_kept = kept_without (sizes_by 65536 1048576) refl sizes_kept names_since_ttl refl
 
 pub settings_kept_before_outlets : (bytes : List ℕ) → IfOk (settings_before_outlets bytes) (λ v. settings bytes ≡ Ok v)
-unfolding settings_before_outlets unknown
-settings_kept_before_outlets =
-    all_kept 28 (values_by sizes flush_rules (λ s. Ok earlier_transport)) (file_known (take 28 top_names) (drop 28 top_names)) (λ doc is.
-    values_kept sizes flush_rules (λ s. Ok earlier_transport) (top doc) (same (sizes (top doc))) (same (flush_rules (top doc))) (no_transport 28 refl refl refl refl refl doc is))
+unfolding settings_before_outlets
+settings_kept_before_outlets = kept_without sizes refl (λ s. same (read sizes s)) names_since_outlets refl
 
 pub settings_kept_before_sums : (bytes : List ℕ) → IfOk (settings_before_sums bytes) (λ v. settings bytes ≡ Ok v)
-unfolding settings_before_sums unknown
-settings_kept_before_sums =
-    all_kept 31 (values_by sizes flush_rules transport_without_sums) (file_known (take 31 top_names) (drop 31 top_names)) (λ doc is.
-    values_kept sizes flush_rules transport_without_sums (top doc) (same (sizes (top doc))) (same (flush_rules (top doc)))
-    (rest_of_transport_kept (top doc) (absent (take 31 top_names) (codes "sumsOnArrival") refl doc is) (absent (take 31 top_names) (codes "receiveBuffer") refl doc is)))
+unfolding settings_before_sums
+settings_kept_before_sums = kept_without sizes refl (λ s. same (read sizes s)) names_since_sums refl
 
--- no sum is made on arrival, and no room is asked for
-abbrev HasNeither : Transport → Type 0
-HasNeither t = (t.sums_on_arrival ≡ false) × (t.receive_buffer ≡ 0)
+pub settings_kept_before_batches : (bytes : List ℕ) → IfOk (settings_before_batches bytes) (λ v. settings bytes ≡ Ok v)
+unfolding settings_before_batches
+settings_kept_before_batches = kept_without sizes refl (λ s. same (read sizes s)) names_since_batches refl
 
--- a step behind a value of which nothing is asked
-behind_any : {A B : Type 0} (r : Result A SettingsFlaw) (f : A → Result B SettingsFlaw) (Q : B → Type 0) → ((x : A) → IfOk (f x) Q) → IfOk (r >>= f) Q
-behind_any r f Q h = bind_in_range r f (λ _. ⊤) Q (anything_in_range r) (λ x _. h x)
+-- what holds of a table's values, whatever is set
+abbrev Ends : {A : Type 0} → Table A → (A → Type 0) → Type 0
+Ends (Values v) P = P v
+Ends (Then x rest) P = (y : Value x.kind) → Ends (rest y) P
 
-neither : (s : Section) → IfOk (transport_without_sums s) HasNeither
-unfolding transport_without_sums
-neither s =
-    behind_any (setting s (codes "outlets") (whole 0 64) 0) _ HasNeither (λ outlets.
-    behind_any (setting s (codes "outletBytes") (whole 65536 16777216) 4194304) _ HasNeither (λ per_outlet.
-    behind_any (within_product s (codes "outletBytes") 268435456 outlets per_outlet) _ HasNeither (λ outlet_bytes.
-    behind_any (setting s (codes "tcp_port") (whole 0 65535) 0) _ HasNeither (λ tcp_port. (refl, refl)))))
+in_the_end : {A : Type 0} (t : Table A) (P : A → Type 0) (s : Section) → Ends t P → IfOk (read t s) P
+unfolding read
+in_the_end (Values v) P s h = h
+in_the_end (Then x rest) P s h = value_then (found s x.name (read_as x.kind) x.default) (λ y. read (rest y) s) P (λ y. in_the_end (rest y) P s (h y))
 
--- what holds of the values that a file set
-module _ (Q : Settings → Type 0) where
-  -- a step behind a value of which nothing is asked
-  any_then : {A : Type 0} (r : Result A SettingsFlaw) (f : A → Result Settings SettingsFlaw) → ((x : A) → IfOk (f x) Q) → IfOk (r >>= f) Q
-  any_then r f h = behind_any r f Q h
+-- what holds of the values of the last two groups holds of the values that a file set
+module _ (t : Tables) (R : FlushRules → Type 0) (T : Transport → Type 0) (of_rules : Ends t.rules R) (of_transport : Ends t.transport T) where
+  abbrev Holds : Settings → Type 0
+  Holds v = R v.rules × T v.transport
 
-  -- by its rules and its transport
-  of_values : (of_sizes : Section → Result Sizes SettingsFlaw) (of_rules : Section → Result FlushRules SettingsFlaw) (of_transport : Section → Result Transport SettingsFlaw)
-      (P : FlushRules → Type 0) (T : Transport → Type 0) (s : Section)
-      → IfOk (of_rules s) P → IfOk (of_transport s) T → ((v : Settings) → P v.rules → T v.transport → Q v) → IfOk (values_by of_sizes of_rules of_transport s) Q
-  of_values of_sizes of_rules of_transport P T s p t h =
-      any_then (server s) _ (λ server-values.
-      any_then (deletions s) _ (λ deletions-values.
-      any_then (addresses s) _ (λ addresses-values.
-      any_then (namespace s) _ (λ namespace-values.
-      any_then (entry_lists s) _ (λ lists-values.
-      any_then (of_sizes s) _ (λ sizes-values.
-      bind_in_range (of_rules s) _ P Q p (λ rules-values q.
-      bind_in_range (of_transport s) _ T Q t (λ transport-values u. h _ q u))))))))
+  of_values : (s : Section) → IfOk (settings_in t s) Holds
+  unfolding settings_in
+  of_values s =
+      value_then (read t.server s) _ Holds (λ of-server.
+      value_then (read t.deletions s) _ Holds (λ of-deletions.
+      value_then (read t.addresses s) _ Holds (λ of-addresses.
+      value_then (found s (codes "graphite") members no_members) _ Holds (λ graphite.
+      value_then (read t.namespace (inside_graphite graphite)) _ Holds (λ of-namespace.
+      value_then (read t.lists s) _ Holds (λ of-lists.
+      value_then (read t.sizes s) _ Holds (λ of-sizes.
+      bind_in_range (read t.rules s) _ R Holds (in_the_end t.rules R s of_rules) (λ rules r.
+      bind_in_range (read t.transport s) _ T Holds (in_the_end t.transport T s of_transport) (λ transport u. (r, u))))))))))
 
-  unless_of : (name : Option (List ℕ)) (r : Result Settings SettingsFlaw) → IfOk r Q → IfOk (unless_unknown name r) Q
+  unless_of : (name : Option (List ℕ)) (r : Result Settings SettingsFlaw) → IfOk r Holds → IfOk (unless_unknown name r) Holds
   unless_of None r h = h
   unless_of (Some name) r h = tt
 
-  of_file : (count : ℕ) (values : Section → Result Settings SettingsFlaw) → ((s : Section) → IfOk (values s) Q) → (bytes : List ℕ) → IfOk (settings_by count values bytes) Q
-  of_file count values h bytes = elim (cases_Bool (nat_lt 65536 (length bytes))) [
+  of_file : (bytes : List ℕ) → IfOk (settings_by t bytes) Holds
+  unfolding settings_by
+  of_file bytes = elim (cases_Bool (nat_lt 65536 (length bytes))) [
     | inl e ↦ rw e tt
-    | inr e ↦ rw e (any_then (document bytes) _ (λ doc. unless_of (unknown_by (take count top_names) doc) (values (top doc)) (h (top doc))))
+    | inr e ↦ rw e (value_then (document bytes) _ Holds (λ doc. unless_of (unknown t doc) (settings_in t (top doc)) (of_values (top doc))))
   ]
-
-pub earlier_rules_in_force : (bytes : List ℕ) → IfOk (earlier_settings bytes) (λ v. v.rules ≡ earlier_rules)
-unfolding earlier_settings
-earlier_rules_in_force =
-    of_file (λ v. v.rules ≡ earlier_rules) 26 (values_by earlier_sizes (λ s. Ok earlier_rules) (λ s. Ok earlier_transport)) (λ s.
-    of_values (λ v. v.rules ≡ earlier_rules) earlier_sizes (λ s. Ok earlier_rules) (λ s. Ok earlier_transport) (λ r. r ≡ earlier_rules) (λ t. t ≡ earlier_transport) s refl refl
-    (λ v rules transport. rules))
-
-pub earlier_transport_in_force : (bytes : List ℕ) → IfOk (earlier_settings bytes) (λ v. v.transport ≡ earlier_transport)
-unfolding earlier_settings
-earlier_transport_in_force =
-    of_file (λ v. v.transport ≡ earlier_transport) 26 (values_by earlier_sizes (λ s. Ok earlier_rules) (λ s. Ok earlier_transport)) (λ s.
-    of_values (λ v. v.transport ≡ earlier_transport) earlier_sizes (λ s. Ok earlier_rules) (λ s. Ok earlier_transport) (λ r. r ≡ earlier_rules) (λ t. t ≡ earlier_transport) s refl refl
-    (λ v rules transport. transport))
-
-pub transport_before_outlets : (bytes : List ℕ) → IfOk (settings_before_outlets bytes) (λ v. v.transport ≡ earlier_transport)
-unfolding settings_before_outlets
-transport_before_outlets =
-    of_file (λ v. v.transport ≡ earlier_transport) 28 (values_by sizes flush_rules (λ s. Ok earlier_transport)) (λ s.
-    of_values (λ v. v.transport ≡ earlier_transport) sizes flush_rules (λ s. Ok earlier_transport) (λ r. ⊤) (λ t. t ≡ earlier_transport) s (anything_in_range (flush_rules s)) refl
-    (λ v rules transport. transport))
-
-neither_before_sums : (bytes : List ℕ) → IfOk (settings_before_sums bytes) (λ v. HasNeither v.transport)
-unfolding settings_before_sums
-neither_before_sums =
-    of_file (λ v. HasNeither v.transport) 31 (values_by sizes flush_rules transport_without_sums) (λ s.
-    of_values (λ v. HasNeither v.transport) sizes flush_rules transport_without_sums (λ r. ⊤) HasNeither s (anything_in_range (flush_rules s)) (neither s)
-    (λ v rules none. none))
 
 part_of_ok : {A E : Type 0} (P Q : A → Type 0) (r : Result A E) → ((x : A) → P x → Q x) → IfOk r P → IfOk r Q
 part_of_ok P Q (Ok x) h p = h x p
 part_of_ok P Q (Err e) h p = tt
 
+earlier_values : (bytes : List ℕ) → IfOk (earlier_settings bytes) (λ v. (v.rules ≡ earlier_rules) × (v.transport ≡ earlier_transport))
+unfolding earlier_settings
+earlier_values = of_file (record (tables_without names_since_ttl) { sizes = sizes_by 65536 1048576 }) (λ r. r ≡ earlier_rules) (λ t. t ≡ earlier_transport) refl refl
+
+pub earlier_rules_in_force : (bytes : List ℕ) → IfOk (earlier_settings bytes) (λ v. v.rules ≡ earlier_rules)
+earlier_rules_in_force bytes =
+    part_of_ok (λ (v : Settings). (v.rules ≡ earlier_rules) × (v.transport ≡ earlier_transport)) (λ v. v.rules ≡ earlier_rules) (earlier_settings bytes) (λ v h. h.0) (earlier_values bytes)
+
+pub earlier_transport_in_force : (bytes : List ℕ) → IfOk (earlier_settings bytes) (λ v. v.transport ≡ earlier_transport)
+earlier_transport_in_force bytes =
+    part_of_ok (λ (v : Settings). (v.rules ≡ earlier_rules) × (v.transport ≡ earlier_transport)) (λ v. v.transport ≡ earlier_transport) (earlier_settings bytes) (λ v h. h.1) (earlier_values bytes)
+
+pub transport_before_outlets : (bytes : List ℕ) → IfOk (settings_before_outlets bytes) (λ v. v.transport ≡ earlier_transport)
+unfolding settings_before_outlets
+transport_before_outlets bytes =
+    part_of_ok (λ (v : Settings). ⊤ × (v.transport ≡ earlier_transport)) (λ v. v.transport ≡ earlier_transport) (settings_before_outlets bytes) (λ v h. h.1)
+    (of_file (tables_without names_since_outlets) (λ r. ⊤) (λ t. t ≡ earlier_transport) (λ _ _. tt) refl bytes)
+
+neither_before_sums : (bytes : List ℕ) → IfOk (settings_before_sums bytes) (λ v. ⊤ × ((v.transport.sums_on_arrival ≡ false) × (v.transport.receive_buffer ≡ 0)))
+unfolding settings_before_sums
+neither_before_sums = of_file (tables_without names_since_sums) (λ r. ⊤) (λ t. (t.sums_on_arrival ≡ false) × (t.receive_buffer ≡ 0)) (λ _ _. tt) (λ _ _ _. (refl, refl))
+
 pub no_sums_before_sums : (bytes : List ℕ) → IfOk (settings_before_sums bytes) (λ v. v.transport.sums_on_arrival ≡ false)
 no_sums_before_sums bytes =
-    part_of_ok (λ (v : Settings). HasNeither v.transport) (λ v. v.transport.sums_on_arrival ≡ false) (settings_before_sums bytes) (λ v h. h.0) (neither_before_sums bytes)
+    part_of_ok (λ (v : Settings). ⊤ × ((v.transport.sums_on_arrival ≡ false) × (v.transport.receive_buffer ≡ 0))) (λ v. v.transport.sums_on_arrival ≡ false) (settings_before_sums bytes) (λ v h. h.1.0) (neither_before_sums bytes)
 
 pub no_room_before_sums : (bytes : List ℕ) → IfOk (settings_before_sums bytes) (λ v. v.transport.receive_buffer ≡ 0)
 no_room_before_sums bytes =
-    part_of_ok (λ (v : Settings). HasNeither v.transport) (λ v. v.transport.receive_buffer ≡ 0) (settings_before_sums bytes) (λ v h. h.1) (neither_before_sums bytes)
+    part_of_ok (λ (v : Settings). ⊤ × ((v.transport.sums_on_arrival ≡ false) × (v.transport.receive_buffer ≡ 0))) (λ v. v.transport.receive_buffer ≡ 0) (settings_before_sums bytes) (λ v h. h.1.1) (neither_before_sums bytes)
+
+-- a proxy answers no admin line, flushes aren't aligned, and a datagram has one line
+abbrev pub HasNoBatches : Transport → Type 0
+HasNoBatches t = (t.proxy_mgmt_port ≡ 0) × (t.align_flushes ≡ false) × (t.batch_bytes ≡ 0)
+
+pub none_before_batches : (bytes : List ℕ) → IfOk (settings_before_batches bytes) (λ v. HasNoBatches v.transport)
+unfolding settings_before_batches
+none_before_batches bytes =
+    part_of_ok (λ (v : Settings). ⊤ × HasNoBatches v.transport) (λ v. HasNoBatches v.transport) (settings_before_batches bytes) (λ v h. h.1)
+    (of_file (tables_without names_since_batches) (λ r. ⊤) HasNoBatches (λ _ _. tt) (λ _ _ _ _ _. (refl, refl, refl)) bytes)

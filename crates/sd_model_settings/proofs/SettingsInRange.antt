@@ -1,46 +1,51 @@
 -- The settings of an accepted file are in range.
-use Rattle.std.proofs.Common.{◌≡◌, ℕ, ◌*◌, ◌<◌, ◌≤◌, true, false, nat_lt, nat_le, pos, List, [], ◌∷◌, length, codes, Option, Some, None, Result, Ok, IfOk, refl, inl, inr, arith}
+use Rattle.std.proofs.Common.{◌≡◌, ℕ, ◌*◌, ◌≤◌, true, nat_lt, nat_le, pos, List, [], ◌∷◌, length, codes, Option, Some, None, Result, Ok, IfOk, refl, inl, inr, arith}
 use Rattle.std.specs.Prelude.{⊤}
 use Rattle.std.proofs.lemmas.Bool.{cases_Bool}
 use Rattle.std.proofs.lemmas.Bool.Decides.{nat_tests}
-use Rattle.std.proofs.lemmas.Result.{IfOk-at_ok}
-use Rattle.toml.specs.Data.{no_members}
-use Rattle.sd_model_settings.specs.Values.{flag, text, whole, is_prefix, is_filled_prefix, is_host, members, listed}
-use Rattle.sd_model_settings.specs.Entries.{thresholds, backends, classes, target, node, class_names}
-use Rattle.sd_model_settings.specs.Settings.{unknown, SettingsFlaw, ◌>>=◌, Section, setting, within_product, Server, Addresses, Namespace, EntryLists, Sizes, FlushRules, Transport, top, inside_graphite, server, deletions, addresses, namespace, entry_lists, sizes, flush_rules, transport, Settings, settings_in, unless_unknown, document, settings}
-use Rattle.sd_model_settings.specs.Ranges.{IsWithin, IsPrefix, IsHost, AreThresholds, AreBackends, AreClassNames, AreHistograms, AreTargets, AreNodes, ServerInRange, AddressesInRange, NamespaceInRange, EntryListsInRange, SizesInRange, FlushRulesInRange, TransportInRange, InRange}
-use Rattle.sd_model_settings.proofs.ValuesInRange.{anything_in_range, bind_in_range, setting_in_range, whole_in_range}
+use Rattle.toml.specs.Data.{Data, no_members}
+use Rattle.sd_model_settings.specs.Values.{flag, whole, members}
+use Rattle.sd_model_settings.specs.Kinds.{Kind, Whole, Share, Flag, Prefix, FilledPrefix, Host, Thresholds, Backends, ClassNames, Histograms, Targets, Nodes, Value, read_as}
+use Rattle.sd_model_settings.specs.Table.{Table, Values, Then, server, deletions, addresses, namespace, entry_lists, sizes, flush_rules, transport}
+use Rattle.sd_model_settings.specs.Settings.{unknown, SettingsFlaw, ◌>>=◌, Section, found, read, top, inside_graphite, Settings, tables, settings_in, unless_unknown, document, settings_by, settings}
+use Rattle.sd_model_settings.specs.Ranges.{IsWithin, IsHost, AreThresholds, AreBackends, AreClassNames, AreHistograms, AreTargets, AreNodes, IsInRange, AreInRange, InRange}
+use Rattle.sd_model_settings.proofs.ValuesInRange.{anything_in_range, bind_in_range, found_in_range, ranged_in_range, whole_in_range}
 use Rattle.sd_model_settings.proofs.EntriesInRange.{is_prefix-prefix, is_host-host, prefix_in_range, filled_prefix_in_range, host_in_range, thresholds_in_range, backends_in_range, class_names_in_range, histogram_in_range, repeater_in_range, nodes_in_range}
 
--- an integer with a default in range, before the rest
-whole_then : {B : Type 0} (s : Section) (name : List ℕ) (least most default : ℕ) (f : ℕ → Result B SettingsFlaw) (Q : B → Type 0)
-    → IsWithin least most default → ((n : ℕ) → IsWithin least most n → IfOk (f n) Q) → IfOk (setting s name (whole least most) default >>= f) Q
-whole_then s name least most default f Q p h =
-    bind_in_range _ f (IsWithin least most) Q (setting_in_range s name _ default (IsWithin least most) p (whole_in_range least most)) h
+-- what is read as a kind is in its range
+read_as_in_range : (kind : Kind) (d : Data) → IfOk (read_as kind d) (IsInRange kind)
+read_as_in_range (Whole least most) d = whole_in_range least most d
+read_as_in_range (Share least most all earlier) d =
+    ranged_in_range (λ n. nat_le (earlier * n) all) (whole least most d) (IsWithin least most) (λ n. IsWithin least most n × (earlier * n ≤ all)) (whole_in_range least most d)
+    (λ n within e. (within, grind (arith, nat_tests)))
+read_as_in_range Flag d = anything_in_range (flag d)
+read_as_in_range Prefix d = prefix_in_range d
+read_as_in_range FilledPrefix d = filled_prefix_in_range d
+read_as_in_range Host d = host_in_range d
+read_as_in_range Thresholds d = thresholds_in_range d
+read_as_in_range Backends d = backends_in_range d
+read_as_in_range ClassNames d = class_names_in_range d
+read_as_in_range Histograms d = histogram_in_range d
+read_as_in_range Targets d = repeater_in_range d
+read_as_in_range Nodes d = nodes_in_range d
 
--- a product that isn't too large, before the rest
-product_then : {B : Type 0} (s : Section) (name : List ℕ) (most earlier value : ℕ) (f : ℕ → Result B SettingsFlaw) (Q : B → Type 0)
-    → (earlier * value ≤ most → IfOk (f value) Q) → IfOk (within_product s name most earlier value >>= f) Q
-product_then s name most earlier value f Q h = elim (cases_Bool (nat_le (earlier * value) most)) [
-  | inl e ↦ rw e (h (grind (arith, nat_tests)))
-  | inr e ↦ rw e tt
-]
+-- each default of a table is in its range, where what was set before it is
+abbrev pub AreDefaultsInRange : {A : Type 0} → Table A → Type 0
+AreDefaultsInRange (Values v) = Unit {0}
+AreDefaultsInRange (Then s rest) = IsInRange s.kind s.default × ((x : Value s.kind) → IsInRange s.kind x → AreDefaultsInRange (rest x))
 
--- the text of a prefix before the rest
-prefix_then : {B : Type 0} (s : Section) (name default : List ℕ) (f : List ℕ → Result B SettingsFlaw) (Q : B → Type 0)
-    → is_prefix default ≡ true → ((n : List ℕ) → IsPrefix n → IfOk (f n) Q) → IfOk (setting s name (text is_prefix) default >>= f) Q
-prefix_then s name default f Q e h =
-    bind_in_range _ f IsPrefix Q (setting_in_range s name _ default IsPrefix (is_prefix-prefix default e) prefix_in_range) h
+-- what holds of a table's values, whatever is set, where each value is in its range
+abbrev pub AtEnd : {A : Type 0} → Table A → (A → Type 0) → Type 0
+AtEnd (Values v) P = P v
+AtEnd (Then s rest) P = (x : Value s.kind) → IsInRange s.kind x → AtEnd (rest x) P
 
--- the text of a host before the rest
-host_then : {B : Type 0} (s : Section) (name default : List ℕ) (f : List ℕ → Result B SettingsFlaw) (Q : B → Type 0)
-    → is_host default ≡ true → ((n : List ℕ) → IsHost n → IfOk (f n) Q) → IfOk (setting s name (text is_host) default >>= f) Q
-host_then s name default f Q e h =
-    bind_in_range _ f IsHost Q (setting_in_range s name _ default IsHost (is_host-host default e) host_in_range) h
-
--- a value of which nothing is asked, before the rest
-value_then : {A B : Type 0} (r : Result A SettingsFlaw) (f : A → Result B SettingsFlaw) (Q : B → Type 0) → ((x : A) → IfOk (f x) Q) → IfOk (r >>= f) Q
-value_then r f Q h = bind_in_range r f (λ x. ⊤) Q (anything_in_range r) (λ x p. h x)
+pub at_end : {A : Type 0} (t : Table A) (P : A → Type 0) (section : Section) → AreDefaultsInRange t → AtEnd t P → IfOk (read t section) P
+unfolding read
+at_end (Values v) P section defaults h = h
+at_end (Then s rest) P section defaults h =
+    bind_in_range (found section s.name (read_as s.kind) s.default) (λ x. read (rest x) section) (IsInRange s.kind) P
+    (found_in_range section s.name (read_as s.kind) s.default (IsInRange s.kind) defaults.0 (read_as_in_range s.kind))
+    (λ x p. at_end (rest x) P section (defaults.1 x p) (h x p))
 
 one_threshold : AreThresholds (pos 90000000 ∷ [])
 one_threshold = record { few = omega arith; range = λ k d l. grind arith; distinct = refl }
@@ -48,121 +53,94 @@ one_threshold = record { few = omega arith; range = λ k d l. grind arith; disti
 one_backend : AreBackends (codes "graphite" ∷ [])
 one_backend = record { few = omega arith; known = λ k d l. grind arith; distinct = refl }
 
-pub server_in_range : (s : Section) → IfOk (server s) ServerInRange
-unfolding server
-server_in_range s =
-    whole_then s (codes "port") 1 65535 8125 _ ServerInRange (omega arith, omega arith) (λ port p.
-    whole_then s (codes "mgmt_port") 1 65535 8126 _ ServerInRange (omega arith, omega arith) (λ mgmt_port m.
-    whole_then s (codes "flushInterval") 1 86400000 10000 _ ServerInRange (omega arith, omega arith) (λ interval i.
-    bind_in_range _ _ AreThresholds ServerInRange (setting_in_range s (codes "percentThreshold") thresholds _ AreThresholds one_threshold thresholds_in_range) (λ xs t.
-    record { port = p; mgmt_port = m; flush_interval = i; percent_threshold = t }))))
+-- a default, and those behind it
+front : {P Q : Type 0} → P → Q → P × Q
+front p q = (p, q)
 
-pub addresses_in_range : (s : Section) → IfOk (addresses s) AddressesInRange
-unfolding addresses
-addresses_in_range s =
-    bind_in_range _ _ (λ n. (0 < length n) × IsPrefix n) AddressesInRange
-    (setting_in_range s (codes "prefixStats") (text is_filled_prefix) _ (λ n. (0 < length n) × IsPrefix n) (omega arith, is_prefix-prefix (codes "statsd") refl) filled_prefix_in_range) (λ n p.
-    host_then s (codes "address") (codes "0.0.0.0") _ AddressesInRange refl (λ address a.
-    host_then s (codes "mgmt_address") (codes "0.0.0.0") _ AddressesInRange refl (λ mgmt_address m.
-    bind_in_range _ _ AreBackends AddressesInRange (setting_in_range s (codes "backends") backends _ AreBackends one_backend backends_in_range) (λ names b.
-    host_then s (codes "graphiteHost") (codes "127.0.0.1") _ AddressesInRange refl (λ graphite_host g.
-    whole_then s (codes "graphitePort") 1 65535 2003 _ AddressesInRange (omega arith, omega arith) (λ graphite_port o.
-    record { some_prefix_stats = p.0; prefix_stats = p.1; address = a; mgmt_address = m; backends = b; graphite_host = g; graphite_port = o }))))))
+server_defaults : AreDefaultsInRange server
+server_defaults =
+    front (omega arith, omega arith) (λ _ _. front (omega arith, omega arith) (λ _ _. front (omega arith, omega arith) (λ _ _. front one_threshold (λ _ _. tt))))
 
-pub namespace_in_range : (s : Section) → IfOk (namespace s) NamespaceInRange
-unfolding namespace
-namespace_in_range s =
-    value_then (setting s (codes "graphite") members no_members) _ NamespaceInRange (λ graphite.
-    value_then (setting (inside_graphite graphite) (codes "legacyNamespace") flag true) _ NamespaceInRange (λ legacy.
-    prefix_then (inside_graphite graphite) (codes "globalPrefix") (codes "stats") _ NamespaceInRange refl (λ global_prefix g.
-    prefix_then (inside_graphite graphite) (codes "prefixCounter") (codes "counters") _ NamespaceInRange refl (λ prefix_counter c.
-    prefix_then (inside_graphite graphite) (codes "prefixTimer") (codes "timers") _ NamespaceInRange refl (λ prefix_timer t.
-    prefix_then (inside_graphite graphite) (codes "prefixGauge") (codes "gauges") _ NamespaceInRange refl (λ prefix_gauge u.
-    prefix_then (inside_graphite graphite) (codes "prefixSet") (codes "sets") _ NamespaceInRange refl (λ prefix_set s.
-    prefix_then (inside_graphite graphite) (codes "globalSuffix") [] _ NamespaceInRange refl (λ global_suffix x.
-    record { global_prefix = g; prefix_counter = c; prefix_timer = t; prefix_gauge = u; prefix_set = s; global_suffix = x }))))))))
+addresses_defaults : AreDefaultsInRange addresses
+addresses_defaults =
+    front (is_prefix-prefix (codes "statsd") refl, omega arith) (λ _ _. front (is_host-host (codes "0.0.0.0") refl) (λ _ _.
+    front (is_host-host (codes "0.0.0.0") refl) (λ _ _. front one_backend (λ _ _.
+    front (is_host-host (codes "127.0.0.1") refl) (λ _ _. front (omega arith, omega arith) (λ _ _. tt))))))
 
-pub entry_lists_in_range : (s : Section) → IfOk (entry_lists s) EntryListsInRange
-unfolding entry_lists
-entry_lists_in_range s =
-    bind_in_range _ _ AreHistograms EntryListsInRange (setting_in_range s (codes "histogram") (listed 16 classes) [] AreHistograms (record { few = omega arith; range = λ k d l. absurd (omega arith) }) histogram_in_range) (λ histogram h.
-    bind_in_range _ _ AreTargets EntryListsInRange (setting_in_range s (codes "repeater") (listed 16 target) [] AreTargets (record { few = omega arith; range = λ k d l. absurd (omega arith) }) repeater_in_range) (λ repeater r.
-    bind_in_range _ _ AreNodes EntryListsInRange (setting_in_range s (codes "nodes") (listed 64 node) [] AreNodes (record { few = omega arith; range = λ k d l. absurd (omega arith) }) nodes_in_range) (λ nodes n.
-    record { histogram = h; repeater = r; nodes = n })))
+namespace_defaults : AreDefaultsInRange namespace
+namespace_defaults =
+    front tt (λ _ _. front (is_prefix-prefix (codes "stats") refl) (λ _ _. front (is_prefix-prefix (codes "counters") refl) (λ _ _.
+    front (is_prefix-prefix (codes "timers") refl) (λ _ _. front (is_prefix-prefix (codes "gauges") refl) (λ _ _.
+    front (is_prefix-prefix (codes "sets") refl) (λ _ _. front (is_prefix-prefix [] refl) (λ _ _. tt)))))))
 
-pub sizes_in_range : (s : Section) → IfOk (sizes s) SizesInRange
-unfolding sizes
-sizes_in_range s =
-    whole_then s (codes "checkInterval") 1 86400000 10000 _ SizesInRange (omega arith, omega arith) (λ check_interval i.
-    whole_then s (codes "cacheSize") 1 1000000 10000 _ SizesInRange (omega arith, omega arith) (λ cache_size c.
-    whole_then s (codes "shards") 1 16 4 _ SizesInRange (omega arith, omega arith) (λ shards h.
-    whole_then s (codes "rows") 1 16384 4096 _ SizesInRange (omega arith, omega arith) (λ rows r.
-    whole_then s (codes "entries") 1 1048576 65536 _ SizesInRange (omega arith, omega arith) (λ entries e.
-    product_then s (codes "entries") 2097152 shards entries _ SizesInRange (λ a.
-    whole_then s (codes "receivers") 1 16 2 _ SizesInRange (omega arith, omega arith) (λ receivers v.
-    whole_then s (codes "runFlushes") 0 1000000000 0 _ SizesInRange (omega arith, omega arith) (λ run_flushes f.
-    record { check_interval = i; cache_size = c; shards = h; rows = r; entries = e; all_entries = a; receivers = v; run_flushes = f.1 }))))))))
+entry_lists_defaults : AreDefaultsInRange entry_lists
+entry_lists_defaults =
+    front (record { few = omega arith; range = λ k d l. absurd (omega arith) }) (λ _ _.
+    front (record { few = omega arith; range = λ k d l. absurd (omega arith) }) (λ _ _.
+    front (record { few = omega arith; range = λ k d l. absurd (omega arith) }) (λ _ _. tt)))
 
-pub flush_rules_in_range : (s : Section) → IfOk (flush_rules s) FlushRulesInRange
-unfolding flush_rules
-flush_rules_in_range s =
-    whole_then s (codes "gaugesMaxTTL") 1 1000000000 1 _ FlushRulesInRange (omega arith, omega arith) (λ gauges_max_ttl g.
-    bind_in_range _ _ AreClassNames FlushRulesInRange (setting_in_range s (codes "calculatedTimerMetrics") class_names [] AreClassNames (record { few = omega arith; known = λ k d l. absurd (omega arith); distinct = refl }) class_names_in_range) (λ names n.
-    record { gauges_max_ttl = g; calculated_timer_metrics = n }))
+sizes_defaults : AreDefaultsInRange sizes
+sizes_defaults =
+    front (omega arith, omega arith) (λ _ _. front (omega arith, omega arith) (λ _ _. front (omega arith, omega arith) (λ shards few.
+    front (omega arith, omega arith) (λ _ _. front ((omega arith, omega arith), omega arith) (λ _ _.
+    front (omega arith, omega arith) (λ _ _. front (omega arith, omega arith) (λ _ _. tt)))))))
 
-pub transport_in_range : (s : Section) → IfOk (transport s) TransportInRange
-unfolding transport
-transport_in_range s =
-    whole_then s (codes "outlets") 0 64 0 _ TransportInRange (omega arith, omega arith) (λ outlets o.
-    whole_then s (codes "outletBytes") 65536 16777216 4194304 _ TransportInRange (omega arith, omega arith) (λ outlet_bytes b.
-    product_then s (codes "outletBytes") 268435456 outlets outlet_bytes _ TransportInRange (λ a.
-    whole_then s (codes "tcp_port") 0 65535 0 _ TransportInRange (omega arith, omega arith) (λ tcp_port t.
-    value_then (setting s (codes "sumsOnArrival") flag false) _ TransportInRange (λ sums_on_arrival.
-    whole_then s (codes "receiveBuffer") 0 1073741824 0 _ TransportInRange (omega arith, omega arith) (λ receive_buffer r.
-    record { outlets = o.1; outlet_bytes = b; all_outlets = a; tcp_port = t.1; receive_buffer = r.1 }))))))
+flush_rules_defaults : AreDefaultsInRange flush_rules
+flush_rules_defaults =
+    front (omega arith, omega arith) (λ _ _. front (record { few = omega arith; known = λ k d l. absurd (omega arith); distinct = refl }) (λ _ _. tt))
 
-pub settings_in_in_range : (s : Section) → IfOk (settings_in s) InRange
+transport_defaults : AreDefaultsInRange transport
+transport_defaults =
+    front (omega arith, omega arith) (λ outlets few. front ((omega arith, omega arith), omega arith) (λ _ _.
+    front (omega arith, omega arith) (λ _ _. front tt (λ _ _. front (omega arith, omega arith) (λ _ _. front tt (λ _ _.
+    front (omega arith, omega arith) (λ _ _. front (omega arith, omega arith) (λ _ _. tt))))))))
+
+pub server_in_range : (s : Section) → IfOk (read server s) (AreInRange server)
+server_in_range s = at_end server (AreInRange server) s server_defaults (λ _ p _ m _ f _ t. (p, (m, (f, (t, tt)))))
+
+pub addresses_in_range : (s : Section) → IfOk (read addresses s) (AreInRange addresses)
+addresses_in_range s = at_end addresses (AreInRange addresses) s addresses_defaults (λ _ p _ a _ m _ b _ g _ o. (p, (a, (m, (b, (g, (o, tt)))))))
+
+pub namespace_in_range : (s : Section) → IfOk (read namespace s) (AreInRange namespace)
+namespace_in_range s = at_end namespace (AreInRange namespace) s namespace_defaults (λ _ l _ g _ c _ t _ u _ e _ x. (l, (g, (c, (t, (u, (e, (x, tt))))))))
+
+pub entry_lists_in_range : (s : Section) → IfOk (read entry_lists s) (AreInRange entry_lists)
+entry_lists_in_range s = at_end entry_lists (AreInRange entry_lists) s entry_lists_defaults (λ _ h _ r _ n. (h, (r, (n, tt))))
+
+pub sizes_in_range : (s : Section) → IfOk (read sizes s) (AreInRange sizes)
+sizes_in_range s = at_end sizes (AreInRange sizes) s sizes_defaults (λ _ i _ c _ h _ r _ e _ v _ f. (i, (c, (h, (r, (e, (v, (f, tt))))))))
+
+pub flush_rules_in_range : (s : Section) → IfOk (read flush_rules s) (AreInRange flush_rules)
+flush_rules_in_range s = at_end flush_rules (AreInRange flush_rules) s flush_rules_defaults (λ _ g _ n. (g, (n, tt)))
+
+pub transport_in_range : (s : Section) → IfOk (read transport s) (AreInRange transport)
+transport_in_range s = at_end transport (AreInRange transport) s transport_defaults (λ _ o _ b _ t _ a _ p _ f _ n _ r. (o, (b, (t, (a, (p, (f, (n, (r, tt)))))))))
+
+-- a value of which nothing is asked, before the rest
+pub value_then : {A B : Type 0} (r : Result A SettingsFlaw) (f : A → Result B SettingsFlaw) (Q : B → Type 0) → ((x : A) → IfOk (f x) Q) → IfOk (r >>= f) Q
+value_then r f Q h = bind_in_range r f (λ x. ⊤) Q (anything_in_range r) (λ x p. h x)
+
+pub settings_in_in_range : (s : Section) → IfOk (settings_in tables s) InRange
 unfolding settings_in
 settings_in_in_range s =
-    bind_in_range _ _ ServerInRange InRange (server_in_range s) (λ server r.
-    value_then (deletions s) _ InRange (λ deletions.
-    bind_in_range _ _ AddressesInRange InRange (addresses_in_range s) (λ addresses a.
-    bind_in_range _ _ NamespaceInRange InRange (namespace_in_range s) (λ namespace n.
-    bind_in_range _ _ EntryListsInRange InRange (entry_lists_in_range s) (λ lists l.
-    bind_in_range _ _ SizesInRange InRange (sizes_in_range s) (λ sizes z.
-    bind_in_range _ _ FlushRulesInRange InRange (flush_rules_in_range s) (λ rules u.
-    bind_in_range _ _ TransportInRange InRange (transport_in_range s) (λ transport t.
-    record { server = r; addresses = a; namespace = n; lists = l; sizes = z; rules = u; transport = t }))))))))
+    bind_in_range (read server s) _ (AreInRange server) InRange (server_in_range s) (λ server r.
+    value_then (read deletions s) _ InRange (λ deletions.
+    bind_in_range (read addresses s) _ (AreInRange addresses) InRange (addresses_in_range s) (λ addresses a.
+    value_then (found s (codes "graphite") members no_members) _ InRange (λ graphite.
+    bind_in_range (read namespace (inside_graphite graphite)) _ (AreInRange namespace) InRange (namespace_in_range (inside_graphite graphite)) (λ namespace n.
+    bind_in_range (read entry_lists s) _ (AreInRange entry_lists) InRange (entry_lists_in_range s) (λ lists l.
+    bind_in_range (read sizes s) _ (AreInRange sizes) InRange (sizes_in_range s) (λ sizes z.
+    bind_in_range (read flush_rules s) _ (AreInRange flush_rules) InRange (flush_rules_in_range s) (λ rules u.
+    bind_in_range (read transport s) _ (AreInRange transport) InRange (transport_in_range s) (λ transport t.
+    record { server = r; addresses = a; namespace = n; lists = l; sizes = z; rules = u; transport = t })))))))))
 
 known_in_range : (name : Option (List ℕ)) (r : Result Settings SettingsFlaw) → IfOk r InRange → IfOk (unless_unknown name r) InRange
 known_in_range None r h = h
 known_in_range (Some name) r h = tt
 
 pub settings_in_range : (bytes : List ℕ) → IfOk (settings bytes) InRange
-unfolding settings
+unfolding settings settings_by
 settings_in_range bytes = elim (cases_Bool (nat_lt 65536 (length bytes))) [
   | inl e ↦ rw e tt
-  | inr e ↦ rw e (value_then (document bytes) _ InRange (λ doc. known_in_range (unknown doc) (settings_in (top doc)) (settings_in_in_range (top doc))))
+  | inr e ↦ rw e (value_then (document bytes) _ InRange (λ doc. known_in_range (unknown tables doc) (settings_in tables (top doc)) (settings_in_in_range (top doc))))
 ]
-
--- the same of the values of a group that was read
-pub server_read : (s : Section) {v : Server} → server s ≡ Ok v → ServerInRange v
-server_read s {v} e = IfOk-at_ok ServerInRange e (server_in_range s)
-
-pub addresses_read : (s : Section) {v : Addresses} → addresses s ≡ Ok v → AddressesInRange v
-addresses_read s {v} e = IfOk-at_ok AddressesInRange e (addresses_in_range s)
-
-pub namespace_read : (s : Section) {v : Namespace} → namespace s ≡ Ok v → NamespaceInRange v
-namespace_read s {v} e = IfOk-at_ok NamespaceInRange e (namespace_in_range s)
-
-pub entry_lists_read : (s : Section) {v : EntryLists} → entry_lists s ≡ Ok v → EntryListsInRange v
-entry_lists_read s {v} e = IfOk-at_ok EntryListsInRange e (entry_lists_in_range s)
-
-pub sizes_read : (s : Section) {v : Sizes} → sizes s ≡ Ok v → SizesInRange v
-sizes_read s {v} e = IfOk-at_ok SizesInRange e (sizes_in_range s)
-
-pub flush_rules_read : (s : Section) {v : FlushRules} → flush_rules s ≡ Ok v → FlushRulesInRange v
-flush_rules_read s {v} e = IfOk-at_ok FlushRulesInRange e (flush_rules_in_range s)
-
-pub transport_read : (s : Section) {v : Transport} → transport s ≡ Ok v → TransportInRange v
-transport_read s {v} e = IfOk-at_ok TransportInRange e (transport_in_range s)

@@ -3,9 +3,9 @@ use Rattle.std.proofs.Common.{◌≡◌, ℕ, zero, suc, ◌≤◌, Bool, true, 
 use Rattle.std.specs.Prelude.{⊤}
 use Rattle.std.proofs.lemmas.Bool.{cases_Bool}
 use Rattle.std.proofs.lemmas.Bool.Decides.{nat_tests}
-use Rattle.toml.specs.Data.{Data, string, integer, array, Items, no_items, item}
-use Rattle.sd_model_settings.specs.Values.{ValueFlaw, OtherKind, OutsideRange, both, mapped, ranged, whole_within, whole, text, each, are_at_most, listed, required, optional}
-use Rattle.sd_model_settings.specs.Settings.{SettingsFlaw, ◌>>=◌, named, in_force, Section, setting}
+use Rattle.toml.specs.Data.{Data, string, integer, array, table, Items, no_items, item, Members}
+use Rattle.sd_model_settings.specs.Values.{ValueFlaw, OtherKind, OutsideRange, both, mapped, ranged, whole, text, each, are_at_most, listed, entry, required, optional}
+use Rattle.sd_model_settings.specs.Settings.{SettingsFlaw, ◌>>=◌, named, in_force, Section, found}
 use Rattle.sd_model_settings.specs.Ranges.{IsWithin}
 
 -- nothing is asked of a value
@@ -30,10 +30,10 @@ in_force_in_range : {A : Type 0} (name : List ℕ) (read : Data → Result A Val
 in_force_in_range name read default None P p h = p
 in_force_in_range name read default (Some d) P p h = named_in_range name (read d) P (h d)
 
--- a setting whose default is in range
-pub setting_in_range : {A : Type 0} (s : Section) (name : List ℕ) (read : Data → Result A ValueFlaw) (default : A) (P : A → Type 0)
-    → P default → ((d : Data) → IfOk (read d) P) → IfOk (setting s name read default) P
-setting_in_range s name read default P p h = in_force_in_range _ read default _ P p h
+-- what has a name, where the default is in range
+pub found_in_range : {A : Type 0} (s : Section) (name : List ℕ) (read : Data → Result A ValueFlaw) (default : A) (P : A → Type 0)
+    → P default → ((d : Data) → IfOk (read d) P) → IfOk (found s name read default) P
+found_in_range s name read default P p h = in_force_in_range _ read default _ P p h
 
 -- a value that passes a test
 pub ranged_in_range : {A : Type 0} (passes : A → Bool) (r : Result A ValueFlaw) (P Q : A → Type 0)
@@ -57,15 +57,12 @@ both_in_range (Err OtherKind) s P Q p q = tt
 both_in_range (Err OutsideRange) (Ok y) P Q p q = tt
 both_in_range (Err OutsideRange) (Err flaw) P Q p q = tt
 
-whole_within_in_range : (least most : ℕ) (z : ℤ) → IfOk (whole_within least most z) (IsWithin least most)
-whole_within_in_range least most (pos n) = elim (cases_Bool (nat_le least n && nat_le n most)) [
+pub whole_in_range : (least most : ℕ) (d : Data) → IfOk (whole least most d) (IsWithin least most)
+whole_in_range least most (integer (pos n)) = elim (cases_Bool (nat_le least n && nat_le n most)) [
   | inl e ↦ rw e (grind (arith, nat_tests))
   | inr e ↦ rw e tt
 ]
-whole_within_in_range least most (negsuc n) = tt
-
-pub whole_in_range : (least most : ℕ) (d : Data) → IfOk (whole least most d) (IsWithin least most)
-whole_in_range least most (integer z) = whole_within_in_range least most z
+whole_in_range least most (integer (negsuc n)) = tt
 whole_in_range least most _ = tt
 
 pub text_in_range : (passes : List ℕ → Bool) (P : List ℕ → Type 0) → ((s : List ℕ) → passes s ≡ true → P s) → (d : Data) → IfOk (text passes d) P
@@ -93,6 +90,10 @@ pub listed_in_range : {A : Type 0} (n : ℕ) (read : Data → Result A ValueFlaw
     → ((xs : List A) → All P xs → length xs ≤ n → Q xs) → (d : Data) → IfOk (listed n read d) Q
 listed_in_range n read P Q h j (array ds) = ranged_in_range (are_at_most n) (each read ds) (All P) Q (each_in_range read P h ds) (λ xs all e. j xs all (few n xs e))
 listed_in_range n read P Q h j _ = tt
+
+pub entry_in_range : {A : Type 0} (read : Members → Result A ValueFlaw) (P : A → Type 0) → ((ms : Members) → IfOk (read ms) P) → (d : Data) → IfOk (entry read d) P
+entry_in_range read P h (table ms) = h ms
+entry_in_range read P h _ = tt
 
 pub required_in_range : {A : Type 0} (read : Data → Result A ValueFlaw) (P : A → Type 0) → ((d : Data) → IfOk (read d) P) → (given : Option Data) → IfOk (required read given) P
 required_in_range read P h None = tt

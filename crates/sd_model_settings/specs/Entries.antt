@@ -5,9 +5,9 @@ use Rattle.std.specs.Prelude.{ℕ, ◌^◌, ◌==◌, ◌&&◌, ◌||◌, Bool, 
 use Rattle.std.specs.List.{list_any, list_all}
 use Rattle.std.specs.Str.{bytes_eq}
 use Rattle.std.specs.Ordering.{int_eq}
-use Rattle.toml.specs.Data.{Data, string, array, table, Items, no_items, item, Members, get_member}
+use Rattle.toml.specs.Data.{Data, string, array, Items, no_items, item, Members, get_member}
 use Rattle.sd_model_text.specs.Numbers.{Limit, Below, Infinite, ascends}
-use Rattle.sd_model_settings.specs.Values.{ValueFlaw, OtherKind, both, mapped, ranged, whole, text, is_host, is_metric, decimal, each, are_at_most, listed, one_or_list, are_distinct, required, optional}
+use Rattle.sd_model_settings.specs.Values.{ValueFlaw, OtherKind, both, mapped, ranged, whole, text, is_host, is_metric, decimal, each, are_at_most, listed, one_or_list, are_distinct, entry, required, optional}
 
 -- a threshold in millionths: from -100 to 100, and not 0
 abbrev pub is_threshold : ℤ → Bool
@@ -67,14 +67,13 @@ bins (array ds) = bins_of ds
 bins _ = Err OtherKind
 
 -- an entry of `histogram`: a table with `metric` and `bins`
-abbrev pub classes_of : Members → Result Classes ValueFlaw
-classes_of ms =
-    mapped (λ p. record { metric = p.0; limits = p.1 })
-    (both (required (text is_metric) (get_member (codes "metric") ms)) (required bins (get_member (codes "bins") ms)))
-
 abbrev pub classes : Data → Result Classes ValueFlaw
-classes (table ms) = classes_of ms
-classes _ = Err OtherKind
+classes = entry (λ ms. mapped (λ p. record { metric = p.0; limits = p.1 })
+    (both (required (text is_metric) (get_member (codes "metric") ms)) (required bins (get_member (codes "bins") ms))))
+
+-- the host and the port of an entry
+abbrev pub place : Members → Result (List ℕ × ℕ) ValueFlaw
+place ms = both (required (text is_host) (get_member (codes "host") ms)) (required (whole 1 65535) (get_member (codes "port") ms))
 
 -- Where packets are repeated to.
 pub record Target : Type 0 where
@@ -82,14 +81,8 @@ pub record Target : Type 0 where
   pub port : ℕ
 
 -- an entry of `repeater`: a table with `host` and `port`
-abbrev pub target_of : Members → Result Target ValueFlaw
-target_of ms =
-    mapped (λ p. record { host = p.0; port = p.1 })
-    (both (required (text is_host) (get_member (codes "host") ms)) (required (whole 1 65535) (get_member (codes "port") ms)))
-
 abbrev pub target : Data → Result Target ValueFlaw
-target (table ms) = target_of ms
-target _ = Err OtherKind
+target = entry (λ ms. mapped (λ p. record { host = p.0; port = p.1 }) (place ms))
 
 -- A server behind the proxy, with the port at which it answers about itself.
 pub record Node : Type 0 where
@@ -98,35 +91,15 @@ pub record Node : Type 0 where
   pub adminport : ℕ
 
 -- an entry of `nodes`: a table with `host`, `port` and, by default 8126, `adminport`
-abbrev pub node_of : Members → Result Node ValueFlaw
-node_of ms =
-    mapped (λ p. record { host = p.0.0; port = p.0.1; adminport = p.1 })
-    (both (both (required (text is_host) (get_member (codes "host") ms)) (required (whole 1 65535) (get_member (codes "port") ms)))
-    (optional (whole 1 65535) 8126 (get_member (codes "adminport") ms)))
-
 abbrev pub node : Data → Result Node ValueFlaw
-node (table ms) = node_of ms
-node _ = Err OtherKind
+node = entry (λ ms. mapped (λ p. record { host = p.0.0; port = p.0.1; adminport = p.1 })
+    (both (place ms) (optional (whole 1 65535) 8126 (get_member (codes "adminport") ms))))
 
 -- A class of lines: one of the statistics of all values, all bins, or one of the statistics of the parts that the
 -- thresholds take.
 pub data TimerClass : Type 0 where
-  Std : TimerClass
-  Upper : TimerClass
-  Lower : TimerClass
-  Count : TimerClass
-  CountPs : TimerClass
-  Sum : TimerClass
-  SumSquares : TimerClass
-  Mean : TimerClass
-  Median : TimerClass
-  Histogram : TimerClass
-  CountPercent : TimerClass
-  MeanPercent : TimerClass
-  UpperPercent : TimerClass
-  LowerPercent : TimerClass
-  SumPercent : TimerClass
-  SumSquaresPercent : TimerClass
+  Std Upper Lower Count CountPs Sum SumSquares Mean Median Histogram : TimerClass
+  CountPercent MeanPercent UpperPercent LowerPercent SumPercent SumSquaresPercent : TimerClass
 
 -- the name of a class
 abbrev pub class_name : TimerClass → List ℕ

@@ -1,6 +1,7 @@
 pub mod Values
 pub mod Entries
-pub mod Groups
+pub mod Kinds
+pub mod Table
 pub mod Settings
 pub mod Ranges
 pub mod ConfigText

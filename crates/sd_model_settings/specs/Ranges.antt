@@ -7,7 +7,9 @@ use Rattle.sd_model_text.specs.Names.{is_name_byte}
 use Rattle.sd_model_settings.specs.Values.{is_host_byte, are_distinct}
 use Rattle.sd_model_text.specs.Numbers.{Limit, ascends}
 use Rattle.sd_model_settings.specs.Entries.{is_backend, is_limit, Classes, Target, Node, is_class_name}
-use Rattle.sd_model_settings.specs.Settings.{Server, Addresses, Namespace, EntryLists, Sizes, FlushRules, Transport, Settings}
+use Rattle.sd_model_settings.specs.Kinds.{Kind, Whole, Share, Flag, Prefix, FilledPrefix, Host, Thresholds, Backends, ClassNames, Histograms, Targets, Nodes, Value}
+use Rattle.sd_model_settings.specs.Table.{Table, Values, Then, Namespace, server, addresses, namespace, entry_lists, sizes, flush_rules, transport}
+use Rattle.sd_model_settings.specs.Settings.{Settings}
 
 -- a number from least to most
 abbrev pub IsWithin : ℕ → ℕ → ℕ → Type 0
@@ -84,61 +86,36 @@ pub record AreNodes (entries : List Node) : Type 0 where
   pub few : length entries ≤ 64
   pub range : All IsNode entries
 
-pub record ServerInRange (s : Server) : Type 0 where
-  pub port : IsWithin 1 65535 s.port
-  pub mgmt_port : IsWithin 1 65535 s.mgmt_port
-  pub flush_interval : IsWithin 1 86400000 s.flush_interval
-  pub percent_threshold : AreThresholds s.percent_threshold
+-- a value of a kind is in its range
+abbrev pub IsInRange : (kind : Kind) → Value kind → Type 0
+IsInRange (Whole least most) n = IsWithin least most n
+IsInRange (Share least most all earlier) n = IsWithin least most n × (earlier * n ≤ all)
+IsInRange Flag b = Unit {0}
+IsInRange Prefix s = IsPrefix s
+IsInRange FilledPrefix s = IsPrefix s × (0 < length s)
+IsInRange Host s = IsHost s
+IsInRange Thresholds zs = AreThresholds zs
+IsInRange Backends names = AreBackends names
+IsInRange ClassNames names = AreClassNames names
+IsInRange Histograms entries = AreHistograms entries
+IsInRange Targets entries = AreTargets entries
+IsInRange Nodes entries = AreNodes entries
 
-pub record AddressesInRange (s : Addresses) : Type 0 where
-  pub some_prefix_stats : 0 < length s.prefix_stats
-  pub prefix_stats : IsPrefix s.prefix_stats
-  pub address : IsHost s.address
-  pub mgmt_address : IsHost s.mgmt_address
-  pub backends : AreBackends s.backends
-  pub graphite_host : IsHost s.graphite_host
-  pub graphite_port : IsWithin 1 65535 s.graphite_port
+-- each value of a group is in the range that its table has for it
+abbrev pub AreInRange : {A : Type 0} → Table A → A → Type 0
+AreInRange (Values v) values = Unit {0}
+AreInRange (Then s rest) values = IsInRange s.kind (s.value values) × AreInRange (rest (s.value values)) values
 
-pub record NamespaceInRange (s : Namespace) : Type 0 where
-  pub global_prefix : IsPrefix s.global_prefix
-  pub prefix_counter : IsPrefix s.prefix_counter
-  pub prefix_timer : IsPrefix s.prefix_timer
-  pub prefix_gauge : IsPrefix s.prefix_gauge
-  pub prefix_set : IsPrefix s.prefix_set
-  pub global_suffix : IsPrefix s.global_suffix
-
-pub record EntryListsInRange (s : EntryLists) : Type 0 where
-  pub histogram : AreHistograms s.histogram
-  pub repeater : AreTargets s.repeater
-  pub nodes : AreNodes s.nodes
-
-pub record SizesInRange (s : Sizes) : Type 0 where
-  pub check_interval : IsWithin 1 86400000 s.check_interval
-  pub cache_size : IsWithin 1 1000000 s.cache_size
-  pub shards : IsWithin 1 16 s.shards
-  pub rows : IsWithin 1 16384 s.rows
-  pub entries : IsWithin 1 1048576 s.entries
-  pub all_entries : s.shards * s.entries ≤ 2097152
-  pub receivers : IsWithin 1 16 s.receivers
-  pub run_flushes : s.run_flushes ≤ 1000000000
-
-pub record FlushRulesInRange (s : FlushRules) : Type 0 where
-  pub gauges_max_ttl : IsWithin 1 1000000000 s.gauges_max_ttl
-  pub calculated_timer_metrics : AreClassNames s.calculated_timer_metrics
-
-pub record TransportInRange (s : Transport) : Type 0 where
-  pub outlets : s.outlets ≤ 64
-  pub outlet_bytes : IsWithin 65536 16777216 s.outlet_bytes
-  pub all_outlets : s.outlets * s.outlet_bytes ≤ 268435456
-  pub tcp_port : s.tcp_port ≤ 65535
-  pub receive_buffer : s.receive_buffer ≤ 1073741824
+-- how Graphite's names are made is in range
+abbrev pub NamespaceInRange : Namespace → Type 0
+NamespaceInRange = AreInRange namespace
 
 -- Each setting is in its range.
 pub record InRange (s : Settings) : Type 0 where
-  pub server : ServerInRange s.server
-  pub addresses : AddressesInRange s.addresses
+  pub server : AreInRange server s.server
+  pub addresses : AreInRange addresses s.addresses
   pub namespace : NamespaceInRange s.namespace
-  pub lists : EntryListsInRange s.lists
-  pub sizes : SizesInRange s.sizes
-  pub rules : FlushRulesInRange s.rules
-  pub transport : TransportInRange s.transport
+  pub lists : AreInRange entry_lists s.lists
+  pub sizes : AreInRange sizes s.sizes
+  pub rules : AreInRange flush_rules s.rules
+  pub transport : AreInRange transport s.transport

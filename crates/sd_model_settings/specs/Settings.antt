@@ -1,43 +1,110 @@
--- What a settings file sets, or its first fault: the names that are known; the whole reading; the defaults; and what is taken out of
--- the values: what a record is reckoned by, and Graphite's names.
-use Rattle.std.specs.Prelude.{ℕ, nat_lt, if◌then◌else◌, List, length, codes, Option, Some, None, Result, Ok, Err, [], ◌∷◌, ◌++◌, ℤ}
+-- What a settings file sets, or its first fault: the reading of a setting and of the table; the names that are known; the defaults; and
+-- what is taken out of the values: what a record is reckoned by, and Graphite's names.
+use Rattle.std.specs.Prelude.{ℕ, nat_lt, if◌then◌else◌, List, length, take, codes, Option, Some, None, Result, Ok, Err, IfErr, [], ◌∷◌, ◌++◌, ℤ}
 use Rattle.std.specs.Str.{is_utf8, bytes_eq}
-use Rattle.toml.specs.Data.{Members, Data, array, table, Items, no_items, item, no_members, member, get_member}
-use Rattle.toml.specs.Parse.{parse_document}
-pub use Rattle.sd_model_settings.specs.Groups.{SettingsFlaw, NotToml, Unknown, WrongKind, OutOfRange, ◌>>=◌, shown, named, value_read, Section, top, inside_graphite, in_force, setting, within_product, Server, Deletions, Addresses, Namespace, EntryLists, Sizes, FlushRules, Transport}
-unfoldable pub use Rattle.sd_model_settings.specs.Groups.{server, deletions, addresses, namespace, entry_lists, sizes, flush_rules, transport}
 use Rattle.std.specs.List.{list_any}
 use Rattle.std.specs.Option.{option_or}
+use Rattle.toml.specs.Data.{Members, Data, array, table, Items, no_items, item, no_members, member, get_member}
+use Rattle.toml.specs.Parse.{parse_document}
+use Rattle.sd_model_settings.specs.Values.{ValueFlaw, OtherKind, OutsideRange, members}
 use Rattle.sd_model_settings.specs.Entries.{Classes}
+use Rattle.sd_model_settings.specs.Kinds.{read_as}
+pub use Rattle.sd_model_settings.specs.Table.{Table, Values, Then, Server, Deletions, Addresses, Namespace, EntryLists, Sizes, FlushRules, Transport}
+use Rattle.sd_model_settings.specs.Table.{server, deletions, addresses, namespace, entry_lists, sizes, flush_rules, transport, setting_names}
 
--- the names at the top of a file
-abbrev pub top_names : List (List ℕ)
-top_names =
-    codes "port" ∷ codes "mgmt_port" ∷ codes "flushInterval" ∷ codes "percentThreshold" ∷ codes "deleteIdleStats"
-    ∷ codes "deleteCounters" ∷ codes "deleteTimers" ∷ codes "deleteSets" ∷ codes "deleteGauges" ∷ codes "prefixStats"
-    ∷ codes "address" ∷ codes "mgmt_address" ∷ codes "backends" ∷ codes "graphiteHost" ∷ codes "graphitePort" ∷ codes "graphite"
-    ∷ codes "histogram" ∷ codes "repeater" ∷ codes "nodes" ∷ codes "checkInterval" ∷ codes "cacheSize" ∷ codes "shards"
-    ∷ codes "rows" ∷ codes "entries" ∷ codes "receivers" ∷ codes "runFlushes" ∷ codes "gaugesMaxTTL"
-    ∷ codes "calculatedTimerMetrics" ∷ codes "outlets" ∷ codes "outletBytes" ∷ codes "tcp_port"
-    ∷ codes "sumsOnArrival" ∷ codes "receiveBuffer" ∷ []
+-- Why a file sets nothing, with the name of a setting.
+pub data SettingsFlaw : Type 0 where
+  NotToml : SettingsFlaw
+  Unknown WrongKind OutOfRange : (name : List ℕ) → SettingsFlaw
 
--- the names in the table `graphite`
-abbrev pub graphite_names : List (List ℕ)
-graphite_names =
-    codes "legacyNamespace" ∷ codes "globalPrefix" ∷ codes "prefixCounter" ∷ codes "prefixTimer" ∷ codes "prefixGauge"
-    ∷ codes "prefixSet" ∷ codes "globalSuffix" ∷ []
+-- what follows a value that was read; the first fault decides
+infixl 10 ◌>>=◌
+abbrev pub ◌>>=◌ : {A B : Type 0} → Result A SettingsFlaw → (A → Result B SettingsFlaw) → Result B SettingsFlaw
+(Ok x) >>= f = f x
+(Err flaw) >>= f = Err flaw
 
--- the names in an entry of `histogram`
-abbrev pub histogram_names : List (List ℕ)
-histogram_names = codes "metric" ∷ codes "bins" ∷ []
+-- a name as a fault has it: its first 64 bytes
+abbrev pub shown : List ℕ → List ℕ
+shown name = take 64 name
 
--- the names in an entry of `repeater`
-abbrev pub repeater_names : List (List ℕ)
-repeater_names = codes "host" ∷ codes "port" ∷ []
+-- a value that was read, with the name of its setting beside what is wrong
+abbrev pub named : {A : Type 0} → List ℕ → Result A ValueFlaw → Result A SettingsFlaw
+named name (Ok x) = Ok x
+named name (Err OtherKind) = Err (WrongKind (shown name))
+named name (Err OutsideRange) = Err (OutOfRange (shown name))
 
--- the names in an entry of `nodes`
-abbrev pub node_names : List (List ℕ)
-node_names = codes "host" ∷ codes "port" ∷ codes "adminport" ∷ []
+-- The members of a table of the file, and what stands before their names in a fault.
+pub record Section : Type 0 where
+  pub prefix : List ℕ
+  pub members : Members
+
+-- the whole file
+abbrev pub top : Members → Section
+top ms = record { prefix = []; members = ms }
+
+-- its table `graphite`
+abbrev pub inside_graphite : Members → Section
+inside_graphite ms = record { prefix = codes "graphite."; members = ms }
+
+-- the value in force: the one that is given, as it is read, or else the default
+abbrev pub in_force : {A : Type 0} → List ℕ → (Data → Result A ValueFlaw) → A → Option Data → Result A SettingsFlaw
+in_force name read default None = Ok default
+in_force name read default (Some d) = named name (read d)
+
+-- the value in force of what has a name
+abbrev pub found : {A : Type 0} → Section → List ℕ → (Data → Result A ValueFlaw) → A → Result A SettingsFlaw
+found s name read default = in_force (s.prefix ++ name) read default (get_member name s.members)
+
+-- the values that a section sets by a table, or the first fault
+unfoldable pub read : {A : Type 0} → Table A → Section → Result A SettingsFlaw
+read (Values v) section = Ok v
+read (Then s rest) section = found section s.name (read_as s.kind) s.default >>= (λ x. read (rest x) section)
+
+-- The values of all settings.
+pub record Settings : Type 0 where
+  pub server : Server
+  pub deletions : Deletions
+  pub addresses : Addresses
+  pub namespace : Namespace
+  pub lists : EntryLists
+  pub sizes : Sizes
+  pub rules : FlushRules
+  pub transport : Transport
+
+-- The table, group by group.
+pub record Tables : Type 0 where
+  pub server : Table Server
+  pub deletions : Table Deletions
+  pub addresses : Table Addresses
+  pub namespace : Table Namespace
+  pub lists : Table EntryLists
+  pub sizes : Table Sizes
+  pub rules : Table FlushRules
+  pub transport : Table Transport
+
+-- today's
+abbrev pub tables : Tables
+tables = record { server = server; deletions = deletions; addresses = addresses; namespace = namespace; lists = entry_lists; sizes = sizes; rules = flush_rules; transport = transport }
+
+-- the values that a file sets by a table; what `graphite` is decides before what it has
+unfoldable pub settings_in : Tables → Section → Result Settings SettingsFlaw
+settings_in t s = do
+  of-server ← read t.server s
+  of-deletions ← read t.deletions s
+  of-addresses ← read t.addresses s
+  graphite ← found s (codes "graphite") members no_members
+  of-namespace ← read t.namespace (inside_graphite graphite)
+  of-lists ← read t.lists s
+  of-sizes ← read t.sizes s
+  of-rules ← read t.rules s
+  of-transport ← read t.transport s
+  Ok (record { server = of-server; deletions = of-deletions; addresses = of-addresses; namespace = of-namespace; lists = of-lists; sizes = of-sizes; rules = of-rules; transport = of-transport })
+
+-- the names that are known at the top of a file
+abbrev pub top_names : Tables → List (List ℕ)
+top_names t =
+    (codes "graphite" ∷ []) ++ setting_names t.server ++ setting_names t.deletions ++ setting_names t.addresses ++ setting_names t.lists
+    ++ setting_names t.sizes ++ setting_names t.rules ++ setting_names t.transport
 
 -- the names that a table has, which ascend by their bytes
 abbrev pub names : Members → List (List ℕ)
@@ -65,52 +132,24 @@ abbrev pub unknown_in_list : List ℕ → List (List ℕ) → Option Data → Op
 unknown_in_list prefix known (Some (array ds)) = unknown_among prefix known ds
 unknown_in_list prefix known _ = None
 
--- the first unknown name inside `graphite`, `histogram`, `repeater` and `nodes`, in this order
+-- the first unknown name inside `graphite`, and in the entries of `histogram`, `repeater` and `nodes`, in this order
 abbrev pub unknown_inside : Members → Option (List ℕ)
 unknown_inside doc =
-    option_or (unknown_in (codes "graphite.") graphite_names (get_member (codes "graphite") doc))
-    (option_or (unknown_in_list (codes "histogram.") histogram_names (get_member (codes "histogram") doc))
-    (option_or (unknown_in_list (codes "repeater.") repeater_names (get_member (codes "repeater") doc))
-    (unknown_in_list (codes "nodes.") node_names (get_member (codes "nodes") doc))))
+    option_or (unknown_in (codes "graphite.") (setting_names namespace) (get_member (codes "graphite") doc))
+    (option_or (unknown_in_list (codes "histogram.") (codes "metric" ∷ codes "bins" ∷ []) (get_member (codes "histogram") doc))
+    (option_or (unknown_in_list (codes "repeater.") (codes "host" ∷ codes "port" ∷ []) (get_member (codes "repeater") doc))
+    (unknown_in_list (codes "nodes.") (codes "host" ∷ codes "port" ∷ codes "adminport" ∷ []) (get_member (codes "nodes") doc))))
 
--- the first unknown name of a file, by the names that are known at its top
-abbrev pub unknown_by : List (List ℕ) → Members → Option (List ℕ)
-unknown_by known doc = option_or (first_unknown [] known (names doc)) (unknown_inside doc)
-
--- the first unknown name of a file
-unfoldable pub unknown : Members → Option (List ℕ)
-unknown doc = unknown_by top_names doc
-
--- The values of all settings.
-pub record Settings : Type 0 where
-  pub server : Server
-  pub deletions : Deletions
-  pub addresses : Addresses
-  pub namespace : Namespace
-  pub lists : EntryLists
-  pub sizes : Sizes
-  pub rules : FlushRules
-  pub transport : Transport
-
--- the values that a file's table sets
-unfoldable pub settings_in : Section → Result Settings SettingsFlaw
-settings_in s = do
-  server-values ← server s
-  deletions-values ← deletions s
-  addresses-values ← addresses s
-  namespace-values ← namespace s
-  lists-values ← entry_lists s
-  sizes-values ← sizes s
-  rules-values ← flush_rules s
-  transport-values ← transport s
-  Ok (record { server = server-values; deletions = deletions-values; addresses = addresses-values; namespace = namespace-values; lists = lists-values; sizes = sizes-values; rules = rules-values; transport = transport-values })
+-- the first name of a file that a table doesn't know
+unfoldable pub unknown : Tables → Members → Option (List ℕ)
+unknown t doc = option_or (first_unknown [] (top_names t) (names doc)) (unknown_inside doc)
 
 -- a name that isn't known comes before all settings
 abbrev pub unless_unknown : Option (List ℕ) → Result Settings SettingsFlaw → Result Settings SettingsFlaw
 unless_unknown (Some name) rest = Err (Unknown (shown name))
 unless_unknown None rest = rest
 
--- a table, where there is one
+-- a table of TOML, where there is one
 abbrev pub table_or_flaw : Option Members → Result Members SettingsFlaw
 table_or_flaw (Some ms) = Ok ms
 table_or_flaw None = Err NotToml
@@ -119,18 +158,27 @@ table_or_flaw None = Err NotToml
 unfoldable pub document : List ℕ → Result Members SettingsFlaw
 document bytes = if is_utf8 bytes then table_or_flaw (parse_document bytes) else Err NotToml
 
--- the values that a file of at most 65,536 bytes sets, or its first fault
-unfoldable pub settings : List ℕ → Result Settings SettingsFlaw
-settings bytes =
+-- the values that a file of at most 65,536 bytes sets by a table, or its first fault
+unfoldable pub settings_by : Tables → List ℕ → Result Settings SettingsFlaw
+settings_by t bytes =
     if nat_lt 65536 (length bytes) then Err (OutOfRange (codes "file"))
     else (do
       doc ← document bytes
-      unless_unknown (unknown doc) (settings_in (top doc)))
+      unless_unknown (unknown t doc) (settings_in t (top doc)))
+
+-- the values that a file sets, or its first fault
+unfoldable pub settings : List ℕ → Result Settings SettingsFlaw
+settings bytes = settings_by tables bytes
+
+-- the value, where no flaw was read
+abbrev pub value_read : {A : Type 0} (r : Result A SettingsFlaw) → IfErr r (λ flaw. ⊥) → A
+value_read (Ok x) none = x
+value_read (Err flaw) none = absurd none
 
 -- the settings of an empty file: the default of each
 unfoldable pub default_settings : Settings
-unfolding settings_in server deletions addresses namespace entry_lists sizes flush_rules transport
-default_settings = value_read (settings_in (top no_members)) tt
+unfolding read settings_in
+default_settings = value_read (settings_in tables (top no_members)) tt
 
 -- What a record is reckoned by: the interval of rates in milliseconds, the thresholds, the bins, and the names of the
 -- classes of timers' lines that are chosen.

@@ -35,12 +35,9 @@ flag (boolean b) = Ok b
 flag _ = Err OtherKind
 
 -- an integer from least to most
-abbrev pub whole_within : ℕ → ℕ → ℤ → Result ℕ ValueFlaw
-whole_within least most (pos n) = if nat_le least n && nat_le n most then Ok n else Err OutsideRange
-whole_within least most (negsuc n) = Err OutsideRange
-
 abbrev pub whole : ℕ → ℕ → Data → Result ℕ ValueFlaw
-whole least most (integer z) = whole_within least most z
+whole least most (integer (pos n)) = if nat_le least n && nat_le n most then Ok n else Err OutsideRange
+whole least most (integer (negsuc n)) = Err OutsideRange
 whole least most _ = Err OtherKind
 
 -- a string whose bytes pass a test
@@ -105,10 +102,14 @@ abbrev pub are_distinct : {A : Type 0} → (A → A → Bool) → List A → Boo
 are_distinct eq [] = true
 are_distinct eq (x ∷ xs) = not (list_any (λ y. eq y x) xs) && are_distinct eq xs
 
+-- a table, as its members are read
+abbrev pub entry : {A : Type 0} → (Members → Result A ValueFlaw) → Data → Result A ValueFlaw
+entry read (table ms) = read ms
+entry read _ = Err OtherKind
+
 -- the members of a table
 abbrev pub members : Data → Result Members ValueFlaw
-members (table ms) = Ok ms
-members _ = Err OtherKind
+members = entry (λ ms. Ok ms)
 
 -- what an entry has under a name that it has to have
 abbrev pub required : {A : Type 0} → (Data → Result A ValueFlaw) → Option Data → Result A ValueFlaw

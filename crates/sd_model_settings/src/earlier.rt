@@ -1,12 +1,14 @@
 ghost use Rattle.std.specs.Prelude.{◌≡◌, ℕ, false, List, Ok, IfOk};
 ghost use Rattle.sd_model_settings.specs.Settings.{settings};
-ghost use Rattle.sd_model_settings.specs.Earlier.{earlier_settings, settings_before_outlets, settings_before_sums, earlier_rules, earlier_transport};
+ghost use Rattle.sd_model_settings.specs.Earlier.{earlier_settings, settings_before_outlets, settings_before_sums, settings_before_batches, earlier_rules, earlier_transport};
 
 /// A file that was accepted before gauges could live longer, lines of timers were chosen, and a shard had more than 65,536
 /// entries sets the same values: a gauge that goes when idle goes at the first swap, no class of lines is chosen, no text
-/// waits for a backend, no port takes streams of lines, no sum is made on arrival, and no room is asked for. A file that was
-/// accepted later, but before backends had outlets and lines came in streams, sets the same values too, and the last four;
-/// and one that was accepted before sums were made on arrival and receivers asked for room, and the last two.
+/// waits for a backend, no port takes streams of lines, no sum is made on arrival, a proxy answers no admin line, flushes aren't aligned,
+/// a datagram has one line, and no room is asked for. A file that was accepted later, but before backends had outlets and lines came in
+/// streams, sets the same values too, and all from the texts on; one that was accepted before sums were made on arrival and receivers asked
+/// for room, and that no sum is made and no room is asked for; and one that was accepted before a proxy answered admin lines, and the three
+/// that came then.
 pub fn earlier_files()
     ensures kept { (bytes : List ℕ) → IfOk (earlier_settings bytes) (λ v. settings bytes ≡ Ok v) }
     ensures rules { (bytes : List ℕ) → IfOk (earlier_settings bytes) (λ v. v.rules ≡ earlier_rules) }
@@ -16,4 +18,8 @@ pub fn earlier_files()
     ensures kept_before_sums { (bytes : List ℕ) → IfOk (settings_before_sums bytes) (λ v. settings bytes ≡ Ok v) }
     ensures no_sums_before { (bytes : List ℕ) → IfOk (settings_before_sums bytes) (λ v. v.transport.sums_on_arrival ≡ false) }
     ensures no_room_before { (bytes : List ℕ) → IfOk (settings_before_sums bytes) (λ v. v.transport.receive_buffer ≡ 0) }
+    ensures kept_before_batches { (bytes : List ℕ) → IfOk (settings_before_batches bytes) (λ v. settings bytes ≡ Ok v) }
+    ensures none_before_batches { (bytes : List ℕ)
+        → IfOk (settings_before_batches bytes)
+        (λ v. (v.transport.proxy_mgmt_port ≡ 0) × (v.transport.align_flushes ≡ false) × (v.transport.batch_bytes ≡ 0)) }
 {}

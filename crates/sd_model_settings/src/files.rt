@@ -1,7 +1,8 @@
 ghost use Rattle.std.specs.Prelude.{◌≡◌, ◌∷◌, [], pos, codes, Ok, Err, true, false};
 ghost use Rattle.sd_model_text.specs.Numbers.{Below, Infinite};
 ghost use Rattle.sd_model_settings.specs.Settings.{settings, Unknown, WrongKind, OutOfRange, NotToml, default_settings};
-ghost use Rattle.sd_model_settings.specs.ConfigText.{server_lines, deletion_lines, address_lines, namespace_lines, size_lines, rule_lines, transport_lines, histogram_line, repeater_line, node_line};
+ghost use Rattle.sd_model_settings.specs.Table.{server, deletions, addresses, namespace, sizes, flush_rules, transport};
+ghost use Rattle.sd_model_settings.specs.ConfigText.{group_lines, histogram_line, repeater_line, node_line};
 
 /// What files set.
 #[tactic(auto, unfolding(crate::proofs::OnLiterals::settings_on_literals))]
@@ -27,7 +28,7 @@ pub fn accepted_files()
         }) }
     ensures transport { settings (codes "outlets = 2\noutletBytes = 65536\ntcp_port = 8127\n")
         ≡ Ok (record default_settings {
-          transport = record { outlets = 2; outlet_bytes = 65536; tcp_port = 8127; sums_on_arrival = false; receive_buffer = 0 };
+          transport = record default_settings.transport { outlets = 2; outlet_bytes = 65536; tcp_port = 8127 };
         }) }
     ensures sums { settings (codes "sumsOnArrival = true\n")
         ≡ Ok (record default_settings {
@@ -39,6 +40,11 @@ pub fn accepted_files()
           transport = record default_settings.transport { receive_buffer = 1073741824 };
         }) }
     ensures no_room { settings (codes "receiveBuffer = 0\n") ≡ Ok default_settings }
+    ensures batches { settings (codes "proxy_mgmt_port = 8128\nalignFlushes = true\nbatchBytes = 65507\n")
+        ≡ Ok (record default_settings {
+          transport = record default_settings.transport { proxy_mgmt_port = 8128; align_flushes = true; batch_bytes = 65507 };
+        }) }
+    ensures no_batches { settings (codes "proxy_mgmt_port = 0\nalignFlushes = false\nbatchBytes = 0\n") ≡ Ok default_settings }
     ensures most_outlets { settings (codes "outlets = 64\n")
         ≡ Ok (record default_settings {
           transport = record default_settings.transport { outlets = 64 };
@@ -74,6 +80,15 @@ pub fn refused_files()
     ensures sums_as_number { settings (codes "sumsOnArrival = 1\n") ≡ Err (WrongKind (codes "sumsOnArrival")) }
     ensures sums_before_room { settings (codes "receiveBuffer = -1\nsumsOnArrival = 'true'\n")
         ≡ Err (WrongKind (codes "sumsOnArrival")) }
+    ensures too_high_a_port { settings (codes "proxy_mgmt_port = 65536\n") ≡ Err (OutOfRange (codes "proxy_mgmt_port")) }
+    ensures too_large_a_batch { settings (codes "batchBytes = 65508\n") ≡ Err (OutOfRange (codes "batchBytes")) }
+    ensures alignment_as_number { settings (codes "alignFlushes = 1\n") ≡ Err (WrongKind (codes "alignFlushes")) }
+    ensures batches_before_room { settings (codes "receiveBuffer = -1\nbatchBytes = '1'\n") ≡ Err (WrongKind (codes "batchBytes")) }
+    ensures alignment_before_batches { settings (codes "batchBytes = -1\nalignFlushes = 0\n") ≡ Err (WrongKind (codes "alignFlushes")) }
+    ensures proxy_port_before_alignment { settings (codes "alignFlushes = 0\nproxy_mgmt_port = -1\n")
+        ≡ Err (OutOfRange (codes "proxy_mgmt_port")) }
+    ensures sums_before_proxy_port { settings (codes "proxy_mgmt_port = -1\nsumsOnArrival = 0\n")
+        ≡ Err (WrongKind (codes "sumsOnArrival")) }
     ensures port_before_sums { settings (codes "sumsOnArrival = 1\ntcp_port = 65536\n")
         ≡ Err (OutOfRange (codes "tcp_port")) }
     ensures port_before_room { settings (codes "receiveBuffer = true\ntcp_port = 65536\n")
@@ -83,20 +98,20 @@ pub fn refused_files()
 /// The lines of the reply to `config` where nothing is set, and of entries.
 #[tactic(auto, unfolding(crate::proofs::OnLiterals::digits_on_literals))]
 pub fn config_lines_of_files()
-    ensures server_defaults { server_lines default_settings.server
+    ensures server_defaults { group_lines [] server default_settings.server
         ≡ codes "port: 8125\n"
         ∷ codes "mgmt_port: 8126\n"
         ∷ codes "flushInterval: 10000\n"
         ∷ codes "percentThreshold: 90\n"
         ∷ [] }
-    ensures deletion_defaults { deletion_lines default_settings.deletions
+    ensures deletion_defaults { group_lines [] deletions default_settings.deletions
         ≡ codes "deleteIdleStats: false\n"
         ∷ codes "deleteCounters: false\n"
         ∷ codes "deleteTimers: false\n"
         ∷ codes "deleteSets: false\n"
         ∷ codes "deleteGauges: false\n"
         ∷ [] }
-    ensures address_defaults { address_lines default_settings.addresses
+    ensures address_defaults { group_lines [] addresses default_settings.addresses
         ≡ codes "prefixStats: statsd\n"
         ∷ codes "address: 0.0.0.0\n"
         ∷ codes "mgmt_address: 0.0.0.0\n"
@@ -104,7 +119,7 @@ pub fn config_lines_of_files()
         ∷ codes "graphiteHost: 127.0.0.1\n"
         ∷ codes "graphitePort: 2003\n"
         ∷ [] }
-    ensures namespace_defaults { namespace_lines default_settings.namespace
+    ensures namespace_defaults { group_lines (codes "graphite.") namespace default_settings.namespace
         ≡ codes "graphite.legacyNamespace: true\n"
         ∷ codes "graphite.globalPrefix: stats\n"
         ∷ codes "graphite.prefixCounter: counters\n"
@@ -113,7 +128,7 @@ pub fn config_lines_of_files()
         ∷ codes "graphite.prefixSet: sets\n"
         ∷ codes "graphite.globalSuffix: \n"
         ∷ [] }
-    ensures size_defaults { size_lines default_settings.sizes
+    ensures size_defaults { group_lines [] sizes default_settings.sizes
         ≡ codes "checkInterval: 10000\n"
         ∷ codes "cacheSize: 10000\n"
         ∷ codes "shards: 4\n"
@@ -122,24 +137,27 @@ pub fn config_lines_of_files()
         ∷ codes "receivers: 2\n"
         ∷ codes "runFlushes: 0\n"
         ∷ [] }
-    ensures rule_defaults { rule_lines default_settings.rules
+    ensures rule_defaults { group_lines [] flush_rules default_settings.rules
         ≡ codes "gaugesMaxTTL: 1\n"
         ∷ codes "calculatedTimerMetrics: \n"
         ∷ [] }
-    ensures chosen_lines { rule_lines (record { gauges_max_ttl = 2; calculated_timer_metrics = codes "count" ∷ codes "upper_percent" ∷ [] })
+    ensures chosen_lines { group_lines [] flush_rules (record { gauges_max_ttl = 2; calculated_timer_metrics = codes "count" ∷ codes "upper_percent" ∷ [] })
         ≡ codes "gaugesMaxTTL: 2\n"
         ∷ codes "calculatedTimerMetrics: count,upper_percent\n"
         ∷ [] }
-    ensures transport_defaults { transport_lines default_settings.transport
+    ensures transport_defaults { group_lines [] transport default_settings.transport
         ≡ codes "outlets: 0\n"
         ∷ codes "outletBytes: 4194304\n"
         ∷ codes "tcp_port: 0\n"
         ∷ codes "sumsOnArrival: false\n"
+        ∷ codes "proxy_mgmt_port: 0\n"
+        ∷ codes "alignFlushes: false\n"
+        ∷ codes "batchBytes: 0\n"
         ∷ codes "receiveBuffer: 0\n"
         ∷ [] }
-    ensures a_histogram { histogram_line (record { metric = codes "web"; limits = Below (pos 2500000) ∷ Infinite ∷ [] })
+    ensures a_histogram { histogram_line (codes "histogram") (record { metric = codes "web"; limits = Below (pos 2500000) ∷ Infinite ∷ [] })
         ≡ codes "histogram: web 2.5,inf\n" }
-    ensures no_limits { histogram_line (record { metric = codes "web"; limits = [] }) ≡ codes "histogram: web \n" }
-    ensures a_target { repeater_line (record { host = codes "h"; port = 8125 }) ≡ codes "repeater: h:8125\n" }
-    ensures a_node { node_line (record { host = codes "h"; port = 8125; adminport = 8126 }) ≡ codes "nodes: h:8125:8126\n" }
+    ensures no_limits { histogram_line (codes "histogram") (record { metric = codes "web"; limits = [] }) ≡ codes "histogram: web \n" }
+    ensures a_target { repeater_line (codes "repeater") (record { host = codes "h"; port = 8125 }) ≡ codes "repeater: h:8125\n" }
+    ensures a_node { node_line (codes "nodes") (record { host = codes "h"; port = 8125; adminport = 8126 }) ≡ codes "nodes: h:8125:8126\n" }
 {}

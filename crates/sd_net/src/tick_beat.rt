@@ -1,8 +1,9 @@
+use crate::moments::{millis, now};
 use crate::pace::Pace;
 use crate::stop::Stop;
 use crate::turns::take_turn;
-use sd_edge::{Backoff, FlushSeconds};
-use sd_outside::{Beat, Faulty, Tick, fault};
+use sd_edge::{Backoff, FlushSeconds, TickTimes, TimeLimit};
+use sd_outside::{Beat, Faulty, Interval, Tick, fault};
 use std::fs::Files;
 use std::io::{self, ErrorKind};
 use std::thread::sleep;
@@ -11,27 +12,53 @@ use std::time::{Clock, Duration};
 /// How long a beat sleeps before it looks again whether it is to end, in milliseconds: at first, and at most.
 const NAP_MS: (u64, u64) = (50, 800);
 
-/// A beat that ticks at whole multiples of its interval from its start. Where it is asked too late for several ticks, they
-/// are one. A clock that is set back gives no tick a second that an earlier one had. It looks for the stop file, ends once `stop` is
-/// set, and sets it where it fails, so that no other part of a server goes on without it.
+/// A beat that ticks at whole intervals from its start on, or where the system's clock is at a multiple of its interval, as its start
+/// says. Where it is asked too late for several ticks, they are one. A clock that is set back gives no tick a second that an earlier
+/// one had. It looks for the stop file, ends once `stop` is set, and sets it where it fails, so that no other part of a server goes on
+/// without it.
 #[derive(Drop)]
 pub struct TickBeat<'a, R> {
     host: &'a R,
     stop: &'a Stop,
     pace: &'a Pace,
-    started: Option<Duration>,
-    interval: Option<u32>,
-    multiple: u128,
+    interval: Option<Interval>,
+    /// When ticks are due, where the clock could be read at the start.
+    times: Option<TickTimes>,
     seconds: FlushSeconds,
     faults: u64,
     turns: u64,
 }
 
-/// A tick that is due: which multiple of the interval it is, and its Unix second.
+/// A tick that is due: what comes behind it, and its Unix second.
 #[derive(Clone, Copy)]
 struct Due {
-    multiple: u128,
+    times: TickTimes,
     second: u64,
+}
+
+/// The first whole millisecond of the clock that never goes back that isn't past: what is counted from it comes too early by no part of
+/// one.
+///
+/// # Errors
+///
+/// Those of the clock.
+fn next_millisecond(host: &impl Clock) -> io::Result<u64> {
+    Ok(now(host)?.saturating_add(1))
+}
+
+/// When ticks are due that start now.
+///
+/// # Errors
+///
+/// Those of the clocks.
+fn times_from(host: &impl Clock, interval: Interval) -> io::Result<TickTimes> {
+    if interval.is_aligned {
+        let clock = millis(host.since_1970()?);
+        let moment = next_millisecond(host)?;
+        Ok(TickTimes::aligned(interval.ms, moment, clock))
+    } else {
+        Ok(TickTimes::from_start(interval.ms, next_millisecond(host)?))
+    }
 }
 
 impl<'a, R> TickBeat<'a, R> {
@@ -46,9 +73,8 @@ impl<'a, R> TickBeat<'a, R> {
             host,
             stop,
             pace,
-            started: None,
             interval: None,
-            multiple: 0,
+            times: None,
             seconds: FlushSeconds::every(0),
             faults: 0,
             turns: 0,
@@ -65,53 +91,71 @@ impl<'a, R> TickBeat<'a, R> {
 
 impl<'a, R: Clock + Files> TickBeat<'a, R> {
     /// Waits until a tick is due, or it is to end.
+    ///
+    /// # Errors
+    ///
+    /// `InvalidInput` where it wasn't started, and those of the clocks.
     fn wait(&self) -> io::Result<Option<Due>> {
-        let (Some(started), Some(interval)) = (self.started, self.interval) else {
+        let Some(times) = self.times else {
             return Err(io::Error::from(ErrorKind::InvalidInput));
         };
-        let interval = u128::from(interval.max(1));
+        let due = TimeLimit { end: times.due };
         let mut nap = Backoff::between(NAP_MS.0, NAP_MS.1);
         for _ in 0..u64::MAX {
             if self.stop.seen_at(self.host).is_some() {
                 return Ok(None);
             }
-            let elapsed = self.host.monotonic()?.saturating_sub(started).as_millis();
-            let multiple = elapsed / interval;
-            if multiple > self.multiple {
-                let second = self.host.since_1970()?.as_secs();
-                return Ok(Some(Due { multiple, second }));
+            let moment = now(self.host)?;
+            match due.left(moment) {
+                Some(left) => sleep(self.host, Duration::from_millis(left.min(nap.wait))),
+                None => return self.due_at(times, moment),
             }
-            let rest = u64::try_from(interval - elapsed % interval).unwrap_or(nap.most);
-            sleep(self.host, Duration::from_millis(rest.min(nap.wait)));
             nap.grow();
         }
         Ok(None)
     }
 
+    /// The tick that is due by a moment.
+    ///
+    /// # Errors
+    ///
+    /// Those of the system's clock.
+    fn due_at(&self, mut times: TickTimes, moment: u64) -> io::Result<Option<Due>> {
+        let clock = self.host.since_1970()?;
+        match self.interval {
+            Some(
+                Interval {
+                    is_aligned: true,
+                    ..
+                },
+            ) => times.pass_aligned(next_millisecond(self.host)?, millis(clock)),
+            _ => times.pass(moment),
+        }
+        Ok(Some(Due {
+            times,
+            second: clock.as_secs(),
+        }))
+    }
+
     /// Tells the second of the last flush: that at which the next tick would have come.
     fn tell_last(&self) {
-        let (Some(started), Some(interval)) = (self.started, self.interval) else {
+        let Some(times) = self.times else {
             return;
         };
-        let (Ok(now), Ok(time)) = (self.host.monotonic(), self.host.since_1970()) else {
+        let (Ok(moment), Ok(clock)) = (now(self.host), self.host.since_1970()) else {
             return;
         };
-        let interval = u128::from(interval.max(1));
-        let elapsed = now.saturating_sub(started).as_millis();
-        let rest = if elapsed / interval > self.multiple {
-            0
-        } else {
-            u64::try_from(interval - elapsed % interval).unwrap_or(0)
-        };
-        let tick = time.saturating_add(Duration::from_millis(rest)).as_secs();
+        let left = TimeLimit { end: times.due }.left(moment).unwrap_or(0);
+        let tick = clock.saturating_add(Duration::from_millis(left)).as_secs();
         self.pace.end(self.seconds.last(tick));
     }
 }
 
 impl<'a, R> Faulty for TickBeat<'a, R> {
-    ghost use Rattle.std.specs.Prelude.{min, false, None};
+    ghost use Rattle.std.specs.Prelude.{min, false, None, option_map};
     ghost use Rattle.std.proofs.Common.{arith};
     ghost use Rattle.sd_model_outside.specs.Outside.{Object, Untold, last_count};
+    ghost use Rattle.sd_outside.specs.Intervals.{interval_view};
 
     ghost seen = { λ s. record {
       told = Untold;
@@ -119,7 +163,7 @@ impl<'a, R> Faulty for TickBeat<'a, R> {
       opened_at = None;
       turns = min s.turns last_count;
       is_out = false;
-      interval = s.interval;
+      interval = option_map interval_view s.interval;
     } };
 
     ghost faults_fit = { λ s. omega arith };
@@ -128,19 +172,18 @@ impl<'a, R> Faulty for TickBeat<'a, R> {
 impl<'a, R: Clock + Files> Beat for TickBeat<'a, R> {
     ghost use Rattle.std.proofs.Common.{arith};
 
-    fn start(&mut self, interval_ms: u32) {
-        self.started = self.host.monotonic().ok();
-        self.interval = Some(interval_ms);
-        self.multiple = 0;
-        self.seconds = FlushSeconds::every(interval_ms);
-        self.pace.start(interval_ms);
+    fn start(&mut self, interval: Interval) {
+        self.interval = Some(interval);
+        self.times = times_from(self.host, interval).ok();
+        self.seconds = FlushSeconds::every(interval.ms);
+        self.pace.start(interval.ms);
         self.stop.watch();
     }
 
     fn next(&mut self) -> Tick {
         match self.wait() {
             Ok(Some(due)) => {
-                self.multiple = due.multiple;
+                self.times = Some(due.times);
                 take_turn(&mut self.turns);
                 Tick::At(self.seconds.next(due.second))
             }

@@ -1,6 +1,7 @@
 pub mod Answers
 pub mod ByteStore
 pub mod CountSink
+pub mod Intervals
 pub mod MemBackend
 pub mod MemBeat
 pub mod MemDatagrams

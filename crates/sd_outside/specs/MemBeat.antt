@@ -1,7 +1,8 @@
 -- What a beat in memory has, and what its calls leave.
-use Rattle.std.specs.Prelude.{ℕ, List, Contains, drop, false, None, min}
+use Rattle.std.specs.Prelude.{ℕ, List, Contains, drop, false, None, min, option_map}
 use Rattle.sd_model_outside.specs.Outside.{Object, Ticks, last_count}
 use Rattle.sd_model_outside.specs.Turns.{GivesTick}
+use Rattle.sd_outside.specs.Intervals.{interval_view}
 use Rattle.sd_outside.specs.declared.mem_beat.MemBeat.{MemBeat}
 
 -- the ticks that it has left
@@ -17,7 +18,7 @@ seen_of b =
       opened_at = None;
       turns = min b.turns last_count;
       is_out = false;
-      interval = b.interval;
+      interval = option_map interval_view b.interval;
     }
 
 -- how many ticks were asked for, up to the last count

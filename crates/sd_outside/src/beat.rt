@@ -2,8 +2,18 @@ ghost use Rattle.std.specs.Prelude.{◌≡◌, ◌≤◌};
 ghost use Rattle.sd_model_outside.specs.Outside.{HasFailed, last_count};
 ghost use Rattle.sd_model_outside.specs.Turns.{GivesTick, IsSpent, with_interval};
 ghost use Rattle.sd_outside.specs.Answers.{MatchTick};
+ghost use Rattle.sd_outside.specs.Intervals.{interval_view};
 
 use crate::opens::Faulty;
+
+/// How far the ticks of a beat are apart.
+#[derive(Clone, Copy, Debug, PartialEq, Eq)]
+pub struct Interval {
+    /// In milliseconds.
+    pub ms: u32,
+    /// Whether ticks come where the system's clock is at a multiple of that, and not counted from the start on.
+    pub is_aligned: bool,
+}
 
 /// What a beat answers.
 #[derive(Clone, Copy, Debug, PartialEq, Eq)]
@@ -19,9 +29,9 @@ pub enum Tick {
 /// An object that says when a flush is due. It tells the Unix seconds of the flushes that it has left, or nothing, and
 /// always the interval of its last start, and its turns: how often it answered `At`, up to 2^64 - 1.
 pub trait Beat: Faulty {
-    /// Starts it with an interval between flushes, in milliseconds.
-    fn start(&mut self, interval_ms: u32)
-        ensures { Self.seen self.new ≡ with_interval interval_ms (Self.seen self.old) };
+    /// Starts it with an interval between flushes.
+    fn start(&mut self, interval: Interval)
+        ensures { Self.seen self.new ≡ with_interval (interval_view interval) (Self.seen self.old) };
 
     /// The Unix second of the next flush. It may wait.
     fn next(&mut self) -> Tick

@@ -36,7 +36,7 @@ mod wire;
 
 pub use address::{Address, Name};
 pub use backend::{Backend, Backs};
-pub use beat::{Beat, Tick};
+pub use beat::{Beat, Interval, Tick};
 pub use calls::{fault, opening_fault};
 pub use clock::Clock;
 pub use count_sink::CountSink;

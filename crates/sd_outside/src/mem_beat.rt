@@ -1,7 +1,7 @@
 ghost use Rattle.std.specs.Prelude.{◌≤◌, vec_len};
 ghost use Rattle.std.proofs.Common.{arith};
 
-use crate::beat::{Beat, Tick};
+use crate::beat::{Beat, Interval, Tick};
 use crate::calls::{fault, next_call_fails};
 use crate::opens::Faulty;
 
@@ -10,7 +10,7 @@ use crate::opens::Faulty;
 pub struct MemBeat {
     ticks: Vec<u64>,
     taken: usize,
-    interval: Option<u32>,
+    interval: Option<Interval>,
     faults: u64,
     turns: u64,
     calls: u64,
@@ -20,8 +20,9 @@ pub struct MemBeat {
 }
 
 impl MemBeat {
-    ghost use Rattle.std.specs.Prelude.{◌≡◌, []};
+    ghost use Rattle.std.specs.Prelude.{◌≡◌, [], option_map};
     ghost use Rattle.sd_model_outside.specs.Outside.{Ticks, fresh};
+    ghost use Rattle.sd_outside.specs.Intervals.{interval_view};
     ghost use Rattle.sd_outside.specs.MemBeat.{calls_of};
 
     /// A beat that has the ticks left, wasn't started, and of which no call is to fail.
@@ -63,9 +64,9 @@ impl MemBeat {
         self.turns
     }
 
-    /// The interval of its last start, in milliseconds, if it was started.
-    pub fn interval(&self) -> Option<u32>
-        ensures { result ≡ (⟦<MemBeat as Faulty>⟧.seen self.now).interval }
+    /// The interval of its last start, if it was started.
+    pub fn interval(&self) -> Option<Interval>
+        ensures { option_map interval_view result ≡ (⟦<MemBeat as Faulty>⟧.seen self.now).interval }
     {
         self.interval
     }
@@ -84,14 +85,15 @@ impl Beat for MemBeat {
     ghost use Rattle.sd_model_outside.specs.Outside.{raised};
     ghost use Rattle.sd_model_outside.specs.Turns.{with_interval};
     ghost use Rattle.sd_outside.specs.Answers.{Fails, HasEnded, MatchTick};
+    ghost use Rattle.sd_outside.specs.Intervals.{interval_view};
     ghost use Rattle.sd_outside.specs.MemBeat.{Gives, IsToFail, calls_of, left_of, seen_of};
 
-    fn start(&mut self, interval_ms: u32)
-        ensures started { seen_of self.new ≡ with_interval interval_ms (seen_of self.old) }
+    fn start(&mut self, interval: Interval)
+        ensures started { seen_of self.new ≡ with_interval (interval_view interval) (seen_of self.old) }
         ensures no_call { calls_of self.new ≡ calls_of self.old }
         ensures failures_stay { self.new.fail_call ≡ self.old.fail_call }
     {
-        self.interval = Some(interval_ms);
+        self.interval = Some(interval);
     }
 
     fn next(&mut self) -> Tick

@@ -15,7 +15,7 @@ use Rattle.sd_pool.specs.Noted.{acts}
 use Rattle.sd_pool.specs.Behind.{setup_of}
 use Rattle.sd_pool.specs.TurnSeats.{AreSeatsOf}
 use Rattle.sd_pool.specs.Along.{Along}
-use Rattle.sd_pool.specs.Pool.{OwnTurn, OwnSeat, turns_in, no_setup, setup_in, setup_at, receivers_of, HasRoom, HasPlaceForOne, HasRoomForOne, IsPool, IsRoomOf, IsSeatOf, IsNewSeatOf, who_is}
+use Rattle.sd_pool.specs.Pool.{OwnTurn, OwnSeat, turns_in, no_setup, setup_in, setup_at, receivers_of, HasRoom, IsPool, IsRoomOf, IsSeatOf, IsNewSeatOf, who_is}
 use Rattle.sd_pool.specs.Dealing.{the_setup, IsNew, Given, IsDealt, AreDealt, AreSetUp}
 use Rattle.sd_pool.specs.declared.pool.Pool.{Pool}
 use Rattle.sd_pool.specs.declared.pool.ShardTurn.{ShardTurn}
@@ -24,7 +24,7 @@ use Rattle.sd_pool.specs.declared.seat.Room.{Room}
 use Rattle.sd_pool.proofs.StandsLemmas.{All-push}
 use Rattle.sd_pool.proofs.CloseLemmas.{get_push, get_last}
 
-AreSeatsOf-push : {V A R N F : Type 0} {g : Ghosts V A R N F} (turns : List (Turn V A R N F)) (seats : List (TurnSeat V A R N F g)) (n : ℕ) (t : Turn V A R N F) (s : TurnSeat V A R N F g)
+AreSeatsOf-push : {V N F : Type 0} {g : Ghosts V N F} (turns : List (Turn V N F)) (seats : List (TurnSeat V N F g)) (n : ℕ) (t : Turn V N F) (s : TurnSeat V N F g)
     → AreSeatsOf turns seats n → IsTurnSeatOf t s → number_of s ≡ n → AreSeatsOf (turns ++ t ∷ []) (seats ++ s ∷ []) n
 AreSeatsOf-push [] [] n t s are is named = (is, named, tt)
 AreSeatsOf-push (u ∷ turns) (v ∷ seats) n t s are is named = (are.0, are.1, AreSeatsOf-push turns seats n t s are.2 is named)
@@ -42,8 +42,6 @@ dealt_more turns t r n o m s is given named new = record {
   seats = subst (λ (ts : List OwnTurn). AreSeatsOf ts m.seats.items n) (sym (map_push (λ (u : ShardTurn). u.turn) turns t))
       (subst (λ (ss : List OwnSeat). AreSeatsOf (turns_in turns ++ t.turn ∷ []) ss n) (sym given.1) (AreSeatsOf-push (turns_in turns) o.seats.items n t.turn s is.seats new.0 named));
   new = subst (AllByRecursion IsNew) (sym given.1) (All-push IsNew o.seats.items s is.new (new.1, new.2));
-  samples = subst HasPlaceForOne (sym given.2) is.samples;
-  patterns = subst HasRoomForOne (sym given.3) is.patterns;
 }
 
 pub deal_more : (turns : List ShardTurn) (t : ShardTurn) (r n k : ℕ) (os ns : List Seat) (ss : List OwnSeat) → AreDealt turns r n os → Along Given os ns ss → map (λ (s : OwnSeat). number_of s) ss ≡ span n k
@@ -156,8 +154,6 @@ module _ (pool : Pool) (limits : Limits) (policy : Policy) (r : ℕ) (some : 1 �
         who = is.who ∙ ap (λ m. who_of m n) (sym receivers_are);
         seats = is.seats;
       };
-      samples = is.samples;
-      patterns = is.patterns;
     };
     seen = none_seen s.seats.items is.new;
     own = none_made s.seats.items is.new;

@@ -24,22 +24,22 @@ module _ {X Y : Type 0} (f : X → Y) where
   off_set (y ∷ xs) (suc i) zero x d other = refl
   off_set (y ∷ xs) (suc i) (suc j) x d other = off_set xs i j x d (λ q. other (ap suc q))
 
-module _ {V A R N F : Type 0} {g : Ghosts V A R N F} where
-  pub seats_long : (turns : List (Turn V A R N F)) (seats : List (TurnSeat V A R N F g)) (number : ℕ) → AreSeatsOf turns seats number → length seats ≡ length turns
+module _ {V N F : Type 0} {g : Ghosts V N F} where
+  pub seats_long : (turns : List (Turn V N F)) (seats : List (TurnSeat V N F g)) (number : ℕ) → AreSeatsOf turns seats number → length seats ≡ length turns
   seats_long [] [] number all = refl
   seats_long [] (s ∷ seats) number all = absurd all
   seats_long (t ∷ turns) [] number all = absurd all
   seats_long (t ∷ turns) (s ∷ seats) number all = let rest = seats_long turns seats number all.2 in omega arith
 
-  pub seat_at : (turns : List (Turn V A R N F)) (seats : List (TurnSeat V A R N F g)) (number : ℕ) → AreSeatsOf turns seats number
-      → (i : ℕ) (t : Turn V A R N F) (s : TurnSeat V A R N F g) → i < length turns → IsSeatOf (get_or turns i t) (get_or seats i s) × (number_of (get_or seats i s) ≡ number)
+  pub seat_at : (turns : List (Turn V N F)) (seats : List (TurnSeat V N F g)) (number : ℕ) → AreSeatsOf turns seats number
+      → (i : ℕ) (t : Turn V N F) (s : TurnSeat V N F g) → i < length turns → IsSeatOf (get_or turns i t) (get_or seats i s) × (number_of (get_or seats i s) ≡ number)
   seat_at [] seats number all i t s below = absurd (omega (arith, below))
   seat_at (u ∷ turns) [] number all i t s below = absurd all
   seat_at (u ∷ turns) (v ∷ seats) number all zero t s below = (all.0, all.1)
   seat_at (u ∷ turns) (v ∷ seats) number all (suc i) t s below = seat_at turns seats number all.2 i t s (omega arith)
 
-  pub seats_set : (turns : List (Turn V A R N F)) (seats : List (TurnSeat V A R N F g)) (number : ℕ) → AreSeatsOf turns seats number
-      → (i : ℕ) (t : Turn V A R N F) (s : TurnSeat V A R N F g) → i < length turns → IsSeatOf (get_or turns i t) s → number_of s ≡ number → AreSeatsOf turns (set seats i s) number
+  pub seats_set : (turns : List (Turn V N F)) (seats : List (TurnSeat V N F g)) (number : ℕ) → AreSeatsOf turns seats number
+      → (i : ℕ) (t : Turn V N F) (s : TurnSeat V N F g) → i < length turns → IsSeatOf (get_or turns i t) s → number_of s ≡ number → AreSeatsOf turns (set seats i s) number
   seats_set [] seats number all i t s below is named = absurd (omega (arith, below))
   seats_set (u ∷ turns) [] number all i t s below is named = absurd all
   seats_set (u ∷ turns) (v ∷ seats) number all zero t s below is named = (is, named, all.2)

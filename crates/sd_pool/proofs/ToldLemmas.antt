@@ -63,8 +63,3 @@ module _ (b : Behind) (kind : Kind) where
       few = few;
       room = same;
     }
-
--- the one that goes along
-pub only_one : {X : Type 0} (list : List X) (x d : X) → length list ≡ 1 → x ≡ get_or list 0 x → x ≡ get_or list 0 d
-only_one [] x d one is = absurd (omega (arith, one))
-only_one (y ∷ list) x d one is = is

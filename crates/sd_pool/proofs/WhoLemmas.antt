@@ -5,10 +5,9 @@ use Rattle.std.specs.List.{AllByRecursion}
 use Rattle.std.proofs.lemmas.Bool.{eqb-true, ltb-true}
 use Rattle.std.proofs.lemmas.List.{map-append}
 use Rattle.sd_model_shard.specs.History.{Act, History, part_of}
-use Rattle.sd_turn.specs.Entries.{Begins, GoesOn, pick, entries_by}
+use Rattle.sd_turn.specs.Entries.{Begins, GoesOnBy, pick, entries_by}
 use Rattle.sd_pool.specs.Setup.{Setup, IsOwn, who_of}
 use Rattle.sd_pool.specs.Noted.{Noted, acts, IsBySeat}
-use Rattle.sd_pool.proofs.StandsLemmas.{acts-push}
 
 -- a number stands for itself, or is one of the last two
 abbrev Stands : ℕ → ℕ → ℕ → Type 0
@@ -62,11 +61,11 @@ acts_own r n (e ∷ log) few low all =
       by_test false true h rest = absurd (cc)
       by_test false false h rest = rest
 
-acts-append : (xs ys : List Noted) → acts (xs ++ ys) ≡ acts xs ++ acts ys
+pub acts-append : (xs ys : List Noted) → acts (xs ++ ys) ≡ acts xs ++ acts ys
 acts-append xs ys = map-append {B = Act} (λ (n : Noted). n.act) xs ys
 
-pub GoesOn-acts : (old new : List Noted) (e : Noted) → GoesOn old new e → GoesOn (acts old) (acts new) e.act
-GoesOn-acts old new e g = (acts g.0, ap acts g.1 ∙ acts-push (old ++ g.0) e ∙ ap (λ (l : History). l ++ e.act ∷ []) (acts-append old g.0))
+pub GoesOn-acts : (old new es : List Noted) → GoesOnBy old new es → GoesOnBy (acts old) (acts new) (acts es)
+GoesOn-acts old new es g = (acts g.0, ap acts g.1 ∙ acts-append (old ++ g.0) es ∙ ap (λ (l : History). l ++ acts es) (acts-append old g.0))
 
 pub Begins-acts : (seen log : List Noted) → Begins seen log → Begins (acts seen) (acts log)
 Begins-acts seen log b = (acts b.0, ap acts b.1 ∙ acts-append seen b.0)

@@ -9,15 +9,13 @@ use Rattle.sd_model_shard.specs.Whereabouts.{told_by}
 use Rattle.sd_turn.specs.declared.turn.Turn.{Turn}
 use Rattle.sd_turn.specs.declared.turn_seat.TurnSeat.{TurnSeat}
 use Rattle.sd_turn.specs.Turn.{opened_with, seen, own}
-use Rattle.sd_turn.specs.Entries.{Begins, GoesOn}
+use Rattle.sd_turn.specs.Entries.{Begins, GoesOnBy}
 use Rattle.sd_pool.specs.Setup.{Setup, IsOwn, who_of}
 use Rattle.sd_pool.specs.Noted.{Noted, acts}
 use Rattle.sd_pool.specs.Behind.{Behind, setup_of}
 use Rattle.sd_pool.specs.Books.{IsBookOf}
 use Rattle.sd_pool.specs.TurnSeats.{AreSeatsOf}
 use Rattle.sd_pool.specs.contracts.value.ShardValueStepped.TheImpl.{ghosts}
-use Rattle.sd_pool.specs.declared.asks.ShardAsk.{ShardAsk}
-use Rattle.sd_pool.specs.declared.asks.ShardReply.{ShardReply}
 use Rattle.sd_pool.specs.declared.pool.Pool.{Pool}
 use Rattle.sd_pool.specs.declared.pool.ShardTurn.{ShardTurn}
 use Rattle.sd_pool.specs.declared.seat.Seat.{Seat}
@@ -28,11 +26,11 @@ use Rattle.std.specs.declared.vec.Vec.{Vec}
 
 -- a shard's turn
 abbrev pub OwnTurn : Type 0
-OwnTurn = Turn Behind ShardAsk ShardReply Noted Setup
+OwnTurn = Turn Behind Noted Setup
 
 -- a seat of it
 abbrev pub OwnSeat : Type 0
-OwnSeat = TurnSeat Behind ShardAsk ShardReply Noted Setup ghosts
+OwnSeat = TurnSeat Behind Noted Setup ghosts
 
 -- how many shards there are
 abbrev pub shards_of : Pool → ℕ
@@ -92,19 +90,9 @@ pub record Sits (pool : Pool) (caller : ℕ) (all : List OwnSeat) : Type 0 where
   pub who : caller ≡ who_of (receivers_of pool) number
   pub seats : AreSeatsOf (turns_in pool.turns.items) all number
 
--- there is room for one, and none there
-abbrev pub HasRoomForOne : {X : Type 0} → Vec X Global → Type 0
-HasRoomForOne list = (list.items ≡ []) × (1 ≤ vec_capacity list)
-
--- there is room for one, which may be there
-abbrev pub HasPlaceForOne : {X : Type 0} → Vec X Global → Type 0
-HasPlaceForOne list = (length list.items ≤ 1) × (1 ≤ vec_capacity list)
-
 -- The seat is one of this pool's.
 pub record IsSeatOf (pool : Pool) (seat : Seat) : Type 0 where
   pub sits : Sits pool seat.who.0 seat.seats.items
-  pub samples : HasPlaceForOne seat.samples
-  pub patterns : HasRoomForOne seat.patterns
 
 -- the caller
 abbrev pub who_is : Seat → ℕ
@@ -124,15 +112,20 @@ pub record IsNewSeatOf (pool : Pool) (seat : Seat) : Type 0 where
   pub seen : (i : ℕ) → seen_at seat i ≡ []
   pub own : (i : ℕ) → own_at seat i ≡ []
 
--- A seat's call left an act at shard i, of a legal history with samples of that shard's keys alone, and nothing at other shards.
-pub record Acts (pool : Pool) (old new : Seat) (i : ℕ) (a : Act) : Type 0 where
+-- A seat's call left acts at shard i, next to each other, of a legal history with samples of that shard's keys alone, and nothing at
+-- other shards.
+pub record ActsAll (pool : Pool) (old new : Seat) (i : ℕ) (made : History) : Type 0 where
   pub who : who_is new ≡ who_is old
-  pub seen : GoesOn (seen_at old i) (seen_at new i) a
+  pub seen : GoesOnBy (seen_at old i) (seen_at new i) made
   pub legal : Legal (limits_of pool) (policy_of pool) (seen_at new i)
   pub home : AllByRecursion (λ b. IsOwn (setup_at pool i) b.event) (seen_at new i)
-  pub own : own_at new i ≡ own_at old i ++ a ∷ []
+  pub own : own_at new i ≡ own_at old i ++ made
   pub all : own_at new i ≡ acts_by (who_is new) (seen_at new i)
   pub others : (j : ℕ) → j ≢ i → (seen_at new j ≡ seen_at old j) × (own_at new j ≡ own_at old j)
+
+-- A seat's call left one act at shard i, and nothing at other shards.
+abbrev pub Acts : Pool → Seat → Seat → ℕ → Act → Type 0
+Acts pool old new i a = ActsAll pool old new i (a ∷ [])
 
 -- the act of a seat
 abbrev pub act_by : Seat → Event → Reply → Act

@@ -26,13 +26,9 @@ fn open_callers(alloc: Global, receivers: u16) -> Result<Vec<Seat>, AllocError>
 {
     let mut all = Vec::new(alloc);
     for number in 0..receivers + 2 {
-        let samples = Vec::with_capacity(alloc, 1)?;
-        let patterns = Vec::with_capacity(alloc, 1)?;
         all.push(Seat {
             who: caller(receivers, number),
             seats: Vec::new(alloc),
-            samples,
-            patterns,
         })?;
     }
     Ok(all)
@@ -46,6 +42,7 @@ fn open_turn(
     number: u16,
     shards: u16,
     receivers: u16,
+    seed: u64,
 ) -> Result<(Turn<ShardValue>, Vec<TurnSeat<ShardValue>>), AllocError>
     requires limits { AreLimits (limits_seen limits) }
     requires receivers { receivers ≤ 17 }
@@ -53,7 +50,7 @@ fn open_turn(
     ensures numbers { IfOk result (λ r. map number_of r.1.items ≡ span 0 (receivers + 2)) }
     ensures seats { IfOk result (λ r. All (IsNewTurnSeatOf r.0) r.1.items) }
 {
-    let value = ShardValue::open(alloc, limits, policy, number, shards, receivers)?;
+    let value = ShardValue::open(alloc, limits, policy, number, shards, receivers, seed)?;
     Turn::open(alloc, value, receivers + 2)
 }
 
@@ -71,7 +68,8 @@ fn deal(all: &mut [Seat], list: &mut Vec<TurnSeat<ShardValue>>) -> Result<(), Al
 }
 
 impl Pool {
-    /// So many empty shards, each behind a turn of its own, and the seats. Only this call takes memory.
+    /// So many empty shards, each behind a turn of its own, and the seats. Their rows are found by hashes under a seed. Only this call
+    /// takes memory.
     ///
     /// # Errors
     ///
@@ -82,6 +80,7 @@ impl Pool {
         policy: Policy,
         shards: u16,
         receivers: u16,
+        seed: u64,
     ) -> Result<(Pool, Seats), AllocError>
         requires limits { AreLimits (limits_seen limits) }
         requires shards { (1 ≤ shards) × (shards ≤ 16) }
@@ -98,7 +97,9 @@ impl Pool {
         let mut turns = Vec::new(alloc);
         let mut lists = Vec::new(alloc);
         for number in 0..shards {
-            let (turn, mut list) = open_turn(alloc, limits, policy, number, shards, receivers)?;
+            let (turn, mut list) = open_turn(
+                alloc, limits, policy, number, shards, receivers, seed,
+            )?;
             deal(&mut all, &mut list)?;
             turns.push(ShardTurn { turn })?;
             lists.push(list)?;
@@ -109,11 +110,7 @@ impl Pool {
         let Some(flusher) = all.pop() else {
             unreachable!()
         };
-        let pool = Pool {
-            alloc,
-            shards,
-            turns,
-        };
+        let pool = Pool { shards, turns };
         let seats = Seats {
             receivers: all,
             flusher,

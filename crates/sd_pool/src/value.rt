@@ -12,7 +12,6 @@ ghost use Rattle.sd_pool.specs.Setup.{who_of};
 ghost use Rattle.sd_pool.specs.Behind.{setup_of, Stands, Steps as IsStep};
 ghost use Rattle.sd_spares.specs.Tables.{IsSpare};
 
-use crate::asks::{ShardAsk, ShardReply};
 use crate::noted::Noted;
 use crate::setup::Setup;
 use sd_epoch::{Limits, Table, Who};
@@ -68,7 +67,7 @@ impl ShardValue {
     ghost use Rattle.sd_pool.specs.Books.{IsBookOf};
     ghost use Rattle.sd_pool.specs.Asks.{gone_of, shown_of, IsOwnTable, KeysGoOn, RowsGoOn};
 
-    /// An empty shard of this number.
+    /// An empty shard of this number, whose rows are found by hashes under a seed.
     pub(crate) fn open(
         alloc: Global,
         limits: Limits,
@@ -76,13 +75,14 @@ impl ShardValue {
         number: u16,
         shards: u16,
         receivers: u16,
+        seed: u64,
     ) -> Result<ShardValue, AllocError>
         requires { AreLimits (limits_of limits) }
         ensures setup { IfOk result (λ v. setup_of v ≡ record { limits = limits_of limits; policy = policy_of policy; shard = number; shards = shards; receivers = receivers }) }
         ensures empty { IfOk result (λ v. Stands v []) }
     {
         Ok(ShardValue {
-            shard: Shard::open(alloc, limits, policy)?,
+            shard: Shard::open(alloc, limits, policy, seed)?,
             number,
             shards,
             receivers,
@@ -96,14 +96,14 @@ impl ShardValue {
         self.shard.book()
     }
 
-    fn sample(&mut self, s: &Sample) -> Placed
+    pub(crate) fn sample(&mut self, s: &Sample) -> Placed
         requires own { shard s.now.key self.old.shards ≡ self.old.number }
         ensures step { IsStep self.old self.new (Submit s.now) (Answered (placed_of result)) }
     {
         self.shard.sample(s)
     }
 
-    fn delete(&mut self, kind: Kind, pattern: &Pattern, out: &mut Keys) -> Deleted
+    pub(crate) fn delete(&mut self, kind: Kind, pattern: &Pattern, out: &mut Keys) -> Deleted
         requires room { length out.old.items + self.old.shard.table.limits.rows ≤ out.old.room }
         ensures step { IsStep self.old self.new (Delete (kind_of kind) pattern.now) (gone_of out.old.items out.new.items result) }
         ensures out { KeysGoOn (setup_of self.old) out.old out.new result }
@@ -113,7 +113,7 @@ impl ShardValue {
         self.shard.delete(kind, pattern, out)
     }
 
-    fn dump(&mut self, kind: Kind, out: &mut Dump)
+    pub(crate) fn dump(&mut self, kind: Kind, out: &mut Dump)
         requires room { length out.old.items + self.old.shard.table.limits.rows ≤ out.old.room }
         ensures step { IsStep self.old self.new (DumpOf (kind_of kind)) (shown_of (rows_of out.old) (rows_of out.new)) }
         ensures out { RowsGoOn (setup_of self.old) out.old out.new }
@@ -123,7 +123,7 @@ impl ShardValue {
         self.shard.dump(kind, out);
     }
 
-    fn swap(&mut self, spare: Table) -> Table
+    pub(crate) fn swap(&mut self, spare: Table) -> Table
         requires spare { IsSpare self.old.shard.table.limits spare }
         ensures step { IsStep self.old self.new Swap (Swapped (table_of result)) }
         ensures table { IsOwnTable (setup_of self.old) result }
@@ -133,64 +133,21 @@ impl ShardValue {
 }
 
 impl Stepped for ShardValue {
-    type Ask = ShardAsk;
-
-    type Reply = ShardReply;
-
     type Noted = Noted;
 
     type Fixed = Setup;
 
-    ghost use Rattle.std.specs.Prelude.{◌+◌, refl};
     ghost use Rattle.sd_pool.specs.Noted.{IsLegal};
-    ghost use Rattle.sd_pool.specs.Behind.{setup_of, Stands};
-    ghost use Rattle.sd_pool.specs.Asks.{Allows, Replies, entry_of};
 
     ghost fixed = { setup_of };
 
     ghost seats = { λ setup. setup.receivers + 2 };
 
-    ghost allows = { Allows };
-
     ghost legal = { IsLegal };
 
     ghost stands = { Stands };
 
-    ghost entry = { entry_of };
-
     ghost who = { λ n. n.number };
 
-    ghost replies = { Replies };
-
-    fn apply(&mut self, number: u16, ask: ShardAsk) -> ShardReply {
-        // (what a shard does is one for all callers)
-        let _ = number;
-        match ask {
-            ShardAsk::Sample { samples } => {
-                let placed = self.sample(&samples[0]);
-                ShardReply::Placed { placed, samples }
-            }
-            ShardAsk::Delete {
-                kind,
-                patterns,
-                mut out,
-            } => {
-                let gone = self.delete(kind, &patterns[0], &mut out);
-                ShardReply::Deleted {
-                    gone,
-                    patterns,
-                    out,
-                }
-            }
-            ShardAsk::Dump { kind, mut out } => {
-                self.dump(kind, &mut out);
-                ShardReply::Dumped(out)
-            }
-            ShardAsk::Swap(spare) => ShardReply::Swapped(self.swap(spare)),
-        }
-    }
-
     ghost stands_legal = { λ v log stands. stands.legal };
-
-    ghost entry_names = { λ setup number ask reply. refl };
 }

@@ -49,7 +49,7 @@ fn put_counter(table: &Table, i: u32, plan: &Reckoning, row: &mut Row)
     let weight = table.row(i).weight;
     let per_second = per_second(weight, plan.interval_ms);
     if let Row::Counter { key, count, rate } = row {
-        key.clone_from(&table.get(i).key);
+        key.clone_from(table.get(i).key);
         *count = weight;
         *rate = per_second;
     } else {
@@ -72,10 +72,10 @@ fn put_timer(table: &Table, i: u32, plan: &Reckoning, room: &mut Scratch, row: &
     let weight = table.row(i).weight;
     table.values_of(i, room);
     if let Row::Timer { key, timer } = row {
-        key.clone_from(&table.get(i).key);
+        key.clone_from(table.get(i).key);
         put_timer_of(key, weight, room.values(), plan, timer);
     } else {
-        put_new_timer(&table.get(i).key, weight, room.values(), plan, row);
+        put_new_timer(table.get(i).key, weight, room.values(), plan, row);
     }
 }
 
@@ -101,7 +101,7 @@ fn put_gauge(table: &Table, i: u32, row: &mut Row)
 {
     let gauge = table.gauge_of(i);
     if let Row::Gauge { key, value } = row {
-        key.clone_from(&table.get(i).key);
+        key.clone_from(table.get(i).key);
         *value = gauge;
     } else {
         *row = Row::Gauge {
@@ -121,7 +121,7 @@ fn put_set(table: &Table, i: u32, room: &mut Scratch, row: &mut Row)
     table.members_of(i, room);
     let members = distinct(room.members());
     if let Row::Set { key, count } = row {
-        key.clone_from(&table.get(i).key);
+        key.clone_from(table.get(i).key);
         *count = members;
     } else {
         *row = Row::Set {

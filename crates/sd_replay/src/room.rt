@@ -9,6 +9,9 @@ use sd_shards::Shards;
 use std::alloc::{AllocError, Global};
 use std::marker::Model;
 
+/// The seed of the hashes by which rows are found.
+const SEED: u64 = 0;
+
 /// All that a replay works on, in room taken when it was opened for its settings. Nothing was done yet.
 #[derive(Drop)]
 pub struct ReplayRoom {
@@ -47,7 +50,7 @@ impl ReplayRoom {
         let shards = settings.shards() as u16;
         let rows = u32::from(shards) * limits.rows;
         Ok(ReplayRoom {
-            shards: Shards::open(alloc, shards, limits, policy_of(settings))?,
+            shards: Shards::open(alloc, shards, limits, policy_of(settings), SEED)?,
             scratch: RecordScratch::open(alloc, limits, shards)?,
             keys: Keys::open(alloc, rows)?,
             dump: Dump::open(alloc, rows)?,

@@ -1,8 +1,10 @@
 -- Lemmas on the index.
-use Rattle.std.proofs.Common.{◌≡◌, ◌≢◌, ℕ, zero, suc, ◌+◌, ◌*◌, ◌^◌, ◌<◌, ◌≤◌, List, [], ◌∷◌, length, get_or, set, Option, Some, None, replicate, refl, sym, subst, ap, ◌∙◌, arith}
+use Rattle.std.proofs.Common.{◌≡◌, ◌≢◌, ℕ, zero, suc, ◌+◌, ◌*◌, ◌^◌, ◌<◌, ◌≤◌, List, [], ◌∷◌, ◌++◌, length, map, get_or, set, Option, Some, None, replicate, refl, sym, subst, ap, ◌∙◌, arith}
 use Rattle.std.proofs.lemmas.Bool.{cases_eq}
-use Rattle.std.proofs.lemmas.List.{get_or_read, length-set, length-replicate, get_or-set_same, get_or-set_other}
-use Rattle.sd_rows.specs.Index.{taken_count, IsProbed, IsIndex, IsProbedWithHole, IsIndexWithHole}
+use Rattle.std.proofs.lemmas.List.{get_or_read, get_or-map, length-set, length-append, length-map, length-replicate, map-set, set-get_or, get_or-set_same, get_or-set_other}
+use Rattle.sd_rows.specs.Index.{taken_count, place_in, places_in, tag_of, tags_in, no_cell, cell_of, cells_of, hash_in, hashes_in, no_spot, home_by, home_in, IsProbed, IsIndex, IsProbedWithHole, IsIndexWithHole}
+use Rattle.sd_rows.specs.declared.index.Cell.{Cell}
+use Rattle.sd_rows.specs.declared.index.Spot.{Spot}
 
 -- a function that differs from another at one number
 pub record Differs {X : Type 0} (f g : ℕ → X) (i : ℕ) (x : X) : Type 0 where
@@ -64,39 +66,52 @@ set_differs xs i x d lt = record {
   other = λ j ne. get_or-set_other xs i j x d ne;
 }
 
+-- where functions differ at one number, so do those that read them further
+pub differs_by : {X Y : Type 0} (f g : ℕ → X) (i : ℕ) (x : X) (φ : X → Y) → Differs f g i x → Differs (λ j. φ (f j)) (λ j. φ (g j)) i (φ x)
+differs_by f g i x φ d = record { at = ap φ d.at; other = λ j ne. ap φ (d.other j ne) }
+
+-- what has a home has a hash
+pub hash_of_home : (homes : ℕ) (o : Option ℕ) → home_in homes o ≢ None → o ≢ None
+hash_of_home homes o ne e = ne (ap (home_in homes) e)
+
 pub put_index :
-    (cells : List (Option ℕ)) (cell_of : List ℕ) (homes : List (Option ℕ)) (q k c : ℕ)
-    → IsIndex cells cell_of homes
-    → q < length homes → get_or homes q None ≡ None → k < 2 * length homes
-    → k ≤ c → c < length cells → get_or cells c None ≡ None
-    → ((d : ℕ) → k ≤ d → d < c → get_or cells d None ≢ None)
-    → IsIndex (set cells c (Some q)) (set cell_of q c) (set homes q (Some k))
-put_index cells cell_of homes q k c w within away low from inside empty run =
-    let H = set_differs homes q (Some k) None within in
+    (cells : List (Option ℕ)) (tags own : List ℕ) (hashes : List (Option ℕ)) (homes q t c : ℕ)
+    → IsIndex cells tags own hashes homes
+    → q < length hashes → get_or hashes q None ≡ None → home_by homes t < homes
+    → home_by homes t ≤ c → c < length cells → get_or cells c None ≡ None
+    → ((d : ℕ) → home_by homes t ≤ d → d < c → get_or cells d None ≢ None)
+    → IsIndex (set cells c (Some q)) (set tags c t) (set own q c) (set hashes q (Some t)) homes
+put_index cells tags own hashes homes q t c w within away low from inside empty run =
+    let H = set_differs hashes q (Some t) None within in
     let C = set_differs cells c (Some q) None inside in
-    let S = set_differs cell_of q c 0 (omega (arith, w.cell_of_len)) in
-    let lh = length-set homes q (Some k) in record {
-      probed = put_probed _ _ _ _ _ _ q k c w.probed away empty from run C S H;
-      cells_len = grind (arith, w.cells_len, lh, length-set cells c (Some q));
-      cell_of_len = grind (arith, w.cell_of_len, lh, length-set cell_of q c);
-      small = grind (arith, w.small, lh);
-      low = λ p h e. grind (arith, cases_eq p q, w.low p h, H.at, H.other p, lh, low);
-      counts = grind (arith, w.counts, taken_count-set cells c q inside empty, taken_count-set homes q k within away);
+    let T = set_differs tags c t 0 (omega (arith, w.tags_len, inside)) in
+    let S = set_differs own q c 0 (omega (arith, w.own_len, within)) in
+    let lh = length-set hashes q (Some t) in
+    let away' : home_in homes (get_or hashes q None) ≡ None = ap (home_in homes) away in record {
+      probed = put_probed _ _ _ _ _ _ q (home_by homes t) c w.probed away' empty from run C S (differs_by _ _ q (Some t) (home_in homes) H);
+      tagged = λ d p e. grind (arith, cases_eq d c, cases_eq p q, w.tagged d p, C.at, C.other d, T.at, T.other d, H.at, H.other p, away);
+      cells_len = grind (arith, w.cells_len, length-set cells c (Some q));
+      tags_len = grind (arith, w.tags_len, length-set tags c t, length-set cells c (Some q));
+      own_len = grind (arith, w.own_len, lh, length-set own q c);
+      few = grind (arith, w.few, lh);
+      small = w.small;
+      low = λ p h e. grind (arith, cases_eq p q, w.low p h, H.at, H.other p, low);
+      counts = grind (arith, w.counts, taken_count-set cells c q inside empty, taken_count-set hashes q t within away);
     }
 
 pub hole_probed :
-    (cell cell' : ℕ → Option ℕ) (own_cell : ℕ → ℕ) (home home' : ℕ → Option ℕ) (q c : ℕ)
+    (cell cell' : ℕ → Option ℕ) (own_cell own_cell' : ℕ → ℕ) (home home' : ℕ → Option ℕ) (q c o : ℕ)
     → IsProbed cell own_cell home → cell c ≡ Some q
-    → Differs cell cell' c None → Differs home home' q None
-    → IsProbedWithHole cell' own_cell home' c (c + 1)
-hole_probed cell cell' own_cell home home' q c w here C H = record {
-  own = λ d p e. grind (arith, cases_eq d c, w.own d p, C.at, C.other d);
+    → Differs cell cell' c None → Differs own_cell own_cell' q o → Differs home home' q None
+    → IsProbedWithHole cell' own_cell' home' c (c + 1)
+hole_probed cell cell' own_cell own_cell' home home' q c o w here C S H = record {
+  own = λ d p e. grind (arith, cases_eq d c, cases_eq p q, w.own d p, w.own c q, C.at, C.other d, S.other p);
   live = λ d p e. grind (arith, cases_eq d c, cases_eq p q, w.live d p, w.own d p, w.own c q, C.at, C.other d, H.at, H.other p);
-  named = λ p h e. grind (arith, cases_eq p q, cases_eq (own_cell p) c, w.named p h, C.at, C.other (own_cell p), H.at, H.other p);
-  after = λ p h e. grind (arith, cases_eq p q, w.after p h, H.at, H.other p);
-  walk = λ p h d e from before ne z. grind (arith, cases_eq p q, w.walk p h d, C.at, C.other d, H.at, H.other p);
+  named = λ p h e. grind (arith, cases_eq p q, cases_eq (own_cell p) c, w.named p h, C.at, C.other (own_cell p), S.other p, H.at, H.other p);
+  after = λ p h e. grind (arith, cases_eq p q, w.after p h, S.other p, H.at, H.other p);
+  walk = λ p h d e from before ne z. grind (arith, cases_eq p q, w.walk p h d, C.at, C.other d, S.other p, H.at, H.other p);
   gap = C.at;
-  passed = λ p h e l m. absurd (omega arith);
+  passed = λ p h e l m. grind (arith, cases_eq p q, w.named p h, C.at, S.other p, H.at, H.other p);
 }
 
 pub skip_probed :
@@ -143,61 +158,78 @@ end_probed cell own_cell home hole next w before empty = record {
 }
 
 pub empty_index :
-    (cells : List (Option ℕ)) (cell_of : List ℕ) (homes : List (Option ℕ)) (q c : ℕ)
-    → IsIndex cells cell_of homes → q < length homes → get_or homes q None ≢ None → c < length cells → get_or cells c None ≡ Some q
-    → IsIndexWithHole (set cells c None) cell_of (set homes q None) c (c + 1)
-empty_index cells cell_of homes q c w within live inside here =
-    let H = set_differs homes q None None within in
+    (cells : List (Option ℕ)) (tags own : List ℕ) (hashes : List (Option ℕ)) (homes q c t o : ℕ)
+    → IsIndex cells tags own hashes homes → q < length hashes → get_or hashes q None ≢ None → c < length cells → get_or cells c None ≡ Some q
+    → IsIndexWithHole (set cells c None) (set tags c t) (set own q o) (set hashes q None) homes c (c + 1)
+empty_index cells tags own hashes homes q c t o w within live inside here =
+    let H = set_differs hashes q None None within in
     let C = set_differs cells c None None inside in
-    let lh = length-set homes q None in record {
-      probed = hole_probed _ _ _ _ _ q c w.probed here C H;
-      cells_len = grind (arith, w.cells_len, lh, length-set cells c None);
-      cell_of_len = grind (arith, w.cell_of_len, lh);
-      small = grind (arith, w.small, lh);
-      low = λ p h e. grind (arith, cases_eq p q, w.low p h, H.at, H.other p, lh);
-      counts = grind (arith, w.counts, taken_count-unset cells c (λ e. grind (arith, e, here)), taken_count-unset homes q live);
+    let T = set_differs tags c t 0 (omega (arith, w.tags_len, inside)) in
+    let S = set_differs own q o 0 (omega (arith, w.own_len, within)) in
+    let lh = length-set hashes q None in record {
+      probed = hole_probed _ _ _ _ _ _ q c o w.probed here C S (differs_by _ _ q None (home_in homes) H);
+      tagged = λ d p e. grind (arith, cases_eq d c, cases_eq p q, w.tagged d p, w.probed.own d p, w.probed.own c q, here, C.at, C.other d, T.other d, H.other p);
+      cells_len = grind (arith, w.cells_len, length-set cells c None);
+      tags_len = grind (arith, w.tags_len, length-set tags c t, length-set cells c None);
+      own_len = grind (arith, w.own_len, lh, length-set own q o);
+      few = grind (arith, w.few, lh);
+      small = w.small;
+      low = λ p h e. grind (arith, cases_eq p q, w.low p h, H.at, H.other p);
+      counts = grind (arith, w.counts, taken_count-unset cells c (λ e. grind (arith, e, here)), taken_count-unset hashes q live);
     }
 
 pub skip_index :
-    (cells : List (Option ℕ)) (cell_of : List ℕ) (homes : List (Option ℕ)) (hole next q k : ℕ)
-    → IsIndexWithHole cells cell_of homes hole next → get_or cells next None ≡ Some q → get_or homes q None ≡ Some k → hole < k
-    → IsIndexWithHole cells cell_of homes hole (next + 1)
-skip_index cells cell_of homes hole next q k w here has behind = record {
+    (cells : List (Option ℕ)) (tags own : List ℕ) (hashes : List (Option ℕ)) (homes hole next q k : ℕ)
+    → IsIndexWithHole cells tags own hashes homes hole next → get_or cells next None ≡ Some q → home_in homes (get_or hashes q None) ≡ Some k → hole < k
+    → IsIndexWithHole cells tags own hashes homes hole (next + 1)
+skip_index cells tags own hashes homes hole next q k w here has behind = record {
   probed = skip_probed _ _ _ hole next q k w.probed here has behind;
+  tagged = w.tagged;
   cells_len = w.cells_len;
-  cell_of_len = w.cell_of_len;
+  tags_len = w.tags_len;
+  own_len = w.own_len;
+  few = w.few;
   small = w.small;
   low = w.low;
   counts = w.counts;
 }
 
 pub move_index :
-    (cells : List (Option ℕ)) (cell_of : List ℕ) (homes : List (Option ℕ)) (hole next q k : ℕ)
-    → IsIndexWithHole cells cell_of homes hole next → get_or cells next None ≡ Some q → get_or homes q None ≡ Some k → k ≤ hole
-    → hole < next → next < length cells → q < length homes
-    → IsIndexWithHole (set (set cells hole (Some q)) next None) (set cell_of q hole) homes next (next + 1)
-move_index cells cell_of homes hole next q k w here has from before inside within =
+    (cells : List (Option ℕ)) (tags own : List ℕ) (hashes : List (Option ℕ)) (homes hole next q k t u : ℕ)
+    → IsIndexWithHole cells tags own hashes homes hole next → get_or cells next None ≡ Some q → home_in homes (get_or hashes q None) ≡ Some k → k ≤ hole
+    → t ≡ get_or tags next 0 → hole < next → next < length cells → q < length hashes
+    → IsIndexWithHole (set (set cells hole (Some q)) next None) (set (set tags hole t) next u) (set own q hole) hashes homes next (next + 1)
+move_index cells tags own hashes homes hole next q k t u w here has from tag before inside within =
     let M = set_differs cells hole (Some q) None (omega arith) in
     let lc = length-set cells hole (Some q) in
     let C = set_differs (set cells hole (Some q)) next None None (omega (arith, lc)) in
-    let S = set_differs cell_of q hole 0 (omega (arith, w.cell_of_len)) in
+    let N = set_differs tags hole t 0 (omega (arith, w.tags_len)) in
+    let lt = length-set tags hole t in
+    let T = set_differs (set tags hole t) next u 0 (omega (arith, lt, w.tags_len)) in
+    let S = set_differs own q hole 0 (omega (arith, w.own_len)) in
     let there : get_or (set cells hole (Some q)) next None ≢ None = λ e. grind (arith, e, M.other next, here) in record {
       probed = move_probed _ _ _ _ _ _ hole next q k w.probed here has from before M C S;
+      tagged = λ d p e. grind (arith, cases_eq d hole, cases_eq d next, w.tagged d p, w.tagged next q, here, tag, M.at, M.other d, C.at, C.other d, N.at, N.other d, T.at, T.other d);
       cells_len = grind (arith, w.cells_len, lc, length-set (set cells hole (Some q)) next None);
-      cell_of_len = grind (arith, w.cell_of_len, length-set cell_of q hole);
+      tags_len = grind (arith, w.tags_len, lt, length-set (set tags hole t) next u, lc, length-set (set cells hole (Some q)) next None);
+      own_len = grind (arith, w.own_len, length-set own q hole);
+      few = w.few;
       small = w.small;
       low = w.low;
-      counts = grind (arith, w.counts, taken_count-set cells hole q (omega arith) w.probed.gap, taken_count-unset (set cells hole (Some q)) next there);
+      counts = grind (arith, w.counts, w.probed.gap, taken_count-set cells hole q (omega arith) w.probed.gap, taken_count-unset (set cells hole (Some q)) next there);
     }
 
 pub end_index :
-    (cells : List (Option ℕ)) (cell_of : List ℕ) (homes : List (Option ℕ)) (hole next : ℕ)
-    → IsIndexWithHole cells cell_of homes hole next → hole < next → get_or cells next None ≡ None
-    → IsIndex cells cell_of homes
-end_index cells cell_of homes hole next w before empty = record {
+    (cells : List (Option ℕ)) (tags own : List ℕ) (hashes : List (Option ℕ)) (homes hole next : ℕ)
+    → IsIndexWithHole cells tags own hashes homes hole next → hole < next → get_or cells next None ≡ None
+    → IsIndex cells tags own hashes homes
+end_index cells tags own hashes homes hole next w before empty = record {
   probed = end_probed _ _ _ hole next w.probed before empty;
+  tagged = w.tagged;
   cells_len = w.cells_len;
-  cell_of_len = w.cell_of_len;
+  tags_len = w.tags_len;
+  own_len = w.own_len;
+  few = w.few;
   small = w.small;
   low = w.low;
   counts = w.counts;
@@ -220,14 +252,13 @@ pub some_of : {X : Type 0} (o : Option X) → o ≢ None → (x : X) × (o ≡ S
 some_of None ne = absurd (ne refl)
 some_of (Some x) ne = (x, refl)
 
+-- a live place stands in its own cell
 pub own_cell_is :
-    (cells : List (Option ℕ)) (cell_of : List ℕ) (homes : List (Option ℕ)) (q c : ℕ)
-    → IsIndex cells cell_of homes → get_or homes q None ≢ None → c ≡ get_or cell_of q c → get_or cells c None ≡ Some q
-own_cell_is cells cell_of homes q c w live is =
-    let h = some_of (get_or homes q None) live in
-    let within = present_within homes q live in
-    let e : c ≡ get_or cell_of q 0 = get_or_read cell_of q c (omega (arith, w.cell_of_len)) is 0 in
-    subst (λ s. get_or cells s None ≡ Some q) (sym e) (w.probed.named q h.0 h.1)
+    (cells : List (Option ℕ)) (tags own : List ℕ) (hashes : List (Option ℕ)) (homes q c : ℕ)
+    → IsIndex cells tags own hashes homes → get_or hashes q None ≢ None → c ≡ get_or own q 0 → get_or cells c None ≡ Some q
+own_cell_is cells tags own hashes homes q c w live is =
+    let h = some_of (get_or hashes q None) live in
+    subst (λ s. get_or cells s None ≡ Some q) (sym is) (w.probed.named q (home_by homes h.0) (ap (home_in homes) h.1))
 
 pub replicate_at : {X : Type 0} (n i : ℕ) (d : X) → get_or (replicate n d) i d ≡ d
 replicate_at zero i d = refl
@@ -246,16 +277,57 @@ taken_count-same (Some y ∷ xs) zero x e = refl
 taken_count-same (None ∷ xs) (suc i) x e = taken_count-same xs i x e
 taken_count-same (Some y ∷ xs) (suc i) x e = grind (arith, taken_count-same xs i x e)
 
+pub taken_count-append : {X : Type 0} (xs : List (Option X)) (n : ℕ) → taken_count (xs ++ replicate n None) ≡ taken_count xs
+taken_count-append [] n = taken_count-none n None refl
+taken_count-append (None ∷ xs) n = taken_count-append xs n
+taken_count-append (Some x ∷ xs) n = ap suc (taken_count-append xs n)
+
+-- what is read of a list behind which the default stands is what is read of the list
+pub get_or_padded : {X : Type 0} (xs : List X) (n i : ℕ) (d : X) → get_or (xs ++ replicate n d) i d ≡ get_or xs i d
+get_or_padded [] n i d = replicate_at n i d
+get_or_padded (x ∷ xs) n zero d = refl
+get_or_padded (x ∷ xs) n (suc i) d = get_or_padded xs n i d
+
+pub get_or_pushed : {X : Type 0} (xs : List X) (i : ℕ) (d : X) → get_or (xs ++ d ∷ []) i d ≡ get_or xs i d
+get_or_pushed xs i d = get_or_padded xs 1 i d
+
+pub length-pushed : {X : Type 0} (xs : List X) (x : X) → length (xs ++ x ∷ []) ≡ length xs + 1
+length-pushed xs x = length-append xs (x ∷ [])
+
+-- one place more, which isn't live
+pub push_index :
+    (cells : List (Option ℕ)) (tags own : List ℕ) (hashes : List (Option ℕ)) (homes : ℕ)
+    → IsIndex cells tags own hashes homes → 2 * (length hashes + 1) ≤ homes
+    → IsIndex cells tags (own ++ 0 ∷ []) (hashes ++ None ∷ []) homes
+push_index cells tags own hashes homes w more =
+    let H = λ (p : ℕ). get_or_pushed hashes p None in
+    let S = λ (p : ℕ). get_or_pushed own p 0 in
+    let lh = length-pushed {X = Option ℕ} hashes None in record {
+      probed = record {
+        own = λ c p e. grind (arith, S p, w.probed.own c p);
+        live = λ c p e. grind (arith, H p, w.probed.live c p);
+        named = λ p h e. grind (arith, H p, S p, w.probed.named p h);
+        after = λ p h e. grind (arith, H p, S p, w.probed.after p h);
+        walk = λ p h d e l m z. grind (arith, H p, S p, w.probed.walk p h d);
+      };
+      tagged = λ c p e. H p ∙ w.tagged c p e;
+      cells_len = w.cells_len;
+      tags_len = w.tags_len;
+      own_len = omega (arith, w.own_len, lh, length-pushed own 0);
+      few = omega (arith, lh, more);
+      small = w.small;
+      low = λ p h e. grind (arith, H p, w.low p h);
+      counts = w.counts ∙ sym (taken_count-append hashes 1);
+    }
+
 pub open_index :
-    (cells : List (Option ℕ)) (cell_of : List ℕ) (homes : List (Option ℕ)) (n : ℕ)
-    → cells ≡ replicate (3 * n) None → cell_of ≡ replicate n 0 → homes ≡ replicate n None → n < 2 ^ 32
-    → IsIndex cells cell_of homes
-open_index cells cell_of homes n cs ss hs few =
+    (cells : List (Option ℕ)) (tags own : List ℕ) (hashes : List (Option ℕ)) (n : ℕ)
+    → cells ≡ replicate (3 * n) None → length tags ≡ 3 * n → own ≡ [] → hashes ≡ [] → n ≤ 2 ^ 30
+    → IsIndex cells tags own hashes (2 * n)
+open_index cells tags own hashes n cs ts ss hs few =
     let lc : length cells ≡ 3 * n = ap length cs ∙ length-replicate (3 * n) None in
-    let ls : length cell_of ≡ n = ap length ss ∙ length-replicate n 0 in
-    let lh : length homes ≡ n = ap length hs ∙ length-replicate n None in
     let no_cell : (c : ℕ) → get_or cells c None ≡ None = λ c. ap (λ l. get_or l c None) cs ∙ replicate_at (3 * n) c None in
-    let no_home : (p : ℕ) → get_or homes p None ≡ None = λ p. ap (λ l. get_or l p None) hs ∙ replicate_at n p None in record {
+    let no_home : (p : ℕ) → home_in (2 * n) (get_or hashes p None) ≡ None = λ p. ap (λ l. home_in (2 * n) (get_or l p None)) hs in record {
       probed = record {
         own = λ c p e. grind (arith, e, no_cell c);
         live = λ c p e z. grind (arith, e, no_cell c);
@@ -263,9 +335,83 @@ open_index cells cell_of homes n cs ss hs few =
         after = λ p h e. grind (arith, e, no_home p);
         walk = λ p h d e l m z. grind (arith, e, no_home p);
       };
-      cells_len = omega (arith, lc, lh);
-      cell_of_len = omega (arith, ls, lh);
-      small = omega (arith, lh, few);
+      tagged = λ c p e. grind (arith, e, no_cell c);
+      cells_len = omega (arith, lc);
+      tags_len = omega (arith, ts, lc);
+      own_len = ap length ss ∙ sym (ap length hs);
+      few = omega (arith, ap length hs);
+      small = omega (arith, few);
       low = λ p h e. grind (arith, e, no_home p);
-      counts = omega (arith, ap taken_count cs ∙ taken_count-none (3 * n) None refl, ap taken_count hs ∙ taken_count-none n None refl);
+      counts = omega (arith, ap taken_count cs ∙ taken_count-none (3 * n) None refl, ap taken_count hs);
     }
+
+pub map_replicate : {X Y : Type 0} (f : X → Y) (n : ℕ) (x : X) → map f (replicate n x) ≡ replicate n (f x)
+map_replicate f zero x = refl
+map_replicate f (suc n) x = ap (λ ys. f x ∷ ys) (map_replicate f n x)
+
+subst4 :
+    {C C' : List (Option ℕ)} {T T' S S' : List ℕ} {H H' : List (Option ℕ)}
+    → C' ≡ C → T' ≡ T → S' ≡ S → H' ≡ H → (homes : ℕ) → IsIndex C T S H homes → IsIndex C' T' S' H' homes
+subst4 c t s h homes w = rw (c, t, s, h) w
+
+holed4 :
+    {C C' : List (Option ℕ)} {T T' S S' : List ℕ} {H H' : List (Option ℕ)}
+    → C' ≡ C → T' ≡ T → S' ≡ S → H' ≡ H → (homes hole next : ℕ) → IsIndexWithHole C T S H homes hole next → IsIndexWithHole C' T' S' H' homes hole next
+holed4 c t s h homes hole next w = rw (c, t, s, h) w
+
+-- the same of an index in the code: a place is taken in
+pub put_indexed :
+    (cells : List Cell) (spots : List Spot) (homes q t c : ℕ) (cell : Cell) (spot : Spot)
+    → IsIndex (places_in cells) (tags_in cells) (cells_of spots) (hashes_in spots) homes
+    → q < length spots → get_or (hashes_in spots) q None ≡ None → home_by homes t < homes
+    → home_by homes t ≤ c → c < length cells → get_or (places_in cells) c None ≡ None
+    → ((d : ℕ) → home_by homes t ≤ d → d < c → get_or (places_in cells) d None ≢ None)
+    → place_in cell ≡ Some q → tag_of cell ≡ t → cell_of spot ≡ c → hash_in spot ≡ Some t
+    → IsIndex (places_in (set cells c cell)) (tags_in (set cells c cell)) (cells_of (set spots q spot)) (hashes_in (set spots q spot)) homes
+put_indexed cells spots homes q t c cell spot w within away low from inside empty run named tag own hash =
+    let C : places_in (set cells c cell) ≡ set (places_in cells) c (Some q) = map-set place_in cells c cell ∙ ap (λ o. set (places_in cells) c o) named in
+    let T : tags_in (set cells c cell) ≡ set (tags_in cells) c t = map-set tag_of cells c cell ∙ ap (λ o. set (tags_in cells) c o) tag in
+    let S : cells_of (set spots q spot) ≡ set (cells_of spots) q c = map-set cell_of spots q spot ∙ ap (λ o. set (cells_of spots) q o) own in
+    let H : hashes_in (set spots q spot) ≡ set (hashes_in spots) q (Some t) = map-set hash_in spots q spot ∙ ap (λ o. set (hashes_in spots) q o) hash in
+    let lh : length (hashes_in spots) ≡ length spots = length-map spots hash_in in
+    let lc : length (places_in cells) ≡ length cells = length-map cells place_in in
+    subst4 C T S H homes (put_index (places_in cells) (tags_in cells) (cells_of spots) (hashes_in spots) homes q t c w (omega arith) away low from (omega arith) empty run)
+
+-- a place is taken out of its cell
+pub empty_indexed :
+    (cells : List Cell) (spots : List Spot) (homes q c : ℕ)
+    → IsIndex (places_in cells) (tags_in cells) (cells_of spots) (hashes_in spots) homes
+    → get_or (hashes_in spots) q None ≢ None → get_or (places_in cells) c None ≡ Some q
+    → IsIndexWithHole (places_in (set cells c no_cell)) (tags_in (set cells c no_cell)) (cells_of (set spots q no_spot)) (hashes_in (set spots q no_spot)) homes c (c + 1)
+empty_indexed cells spots homes q c w live here =
+    let C : places_in (set cells c no_cell) ≡ set (places_in cells) c None = map-set place_in cells c no_cell in
+    let T : tags_in (set cells c no_cell) ≡ set (tags_in cells) c 0 = map-set tag_of cells c no_cell in
+    let S : cells_of (set spots q no_spot) ≡ set (cells_of spots) q 0 = map-set cell_of spots q no_spot in
+    let H : hashes_in (set spots q no_spot) ≡ set (hashes_in spots) q None = map-set hash_in spots q no_spot in
+    holed4 C T S H homes c (c + 1)
+    (empty_index (places_in cells) (tags_in cells) (cells_of spots) (hashes_in spots) homes q c 0 0 w (present_within (hashes_in spots) q live) live
+    (present_within (places_in cells) c (λ n. grind (arith, n, here))) here)
+
+-- a place is moved to the hole
+pub move_indexed :
+    (cells : List Cell) (spots : List Spot) (homes hole next q : ℕ) (cell : Cell) (spot : Spot)
+    → IsIndexWithHole (places_in cells) (tags_in cells) (cells_of spots) (hashes_in spots) homes hole next
+    → get_or (places_in cells) next None ≡ Some q → cell ≡ get_or cells next cell → next < length cells
+    → home_by homes (tag_of cell) ≤ hole → hole < next → cell_of spot ≡ hole → hash_in spot ≡ Some (tag_of cell)
+    → IsIndexWithHole (places_in (set (set cells hole cell) next no_cell)) (tags_in (set (set cells hole cell) next no_cell))
+    (cells_of (set spots q spot)) (hashes_in (set spots q spot)) homes next (next + 1)
+move_indexed cells spots homes hole next q cell spot w here is inside from before own hash =
+    let place : place_in cell ≡ Some q = sym (get_or-map place_in cells next cell None inside ∙ ap place_in (sym is)) ∙ here in
+    let tag : tag_of cell ≡ get_or (tags_in cells) next 0 = sym (get_or-map tag_of cells next cell 0 inside ∙ ap tag_of (sym is)) in
+    let hashed : get_or (hashes_in spots) q None ≡ Some (tag_of cell) = w.tagged next q here ∙ ap Some (sym tag) in
+    let C : places_in (set (set cells hole cell) next no_cell) ≡ set (set (places_in cells) hole (Some q)) next None =
+    map-set place_in (set cells hole cell) next no_cell ∙ ap (λ l. set l next None) (map-set place_in cells hole cell ∙ ap (λ o. set (places_in cells) hole o) place) in
+    let T : tags_in (set (set cells hole cell) next no_cell) ≡ set (set (tags_in cells) hole (tag_of cell)) next 0 =
+    map-set tag_of (set cells hole cell) next no_cell ∙ ap (λ l. set l next 0) (map-set tag_of cells hole cell) in
+    let S : cells_of (set spots q spot) ≡ set (cells_of spots) q hole = map-set cell_of spots q spot ∙ ap (λ o. set (cells_of spots) q o) own in
+    let H : hashes_in (set spots q spot) ≡ hashes_in spots =
+    map-set hash_in spots q spot ∙ ap (λ o. set (hashes_in spots) q o) (hash ∙ sym hashed) ∙ set-get_or (hashes_in spots) q None in
+    holed4 C T S H homes next (next + 1)
+    (move_index (places_in cells) (tags_in cells) (cells_of spots) (hashes_in spots) homes hole next q (home_by homes (tag_of cell)) (tag_of cell) 0 w here
+    (ap (home_in homes) hashed) from tag before (subst (λ n. next < n) (sym (length-map cells place_in)) inside)
+    (present_within (hashes_in spots) q (λ n. grind (arith, n, hashed))))

@@ -1,3 +1,4 @@
+pub mod HeadLemmas
 pub mod IndexLemmas
 pub mod MapLemmas
 pub mod RankingLemmas

@@ -1,9 +1,23 @@
 -- Lemmas on the order of the places.
-use Rattle.std.proofs.Common.{◌≡◌, ◌≢◌, ℕ, ◌+◌, ◌<◌, ◌≤◌, ◌∙◌, List, length, get_or, set, Option, Some, None, sym, ap, subst, arith}
+use Rattle.std.proofs.Common.{◌≡◌, ◌≢◌, ℕ, ◌+◌, ◌-◌, ◌<◌, ◌≤◌, ◌∙◌, List, [], ◌∷◌, ◌++◌, length, get_or, set, Option, Some, None, refl, sym, ap, subst, arith}
 use Rattle.std.proofs.lemmas.Bool.{cases_eq}
-use Rattle.std.proofs.lemmas.List.{length-set}
+use Rattle.std.proofs.lemmas.List.{length-set, get_or_append_left, get_or-append_right}
 use Rattle.sd_rows.specs.Ranking.{IsRanking, IsExchanged, IsDivided}
-use Rattle.sd_rows.proofs.IndexLemmas.{Differs, set_differs}
+use Rattle.sd_rows.proofs.IndexLemmas.{Differs, set_differs, length-pushed, get_or_pushed, get_or_past}
+
+none_left : (n : ℕ) → n - n ≡ 0
+none_left n = omega arith
+
+-- what a list is read as behind which a number was put
+pub record IsPushed (xs ys : List ℕ) (n : ℕ) : Type 0 where
+  pub at : get_or ys (length xs) 0 ≡ n
+  pub other : (i : ℕ) → i < length xs → get_or ys i 0 ≡ get_or xs i 0
+
+pub get_or_push : (xs : List ℕ) (n : ℕ) → IsPushed xs (xs ++ n ∷ []) n
+get_or_push xs n = record {
+  at = get_or-append_right xs (n ∷ []) (length xs) (length xs) 0 refl (omega arith) ∙ ap (λ i. get_or (n ∷ []) i 0) (none_left (length xs));
+  other = λ i lt. get_or_append_left xs (n ∷ []) 0 i lt;
+}
 
 -- places have ranks of their own
 pub rank_apart : (order rank : List ℕ) (p q : ℕ) → IsRanking order rank → p < length order → q < length order → get_or rank p 0 ≡ get_or rank q 0 → p ≡ q
@@ -153,4 +167,33 @@ reset_divided rank places live place x d within full =
       len = d.len ∙ sym (length-set places place (Some x));
       used = λ p lt l z. grind (arith, cases_eq p place, d.used p, P.at, P.other p);
       spare = λ p lt l. grind (arith, cases_eq p place, d.spare p, d.spare place, full, P.other p);
+    }
+
+-- one place more, behind the others
+pub push_ranking :
+    (order rank : List ℕ) → IsRanking order rank → IsRanking (order ++ length order ∷ []) (rank ++ length order ∷ [])
+push_ranking order rank w =
+    let n = length order in
+    let lo = length-pushed order n in
+    let O = get_or_push order n in
+    let R = get_or_push rank n in record {
+      len = omega (arith, w.len, lo, length-pushed rank n);
+      back = λ p lt. grind (arith, cases_eq p n, lo, w.len, w.back p, w.rank_in p, O.at, O.other (get_or rank p 0), R.at, R.other p);
+      forth = λ i lt. grind (arith, cases_eq i n, lo, w.len, w.forth i, w.order_in i, O.at, O.other i, R.at, R.other (get_or order i 0));
+      rank_in = λ p lt. grind (arith, cases_eq p n, lo, w.len, w.rank_in p, R.at, R.other p);
+      order_in = λ i lt. grind (arith, cases_eq i n, lo, w.len, w.order_in i, O.at, O.other i);
+    }
+
+pub push_divided :
+    {X : Type 0} (rank : List ℕ) (places : List (Option X)) (live : ℕ)
+    → IsDivided rank places live → live ≤ length places
+    → IsDivided (rank ++ length rank ∷ []) (places ++ None ∷ []) live
+push_divided rank places live d few =
+    let n = length rank in
+    let lr = length-pushed rank n in
+    let R = get_or_push rank n in
+    let P = λ (p : ℕ). get_or_pushed places p None in record {
+      len = omega (arith, lr, d.len, length-pushed places None);
+      used = λ p lt l z. grind (arith, cases_eq p n, lr, d.len, few, d.used p, R.at, R.other p, P p);
+      spare = λ p lt l. grind (arith, cases_eq p n, lr, d.len, get_or_past places p None, d.spare p, R.at, R.other p, P p);
     }

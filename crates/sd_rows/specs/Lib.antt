@@ -1,3 +1,5 @@
+pub mod Hash
+pub mod Heads
 pub mod Index
 pub mod Ranking
 pub mod Rows

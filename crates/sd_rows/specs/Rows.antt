@@ -1,10 +1,25 @@
--- Rows in places, as contracts see them: a list of places, each of which is empty or has a row.
-use Rattle.std.specs.Prelude.{◌≡◌, ℕ, ◌+◌, ◌/◌, ◌%◌, List, get_or, Option, Some, None, ⊤}
-use Rattle.sd_model_text.specs.Names.{fnv1a, rank}
+-- Rows in places, as contracts see them: a list of places, each of which is empty or has a row, and of each place the tally that it keeps.
+use Rattle.std.specs.Prelude.{◌≡◌, ℕ, List, get_or, Option, Some, None, ⊤, pos}
 use Rattle.sd_decimal.specs.declared.number.Micro.{Micro}
-use Rattle.sd_key.specs.Kind.{kind_of}
 use Rattle.sd_key.specs.declared.kind.Kind.{Kind}
 use Rattle.sd_rows.specs.declared.row.Row.{Row}
+use Rattle.sd_rows.specs.declared.row.RowView.{RowView}
+use Rattle.sd_rows.specs.declared.tally.Tally.{Tally}
+
+-- The places with their rows, the tally of each place, and how many places from the first on were ever in use. The memory of the
+-- others isn't written.
+pub record Places : Type 0 where
+  pub rows : List (Option Row)
+  pub tallies : List Tally
+  pub used : ℕ
+
+-- the tally of a place that has none
+abbrev pub no_tally : Tally
+no_tally = record { samples = 0; gauge = record { 0 = pos 0 }; weight = record { 0 = pos 0 } }
+
+-- the row that is seen in its place
+abbrev pub row_seen : RowView → Row
+row_seen view = record { kind = view.kind; key = view.key.now; base = view.base; swaps = view.swaps }
 
 -- what stands in a place, and nothing behind the last place
 abbrev pub row_at : List (Option Row) → ℕ → Option Row
@@ -32,12 +47,3 @@ StandsNowhereElse (Some row) at places = (p : ℕ) → Holds row.kind row.key (r
 abbrev pub reset : Option Row → Micro → ℕ → Option Row
 reset None base swaps = None
 reset (Some row) base swaps = Some (record row { base = base; swaps = swaps })
-
--- the cell of the index at which the search for a kind and key begins, of so many
-abbrev pub home_of : Kind → List ℕ → ℕ → ℕ
-home_of kind key homes = (fnv1a key / 16 + rank (kind_of kind)) % homes
-
--- that of a place's row
-abbrev pub home_in : ℕ → Option Row → Option ℕ
-home_in homes None = None
-home_in homes (Some row) = Some (home_of row.kind row.key homes)

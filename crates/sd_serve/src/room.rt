@@ -14,6 +14,9 @@ use sd_shard::Policy;
 use sd_shared_desk::{DeskSeat, SharedDesk};
 use std::alloc::{AllocError, Global};
 
+/// The seed of the hashes by which rows are found.
+const SEED: u64 = 0;
+
 /// How many shards and receivers a server has, how many wires each receiver has, whether it reads lines of streams, how many buffers
 /// each outlet has, none where there are no outlets, and how many bytes each buffer, and what goes by each shard.
 #[derive(Clone, Copy, Debug)]
@@ -137,6 +140,7 @@ impl<D: Drop, L: Drop> ServerRoom<D, L> {
             sizes.policy,
             sizes.shards,
             submitters,
+            SEED,
         )?;
         let Benches {
             tables,

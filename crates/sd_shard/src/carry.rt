@@ -4,7 +4,7 @@ ghost use Rattle.std.specs.List.{range_with_len};
 ghost use Rattle.sd_model_shard.specs.Shard.{kept_by, carried};
 ghost use Rattle.sd_model_shard.specs.Summaries.{without_samples};
 ghost use Rattle.sd_key.specs.Kind.{kind_of};
-ghost use Rattle.sd_rows.specs.Rows.{row_at, StandsNowhereElse, reset};
+ghost use Rattle.sd_rows.specs.Rows.{row_at, row_seen, StandsNowhereElse, reset};
 ghost use Rattle.sd_rows.specs.RowMap.{copy_steps};
 ghost use Rattle.sd_epoch.specs.Table.{live_of, row_view, HasPlaces};
 ghost use Rattle.sd_shard.specs.Policy.{policy_of};
@@ -14,7 +14,7 @@ use crate::policy::Policy;
 use sd_decimal::Micro;
 use sd_epoch::Table;
 use sd_key::Kind;
-use sd_rows::{Row, Steps};
+use sd_rows::{RowView, Steps};
 use std::sync::ledger::Ledger;
 
 /// Where the swaps of a row end.
@@ -28,10 +28,10 @@ struct Left {
 }
 
 /// What the row of a table's place keeps at a swap.
-fn kept_at(table: &Table, at: u32, row: &Row) -> Left
-    requires row { row_at table.now.places at ≡ Some row.now }
+fn kept_at(table: &Table, at: u32, row: &RowView<'_>) -> Left
+    requires row { row_at table.now.places at ≡ Some (row_seen row.now) }
     requires listing { HasPlaces table.now }
-    ensures { option_map (kept_by (kind_of row.now.kind)) (get (live_of table.now) (row_view row.now).0) ≡ Some (without_samples result.base.0 result.swaps) }
+    ensures { option_map (kept_by (kind_of row.now.kind)) (get (live_of table.now) (row_view (row_seen row.now)).0) ≡ Some (without_samples result.base.0 result.swaps) }
 {
     match row.kind {
         Kind::Gauge => Left {
@@ -54,7 +54,7 @@ fn left_at(table: &Table, at: u32, policy: &Policy) -> Option<Left>
     ensures live { IfSome result (λ left. row_at table.now.places at ≢ None) }
 {
     let row = table.get_at(at)?;
-    let left = kept_at(table, at, row);
+    let left = kept_at(table, at, &row);
     if policy.goes_idle(row.kind, left.swaps) {
         None
     } else {
@@ -63,10 +63,10 @@ fn left_at(table: &Table, at: u32, policy: &Policy) -> Option<Left>
 }
 
 /// Whether two rows are of one kind and key.
-fn is_same(row: &Row, other: &Row) -> bool
-    ensures { IsTrue result ↔ ((other.now.kind ≡ row.now.kind) × (other.now.key ≡ row.now.key)) }
+fn is_same(row: &RowView<'_>, other: &RowView<'_>) -> bool
+    ensures { IsTrue result ↔ ((other.now.kind ≡ row.now.kind) × (other.now.key.now ≡ row.now.key.now)) }
 {
-    other.kind == row.kind && other.key == row.key
+    other.kind == row.kind && *other.key == *row.key
 }
 
 /// Whether a place has a row of one kind and key in both tables.
@@ -76,7 +76,7 @@ fn is_same_at(table: &Table, other: &Table, at: u32) -> bool
     ensures { result ≡ is_some (staying (row_at table.now.places at) (row_at other.now.places at)) }
 {
     match (table.get_at(at), other.get_at(at)) {
-        (Some(row), Some(there)) => is_same(row, there),
+        (Some(row), Some(there)) => is_same(&row, &there),
         _ => false,
     }
 }

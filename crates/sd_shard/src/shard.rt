@@ -111,8 +111,13 @@ fn no_entry(entries: u64, limit: u32) -> Option<Cause>
 }
 
 impl Shard {
-    /// An empty shard. All of its room is taken here.
-    pub fn open(alloc: Global, limits: Limits, policy: Policy) -> Result<Shard, AllocError>
+    /// An empty shard, whose rows are found by hashes under a seed. All of its room is taken here.
+    pub fn open(
+        alloc: Global,
+        limits: Limits,
+        policy: Policy,
+        seed: u64,
+    ) -> Result<Shard, AllocError>
         requires { AreLimits (limits_of limits) }
         ensures state { IfOk result (λ s. state_of s ≡ empty_state) }
         ensures limits { IfOk result (λ s. s.table.limits ≡ limits_of limits) }
@@ -120,7 +125,7 @@ impl Shard {
     {
         Ok(Shard {
             policy,
-            table: Table::open(alloc, limits)?,
+            table: Table::open(alloc, limits, seed)?,
             taken: 0,
             flushed: 0,
             deleted: 0,

@@ -9,12 +9,13 @@ use sd_epoch::Limits;
 use sd_shard::{Policy, Shard};
 use std::alloc::{AllocError, Global};
 
-/// So many empty shards.
+/// So many empty shards, whose rows are found by hashes under a seed.
 pub(crate) fn open_shards(
     alloc: Global,
     n: u16,
     limits: Limits,
     policy: Policy,
+    seed: u64,
 ) -> Result<Vec<Shard>, AllocError>
     requires { AreLimits (limits_of limits) }
     ensures len { IfOk result (λ shards. vec_len shards ≡ n) }
@@ -23,7 +24,7 @@ pub(crate) fn open_shards(
 {
     let mut shards = Vec::with_capacity(alloc, usize::from(n))?;
     for _i in 0..n {
-        shards.push_reserved(Shard::open(alloc, limits, policy)?);
+        shards.push_reserved(Shard::open(alloc, limits, policy, seed)?);
     }
     Ok(shards)
 }

@@ -54,12 +54,19 @@ impl Model for Shards {
 }
 
 impl Shards {
-    /// So many empty shards. All of their room is taken here, that of the tables to swap them for too.
+    /// So many empty shards, whose rows are found by hashes under a seed. All of their room is taken here, that of the tables to swap
+    /// them for too.
     ///
     /// # Errors
     ///
     /// Where no memory is left for it.
-    pub fn open(alloc: Global, n: u16, limits: Limits, policy: Policy) -> Result<Shards, AllocError>
+    pub fn open(
+        alloc: Global,
+        n: u16,
+        limits: Limits,
+        policy: Policy,
+        seed: u64,
+    ) -> Result<Shards, AllocError>
         requires some { 1 ≤ n }
         requires few { n ≤ 16 }
         requires limits { AreLimits (limits_of limits) }
@@ -68,8 +75,8 @@ impl Shards {
         ensures states { IfOk result (λ s. s.states ≡ replicate n empty_state) }
         ensures swapped { IfOk result (λ s. s.swapped ≡ []) }
     {
-        let shards = open_shards(alloc, n, limits, policy)?;
-        let spares = Spares::open(alloc, n, limits)?;
+        let shards = open_shards(alloc, n, limits, policy, seed)?;
+        let spares = Spares::open(alloc, n, limits, seed)?;
         Ok(Shards { shards, spares })
     }
 

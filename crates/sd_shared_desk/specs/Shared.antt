@@ -9,15 +9,13 @@ use Rattle.sd_turn.specs.Turn as turn
 use Rattle.sd_shared_desk.specs.Asks.{acts, calls}
 use Rattle.sd_shared_desk.specs.Behind.{Behind, setup_of}
 use Rattle.sd_shared_desk.specs.contracts.value.DeskValueStepped.TheImpl.{ghosts}
-use Rattle.sd_shared_desk.specs.declared.ask.DeskAsk.{DeskAsk}
-use Rattle.sd_shared_desk.specs.declared.ask.DeskReply.{DeskReply}
 use Rattle.sd_shared_desk.specs.declared.noted.Noted.{Noted}
 use Rattle.sd_shared_desk.specs.declared.noted.Setup.{Setup}
 use Rattle.sd_shared_desk.specs.declared.shared_desk.SharedDesk.{SharedDesk}
 
 -- a seat of a shared desk
 abbrev pub OwnSeat : Type 0
-OwnSeat = TurnSeat Behind DeskAsk DeskReply Noted Setup ghosts
+OwnSeat = TurnSeat Behind Noted Setup ghosts
 
 -- what it was opened with
 abbrev pub opened_with : SharedDesk → Behind

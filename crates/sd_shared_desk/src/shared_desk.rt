@@ -46,13 +46,13 @@ impl SharedDesk {
     }
 
     // One call.
-    fn ask<R: Wait>(&self, rt: &R, own: &mut DeskSeat, ask: DeskAsk) -> DeskReply
+    fn ask<R: Wait>(&self, rt: &R, own: &mut DeskSeat, mut ask: DeskAsk) -> DeskReply
         requires { IsSeatOf self.now own.old }
         ensures seat { IsSeatOf self.now own.new × (number_of_seat own.new ≡ number_of_seat own.old) }
         ensures calls { Calls self.now own.old own.new (call_of ask result) }
         ensures replies { IsReplyTo ask result }
     {
-        self.turn.with_turn(rt, own, ask, || ())
+        self.turn.with_turn(rt, own, &mut ask, || ())
     }
 
     /// Adds what a datagram counts for, which came at this Unix second.

@@ -6,7 +6,7 @@ ghost use Rattle.sd_shared_desk.specs.Behind.{Stands};
 use crate::ask::{DeskAsk, DeskReply};
 use crate::noted::{Noted, Setup};
 use sd_desk::Desk;
-use sd_turn::Stepped;
+use sd_turn::{Change, Stepped};
 use std::marker::Model;
 
 /// A desk behind a turn, and how many seats there are.
@@ -80,40 +80,41 @@ impl DeskValue {
 }
 
 impl Stepped for DeskValue {
-    type Ask = DeskAsk;
-
-    type Reply = DeskReply;
-
     type Noted = Noted;
 
     type Fixed = Setup;
 
-    ghost use Rattle.std.specs.Prelude.{refl};
-    ghost use Rattle.sd_shared_desk.specs.Asks.{IsReplyTo, entry_of};
     ghost use Rattle.sd_shared_desk.specs.Behind.{IsLegal, Stands, setup_of};
 
     ghost fixed = { setup_of };
 
     ghost seats = { λ setup. setup.seats };
 
-    ghost allows = { λ setup ask. Unit {0} };
-
     ghost legal = { IsLegal };
 
     ghost stands = { Stands };
 
-    ghost entry = { λ setup number ask reply. entry_of number ask reply };
-
     ghost who = { λ n. n.number };
 
-    ghost replies = { λ setup ask reply. IsReplyTo ask reply };
+    ghost stands_legal = { λ v log stands. stands.legal };
+}
 
-    fn apply(&mut self, number: u16, ask: DeskAsk) -> DeskReply {
+impl Change<DeskValue> for DeskAsk {
+    type Answer = DeskReply;
+
+    ghost use Rattle.std.specs.Prelude.{[], ◌∷◌, refl};
+    ghost use Rattle.sd_shared_desk.specs.Asks.{IsReplyTo, entry_of};
+
+    ghost allows = { λ ask setup. Unit {0} };
+
+    ghost entries = { λ ask then reply setup number. entry_of number ask reply ∷ [] };
+
+    ghost told = { λ ask then reply setup. IsReplyTo ask reply };
+
+    fn apply(&mut self, value: &mut DeskValue, number: u16) -> DeskReply {
         let _ = number;
-        self.act(ask)
+        value.act(*self)
     }
 
-    ghost stands_legal = { λ v log stands. stands.legal };
-
-    ghost entry_names = { λ setup number ask reply. refl };
+    ghost entries_name = { λ ask then reply setup number. (refl, tt) };
 }

@@ -31,8 +31,8 @@ impl Model for Spares {
     ghost invariant = { AreSpares };
 }
 
-// So many empty tables.
-fn open_tables(alloc: Global, n: u16, limits: Limits) -> Result<Vec<Table>, AllocError>
+// So many empty tables, whose rows are found by hashes under a seed.
+fn open_tables(alloc: Global, n: u16, limits: Limits, seed: u64) -> Result<Vec<Table>, AllocError>
     requires { AreLimits (limits_of limits) }
     ensures len { IfOk result (λ spares. vec_len spares ≡ n) }
     ensures room { IfOk result (λ spares. n ≤ vec_capacity spares) }
@@ -40,7 +40,7 @@ fn open_tables(alloc: Global, n: u16, limits: Limits) -> Result<Vec<Table>, Allo
 {
     let mut spares = Vec::with_capacity(alloc, usize::from(n))?;
     for _i in 0..n {
-        spares.push_reserved(Table::open(alloc, limits)?);
+        spares.push_reserved(Table::open(alloc, limits, seed)?);
     }
     Ok(spares)
 }
@@ -76,19 +76,19 @@ fn move_back(swapped: &mut Vec<Table>, spares: &mut Vec<Table>)
 }
 
 impl Spares {
-    /// So many empty tables with these limits, all of them spare, and room to keep as many.
+    /// So many empty tables with these limits, all of them spare, and room to keep as many. Their rows are found by hashes under a seed.
     ///
     /// # Errors
     ///
     /// Where no memory is left for it.
-    pub fn open(alloc: Global, n: u16, limits: Limits) -> Result<Spares, AllocError>
+    pub fn open(alloc: Global, n: u16, limits: Limits, seed: u64) -> Result<Spares, AllocError>
         requires { AreLimits (limits_of limits) }
         ensures limits { IfOk result (λ s. s.limits ≡ limits_of limits) }
         ensures room { IfOk result (λ s. s.room ≡ n) }
         ensures waiting { IfOk result (λ s. length s.waiting ≡ n) }
         ensures swapped { IfOk result (λ s. s.swapped ≡ []) }
     {
-        let spares = open_tables(alloc, n, limits)?;
+        let spares = open_tables(alloc, n, limits, seed)?;
         let swapped = Vec::with_capacity(alloc, usize::from(n))?;
         Ok(Spares {
             limits,

@@ -20,7 +20,7 @@ use crate::settings::read_settings;
 use crate::status::{Part, Status};
 use sd_config::{ConfigFault, Settings};
 use sd_decimal::Line;
-use sd_outside::{Address, Beat, Ended, Failed, Name, Sink, write_all};
+use sd_outside::{Address, Beat, Ended, Failed, Interval, Name, Sink, write_all};
 use sd_plan::Node;
 use sd_proxy::{CheckEnd, Checked};
 use sd_relay::{ProxySums, RelayRoom, Relayed, relay};
@@ -117,7 +117,10 @@ fn run_proxy<K: Kinds, X: Threads + Wait + Sync>(
         return Err(Status::OutOfMemory);
     };
     open_proxy::<K>(settings, world)?;
-    world.beat.start(settings.check_interval());
+    world.beat.start(Interval {
+        ms: settings.check_interval(),
+        is_aligned: false,
+    });
     Ok(relay(
         rt,
         room,

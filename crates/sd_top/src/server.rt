@@ -16,7 +16,7 @@ use crate::server_opening::{open_server, reads_streams};
 use crate::settings::read_settings;
 use crate::status::Status;
 use sd_config::{NamesOf, Settings};
-use sd_outside::{Address, Beat, Clock, Name};
+use sd_outside::{Address, Beat, Clock, Interval, Name};
 use sd_plan::Names;
 use sd_replay::{limits_of, names_backend, policy_of, targets_of};
 use sd_serve::{Kinds, Served, ServerRoom, Sizes, serve};
@@ -77,7 +77,10 @@ pub(crate) fn run_server<K: Kinds, X: Threads + Wait + Sync>(
         return Err(Status::OutOfMemory);
     };
     open_server::<K>(settings, world)?;
-    world.beat.start(settings.flush_interval());
+    world.beat.start(Interval {
+        ms: settings.flush_interval(),
+        is_aligned: settings.align_flushes(),
+    });
     let names = Names::of(settings);
     Ok(serve::<K, X>(
         rt,

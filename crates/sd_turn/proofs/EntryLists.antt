@@ -1,5 +1,5 @@
--- A history with one entry more.
-use Rattle.std.proofs.Common.{◌≡◌, ℕ, ◌<◌, Bool, true, false, eqb, eq-eqb, ne_eqb, ◌≢◌, List, [], ◌∷◌, ◌++◌, refl, sym, ap, ◌∙◌, append_assoc, append-nil, map, zero-le, arith, Any}
+-- A history with entries more.
+use Rattle.std.proofs.Common.{◌≡◌, ℕ, ◌<◌, Bool, true, false, eqb, eq-eqb, ne_eqb, ◌≢◌, List, [], ◌∷◌, ◌++◌, refl, sym, ap, subst, ◌∙◌, append_assoc, append-nil, map, zero-le, arith, Any}
 use Rattle.sd_turn.specs.declared.view.Account.{Account}
 use Rattle.sd_turn.specs.Lists.{total, span, Each}
 use Rattle.sd_turn.proofs.Totals.{total-map, is, span_has, Any-numbered}
@@ -18,15 +18,30 @@ module _ {N : Type 0} where
     entries_by-append n [] ys = refl
     entries_by-append n (e ∷ xs) ys = ap (pick (eqb (who e) n) e) (entries_by-append n xs ys) ∙ pick-append (eqb (who e) n) e (entries_by who n xs) (entries_by who n ys)
 
-    pub own_entry : (n : ℕ) (log : List N) (e : N) → who e ≡ n → entries_by who n (log ++ e ∷ []) ≡ entries_by who n log ++ e ∷ []
-    own_entry n log e mine = entries_by-append n log (e ∷ []) ∙ ap (λ c. entries_by who n log ++ pick c e []) (eq-eqb (who e) n mine)
+    -- entries with one number, by it and by another
+    all_by : (n : ℕ) (es : List N) → Each (λ e. who e ≡ n) es → entries_by who n es ≡ es
+    all_by n [] mine = refl
+    all_by n (e ∷ es) mine = ap (λ c. pick c e (entries_by who n es)) (eq-eqb (who e) n mine.0) ∙ ap (λ l. e ∷ l) (all_by n es mine.1)
 
-    pub other_entry : (n : ℕ) (log : List N) (e : N) → who e ≢ n → entries_by who n (log ++ e ∷ []) ≡ entries_by who n log
-    other_entry n log e apart = entries_by-append n log (e ∷ []) ∙ ap (λ c. entries_by who n log ++ pick c e []) (ne_eqb (who e) n apart) ∙ append-nil (entries_by who n log)
+    none_by : (n m : ℕ) (es : List N) → n ≢ m → Each (λ e. who e ≡ n) es → entries_by who m es ≡ []
+    none_by n m [] apart mine = refl
+    none_by n m (e ∷ es) apart mine =
+        ap (λ c. pick c e (entries_by who m es)) (ne_eqb (who e) m (λ q. apart (sym mine.0 ∙ q))) ∙ none_by n m es apart mine.1
 
-    pub inside_more : (count : ℕ) (log : List N) (e : N) → who e < count → Each (λ e. who e < count) log → Each (λ e. who e < count) (log ++ e ∷ [])
-    inside_more count [] e below inside = (below, tt)
-    inside_more count (x ∷ log) e below inside = (inside.0, inside_more count log e below inside.1)
+    pub own_entries : (n : ℕ) (log es : List N) → Each (λ e. who e ≡ n) es → entries_by who n (log ++ es) ≡ entries_by who n log ++ es
+    own_entries n log es mine = entries_by-append n log es ∙ ap (λ l. entries_by who n log ++ l) (all_by n es mine)
+
+    pub other_entries : (n m : ℕ) (log es : List N) → n ≢ m → Each (λ e. who e ≡ n) es → entries_by who m (log ++ es) ≡ entries_by who m log
+    other_entries n m log es apart mine =
+        entries_by-append m log es ∙ ap (λ l. entries_by who m log ++ l) (none_by n m es apart mine) ∙ append-nil (entries_by who m log)
+
+    all_inside : (n count : ℕ) (es : List N) → n < count → Each (λ e. who e ≡ n) es → Each (λ e. who e < count) es
+    all_inside n count [] below mine = tt
+    all_inside n count (e ∷ es) below mine = (subst (λ k. k < count) (sym mine.0) below, all_inside n count es below mine.1)
+
+    pub inside_more : (n count : ℕ) (log es : List N) → n < count → Each (λ e. who e ≡ n) es → Each (λ e. who e < count) log → Each (λ e. who e < count) (log ++ es)
+    inside_more n count [] es below mine inside = all_inside n count es below mine
+    inside_more n count (x ∷ log) es below mine inside = (inside.0, inside_more n count log es below mine inside.1)
 
 -- each number below the count is that of some seat, where the accounts have all of them
 pub Any-seat : {X N : Type 0} (account : X → Account N) (number : X → ℕ) → ((x : X) → (account x).number ≡ number x) → (all : List X) (accounts : List (Account N)) → accounts ≡ map account all

@@ -1,6 +1,5 @@
 -- A turn with a history: the whole is the list of the entries noted so far, and a seat's own part of it the entries that it made.
--- Word 1 counts the entries, modulo 2^64.
-use Rattle.std.specs.Prelude.{◌≡◌, ℕ, ◌<◌, ◌%◌, ◌^◌, true, List, [], ◌∷◌, ◌++◌, length, Some, refl}
+use Rattle.std.specs.Prelude.{◌≡◌, ℕ, ◌<◌, true, List, [], ◌∷◌, ◌++◌, Some, refl}
 use Rattle.std.proofs.Common.{sym, append-nil}
 use Rattle.atomic_table.specs.Table.{Me, Step, rest}
 use Rattle.sd_turn.specs.declared.view.Account.{Account}
@@ -16,7 +15,7 @@ history_terms fixed stands legal who = record {
   fixed = fixed;
   stands = stands;
   sound = λ f count log. legal f log × Each (λ e. who e < count) log;
-  words = λ log. length log % 2 ^ 64 ∷ [];
+  words = λ log. [];
   fits = λ log a. Begins a.seen log × (a.own ≡ entries_by who a.number log);
   unused = λ log number. entries_by who number log ≡ [];
   amount = λ k entries. 0;
@@ -37,18 +36,14 @@ add_entries (a ∷ accounts) es = account a.number (a.own ++ es) (a.seen ++ es) 
 abbrev pub noting : {N F : Type 0} → View N F → List N → View N F
 noting v es = view (add_entries v.accounts es) v.spare v.turn v.fixed
 
--- these entries are noted
-abbrev pub noted : {S N F : Type 0} → List N → Step S → Me S (View N F) → ℕ → Me S (View N F) → Type 0
-noted es st m n m' = m' ≡ (noting m.0 es, m.1)
-
--- the turn and the value are given back
-abbrev pub gave : {S N F : Type 0} → Step S → Me S (View N F) → ℕ → Me S (View N F) → Type 0
-gave st m n m' = m' ≡ (released m.0, rest m.1)
+-- these entries are noted, and the turn and the value are given back
+abbrev pub gave : {S N F : Type 0} → List N → Step S → Me S (View N F) → ℕ → Me S (View N F) → Type 0
+gave es st m n m' = m' ≡ (released (noting m.0 es), rest m.1)
 
 -- the seat has the turn with this value
 abbrev pub HasTurn : {S N F : Type 0} → F → ℕ → S → Me S (View N F) → Type 0
 HasTurn f number y m = m ≡ (view (account number (own_of m.0) (seen_of m.0) ∷ []) [] true (Some f), (0, y) ∷ [])
 
--- the seat has the turn with a value that stands for the history as it has seen it
-abbrev pub Holds : {S N F : Type 0} → (S → F) → (S → List N → Type 0) → F → ℕ → Me S (View N F) → Type 0
-Holds {S} fixed stands f number m = (y : S) × HasTurn f number y m × (fixed y ≡ f) × stands y (seen_of m.0)
+-- the seat has the turn with a value that stands for the history as it has seen it, with these entries behind it
+abbrev pub Holds : {S N F : Type 0} → (S → F) → (S → List N → Type 0) → F → ℕ → List N → Me S (View N F) → Type 0
+Holds {S} fixed stands f number es m = (y : S) × HasTurn f number y m × (fixed y ≡ f) × stands y (seen_of m.0 ++ es)

@@ -8,47 +8,43 @@ use Rattle.sd_turn.specs.declared.stepped.Stepped.{Ghosts}
 use Rattle.sd_turn.specs.declared.turn.Turn.{Turn}
 use Rattle.sd_turn.specs.declared.turn_seat.TurnSeat.{TurnSeat}
 
-module _ {V A R N F : Type 0} where
+module _ {V N F : Type 0} where
   -- the value that it was opened with
-  abbrev pub opened_with : Turn V A R N F → V
+  abbrev pub opened_with : Turn V N F → V
   opened_with t = t.turn.table.shared.key.value.value
 
   -- how many seats it has
-  abbrev pub seats_of : Turn V A R N F → ℕ
+  abbrev pub seats_of : Turn V N F → ℕ
   seats_of t = t.turn.table.shared.key.seats
 
-module _ {V A R N F : Type 0} {g : Ghosts V A R N F} where
-  abbrev pub number_of : TurnSeat V A R N F g → ℕ
+module _ {V N F : Type 0} {g : Ghosts V N F} where
+  abbrev pub number_of : TurnSeat V N F g → ℕ
   number_of s = s.number
 
   -- its number, its entries, and what it has seen
-  abbrev pub account_of : TurnSeat V A R N F g → Account N
+  abbrev pub account_of : TurnSeat V N F g → Account N
   account_of s = first_account s.seat.me.0.accounts
 
   -- the history as it has last seen it
-  abbrev pub seen : TurnSeat V A R N F g → List N
+  abbrev pub seen : TurnSeat V N F g → List N
   seen s = (account_of s).seen
 
   -- the entries that it made
-  abbrev pub own : TurnSeat V A R N F g → List N
+  abbrev pub own : TurnSeat V N F g → List N
   own s = (account_of s).own
 
   -- the seat is one of this turn's, whose fixed part it knows, and its number is one that the fixed part gives
-  abbrev pub IsSeatOf : Turn V A R N F → TurnSeat V A R N F g → Type 0
+  abbrev pub IsSeatOf : Turn V N F → TurnSeat V N F g → Type 0
   IsSeatOf t s =
       (s.seat.table_id ≡ t.turn.table.shared.table_id) × (s.seat.me.0.fixed ≡ Some (g.fixed (opened_with t)))
       × (s.number < seats_of t) × (seats_of t ≡ g.seats (g.fixed (opened_with t)))
 
   -- it has seen and made nothing
-  abbrev pub IsNewSeatOf : Turn V A R N F → TurnSeat V A R N F g → Type 0
+  abbrev pub IsNewSeatOf : Turn V N F → TurnSeat V N F g → Type 0
   IsNewSeatOf t s = IsSeatOf t s × (own s ≡ []) × (seen s ≡ [])
 
-  -- the entry of a call by this seat
-  abbrev pub entry_of : Turn V A R N F → TurnSeat V A R N F g → A → R → N
-  entry_of t s ask reply = g.entry (g.fixed (opened_with t)) (number_of s) ask reply
-
   -- the one history behind a turn, as the value at the end and all seats tell it
-  pub record History (t : Turn V A R N F) (seats : List (TurnSeat V A R N F g)) (value : V) : Type 0 where
+  pub record History (t : Turn V N F) (seats : List (TurnSeat V N F g)) (value : V) : Type 0 where
     pub log : List N
     pub legal : g.legal (g.fixed (opened_with t)) log
     pub stands : g.stands value log

@@ -1,5 +1,5 @@
-//! What is behind a turn with a history, and what its own steps tell.
-ghost use Rattle.sd_turn.specs.History.{history_terms, history_laws, noted, gave};
+//! What is behind a turn with a history, and what its own step tells.
+ghost use Rattle.sd_turn.specs.History.{history_terms, history_laws, gave};
 
 use crate::behind::Behind;
 use crate::stepped::Stepped;
@@ -16,7 +16,7 @@ impl<V: Stepped> Behind<V, V::Noted, V::Fixed> for History {
     ghost laws = { history_laws V.fixed V.stands V.legal V.who };
 }
 
-/// Picks the entries that a step notes. Each call picks them for itself.
+/// Picks the entries that a turn notes. Each call picks them for itself.
 pub trait Chosen<N> {
     ghost use Rattle.std.specs.Prelude.{List};
 
@@ -29,18 +29,11 @@ impl<N> Chosen<N> for Brand {
     ghost chosen = { [] };
 }
 
-// The entries that were picked are noted.
-pub(crate) struct Note<E> {
+// The entries that were picked are noted, and the turn and the value are given back.
+pub(crate) struct Give<E> {
     of: PhantomData<E>,
 }
 
-impl<S, N, F, E: Chosen<N>> Play<S, View<N, F>> for Note<E> {
-    ghost then = { noted E.chosen };
-}
-
-// The turn and the value are given back.
-pub(crate) struct Give;
-
-impl<S, N, F> Play<S, View<N, F>> for Give {
-    ghost then = { gave };
+impl<S, N, F, E: Chosen<N>> Play<S, View<N, F>> for Give<E> {
+    ghost then = { gave E.chosen };
 }

@@ -7,6 +7,7 @@
 #![tactic(auto)]
 
 mod behind;
+mod change;
 mod history;
 mod plain_seat;
 mod stepped;
@@ -15,6 +16,7 @@ mod turn_seat;
 mod turn_table;
 mod view;
 
+pub use change::Change;
 pub use stepped::Stepped;
 pub use turn::Turn;
 pub use turn_seat::TurnSeat;

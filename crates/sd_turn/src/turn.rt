@@ -1,11 +1,13 @@
 //! A value behind a turn with a history.
-ghost use Rattle.std.specs.Prelude.{◌≡◌, ◌<◌, List, [], ◌∷◌, ◌++◌, length, map, false, IfOk, All};
+ghost use Rattle.std.specs.Prelude.{◌≡◌, ◌<◌, [], ◌++◌, length, map, IfOk, All};
+ghost use Rattle.atomic_table.specs.Table.{rest};
 ghost use Rattle.sd_turn.specs.Lists.{span};
-ghost use Rattle.sd_turn.specs.Views.{own_of, seen_of};
-ghost use Rattle.sd_turn.specs.Entries.{GoesOn, entries_by};
-ghost use Rattle.sd_turn.specs.History.{noting, HasTurn, Holds};
+ghost use Rattle.sd_turn.specs.Views.{released};
+ghost use Rattle.sd_turn.specs.Entries.{GoesOnBy, entries_by};
+ghost use Rattle.sd_turn.specs.History.{noting, Holds};
 
-use crate::history::{Chosen, Give, History, Note};
+use crate::change::Change;
+use crate::history::{Chosen, Give, History};
 use crate::stepped::Stepped;
 use crate::turn_seat::TurnSeat;
 use crate::turn_table::TurnTable;
@@ -20,11 +22,10 @@ use std::sync::Wait;
 #[derive(Drop)]
 pub struct Turn<V: Stepped> {
     turn: TurnTable<V, V::Noted, V::Fixed, History>,
-    ghost counted: { turn.table.shared.table_id.words ≡ 2 },
 }
 
 impl<V: Stepped> Turn<V> {
-    ghost use Rattle.sd_turn.specs.Turn.{opened_with, seats_of, number_of, account_of, seen, own, IsSeatOf, IsNewSeatOf, entry_of, History as IsHistory};
+    ghost use Rattle.sd_turn.specs.Turn.{opened_with, seats_of, number_of, account_of, seen, own, IsSeatOf, IsNewSeatOf, History as IsHistory};
 
     /// A turn over a value that stands for no entries, and its seats, which have the numbers from 0
     /// on, in order. Only this call takes memory.
@@ -39,7 +40,7 @@ impl<V: Stepped> Turn<V> {
         ensures numbers { IfOk result (λ r. map number_of r.1.items ≡ span 0 seats) }
         ensures seats { IfOk result (λ r. All (IsNewSeatOf r.0) r.1.items) }
     {
-        let (table, mut first) = TurnTable::open(alloc, &[0, 0], value, seats)?;
+        let (table, mut first) = TurnTable::open(alloc, &[0], value, seats)?;
         let turn = Turn::new(table);
         let mut made = Vec::new(alloc);
         let last = seats - 1;
@@ -52,89 +53,74 @@ impl<V: Stepped> Turn<V> {
     }
 
     fn new(turn: TurnTable<V, V::Noted, V::Fixed, History>) -> Turn<V>
-        requires { turn.table.shared.table_id.words ≡ 2 }
         ensures { result.turn ≡ turn }
     {
         Turn { turn }
     }
 
-    /// Waits for the turn, calls `during`, changes the value as it is asked, and gives the turn
-    /// back.
-    pub fn with_turn<F: FnOnce(), R: Wait>(
+    /// Waits for the turn, calls `during`, makes the change, and gives the turn back. The entries that
+    /// the change makes stand next to each other in the history.
+    pub fn with_turn<Q: Change<V>, F: FnOnce(), R: Wait>(
         &self,
         rt: &R,
         seat: &mut TurnSeat<V>,
-        ask: V::Ask,
+        change: &mut Q,
         during: F,
-    ) -> V::Reply
+    ) -> Q::Answer
         requires seat { IsSeatOf self.now seat.old }
-        requires allowed { V.allows (V.fixed (opened_with self.now)) ask }
+        requires allowed { Q.allows change.old (V.fixed (opened_with self.now)) }
         requires during { F.pre during }
         ensures seat { IsSeatOf self.now seat.new × (number_of seat.new ≡ number_of seat.old) }
-        ensures seen { GoesOn (seen seat.old) (seen seat.new) (entry_of self.now seat.old ask result) }
+        ensures seen { GoesOnBy (seen seat.old) (seen seat.new) (Q.entries change.old change.new result (V.fixed (opened_with self.now)) (number_of seat.old)) }
         ensures legal { V.legal (V.fixed (opened_with self.now)) (seen seat.new) }
-        ensures own { own seat.new ≡ own seat.old ++ entry_of self.now seat.old ask result ∷ [] }
+        ensures own { own seat.new ≡ own seat.old ++ Q.entries change.old change.new result (V.fixed (opened_with self.now)) (number_of seat.old) }
         ensures all { own seat.new ≡ entries_by V.who (number_of seat.old) (seen seat.new) }
-        ensures replies { V.replies (V.fixed (opened_with self.now)) ask result }
+        ensures told { Q.told change.old change.new result (V.fixed (opened_with self.now)) }
         ensures during { F.post during tt }
     {
         let number = seat.number;
         self.turn.take(rt, &mut seat.seat, number);
         during();
-        let reply = self.act(&mut seat.seat, number, ask);
-        self.turn.give::<Give>(&mut seat.seat);
-        reply
+        let before = Snapshot::of(&*change);
+        let answer = self.change(&mut seat.seat, number, change);
+        self.give::<Brand, Q>(&mut seat.seat, number, before, change, &answer);
+        answer
     }
 
-    // One change of the value and its entry, by a seat that has the turn.
-    fn act(
+    // The change, by a seat that has the turn.
+    fn change<Q: Change<V>>(
         &self,
         seat: &mut Seat<V, View<V::Noted, V::Fixed>>,
         number: u16,
-        ask: V::Ask,
-    ) -> V::Reply
+        change: &mut Q,
+    ) -> Q::Answer
         requires seat { (seat.old.table_id ≡ self.now.turn.table.shared.table_id) × (number < seats_of self.now) × (seats_of self.now ≡ V.seats (V.fixed (opened_with self.now))) }
-        requires allowed { V.allows (V.fixed (opened_with self.now)) ask }
-        requires held { Holds V.fixed V.stands (V.fixed (opened_with self.now)) number seat.old.me }
-        ensures seat { seat.new.table_id ≡ seat.old.table_id }
-        ensures noted { seat.new.me.0 ≡ noting seat.old.me.0 (V.entry (V.fixed (opened_with self.now)) number ask result ∷ []) }
-        ensures held { Holds V.fixed V.stands (V.fixed (opened_with self.now)) number seat.new.me }
-        ensures replies { V.replies (V.fixed (opened_with self.now)) ask result }
-    {
-        let asked = Snapshot::of(&ask);
-        let reply = self.change(seat, number, ask);
-        self.note::<Brand>(seat, number, asked, &reply);
-        reply
-    }
-
-    fn change(
-        &self,
-        seat: &mut Seat<V, View<V::Noted, V::Fixed>>,
-        number: u16,
-        ask: V::Ask,
-    ) -> V::Reply
-        requires seat { seat.old.table_id ≡ self.now.turn.table.shared.table_id }
-        requires held { (before : V) × (seat.old.me.1 ≡ (0, before) ∷ []) × (number < V.seats (V.fixed before)) × V.allows (V.fixed before) ask }
+        requires allowed { Q.allows change.old (V.fixed (opened_with self.now)) }
+        requires held { Holds V.fixed V.stands (V.fixed (opened_with self.now)) number [] seat.old.me }
         ensures seat { (seat.new.table_id ≡ seat.old.table_id) × (seat.new.me.0 ≡ seat.old.me.0) }
-        ensures changed { (before : V) × (after : V) × (seat.old.me.1 ≡ (0, before) ∷ []) × (seat.new.me.1 ≡ (0, after) ∷ []) × (V.fixed after ≡ V.fixed before) × ((log : List V.Noted) → V.stands before log → V.stands after (log ++ V.entry (V.fixed before) number ask result ∷ [])) × V.replies (V.fixed before) ask result }
+        ensures held { Holds V.fixed V.stands (V.fixed (opened_with self.now)) number (Q.entries change.old change.new result (V.fixed (opened_with self.now)) number) seat.new.me }
+        ensures told { Q.told change.old change.new result (V.fixed (opened_with self.now)) }
     {
         let value = seat.slot_mut(&self.turn.table.shared, 0);
-        value.apply(number, ask)
+        change.apply(value, number)
     }
 
-    fn note<E: Chosen<V::Noted>>(
+    // The entries of the change are noted as the turn is given back.
+    fn give<E: Chosen<V::Noted>, Q: Change<V>>(
         &self,
         seat: &mut Seat<V, View<V::Noted, V::Fixed>>,
         number: u16,
-        asked: Snapshot<V::Ask>,
-        reply: &V::Reply,
+        before: Snapshot<Q>,
+        change: &Q,
+        answer: &Q::Answer,
     )
-        requires chosen { E.chosen ≡ V.entry (V.fixed (opened_with self.now)) number asked.value reply.now ∷ [] }
+        requires chosen { E.chosen ≡ Q.entries before.value change.now answer.now (V.fixed (opened_with self.now)) number }
         requires seat { (seat.old.table_id ≡ self.now.turn.table.shared.table_id) × (number < seats_of self.now) }
-        requires held { (y : V) × HasTurn (V.fixed (opened_with self.now)) number y seat.old.me × V.legal (V.fixed (opened_with self.now)) (seen_of seat.old.me.0 ++ V.entry (V.fixed (opened_with self.now)) number asked.value reply.now ∷ []) }
-        ensures { (seat.new.table_id ≡ seat.old.table_id) × (seat.new.me ≡ (noting seat.old.me.0 (V.entry (V.fixed (opened_with self.now)) number asked.value reply.now ∷ []), seat.old.me.1)) }
+        requires held { Holds V.fixed V.stands (V.fixed (opened_with self.now)) number (Q.entries before.value change.now answer.now (V.fixed (opened_with self.now)) number) seat.old.me }
+        ensures { (seat.new.table_id ≡ seat.old.table_id) × (seat.new.me ≡ (released (noting seat.old.me.0 (Q.entries before.value change.now answer.now (V.fixed (opened_with self.now)) number)), rest seat.old.me.1)) }
     {
-        self.turn.table.shared.fetch_add::<Note<E>>(seat, 1, 1);
+        let _ = (number, before, change, answer);
+        self.turn.give::<Give<E>>(seat);
     }
 
     /// The value, from all its seats. It stands for one legal history, of which each seat has seen a

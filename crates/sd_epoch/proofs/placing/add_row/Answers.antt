@@ -9,10 +9,10 @@ use Rattle.sd_epoch.proofs.TurnLemmas.{absent_place}
 use Rattle.sd_epoch.proofs.placing.add_row.Goals as goal
 
 pub push-requires-clause-absent : goal.push-requires-clause-absent
-push-requires-clause-absent c = absent_place c.args.rows.now c.args.order.now.places.items c.add-place.result c.requires.rows.live c.add-place.ensures.empty
+push-requires-clause-absent c = absent_place c.args.rows.now.rows c.args.order.now.places.items c.add-place.result c.requires.rows.live c.add-place.ensures.empty
 
 pub add-place-requires-clause-room : goal.add-place-requires-clause-room
-add-place-requires-clause-room c = omega (arith, count_below c.args.rows.now c.args.order.now.places.items c.requires.rows.all, c.args.order.now.places.ok.0)
+add-place-requires-clause-room c = omega (arith, count_below c.args.rows.now.rows c.args.order.now.places.items c.requires.rows.all, c.args.order.now.places.ok.0)
 
 -- the row that is written in the end, with its base and swaps
 rows_are : (rows mid new : List (Option Row)) (at : ℕ) (first row : Row) → at < length rows → mid ≡ set rows at (Some first) → new ≡ set mid at (reset (row_at mid at) row.base row.swaps)
@@ -27,29 +27,29 @@ pub returns-clause-row : goal.returns-clause-row
 returns-clause-row c =
     let row : Row = record { kind = c.args.kind; key = c.args.key.now; base = c.args.base; swaps = c.args.swaps } in
     let at = c.add-place.result in
-    let are = rows_are c.args.rows.now c.add-place.new.self c.set.new.self at _ row c.add-place.ensures.within c.add-place.ensures.places c.set.ensures refl refl in
-    ap (λ (xs : List (Option Row)). row_at xs at) are ∙ written c.args.rows.now at row c.add-place.ensures.within
+    let are = c.set_tally.ensures.rows ∙ rows_are c.args.rows.now.rows c.add-place.new.self.rows c.set.new.self.rows at _ row c.add-place.ensures.within c.add-place.ensures.rows c.set.ensures.rows refl refl in
+    ap (λ (xs : List (Option Row)). row_at xs at) are ∙ written c.args.rows.now.rows at row c.add-place.ensures.within
 
 pub returns-clause-rows : goal.returns-clause-rows
 returns-clause-rows c =
     let row : Row = record { kind = c.args.kind; key = c.args.key.now; base = c.args.base; swaps = c.args.swaps } in
     let at = c.add-place.result in
-    let are = rows_are c.args.rows.now c.add-place.new.self c.set.new.self at _ row c.add-place.ensures.within c.add-place.ensures.places c.set.ensures refl refl in
+    let are = c.set_tally.ensures.rows ∙ rows_are c.args.rows.now.rows c.add-place.new.self.rows c.set.new.self.rows at _ row c.add-place.ensures.within c.add-place.ensures.rows c.set.ensures.rows refl refl in
     subst (λ (xs : List (Option Row)). AreRows xs c.push.new.self.places.items) (sym are)
-    (subst (AreRows (set c.args.rows.now at (Some row))) (sym c.push.ensures.places)
-    (add_rows c.args.rows.now at row c.add-place.ensures.within c.add-place.ensures.empty c.requires.absent c.args.order.now.places.items c.requires.rows))
+    (subst (AreRows (set c.args.rows.now.rows at (Some row))) (sym c.push.ensures.places)
+    (add_rows c.args.rows.now.rows at row c.add-place.ensures.within c.add-place.ensures.empty c.requires.absent c.args.order.now.places.items c.requires.rows))
 
 pub returns-clause-stay : goal.returns-clause-stay
 returns-clause-stay c =
     let row : Row = record { kind = c.args.kind; key = c.args.key.now; base = c.args.base; swaps = c.args.swaps } in
     let at = c.add-place.result in
-    let are = rows_are c.args.rows.now c.add-place.new.self c.set.new.self at _ row c.add-place.ensures.within c.add-place.ensures.places c.set.ensures refl refl in
-    subst (StayAt c.args.rows.now) (sym are) (add_stays c.args.rows.now at row c.add-place.ensures.within c.add-place.ensures.empty c.requires.absent)
+    let are = c.set_tally.ensures.rows ∙ rows_are c.args.rows.now.rows c.add-place.new.self.rows c.set.new.self.rows at _ row c.add-place.ensures.within c.add-place.ensures.rows c.set.ensures.rows refl refl in
+    subst (StayAt c.args.rows.now.rows) (sym are) (add_stays c.args.rows.now.rows at row c.add-place.ensures.within c.add-place.ensures.empty c.requires.absent)
 
 pub returns-clause-others : goal.returns-clause-others
 returns-clause-others c p ne =
     let row : Row = record { kind = c.args.kind; key = c.args.key.now; base = c.args.base; swaps = c.args.swaps } in
     let at = c.add-place.result in
     let within = c.add-place.ensures.within in
-    let are = rows_are c.args.rows.now c.add-place.new.self c.set.new.self at _ row within c.add-place.ensures.places c.set.ensures refl refl in
-    ap (λ (xs : List (Option Row)). row_at xs p) are ∙ unwritten c.args.rows.now at row within p ne
+    let are = c.set_tally.ensures.rows ∙ rows_are c.args.rows.now.rows c.add-place.new.self.rows c.set.new.self.rows at _ row within c.add-place.ensures.rows c.set.ensures.rows refl refl in
+    ap (λ (xs : List (Option Row)). row_at xs p) are ∙ unwritten c.args.rows.now.rows at row within p ne

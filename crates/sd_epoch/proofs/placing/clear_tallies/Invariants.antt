@@ -7,7 +7,8 @@ use Rattle.sd_epoch.proofs.placing.clear_tallies.Given as goal
 -- the tallies of the places so far are without samples
 abbrev pub invariant-loop-at : goal.invariant-loop-at
 invariant-loop-at l = record {
-  done : (p : ℕ) (row : Row) → p < l.at → row_at l.rows p ≡ Some row → IsFresh row.base.0 (get_or l.tallies.items p no_tally);
-  len : length l.tallies.items ≡ length l.fn.tallies.items;
-  all : l.at-end ≡ length l.rows;
+  done : (p : ℕ) (row : Row) → p < l.at → row_at l.fn.rows.rows p ≡ Some row → IsFresh row.base.0 (get_or l.rows.tallies p no_tally);
+  rows : l.rows.rows ≡ l.fn.rows.rows;
+  len : length l.rows.tallies ≡ length l.fn.rows.tallies;
+  all : l.at-end ≡ length l.fn.rows.rows;
 }

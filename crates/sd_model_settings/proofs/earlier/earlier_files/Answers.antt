@@ -1,4 +1,4 @@
-use Rattle.sd_model_settings.proofs.EarlierLemmas.{settings_kept, earlier_rules_in_force, earlier_transport_in_force, settings_kept_before_outlets, transport_before_outlets, settings_kept_before_sums, no_sums_before_sums, no_room_before_sums}
+use Rattle.sd_model_settings.proofs.EarlierLemmas.{settings_kept, earlier_rules_in_force, earlier_transport_in_force, settings_kept_before_outlets, transport_before_outlets, settings_kept_before_sums, no_sums_before_sums, no_room_before_sums, settings_kept_before_batches, none_before_batches}
 use Rattle.sd_model_settings.proofs.earlier.earlier_files.Goals as goal
 
 pub returns-clause-kept : goal.returns-clause-kept
@@ -24,3 +24,9 @@ returns-clause-no_sums_before c = no_sums_before_sums
 
 pub returns-clause-no_room_before : goal.returns-clause-no_room_before
 returns-clause-no_room_before c = no_room_before_sums
+
+pub returns-clause-kept_before_batches : goal.returns-clause-kept_before_batches
+returns-clause-kept_before_batches c = settings_kept_before_batches
+
+pub returns-clause-none_before_batches : goal.returns-clause-none_before_batches
+returns-clause-none_before_batches c = none_before_batches

@@ -26,7 +26,7 @@ loop-seat-preserved c =
     record {
       walked = (
         w.0 ++ s ∷ [],
-        Walked-step Given i first c.loop-seat.seat-items w.0 c.seat-item.result (record { who = (get_or c.loop-seat.seat-items i c.seat-item.result).who; seats = c.push.new.self; samples = (get_or c.loop-seat.seat-items i c.seat-item.result).samples; patterns = (get_or c.loop-seat.seat-items i c.seat-item.result).patterns }) s w.1 below (refl, c.in_ok-push.ensures.items, refl, refl),
+        Walked-step Given i first c.loop-seat.seat-items w.0 c.seat-item.result (record { who = (get_or c.loop-seat.seat-items i c.seat-item.result).who; seats = c.push.new.self }) s w.1 below (refl, c.in_ok-push.ensures.items),
         w.2 ∙ ap (λ (l : List OwnSeat). w.0 ++ l) parts ∙ sym (append_assoc w.0 (s ∷ []) c.remove.new.self.items),
       );
       room = c.remove.ensures.capacity ∙ c.loop-seat.invariant.room;

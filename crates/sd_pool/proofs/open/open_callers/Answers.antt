@@ -12,13 +12,11 @@ pub loop-number-preserved : goal.loop-number-preserved
 loop-number-preserved c =
     let all = c.loop-number.all.items in
     let inv = c.loop-number.invariant in
-    let s : Seat = record { who = c.caller.result; seats = c.new.result; samples = c.in_ok-samples.samples; patterns = c.in_ok-patterns.patterns } in
+    let s : Seat = record { who = c.caller.result; seats = c.new.result } in
     let is : IsDealt [] c.args.receivers c.loop-number.number s = record {
       who = c.caller.ensures;
       seats = subst (λ (ss : List OwnSeat). AreSeatsOf (turns_in []) ss c.loop-number.number) (sym c.new.ensures.items) tt;
       new = subst (AllByRecursion IsNew) (sym c.new.ensures.items) tt;
-      samples = (omega (arith, ap length c.in_ok-samples.ensures.items), c.in_ok-samples.ensures.capacity);
-      patterns = (c.in_ok-patterns.ensures.items, c.in_ok-patterns.ensures.capacity);
     } in (
       ap length c.in_ok-push.ensures.items ∙ length_push all s ∙ ap (λ n. n + 1) inv.0,
       subst (AreDealt [] c.args.receivers 0) (sym c.in_ok-push.ensures.items) (AreDealt-push [] c.args.receivers 0 all s c.loop-number.number inv.1 (omega (arith, inv.0)) is),

@@ -6,6 +6,7 @@ use Rattle.sd_model_shard.specs.Summaries.{without_samples}
 use Rattle.sd_key.specs.Kind.{kind_of}
 use Rattle.sd_key.specs.declared.kind.Kind.{Kind}
 use Rattle.sd_rows.specs.RowMap.{kept_of}
+use Rattle.sd_rows.specs.Rows.{row_seen}
 use Rattle.sd_rows.specs.declared.row.Row.{Row}
 use Rattle.sd_rows.proofs.MapLemmas.{map-found}
 use Rattle.sd_epoch.specs.Table.{live_of, id_of, row_view}
@@ -15,7 +16,7 @@ use Rattle.sd_shard.proofs.carry.kept_at.Goals as goal
 pub returns-in-Gauge : goal.returns-in-Gauge
 returns-in-Gauge c =
     let t = c.args.table.now in
-    let row = c.args.row.now in
+    let row = row_seen c.args.row.now in
     let kept = c.requires.listing.rows (id_of row.kind row.key) ∙ map-found t.places c.args.at row c.requires.listing.apart c.requires.row in
     let value = subst (λ (o : Option Row). IfSome o (λ r. IfSome (get (live_of t) (row_view r).0) (λ k. c.gauge_at.result.0 ≡ k.since.gauge))) c.requires.row c.gauge_at.ensures in
     let swaps : c.min.result ≡ min (row.swaps + 1) 1000000000 = omega (arith, c.min.ensures, c.saturating_add.ensures) in
@@ -25,7 +26,7 @@ returns-in-Gauge c =
 pub returns-in-Counter : goal.returns-in-Counter
 returns-in-Counter c =
     let t = c.args.table.now in
-    let row = c.args.row.now in
+    let row = row_seen c.args.row.now in
     let goes_on : Kind → Type 0 = λ k. option_map (kept_by (kind_of k)) (get (live_of t) (id_of row.kind row.key)) ≡ Some (kept_of row) in
     let kept = c.requires.listing.rows (id_of row.kind row.key) ∙ map-found t.places c.args.at row c.requires.listing.apart c.requires.row in
     elim c.in-Counter.is [

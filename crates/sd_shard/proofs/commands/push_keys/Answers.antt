@@ -3,6 +3,7 @@ use Rattle.std.specs.Prelude.{IfSome}
 use Rattle.sd_key.specs.Kind.{kind_of}
 use Rattle.sd_model_shard.specs.Rows.{RowId, Kept}
 use Rattle.sd_model_shard.specs.Commands.{is_hit}
+use Rattle.sd_rows.specs.Rows.{row_seen}
 use Rattle.sd_epoch.specs.Table.{fresh, row_view}
 use Rattle.sd_shard.specs.Keys.{KeyList}
 use Rattle.sd_shard.proofs.CommandLemmas.{filter-hit, filter-miss, there, told-push}
@@ -17,15 +18,15 @@ loop-i-preserved c =
     let i = c.loop-i.i in
     let here = there listed i (omega (arith, c.loop-i.invariant.all, c.loop-i-test.true)) in
     let row = here.0 in
-    let id : row.0 ≡ (row_view c.get-row.result.now).0 =
-    ap (λ (r : RowId × Kept). r.0) (subst (λ (o : Option (RowId × Kept)). IfSome o (λ r. (r.0, fresh r.1) ≡ row_view c.get-row.result.now)) here.1 c.get-row.ensures) in
+    let id : row.0 ≡ (row_view (row_seen c.get-row.result)).0 =
+    ap (λ (r : RowId × Kept). r.0) (subst (λ (o : Option (RowId × Kept)). IfSome o (λ r. (r.0, fresh r.1) ≡ row_view (row_seen c.get-row.result))) here.1 c.get-row.ensures) in
     let test : p row ≡ c.is_hit.result = ap (is_hit (kind_of c.args.kind) c.args.pattern.now) id ∙ sym c.is_hit.ensures in
     let old = c.args.out.now.items in
     let inv = c.loop-i.invariant in
     elim c.if-is_hit.branch [
       | then-is_hit w ↦
           let more = filter-hit p listed i row here.1 (test ∙ w.if-is_hit.true) in
-          let same : w.unwrap.result ≡ key (row_view c.get-row.result.now) = search rules in
+          let same : w.unwrap.result ≡ key (row_view (row_seen c.get-row.result)) = search rules in
           let copied : w.unwrap.result ≡ key row = same ∙ sym (ap (λ (r : RowId). r.key) id) in
           record {
             keys = ap (λ (o : KeyList). o.items) w.out-is ∙ w.push.ensures.items ∙ (λ j. (inv.keys j) ++ (copied j) ∷ [])

@@ -4,6 +4,7 @@ use Rattle.std.proofs.lemmas.List.{map-append}
 use Rattle.sd_key.specs.Kind.{kind_of}
 use Rattle.sd_model_shard.specs.Rows.{RowId, Kept}
 use Rattle.sd_model_shard.specs.Commands.{DumpRow, is_of_kind, dump_row}
+use Rattle.sd_rows.specs.Rows.{row_seen}
 use Rattle.sd_epoch.specs.Table.{fresh, row_view}
 use Rattle.sd_shard.specs.Dump.{DumpList, dump_row_of, rows_of}
 use Rattle.sd_shard.proofs.CommandLemmas.{filter-hit, filter-miss, there, told-push}
@@ -17,8 +18,8 @@ loop-i-preserved c =
     let i = c.loop-i.i in
     let here = there listed i (omega (arith, c.loop-i.invariant.all, c.loop-i-test.true)) in
     let row = here.0 in
-    let id : row.0 ≡ (row_view c.get.result.now).0 =
-    ap (λ (r : RowId × Kept). r.0) (subst (λ (o : Option (RowId × Kept)). IfSome o (λ r. (r.0, fresh r.1) ≡ row_view c.get.result.now)) here.1 c.get.ensures) in
+    let id : row.0 ≡ (row_view (row_seen c.get.result)).0 =
+    ap (λ (r : RowId × Kept). r.0) (subst (λ (o : Option (RowId × Kept)). IfSome o (λ r. (r.0, fresh r.1) ≡ row_view (row_seen c.get.result))) here.1 c.get.ensures) in
     let test : p row ≡ c.is_of_kind.result = ap (is_of_kind (kind_of c.args.kind)) id ∙ sym c.is_of_kind.ensures in
     let old = rows_of c.args.out.now in
     let inv = c.loop-i.invariant in

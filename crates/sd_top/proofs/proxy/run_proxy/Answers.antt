@@ -1,7 +1,7 @@
-use Rattle.std.proofs.Common.{◌≡◌, [], map, inl, refl, sym, ap, subst, ◌∙◌, rules}
+use Rattle.std.proofs.Common.{◌≡◌, false, [], map, inl, refl, sym, ap, subst, ◌∙◌, rules}
 use Rattle.sd_model_outside.specs.Turns.{with_interval}
 use Rattle.sd_model_call.specs.Opening.{World}
-use Rattle.sd_model_call.specs.Proxy.{proxy_begun, proxy_openings}
+use Rattle.sd_model_call.specs.Proxy.{check_interval, proxy_begun, proxy_openings}
 use Rattle.sd_plan.specs.Entries.{node_view}
 use Rattle.sd_relay.specs.Relaying as relaying
 use Rattle.sd_relay.specs.Relaying.{receivers_in}
@@ -24,9 +24,9 @@ returns-clause-relayed g c =
     let e = c.open_proxy.ensures in
     let opened = c.in_ok-open_proxy.ensures.opened in
     let receivers : c.unwrap-receivers.result ≡ s.sizes.receivers = search rules in
-    let begun_is : record seen_mid { served = record seen_mid.served { beat = with_interval s.sizes.check_interval seen_mid.served.beat } } ≡ proxy_begun s old =
-    (λ i. record (opened i) { served = record (opened i).served { beat = with_interval s.sizes.check_interval (opened i).served.beat } }) in
-    let beat = c.start.ensures ∙ ap (λ n. with_interval n (g.K.P.Faulty.seen mid.beat)) c.check_interval.ensures.value in
+    let begun_is : record seen_mid { served = record seen_mid.served { beat = with_interval (check_interval s) seen_mid.served.beat } } ≡ proxy_begun s old =
+    (λ i. record (opened i) { served = record (opened i).served { beat = with_interval (check_interval s) (opened i).served.beat } }) in
+    let beat = c.start.ensures ∙ (λ i. with_interval (record { ms = c.check_interval.ensures.value i; is_aligned = false }) (g.K.P.Faulty.seen mid.beat)) in
     let new = world_of g.K.R.Faulty.seen g.K.O.Faulty.seen g.K.B.Faulty.seen g.K.D.Faulty.seen g.K.L.Faulty.seen g.K.E.Faulty.seen g.K.P.Faulty.seen g.K.Q.Faulty.seen g.K.S.Faulty.seen (record mid { packets = c.relay.new.packets; wires = c.relay.new.wires; beat = c.relay.new.beat; probe = c.relay.new.probe }) in
     let r = c.relay.result in
     record {

@@ -7,7 +7,7 @@ use Rattle.sd_model_replay.specs.Settings.{is_used}
 use Rattle.sd_model_record.specs.Backends.{Backend, Graphite, Console}
 use Rattle.sd_model_run.specs.Run.{Terms, Objects}
 use Rattle.sd_model_call.specs.Opening.{Flags, World}
-use Rattle.sd_model_call.specs.Server.{back_in, begun, has_streams, objects_in, server_openings, serves_by}
+use Rattle.sd_model_call.specs.Server.{back_in, begun, flush_interval, has_streams, objects_in, server_openings, serves_by}
 use Rattle.sd_flush.specs.Flushing.{back_of, uses_by}
 use Rattle.sd_outside.specs.declared.backend.Backs.{Backs}
 use Rattle.sd_serve.specs.Room.{outlets_of, sizing_in, start_in}
@@ -88,11 +88,11 @@ returns-clause-served g c =
       streams = (sizes i).streams;
       run_flushes = flushes i;
     }) in
-    let begun_is : record seen_mid { served = record seen_mid.served { beat = with_interval s.server.flush_interval seen_mid.served.beat } } ≡ begun s old =
-    (λ i. record (opened i) { served = record (opened i).served { beat = with_interval s.server.flush_interval (opened i).served.beat } }) in
-    let beat = c.start.ensures ∙ ap (λ n. with_interval n (g.K.P.Faulty.seen mid.beat)) c.flush_interval.ensures.value in
+    let begun_is : record seen_mid { served = record seen_mid.served { beat = with_interval (flush_interval s) seen_mid.served.beat } } ≡ begun s old =
+    (λ i. record (opened i) { served = record (opened i).served { beat = with_interval (flush_interval s) (opened i).served.beat } }) in
+    let beat = c.start.ensures ∙ (λ i. with_interval (record { ms = c.flush_interval.ensures.value i; is_aligned = c.align_flushes.ensures i }) (g.K.P.Faulty.seen mid.beat)) in
     let before : objects_of g.K.D.Faulty.seen g.K.L.Faulty.seen g.K.P.Faulty.seen g.K.B.Faulty.seen g.K.E.Faulty.seen g.K.S.Faulty.seen mid.packets.items mid.wires.items c.start.new.self mid.backs mid.door mid.streams
-    ≡ objects_in (record seen_mid { served = record seen_mid.served { beat = with_interval s.server.flush_interval seen_mid.served.beat } }) =
+    ≡ objects_in (record seen_mid { served = record seen_mid.served { beat = with_interval (flush_interval s) seen_mid.served.beat } }) =
     (λ i. record {
       sources = map g.K.D.Faulty.seen mid.packets.items;
       wires = map g.K.L.Faulty.seen mid.wires.items;

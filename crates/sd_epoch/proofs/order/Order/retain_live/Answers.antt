@@ -8,10 +8,10 @@ pub rank_anew-requires-clause-within : goal.rank_anew-requires-clause-within
 rank_anew-requires-clause-within c =
     let s = c.args.self.now in
     subst (AreWithin (length s.rank.items)) (sym (c.deref.ensures.value ∙ c.drop_places.ensures.places))
-    (within_picked (λ place. is_some (row_at c.args.rows.now place)) (length s.rank.items) s.places.items c.requires.within)
+    (within_picked (λ place. is_some (row_at c.args.rows.now.rows place)) (length s.rank.items) s.places.items c.requires.within)
 
 pub rank_anew-requires-clause-different : goal.rank_anew-requires-clause-different
 rank_anew-requires-clause-different c =
     let s = c.args.self.now in
     subst AreDifferent (sym (c.deref.ensures.value ∙ c.drop_places.ensures.places))
-    (different_picked (λ place. is_some (row_at c.args.rows.now place)) s.places.items (ranked_different s.places.items s.rank.items c.requires))
+    (different_picked (λ place. is_some (row_at c.args.rows.now.rows place)) s.places.items (ranked_different s.places.items s.rank.items c.requires))

@@ -5,21 +5,22 @@ use Rattle.sd_model_shard.specs.Rows.{RowId, Kept}
 use Rattle.sd_model_shard.specs.Summaries.{amount_by}
 use Rattle.sd_key.specs.Kind.{kind_of}
 use Rattle.sd_key.specs.declared.kind.Kind.{Kind}
+use Rattle.sd_rows.specs.Rows.{row_seen}
 use Rattle.sd_epoch.specs.Since.{no_tally}
 use Rattle.sd_epoch.specs.Table.{Listing}
 use Rattle.sd_epoch.specs.TableInside.{since_in}
-use Rattle.sd_epoch.specs.declared.tally.Tally.{Tally}
-use Rattle.sd_epoch.proofs.TableLemmas.{IsAt, place_live, place_within, at_place, tally_read}
+use Rattle.sd_rows.specs.declared.tally.Tally.{Tally}
+use Rattle.sd_epoch.proofs.TableLemmas.{IsAt, place_live, place_within, at_place}
 use Rattle.sd_epoch.proofs.table.Table.amount_of.Goals as goal
 use Rattle.sd_epoch.proofs.table.Table.amount_of.Goals.{After-live_row}
 
 pub live_row-requires : goal.live_row-requires
 live_row-requires c = place_live c.self.inside c.self.invariant c.args.self.now c.self.view_is c.args.i c.index-place.result.now c.requires c.index-place.ensures
 
-pub index-requires : goal.index-requires
-index-requires c =
+pub tally-tally-requires : goal.tally-tally-requires
+tally-tally-requires c =
     let w = c.self.invariant in
-    omega (arith, place_within c.self.inside c.self.invariant c.args.self.now c.self.view_is c.args.i c.index-place.result.now c.requires c.index-place.ensures, w.places, w.tally_places, c.self.inside.tallies.ok.0)
+    omega (arith, place_within c.self.inside c.self.invariant c.args.self.now c.self.view_is c.args.i c.index-place.result.now c.requires c.index-place.ensures, w.places)
 
 pub distinct_sum-requires-clause-within : goal.distinct_sum-requires-clause-within
 distinct_sum-requires-clause-within c =
@@ -42,17 +43,17 @@ sum_at-requires-clause-few c =
     omega (arith, w.entries, w.limits.few_entries)
 
 -- the i-th row, and its tally
-at : (c : After-live_row) → IsAt c.self.inside c.args.i c.index-place.result.now c.live_row.result.now
-at c = at_place c.self.inside c.self.invariant c.args.self.now c.self.view_is c.args.i c.index-place.result.now c.requires c.index-place.ensures c.live_row.result.now c.live_row.ensures
+at : (c : After-live_row) → IsAt c.self.inside c.args.i c.index-place.result.now (row_seen c.live_row.result)
+at c = at_place c.self.inside c.self.invariant c.args.self.now c.self.view_is c.args.i c.index-place.result.now c.requires c.index-place.ensures (row_seen c.live_row.result) c.live_row.ensures
 
-tally : (c : After-live_row) → c.index.result.now ≡ get_or c.self.inside.tallies.items c.index-place.result.now no_tally
-tally c = tally_read c.self.inside c.self.invariant c.index-place.result.now (at c).within c.index.result.now c.index.ensures
+tally : (c : After-live_row) → c.tally-tally.result ≡ get_or c.self.inside.rows.tallies c.index-place.result.now no_tally
+tally c = c.tally-tally.ensures
 
 -- what its kind makes of what came to it is its amount
-told : (c : After-live_row) (kind : Kind) (amount : ℤ) → c.live_row.result.now.kind ≡ kind → amount ≡ amount_by (kind_of kind) (since_in c.self.inside c.index-place.result.now)
+told : (c : After-live_row) (kind : Kind) (amount : ℤ) → c.live_row.result.kind ≡ kind → amount ≡ amount_by (kind_of kind) (since_in c.self.inside c.index-place.result.now)
     → IfSome (slice_get c.args.self.now.listed c.args.i) (λ r. amount ≡ amount_by r.0.kind r.1.since)
 told c kind amount is are =
-    let all : amount ≡ amount_by (kind_of c.live_row.result.now.kind) (since_in c.self.inside c.index-place.result.now) = are ∙ ap (λ (kind : Kind). amount_by (kind_of kind) (since_in c.self.inside c.index-place.result.now)) (sym is) in
+    let all : amount ≡ amount_by (kind_of c.live_row.result.kind) (since_in c.self.inside c.index-place.result.now) = are ∙ ap (λ (kind : Kind). amount_by (kind_of kind) (since_in c.self.inside c.index-place.result.now)) (sym is) in
     subst (λ (s : Listing). IfSome (slice_get s.listed c.args.i) (λ r. amount ≡ amount_by r.0.kind r.1.since)) c.self.view_is
     (subst (λ (o : Option (RowId × Kept)). IfSome o (λ r. amount ≡ amount_by r.0.kind r.1.since)) (sym (at c).listed) all)
 

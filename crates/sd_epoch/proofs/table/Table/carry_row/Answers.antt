@@ -21,22 +21,22 @@ pub invariant_of-self : goal.invariant_of-self
 invariant_of-self g c =
     let t = c.self.inside in
     let w = c.self.invariant in
-    let rows = c.carry_in.new.rows in
+    let rows = c.carry_in.new.rows.rows in
     let order = c.carry_in.new.order in
-    let tallies = c.carry_in.new.tallies.items in
+    let tallies = c.carry_in.new.rows.tallies in
     let since : ℕ → Summary = since_at tallies t.values.items.items t.members.items.items in
     let none = ap (λ (s : Listing). s.held) c.self.view_is ∙ c.requires.no_samples in
-    let live : row_at c.from.inside.rows c.args.at ≢ None = subst (λ (s : Listing). row_at s.places c.args.at ≢ None) (sym c.from.view_is) c.requires.live in
-    let there = some_of (row_at c.from.inside.rows c.args.at) live in
+    let live : row_at c.from.inside.rows.rows c.args.at ≢ None = subst (λ (s : Listing). row_at s.places c.args.at ≢ None) (sym c.from.view_is) c.requires.live in
+    let there = some_of (row_at c.from.inside.rows.rows c.args.at) live in
     let row : Row = record there.0 { base = c.args.base; swaps = c.args.swaps } in
-    let within : c.args.at < length t.rows =
-    omega (arith, present_within c.from.inside.rows c.args.at live, c.from.invariant.places, w.places, ap (λ (s : Listing). s.limits.rows) c.self.view_is, ap (λ (s : Listing). s.limits.rows) c.from.view_is, ap (λ l. l.rows) c.requires.limits) in
-    let are : rows ≡ set t.rows c.args.at (Some row) = c.carry_in.ensures.places ∙ ap (λ (o : Option Row). set t.rows c.args.at (reset o c.args.base c.args.swaps)) there.1 in
+    let within : c.args.at < length t.rows.rows =
+    omega (arith, present_within c.from.inside.rows.rows c.args.at live, c.from.invariant.places, w.places, ap (λ (s : Listing). s.limits.rows) c.self.view_is, ap (λ (s : Listing). s.limits.rows) c.from.view_is, ap (λ l. l.rows) c.requires.limits) in
+    let are : rows ≡ set t.rows.rows c.args.at (Some row) = c.carry_in.ensures.places ∙ ap (λ (o : Option Row). set t.rows.rows c.args.at (reset o c.args.base c.args.swaps)) there.1 in
     let fresh = carried_fresh t w none rows c.args.at row tallies
-    (ap (λ (xs : List (Option Row)). row_at xs c.args.at) are ∙ written t.rows c.args.at row within)
-    (λ p ne. ap (λ (xs : List (Option Row)). row_at xs p) are ∙ unwritten t.rows c.args.at row within p ne)
+    (ap (λ (xs : List (Option Row)). row_at xs c.args.at) are ∙ written t.rows.rows c.args.at row within)
+    (λ p ne. ap (λ (xs : List (Option Row)). row_at xs p) are ∙ unwritten t.rows.rows c.args.at row within p ne)
     c.carry_in.ensures.tally c.carry_in.ensures.other_tallies in
-    let places = ap length c.carry_in.ensures.places ∙ length-set t.rows c.args.at (reset (row_at c.from.inside.rows c.args.at) c.args.base c.args.swaps) ∙ w.places in record {
+    let places = ap length c.carry_in.ensures.places ∙ length-set t.rows.rows c.args.at (reset (row_at c.from.inside.rows.rows c.args.at) c.args.base c.args.swaps) ∙ w.places in record {
       limits = w.limits;
       rows = c.carry_in.ensures.rows;
       ranked = c.carry_in.ensures.ranked;

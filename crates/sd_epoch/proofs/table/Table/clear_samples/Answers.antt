@@ -1,4 +1,4 @@
-use Rattle.std.proofs.Common.{ℕ, true, List, length, sym, ap, subst, ◌∙◌, arith}
+use Rattle.std.proofs.Common.{◌≡◌, ℕ, true, List, length, sym, ap, subst, ◌∙◌, arith}
 use Rattle.sd_model_shard.specs.Rows.{Summary}
 use Rattle.sd_epoch.specs.Members.{member_places}
 use Rattle.sd_epoch.specs.Places.{AllLive}
@@ -16,22 +16,25 @@ pub invariant_of-self : goal.invariant_of-self
 invariant_of-self c =
     let t = c.self.inside in
     let w = c.self.invariant in
-    let tallies = c.clear_tallies.new.tallies.items in
+    let tallies = c.clear_tallies.new.rows.tallies in
     let values = c.clear.new.self in
     let members = c.clear-2.new.self in
     let since : ℕ → Summary = since_at tallies values.items.items members.items.items in
-    let none = all_fresh t.rows tallies values.items.items members.items.items c.clear.ensures.items c.clear-2.ensures.items c.clear_tallies.ensures.tallies in record {
+    let none = all_fresh t.rows.rows tallies values.items.items members.items.items c.clear.ensures.items c.clear-2.ensures.items c.clear_tallies.ensures.tallies in
+    let told_now : c.clear_tallies.new.rows ≡ record { rows = t.rows.rows; tallies = tallies; used = c.clear_tallies.new.rows.used } =
+    λ i. record { rows = c.clear_tallies.ensures.rows i; tallies = tallies; used = c.clear_tallies.new.rows.used } in
+    rw told_now record {
       limits = w.limits;
       rows = w.rows;
       ranked = w.ranked;
       ranks = w.ranks;
-      since = fresh_since t.rows since none;
-      held = sym (none_told (λ id. true) t.rows since t.order.places.items w.rows (fresh_samples t.rows since none));
+      since = fresh_since t.rows.rows since none;
+      held = sym (none_told (λ id. true) t.rows.rows since t.order.places.items w.rows (fresh_samples t.rows.rows since none));
       few_held = omega arith;
       values = c.clear.ensures.values;
-      owned_values = subst (λ (vs : List TimerValue). AllLive t.rows (value_places vs)) (sym c.clear.ensures.items) tt;
+      owned_values = subst (λ (vs : List TimerValue). AllLive t.rows.rows (value_places vs)) (sym c.clear.ensures.items) tt;
       members = c.clear-2.ensures.members;
-      owned_members = subst (λ (ms : List SetMember). AllLive t.rows (member_places ms)) (sym c.clear-2.ensures.items) tt;
+      owned_members = subst (λ (ms : List SetMember). AllLive t.rows.rows (member_places ms)) (sym c.clear-2.ensures.items) tt;
       places = w.places;
       tally_places = c.clear_tallies.ensures.tally_places ∙ w.tally_places;
       value_places = c.clear.ensures.places ∙ w.value_places;
@@ -46,9 +49,9 @@ invariant_of-self c =
 pub returns-clause-rows : goal.returns-clause-rows
 returns-clause-rows c =
     let t = c.self.inside in
-    let tallies = c.clear_tallies.new.tallies.items in
+    let tallies = c.clear_tallies.new.rows.tallies in
     let values = c.clear.new.self in
     let members = c.clear-2.new.self in
-    let none = all_fresh t.rows tallies values.items.items members.items.items c.clear.ensures.items c.clear-2.ensures.items c.clear_tallies.ensures.tallies in
-    freshened_are t.rows (since_in t) (since_at tallies values.items.items members.items.items) t.order.places.items c.self.invariant.rows.live none
-    ∙ ap (λ (s : Listing). freshened s.listed) c.self.view_is
+    let none = all_fresh t.rows.rows tallies values.items.items members.items.items c.clear.ensures.items c.clear-2.ensures.items c.clear_tallies.ensures.tallies in
+    rw c.clear_tallies.ensures.rows (freshened_are t.rows.rows (since_in t) (since_at tallies values.items.items members.items.items) t.order.places.items c.self.invariant.rows.live none
+    ∙ ap (λ (s : Listing). freshened s.listed) c.self.view_is)

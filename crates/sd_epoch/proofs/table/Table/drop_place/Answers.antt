@@ -1,4 +1,4 @@
-use Rattle.std.proofs.Common.{true, List, None, Option, sym, ap, subst, length, ◌∙◌, arith}
+use Rattle.std.proofs.Common.{◌≡◌, true, List, None, Option, sym, ap, subst, length, ◌∙◌, arith}
 use Rattle.std.proofs.lemmas.List.{length-set}
 use Rattle.sd_rows.specs.Rows.{row_at}
 use Rattle.sd_rows.specs.declared.row.Row.{Row}
@@ -18,22 +18,25 @@ pub invariant_of-self : goal.invariant_of-self
 invariant_of-self c =
     let t = c.self.inside in
     let w = c.self.invariant in
-    let rows = c.empty_at.new.rows in
+    let rows = c.empty_at.new.rows.rows in
     let order = c.empty_at.new.order.places.items in
     let are = c.empty_at.ensures.places in
-    let none = ap (λ (s : Listing). s.held) c.self.view_is ∙ c.requires.no_samples in record {
+    let none = ap (λ (s : Listing). s.held) c.self.view_is ∙ c.requires.no_samples in
+    let told_now : c.empty_at.new.rows ≡ record { rows = rows; tallies = t.rows.tallies; used = c.empty_at.new.rows.used } =
+    λ i. record { rows = rows; tallies = c.empty_at.ensures.tallies i; used = c.empty_at.new.rows.used } in
+    rw told_now record {
       limits = w.limits;
       rows = c.empty_at.ensures.rows;
       ranked = c.empty_at.ensures.ranked;
       ranks = c.empty_at.ensures.ranks ∙ w.ranks;
-      since = subst (λ (xs : List (Option Row)). AreSince xs (since_in t)) (sym are) (since_emptied t.rows c.args.at (since_in t) w.since);
-      held = none ∙ sym (none_told (λ id. true) rows (since_in t) order c.empty_at.ensures.rows (λ p l. no_row_samples t w none p (still_live t.rows c.args.at p (λ gone. l (ap (λ (xs : List (Option Row)). row_at xs p) are ∙ gone)))));
+      since = subst (λ (xs : List (Option Row)). AreSince xs (since_in t)) (sym are) (since_emptied t.rows.rows c.args.at (since_in t) w.since);
+      held = none ∙ sym (none_told (λ id. true) rows (since_in t) order c.empty_at.ensures.rows (λ p l. no_row_samples t w none p (still_live t.rows.rows c.args.at p (λ gone. l (ap (λ (xs : List (Option Row)). row_at xs p) are ∙ gone)))));
       few_held = w.few_held;
       values = w.values;
       owned_values = subst (λ (vs : List TimerValue). AllLive rows (value_places vs)) (sym (no_values t w none)) tt;
       members = w.members;
       owned_members = subst (λ (ms : List SetMember). AllLive rows (member_places ms)) (sym (no_members t w none)) tt;
-      places = ap length are ∙ length-set t.rows c.args.at None ∙ w.places;
+      places = ap length are ∙ length-set t.rows.rows c.args.at None ∙ w.places;
       tally_places = w.tally_places;
       value_places = w.value_places;
       member_places = w.member_places;

@@ -9,5 +9,5 @@ pub returns : goal.returns
 returns c =
     let t = c.self.inside in
     let id = id_of c.args.kind c.args.key.now in
-    c.is_some.ensures ∙ find_tells t.rows (since_in t) t.order.places.items c.args.kind c.args.key.now c.find.result c.self.invariant.rows c.find.ensures.found
+    c.is_some.ensures ∙ find_tells t.rows.rows (since_in t) t.order.places.items c.args.kind c.args.key.now c.find.result c.self.invariant.rows c.find.ensures.found
     ∙ ap (λ (s : Listing). contains_key (live_of s) id) c.self.view_is

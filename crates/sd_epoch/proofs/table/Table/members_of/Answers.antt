@@ -21,7 +21,7 @@ pub returns-clause-members : goal.returns-clause-members
 returns-clause-members c =
     let t = c.self.inside in
     let place = c.index.result.now in
-    let there = some_of (row_at t.rows place) (place_live c.self.inside c.self.invariant c.args.self.now c.self.view_is c.args.i place c.requires.place c.index.ensures) in
+    let there = some_of (row_at t.rows.rows place) (place_live c.self.inside c.self.invariant c.args.self.now c.self.view_is c.args.i place c.requires.place c.index.ensures) in
     let at = at_place c.self.inside c.self.invariant c.args.self.now c.self.view_is c.args.i place c.requires.place c.index.ensures there.0 there.1 in
     subst (λ (s : Listing). IfSome (slice_get s.listed c.args.i) (λ row. texts c.put_members.new.self.members ≡ row.1.since.members)) c.self.view_is
     (subst (λ (o : Option (RowId × Kept)). IfSome o (λ row. texts c.put_members.new.self.members ≡ row.1.since.members)) (sym at.listed) c.put_members.ensures.members)

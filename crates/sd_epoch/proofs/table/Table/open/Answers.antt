@@ -4,7 +4,7 @@ use Rattle.sd_model_shard.specs.Rows.{Summary}
 use Rattle.sd_rows.specs.declared.row.Row.{Row}
 use Rattle.sd_epoch.specs.Members.{member_places}
 use Rattle.sd_epoch.specs.Places.{AreRows, AreSince, AllLive}
-use Rattle.sd_epoch.specs.Since.{since_at}
+use Rattle.sd_epoch.specs.Since.{no_tally, since_at}
 use Rattle.sd_epoch.specs.Values.{value_places}
 use Rattle.sd_epoch.specs.declared.members.SetMember.{SetMember}
 use Rattle.sd_epoch.specs.declared.values.TimerValue.{TimerValue}
@@ -14,12 +14,12 @@ use Rattle.sd_epoch.proofs.table.Table.open.Goals as goal
 pub invariant_of-result : goal.invariant_of-result
 invariant_of-result c =
     let n = c.args.limits.rows in
-    let rows = c.in_ok-open.field-0 in
+    let rows = c.in_ok-open.field-0.rows in
     let order = c.in_ok-open-2.field-0 in
     let values = c.in_ok-open-3.field-0 in
     let members = c.in_ok-open-4.field-0 in
-    let since : ℕ → Summary = since_at c.in_ok-vec.field-0.items values.items.items members.items.items in
-    let empty : rows ≡ replicate n None = c.in_ok-open.ensures in
+    let since : ℕ → Summary = since_at c.in_ok-open.field-0.tallies values.items.items members.items.items in
+    let empty : rows ≡ replicate n None = c.in_ok-open.ensures.rows in
     let no_order : order.places.items ≡ [] = c.in_ok-open-2.ensures.places in
     let no_values : values.items.items ≡ [] = c.in_ok-open-3.ensures.items in
     let no_members : members.items.items ≡ [] = c.in_ok-open-4.ensures.items in record {
@@ -35,7 +35,7 @@ invariant_of-result c =
       members = c.in_ok-open-4.ensures.members;
       owned_members = subst (λ (ms : List SetMember). AllLive rows (member_places ms)) (sym no_members) tt;
       places = ap length empty ∙ length-replicate n None;
-      tally_places = omega (arith, c.in_ok-vec.ensures.len, c.in_ok-vec.field-0.ok.0);
+      tally_places = ap length c.in_ok-open.ensures.tallies ∙ length-replicate n no_tally;
       value_places = c.in_ok-open-3.ensures.places;
       member_places = c.in_ok-open-4.ensures.places;
       order = omega (arith, c.in_ok-open-2.ensures.len);

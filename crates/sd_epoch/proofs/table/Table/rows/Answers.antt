@@ -12,12 +12,12 @@ overflow_cast-result c = omega (arith, c.self.invariant.order, c.self.invariant.
 pub returns-clause-live : goal.returns-clause-live
 returns-clause-live c =
     let t = c.self.inside in
-    omega (arith, c.len.ensures, t.order.places.ok.0, told_count t.rows (since_in t) t.order.places.items c.self.invariant.rows, ap (λ (s : Listing). len (live_of s)) c.self.view_is)
+    omega (arith, c.len.ensures, t.order.places.ok.0, told_count t.rows.rows (since_in t) t.order.places.items c.self.invariant.rows, ap (λ (s : Listing). len (live_of s)) c.self.view_is)
 
 pub returns-clause-apart : goal.returns-clause-apart
 returns-clause-apart c =
     let t = c.self.inside in
-    subst (λ (s : Listing). AreApart s.listed) c.self.view_is (told_apart t.rows (since_in t) t.order.places.items c.self.invariant.rows.listed)
+    subst (λ (s : Listing). AreApart s.listed) c.self.view_is (told_apart t.rows.rows (since_in t) t.order.places.items c.self.invariant.rows.listed)
 
 pub returns-clause-within : goal.returns-clause-within
 returns-clause-within c = omega (arith, c.self.invariant.order, c.len.ensures, ap (λ (s : Listing). s.limits.rows) c.self.view_is)

@@ -26,7 +26,7 @@ pub returns-clause-values : goal.returns-clause-values
 returns-clause-values c =
     let t = c.self.inside in
     let place = c.index.result.now in
-    let there = some_of (row_at t.rows place) (place_live c.self.inside c.self.invariant c.args.self.now c.self.view_is c.args.i place c.requires.place c.index.ensures) in
+    let there = some_of (row_at t.rows.rows place) (place_live c.self.inside c.self.invariant c.args.self.now c.self.view_is c.args.i place c.requires.place c.index.ensures) in
     let at = at_place c.self.inside c.self.invariant c.args.self.now c.self.view_is c.args.i place c.requires.place c.index.ensures there.0 there.1 in
     subst (λ (s : Listing). IfSome (slice_get s.listed c.args.i) (λ row. micros c.put_values.new.self.values ≡ row.1.since.values)) c.self.view_is
     (subst (λ (o : Option (RowId × Kept)). IfSome o (λ row. micros c.put_values.new.self.values ≡ row.1.since.values)) (sym at.listed)

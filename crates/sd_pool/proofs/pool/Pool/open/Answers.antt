@@ -80,12 +80,12 @@ returns-clause-seats c =
     let whole : c.loop-number.all.items ≡ recs ++ flusher ∷ admin ∷ [] =
     c.in-Some.ensures.items ∙ ap (λ (l : List Seat). l ++ admin ∷ []) c.in-Some-pop.ensures.items ∙ append_assoc recs (flusher ∷ []) (admin ∷ []) in
     let count = ap length (sym whole) in
-    new_seats (record { alloc = c.args.alloc; shards = c.args.shards; turns = c.loop-number.turns; counted = _ }) (limits_of c.args.limits) (policy_of c.args.policy) r c.requires.shards.0 c.requires.shards.1 c.requires.receivers.0 c.requires.receivers.1
+    new_seats (record { shards = c.args.shards; turns = c.loop-number.turns; counted = _ }) (limits_of c.args.limits) (policy_of c.args.policy) r c.requires.shards.0 c.requires.shards.1 c.requires.receivers.0 c.requires.receivers.1
     inv.setups 0 (recs ++ flusher ∷ admin ∷ []) (omega (arith, count, inv.len)) (subst (AreDealt turns r 0) whole inv.dealt)
 
 pub returns-clause-room : goal.returns-clause-room
 returns-clause-room c =
     let r = c.args.receivers in
     let inv = c.loop-number.invariant in
-    room_is (record { alloc = c.args.alloc; shards = c.args.shards; turns = c.loop-number.turns; counted = _ }) (limits_of c.args.limits) (policy_of c.args.policy) r c.requires.shards.0 c.requires.shards.1 c.requires.receivers.0 c.requires.receivers.1
+    room_is (record { shards = c.args.shards; turns = c.loop-number.turns; counted = _ }) (limits_of c.args.limits) (policy_of c.args.policy) r c.requires.shards.0 c.requires.shards.1 c.requires.receivers.0 c.requires.receivers.1
     inv.setups (record { lists = c.loop-number.lists }) (omega (arith, inv.lists, inv.count, c.loop-number-test.false)) inv.rooms

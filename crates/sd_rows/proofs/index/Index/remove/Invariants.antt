@@ -1,10 +1,12 @@
-use Rattle.std.proofs.Common.{◌≡◌, ◌<◌, set, None}
-use Rattle.sd_rows.specs.Index.{IsIndexWithHole}
+use Rattle.std.proofs.Common.{◌≡◌, ◌<◌, set, None, vec_capacity}
+use Rattle.sd_rows.specs.Index.{hashes_in, HasHole}
 use Rattle.sd_rows.proofs.index.Index.remove.Given as goal
 
 abbrev pub invariant-loop-cell : goal.invariant-loop-cell
 invariant-loop-cell l = record {
-  hole : IsIndexWithHole l.self.cells.items l.self.cell_of.items l.self.homes.items l.hole l.cell;
+  hole : HasHole l.self l.hole l.cell;
   before : l.hole < l.cell;
-  homes : l.self.homes.items ≡ set l.fn.self.homes.items l.place None;
+  hashes : hashes_in l.self.spots.items ≡ set (hashes_in l.fn.self.spots.items) l.place None;
+  homes : l.self.homes ≡ l.fn.self.homes;
+  capacity : vec_capacity l.self.spots ≡ vec_capacity l.fn.self.spots;
 }

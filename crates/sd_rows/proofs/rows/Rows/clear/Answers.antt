@@ -13,13 +13,15 @@ none_taken (Some x ∷ xs) e = absurd (omega arith)
 pub loop-i-preserved : goal.loop-i-preserved
 loop-i-preserved c =
     let inv = c.loop-i.invariant in
-    let gone = taken_count-unset c.loop-i.self c.last_place.result c.last_place.ensures in record {
-      left = omega (arith, inv.left, gone, ap taken_count c.remove.ensures);
-      len = ap length c.remove.ensures ∙ length-set c.loop-i.self c.last_place.result None ∙ inv.len;
+    let gone = taken_count-unset c.loop-i.self.rows c.last_place.result c.last_place.ensures in record {
+      left = omega (arith, inv.left, gone, ap taken_count c.remove.ensures.rows);
+      len = ap length c.remove.ensures.rows ∙ length-set c.loop-i.self.rows c.last_place.result None ∙ inv.len;
       all = inv.all;
+      tallies = c.remove.ensures.tallies ∙ inv.tallies;
+      used = c.remove.ensures.used ∙ inv.used;
     }
 
-pub returns : goal.returns
-returns c =
+pub returns-clause-rows : goal.returns-clause-rows
+returns-clause-rows c =
     let inv = c.loop-i.invariant in
-    none_taken c.loop-i.self (omega (arith, inv.left, inv.all)) ∙ ap (λ n. replicate n None) inv.len
+    none_taken c.loop-i.self.rows (omega (arith, inv.left, inv.all)) ∙ ap (λ n. replicate n None) inv.len

@@ -1,11 +1,23 @@
 use Rattle.std.proofs.Common.{arith}
-use Rattle.std.proofs.lemmas.Grind.{common_steps}
+use Rattle.sd_rows.specs.RowsInside.{rows_in}
+use Rattle.sd_rows.proofs.HeadLemmas.{seen_count, seen_len, length-rows_with}
 use Rattle.sd_rows.proofs.IndexLemmas.{taken_count-le}
 use Rattle.sd_rows.proofs.rows.Rows.free.Goals as goal
 
 pub overflow_sub-result : goal.overflow_sub-result
-overflow_sub-result c = grind (arith, common_steps, taken_count-le c.self.inside.places.items, c.self.invariant.live, c.len.ensures)
+overflow_sub-result c =
+    let x = c.self.inside in
+    omega (arith, taken_count-le (rows_in x), length-rows_with x.heads.items x.keys.items, c.self.invariant.live, c.self.invariant.within)
 
 pub returns : goal.returns
 returns c =
-    rw (← c.self.view_is) (grind (arith, common_steps, taken_count-le c.self.inside.places.items, c.self.invariant.live, c.len.ensures))
+    let x = c.self.inside in
+    omega (
+      arith,
+      taken_count-le (rows_in x),
+      length-rows_with x.heads.items x.keys.items,
+      c.self.invariant.live,
+      c.self.invariant.within,
+      seen_count x c.args.self.now c.self.view_is,
+      seen_len x c.args.self.now c.self.view_is c.self.invariant.within,
+    )

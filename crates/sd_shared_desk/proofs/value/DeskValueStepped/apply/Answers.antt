@@ -1,5 +1,0 @@
-use Rattle.sd_shared_desk.proofs.StandsLemmas.{Stands-push}
-use Rattle.sd_shared_desk.proofs.value.DeskValueStepped.apply.Goals as goal
-
-pub returns-clause-stands : goal.returns-clause-stands
-returns-clause-stands c = λ log stands. Stands-push c.args.self.now c.act.new.self log c.args.number c.args.ask c.act.result stands c.act.ensures.seats c.act.ensures.does
