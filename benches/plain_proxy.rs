@@ -1,7 +1,8 @@
 //! A plain proxy of the usual make: a hash ring in a `BTreeMap`, whose points are MD5 digests, and a `HashMap` that remembers the
-//! nodes of names. It ends once the file STOP is there, and prints what it counted.
+//! nodes of names. With BATCH above 0 the lines of a datagram that go to one node leave together, as many in one datagram as so many
+//! bytes hold; with 0 each line leaves alone. It ends once the file STOP is there, and prints what it counted.
 //!
-//!     plain_proxy PORT STOP NODE_PORT..
+//!     plain_proxy PORT STOP BATCH NODE_PORT..
 use std::collections::{BTreeMap, HashMap};
 use std::net::UdpSocket;
 use std::time::Duration;
@@ -91,24 +92,79 @@ fn owner(ring: &BTreeMap<u32, u8>, cache: &mut HashMap<Vec<u8>, u8>, key: &[u8])
     node
 }
 
+#[derive(Default)]
+struct Counts {
+    packets: u64,
+    lines: u64,
+    bad: u64,
+    sent: u64,
+    faults: u64,
+}
+
+/// A node's socket, with the lines that wait to be sent to it together.
+struct Wire {
+    socket: UdpSocket,
+    waiting: Vec<u8>,
+    lines: u64,
+}
+
+impl Wire {
+    fn to(port: u16) -> Self {
+        let socket = UdpSocket::bind("0.0.0.0:0").unwrap();
+        socket.connect(("127.0.0.1", port)).unwrap();
+        Wire { socket, waiting: Vec::new(), lines: 0 }
+    }
+
+    fn send(&self, bytes: &[u8], lines: u64, counts: &mut Counts) {
+        match self.socket.send(bytes) {
+            Ok(n) if n == bytes.len() => counts.sent += lines,
+            _ => counts.faults += lines,
+        }
+    }
+
+    fn flush(&mut self, counts: &mut Counts) {
+        if self.lines > 0 {
+            self.send(&self.waiting, self.lines, counts);
+            self.waiting.clear();
+            self.lines = 0;
+        }
+    }
+
+    /// Puts a line behind those that wait, which are sent first where these bytes don't hold it too.
+    fn put(&mut self, line: &[u8], most: usize, counts: &mut Counts) {
+        if most == 0 {
+            return self.send(line, 1, counts);
+        }
+        if self.waiting.len() + 1 + line.len() > most {
+            self.flush(counts);
+        }
+        if self.lines > 0 {
+            self.waiting.push(b'\n');
+        }
+        self.waiting.extend_from_slice(line);
+        self.lines += 1;
+    }
+}
+
+/// The key of a line's name, which is left in `key`; none where the line is bad.
+fn key_of(line: &[u8], key: &mut Vec<u8>) -> Option<()> {
+    let colon = line.iter().position(|&byte| byte == b':')?;
+    clean(&line[..colon], key);
+    (1..=255).contains(&key.len()).then_some(())
+}
+
 fn main() {
     let words: Vec<String> = env::args().collect();
     let socket = UdpSocket::bind(("127.0.0.1", words[1].parse().unwrap())).unwrap();
     socket.set_read_timeout(Some(Duration::from_millis(100))).unwrap();
-    let ports: Vec<u16> = words[3..].iter().map(|it| it.parse().unwrap()).collect();
-    let wires: Vec<UdpSocket> = ports
-        .iter()
-        .map(|port| {
-            let wire = UdpSocket::bind("0.0.0.0:0").unwrap();
-            wire.connect(("127.0.0.1", *port)).unwrap();
-            wire
-        })
-        .collect();
+    let batch: usize = words[3].parse().unwrap();
+    let ports: Vec<u16> = words[4..].iter().map(|it| it.parse().unwrap()).collect();
+    let mut wires: Vec<Wire> = ports.iter().map(|port| Wire::to(*port)).collect();
     let ring = ring_of(&ports);
     let mut cache = HashMap::new();
     let mut buffer = vec![0; 65_536];
     let mut key = Vec::new();
-    let (mut packets, mut lines, mut bad, mut sent, mut faults) = (0u64, 0u64, 0u64, 0u64, 0u64);
+    let mut counts = Counts::default();
     loop {
         let Ok(len) = socket.recv(&mut buffer) else {
             if path::Path::new(&words[2]).exists() {
@@ -116,29 +172,21 @@ fn main() {
             }
             continue;
         };
-        packets += 1;
-        for line in buffer[..len].split(|&byte| byte == b'\n') {
-            let line = line.trim_ascii_end();
-            if line.is_empty() {
-                continue;
-            }
-            lines += 1;
-            let Some(colon) = line.iter().position(|&byte| byte == b':') else {
-                bad += 1;
-                continue;
-            };
-            clean(&line[..colon], &mut key);
-            if key.is_empty() || key.len() > 255 {
-                bad += 1;
+        counts.packets += 1;
+        for line in buffer[..len].split(|&byte| byte == b'\n').map(<[u8]>::trim_ascii_end).filter(|it| !it.is_empty()) {
+            counts.lines += 1;
+            if key_of(line, &mut key).is_none() {
+                counts.bad += 1;
                 continue;
             }
             let node = owner(&ring, &mut cache, &key);
-            match wires[usize::from(node)].send(line) {
-                Ok(n) if n == line.len() => sent += 1,
-                _ => faults += 1,
-            }
+            wires[usize::from(node)].put(line, batch, &mut counts);
+        }
+        for wire in &mut wires {
+            wire.flush(&mut counts);
         }
     }
+    let Counts { packets, lines, bad, sent, faults } = counts;
     for (name, count) in [("packets", packets), ("lines", lines), ("bad", bad), ("sent", sent), ("send_faults", faults)] {
         println!("{name} {count}");
     }

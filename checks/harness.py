@@ -20,6 +20,11 @@ PAUSE = 0.01    # seconds between two looks at what is waited for
 TRIES = 5       # how often ports are picked anew, where another program took one in the meantime
 TOTALS = 13     # lines that a server without outlets writes at its end
 
+# A line of the log: its level, its event, and what is told of it by names. A value is in quotes where it has spaces, and escaped.
+LOG_LINE = re.compile(r"(info|warn|error) ([a-z_]+)((?: [a-z_]+=(?:\"(?:[^\"\\]|\\.)*\"|(?:[^\s\"\\]|\\.)*))*)")
+LOG_PAIR = re.compile(r" ([a-z_]+)=(?:\"((?:[^\"\\]|\\.)*)\"|(\S*))")
+ESCAPES = {"n": "\n", "r": "\r", "t": "\t"}
+
 program = ""    # the built program, which `run` sets
 tally = {"passed": 0, "failed": 0, "left out": 0}
 started = []
@@ -81,7 +86,7 @@ def run(built, parts, count):
     program = os.path.realpath(built or os.path.join(ROOT, "crates/statsd/out/statsd"))
     if not os.access(program, os.X_OK):
         sys.exit(f"{os.path.basename(sys.argv[0])}: {program} isn't built")
-    for it in ("STATSD_STOP", "LISTEN_PID", "LISTEN_FDS"):
+    for it in ("STATSD_STOP", "STATSD_LOG", "LISTEN_PID", "LISTEN_FDS"):
         os.environ.pop(it, None)
     os.environ["STATSD_PROGRAM"] = program
     handle(lambda *_: sys.exit(130))
@@ -123,6 +128,30 @@ def toml(value):
     if isinstance(value, (list, tuple)):
         return "[" + ", ".join(map(toml, value)) + "]"
     return json.dumps(value)
+
+
+def is_of_log(line):
+    """Whether a line of standard error is one of the log's, well made or not."""
+    return line.partition(" ")[0] in ("info", "warn", "error")
+
+
+def without_log(text):
+    """What was written to standard error besides the log."""
+    return "\n".join(it for it in text.split("\n") if not is_of_log(it))
+
+
+def unescaped(value):
+    """A value of the log as it was before it was escaped, each byte a character."""
+    return re.sub(r"\\(x[0-9a-f]{2}|.)", lambda it: chr(int(it[1][1:], 16)) if len(it[1]) > 1 else ESCAPES.get(it[1], it[1]), value)
+
+
+def log_line(line):
+    """A line of the log as (level, event, what is told by names); none where it isn't made like one."""
+    found = LOG_LINE.fullmatch(line)
+    if not found or not (line.isascii() and line.isprintable()):
+        return None
+    pairs = LOG_PAIR.findall(found[3])
+    return found[1], found[2], {name: unescaped(quoted or plain) for name, quoted, plain in pairs}
 
 
 def write_settings(name, settings):
@@ -239,14 +268,22 @@ class Program:
         return read(f"{self.name}.out")
 
     def err(self):
-        return read(f"{self.name}.err")
+        """What it wrote to standard error, without the log."""
+        return without_log(read(f"{self.name}.err"))
+
+    def log(self, event=None):
+        """The whole lines of its log, or those of an event, as (level, event, what is told by names); one that isn't made like a line
+        of a log has the event `malformed`."""
+        lines = [it for it in read(f"{self.name}.err").split("\n")[:-1] if is_of_log(it)]
+        lines = [log_line(it) or ("", "malformed", {"line": it}) for it in lines]
+        return [it for it in lines if event in (None, it[1])]
 
     def said(self):
-        """What it wrote to standard error, and how it ended."""
+        """What it wrote to standard error besides its log, and how it ended."""
         return f"{self.err().strip()}, exit {self.status}"
 
     def totals(self, count=TOTALS):
-        """Its last lines, what it wrote to standard error, and how it ended, on one line."""
+        """Its last lines, what it wrote to standard error besides its log, and how it ended, on one line."""
         return f"{' '.join(self.out().splitlines()[-count:])} {self.err()}exit {self.status}"
 
     def numbers(self):
@@ -427,14 +464,16 @@ class Pour(threading.Thread):
 
 class Graphite(threading.Thread):
     """A Graphite that takes what each connection brings, takes one connection a second, of which one waits (slow), closes each at once
-    (closes), breaks each off once something came (resets), takes all and never ends its side (stays), or reads nothing (stalls)."""
+    (closes), breaks each off once something came (resets), takes all and never ends its side (stays), or reads nothing (stalls). It
+    listens at a port, or where that is 0 at one that nobody has."""
 
-    def __init__(self, manner):
+    def __init__(self, manner, port=0):
         super().__init__(daemon=True)
         self.manner, self.got, self.held, self.over = manner, b"", [], threading.Event()
         self.door = socket.socket()
+        self.door.setsockopt(socket.SOL_SOCKET, socket.SO_REUSEADDR, 1)
         self.door.setsockopt(socket.SOL_SOCKET, socket.SO_RCVBUF, 4096)
-        self.door.bind((HERE, 0))
+        self.door.bind((HERE, port))
         self.door.listen(0 if manner == "slow" else 16)
         self.port = self.door.getsockname()[1]
         self.start()

@@ -4,6 +4,9 @@ ghost use Rattle.sd_model_outside.specs.Turns.{most_datagram};
 ghost use Rattle.sd_cases_flush.specs.Bench.{IsReady};
 
 use crate::bench::Bench;
+use log::sink::Discard;
+use log::{LevelFilter, Logged};
+use sd_batch::Batch;
 use sd_case::{Answer, Refusal};
 use sd_outside::{MemClock, MemDatagrams, MemWire, NoGate};
 use sd_receive::receive;
@@ -55,10 +58,12 @@ pub fn receive_lines<R: Wait>(
     ensures { IsReady bench.new }
 {
     let mut buf: Vec<u8> = vec![in alloc; 0; LONGEST_DATAGRAM]?;
+    let mut batch = Batch::open(alloc, bench.pool.shards(), 64)?;
     let mut source = MemDatagrams::of(one_datagram(alloc, lines)?);
     let mut wires: Vec<MemWire> = Vec::new(alloc);
+    let log = Logged::new(rt, LevelFilter::Off, Discard);
     let received = receive(
-        rt,
+        &log,
         &bench.pool,
         &bench.desk,
         &mut bench.adder,
@@ -68,6 +73,7 @@ pub fn receive_lines<R: Wait>(
         &NoGate,
         &MemClock::of(0),
         buf.as_mut_slice(),
+        &mut batch,
         0,
     );
     out.count("lines ", received.tally.lines);

@@ -8,6 +8,8 @@ ghost use Rattle.sd_cases_flush.specs.Bench.{IsReady};
 use crate::bench::Bench;
 use crate::report::{given_to, show_since};
 use crate::rounds::beat_of;
+use log::sink::Discard;
+use log::{LevelFilter, Logged};
 use sd_case::{Answer, Refusal, number};
 use sd_flush::{FlushedOut, Lead, Outs, flush_all_out, round_out};
 use sd_outlet::{Drain, Feed, Outlet, Worked};
@@ -146,8 +148,9 @@ fn flush_out<R: Wait>(
     let run_flushes = number::<u64>(run_flushes)?;
     let (ticks, failing) = rest.split_once('/').ok_or(Refusal::Malformed)?;
     let mut beat = beat_of(alloc, ticks, number::<u64>(failing)?)?;
+    let log = Logged::new(rt, LevelFilter::Off, Discard);
     let FlushedOut { flushed, skips } = flush_all_out(
-        rt,
+        &log,
         &bench.pool,
         &bench.desk,
         &mut bench.own,

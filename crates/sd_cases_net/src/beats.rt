@@ -1,6 +1,7 @@
 use crate::common::{step, stop_name};
+use log::LevelFilter;
 use sd_case::Answer;
-use sd_net::{Pace, Stop, SystemClock, TickBeat};
+use sd_net::{Pace, RunLog, Stop, SystemClock, TickBeat};
 use sd_outside::{Beat, Clock, Interval, Tick};
 use std::thread::{Threads, join, sleep};
 use std::time::{self, Duration};
@@ -44,7 +45,8 @@ fn millis_since(rt: &HostRuntime, from: Duration) -> io::Result<u128> {
 fn ticks<'a>(rt: &'a HostRuntime, stop: &'a Stop, out: &mut Answer) -> io::Result<()> {
     let pace = Pace::new();
     let clock = SystemClock::new(rt, &pace);
-    let mut beat = TickBeat::new(rt, stop, &pace);
+    let log = RunLog::new(rt, LevelFilter::Off);
+    let mut beat = TickBeat::new(rt, stop, &pace, &log);
     let before = time::Clock::monotonic(rt)?;
     beat.start(every(INTERVAL));
     let started = time::Clock::monotonic(rt)?;
@@ -90,7 +92,8 @@ fn ticks<'a>(rt: &'a HostRuntime, stop: &'a Stop, out: &mut Answer) -> io::Resul
 /// A beat that isn't started.
 fn unstarted<'a>(rt: &'a HostRuntime, stop: &'a Stop, out: &mut Answer) {
     let pace = Pace::new();
-    let mut beat = TickBeat::new(rt, stop, &pace);
+    let log = RunLog::new(rt, LevelFilter::Off);
+    let mut beat = TickBeat::new(rt, stop, &pace, &log);
     step(out, "one that isn't started, twice");
     out.text(tick_text(beat.next()));
     out.text(told_text(stop));
@@ -106,7 +109,8 @@ fn next_beside<'a>(
     name: &str,
 ) -> (bool, Tick) {
     let pace = Pace::new();
-    let mut beat = TickBeat::new(rt, stop, &pace);
+    let log = RunLog::new(rt, LevelFilter::Off);
+    let mut beat = TickBeat::new(rt, stop, &pace, &log);
     beat.start(every(10_000));
     join(
         threads,

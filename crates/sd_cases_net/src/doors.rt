@@ -2,8 +2,9 @@ ghost use Rattle.std.specs.Prelude.{◌≡◌, ◌≤◌, false, length};
 
 use crate::clients::{client_of, show_next};
 use crate::common::{here, no_sockets, room, step, stuck};
+use log::LevelFilter;
 use sd_case::Answer;
-use sd_net::{DoorSizes, LongLines, Share, Stop, TcpDoor};
+use sd_net::{DoorSizes, LongLines, RunLog, Share, Stop, TcpDoor};
 use sd_outside::{Address, Door, Entry, Faulty, Name, OpenRefusal, Opens, read_full, write_all};
 use std::io::{self, Write};
 use std::net::TcpStream;
@@ -127,7 +128,8 @@ pub(crate) fn run(rt: &HostRuntime, out: &mut Answer) -> io::Result<()> {
     let mut buf = room(rt.alloc(), 2 * ROOM)?;
     let stop = Stop::new(None);
     let sockets = no_sockets(rt.alloc());
-    let mut door = TcpDoor::new(rt, rt.alloc(), &sockets, &stop, SIZES);
+    let log = RunLog::new(rt, LevelFilter::Off);
+    let mut door = TcpDoor::new(rt, rt.alloc(), &sockets, &stop, SIZES, &log);
     out.text("\ndoors");
     step(out, "one that isn't open");
     rest(&mut door, buf.as_mut_slice(), YES, out);

@@ -5,8 +5,9 @@ use crate::clients::client_of;
 use crate::common::{datagrams_here, here, opening_text, room, socket_here, step};
 use crate::doors::SIZES;
 use crate::receivers::{ask, wait};
+use log::LevelFilter;
 use sd_case::Answer;
-use sd_net::{Sockets, Stop, TcpDoor, UdpReceiver};
+use sd_net::{RunLog, Sockets, Stop, TcpDoor, UdpReceiver};
 use sd_outside::Opens;
 use sd_socket::{HandedOver, SharedAddress};
 use std::io;
@@ -46,9 +47,10 @@ fn fewer_sockets(rt: &HostRuntime, buf: &mut [u8], out: &mut Answer) -> io::Resu
     sender.send_to(b"waits:1|c", socket_here(port))?;
     let sockets = Sockets::new(handed);
     let stop = Stop::new(None);
-    let mut first = UdpReceiver::new(rt, &sockets, &stop);
-    let mut second = UdpReceiver::new(rt, &sockets, &stop);
-    let mut third = UdpReceiver::new(rt, &sockets, &stop);
+    let log = RunLog::new(rt, LevelFilter::Off);
+    let mut first = UdpReceiver::new(rt, &sockets, &stop, &log);
+    let mut second = UdpReceiver::new(rt, &sockets, &stop, &log);
+    let mut third = UdpReceiver::new(rt, &sockets, &stop, &log);
     open(&mut first, port, out);
     open(&mut second, port, out);
     open(&mut third, port, out);
@@ -64,7 +66,8 @@ fn say_one(rt: &HostRuntime, handed: HandedOver, port: u16, buf: &mut [u8], out:
 {
     let sockets = Sockets::new(handed);
     let stop = Stop::new(None);
-    let mut receiver = UdpReceiver::new(rt, &sockets, &stop);
+    let log = RunLog::new(rt, LevelFilter::Off);
+    let mut receiver = UdpReceiver::new(rt, &sockets, &stop, &log);
     open(&mut receiver, port, out);
     ask(&mut receiver, buf, out);
     out.text(if stop.is_set() {
@@ -105,8 +108,9 @@ fn listeners(rt: &HostRuntime, out: &mut Answer) -> io::Result<()> {
     handed.add(OwnedFd::from(listener))?;
     let sockets = Sockets::new(handed);
     let stop = Stop::new(None);
-    let mut first = TcpDoor::new(rt, rt.alloc(), &sockets, &stop, SIZES);
-    let mut second = TcpDoor::new(rt, rt.alloc(), &sockets, &stop, SIZES);
+    let log = RunLog::new(rt, LevelFilter::Off);
+    let mut first = TcpDoor::new(rt, rt.alloc(), &sockets, &stop, SIZES, &log);
+    let mut second = TcpDoor::new(rt, rt.alloc(), &sockets, &stop, SIZES, &log);
     out.text(" ");
     out.text(opening_text(first.open_at(&here(port))));
     out.text(" ");

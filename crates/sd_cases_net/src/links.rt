@@ -1,8 +1,9 @@
 use crate::clients::show_next;
 use crate::common::{here, host_at, opening_text, room, socket_here, step};
 use arrayvec::ArrayVec;
+use log::LevelFilter;
 use sd_case::Answer;
-use sd_net::{GraphiteLink, Pace, Stop};
+use sd_net::{GraphiteLink, Pace, RunLog, Stop};
 use sd_outside::{Address, Backend, Failed, Name, Opens, write_all};
 use std::io::{self, Read};
 use std::net::TcpListener;
@@ -123,7 +124,8 @@ pub(crate) fn run<X: Threads + Sync>(
     out: &mut Answer,
 ) -> io::Result<()> {
     let (stop, pace) = (Stop::new(None), Pace::new());
-    let mut link = GraphiteLink::new(rt, threads, &stop, &pace);
+    let log = RunLog::new(rt, LevelFilter::Off);
+    let mut link = GraphiteLink::new(rt, threads, &stop, &pace, &log);
     let mut buf = room(rt.alloc(), 1_024)?;
     out.text("\nlinks");
     step(out, "one that isn't open: begin, write, finish");

@@ -1,7 +1,8 @@
 use crate::common::{here, host_at, socket_here, step};
 use arrayvec::ArrayVec;
+use log::LevelFilter;
 use sd_case::Answer;
-use sd_net::{Hosts, TcpProbe};
+use sd_net::{Hosts, RunLog, TcpProbe};
 use sd_outside::{Address, Failed, Name, Probe};
 use std::io::{self, Read, Write};
 use std::net::TcpListener;
@@ -24,7 +25,8 @@ struct Asked {
 /// Asks by a probe of its own.
 fn ask(threads: &(impl Threads + Sync), rt: &HostRuntime, at: &Address) -> io::Result<Asked> {
     let hosts = Hosts::open(rt.alloc())?;
-    let mut probe = TcpProbe::new(rt, threads, &hosts);
+    let log = RunLog::new(rt, LevelFilter::Off);
+    let mut probe = TcpProbe::new(rt, threads, &hosts, &log);
     let mut line = ArrayVec::new();
     let answer = match probe.ask(at, &mut line) {
         Ok(()) => Ok(line),

@@ -5,8 +5,9 @@ use crate::common::{
     datagrams_at, datagrams_here, here, no_sockets, opening_text, room, socket_here, step,
     stop_name, stuck,
 };
+use log::LevelFilter;
 use sd_case::Answer;
-use sd_net::{Stop, UdpReceiver};
+use sd_net::{RunLog, Stop, UdpReceiver};
 use sd_outside::{Address, Datagrams, Name, Next, Opens};
 use std::net::UdpSocket;
 use std::{fs, io};
@@ -89,7 +90,8 @@ fn stop_files(rt: &HostRuntime, buf: &mut [u8], out: &mut Answer) -> io::Result<
     step(out, "a stop file that appears while no datagram comes");
     let sockets = no_sockets(rt.alloc());
     let stop = Stop::new(Some(stop_name(rt)?));
-    let mut receiver = UdpReceiver::new(rt, &sockets, &stop);
+    let log = RunLog::new(rt, LevelFilter::Off);
+    let mut receiver = UdpReceiver::new(rt, &sockets, &stop, &log);
     out.text(" ");
     out.text(opening_text(receiver.open_at(&datagrams_here(0))));
     ask(&mut receiver, buf, out);
@@ -102,7 +104,7 @@ fn stop_files(rt: &HostRuntime, buf: &mut [u8], out: &mut Answer) -> io::Result<
     );
     let sockets = no_sockets(rt.alloc());
     let stop = Stop::new(Some(stop_name(rt)?));
-    let mut receiver = UdpReceiver::new(rt, &sockets, &stop);
+    let mut receiver = UdpReceiver::new(rt, &sockets, &stop, &log);
     out.text(" ");
     out.text(opening_text(receiver.open_at(&datagrams_here(0))));
     ask(&mut receiver, buf, out);
@@ -228,7 +230,8 @@ fn another_server(rt: &HostRuntime, port: u16, out: &mut Answer) {
     step(out, "another server's receiver at that port");
     let sockets = no_sockets(rt.alloc());
     let stop = Stop::new(None);
-    let mut receiver = UdpReceiver::new(rt, &sockets, &stop);
+    let log = RunLog::new(rt, LevelFilter::Off);
+    let mut receiver = UdpReceiver::new(rt, &sockets, &stop, &log);
     out.text(" ");
     out.text(opening_text(receiver.open_at(&datagrams_here(port))));
 }
@@ -242,7 +245,8 @@ fn receive_buffers(rt: &HostRuntime, out: &mut Answer) {
     let sockets = no_sockets(rt.alloc());
     let stop = Stop::new(None);
     for bytes in [100_000, 10_000] {
-        let mut receiver = UdpReceiver::new(rt, &sockets, &stop);
+        let log = RunLog::new(rt, LevelFilter::Off);
+        let mut receiver = UdpReceiver::new(rt, &sockets, &stop, &log);
         out.text(" ");
         out.text(opening_text(receiver.open_at(&datagrams_at(b"127.0.0.1", 0, bytes))));
         let given = receiver.receive_buffer().unwrap_or(0);
@@ -255,8 +259,9 @@ pub(crate) fn run(rt: &HostRuntime, out: &mut Answer) -> io::Result<()> {
     let mut buf = room(rt.alloc(), MOST_DATAGRAM)?;
     let sockets = no_sockets(rt.alloc());
     let stop = Stop::new(None);
-    let mut first = UdpReceiver::new(rt, &sockets, &stop);
-    let mut second = UdpReceiver::new(rt, &sockets, &stop);
+    let log = RunLog::new(rt, LevelFilter::Off);
+    let mut first = UdpReceiver::new(rt, &sockets, &stop, &log);
+    let mut second = UdpReceiver::new(rt, &sockets, &stop, &log);
     out.text("receivers");
     step(out, "one that isn't open");
     ask(&mut first, buf.as_mut_slice(), out);

@@ -3,8 +3,9 @@ ghost use Rattle.std.specs.Prelude.{◌≡◌, false};
 use crate::clients::client_of;
 use crate::common::{here, no_sockets, room, socket_here, step, stuck};
 use crate::doors::SIZES;
+use log::LevelFilter;
 use sd_case::Answer;
-use sd_net::{GraphiteLink, Pace, Stop, TcpDoor};
+use sd_net::{GraphiteLink, Pace, RunLog, Stop, TcpDoor};
 use sd_outside::{Backend, Door, Entry, Faulty, Opens, Sink};
 use std::io::{self, Write};
 use std::net::TcpListener;
@@ -38,7 +39,8 @@ fn link_gives_up(threads: &(impl Threads + Sync), rt: &HostRuntime) -> io::Resul
     let piece = room(rt.alloc(), PIECE)?;
     let listener = TcpListener::bind(rt, socket_here(0))?;
     let (stop, pace) = (Stop::new(None), Pace::new());
-    let mut link = GraphiteLink::new(rt, threads, &stop, &pace);
+    let log = RunLog::new(rt, LevelFilter::Off);
+    let mut link = GraphiteLink::new(rt, threads, &stop, &pace, &log);
     if link.open_at(&here(listener.local_addr()?.port())).is_err() || link.begin().is_err() {
         return Err(stuck());
     }
@@ -65,7 +67,8 @@ fn door_gives_up(rt: &HostRuntime) -> io::Result<bool> {
     let piece = room(rt.alloc(), PIECE)?;
     let stop = Stop::new(None);
     let sockets = no_sockets(rt.alloc());
-    let mut door = TcpDoor::new(rt, rt.alloc(), &sockets, &stop, SIZES);
+    let log = RunLog::new(rt, LevelFilter::Off);
+    let mut door = TcpDoor::new(rt, rt.alloc(), &sockets, &stop, SIZES, &log);
     if door.open_at(&here(0)).is_err() {
         return Err(stuck());
     }

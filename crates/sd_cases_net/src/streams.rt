@@ -3,8 +3,9 @@ ghost use Rattle.std.specs.Prelude.{◌≡◌, ◌≤◌, false, length, IfSome}
 use crate::clients::client_of;
 use crate::common::{here, no_sockets, room, step, stuck};
 use crate::doors::{open, rest, serve};
+use log::LevelFilter;
 use sd_case::Answer;
-use sd_net::{DoorSizes, LongLines, Share, Stop, TcpDoor};
+use sd_net::{DoorSizes, LongLines, RunLog, Share, Stop, TcpDoor};
 use sd_outside::{Door, Entry, Faulty, Source};
 use std::io::{self, Write};
 use std::thread::sleep;
@@ -172,7 +173,8 @@ fn stopped<'a>(
 pub(crate) fn run(rt: &HostRuntime, out: &mut Answer) -> io::Result<()> {
     let stop = Stop::new(None);
     let sockets = no_sockets(rt.alloc());
-    let mut door = TcpDoor::new(rt, rt.alloc(), &sockets, &stop, SIZES);
+    let log = RunLog::new(rt, LevelFilter::Off);
+    let mut door = TcpDoor::new(rt, rt.alloc(), &sockets, &stop, SIZES, &log);
     let mut buf = room(rt.alloc(), PIECE)?;
     out.text("\nstreams");
     step(out, "this machine");

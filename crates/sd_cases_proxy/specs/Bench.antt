@@ -5,10 +5,12 @@ use Rattle.sd_live.specs.declared.up_cell.UpCell.{UpCell}
 use Rattle.sd_live.specs.Live.{seen, IsPassOf, IsCheckerOf}
 use Rattle.sd_cases_proxy.specs.declared.parts.Bench.{Bench}
 
--- The passes are this cell's, so many sets were published, each node has a wire, and there is room for a datagram.
+-- The passes are this cell's, so many sets were published, each node has a wire and room for lines that wait, and there is room for a
+-- datagram.
 pub record AreFit (cell : UpCell) (b : Bench) : Type 0 where
   pub checker : IsCheckerOf cell b.checker
   pub count : length (seen b.checker) ≡ b.published + 1
   pub pass : IsPassOf cell b.pass
   pub wires : length b.wires.items ≡ length b.ring
+  pub waiting : length b.waiting.items ≡ length b.ring
   pub room : most_datagram ≤ length b.buf.items

@@ -4,6 +4,8 @@ ghost use Rattle.std.specs.Prelude.{◌≡◌, ◌<◌, ◌≤◌, length};
 use crate::nodes::nodes_of;
 use crate::packing::{beat_of, probe_of};
 use crate::place_gate::PlaceGate;
+use log::sink::Discard;
+use log::{LevelFilter, Logged};
 use sd_case::{Answer, Refusal, bytes_of};
 use sd_outside::{Address, MemBeat, MemProbe};
 use sd_proxy::{CheckEnd, Checked, UpCell, check, says_up};
@@ -38,8 +40,9 @@ pub fn check_nodes<R: Wait>(
     let mut probe = probe_of(alloc, steps)?;
     let gate = PlaceGate::new(PUBLISHED);
     let (cell, mut passes) = UpCell::open(alloc, nodes.len() as u8, 1)?;
+    let log = Logged::new(rt, LevelFilter::Off, Discard);
     let got = check(
-        rt,
+        &log,
         &cell,
         &mut passes.checker,
         &nodes,

@@ -3,6 +3,7 @@ ghost use Rattle.std.specs.Prelude.{◌≡◌, ◌≤◌, All, IfOk, vec_len};
 
 use sd_case::{Refusal, bytes_of, number};
 use sd_outside::{MemBeat, MemDatagrams, MemProbe, MemSink, MemWire};
+use sd_proxy::Waiting;
 use std::alloc::Global;
 
 /// How many bytes a datagram has at most.
@@ -74,15 +75,33 @@ pub fn wires_of(alloc: Global, nodes: usize, steps: &[&str]) -> Result<Vec<MemWi
     Ok(wires)
 }
 
+/// The value of the last step of this name, where there is one.
+fn last_value<'a>(steps: &[&'a str], name: &str) -> Option<&'a str> {
+    let mut found = None;
+    for step in steps {
+        found = value_in(step, name).or(found);
+    }
+    found
+}
+
 /// The output, which has room for as many bytes as the step `output=BYTES` says.
 pub fn output_of(alloc: Global, steps: &[&str]) -> Result<MemSink, Refusal> {
-    let mut bytes = OUTPUT;
-    for step in steps {
-        if let Some(value) = value_in(step, "output") {
-            bytes = number(value)?;
-        }
-    }
+    let bytes = match last_value(steps, "output") {
+        Some(value) => number(value)?,
+        None => OUTPUT,
+    };
     Ok(MemSink::open(alloc, bytes)?)
+}
+
+/// Room for a packet to each node of at most as many bytes as the step `batch=BYTES` says, and of none where there is none.
+pub fn waiting_of(alloc: Global, nodes: usize, steps: &[&str]) -> Result<Vec<Waiting>, Refusal>
+    ensures { IfOk result (λ waiting. vec_len waiting ≡ nodes) }
+{
+    let batch = match last_value(steps, "batch") {
+        Some(value) => number(value)?,
+        None => 0,
+    };
+    Ok(Waiting::for_nodes(alloc, nodes, batch)?)
 }
 
 /// The beat of the ticks `tick=SECOND`, whose calls of the numbers `fail_tick=NUMBER` fail.

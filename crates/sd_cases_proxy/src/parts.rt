@@ -5,7 +5,7 @@ use crate::nodes::nodes_of;
 use crate::packing::{MOST_BYTES, wires_of};
 use sd_case::{Answer, Refusal, bytes_of, number};
 use sd_outside::{MemDatagrams, MemWire};
-use sd_proxy::{ProxyTotals, UpCell, UpPass, UpPasses, proxy_part};
+use sd_proxy::{ProxyTotals, UpCell, UpPass, UpPasses, Waiting, proxy_part};
 use sd_ring::Ring;
 use std::alloc::Global;
 use std::sync::Wait;
@@ -21,6 +21,7 @@ struct Bench {
     pass: UpPass,
     ring: Ring,
     wires: Vec<MemWire>,
+    waiting: Vec<Waiting>,
     buf: Vec<u8>,
 }
 
@@ -69,6 +70,7 @@ impl Bench {
             &mut self.pass,
             &mut source,
             &mut self.wires,
+            &mut self.waiting,
             &mut self.buf,
         );
         Ok(got.totals)
@@ -130,6 +132,7 @@ pub fn part<R: Wait>(
         pass,
         ring: Ring::open(alloc, &nodes, cache)?,
         wires: wires_of(alloc, nodes.len(), &[])?,
+        waiting: Waiting::for_nodes(alloc, nodes.len(), 0)?,
         buf: Vec::from_elem(alloc, b'.', MOST_BYTES)?,
     };
     for word in steps {

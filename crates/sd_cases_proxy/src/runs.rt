@@ -1,5 +1,5 @@
 //! Runs of the proxy.
-use crate::packing::{MOST_BYTES, output_of, source_of, wires_of};
+use crate::packing::{MOST_BYTES, output_of, source_of, waiting_of, wires_of};
 use crate::rings::ring_of;
 use sd_case::{Answer, Refusal, number};
 use sd_outside::{Ended, MemDatagrams, MemSink, MemWire};
@@ -31,7 +31,8 @@ fn run_over(
     let mut buf = Vec::from_elem(alloc, b'.', MOST_BYTES)?;
     let mut source = source_of(alloc, steps)?;
     let mut wires = wires_of(alloc, ring.nodes().len(), steps)?;
-    let got = proxy(ring, &mut source, &mut wires, &mut buf, up);
+    let mut waiting = waiting_of(alloc, ring.nodes().len(), steps)?;
+    let got = proxy(ring, &mut source, &mut wires, &mut waiting, &mut buf, up);
     show_end(got.ended, &source, out);
     for (place, wire) in wires.iter().enumerate() {
         show_wire(place, wire, out);

@@ -7,6 +7,8 @@ ghost use Rattle.sd_shared_desk.specs.Shared.{IsSeatOf as IsDeskSeatOf};
 use crate::arrivals::Arrivals;
 use crate::posts::{Work, posts_of};
 use crate::setup::Setup;
+use log::sink::Discard;
+use log::{LevelFilter, Logged};
 use sd_case::Refusal;
 use sd_desk::{DeskFacts, Mark, RoundMarks};
 use sd_epoch::{Limits, Table};
@@ -107,7 +109,11 @@ pub fn serve<L: Wire + Send + Drop, G: Gate + Sync, C: Clock + Sync, R: Threads 
         clock,
         run_flushes: setup.stop,
     };
-    run_each(rt, &shared, posts.as_mut_slice());
+    run_each(
+        &Logged::new(rt, LevelFilter::Off, Discard),
+        &shared,
+        posts.as_mut_slice(),
+    );
     Ok(Served {
         posts,
         facts: desk.facts(rt, &mut own),

@@ -5,12 +5,16 @@ ghost use Rattle.sd_shared_desk.specs.Shared.{IsSeatOf as IsDeskSeatOf};
 ghost use Rattle.sd_receive.specs.Posts.{IsReady};
 
 use crate::arrivals::Arrivals;
+use sd_batch::Batch;
 use sd_case::Refusal;
 use sd_outside::Wire;
 use sd_pool::{Pool, Seat};
 use sd_receive::Post;
 use sd_shared_desk::{DeskSeat, SharedDesk};
 use std::alloc::Global;
+
+/// For how many samples a receiver has room.
+pub(crate) const BATCH: u16 = 64;
 
 /// What a receiver is given: its source and its wires.
 #[derive(Drop)]
@@ -36,12 +40,14 @@ fn post_of<L: Wire + Drop>(
     if wires.len() > 16 {
         return Err(Refusal::Condition);
     }
+    let batch = Batch::open(alloc, pool.shards(), BATCH)?;
     Ok(Post {
         packets,
         wires,
         seat,
         own,
         buf: vec![in alloc; 0; 65527]?,
+        batch,
         got: None,
     })
 }

@@ -4,7 +4,11 @@ ghost use Rattle.sd_shared_desk.specs.Shared.{IsSeatOf as IsDeskSeatOf};
 
 use crate::house::{KEEPS_ALL, tables_of};
 use crate::plan::Plan;
+use crate::posts::BATCH;
 use crate::shown::show_tables;
+use log::sink::Discard;
+use log::{LevelFilter, Logged};
+use sd_batch::Batch;
 use sd_case::{Answer, Refusal};
 use sd_epoch::Limits;
 use sd_outside::{Door, MemClock, NoGate, Source};
@@ -44,6 +48,7 @@ pub(crate) struct House {
     flusher: Seat,
     cutter: Cutter,
     buf: Vec<u8>,
+    batch: Batch,
 }
 
 impl House {
@@ -65,12 +70,14 @@ impl House {
         let Some(seat) = receivers.pop() else {
             unreachable!()
         };
+        let batch = Batch::open(alloc, pool.shards(), BATCH)?;
         Ok(House {
             pool,
             seat,
             flusher,
             cutter,
             buf,
+            batch,
         })
     }
 
@@ -88,7 +95,7 @@ impl House {
         ensures own { IsDeskSeatOf desk.now own.new }
     {
         stream(
-            rt,
+            &Logged::new(rt, LevelFilter::Off, Discard),
             &self.pool,
             desk,
             own,
@@ -97,6 +104,7 @@ impl House {
             source,
             &MemClock::of(1000),
             &mut self.buf,
+            &mut self.batch,
         )
     }
 
@@ -117,7 +125,7 @@ impl House {
         ensures own { IsDeskSeatOf desk.now own.new }
     {
         linekeep(
-            rt,
+            &Logged::new(rt, LevelFilter::Off, Discard),
             &self.pool,
             desk,
             own,
@@ -127,6 +135,7 @@ impl House {
             &MemClock::of(1000),
             &NoGate,
             &mut self.buf,
+            &mut self.batch,
             flushes,
         )
     }

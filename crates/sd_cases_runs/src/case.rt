@@ -6,6 +6,7 @@ ghost use Rattle.sd_cases_runs.specs.Ready.{IsReady};
 use crate::calls::{Failing, fail};
 use crate::most::Most;
 use crate::traffic::Traffic;
+use log::sink::Discard;
 use sd_case::{Refusal, bytes_of, number, set_number};
 use sd_drill::{Drill, MOST_PACKETS};
 use sd_outside::{
@@ -30,6 +31,7 @@ pub(crate) type MemWorld = World<
     MemClock,
     MemProbe,
     MemDoor,
+    Discard,
 >;
 
 /// How many wires a run has.
@@ -205,6 +207,7 @@ impl Case {
             clock: self.traffic.clock(),
             probe,
             streams,
+            log: Discard,
         })
     }
 

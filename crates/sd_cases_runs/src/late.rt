@@ -4,6 +4,7 @@ ghost use Rattle.std.specs.Prelude.{◌≡◌, ◌≤◌, IfOk, length};
 use crate::case::Case;
 use crate::report::{show_beat, show_probe, show_wires};
 use crate::status::show_status;
+use log::sink::Discard;
 use sd_case::{Answer, Refusal, number};
 use sd_outside::{
     Address, Datagrams, Faulty, Gate, MemBackend, MemBeat, MemClock, MemDoor, MemProbe, MemSink,
@@ -131,6 +132,7 @@ type LateWorld<'a> = World<
     MemClock,
     MemProbe,
     MemDoor,
+    Discard,
 >;
 
 /// The sources of a run, of which the first gives this datagram.
@@ -198,6 +200,7 @@ fn run_case<R: Threads + Wait + Sync>(
         clock,
         probe,
         streams,
+        log: _,
     } = case.world(alloc)?;
     let mut world = World {
         settings,
@@ -212,6 +215,7 @@ fn run_case<R: Threads + Wait + Sync>(
         clock,
         probe,
         streams,
+        log: Discard,
     };
     let status = statsd(rt, alloc, &case.words, &mut world);
     report(&status, &world, out);

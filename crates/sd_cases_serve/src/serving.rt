@@ -4,6 +4,8 @@ ghost use Rattle.sd_serve.specs.Room.{AreSizes, sizing_of};
 ghost use Rattle.sd_cases_serve.specs.Serving.{IsFresh};
 
 use crate::setup::Setup;
+use log::sink::Discard;
+use log::{LevelFilter, Logged};
 use sd_case::Refusal;
 use sd_config::Settings;
 use sd_epoch::Limits;
@@ -87,8 +89,12 @@ pub fn serve_over<
     let settings = Settings::read(alloc, b"").map_err(|_| Refusal::Condition)?;
     let room = ServerRoom::open(alloc, sizes, setup.clock)?;
     let clock = MemClock::of(setup.clock);
-    Ok(serve::<KindsOf<MemSource, MemSink, B, D, L, E, P, G, MemClock, MemProbe, S>, R>(
-        rt,
+    let log = Logged::new(rt, LevelFilter::Off, Discard);
+    Ok(serve::<
+        KindsOf<MemSource, MemSink, B, D, L, E, P, G, MemClock, MemProbe, S, Discard>,
+        Logged<&R, Discard>,
+    >(
+        &log,
         room,
         &settings,
         &Reckoning::plain(),

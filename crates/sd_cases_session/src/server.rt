@@ -3,6 +3,8 @@ ghost use Rattle.sd_pool.specs.Pool.{IsSeatOf, limits_of, shards_of, who_is};
 ghost use Rattle.sd_shared_desk.specs.Shared.{IsSeatOf as IsDeskSeatOf};
 
 use crate::plan::Plan;
+use log::sink::Discard;
+use log::{LevelFilter, Logged};
 use sd_case::Refusal;
 use sd_desk::{Mark, RoundMarks, Tally};
 use sd_epoch::Limits;
@@ -122,7 +124,7 @@ impl Server {
         ensures { IsReady self.new }
     {
         session(
-            rt,
+            &Logged::new(rt, LevelFilter::Off, Discard),
             &self.pool,
             &self.desk,
             &mut self.own,
@@ -143,7 +145,7 @@ impl Server {
         ensures { IsReady self.new }
     {
         doorkeep(
-            rt,
+            &Logged::new(rt, LevelFilter::Off, Discard),
             &self.pool,
             &self.desk,
             &mut self.own,

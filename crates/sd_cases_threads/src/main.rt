@@ -142,7 +142,7 @@ fn shared_case<R: Threads + Wait + Sync>(
     let Some(sample) = sample_of(line.as_bytes()) else {
         return format!(in alloc; "no sample");
     };
-    let book = submit_and_swap(rt, alloc, &sample)?;
+    let book = submit_and_swap(rt, alloc, &sample, line.as_bytes())?;
     format!(in alloc;
         "taken {}, flushed and held {}, dropped {}, deleted {}",
         book.taken,

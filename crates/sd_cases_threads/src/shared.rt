@@ -1,12 +1,13 @@
-//! Two threads submit and a third swaps.
+//! Two threads submit, one of them by runs of a batch, and a third swaps.
 ghost use Rattle.std.specs.Prelude.{◌≡◌, ℕ, ◌+◌, ◌<◌, IfOk, get_or};
 ghost use Rattle.sd_model_text.specs.Names.{shard};
 ghost use Rattle.sd_spares.specs.Tables.{IsSpare};
 ghost use Rattle.sd_pool.specs.Pool.{IsSeatOf, limits_of, own_at, shards_of};
 ghost use Rattle.sd_cases_threads.specs.Submitted.{submitted};
 
+use sd_batch::Batch;
 use sd_epoch::{Limits, Table};
-use sd_line::Sample;
+use sd_line::{Lines, Sample};
 use sd_pool::{Pool, Seat, Seats};
 use sd_shard::{Policy, ShardBook};
 use std::alloc::{AllocError, Global};
@@ -67,6 +68,44 @@ fn swap_often<R: Wait>(
     seat
 }
 
+// The sample of a line ten times.
+fn ten_of(alloc: Global, line: &[u8], shards: u16) -> Result<Batch, AllocError>
+    requires { 0 < shards }
+    ensures { IfOk result (λ batch. batch.shards ≡ shards) }
+{
+    let mut batch = Batch::open(alloc, shards, 10)?;
+    for _ in 0..10 {
+        if batch.is_full() {
+            return Ok(batch);
+        }
+        let _ = batch.read(&mut Lines::new(line));
+    }
+    Ok(batch)
+}
+
+// Submits the samples of a batch, shard by shard.
+fn submit_batch<R: Wait>(rt: &R, pool: &Pool, seat: &mut Seat, batch: &Batch)
+    requires seat { IsSeatOf pool.now seat.old }
+    requires batch { batch.now.shards ≡ shards_of pool.now }
+    ensures { IsSeatOf pool.now seat.new }
+{
+    for home in 0..pool.shards() {
+        pool.submit_run(rt, home, seat, batch);
+    }
+}
+
+// The same so many times.
+fn submit_runs<R: Wait>(rt: &R, pool: &Pool, mut seat: Seat, batch: &Batch, times: u32) -> Seat
+    requires seat { IsSeatOf pool.now seat }
+    requires batch { batch.now.shards ≡ shards_of pool.now }
+    ensures { IsSeatOf pool.now result }
+{
+    for _ in 0..times {
+        submit_batch(rt, pool, &mut seat, batch);
+    }
+    seat
+}
+
 // Two threads submit.
 fn submit_both<R: Threads + Wait + Sync>(
     rt: &R,
@@ -74,9 +113,10 @@ fn submit_both<R: Threads + Wait + Sync>(
     one: Seat,
     two: Seat,
     s: &Sample,
-    times: u32,
+    batch: &Batch,
 ) -> (Seat, Seat)
-    requires { IsSeatOf pool.now one × IsSeatOf pool.now two }
+    requires seats { IsSeatOf pool.now one × IsSeatOf pool.now two }
+    requires batch { batch.now.shards ≡ shards_of pool.now }
     ensures { IsSeatOf pool.now result.0 × IsSeatOf pool.now result.1 }
 {
     join(
@@ -84,20 +124,21 @@ fn submit_both<R: Threads + Wait + Sync>(
         move || -> Seat
             requires { IsSeatOf pool.now one }
             ensures { IsSeatOf pool.entry.now result }
-        { submit_often(rt, pool, one, s, times) },
+        { submit_often(rt, pool, one, s, 1000) },
         move || -> Seat
-            requires { IsSeatOf pool.now two }
+            requires { IsSeatOf pool.now two × (batch.now.shards ≡ shards_of pool.now) }
             ensures { IsSeatOf pool.entry.now result }
-        { submit_often(rt, pool, two, s, times) },
+        { submit_runs(rt, pool, two, batch, 100) },
     )
 }
 
-/// The book of the shard to which a sample belongs, after two threads submitted it 1,000 times each and a third swapped that
-/// shard ten times.
+/// The book of the shard to which the sample of a line belongs, after two threads submitted it 1,000 times each, one of them ten at
+/// once, and a third swapped that shard ten times.
 pub fn submit_and_swap<R: Threads + Wait + Sync>(
     rt: &R,
     alloc: Global,
     s: &Sample,
+    line: &[u8],
 ) -> Result<ShardBook, AllocError> {
     let (pool, seats) = Pool::open(alloc, LIMITS, POLICY, 7, 2, 0)?;
     let Seats {
@@ -113,13 +154,14 @@ pub fn submit_and_swap<R: Threads + Wait + Sync>(
         unreachable!()
     };
     let spare = Table::open(alloc, LIMITS, 0)?;
+    let batch = &ten_of(alloc, line, pool.shards())?;
     let shared = &pool;
     let ((one, two), flusher) = join(
         rt,
         move || -> (Seat, Seat)
-            requires { IsSeatOf shared.now one × IsSeatOf shared.now two }
+            requires { (IsSeatOf shared.now one × IsSeatOf shared.now two) × (batch.now.shards ≡ shards_of shared.now) }
             ensures { IsSeatOf shared.entry.now result.0 × IsSeatOf shared.entry.now result.1 }
-        { submit_both(rt, shared, one, two, s, 1000) },
+        { submit_both(rt, shared, one, two, s, batch) },
         move || -> Seat
             requires { IsSeatOf shared.now flusher × (5 < shards_of shared.now) × IsSpare (limits_of shared.now) spare }
             ensures { IsSeatOf shared.entry.now result }

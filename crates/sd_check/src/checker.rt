@@ -6,6 +6,7 @@ ghost use Rattle.sd_check.specs.Checking.{Checks};
 
 use crate::checked::{CheckEnd, Checked};
 use crate::questions::ask_all;
+use log::Log;
 use sd_decimal::Line;
 use sd_live::{UpCell, UpPass};
 use sd_outside::{Beat, Gate, Probe, Tick};
@@ -14,6 +15,9 @@ use std::sync::Wait;
 
 /// How many ticks a run takes at most.
 const MOST_TICKS: u64 = 1 << 62;
+
+/// All nodes, which are up before the first check.
+const ALL: u64 = u64::MAX;
 
 /// Where a count of faults stops.
 const MOST_FAULTS: u64 = 1 << 63;
@@ -24,7 +28,7 @@ const PUBLISHED: u8 = 5;
 /// At each tick of a beat asks all nodes, in order, and publishes the set of those that say that they are up; a node whose question
 /// failed isn't. It ends once the beat has no tick left or fails, or as many came as may. It passes the gate's place 5 behind each
 /// publication, and takes no memory.
-pub fn check<P: Beat, Q: Probe, G: Gate, R: Wait>(
+pub fn check<P: Beat, Q: Probe, G: Gate, R: Wait + Log>(
     rt: &R,
     cell: &UpCell,
     pass: &mut UpPass,
@@ -41,14 +45,16 @@ pub fn check<P: Beat, Q: Probe, G: Gate, R: Wait>(
 {
     let mut line = Line::new();
     let mut probe_faults = 0u64;
+    let mut before = ALL;
     for made in 0..MOST_TICKS {
         match beat.next() {
             Tick::At(_) => (),
             Tick::End => return checked(CheckEnd::End, made, probe_faults),
             Tick::Failed => return checked(CheckEnd::Failed, made, probe_faults),
         }
-        let found = ask_all(nodes, probe, &mut line);
+        let found = ask_all(rt, nodes, before, probe, &mut line);
         cell.publish(rt, pass, found.up);
+        before = found.up;
         gate.pass(PUBLISHED);
         probe_faults = risen(probe_faults, found.failed);
     }

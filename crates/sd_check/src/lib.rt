@@ -9,6 +9,7 @@ mod checked;
 mod checker;
 mod questions;
 mod reply;
+mod telling;
 
 pub use checked::{CheckEnd, Checked};
 pub use checker::check;

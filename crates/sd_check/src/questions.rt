@@ -7,6 +7,8 @@ ghost use Rattle.sd_outside.specs.Places.{place_of};
 ghost use Rattle.sd_check.specs.Questions.{AddsAnswer, HasAskedAll};
 
 use crate::reply::says_up;
+use crate::telling::tell_node;
+use log::Log;
 use sd_decimal::Line;
 use sd_outside::{Address, Probe};
 use sd_plan::Node;
@@ -65,14 +67,23 @@ fn ask_next<Q: Probe>(
     }
 }
 
-/// Asks each node, in order.
-pub(crate) fn ask_all<Q: Probe>(nodes: &[Node], probe: &mut Q, line: &mut Line) -> Found
+/// Asks each node, in order. The log is told of those that aren't up any more, by the set of those that were at the check before, or
+/// are up again.
+pub(crate) fn ask_all<Q: Probe, R: Log>(
+    rt: &R,
+    nodes: &[Node],
+    before: u64,
+    probe: &mut Q,
+    line: &mut Line,
+) -> Found
     requires { length nodes.now ≤ 64 }
     ensures { HasAskedAll (map node_view nodes.now) (Q.seen probe.old) (Q.seen probe.new) result.up result.failed }
 {
     let mut found = Found { up: 0, failed: 0 };
     for (place, node) in nodes.iter().enumerate() {
+        let without = found;
         found = ask_next(node, place, probe, line, found);
+        tell_node(rt, node, place, before, without, found);
     }
     found
 }

@@ -3,6 +3,7 @@ ghost use Rattle.sd_shared_desk.specs.Shared.{IsSeatOf, number_of_seat, part_of}
 ghost use Rattle.sd_door.specs.Keeping.{HasKept, EndsKeeping, Turns};
 
 use crate::visitor::Visitor;
+use log::Log;
 use sd_outside::{Door, DoorEnd, Entry, Gate};
 use sd_shared_desk::{DeskSeat, SharedDesk};
 use std::sync::Wait;
@@ -15,7 +16,7 @@ const PLACE: u8 = 4;
 
 /// Asks the door once. A session that it gives is visited and given back, and a fault is counted. Answers whether the door goes
 /// on.
-fn serve_next<V: Visitor, E: Door, R: Wait>(
+fn serve_next<V: Visitor, E: Door, R: Wait + Log>(
     rt: &R,
     desk: &SharedDesk,
     own: &mut DeskSeat,
@@ -53,7 +54,7 @@ fn serve_next<V: Visitor, E: Door, R: Wait>(
 /// Visits the sessions of a door one after another and gives each back, until the door has none left, so many flushes have come
 /// as are enough, where that isn't 0, or the door took 2^62 turns. A failure of the door and a visit that is a fault are counted
 /// at the desk, and the door is asked again.
-pub fn keep_door<V: Visitor, E: Door, G: Gate, R: Wait>(
+pub fn keep_door<V: Visitor, E: Door, G: Gate, R: Wait + Log>(
     rt: &R,
     desk: &SharedDesk,
     own: &mut DeskSeat,

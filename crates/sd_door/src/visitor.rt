@@ -5,6 +5,7 @@ ghost use Rattle.sd_model_serve.specs.Doors.{Visit};
 ghost use Rattle.sd_shared_desk.specs.Shared.{IsSeatOf, number_of_seat, part_of};
 ghost use Rattle.sd_door.specs.Keeping.{Counts, visit_of};
 
+use log::Log;
 use sd_outside::{Sink, Source};
 use sd_shared_desk::{DeskSeat, SharedDesk};
 use std::sync::Wait;
@@ -19,7 +20,7 @@ pub trait Visitor {
 
     /// Visits a session by its two ends, and answers whether that is a fault, which it is only where an end failed. A fault isn't
     /// counted by the visitor.
-    fn visit<A: Source, T: Sink, R: Wait>(
+    fn visit<A: Source, T: Sink, R: Wait + Log>(
         &mut self,
         rt: &R,
         desk: &SharedDesk,

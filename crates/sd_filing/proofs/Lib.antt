@@ -1,3 +1,4 @@
 pub mod SumLemmas
 pub mod ToldLemmas
+pub mod WaitingLemmas
 pub mod FilingLemmas

@@ -1,22 +1,53 @@
 -- A datagram whose samples a caller submitted to shards.
-use Rattle.std.specs.Prelude.{◌≡◌, ℕ, ◌+◌, ◌≤◌, List, length, All}
+use Rattle.std.specs.Prelude.{◌≡◌, ⊤, ℕ, ◌+◌, ◌<◌, ◌≤◌, List, [], ◌++◌, length, map, Result, Ok, Err, All}
 use Rattle.sd_model_text.specs.Names.{shard}
 use Rattle.sd_model_text.specs.Lines.{Sample, pieces, samples_of, bad_of}
-use Rattle.sd_model_shard.specs.Shard.{Reply, Submit}
-use Rattle.sd_model_shard.specs.History.{History}
+use Rattle.sd_model_shard.specs.Shard.{Submit}
+use Rattle.sd_model_shard.specs.History.{History, part_of}
 use Rattle.sd_model_shard.specs.Whereabouts.{taken_in, dropped_in, told_by}
-use Rattle.sd_model_serve.specs.Receiving.{asks, events_of, one_at, told_in}
+use Rattle.sd_model_serve.specs.Receiving.{asks, events_of, told_in}
+use Rattle.sd_line.specs.declared.piece.Bad.{Bad}
+use Rattle.sd_batch.specs.Batch.{Waiting}
+use Rattle.sd_batch.specs.declared.counts.Counts.{Counts}
+use Rattle.sd_batch.specs.Runs.{CountsRun, run_at}
 use Rattle.sd_filing.specs.declared.filing.Filed.{Filed}
 
--- A sample was submitted once, by this caller, to the shard of its key, and counted as dropped or as taken.
-pub record SubmitsOne (adds : (ℕ → History) → Type 0) (shards caller : ℕ) (s : Sample) (old new : Filed) : Type 0 where
-  pub reply : Reply
-  pub added : adds (one_at (shard s.key shards) (record { who = caller; event = Submit s; reply = reply }))
-  pub one : taken_in reply + dropped_in reply ≡ 1
-  pub taken : new.taken ≡ old.taken + taken_in reply
-  pub dropped : new.dropped ≡ old.dropped + dropped_in reply
+-- the samples that wait for a shard of so many
+abbrev pub waiting_at : ℕ → ℕ → List Sample → List Sample
+waiting_at shards i waiting = part_of (λ s. shard s.key shards) i waiting
+
+-- These samples were submitted once each, in order, by this caller, to the shard with this number, and so many were taken and dropped.
+pub record SubmitsRun (adds : (ℕ → History) → Type 0) (caller home : ℕ) (samples : List Sample) (counts : Counts) : Type 0 where
+  pub made : History
+  pub added : adds (run_at home made)
+  pub asked : events_of made ≡ map Submit samples
+  pub whose : All (λ a. a.who ≡ caller) made
+  pub counted : CountsRun counts made
+
+-- Of samples that waited, those that wait no more were submitted once each, in order, by this caller, to the shards of their keys,
+-- and counted as dropped or as taken.
+pub record SubmitsWaiting (adds : (ℕ → History) → Type 0) (shards caller : ℕ) (waiting waiting_now : List Sample) (old new : Filed) : Type 0 where
+  pub acts : ℕ → History
+  pub added : adds acts
+  pub asked : (i : ℕ) → events_of (acts i) ++ asks shards i waiting_now ≡ asks shards i waiting
+  pub whose : (i : ℕ) → All (λ a. a.who ≡ caller) (acts i)
+  pub placed : (i : ℕ) → told_by taken_in (acts i) + told_by dropped_in (acts i) ≡ length (acts i)
+  pub taken : new.taken ≡ old.taken + told_in taken_in shards acts
+  pub dropped : new.dropped ≡ old.dropped + told_in dropped_in shards acts
+  pub whole : new.taken + new.dropped + length waiting_now ≡ old.taken + old.dropped + length waiting
   pub lines : new.lines ≡ old.lines
   pub bad : new.bad ≡ old.bad
+
+-- a batch for so many shards, with room, in which none waits
+pub record IsOpenFor (shards : ℕ) (batch : Waiting) : Type 0 where
+  pub shards_are : batch.shards ≡ shards
+  pub room : 0 < batch.room
+  pub none : batch.items ≡ []
+
+-- 1 for a bad piece, and else 0
+abbrev pub bad_in : Result ⊤ Bad → ℕ
+bad_in (Ok _) = 0
+bad_in (Err bad) = 1
 
 -- The good samples of a datagram were submitted once each, in order, by this caller, to the shards of their keys, and each was
 -- taken or dropped. The datagram has so many pieces, of which so many are bad; of the samples so many were dropped, and taken.

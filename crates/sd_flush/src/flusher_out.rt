@@ -13,6 +13,8 @@ use crate::flushed::Flushed;
 use crate::outs::{Lead, Outs, Skips};
 use crate::rounds_out::round_out;
 use crate::tables::Tables;
+use crate::telling::SkippedInRow;
+use log::Log;
 use sd_outside::{Beat, Ended, Gate, Tick};
 use sd_plan::{Names, Reckoning};
 use sd_pool::{Pool, Seat};
@@ -65,7 +67,7 @@ fn end(outs: &mut Outs<'_>, flushed: Flushed, skips: Skips) -> FlushedOut
 /// Makes a round at each tick of a beat as `flush_all` does, but sends the texts to the outlets of the backends that are used, and
 /// then stops their feeds, however it ended. It waits for the beat, and for the turns of the shards and of the desk, but for no
 /// backend, and takes no memory.
-pub fn flush_all_out<E: Beat, G: Gate, R: Wait>(
+pub fn flush_all_out<E: Beat, G: Gate, R: Wait + Log>(
     rt: &R,
     pool: &Pool,
     desk: &SharedDesk,
@@ -97,6 +99,7 @@ pub fn flush_all_out<E: Beat, G: Gate, R: Wait>(
         graphite: 0,
         console: 0,
     };
+    let mut skipped_in_row = SkippedInRow::new();
     let mut last = None;
     for made in 0..MOST_TURNS {
         if run_flushes > 0 && made == run_flushes {
@@ -109,6 +112,7 @@ pub fn flush_all_out<E: Beat, G: Gate, R: Wait>(
                     rt, pool, desk, own, seat, tables, plan, names, ts, outs, gate,
                 );
                 skips.count(marks);
+                skipped_in_row.note(rt, marks);
                 last = Some(ts);
             }
             Tick::End => {

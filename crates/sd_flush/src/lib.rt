@@ -15,6 +15,7 @@ mod rounds;
 mod rounds_out;
 mod swapping;
 mod tables;
+mod telling;
 mod writing;
 
 pub use flushed::Flushed;

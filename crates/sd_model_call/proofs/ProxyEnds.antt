@@ -27,13 +27,13 @@ all_relayed s =
     (all_numbered IsOpenedToRelay OfWire (λ i. tt) 0 (repeated s.sizes.receivers (map node_place s.lists.nodes)))
 
 -- the loops of receivers over their sources
-looped : (nodes : List Node) (rs : List Relay) (ss ns ws wn : List Object) → AreRelays nodes rs ss ns ws wn → AreEnded 0 0 (map (λ r. r.ended) rs) ss ns
-looped nodes [] ss ns ws wn h = tt
-looped nodes (r ∷ rs) [] ns ws wn h = absurd h
-looped nodes (r ∷ rs) (s ∷ ss) [] ws wn h = absurd h
-looped nodes (r ∷ rs) (s ∷ ss) (n ∷ ns) ws wn h = (
+looped : (most : ℕ) (nodes : List Node) (rs : List Relay) (ss ns ws wn : List Object) → AreRelays most nodes rs ss ns ws wn → AreEnded 0 0 (map (λ r. r.ended) rs) ss ns
+looped most nodes [] ss ns ws wn h = tt
+looped most nodes (r ∷ rs) [] ns ws wn h = absurd h
+looped most nodes (r ∷ rs) (s ∷ ss) [] ws wn h = absurd h
+looped most nodes (r ∷ rs) (s ∷ ss) (n ∷ ns) ws wn h = (
   record { turned = h.0.turned; turns = h.0.turns; seen = 0; known = omega arith; ends = h.0.ends },
-  looped nodes rs ss ns (drop (length nodes) ws) (drop (length nodes) wn) h.1,
+  looped most nodes rs ss ns (drop (length nodes) ws) (drop (length nodes) wn) h.1,
 )
 
 -- the end of a checker is one of a flusher of which no flushes are asked
@@ -64,7 +64,7 @@ module _ (name : List ℕ) (answer : Answer) (old new : World) (h : HasProxied n
   turns = same_start (λ o. o.turns) (λ place o. refl) (λ told o. refl) (λ interval o. refl) (proxy_openings h.values) (check_interval h.values) h.values h.settings name old h.taken
 
   loops : AreEnded 0 0 received start.served.sources new.served.sources
-  loops = looped h.values.lists.nodes h.relays start.served.sources new.served.sources start.seen.wires new.seen.wires h.theorem.are
+  loops = looped h.values.transport.batch_bytes h.values.lists.nodes h.relays start.served.sources new.served.sources start.seen.wires new.seen.wires h.theorem.are
 
   ticked : EndsFlusher 0 h.checker_ended start.served.beat new.served.beat (length h.checks)
   ticked = as_flusher (length h.checks) h.checker_ended start.served.beat new.served.beat h.theorem.checked.ends

@@ -73,7 +73,7 @@ pub record HasProxied (name : List ℕ) (answer : Answer) (old new : World) : Ty
   pub count : length relays ≡ values.sizes.receivers
   pub checks : List Check
   pub checker_ended : LoopEnd
-  pub theorem : (let start = proxy_begun values (settled values settings old) in ProxyTheorem values.lists.nodes relays checks checker_ended start.served.sources new.served.sources start.seen.wires new.seen.wires start.served.beat new.served.beat old.probe new.probe)
+  pub theorem : (let start = proxy_begun values (settled values settings old) in ProxyTheorem values.transport.batch_bytes values.lists.nodes relays checks checker_ended start.served.sources new.served.sources start.seen.wires new.seen.wires start.served.beat new.served.beat old.probe new.probe)
   pub written : WritesTotals (relay_text values.lists.nodes relays checks) (proxy_answer relays checker_ended) answer old.seen.output new.seen.output
   pub others : new ≡ record (settled values settings old) {
     seen = record old.seen { wires = new.seen.wires; output = new.seen.output };

@@ -70,10 +70,11 @@ AreTold from (r ∷ relays) steps = (told_to from steps ≡ map (λ x. x.up) r.r
 
 -- The theorem of a proxy. The sets that its checker published and the looks of its receivers, one for each datagram, stand in one
 -- order of steps, and each look tells the set that was published last before it, which is that of all nodes before the first; the
--- checker made these checks; and each receiver did what a receiver does, with its own source and its own run of wires.
-pub record ProxyTheorem (nodes : List Node) (relays : List Relay) (checks : List Check) (checker_ended : LoopEnd) (sources sources_now wires wires_now : List Object) (beat beat_now probe probe_now : Object) : Type 0 where
+-- checker made these checks; and each receiver did what a receiver does, with its own source and its own run of wires, and with packets
+-- of at most so many bytes.
+pub record ProxyTheorem (most : ℕ) (nodes : List Node) (relays : List Relay) (checks : List Check) (checker_ended : LoopEnd) (sources sources_now wires wires_now : List Object) (beat beat_now probe probe_now : Object) : Type 0 where
   pub steps : List SetStep
   pub current : AreCurrent (all_of (length nodes)) steps
   pub told : AreTold 0 relays steps
   pub checked : HasChecked nodes checks checker_ended (first_history nodes) (all_of (length nodes) ∷ published_in steps) beat beat_now probe probe_now
-  pub are : AreRelays nodes relays sources sources_now wires wires_now
+  pub are : AreRelays most nodes relays sources sources_now wires wires_now

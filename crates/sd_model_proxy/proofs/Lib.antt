@@ -1,4 +1,4 @@
 pub mod RouteLemmas
+pub mod BatchLemmas
 pub mod SendLemmas
 pub mod TotalLemmas
-pub mod WireTotals

@@ -1,40 +1,56 @@
--- Sends on the wires of nodes, one list of lines behind another.
-use Rattle.std.proofs.Common.{◌≡◌, ◌∙◌, ℕ, ◌<◌, Bool, true, false, cond, List, [], ◌∷◌, ◌++◌, length, map, filter, refl, sym, ap, set, get_or, eq-eqb, ne_eqb}
-use Rattle.std.proofs.lemmas.List.{map-append}
-use Rattle.std.proofs.lemmas.List.Elements.{filter-append}
+-- Packets to nodes, some behind others, and their sends on wires.
+use Rattle.std.proofs.Common.{◌≡◌, ◌≢◌, ◌∙◌, ℕ, ◌<◌, Bool, true, false, cond, List, [], ◌∷◌, ◌++◌, length, map, refl, sym, ap, subst, arith, set, get_or, eq-eqb, ne_eqb}
+use Rattle.std.specs.Prelude.{◌==◌}
+use Rattle.std.proofs.lemmas.List.{map-append, length-set, get_or-set_same, set-get_or, set-set}
 use Rattle.sd_model_outside.specs.Outside.{Object}
-use Rattle.sd_model_outside.specs.Wires.{HasSent}
-use Rattle.sd_model_settings.specs.Entries.{Node}
+use Rattle.sd_model_record.specs.WireSends.{AfterSends, AfterSendsOn, WireSend}
 use Rattle.sd_model_record.proofs.WireLemmas.{AfterSendsOn-next, AfterSendsOn-none, AfterSendsOn-one}
-use Rattle.sd_model_proxy.specs.Routes.{Routed, To, goes_to, route_of, AreForwarded, send_of, sends_to}
+use Rattle.sd_model_proxy.specs.Batches.{AreForwarded, Batch, Batched, send_of}
 
-pub sends_to-append : (nodes : List Node) (place : ℕ) (xs ys : List Routed) → sends_to nodes place (xs ++ ys) ≡ sends_to nodes place xs ++ sends_to nodes place ys
-sends_to-append nodes place xs ys =
-    ap (map send_of) (filter-append (λ (r : Routed). goes_to place (route_of nodes r)) xs ys)
-    ∙ map-append send_of (filter (λ (r : Routed). goes_to place (route_of nodes r)) xs) (filter (λ (r : Routed). goes_to place (route_of nodes r)) ys)
+-- packets, and behind them others to the same nodes
+abbrev pub behind : Batched → Batched → Batched
+behind first second = λ place. first place ++ second place
 
--- a line's sends to the node in a place, by whether it goes there
-pub sends_to-one : (nodes : List Node) (place : ℕ) (r : Routed) (goes : Bool) → goes_to place (route_of nodes r) ≡ goes → sends_to nodes place (r ∷ []) ≡ cond goes (send_of r ∷ []) []
-sends_to-one nodes place r true is = ap (λ b. map send_of (cond b (r ∷ []) [])) is
-sends_to-one nodes place r false is = ap (λ b. map send_of (cond b (r ∷ []) [])) is
+-- these packets to the node in a place, and none to another
+abbrev pub only : ℕ → List Batch → Batched
+only place batches = λ at. cond (place == at) batches []
 
--- lines behind lines
-pub AreForwarded-next : (nodes : List Node) (xs ys : List Routed) (old mid new : List Object) → AreForwarded nodes xs old mid → AreForwarded nodes ys mid new → AreForwarded nodes (xs ++ ys) old new
-AreForwarded-next nodes xs ys old mid new first second =
-    AfterSendsOn-next (λ place. sends_to nodes place xs) (λ place. sends_to nodes place ys) (λ place. sends_to nodes place (xs ++ ys)) old mid new (λ place. sends_to-append nodes place xs ys) first second
+pub only-here : (place : ℕ) (batches : List Batch) → only place batches place ≡ batches
+only-here place batches = ap (λ here. cond here batches []) (eq-eqb place place refl)
 
--- no line leaves the wires as they are
-pub AreForwarded-none : (nodes : List Node) (wires : List Object) → AreForwarded nodes [] wires wires
-AreForwarded-none nodes wires = AfterSendsOn-none (λ place. sends_to nodes place []) wires (λ place. refl)
+pub only-elsewhere : (place : ℕ) (batches : List Batch) (at : ℕ) → at ≢ place → only place batches at ≡ []
+only-elsewhere place batches at other = ap (λ here. cond here batches []) (ne_eqb place at (λ same. other (sym same)))
 
--- and so does a line that goes to no node
-pub AreForwarded-nowhere : (nodes : List Node) (r : Routed) (wires : List Object) → ((place : ℕ) → goes_to place (route_of nodes r) ≡ false) → AreForwarded nodes (r ∷ []) wires wires
-AreForwarded-nowhere nodes r wires elsewhere = AfterSendsOn-none (λ place. sends_to nodes place (r ∷ [])) wires (λ place. sends_to-one nodes place r false (elsewhere place))
+-- sends behind sends
+pub AreForwarded-next : (first second : Batched) (old mid new : List Object) → AreForwarded first old mid → AreForwarded second mid new → AreForwarded (behind first second) old new
+AreForwarded-next first second old mid new sends more =
+    AfterSendsOn-next (λ place. map send_of (first place)) (λ place. map send_of (second place)) (λ place. map send_of (first place ++ second place)) old mid new (λ place. map-append send_of (first place) (second place)) sends more
 
--- a line that goes to a node is sent on its wire, and the others stay
-pub AreForwarded-somewhere : (nodes : List Node) (r : Routed) (place : ℕ) (wires : List Object) (old new : Object) → route_of nodes r ≡ To place → place < length wires → get_or wires place old ≡ old → HasSent r.line r.is_failed old new → AreForwarded nodes (r ∷ []) wires (set wires place new)
-AreForwarded-somewhere nodes r place wires old new goes inside there has =
-    AfterSendsOn-one (λ at. sends_to nodes at (r ∷ [])) place (send_of r) wires old new
-    (sends_to-one nodes place r true (ap (goes_to place) goes ∙ eq-eqb place place refl))
-    (λ at other. sends_to-one nodes at r false (ap (goes_to at) goes ∙ ne_eqb place at (λ same. other (sym same))))
-    inside there has
+-- no packet leaves the wires as they are
+pub AreForwarded-none : (wires : List Object) → AreForwarded (λ place. []) wires wires
+AreForwarded-none wires = AfterSendsOn-none (λ place. []) wires (λ place. refl)
+
+-- packets to one node are sent on its wire, and the others stay
+pub AreForwarded-only : (place : ℕ) (batches : List Batch) (wires : List Object) (old new : Object) → place < length wires → get_or wires place old ≡ old → AfterSends (map send_of batches) old new → AreForwarded (only place batches) wires (set wires place new)
+AreForwarded-only place [] wires old new inside there sent =
+    let same : set wires place new ≡ wires = ap (set wires place) (sent ∙ sym there) ∙ set-get_or wires place old in
+    AfterSendsOn-stay (λ at. map send_of (only place [] at)) wires (set wires place new) same (λ at. none (place == at))
+  where
+    none : (here : Bool) → map send_of (cond here [] []) ≡ []
+    none true = refl
+    none false = refl
+
+    AfterSendsOn-stay : (sends : ℕ → List WireSend) (wires now : List Object) → now ≡ wires → ((i : ℕ) → sends i ≡ []) → AfterSendsOn sends wires now
+    AfterSendsOn-stay sends wires now same without = subst (AfterSendsOn sends wires) (sym same) (AfterSendsOn-none sends wires without)
+AreForwarded-only place (b ∷ batches) wires old new inside there sent =
+    let mid : Object = sent.0 in
+    let one = AfterSendsOn-one (λ at. map send_of (only place (b ∷ []) at)) place (send_of b) wires old mid
+    (ap (map send_of) (only-here place (b ∷ []))) (λ at other. ap (map send_of) (only-elsewhere place (b ∷ []) at other)) inside there sent.1 in
+    let rest = AreForwarded-only place batches (set wires place mid) mid new (omega (arith, inside, length-set wires place mid)) (get_or-set_same wires place mid mid inside) sent.2 in
+    subst (AreForwarded (only place (b ∷ batches)) wires) (set-set wires place mid new)
+    (AfterSendsOn-next (λ at. map send_of (only place (b ∷ []) at)) (λ at. map send_of (only place batches at)) (λ at. map send_of (only place (b ∷ batches) at)) wires (set wires place mid) (set (set wires place mid) place new)
+    (λ at. both (place == at)) one rest)
+  where
+    both : (here : Bool) → map send_of (cond here (b ∷ batches) []) ≡ map send_of (cond here (b ∷ []) []) ++ map send_of (cond here batches [])
+    both true = refl
+    both false = refl

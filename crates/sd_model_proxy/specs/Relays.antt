@@ -1,29 +1,30 @@
 -- What the receivers of a proxy do: each sends the lines of the datagrams of its source on its own run of wires.
-use Rattle.std.specs.Prelude.{◌≡◌, ℕ, ◌+◌, ◌≤◌, min, List, length, map, flat_map}
+use Rattle.std.specs.Prelude.{◌≡◌, ℕ, ◌+◌, ◌≤◌, min, List, length, map}
 use Rattle.sd_model_outside.specs.Outside.{Object, last_count}
 use Rattle.sd_model_outside.specs.Turns.{with_datagrams}
 use Rattle.sd_model_settings.specs.Entries.{Node}
 use Rattle.sd_model_serve.specs.Ends.{LoopEnd, EndsReceiver}
 use Rattle.sd_model_serve.specs.Receiving.{HaveRun}
-use Rattle.sd_model_proxy.specs.Routes.{Read, Routed, line_and_set, lines_of_read, AreForwarded, add_totals, no_totals, sums_of_totals, totals_of_lines}
+use Rattle.sd_model_proxy.specs.Routes.{Read}
+use Rattle.sd_model_proxy.specs.Batches.{AreBatched, AreForwarded, Batched, add_totals, no_totals, sums_of_totals, totals_of}
 use Rattle.sd_model_replay.specs.Totals.{Total}
 
--- What a receiver of a proxy did: the datagrams that it read, each with the nodes that were up; the lines that it routed; and
--- how it ended.
+-- What a receiver of a proxy did: the datagrams that it read, each with the nodes that were up; the packets of their lines to each
+-- node; and how it ended.
 pub record Relay : Type 0 where
   pub reads : List Read
-  pub routed : List Routed
+  pub batched : Batched
   pub ended : LoopEnd
 
--- A receiver's lines are those of the datagrams that its source has given since, in order, each routed among the nodes that were
--- up for its datagram. Its wires, one for each node, got just the lines whose owner is their node, in order, each as a packet of
--- its own, but for sends that failed. It ended so once its source had taken so many turns, counted up to the last count; no
+-- A receiver's datagrams are those that its source has given since, in order. Its wires, one for each node, got just the lines whose
+-- owner is their node among the nodes that were up for its datagram, in order, those of one datagram in packets of at most so many
+-- bytes, but for packets whose sends failed. It ended so once its source had taken so many turns, counted up to the last count; no
 -- flushes end it. Nothing else of the source changed.
-pub record IsRelay (nodes : List Node) (r : Relay) (source source_now : Object) (wires wires_now : List Object) : Type 0 where
+pub record IsRelay (most : ℕ) (nodes : List Node) (r : Relay) (source source_now : Object) (wires wires_now : List Object) : Type 0 where
   pub given : source.told ≡ with_datagrams (map (λ x. x.datagram) r.reads) source_now.told
-  pub lines : map line_and_set r.routed ≡ flat_map lines_of_read r.reads
+  pub packets : AreBatched most nodes r.reads r.batched
   pub each : length wires ≡ length nodes
-  pub sends : AreForwarded nodes r.routed wires wires_now
+  pub sends : AreForwarded r.batched wires wires_now
   pub turned : ℕ
   pub turns : source_now.turns ≡ min (source.turns + turned) last_count
   pub many : length r.reads ≤ turned
@@ -32,12 +33,12 @@ pub record IsRelay (nodes : List Node) (r : Relay) (source source_now : Object) 
 
 -- what a receiver counted
 abbrev pub relay_totals : List Node → Relay → List Total
-relay_totals nodes r = add_totals no_totals (totals_of_lines nodes (length r.reads) r.routed)
+relay_totals nodes r = add_totals no_totals (totals_of nodes r.reads r.batched)
 
 -- the totals of receivers, added up
 abbrev pub relays_totals : List Node → List Relay → List Total
 relays_totals nodes relays = sums_of_totals (map (relay_totals nodes) relays)
 
 -- each receiver did so with a source of its own, and a run of wires with one for each node
-abbrev pub AreRelays : List Node → List Relay → (sources sources_now wires wires_now : List Object) → Type 0
-AreRelays nodes = HaveRun (IsRelay nodes) (length nodes)
+abbrev pub AreRelays : (most : ℕ) → List Node → List Relay → (sources sources_now wires wires_now : List Object) → Type 0
+AreRelays most nodes = HaveRun (IsRelay most nodes) (length nodes)

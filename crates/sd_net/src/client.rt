@@ -6,7 +6,7 @@ use mio::{Interest, Poll, Token};
 use sd_edge::Outbox;
 use std::alloc::Global;
 use std::io::{self, ErrorKind, Read, Write};
-use std::net::Shutdown;
+use std::net::{Shutdown, SocketAddr};
 
 /// How many writes in a row a client is told something by, at most.
 const MOST_WRITES: usize = 16;
@@ -80,6 +80,11 @@ impl Client {
         let interests = Interest::READABLE | Interest::WRITABLE;
         poll.registry()
             .register(&mut self.stream, Token(place), interests)
+    }
+
+    /// Who is connected, where that can be told.
+    pub(crate) fn address(&self) -> Option<SocketAddr> {
+        self.stream.peer_addr().ok()
     }
 
     /// Notes what a poll has reported.

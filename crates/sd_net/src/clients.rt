@@ -1,10 +1,12 @@
 use crate::client::{Client, Taken, Unheard};
 use crate::door_sizes::DoorSizes;
 use crate::look::Look;
+use crate::run_log::RunLog;
 use mio::Poll;
 use mio::event::Event;
 use mio::net::{TcpListener, TcpStream};
 use sd_edge::{Guest, Guests, LineBuffer, PIECE, Stage};
+use sd_event::client_let_go;
 use std::alloc::{AllocError, Global};
 use std::io::{self, ErrorKind};
 
@@ -26,8 +28,11 @@ pub(crate) struct Visit {
 
 /// The clients that are connected, in places whose room is taken when they are made.
 #[derive(Drop)]
-pub(crate) struct Clients {
+pub(crate) struct Clients<'a> {
     alloc: Global,
+    log: &'a RunLog<'a>,
+    /// The port that they came to.
+    port: u16,
     places: Vec<Place>,
     guests: Guests,
     /// What is read at a time.
@@ -204,15 +209,22 @@ fn places_for(alloc: Global, sizes: DoorSizes) -> Result<Vec<Place>, AllocError>
     Ok(places)
 }
 
-impl Clients {
+impl<'a> Clients<'a> {
     /// Places for so many clients, each with its room.
     ///
     /// # Errors
     ///
     /// Where no memory is left for them.
-    pub(crate) fn open(alloc: Global, sizes: DoorSizes) -> Result<Clients, AllocError> {
+    pub(crate) fn open(
+        alloc: Global,
+        sizes: DoorSizes,
+        log: &'a RunLog<'a>,
+        port: u16,
+    ) -> Result<Clients<'a>, AllocError> {
         Ok(Clients {
             alloc,
+            log,
+            port,
             places: places_for(alloc, sizes)?,
             guests: Guests::open(alloc, sizes.clients)?,
             piece: vec![in alloc; 0u8; PIECE]?,
@@ -317,7 +329,11 @@ impl Clients {
             let Some(guest) = self.next_overdue(now) else {
                 break;
             };
-            look = look.and(self.let_go(guest, now));
+            let reason = match guest.stage {
+                Stage::Unread | Stage::Leaving => "slow",
+                _ => "silent",
+            };
+            look = look.and(self.let_go(guest, now, reason));
             if look.has_failed {
                 break;
             }
@@ -325,8 +341,22 @@ impl Clients {
         look
     }
 
+    /// Tells the log that a client is let go.
+    fn tell_let_go(&self, guest: Guest, reason: &str) {
+        let Some(place) = self.places.get(guest.place) else {
+            return;
+        };
+        let Some(client) = &place.client else {
+            return;
+        };
+        if let Some(address) = client.address() {
+            client_let_go(self.log, &address, self.port, reason);
+        }
+    }
+
     /// Lets a client go.
-    fn let_go(&mut self, guest: Guest, now: u64) -> Look {
+    fn let_go(&mut self, guest: Guest, now: u64, reason: &str) -> Look {
+        self.tell_let_go(guest, reason);
         self.free(guest.place, now);
         match guest.stage {
             Stage::Unread | Stage::Leaving => Look::NEWS.and(Look::FAULT),
@@ -343,7 +373,7 @@ impl Clients {
             return (None, Look::NOTHING);
         }
         match self.guests.goes(now) {
-            Some(guest) => (Some(guest.place), self.let_go(guest, now)),
+            Some(guest) => (Some(guest.place), self.let_go(guest, now, "newer")),
             None => (None, Look::NOTHING),
         }
     }

@@ -51,6 +51,8 @@ pub(crate) struct Conversation<'a> {
     limit: TimeLimit,
     pub progress: Progress,
     pub line: ReplyLine,
+    /// Why the last address that was tried failed.
+    pub fault: ErrorKind,
 }
 
 /// Puts out bytes up to the first newline, as long as there is room. Whether nothing more of the line is wanted.
@@ -132,6 +134,7 @@ impl<'a> Conversation<'a> {
             limit: TimeLimit { end: 0 },
             progress: Progress::Idle,
             line: ReplyLine::new(),
+            fault: ErrorKind::NotFound,
         }
     }
 
@@ -157,6 +160,7 @@ impl<'a> Conversation<'a> {
         self.tried = 0;
         self.line.clear();
         self.progress = Progress::Asking;
+        self.fault = ErrorKind::NotFound;
         self.try_next(host, registry, token);
     }
 
@@ -173,7 +177,10 @@ impl<'a> Conversation<'a> {
                     self.connection = Some(connection);
                     return;
                 }
-                Err(_) => self.name.fail(ip),
+                Err(e) => {
+                    self.fault = e.kind();
+                    self.name.fail(ip);
+                }
             }
         }
         self.connection = None;
@@ -223,7 +230,8 @@ impl<'a> Conversation<'a> {
                 self.progress = Progress::Answered;
             }
             Ok(false) => self.connection = Some(connection),
-            Err(_) => {
+            Err(e) => {
+                self.fault = e.kind();
                 self.name.fail(connection.ip);
                 self.line.clear();
                 self.try_next(host, registry, token);

@@ -1,13 +1,17 @@
 ghost use Rattle.std.specs.Prelude.{◌≡◌, OnErr, OnOk};
 ghost use Rattle.sd_model_outside.specs.Outside.{raised};
 
+use crate::log_text::address_text;
 use crate::moments::now;
 use crate::pace::Pace;
 use crate::place::host_of;
 use crate::resolved::Resolved;
+use crate::rounds::Rounds;
+use crate::run_log::RunLog;
 use crate::stop::Stop;
 use crate::text_room::TextRoom;
 use crate::waiting::{Waiting, slice};
+use sd_event::Link;
 use sd_outside::{
     Address, Backend, Failed, Faulty, OpenRefusal, Opens, Sink, fault, opening_fault,
 };
@@ -34,6 +38,8 @@ pub struct GraphiteLink<'a, X> {
     threads: &'a X,
     stop: &'a Stop,
     pace: &'a Pace,
+    log: &'a RunLog<'a>,
+    rounds: Rounds,
     graphite: Option<Graphite>,
     text: TextRoom,
     round: Option<Round<'a>>,
@@ -65,6 +71,7 @@ impl<'a, X> GraphiteLink<'a, X> {
         threads: &'a X,
         stop: &'a Stop,
         pace: &'a Pace,
+        log: &'a RunLog<'a>,
     ) -> GraphiteLink<'a, X>
         ensures { ⟦<GraphiteLink<'a, X> as Faulty>⟧.seen result ≡ fresh Untold }
     {
@@ -73,6 +80,8 @@ impl<'a, X> GraphiteLink<'a, X> {
             threads,
             stop,
             pace,
+            log,
+            rounds: Rounds::of(Link::Graphite),
             graphite: None,
             text: TextRoom::none(host.alloc()),
             round: None,
@@ -106,13 +115,14 @@ impl Graphite {
     ///
     /// # Errors
     ///
-    /// `TimedOut`, `NotConnected` where none takes one, and those of the clock.
+    /// `TimedOut`, `NotFound` where none is known, that of the last one where none takes a connection, and those of the clock.
     fn connect(
         &mut self,
         host: &HostRuntime,
         waiting: &Waiting<'_, HostRuntime>,
     ) -> io::Result<TcpStream> {
         let count = self.name.count();
+        let mut fault = ErrorKind::NotFound;
         for tried in 0..count {
             let Some(ip) = self.name.next() else {
                 break;
@@ -121,10 +131,13 @@ impl Graphite {
             let at = SocketAddr::new(ip, self.port);
             match TcpStream::connect_timeout(host, &at, Duration::from_millis(share)) {
                 Ok(stream) => return Ok(stream),
-                Err(_) => self.name.fail(),
+                Err(e) => {
+                    fault = e.kind();
+                    self.name.fail();
+                }
             }
         }
-        Err(io::Error::from(ErrorKind::NotConnected))
+        Err(io::Error::from(fault))
     }
 
     /// Waits for a look-up that is under way, and answers whether it found an address that wasn't known.
@@ -283,8 +296,29 @@ impl<'a, X> GraphiteLink<'a, X> {
         }
         match outcome {
             Ok(()) => Ok(()),
-            Err(_) => Err(fault(&mut self.faults)),
+            Err(e) => {
+                self.tell_failed(&e);
+                Err(fault(&mut self.faults))
+            }
         }
+    }
+
+    /// Tells the log that a round failed.
+    fn tell_failed(&mut self, error: &io::Error)
+        ensures faults { self.new.faults ≡ self.old.faults }
+        ensures opened_at { self.new.opened_at ≡ self.old.opened_at }
+    {
+        let address = address_text(&self.opened_at);
+        self.rounds.fail(self.log, address.as_slice(), error);
+    }
+
+    /// Tells the log that a round ended.
+    fn tell_ended(&mut self)
+        ensures faults { self.new.faults ≡ self.old.faults }
+        ensures opened_at { self.new.opened_at ≡ self.old.opened_at }
+    {
+        let address = address_text(&self.opened_at);
+        self.rounds.end(self.log, address.as_slice());
     }
 }
 
@@ -343,12 +377,16 @@ impl<'a, X: Threads> Backend for GraphiteLink<'a, X> {
     fn begin(&mut self) -> Result<(), Failed> {
         self.round = None;
         self.text.clear();
+        self.rounds.begin();
         match self.begun() {
             Ok(round) => {
                 self.round = Some(round);
                 Ok(())
             }
-            Err(_) => Err(fault(&mut self.faults)),
+            Err(e) => {
+                self.tell_failed(&e);
+                Err(fault(&mut self.faults))
+            }
         }
     }
 
@@ -360,6 +398,8 @@ impl<'a, X: Threads> Backend for GraphiteLink<'a, X> {
             Ok(()) => round.end(),
             Err(e) => Err(e),
         };
-        self.noted(outcome)
+        self.noted(outcome)?;
+        self.tell_ended();
+        Ok(())
     }
 }

@@ -2,6 +2,7 @@ use crate::client::Client;
 use crate::clients::{Clients, Ended, Visit};
 use crate::door_sizes::DoorSizes;
 use crate::look::Look;
+use crate::run_log::RunLog;
 use crate::stop::Stop;
 use mio::net::TcpListener;
 use mio::{Events, Interest, Poll, Token};
@@ -43,11 +44,11 @@ pub(crate) enum Next {
 
 /// What an open door holds: its listener, its clients, and what the looks at them brought.
 #[derive(Drop)]
-pub(crate) struct Hall {
+pub(crate) struct Hall<'a> {
     listener: TcpListener,
     poll: Poll,
     events: Events<Global>,
-    clients: Clients,
+    clients: Clients<'a>,
     /// What the last look brought.
     looked: Look,
     /// How long the next look waits where nothing else says so.
@@ -70,7 +71,7 @@ fn out_of_memory() -> io::Error {
     io::Error::from(ErrorKind::OutOfMemory)
 }
 
-impl Hall {
+impl<'a> Hall<'a> {
     /// A hall at a listener that doesn't wait, with the room of all clients.
     ///
     /// # Errors
@@ -81,8 +82,13 @@ impl Hall {
         alloc: Global,
         listener: net::TcpListener,
         sizes: DoorSizes,
-    ) -> io::Result<Hall> {
-        let clients = Clients::open(alloc, sizes).map_err(|_| out_of_memory())?;
+        log: &'a RunLog<'a>,
+    ) -> io::Result<Hall<'a>> {
+        let port = match listener.local_addr() {
+            Ok(addr) => addr.port(),
+            Err(_) => 0,
+        };
+        let clients = Clients::open(alloc, sizes, log, port).map_err(|_| out_of_memory())?;
         let number = clients.listener_number();
         let events = Events::with_capacity(alloc, number.saturating_add(1)).map_err(
             |_| out_of_memory(),

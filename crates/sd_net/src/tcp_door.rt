@@ -1,7 +1,8 @@
-use crate::clients::Ended;
-use crate::door_sizes::DoorSizes;
+use crate::clients::{Ended, Visit};
+use crate::door_sizes::{DoorSizes, Share};
 use crate::hall::{Hall, Next};
 use crate::place::{host_of, refusal};
+use crate::run_log::RunLog;
 use crate::session_sink::SessionSink;
 use crate::session_source::SessionSource;
 use crate::sockets::Sockets;
@@ -36,7 +37,8 @@ pub struct TcpDoor<'a, R> {
     sockets: &'a Sockets,
     stop: &'a Stop,
     sizes: DoorSizes,
-    hall: Option<Hall>,
+    log: &'a RunLog<'a>,
+    hall: Option<Hall<'a>>,
     is_out: bool,
     opened_at: Option<Address>,
     faults: u64,
@@ -54,6 +56,7 @@ impl<'a, R> TcpDoor<'a, R> {
         sockets: &'a Sockets,
         stop: &'a Stop,
         sizes: DoorSizes,
+        log: &'a RunLog<'a>,
     ) -> TcpDoor<'a, R>
         ensures { ⟦<TcpDoor<'a, R> as Faulty>⟧.seen result ≡ fresh Untold }
     {
@@ -63,6 +66,7 @@ impl<'a, R> TcpDoor<'a, R> {
             sockets,
             stop,
             sizes,
+            log,
             hall: None,
             is_out: false,
             opened_at: None,
@@ -76,6 +80,15 @@ impl<'a, R> TcpDoor<'a, R> {
         ensures { result ≡ (⟦<TcpDoor<'a, R> as Faulty>⟧.seen self.now).faults }
     {
         self.faults
+    }
+
+    /// Tells the log whose session begins, where it is an admin's.
+    fn note_client(&self, visit: &Visit) {
+        if self.sizes.share == Share::Line {
+            if let Some(client) = visit.client.address() {
+                self.log.note_client(&client);
+            }
+        }
     }
 
     /// The port that it listens at, where it is open.
@@ -109,7 +122,7 @@ impl<'a, R: Net<Listener = TcpListener, Stream = TcpStream> + Clock> Opens for T
             return Err(opening_fault(&mut self.faults));
         };
         let hall = match self.sockets.listener_at(self.host, place) {
-            Ok(listener) => Hall::open(self.host, self.alloc, listener, self.sizes),
+            Ok(listener) => Hall::open(self.host, self.alloc, listener, self.sizes, self.log),
             Err(e) => Err(e),
         };
         match hall {
@@ -118,13 +131,16 @@ impl<'a, R: Net<Listener = TcpListener, Stream = TcpStream> + Clock> Opens for T
                 self.opened_at = Some(at.copied());
                 Ok(())
             }
-            Err(e) => Err(refusal(&e, &mut self.faults)),
+            Err(e) => {
+                self.log.note_reason(&e);
+                Err(refusal(&e, &mut self.faults))
+            }
         }
     }
 }
 
 /// What comes next of a door that may be open.
-fn next_of<R: Clock>(host: &R, stop: &Stop, hall: &mut Option<Hall>) -> Next {
+fn next_of<R: Clock>(host: &R, stop: &Stop, hall: &mut Option<Hall<'_>>) -> Next {
     match hall {
         Some(hall) => hall.next(host, stop),
         None if stop.is_set() => Next::End,
@@ -146,6 +162,7 @@ impl<'a, R: Net<Listener = TcpListener, Stream = TcpStream> + Clock> Door for Tc
         match next_of(self.host, self.stop, &mut self.hall) {
             Next::Visit(visit) => {
                 self.is_out = true;
+                self.note_client(&visit);
                 take_turn(&mut self.turns);
                 Entry::Session(
                     SessionSource::new(visit.place, visit.lines, self.sizes.share),

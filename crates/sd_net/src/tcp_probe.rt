@@ -4,6 +4,7 @@ use crate::conversation::{Conversation, Progress, ReplyLine};
 use crate::hosts::Hosts;
 use crate::moments::now;
 use crate::place::host_of;
+use crate::run_log::RunLog;
 use mio::{Events, Poll};
 use sd_edge::TimeLimit;
 use sd_outside::{Address, Failed, Faulty, Probe, fault};
@@ -38,6 +39,7 @@ pub struct TcpProbe<'a, X> {
     host: &'a HostRuntime,
     threads: &'a X,
     hosts: &'a Hosts,
+    log: &'a RunLog<'a>,
     questions: Option<Questions<'a>>,
     faults: u64,
 }
@@ -56,13 +58,19 @@ impl<'a, X> TcpProbe<'a, X> {
     ghost use Rattle.sd_model_outside.specs.Outside.{Untold, fresh};
 
     /// A probe that has asked nothing.
-    pub fn new(host: &'a HostRuntime, threads: &'a X, hosts: &'a Hosts) -> TcpProbe<'a, X>
+    pub fn new(
+        host: &'a HostRuntime,
+        threads: &'a X,
+        hosts: &'a Hosts,
+        log: &'a RunLog<'a>,
+    ) -> TcpProbe<'a, X>
         ensures { ⟦<TcpProbe<'a, X> as Faulty>⟧.seen result ≡ fresh Untold }
     {
         TcpProbe {
             host,
             threads,
             hosts,
+            log,
             questions: None,
             faults: 0,
         }
@@ -188,6 +196,14 @@ impl<'a> Questions<'a> {
         Ok(Progress::Failed)
     }
 
+    /// Why the last address of the server in a place gave no answer: `NotFound` where none is known.
+    fn fault_at(&self, place: usize) -> io::Error {
+        match self.all.get(place) {
+            Some(conversation) => io::Error::from(conversation.fault),
+            None => io::Error::from(ErrorKind::NotFound),
+        }
+    }
+
     /// Puts out the line of a question that has ended, and hangs up.
     fn put_out(&mut self, place: usize, out: &mut ReplyLine) {
         if let Some(conversation) = self.all.get_mut(place) {
@@ -219,7 +235,7 @@ impl<'a, X: Threads> TcpProbe<'a, X> {
     ///
     /// # Errors
     ///
-    /// `TimedOut` where it doesn't answer, and those of beginning a question.
+    /// Those of the last connection that was tried, `TimedOut` where it doesn't answer, and those of beginning a question.
     fn reply_of(&mut self, at: &Address, out: &mut ReplyLine) -> io::Result<()>
         ensures { self.new.faults ≡ self.old.faults }
     {
@@ -243,7 +259,7 @@ impl<'a, X: Threads> TcpProbe<'a, X> {
         match progress {
             Progress::Answered => Ok(()),
             Progress::Idle | Progress::Asking | Progress::Failed => {
-                Err(io::Error::from(ErrorKind::TimedOut))
+                Err(questions.fault_at(place))
             }
         }
     }
@@ -264,7 +280,8 @@ impl<'a, X: Threads> Probe for TcpProbe<'a, X> {
         out.clear();
         match self.reply_of(at, out) {
             Ok(()) => Ok(()),
-            Err(_) => {
+            Err(e) => {
+                self.log.note_reason(&e);
                 out.clear();
                 Err(fault(&mut self.faults))
             }

@@ -1,8 +1,10 @@
 use crate::moments::{millis, now};
 use crate::pace::Pace;
+use crate::run_log::RunLog;
 use crate::stop::Stop;
 use crate::turns::take_turn;
 use sd_edge::{Backoff, FlushSeconds, TickTimes, TimeLimit};
+use sd_event::flush_is_late;
 use sd_outside::{Beat, Faulty, Interval, Tick, fault};
 use std::fs::Files;
 use std::io::{self, ErrorKind};
@@ -21,6 +23,7 @@ pub struct TickBeat<'a, R> {
     host: &'a R,
     stop: &'a Stop,
     pace: &'a Pace,
+    log: &'a RunLog<'a>,
     interval: Option<Interval>,
     /// When ticks are due, where the clock could be read at the start.
     times: Option<TickTimes>,
@@ -29,11 +32,12 @@ pub struct TickBeat<'a, R> {
     turns: u64,
 }
 
-/// A tick that is due: what comes behind it, and its Unix second.
+/// A tick that is due: what comes behind it, its Unix second, and how late it is, in milliseconds.
 #[derive(Clone, Copy)]
 struct Due {
     times: TickTimes,
     second: u64,
+    late: u64,
 }
 
 /// The first whole millisecond of the clock that never goes back that isn't past: what is counted from it comes too early by no part of
@@ -66,13 +70,14 @@ impl<'a, R> TickBeat<'a, R> {
     ghost use Rattle.sd_model_outside.specs.Outside.{Untold, fresh};
 
     /// A beat that is started later, of which `pace` is told. It is to end once `stop` is set.
-    pub fn new(host: &'a R, stop: &'a Stop, pace: &'a Pace) -> TickBeat<'a, R>
+    pub fn new(host: &'a R, stop: &'a Stop, pace: &'a Pace, log: &'a RunLog<'a>) -> TickBeat<'a, R>
         ensures { ⟦<TickBeat<'a, R> as Faulty>⟧.seen result ≡ fresh Untold }
     {
         TickBeat {
             host,
             stop,
             pace,
+            log,
             interval: None,
             times: None,
             seconds: FlushSeconds::every(0),
@@ -122,6 +127,7 @@ impl<'a, R: Clock + Files> TickBeat<'a, R> {
     /// Those of the system's clock.
     fn due_at(&self, mut times: TickTimes, moment: u64) -> io::Result<Option<Due>> {
         let clock = self.host.since_1970()?;
+        let late = moment.saturating_sub(times.due);
         match self.interval {
             Some(
                 Interval {
@@ -134,7 +140,22 @@ impl<'a, R: Clock + Files> TickBeat<'a, R> {
         Ok(Some(Due {
             times,
             second: clock.as_secs(),
+            late,
         }))
+    }
+
+    /// Tells the log that an interval is over, and where its tick came late.
+    fn tell_tick(&self, due: &Due) {
+        self.log.end_interval();
+        if due.late > due.times.interval / 10 {
+            flush_is_late(self.log, due.late);
+        }
+    }
+
+    /// Tells the log that a stop was seen.
+    fn tell_stop(&self) {
+        self.log.note_stop();
+        self.log.end_interval();
     }
 
     /// Tells the second of the last flush: that at which the next tick would have come.
@@ -183,11 +204,13 @@ impl<'a, R: Clock + Files> Beat for TickBeat<'a, R> {
     fn next(&mut self) -> Tick {
         match self.wait() {
             Ok(Some(due)) => {
+                self.tell_tick(&due);
                 self.times = Some(due.times);
                 take_turn(&mut self.turns);
                 Tick::At(self.seconds.next(due.second))
             }
             Ok(None) => {
+                self.tell_stop();
                 self.tell_last();
                 Tick::End
             }

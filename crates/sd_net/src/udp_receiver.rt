@@ -2,6 +2,7 @@ ghost use Rattle.std.specs.Prelude.{◌≤◌, length, IfOk};
 
 use crate::draining::has_drained;
 use crate::place::{datagrams_of, refusal};
+use crate::run_log::RunLog;
 use crate::sockets::Sockets;
 use crate::stop::Stop;
 use crate::turns::take_turn;
@@ -40,6 +41,7 @@ pub struct UdpReceiver<'a, R> {
     host: &'a R,
     sockets: &'a Sockets,
     stop: &'a Stop,
+    log: &'a RunLog<'a>,
     socket: Option<UdpSocket>,
     wait: Backoff,
     saw_stop: Option<Duration>,
@@ -53,13 +55,19 @@ impl<'a, R> UdpReceiver<'a, R> {
     ghost use Rattle.sd_model_outside.specs.Outside.{Untold, fresh};
 
     /// A receiver that is opened later, beside the others that share these sockets. It is to stop once `stop` is set.
-    pub fn new(host: &'a R, sockets: &'a Sockets, stop: &'a Stop) -> UdpReceiver<'a, R>
+    pub fn new(
+        host: &'a R,
+        sockets: &'a Sockets,
+        stop: &'a Stop,
+        log: &'a RunLog<'a>,
+    ) -> UdpReceiver<'a, R>
         ensures { ⟦<UdpReceiver<'a, R> as Faulty>⟧.seen result ≡ fresh Untold }
     {
         UdpReceiver {
             host,
             sockets,
             stop,
+            log,
             socket: None,
             wait: Backoff::between(WAIT_MS.0, WAIT_MS.1),
             saw_stop: None,
@@ -81,6 +89,13 @@ impl<'a, R> UdpReceiver<'a, R> {
         match self.socket.as_ref()?.local_addr() {
             Ok(addr) => Some(addr.port()),
             Err(_) => None,
+        }
+    }
+
+    /// Tells the log at which port datagrams come.
+    fn note_port(&self) {
+        if let Some(port) = self.port() {
+            self.log.note_port(port);
         }
     }
 
@@ -142,9 +157,13 @@ impl<'a, R: Net + Clock + Files> Opens for UdpReceiver<'a, R> {
             Ok(socket) => {
                 self.socket = Some(socket);
                 self.opened_at = Some(at.copied());
+                self.note_port();
                 Ok(())
             }
-            Err(e) => Err(refusal(&e, &mut self.faults)),
+            Err(e) => {
+                self.log.note_reason(&e);
+                Err(refusal(&e, &mut self.faults))
+            }
         }
     }
 }

@@ -1,6 +1,10 @@
 use crate::hosts::{Host, Hosts};
+use crate::log_text::address_text;
 use crate::moments::now;
 use crate::place::{host_of, refusal};
+use crate::rounds::Rounds;
+use crate::run_log::RunLog;
+use sd_event::Link;
 use sd_outside::{Address, Failed, Faulty, OpenRefusal, Opens, Wire, fault, opening_fault};
 use std::io::{self, ErrorKind};
 use std::net::{IpAddr, Ipv4Addr, Ipv6Addr, SocketAddr, UdpSocket};
@@ -14,6 +18,8 @@ pub struct UdpWire<'a, X> {
     host: &'a HostRuntime,
     threads: &'a X,
     hosts: &'a Hosts,
+    log: &'a RunLog<'a>,
+    rounds: Rounds,
     target: Option<Target<'a>>,
     opened_at: Option<Address>,
     faults: u64,
@@ -125,13 +131,20 @@ impl<'a, X> UdpWire<'a, X> {
     ghost use Rattle.sd_model_outside.specs.Outside.{Untold, fresh};
 
     /// A wire that is opened later.
-    pub fn new(host: &'a HostRuntime, threads: &'a X, hosts: &'a Hosts) -> UdpWire<'a, X>
+    pub fn new(
+        host: &'a HostRuntime,
+        threads: &'a X,
+        hosts: &'a Hosts,
+        log: &'a RunLog<'a>,
+    ) -> UdpWire<'a, X>
         ensures { ⟦<UdpWire<'a, X> as Faulty>⟧.seen result ≡ fresh Untold }
     {
         UdpWire {
             host,
             threads,
             hosts,
+            log,
+            rounds: Rounds::of(Link::Target),
             target: None,
             opened_at: None,
             faults: 0,
@@ -166,6 +179,32 @@ impl<'a, X: Threads> UdpWire<'a, X> {
     }
 }
 
+impl<'a, X> UdpWire<'a, X> {
+    ghost use Rattle.std.specs.Prelude.{◌≡◌};
+
+    /// Tells the log that a datagram couldn't be sent.
+    fn tell_failed(&mut self, error: &io::Error)
+        ensures faults { self.new.faults ≡ self.old.faults }
+        ensures opened_at { self.new.opened_at ≡ self.old.opened_at }
+    {
+        let address = address_text(&self.opened_at);
+        self.rounds.begin();
+        self.rounds.fail(self.log, address.as_slice(), error);
+    }
+
+    /// Tells the log that a datagram was sent, where the one before it wasn't.
+    fn tell_sent(&mut self)
+        ensures faults { self.new.faults ≡ self.old.faults }
+        ensures opened_at { self.new.opened_at ≡ self.old.opened_at }
+    {
+        if self.rounds.is_down() {
+            let address = address_text(&self.opened_at);
+            self.rounds.begin();
+            self.rounds.end(self.log, address.as_slice());
+        }
+    }
+}
+
 impl<'a, X> Faulty for UdpWire<'a, X> {
     ghost use Rattle.std.specs.Prelude.{min};
     ghost use Rattle.std.proofs.Common.{arith};
@@ -185,7 +224,10 @@ impl<'a, X: Threads> Opens for UdpWire<'a, X> {
                 self.opened_at = Some(at.copied());
                 Ok(())
             }
-            Err(e) => Err(refusal(&e, &mut self.faults)),
+            Err(e) => {
+                self.log.note_reason(&e);
+                Err(refusal(&e, &mut self.faults))
+            }
         }
     }
 }
@@ -197,8 +239,14 @@ impl<'a, X: Threads> Wire for UdpWire<'a, X> {
             return Err(fault(&mut self.faults));
         };
         match target.send(self.host, packet) {
-            Ok(()) => Ok(()),
-            Err(_) => Err(fault(&mut self.faults)),
+            Ok(()) => {
+                self.tell_sent();
+                Ok(())
+            }
+            Err(e) => {
+                self.tell_failed(&e);
+                Err(fault(&mut self.faults))
+            }
         }
     }
 }

@@ -1,5 +1,5 @@
 -- The first of the turns is closed: its seats are taken from all callers, into the first of the lists.
-use Rattle.std.proofs.Common.{◌≡◌, ◌+◌, ◌<◌, ◌++◌, ◌∷◌, [], List, length, take, drop, get_or, ap, subst, ◌∙◌, append_assoc, arith, All}
+use Rattle.std.proofs.Common.{◌≡◌, ◌<◌, ◌++◌, ◌∷◌, [], List, length, take, drop, get_or, ap, subst, ◌∙◌, append_assoc, arith, All}
 use Rattle.std.specs.List.{AllByRecursion}
 use Rattle.std.specs.Vec.{with_items}
 use Rattle.std.proofs.lemmas.List.{with_items_is}

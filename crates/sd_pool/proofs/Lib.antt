@@ -5,6 +5,7 @@ pub mod DealLemmas
 mod FirstLemmas
 pub mod JoinLemmas
 pub mod OwnLemmas
+pub mod RunLemmas
 mod SeatLemmas
 mod StandsLemmas
 mod ToldLemmas

@@ -14,6 +14,7 @@ ghost use Rattle.sd_spares.specs.Tables.{IsSpare};
 
 use crate::noted::Noted;
 use crate::setup::Setup;
+use sd_batch::{Counts, Run, take_run};
 use sd_epoch::{Limits, Table, Who};
 use sd_key::{Kind, Pattern};
 use sd_line::Sample;
@@ -65,6 +66,9 @@ impl Model for ShardValue {
 
 impl ShardValue {
     ghost use Rattle.sd_pool.specs.Books.{IsBookOf};
+    ghost use Rattle.std.specs.Prelude.{ℕ};
+    ghost use Rattle.sd_batch.specs.Runs.{CountsRun};
+    ghost use Rattle.sd_pool.specs.Asks.{AreOf, Runs, made_by};
     ghost use Rattle.sd_pool.specs.Asks.{gone_of, shown_of, IsOwnTable, KeysGoOn, RowsGoOn};
 
     /// An empty shard of this number, whose rows are found by hashes under a seed.
@@ -101,6 +105,16 @@ impl ShardValue {
         ensures step { IsStep self.old self.new (Submit s.now) (Answered (placed_of result)) }
     {
         self.shard.sample(s)
+    }
+
+    // Takes or drops the samples of a run, one after another.
+    pub(crate) fn run(&mut self, run: Run<'_>) -> Counts
+        requires own { AreOf self.old.number self.old.shards run }
+        requires few { length run < 65536 }
+        ensures runs { Runs self.old self.new run.entry }
+        ensures counted { (who : ℕ) → CountsRun result (made_by (setup_of self.old) who self.old run.entry) }
+    {
+        take_run(&mut self.shard, run)
     }
 
     pub(crate) fn delete(&mut self, kind: Kind, pattern: &Pattern, out: &mut Keys) -> Deleted

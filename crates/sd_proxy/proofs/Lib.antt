@@ -1,2 +1,3 @@
+pub mod WaitingLemmas
 pub mod ForwardLemmas
 pub mod RelayLemmas

@@ -1,16 +1,16 @@
 -- What a receiver of a proxy did, one turn of its source after another.
 use Rattle.std.proofs.Common.{◌≡◌, ◌∙◌, ℕ, ◌+◌, ◌<◌, ◌≤◌, min, List, [], ◌∷◌, ◌++◌, length, length-append, append-nil, append_assoc, map, refl, sym, ap, subst, arith}
-use Rattle.std.specs.Prelude.{All, None, Some, flat_map, slice_get}
+use Rattle.std.specs.Prelude.{All, None, Some, slice_get}
 use Rattle.std.specs.List.{last_or}
 use Rattle.std.proofs.lemmas.List.{map-append}
-use Rattle.std.proofs.lemmas.List.Concat.{flat_map-append, flat_map-cons}
 use Rattle.std.proofs.lemmas.List.Elements.{All-nil, All-cons, All-append}
 use Rattle.sd_model_outside.specs.Outside.{Object, Told, Datagrams, HasFailed, Rose, last_count, raised}
 use Rattle.sd_model_outside.specs.Turns.{GivesDatagram, IsSpent, turned, with_datagrams}
 use Rattle.sd_model_outside.proofs.TurnLemmas.{with_datagrams-append}
 use Rattle.sd_model_settings.specs.Entries.{Node}
 use Rattle.sd_model_serve.specs.Ends.{EndsReceiver, most_turns}
-use Rattle.sd_model_proxy.specs.Routes.{Read, lines_of_read, no_totals}
+use Rattle.sd_model_proxy.specs.Routes.{Read}
+use Rattle.sd_model_proxy.specs.Batches.{no_totals}
 use Rattle.sd_model_proxy.specs.Relays.{IsRelay, Relay, relay_totals}
 use Rattle.sd_model_replay.specs.Totals.{Total}
 use Rattle.sd_model_live.specs.Proxy.{Begins, HaveAnswered, last_place}
@@ -21,7 +21,7 @@ use Rattle.sd_proxy.specs.Views.{end_view, totals_view}
 use Rattle.sd_outside.specs.declared.datagrams.Ended.{Ended}
 use Rattle.sd_proxy.specs.declared.proxied.Proxied.{Proxied}
 use Rattle.sd_proxy.specs.declared.totals.ProxyTotals as code
-use Rattle.sd_proxy.proofs.ForwardLemmas.{Forwards-none, Forwards-next}
+use Rattle.sd_proxy.proofs.ForwardLemmas.{Forwards-none, Forwards-next, nothing_more}
 
 -- a source gave no datagram
 with_datagrams-nil : (told : Told) → told ≡ with_datagrams [] told
@@ -77,21 +77,21 @@ looked-next history mid now looks looks_mid looks_now up datagram goes_on last o
     }
 
 -- What a receiver did in so many turns of its source, in which the source didn't fail, and what is known of its datagrams.
-pub record Ran (nodes : List Node) (known : List Read → Type 0) (source source_now : Object) (took : ℕ) (wires wires_now : List Object) (totals : List Total) : Type 0 where
+pub record Ran (most : ℕ) (nodes : List Node) (known : List Read → Type 0) (source source_now : Object) (took : ℕ) (wires wires_now : List Object) (totals : List Total) : Type 0 where
   pub reads : List Read
   pub are : known reads
-  pub forwards : Forwards nodes (length reads) (flat_map lines_of_read reads) wires wires_now no_totals totals
+  pub forwards : Forwards most nodes reads wires wires_now no_totals totals
   pub given : source.told ≡ with_datagrams (map (λ x. x.datagram) reads) source_now.told
   pub turns : source_now.turns ≡ min (source.turns + took) last_count
   pub many : length reads ≤ took
   pub faults : source_now.faults ≡ source.faults
   pub same : source_now ≡ record source { told = source_now.told; faults = source_now.faults; turns = source_now.turns }
 
-pub ran_first : (nodes : List Node) (known : List Read → Type 0) (source : Object) (wires : List Object) (t : List Total) → known [] → source.turns ≤ last_count → t ≡ no_totals → Ran nodes known source source 0 wires wires t
-ran_first nodes known source wires t are fits none = record {
+pub ran_first : (most : ℕ) (nodes : List Node) (known : List Read → Type 0) (source : Object) (wires : List Object) (t : List Total) → known [] → source.turns ≤ last_count → t ≡ no_totals → Ran most nodes known source source 0 wires wires t
+ran_first most nodes known source wires t are fits none = record {
   reads = [];
   are = are;
-  forwards = Forwards-none nodes 0 wires no_totals t none;
+  forwards = Forwards-none most nodes wires no_totals t (none ∙ nothing_more nodes);
   given = with_datagrams-nil source.told;
   turns = omega (arith, fits);
   many = omega arith;
@@ -104,14 +104,14 @@ pub same_faults : (old new : Object) → new ≡ old → new ≡ record old { fa
 same_faults old new last = last ∙ ap (λ (o : Object). record old { faults = o.faults }) (sym last)
 
 -- What a receiver did, what is known of its datagrams, what it counted, and how it ended.
-pub record Out (nodes : List Node) (known : List Read → Type 0) (source now : Object) (wires wires_now : List Object) (p : Proxied) : Type 0 where
+pub record Out (most : ℕ) (nodes : List Node) (known : List Read → Type 0) (source now : Object) (wires wires_now : List Object) (p : Proxied) : Type 0 where
   pub relay : Relay
   pub are : known relay.reads
-  pub relays : IsRelay nodes relay source now wires wires_now
+  pub relays : IsRelay most nodes relay source now wires wires_now
   pub totals : totals_view p.totals ≡ relay_totals nodes relay
   pub ended : end_view p.ended ≡ relay.ended
 
-module _ (nodes : List Node) (known : List Read → Type 0) (source mid now : Object) (took : ℕ) where
+module _ (most : ℕ) (nodes : List Node) (known : List Read → Type 0) (source mid now : Object) (took : ℕ) where
   -- nothing else of a source changed
   abbrev Same : Object → Object → Type 0
   Same old new = new ≡ record old { told = new.told; faults = new.faults; turns = new.turns }
@@ -124,21 +124,18 @@ module _ (nodes : List Node) (known : List Read → Type 0) (source mid now : Ob
 
   -- a turn that gave a datagram, whose lines were sent
   pub ran_read : (known_now : List Read → Type 0) (datagram : List ℕ) (up : ℕ) (wires wires_mid wires_now : List Object) (t t_now : List Total) → ((reads : List Read) → known reads → known_now (reads ++ read_of datagram up ∷ []))
-      → Ran nodes known source mid took wires wires_mid t → GivesDatagram datagram mid now
-      → Forwards nodes 1 (lines_of_read (read_of datagram up)) wires_mid wires_now t t_now → Ran nodes known_now source now (took + 1) wires wires_now t_now
+      → Ran most nodes known source mid took wires wires_mid t → GivesDatagram datagram mid now
+      → Forwards most nodes (read_of datagram up ∷ []) wires_mid wires_now t t_now → Ran most nodes known_now source now (took + 1) wires wires_now t_now
   ran_read known_now datagram up wires wires_mid wires_now t t_now next ran gives forwards =
       let read : Read = read_of datagram up in
       let told : mid.told ≡ with_datagrams (datagram ∷ []) now.told = ap (λ (o : Object). o.told) gives in
       let datagrams : List Read → List (List ℕ) = map (λ (x : Read). x.datagram) in
-      let one : flat_map lines_of_read (read ∷ []) ≡ lines_of_read read = flat_map-cons lines_of_read read [] ∙ append-nil (lines_of_read read) in
       let count : length (ran.reads ++ read ∷ []) ≡ length ran.reads + 1 = length-append ran.reads (read ∷ []) in
       let turn : raised mid.turns ≡ now.turns = ap (λ (o : Object). o.turns) gives in
       record {
         reads = ran.reads ++ read ∷ [];
         are = next ran.reads ran.are;
-        forwards = subst (λ (z : ℕ × List (List ℕ × ℕ)). Forwards nodes z.0 z.1 wires wires_now no_totals t_now)
-            (λ i. (sym count i, (ap (λ ls. flat_map lines_of_read ran.reads ++ ls) (sym one) ∙ sym (flat_map-append lines_of_read ran.reads (read ∷ []))) i))
-            (Forwards-next nodes (length ran.reads) 1 (flat_map lines_of_read ran.reads) (lines_of_read read) wires wires_mid wires_now no_totals t t_now ran.forwards forwards);
+        forwards = Forwards-next most nodes ran.reads (read ∷ []) wires wires_mid wires_now no_totals t t_now ran.forwards forwards;
         given = ran.given ∙ ap (with_datagrams (datagrams ran.reads)) told ∙ with_datagrams-append now.told (datagrams ran.reads) (datagram ∷ [])
             ∙ ap (λ ds. with_datagrams ds now.told) (sym (map-append (λ (x : Read). x.datagram) ran.reads (read ∷ [])));
         turns = omega (arith, turn, ran.turns);
@@ -148,7 +145,7 @@ module _ (nodes : List Node) (known : List Read → Type 0) (source mid now : Ob
       }
 
   -- a turn that gave nothing
-  pub ran_idle : (wires wires_now : List Object) (t : List Total) → Ran nodes known source mid took wires wires_now t → now ≡ turned mid → Ran nodes known source now (took + 1) wires wires_now t
+  pub ran_idle : (wires wires_now : List Object) (t : List Total) → Ran most nodes known source mid took wires wires_now t → now ≡ turned mid → Ran most nodes known source now (took + 1) wires wires_now t
   ran_idle wires wires_now t ran idle =
       let turn : now.turns ≡ raised mid.turns = ap (λ (o : Object). o.turns) idle in
       record {
@@ -163,14 +160,14 @@ module _ (nodes : List Node) (known : List Read → Type 0) (source mid now : Ob
       }
 
   -- how it ended: at most the count of the source's faults changed
-  pub ran_out : (wires wires_now : List Object) (ended : Ended) (t : code.ProxyTotals) (p : Proxied) → p.ended ≡ ended → p.totals ≡ t → Ran nodes known source mid took wires wires_now (totals_view t) → length wires ≡ length nodes
-      → now ≡ record mid { faults = now.faults } → EndsReceiver 0 (end_view ended) source now 0 took → Out nodes known source now wires wires_now p
+  pub ran_out : (wires wires_now : List Object) (ended : Ended) (t : code.ProxyTotals) (p : Proxied) → p.ended ≡ ended → p.totals ≡ t → Ran most nodes known source mid took wires wires_now (totals_view t) → length wires ≡ length nodes
+      → now ≡ record mid { faults = now.faults } → EndsReceiver 0 (end_view ended) source now 0 took → Out most nodes known source now wires wires_now p
   ran_out wires wires_now ended t p so counts ran each last ends = record {
-    relay = record { reads = ran.reads; routed = ran.forwards.routed; ended = end_view ended };
+    relay = record { reads = ran.reads; batched = ran.forwards.batched; ended = end_view ended };
     are = ran.are;
     relays = record {
       given = ran.given ∙ ap (λ (o : Object). with_datagrams (map (λ (x : Read). x.datagram) ran.reads) o.told) (sym last);
-      lines = ran.forwards.lines_are;
+      packets = ran.forwards.packets;
       each = each;
       sends = ran.forwards.sends;
       turned = took;
@@ -184,17 +181,17 @@ module _ (nodes : List Node) (known : List Read → Type 0) (source mid now : Ob
   }
 
   -- the source had nothing left
-  pub ends_spent : (wires wires_now : List Object) (t : List Total) → Ran nodes known source mid took wires wires_now t → now ≡ mid → IsSpent mid.told → took < most_turns → IsSpent now.told × (now.faults ≡ source.faults) × (0 < 0 → 0 < 0) × (took < most_turns)
+  pub ends_spent : (wires wires_now : List Object) (t : List Total) → Ran most nodes known source mid took wires wires_now t → now ≡ mid → IsSpent mid.told → took < most_turns → IsSpent now.told × (now.faults ≡ source.faults) × (0 < 0 → 0 < 0) × (took < most_turns)
   ends_spent wires wires_now t ran last spent few = (subst (λ (o : Object). IsSpent o.told) (sym last) spent, ap (λ (o : Object). o.faults) last ∙ ran.faults, λ none. none, few)
 
   -- the source failed
-  pub ends_failed : (wires wires_now : List Object) (t : List Total) → Ran nodes known source mid took wires wires_now t → HasFailed mid now → took < most_turns → Rose source.faults now.faults × (0 < 0 → 0 < 0) × (took < most_turns)
+  pub ends_failed : (wires wires_now : List Object) (t : List Total) → Ran most nodes known source mid took wires wires_now t → HasFailed mid now → took < most_turns → Rose source.faults now.faults × (0 < 0 → 0 < 0) × (took < most_turns)
   ends_failed wires wires_now t ran failed few = (subst (λ n. Rose n now.faults) ran.faults failed.rose, λ none. none, few)
 
 -- what a receiver did under one set
-pub out_under : (nodes : List Node) (up : ℕ) (source now : Object) (wires wires_now : List Object) (p : Proxied) → Out nodes (under up) source now wires wires_now p → Proxies nodes up source now wires wires_now p
-out_under nodes up source now wires wires_now p out = record { relay = out.relay; under = out.are; relays = out.relays; totals = out.totals; ended = out.ended }
+pub out_under : (most : ℕ) (nodes : List Node) (up : ℕ) (source now : Object) (wires wires_now : List Object) (p : Proxied) → Out most nodes (under up) source now wires wires_now p → Proxies most nodes up source now wires wires_now p
+out_under most nodes up source now wires wires_now p out = record { relay = out.relay; under = out.are; relays = out.relays; totals = out.totals; ended = out.ended }
 
 -- what a receiver did by looks
-pub out_looked : (nodes : List Node) (history history_now looks looks_now : List ℕ) (source now : Object) (wires wires_now : List Object) (p : Proxied) → Out nodes (Looked history history_now looks looks_now) source now wires wires_now p → ProxiesByLooks nodes history history_now looks looks_now source now wires wires_now p
-out_looked nodes history history_now looks looks_now source now wires wires_now p out = record { relay = out.relay; each = out.are.each; looks = out.are.answered; relays = out.relays; totals = out.totals; ended = out.ended }
+pub out_looked : (most : ℕ) (nodes : List Node) (history history_now looks looks_now : List ℕ) (source now : Object) (wires wires_now : List Object) (p : Proxied) → Out most nodes (Looked history history_now looks looks_now) source now wires wires_now p → ProxiesByLooks most nodes history history_now looks looks_now source now wires wires_now p
+out_looked most nodes history history_now looks looks_now source now wires wires_now p out = record { relay = out.relay; each = out.are.each; looks = out.are.answered; relays = out.relays; totals = out.totals; ended = out.ended }

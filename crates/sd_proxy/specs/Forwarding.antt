@@ -1,19 +1,57 @@
--- Lines that were sent on the wires of their owners, and counted.
-use Rattle.std.specs.Prelude.{◌≡◌, ℕ, Bool, List, [], ◌∷◌, map}
+-- Lines that were sent on the wires of their owners, or wait for that, and counted.
+use Rattle.std.specs.Prelude.{◌≡◌, ℕ, ◌<◌, ◌≤◌, List, [], ◌++◌, All, filter, get_or, length, map}
 use Rattle.sd_model_outside.specs.Outside.{Object}
 use Rattle.sd_model_settings.specs.Entries.{Node}
-use Rattle.sd_model_proxy.specs.Routes.{Fate, Routed, fate_of, line_and_set, AreForwarded, add_totals, totals_of_lines}
+use Rattle.sd_model_proxy.specs.Batches.{AreBatched, AreForwarded, Batched, add_totals, batches, totals_by, totals_of}
+use Rattle.sd_model_proxy.specs.Routes.{Read, Route, goes_to, route}
 use Rattle.sd_model_replay.specs.Totals.{Total}
+use Rattle.sd_proxy.specs.Waiting.{Holds, batches_behind, under_way}
+use Rattle.sd_proxy.specs.declared.waiting.Waiting.{Waiting}
 
--- A line was routed among the nodes that were up, and this became of it.
-pub record SendsLine (nodes : List Node) (line : List ℕ) (up : ℕ) (wires wires_now : List Object) (fate : Fate) : Type 0 where
-  pub is_failed : Bool
-  pub sends : AreForwarded nodes (record { line = line; up = up; is_failed = is_failed } ∷ []) wires wires_now
-  pub became : fate ≡ fate_of nodes (record { line = line; up = up; is_failed = is_failed })
+-- no line waits for any node
+abbrev pub NoneWaits : (most : ℕ) → List Waiting → Type 0
+NoneWaits most waiting = All (Holds most []) waiting
 
--- Lines of so many datagrams, each with the nodes that were up, were routed, in order, and counted.
-pub record Forwards (nodes : List Node) (packets : ℕ) (lines : List (List ℕ × ℕ)) (wires wires_now : List Object) (totals totals_now : List Total) : Type 0 where
-  pub routed : List Routed
-  pub lines_are : map line_and_set routed ≡ lines
-  pub sends : AreForwarded nodes routed wires wires_now
-  pub counted : totals_now ≡ add_totals totals (totals_of_lines nodes packets routed)
+-- Datagrams, each with the nodes that were up, were read, their lines were sent in packets of at most so many bytes, and counted.
+pub record Forwards (most : ℕ) (nodes : List Node) (reads : List Read) (wires wires_now : List Object) (totals totals_now : List Total) : Type 0 where
+  pub batched : Batched
+  pub packets : AreBatched most nodes reads batched
+  pub sends : AreForwarded batched wires wires_now
+  pub counted : totals_now ≡ add_totals totals (totals_of nodes reads batched)
+
+-- the lines of these that go to the node in a place
+abbrev pub lines_for : List Node → (up place : ℕ) → List (List ℕ) → List (List ℕ)
+lines_for nodes up place lines = filter (λ line. goes_to place (route line nodes up)) lines
+
+-- What stands within one datagram: lines that went so were counted, and of those for the node in each place some packets were sent and
+-- some lines wait, as this says.
+pub record Stands (says : ℕ → List (List (List ℕ)) → List (List ℕ) → Type 0) (most : ℕ) (nodes : List Node) (routes : List Route) (waiting : List Waiting) (first wires : List Object) (totals totals_now : List Total) : Type 0 where
+  pub sent : Batched
+  pub begun : ℕ → List (List ℕ)
+  pub are : (place : ℕ) → says place (map (λ b. b.lines) (sent place)) (begun place)
+  pub holds : (place : ℕ) (d : Waiting) → place < length waiting → Holds most (begun place) (get_or waiting place d)
+  pub sends : AreForwarded sent first wires
+  pub counted : totals_now ≡ add_totals totals (totals_by nodes 1 routes sent)
+
+-- where lines go
+abbrev pub routes_by : List Node → ℕ → List (List ℕ) → List Route
+routes_by nodes up lines = map (λ line. route line nodes up) lines
+
+-- whatever lines come then, the packets that were sent to a node are the first of all, and the lines that wait go on with those
+pub record IsUnderWay (most : ℕ) (nodes : List Node) (up : ℕ) (done : List (List ℕ)) (place : ℕ) (packets : List (List (List ℕ))) (begun : List (List ℕ)) : Type 0 where
+  pub past : length nodes ≤ place → begun ≡ []
+  pub cut : (lines : List (List ℕ)) → batches most (lines_for nodes up place done ++ lines) ≡ packets ++ batches_behind most begun lines
+
+-- these lines of a datagram were taken, each behind those before
+abbrev pub AreUnderWay : ℕ → List Node → (up : ℕ) → (done : List (List ℕ)) → List Waiting → (first wires : List Object) → (totals totals_now : List Total) → Type 0
+AreUnderWay most nodes up done = Stands (IsUnderWay most nodes up done) most nodes (routes_by nodes up done)
+
+-- no more lines come: the packets that were sent to a node, and that of the lines that wait, are all; and none wait before a place
+pub record IsLeft (most : ℕ) (nodes : List Node) (up : ℕ) (done : List (List ℕ)) (to : ℕ) (place : ℕ) (packets : List (List (List ℕ))) (begun : List (List ℕ)) : Type 0 where
+  pub past : length nodes ≤ place → begun ≡ []
+  pub before : place < to → begun ≡ []
+  pub cut : batches most (lines_for nodes up place done) ≡ packets ++ under_way begun
+
+-- these lines, which are all of a datagram, were sent
+abbrev pub AreSent : ℕ → List Node → (up : ℕ) → (done : List (List ℕ)) → List Waiting → (first wires : List Object) → (totals totals_now : List Total) → Type 0
+AreSent most nodes up done = Stands (IsLeft most nodes up done (length nodes)) most nodes (routes_by nodes up done)

@@ -1,3 +1,5 @@
 pub mod Views
+pub mod Sending
+pub mod Waiting
 pub mod Forwarding
 pub mod Proxying

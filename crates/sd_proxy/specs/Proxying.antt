@@ -10,10 +10,10 @@ use Rattle.sd_proxy.specs.declared.proxied.Proxied.{Proxied}
 
 -- A receiver sent the lines of its datagrams on the wires of their owners, with the same nodes up for each datagram, and left what
 -- it counted, and how it ended.
-pub record Proxies (nodes : List Node) (up : ℕ) (source source_now : Object) (wires wires_now : List Object) (p : Proxied) : Type 0 where
+pub record Proxies (most : ℕ) (nodes : List Node) (up : ℕ) (source source_now : Object) (wires wires_now : List Object) (p : Proxied) : Type 0 where
   pub relay : Relay
   pub under : All (λ r. r.up ≡ up) relay.reads
-  pub relays : IsRelay nodes relay source source_now wires wires_now
+  pub relays : IsRelay most nodes relay source source_now wires wires_now
   pub totals : totals_view p.totals ≡ relay_totals nodes relay
   pub ended : end_view p.ended ≡ relay.ended
 
@@ -26,10 +26,10 @@ pub record LooksForEach (history : List ℕ) (looks looks_now : List ℕ) (reads
 
 -- A receiver sent the lines of its datagrams on the wires of their owners, with the nodes up for each datagram that one look
 -- answered at the history of the sets, which went on meanwhile; and it left what it counted, and how it ended.
-pub record ProxiesByLooks (nodes : List Node) (history history_now looks_before looks_now : List ℕ) (source source_now : Object) (wires wires_now : List Object) (p : Proxied) : Type 0 where
+pub record ProxiesByLooks (most : ℕ) (nodes : List Node) (history history_now looks_before looks_now : List ℕ) (source source_now : Object) (wires wires_now : List Object) (p : Proxied) : Type 0 where
   pub relay : Relay
   pub each : LooksForEach history_now looks_before looks_now relay.reads
   pub looks : HaveAnswered history history_now (map (λ r. r.up) relay.reads)
-  pub relays : IsRelay nodes relay source source_now wires wires_now
+  pub relays : IsRelay most nodes relay source source_now wires wires_now
   pub totals : totals_view p.totals ≡ relay_totals nodes relay
   pub ended : end_view p.ended ≡ relay.ended

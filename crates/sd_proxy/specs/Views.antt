@@ -8,8 +8,6 @@ use Rattle.sd_outside.specs.declared.datagrams.Ended.{Ended}
 use Rattle.sd_outside.specs.declared.datagrams.Ended.TheVariants.{End, Failed, Stopped, Worn}
 use Rattle.sd_proxy.specs.declared.destination.Route.{Route}
 use Rattle.sd_proxy.specs.declared.destination.Route.TheVariants.{Bad, Unowned, Node}
-use Rattle.sd_proxy.specs.declared.totals.Fate.{Fate}
-use Rattle.sd_proxy.specs.declared.totals.Fate.TheVariants as fate
 use Rattle.sd_proxy.specs.declared.totals.ProxyTotals.{ProxyTotals}
 
 -- where a line goes
@@ -24,13 +22,6 @@ IsInside Bad nodes = ⊤
 IsInside Unowned nodes = ⊤
 IsInside (Node place) nodes = place < length nodes
 
--- what became of a line
-abbrev pub fate_view : Fate → model.Fate
-fate_view fate.Bad = model.WasBad
-fate_view fate.Unowned = model.WasUnowned
-fate_view fate.Sent = model.WasSent
-fate_view fate.NotSent = model.WasNotSent
-
 -- totals
 abbrev pub totals_view : ProxyTotals → List Total
 totals_view t =
@@ -42,12 +33,11 @@ totals_view t =
     ∷ (codes "send_faults", t.send_faults)
     ∷ []
 
--- what a line counts for, by what became of it
-abbrev pub totals_of_fate : model.Fate → List Total
-totals_of_fate model.WasBad = (codes "lines", 1) ∷ (codes "bad", 1) ∷ []
-totals_of_fate model.WasUnowned = (codes "lines", 1) ∷ (codes "unowned", 1) ∷ []
-totals_of_fate model.WasSent = (codes "lines", 1) ∷ (codes "sent", 1) ∷ []
-totals_of_fate model.WasNotSent = (codes "lines", 1) ∷ (codes "send_faults", 1) ∷ []
+-- what a line counts for, by where it goes
+abbrev pub totals_of_route : model.Route → List Total
+totals_of_route model.Bad = (codes "lines", 1) ∷ (codes "bad", 1) ∷ []
+totals_of_route model.Unowned = (codes "lines", 1) ∷ (codes "unowned", 1) ∷ []
+totals_of_route (model.To place) = (codes "lines", 1) ∷ []
 
 -- how a receiver ended
 abbrev pub end_view : Ended → ends.LoopEnd

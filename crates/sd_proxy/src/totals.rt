@@ -1,13 +1,14 @@
-ghost use Rattle.std.specs.Prelude.{◌≡◌, ◌+◌, ◌≤◌, ◌^◌, [], ◌++◌, length, OnOk, OnErr};
+ghost use Rattle.std.specs.Prelude.{◌≡◌, ◌+◌, ◌≤◌, ◌^◌, [], ◌∷◌, ◌++◌, codes, length, OnOk, OnErr};
 ghost use Rattle.sd_model_outside.specs.Outside.{HasFailedBehind, given};
 ghost use Rattle.sd_model_record.specs.Desk.{counted};
 ghost use Rattle.sd_model_replay.specs.Totals.{total_line, totals_text};
 
+use crate::destination::Route;
 use sd_decimal::{Line, write_whole};
 use sd_outside::{Failed, Sink, WriteFault, write_all};
 
 /// What a proxy counted, each number up to 2^63: datagrams; lines, those that were bad, those that were sent, those that had no
-/// owner; and sends that failed.
+/// owner, and those of packets whose sends failed.
 #[derive(Clone, Copy, Debug, PartialEq, Eq)]
 pub struct ProxyTotals {
     pub packets: u64,
@@ -24,23 +25,14 @@ pub struct ProxyTotals {
     ghost few_send_faults: { send_faults ≤ 2 ^ 63 },
 }
 
-/// What became of a line.
-#[derive(Clone, Copy, Debug, PartialEq, Eq)]
-pub(crate) enum Fate {
-    Bad,
-    Unowned,
-    Sent,
-    NotSent,
-}
-
 /// Where counts stop.
 const LAST_COUNT: u64 = 1 << 63;
 
-/// A count after one more, up to its end.
-fn raised(count: u64) -> u64
-    ensures { result ≡ counted count 1 }
+/// A count after so many more, up to its end.
+fn raised(count: u64, more: u64) -> u64
+    ensures { result ≡ counted count more }
 {
-    count.saturating_add(1).min(LAST_COUNT)
+    count.saturating_add(more).min(LAST_COUNT)
 }
 
 /// Appends a line: the name, a space, the number and a newline.
@@ -56,8 +48,8 @@ fn push_total(name: &[u8], count: u64, line: &mut Line)
 }
 
 impl ProxyTotals {
-    ghost use Rattle.sd_model_proxy.specs.Routes.{add_totals, no_totals, totals_of_lines};
-    ghost use Rattle.sd_proxy.specs.Views.{fate_view, totals_of_fate, totals_view};
+    ghost use Rattle.sd_model_proxy.specs.Batches.{add_totals, no_totals, totals_by};
+    ghost use Rattle.sd_proxy.specs.Views.{route_view, totals_of_route, totals_view};
 
     /// Nothing was counted.
     pub fn none() -> ProxyTotals
@@ -75,22 +67,35 @@ impl ProxyTotals {
 
     /// Counts a datagram.
     pub(crate) fn add_packet(&mut self)
-        ensures { totals_view self.new ≡ add_totals (totals_view self.old) (totals_of_lines [] 1 []) }
+        ensures { totals_view self.new ≡ add_totals (totals_view self.old) (totals_by [] 1 [] (λ place. [])) }
     {
-        self.packets = raised(self.packets);
+        self.packets = raised(self.packets, 1);
     }
 
-    /// Counts a line, by what became of it.
-    pub(crate) fn add_line(&mut self, fate: Fate)
-        ensures { totals_view self.new ≡ add_totals (totals_view self.old) (totals_of_fate (fate_view fate)) }
+    /// Counts a line, by where it goes.
+    pub(crate) fn add_line(&mut self, goes: Route)
+        ensures { totals_view self.new ≡ add_totals (totals_view self.old) (totals_of_route (route_view goes)) }
     {
-        self.lines = raised(self.lines);
-        match fate {
-            Fate::Bad => self.bad = raised(self.bad),
-            Fate::Unowned => self.unowned = raised(self.unowned),
-            Fate::Sent => self.sent = raised(self.sent),
-            Fate::NotSent => self.send_faults = raised(self.send_faults),
+        self.lines = raised(self.lines, 1);
+        match goes {
+            Route::Bad => self.bad = raised(self.bad, 1),
+            Route::Unowned => self.unowned = raised(self.unowned, 1),
+            Route::Node(_) => {}
         }
+    }
+
+    /// Counts lines that were sent.
+    pub(crate) fn add_sent(&mut self, lines: u64)
+        ensures { totals_view self.new ≡ add_totals (totals_view self.old) ((codes "sent", lines) ∷ []) }
+    {
+        self.sent = raised(self.sent, lines);
+    }
+
+    /// Counts lines whose packet's send failed.
+    pub(crate) fn add_not_sent(&mut self, lines: u64)
+        ensures { totals_view self.new ≡ add_totals (totals_view self.old) ((codes "send_faults", lines) ∷ []) }
+    {
+        self.send_faults = raised(self.send_faults, lines);
     }
 
     /// The lines of the totals.

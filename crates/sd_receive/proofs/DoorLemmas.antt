@@ -1,5 +1,5 @@
 -- The streams of a door, one after another.
-use Rattle.std.proofs.Common.{◌≡◌, ℕ, ◌<◌, Bool, true, false, ◌||◌, List, [], ◌∷◌, ◌++◌, length, refl, sym, ap, subst, ◌∙◌, arith, append-nil, append_assoc}
+use Rattle.std.proofs.Common.{◌≡◌, ℕ, Bool, true, false, ◌||◌, List, [], ◌∷◌, ◌++◌, length, refl, sym, ap, subst, ◌∙◌, arith, append-nil, append_assoc}
 use Rattle.std.proofs.lemmas.List.Sums.{sum_by-cons}
 use Rattle.sd_model_shard.specs.History.{History}
 use Rattle.sd_model_record.specs.Record.{Tally}
@@ -71,6 +71,8 @@ module _ {C : Type 0} (may_say : C → ℕ → Type 0) where
     seat = b.seat ∙ a.seat;
     cutter = b.cutter ∙ a.cutter;
     buf = b.buf ∙ a.buf;
+    batch_is = b.batch_is ∙ a.batch_is;
+    batch = b.batch ∙ a.batch;
   }
 
   pub visited_all : (visits : List Visit) (old new : LineVisitor C) (own : ℕ → History) (before : List Cut) (so_far amounts : Amounts) (calls : List DeskCall) → Visited (HasVisited may_say) visits old new amounts calls
@@ -78,7 +80,7 @@ module _ {C : Type 0} (may_say : C → ℕ → Type 0) where
       → HasVisitedAll visits old new own before (plus so_far amounts) calls
   visited_all [] old new own before so_far amounts calls h filed has =
       subst (λ (v : LineVisitor C). HasVisitedAll [] old v own before (plus so_far amounts) calls) (sym h.0) (record {
-        works = record { pool = refl; who = refl; room = refl; clock = refl; seat = refl; cutter = refl; buf = refl };
+        works = record { pool = refl; who = refl; room = refl; clock = refl; seat = refl; cutter = refl; buf = refl; batch_is = refl; batch = refl };
         streams = [];
         called = subst (CountsReads (may_say old.clock.now) 0) (sym h.2) (reads_none (may_say old.clock.now));
         went = tt;

@@ -11,6 +11,7 @@ use Rattle.sd_model_serve.specs.Ends.{most_turns}
 use Rattle.sd_model_stream.specs.Streams.{CountsReads, stream_lines, FilesLines, IsStreamOf, ServesStreams, Stream, any_worn, bytes_in, is_worn}
 use Rattle.sd_desk.specs.Tally.{tally_of}
 use Rattle.sd_outside.specs.declared.door.DoorEnd.TheVariants.{Worn}
+use Rattle.sd_filing.specs.Filing.{IsOpenFor}
 use Rattle.sd_pool.specs.Pool.{IsSeatOf, own_at, shards_of, who_is}
 use Rattle.sd_door.specs.Keeping.{EndsAfter}
 use Rattle.sd_receive.specs.declared.line_visitor.LineVisitor.{LineVisitor}
@@ -21,6 +22,7 @@ module _ {C : Type 0} where
   pub record CanVisit (visitor : LineVisitor C) : Type 0 where
     pub seat : IsSeatOf visitor.pool.now visitor.seat.now
     pub room : 0 < length visitor.buf.now
+    pub batch : IsOpenFor (shards_of visitor.pool.now) visitor.batch.now
 
   -- it has read no stream
   pub record IsNew (visitor : LineVisitor C) : Type 0 where
@@ -37,6 +39,8 @@ module _ {C : Type 0} where
     pub seat : new.seat.ghost_name ≡ old.seat.ghost_name
     pub cutter : new.cutter.ghost_name ≡ old.cutter.ghost_name
     pub buf : new.buf.ghost_name ≡ old.buf.ghost_name
+    pub batch_is : new.batch.now ≡ old.batch.now
+    pub batch : new.batch.ghost_name ≡ old.batch.ghost_name
 
   -- A session was read as a stream, and what its lines count for was counted.
   pub record HasVisited (may_say : C → ℕ → Type 0) (old new : LineVisitor C) (v : Visit) (amounts : Amounts) (calls : List DeskCall) : Type 0 where

@@ -4,6 +4,7 @@ use Rattle.sd_model_outside.specs.Outside.{Object}
 use Rattle.sd_model_outside.specs.Turns.{most_datagram}
 use Rattle.sd_outside.specs.declared.datagrams.Ended.{Ended}
 use Rattle.sd_outside.specs.declared.datagrams.Ended.TheVariants.{End}
+use Rattle.sd_filing.specs.Filing.{IsOpenFor}
 use Rattle.sd_pool.specs.declared.pool.Pool.{Pool}
 use Rattle.sd_pool.specs.Pool.{IsSeatOf, own_at, shards_of, who_is}
 use Rattle.sd_shared_desk.specs.declared.shared_desk.SharedDesk.{SharedDesk}
@@ -21,6 +22,7 @@ module _ {D L : Type 0} where
   -- the post can be run over this pool and this desk
   pub record IsReady (pool : Pool) (desk : SharedDesk) (post : Post D L) : Type 0 where
     pub room : most_datagram ≤ vec_len post.buf
+    pub batch : IsOpenFor (shards_of pool) post.batch
     pub few_wires : vec_len post.wires < 2 ^ 32
     pub seat_is : IsSeatOf pool post.seat
     pub own_is : IsDeskSeatOf desk post.own
@@ -35,6 +37,7 @@ module _ {D L : Type 0} where
     pub number : number_of_seat new.own ≡ number_of_seat old.own
     pub wires : vec_len new.wires ≡ vec_len old.wires
     pub room : vec_len new.buf ≡ vec_len old.buf
+    pub batch : new.batch ≡ old.batch
     pub receives : Receives says (shards_of pool) run_flushes (seen old.packets) (seen new.packets) (map wire_seen old.wires.items) (map wire_seen new.wires.items) (own_at old.seat) (own_at new.seat) (part_of old.own) (part_of new.own) got
 
   -- a post was run

@@ -17,6 +17,7 @@ mod shared;
 mod streamed;
 mod streaming;
 mod submitting;
+mod telling;
 mod turn;
 
 pub use lining::{Lined, linekeep};

@@ -5,6 +5,8 @@ ghost use Rattle.sd_receive.specs.Streaming.{end_of};
 use crate::account::Account;
 use crate::streamed::StreamEnd;
 use crate::streaming::stream;
+use log::Log;
+use sd_batch::Batch;
 use sd_door::Visitor;
 use sd_outside::{Clock, Sink, Source};
 use sd_pool::{Pool, Seat};
@@ -20,6 +22,7 @@ pub(crate) struct LineVisitor<'p, 's, 'k, 'c, 'b, C> {
     pub cutter: &'k mut Cutter,
     pub clock: &'c C,
     pub buf: &'b mut [u8],
+    pub batch: &'b mut Batch,
     /// What the streams so far came to.
     pub account: Account,
     /// Whether one of them was worn.
@@ -53,7 +56,7 @@ impl<C: Clock> Visitor for LineVisitor<'_, '_, '_, '_, '_, C> {
 
     ghost has_visited = { HasVisited C.may_say };
 
-    fn visit<A: Source, T: Sink, R: Wait>(
+    fn visit<A: Source, T: Sink, R: Wait + Log>(
         &mut self,
         rt: &R,
         desk: &SharedDesk,
@@ -72,6 +75,7 @@ impl<C: Clock> Visitor for LineVisitor<'_, '_, '_, '_, '_, C> {
             asking,
             self.clock,
             self.buf,
+            self.batch,
         );
         self.account = self.account.and(Account {
             tally: streamed.tally,

@@ -1,6 +1,7 @@
 //! The lines of a stream, which are filed as datagrams are.
 ghost use Rattle.std.specs.Prelude.{◌≡◌, ◌<◌, ◌≤◌, false, [], ◌∷◌, length, take};
 ghost use Rattle.sd_desk.specs.Tally.{tally_of};
+ghost use Rattle.sd_filing.specs.Filing.{IsOpenFor};
 ghost use Rattle.sd_pool.specs.Pool.{IsSeatOf, own_at, shards_of, who_is};
 ghost use Rattle.sd_tcp.specs.Cut.{IsShort, cut_view};
 ghost use Rattle.sd_model_stream.specs.Streams.{FilesLines};
@@ -8,6 +9,9 @@ ghost use Rattle.sd_receive.specs.Streaming.{TakesBytes};
 
 use crate::account::Account;
 use crate::submitting::Submitting;
+use crate::telling::{tell_bad, tell_long};
+use log::Log;
+use sd_batch::Batch;
 use sd_desk::Tally;
 use sd_filing::file_datagram;
 use sd_outside::NoGate;
@@ -23,15 +27,23 @@ struct Taken {
 }
 
 /// Files a line.
-fn file_line<R: Wait>(group: &Submitting<'_, NoGate, R>, seat: &mut Seat, line: Cut<'_>) -> Account
+fn file_line<R: Wait + Log>(
+    group: &Submitting<'_, NoGate, R>,
+    seat: &mut Seat,
+    batch: &mut Batch,
+    line: Cut<'_>,
+) -> Account
     requires seat { IsSeatOf group.now.pool.now seat.old }
+    requires batch { IsOpenFor (shards_of group.now.pool.now) batch.old }
     requires line { IsShort line }
     ensures seat { IsSeatOf group.now.pool.now seat.new × (who_is seat.new ≡ who_is seat.old) }
+    ensures batch { batch.new ≡ batch.old }
     ensures files { FilesLines (shards_of group.now.pool.now) (cut_view line.entry ∷ []) (own_at seat.old) (own_at seat.new) (tally_of result.tally) result.taken }
 {
     match line {
         Cut::Line(bytes) => {
-            let filed = file_datagram(group, seat, bytes);
+            let filed = file_datagram(group, seat, batch, bytes);
+            tell_bad(group.rt, bytes, filed.bad);
             let tally = Tally {
                 packets: 0,
                 lines: filed.lines,
@@ -43,49 +55,58 @@ fn file_line<R: Wait>(group: &Submitting<'_, NoGate, R>, seat: &mut Seat, line: 
                 taken: filed.taken,
             }
         }
-        Cut::Long => Account {
-            tally: Tally {
-                packets: 0,
-                lines: 1,
-                bad: 1,
-                dropped: 0,
-            },
-            taken: 0,
-        },
+        Cut::Long => {
+            tell_long(group.rt);
+            Account {
+                tally: Tally {
+                    packets: 0,
+                    lines: 1,
+                    bad: 1,
+                    dropped: 0,
+                },
+                taken: 0,
+            }
+        }
     }
 }
 
 /// Files the line that a cutter has ready, if it has one, and ends it.
-fn file_ready<R: Wait>(
+fn file_ready<R: Wait + Log>(
     group: &Submitting<'_, NoGate, R>,
     seat: &mut Seat,
     cutter: &mut Cutter,
+    batch: &mut Batch,
 ) -> Account
     requires seat { IsSeatOf group.now.pool.now seat.old }
+    requires batch { IsOpenFor (shards_of group.now.pool.now) batch.old }
     ensures seat { IsSeatOf group.now.pool.now seat.new × (who_is seat.new ≡ who_is seat.old) }
+    ensures batch { batch.new ≡ batch.old }
     ensures none_ready { cutter.new.is_ready ≡ false }
     ensures takes { TakesBytes (shards_of group.now.pool.now) [] cutter.old cutter.new (own_at seat.old) (own_at seat.new) (tally_of result.tally) result.taken }
 {
     let Some(line) = cutter.ready() else {
         return Account::none();
     };
-    let account = file_line(group, seat, line);
+    let account = file_line(group, seat, batch, line);
     cutter.finish();
     account
 }
 
 /// Takes the bytes up to the first newline and with it, or all, and files the line that they end. A line that stands whole among
 /// them isn't copied.
-fn take_line<R: Wait>(
+fn take_line<R: Wait + Log>(
     group: &Submitting<'_, NoGate, R>,
     seat: &mut Seat,
     cutter: &mut Cutter,
+    batch: &mut Batch,
     bytes: &[u8],
 ) -> Taken
     requires seat { IsSeatOf group.now.pool.now seat.old }
     requires none_ready { cutter.old.is_ready ≡ false }
+    requires batch { IsOpenFor (shards_of group.now.pool.now) batch.old }
     requires bytes { 0 < length bytes.now }
     ensures seat { IsSeatOf group.now.pool.now seat.new × (who_is seat.new ≡ who_is seat.old) }
+    ensures batch { batch.new ≡ batch.old }
     ensures none_ready { cutter.new.is_ready ≡ false }
     ensures some { 0 < result.len }
     ensures within { result.len ≤ length bytes.now }
@@ -94,31 +115,34 @@ fn take_line<R: Wait>(
     if let Some(line) = cutter.whole_line(bytes) {
         return Taken {
             len: line.len() + 1,
-            account: file_line(group, seat, Cut::Line(line)),
+            account: file_line(group, seat, batch, Cut::Line(line)),
         };
     }
     let len = cutter.push(bytes);
-    let account = file_ready(group, seat, cutter);
+    let account = file_ready(group, seat, cutter, batch);
     Taken { len, account }
 }
 
 /// Takes all of the bytes, and files each line that they end.
-pub(crate) fn take_bytes<R: Wait>(
+pub(crate) fn take_bytes<R: Wait + Log>(
     group: &Submitting<'_, NoGate, R>,
     seat: &mut Seat,
     cutter: &mut Cutter,
+    batch: &mut Batch,
     bytes: &[u8],
 ) -> Account
     requires seat { IsSeatOf group.now.pool.now seat.old }
     requires none_ready { cutter.old.is_ready ≡ false }
+    requires batch { IsOpenFor (shards_of group.now.pool.now) batch.old }
     ensures seat { IsSeatOf group.now.pool.now seat.new × (who_is seat.new ≡ who_is seat.old) }
+    ensures batch { batch.new ≡ batch.old }
     ensures none_ready { cutter.new.is_ready ≡ false }
     ensures takes { TakesBytes (shards_of group.now.pool.now) bytes.now cutter.old cutter.new (own_at seat.old) (own_at seat.new) (tally_of result.tally) result.taken }
 {
     let mut account = Account::none();
     let mut rest = bytes;
     while !rest.is_empty() {
-        let taken = take_line(group, seat, cutter, rest);
+        let taken = take_line(group, seat, cutter, batch, rest);
         account = account.and(taken.account);
         rest = &rest[taken.len..];
     }

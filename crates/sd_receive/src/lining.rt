@@ -1,12 +1,15 @@
 ghost use Rattle.std.specs.Prelude.{◌≡◌, ◌<◌, ◌^◌, true, false, length};
 ghost use Rattle.sd_model_serve.specs.Ends.{most_turns};
 ghost use Rattle.sd_outside.specs.declared.door.DoorEnd.TheVariants.{Worn};
+ghost use Rattle.sd_filing.specs.Filing.{IsOpenFor};
 ghost use Rattle.sd_pool.specs.Pool.{IsSeatOf, own_at, shards_of, who_is};
 ghost use Rattle.sd_shared_desk.specs.Shared.{IsSeatOf as IsDeskSeatOf, number_of_seat, part_of};
 ghost use Rattle.sd_receive.specs.Lining.{CanVisit, IsNew, KeepsLines, WorksOn};
 
 use crate::account::Account;
 use crate::line_visitor::LineVisitor;
+use log::Log;
+use sd_batch::Batch;
 use sd_desk::Tally;
 use sd_door::keep_door;
 use sd_outside::{Clock, Door, DoorEnd, Gate};
@@ -40,7 +43,7 @@ fn ended_by(is_worn: bool, kept: DoorEnd) -> DoorEnd
 }
 
 /// Reads the streams of a door.
-fn read_all<E: Door, C: Clock, G: Gate, R: Wait>(
+fn read_all<E: Door, C: Clock, G: Gate, R: Wait + Log>(
     rt: &R,
     desk: &SharedDesk,
     own: &mut DeskSeat,
@@ -70,7 +73,7 @@ fn read_all<E: Door, C: Clock, G: Gate, R: Wait>(
 /// Reads the sessions of a door as streams, one after another, and gives each back, until the door has none left, so many flushes
 /// have come as are enough, where that isn't 0, or the door took 2^62 turns. A failure of the door and a stream that failed are
 /// counted at the desk, and the door is asked again. It takes no memory.
-pub fn linekeep<E: Door, C: Clock, G: Gate, R: Wait>(
+pub fn linekeep<E: Door, C: Clock, G: Gate, R: Wait + Log>(
     rt: &R,
     pool: &Pool,
     desk: &SharedDesk,
@@ -81,16 +84,19 @@ pub fn linekeep<E: Door, C: Clock, G: Gate, R: Wait>(
     clock: &C,
     gate: &G,
     buf: &mut [u8],
+    batch: &mut Batch,
     run_flushes: u64,
 ) -> Lined
     requires own { IsDeskSeatOf desk.now own.old }
     requires seat { IsSeatOf pool.now seat.old }
     requires room { 0 < length buf.old }
+    requires batch { IsOpenFor (shards_of pool.now) batch.old }
     requires none_out { (E.seen door.old).is_out ≡ false }
     requires turns { (E.seen door.old).turns < 2 ^ 62 }
     ensures own { IsDeskSeatOf desk.now own.new × (number_of_seat own.new ≡ number_of_seat own.old) }
     ensures seat { IsSeatOf pool.now seat.new × (who_is seat.new ≡ who_is seat.old) }
     ensures room { length buf.new ≡ length buf.old }
+    ensures batch { batch.new ≡ batch.old }
     ensures keeps { KeepsLines (C.may_say clock.now) (shards_of pool.now) run_flushes (own_at seat.old) (own_at seat.new) (E.seen door.old) (E.seen door.new) (part_of own.old) (part_of own.new) result }
 {
     let mut visitor = LineVisitor {
@@ -99,6 +105,7 @@ pub fn linekeep<E: Door, C: Clock, G: Gate, R: Wait>(
         cutter,
         clock,
         buf,
+        batch,
         account: Account::none(),
         is_worn: false,
     };

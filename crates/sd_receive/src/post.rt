@@ -1,6 +1,8 @@
 use crate::received::Received;
 use crate::receiving::receive;
 use crate::shared::Shared;
+use log::Log;
+use sd_batch::Batch;
 use sd_outside::{Clock, Datagrams, Ended, Gate, Wire};
 use sd_pool::{Pool, Seat};
 use sd_shared_desk::{DeskSeat, SharedDesk};
@@ -15,6 +17,7 @@ pub struct Post<D, L> {
     pub seat: Seat,
     pub own: DeskSeat,
     pub buf: Vec<u8>,
+    pub batch: Batch,
     pub got: Option<Received>,
 }
 
@@ -22,7 +25,7 @@ impl<D: Datagrams, L: Wire> Post<D, L> {
     ghost use Rattle.sd_receive.specs.Posts.{IsReady, HasRun};
 
     /// Receives with the parts of the post, and keeps what that did. It takes no memory.
-    pub fn run<G: Gate, C: Clock, R: Wait>(
+    pub fn run<G: Gate, C: Clock, R: Wait + Log>(
         &mut self,
         rt: &R,
         pool: &Pool,
@@ -45,6 +48,7 @@ impl<D: Datagrams, L: Wire> Post<D, L> {
             gate,
             clock,
             &mut self.buf,
+            &mut self.batch,
             run_flushes,
         );
         self.got = Some(got);
@@ -58,7 +62,7 @@ impl<'a, D: Datagrams, L: Wire, G: Gate, C: Clock> Worker<Shared<'a, G, C>> for 
 
     ghost has_run = { λ shared old new. HasRun D.seen L.seen (C.may_say shared.clock.now) shared.pool.now shared.desk.now shared.run_flushes old new };
 
-    fn run<R: Wait>(&mut self, rt: &R, shared: &Shared<'a, G, C>) {
+    fn run<R: Wait + Log>(&mut self, rt: &R, shared: &Shared<'a, G, C>) {
         self.run(
             rt,
             shared.pool,

@@ -1,5 +1,6 @@
 ghost use Rattle.std.specs.Prelude.{◌≡◌, ◌<◌, false, length, IfErr, IfOk, OnErr};
 ghost use Rattle.sd_desk.specs.Tally.{tally_of};
+ghost use Rattle.sd_filing.specs.Filing.{IsOpenFor};
 ghost use Rattle.sd_pool.specs.Pool.{IsSeatOf, own_at, shards_of, who_is};
 ghost use Rattle.sd_shared_desk.specs.Shared.{IsSeatOf as IsDeskSeatOf, number_of_seat, part_of};
 ghost use Rattle.sd_receive.specs.Streaming.{CannotRead, Streams, TakesRead};
@@ -8,6 +9,8 @@ use crate::account::Account;
 use crate::lines::take_bytes;
 use crate::streamed::{StreamEnd, Streamed};
 use crate::submitting::Submitting;
+use log::Log;
+use sd_batch::Batch;
 use sd_outside::{Clock, NoGate, Source};
 use sd_pool::{Pool, Seat};
 use sd_shared_desk::{DeskSeat, SharedDesk};
@@ -18,7 +21,7 @@ use std::sync::Wait;
 const MOST_READS: u64 = 1 << 62;
 
 /// Reads once. The lines that the bytes end are filed, and counted at the desk. Where no byte came, the stream has ended.
-fn take_read<A: Source, C: Clock, R: Wait>(
+fn take_read<A: Source, C: Clock, R: Wait + Log>(
     rt: &R,
     pool: &Pool,
     desk: &SharedDesk,
@@ -28,15 +31,18 @@ fn take_read<A: Source, C: Clock, R: Wait>(
     source: &mut A,
     clock: &C,
     buf: &mut [u8],
+    batch: &mut Batch,
 ) -> Result<Account, StreamEnd>
     requires own { IsDeskSeatOf desk.now own.old }
     requires seat { IsSeatOf pool.now seat.old }
     requires none_ready { cutter.old.is_ready ≡ false }
     requires room { 0 < length buf.old }
+    requires batch { IsOpenFor (shards_of pool.now) batch.old }
     ensures own { IsDeskSeatOf desk.now own.new × (number_of_seat own.new ≡ number_of_seat own.old) }
     ensures seat { IsSeatOf pool.now seat.new × (who_is seat.new ≡ who_is seat.old) }
     ensures none_ready { cutter.new.is_ready ≡ false }
     ensures room { length buf.new ≡ length buf.old }
+    ensures batch { batch.new ≡ batch.old }
     ensures takes { IfOk result (λ account. TakesRead (C.may_say clock.now) (shards_of pool.now) (A.seen source.old) (A.seen source.new) cutter.old cutter.new (own_at seat.old) (own_at seat.new) (part_of own.old) (part_of own.new) (tally_of account.tally) account.taken) }
     ensures ends { IfErr result (λ ended. CannotRead ended (A.seen source.old) (A.seen source.new)) }
     ensures unchanged { OnErr result ((own.new ≡ own.old) × (seat.new ≡ seat.old)) }
@@ -46,7 +52,7 @@ fn take_read<A: Source, C: Clock, R: Wait>(
         Ok(len) => {
             let gate = &NoGate;
             let group = Submitting { rt, pool, gate };
-            let account = take_bytes(&group, seat, cutter, &buf[..len]);
+            let account = take_bytes(&group, seat, cutter, batch, &buf[..len]);
             desk.add(rt, account.tally, clock.now(), own);
             Ok(account)
         }
@@ -56,7 +62,7 @@ fn take_read<A: Source, C: Clock, R: Wait>(
 
 /// Reads a stream to its end, until it fails, or 2^62 reads were made. The good samples of its lines are submitted in order, and
 /// after each read what its lines count for is added at the desk. What follows the last newline is no line. It takes no memory.
-pub fn stream<A: Source, C: Clock, R: Wait>(
+pub fn stream<A: Source, C: Clock, R: Wait + Log>(
     rt: &R,
     pool: &Pool,
     desk: &SharedDesk,
@@ -66,19 +72,22 @@ pub fn stream<A: Source, C: Clock, R: Wait>(
     source: &mut A,
     clock: &C,
     buf: &mut [u8],
+    batch: &mut Batch,
 ) -> Streamed
     requires own { IsDeskSeatOf desk.now own.old }
     requires seat { IsSeatOf pool.now seat.old }
     requires room { 0 < length buf.old }
+    requires batch { IsOpenFor (shards_of pool.now) batch.old }
     ensures own { IsDeskSeatOf desk.now own.new × (number_of_seat own.new ≡ number_of_seat own.old) }
     ensures seat { IsSeatOf pool.now seat.new × (who_is seat.new ≡ who_is seat.old) }
     ensures room { length buf.new ≡ length buf.old }
+    ensures batch { batch.new ≡ batch.old }
     ensures streams { Streams (C.may_say clock.now) (shards_of pool.now) (A.seen source.old) (A.seen source.new) (own_at seat.old) (own_at seat.new) (part_of own.old) (part_of own.new) result }
 {
     cutter.reset();
     let mut account = Account::none();
     for _read in 0..MOST_READS {
-        match take_read(rt, pool, desk, own, seat, cutter, source, clock, buf) {
+        match take_read(rt, pool, desk, own, seat, cutter, source, clock, buf, batch) {
             Ok(more) => account = account.and(more),
             Err(ended) => return Streamed::of(ended, account),
         }

@@ -1,11 +1,12 @@
+use crate::telling::tell_dropped;
+use log::Log;
+use sd_batch::{Batch, Counts};
 use sd_filing::Submit;
-use sd_line::Sample;
 use sd_outside::Gate;
 use sd_pool::{Pool, Seat};
-use sd_shard::Placed;
 use std::sync::Wait;
 
-/// A pool that a receiver submits to. After each sample that was answered, it passes place 1 of the gate.
+/// A pool that a receiver submits to. Behind the answers of a shard's run, it passes place 1 of the gate once for each sample.
 #[derive(Drop)]
 pub(crate) struct Submitting<'a, G, R> {
     pub rt: &'a R,
@@ -13,7 +14,7 @@ pub(crate) struct Submitting<'a, G, R> {
     pub gate: &'a G,
 }
 
-impl<'a, G: Gate, R: Wait> Submit<Seat> for Submitting<'a, G, R> {
+impl<'a, G: Gate, R: Wait + Log> Submit<Seat> for Submitting<'a, G, R> {
     ghost use Rattle.sd_model_serve.specs.Receiving.{Adds};
     ghost use Rattle.sd_model_serve.proofs.ActsLemmas.{Adds-none, Adds-next};
     ghost use Rattle.sd_pool.specs.Pool.{IsSeatOf, own_at, shards_of, who_is};
@@ -26,10 +27,13 @@ impl<'a, G: Gate, R: Wait> Submit<Seat> for Submitting<'a, G, R> {
 
     ghost adds = { λ group old new acts. Adds (shards_of group.pool.now) acts (own_at old) (own_at new) };
 
-    fn submit(&self, seat: &mut Seat, s: &Sample) -> Placed {
-        let placed = self.pool.submit(self.rt, seat, s);
-        self.gate.pass(1);
-        placed
+    fn submit_run(&self, seat: &mut Seat, batch: &Batch, home: u16) -> Counts {
+        let counts = self.pool.submit_run(self.rt, home, seat, batch);
+        tell_dropped(self.rt, batch, home, counts);
+        for _sample in 0..counts.taken + counts.dropped {
+            self.gate.pass(1);
+        }
+        counts
     }
 
     ghost some_shards = { λ group seat ready. ready.sits.pool_is.some };

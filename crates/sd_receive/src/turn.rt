@@ -5,6 +5,7 @@ ghost use Rattle.sd_model_record.specs.Counts.{HasCalled, HasCounted, of_sends};
 ghost use Rattle.std.specs.List.{AllByRecursion};
 ghost use Rattle.sd_model_record.specs.Desk.{no_tally};
 ghost use Rattle.sd_desk.specs.Tally.{tally_of};
+ghost use Rattle.sd_filing.specs.Filing.{IsOpenFor};
 ghost use Rattle.sd_pool.specs.Pool.{IsSeatOf, own_at, shards_of, who_is};
 ghost use Rattle.sd_shared_desk.specs.Shared.{IsSeatOf as IsDeskSeatOf, number_of_seat, part_of};
 ghost use Rattle.sd_model_serve.specs.Receiving.{HasReceived};
@@ -12,6 +13,9 @@ ghost use Rattle.sd_receive.specs.Receiving.{EndsSo, IsFailedSend, TakesDatagram
 
 use crate::shared::Shared;
 use crate::submitting::Submitting;
+use crate::telling::tell_bad;
+use log::Log;
+use sd_batch::Batch;
 use sd_desk::Tally;
 use sd_filing::file_datagram;
 use sd_outside::{Clock, Datagrams, Ended, Gate, Next, Wire};
@@ -54,21 +58,24 @@ fn count_sends<R: Wait>(rt: &R, desk: &SharedDesk, own: &mut DeskSeat, failed: u
 }
 
 // Repeats a datagram, submits its samples, and counts it.
-fn take_datagram<L: Wire, G: Gate, C: Clock, R: Wait>(
+fn take_datagram<L: Wire, G: Gate, C: Clock, R: Wait + Log>(
     rt: &R,
     shared: &Shared<'_, G, C>,
     own: &mut DeskSeat,
     seat: &mut Seat,
     wires: &mut [L],
+    batch: &mut Batch,
     datagram: &[u8],
 ) -> Turn
     requires own { IsDeskSeatOf shared.now.desk.now own.old }
     requires seat { IsSeatOf shared.now.pool.now seat.old }
     requires wires { length wires.old < 2 ^ 32 }
+    requires batch { IsOpenFor (shards_of shared.now.pool.now) batch.old }
     requires datagram { length datagram.now ≤ most_datagram }
     ensures own { IsDeskSeatOf shared.now.desk.now own.new × (number_of_seat own.new ≡ number_of_seat own.old) }
     ensures seat { IsSeatOf shared.now.pool.now seat.new × (who_is seat.new ≡ who_is seat.old) }
     ensures wires { length wires.new ≡ length wires.old }
+    ensures batch { batch.new ≡ batch.old }
     ensures takes { TakesDatagram (C.may_say shared.now.clock.now) (shards_of shared.now.pool.now) datagram.now (map L.seen wires.old) (map L.seen wires.new) (own_at seat.old) (own_at seat.new) (part_of own.old) (part_of own.new) (tally_of result.tally) result.taken }
     ensures goes_on { result.ended ≡ None }
 {
@@ -78,7 +85,7 @@ fn take_datagram<L: Wire, G: Gate, C: Clock, R: Wait>(
         pool: shared.pool,
         gate: shared.gate,
     };
-    let filed = file_datagram(&group, seat, datagram);
+    let filed = file_datagram(&group, seat, batch, datagram);
     let tally = Tally {
         packets: 1,
         lines: filed.lines,
@@ -87,6 +94,7 @@ fn take_datagram<L: Wire, G: Gate, C: Clock, R: Wait>(
     };
     shared.desk.add(rt, tally, shared.clock.now(), own);
     count_sends(rt, shared.desk, own, failed);
+    tell_bad(rt, datagram, filed.bad);
     Turn {
         tally,
         taken: filed.taken,
@@ -95,7 +103,7 @@ fn take_datagram<L: Wire, G: Gate, C: Clock, R: Wait>(
 }
 
 /// Asks the source once, unless enough flushes were counted.
-pub(crate) fn take_turn<D: Datagrams, L: Wire, G: Gate, C: Clock, R: Wait>(
+pub(crate) fn take_turn<D: Datagrams, L: Wire, G: Gate, C: Clock, R: Wait + Log>(
     rt: &R,
     shared: &Shared<'_, G, C>,
     own: &mut DeskSeat,
@@ -103,15 +111,18 @@ pub(crate) fn take_turn<D: Datagrams, L: Wire, G: Gate, C: Clock, R: Wait>(
     packets: &mut D,
     wires: &mut [L],
     buf: &mut [u8],
+    batch: &mut Batch,
 ) -> Turn
     requires own { IsDeskSeatOf shared.now.desk.now own.old }
     requires seat { IsSeatOf shared.now.pool.now seat.old }
     requires wires { length wires.old < 2 ^ 32 }
     requires room { most_datagram ≤ length buf.old }
+    requires batch { IsOpenFor (shards_of shared.now.pool.now) batch.old }
     ensures own { IsDeskSeatOf shared.now.desk.now own.new × (number_of_seat own.new ≡ number_of_seat own.old) }
     ensures seat { IsSeatOf shared.now.pool.now seat.new × (who_is seat.new ≡ who_is seat.old) }
     ensures wires { length wires.new ≡ length wires.old }
     ensures room { length buf.new ≡ length buf.old }
+    ensures batch { batch.new ≡ batch.old }
     ensures takes { HasReceived (C.may_say shared.now.clock.now) (shards_of shared.now.pool.now) (most_read result.ended) (D.seen packets.old) (D.seen packets.new) (map L.seen wires.old) (map L.seen wires.new) (own_at seat.old) (own_at seat.new) (part_of own.old) (part_of own.new) (tally_of result.tally) result.taken }
     ensures place { (D.seen packets.new).opened_at ≡ (D.seen packets.old).opened_at }
     ensures goes_on { IfNone result.ended (((D.seen packets.new).turns ≡ raised (D.seen packets.old).turns) × ((D.seen packets.new).faults ≡ (D.seen packets.old).faults)) }
@@ -122,7 +133,7 @@ pub(crate) fn take_turn<D: Datagrams, L: Wire, G: Gate, C: Clock, R: Wait>(
         return read_nothing(Some(Ended::Stopped { rounds }));
     }
     match packets.next(buf) {
-        Next::Packet { len } => take_datagram(rt, shared, own, seat, wires, &buf[..len]),
+        Next::Packet { len } => take_datagram(rt, shared, own, seat, wires, batch, &buf[..len]),
         Next::End => read_nothing(Some(Ended::End)),
         Next::Idle => read_nothing(None),
         Next::Failed => read_nothing(Some(Ended::Failed)),

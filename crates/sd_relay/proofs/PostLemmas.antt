@@ -12,7 +12,7 @@ use Rattle.sd_live.specs.Live.{IsPassOf, IsReceiverOf, seen as history_in}
 use Rattle.sd_live.specs.declared.pass.UpPass.{UpPass}
 use Rattle.sd_live.specs.declared.up_cell.UpCell.{UpCell}
 use Rattle.sd_proxy.specs.Views.{end_view}
-use Rattle.sd_relay.specs.Parts.{IsFitted, pass_in, source_in, wires_in}
+use Rattle.sd_relay.specs.Parts.{IsFitted, NoLineWaits, pass_in, source_in, wires_in}
 use Rattle.sd_relay.specs.Posts.{HasRun, IsReady}
 use Rattle.sd_relay.specs.Relaying.{ended_by, ended_in}
 use Rattle.sd_relay.specs.Room.{IsFreshPass}
@@ -58,7 +58,7 @@ module _ {D L : Type 0} (cell : UpCell) (nodes : List Node) where
   ready_posts [] fresh fitted = All-nil (IsReady cell)
   ready_posts (x ∷ xs) fresh fitted =
       All-cons (IsReady cell) x xs
-      (record { pass = fresh.0.0; wires = x.wires.ok.0 ∙ fitted.0.1 ∙ sym (ap length fitted.0.0); room = let big = fitted.0.2 in omega (arith, big, x.buf.ok.0) })
+      (record { pass = fresh.0.0; wires = x.wires.ok.0 ∙ fitted.0.1 ∙ sym (ap length fitted.0.0); waiting = x.waiting.ok.0 ∙ fitted.0.3 ∙ sym (ap length fitted.0.0); room = let big = fitted.0.2 in omega (arith, big, x.buf.ok.0) })
       (ready_posts xs fresh.1 fitted.1)
 
 module _ {D L : Type 0} (seen : D → Object) (wire_seen : L → Object) (cell : UpCell) where
@@ -100,70 +100,74 @@ module _ {D L : Type 0} (seen : D → Object) (wire_seen : L → Object) (cell :
   all_were_run (x ∷ xs) [] all = absurd all
   all_were_run (x ∷ xs) (y ∷ ys) all = All-cons WasRun y ys (all.0.got, all.0.got_is) (all_were_run xs ys all.1)
 
+  -- no line waits in posts
+  abbrev pub AreClear : (most : ℕ) → List (Post D L) → Type 0
+  AreClear most posts = AllByRecursion (NoLineWaits most) posts
+
   -- what each receiver did
-  abbrev pub relays_of : (xs ys : List (Post D L)) → AllRan xs ys → List Relay
-  relays_of [] [] all = []
-  relays_of [] (y ∷ ys) all = []
-  relays_of (x ∷ xs) [] all = []
-  relays_of (x ∷ xs) (y ∷ ys) all = all.0.proxies.relay ∷ relays_of xs ys all.1
+  abbrev pub relays_of : (most : ℕ) (xs ys : List (Post D L)) → AllRan xs ys → AreClear most xs → List Relay
+  relays_of most [] [] all clear = []
+  relays_of most [] (y ∷ ys) all clear = []
+  relays_of most (x ∷ xs) [] all clear = []
+  relays_of most (x ∷ xs) (y ∷ ys) all clear = (all.0.proxies most clear.0).relay ∷ relays_of most xs ys all.1 clear.1
 
-  pub relays_count : (xs ys : List (Post D L)) (all : AllRan xs ys) → length (relays_of xs ys all) ≡ length ys
-  relays_count [] [] all = refl
-  relays_count [] (y ∷ ys) all = absurd all
-  relays_count (x ∷ xs) [] all = refl
-  relays_count (x ∷ xs) (y ∷ ys) all = ap suc (relays_count xs ys all.1)
+  pub relays_count : (most : ℕ) (xs ys : List (Post D L)) (all : AllRan xs ys) (clear : AreClear most xs) → length (relays_of most xs ys all clear) ≡ length ys
+  relays_count most [] [] all clear = refl
+  relays_count most [] (y ∷ ys) all clear = absurd all
+  relays_count most (x ∷ xs) [] all clear = refl
+  relays_count most (x ∷ xs) (y ∷ ys) all clear = ap suc (relays_count most xs ys all.1 clear.1)
 
-  pub relays_ended : (xs ys : List (Post D L)) (all : AllRan xs ys) → map end_view (map ended_in ys) ≡ map (λ (r : Relay). r.ended) (relays_of xs ys all)
-  relays_ended [] [] all = refl
-  relays_ended [] (y ∷ ys) all = absurd all
-  relays_ended (x ∷ xs) [] all = refl
-  relays_ended (x ∷ xs) (y ∷ ys) all = λ i. (ap (λ o. end_view (ended_by o)) all.0.got_is ∙ all.0.proxies.ended) i ∷ relays_ended xs ys all.1 i
+  pub relays_ended : (most : ℕ) (xs ys : List (Post D L)) (all : AllRan xs ys) (clear : AreClear most xs) → map end_view (map ended_in ys) ≡ map (λ (r : Relay). r.ended) (relays_of most xs ys all clear)
+  relays_ended most [] [] all clear = refl
+  relays_ended most [] (y ∷ ys) all clear = absurd all
+  relays_ended most (x ∷ xs) [] all clear = refl
+  relays_ended most (x ∷ xs) (y ∷ ys) all clear = λ i. (ap (λ o. end_view (ended_by o)) all.0.got_is ∙ (all.0.proxies most clear.0).ended) i ∷ relays_ended most xs ys all.1 clear.1 i
 
-  pub relays_counted : (nodes : List Node) (xs ys : List (Post D L)) (all : AllRan xs ys) → AllByRecursion (IsFitted nodes) xs → map totals_in ys ≡ map (relay_totals nodes) (relays_of xs ys all)
-  relays_counted nodes [] [] all fitted = refl
-  relays_counted nodes [] (y ∷ ys) all fitted = absurd all
-  relays_counted nodes (x ∷ xs) [] all fitted = refl
-  relays_counted nodes (x ∷ xs) (y ∷ ys) all fitted = λ i.
-      (ap totals_by all.0.got_is ∙ all.0.proxies.totals ∙ ap (λ ns. relay_totals ns all.0.proxies.relay) fitted.0.0) i ∷ relays_counted nodes xs ys all.1 fitted.1 i
+  pub relays_counted : (most : ℕ) (nodes : List Node) (xs ys : List (Post D L)) (all : AllRan xs ys) (clear : AreClear most xs) → AllByRecursion (IsFitted nodes) xs → map totals_in ys ≡ map (relay_totals nodes) (relays_of most xs ys all clear)
+  relays_counted most nodes [] [] all clear fitted = refl
+  relays_counted most nodes [] (y ∷ ys) all clear fitted = absurd all
+  relays_counted most nodes (x ∷ xs) [] all clear fitted = refl
+  relays_counted most nodes (x ∷ xs) (y ∷ ys) all clear fitted = λ i.
+      (ap totals_by all.0.got_is ∙ (all.0.proxies most clear.0).totals ∙ ap (λ ns. relay_totals ns (all.0.proxies most clear.0).relay) fitted.0.0) i ∷ relays_counted most nodes xs ys all.1 clear.1 fitted.1 i
 
   -- what each saw is a beginning of the history of all sets
-  pub relays_looked : (nodes : List Node) (history : List ℕ) (xs ys : List (Post D L)) (all : AllRan xs ys) → AreFresh cell nodes xs → All (λ p. Begins (history_in p) history) (map pass_in ys) → AllByRecursion (LookedIn nodes history) (relays_of xs ys all)
-  relays_looked nodes history [] [] all fresh begins = tt
-  relays_looked nodes history [] (y ∷ ys) all fresh begins = absurd all
-  relays_looked nodes history (x ∷ xs) [] all fresh begins = absurd all
-  relays_looked nodes history (x ∷ xs) (y ∷ ys) all fresh begins =
+  pub relays_looked : (most : ℕ) (nodes : List Node) (history : List ℕ) (xs ys : List (Post D L)) (all : AllRan xs ys) (clear : AreClear most xs) → AreFresh cell nodes xs → All (λ p. Begins (history_in p) history) (map pass_in ys) → AllByRecursion (LookedIn nodes history) (relays_of most xs ys all clear)
+  relays_looked most nodes history [] [] all clear fresh begins = tt
+  relays_looked most nodes history [] (y ∷ ys) all clear fresh begins = absurd all
+  relays_looked most nodes history (x ∷ xs) [] all clear fresh begins = absurd all
+  relays_looked most nodes history (x ∷ xs) (y ∷ ys) all clear fresh begins =
       let P : UpPass → Type 0 = λ p. Begins (history_in p) history in
-      let ups = map (λ x. x.up) all.0.proxies.relay.reads in (
+      let ups = map (λ x. x.up) (all.0.proxies most clear.0).relay.reads in (
         answered_on (first_history nodes) (history_in y.pass) history ups (All-head P y.pass (map pass_in ys) begins)
-            (subst (λ h. HaveAnswered h (history_in y.pass) ups) fresh.0.1 all.0.proxies.looks),
-        relays_looked nodes history xs ys all.1 fresh.1 (All-tail P y.pass (map pass_in ys) begins),
+            (subst (λ h. HaveAnswered h (history_in y.pass) ups) fresh.0.1 (all.0.proxies most clear.0).looks),
+        relays_looked most nodes history xs ys all.1 clear.1 fresh.1 (All-tail P y.pass (map pass_in ys) begins),
       )
 
-  one_relay : (nodes : List Node) (x y : Post D L) (ran : Ran x y) → x.ring ≡ nodes → IsRelay nodes ran.proxies.relay (seen x.packets) (seen y.packets) (map wire_seen x.wires.items) (map wire_seen y.wires.items)
-  one_relay nodes x y ran ring = subst (λ ns. IsRelay ns ran.proxies.relay (seen x.packets) (seen y.packets) (map wire_seen x.wires.items) (map wire_seen y.wires.items)) ring ran.proxies.relays
+  one_relay : (most : ℕ) (nodes : List Node) (x y : Post D L) (ran : Ran x y) (clear : NoLineWaits most x) → x.ring ≡ nodes → IsRelay most nodes (ran.proxies most clear).relay (seen x.packets) (seen y.packets) (map wire_seen x.wires.items) (map wire_seen y.wires.items)
+  one_relay most nodes x y ran clear ring = subst (λ ns. IsRelay most ns (ran.proxies most clear).relay (seen x.packets) (seen y.packets) (map wire_seen x.wires.items) (map wire_seen y.wires.items)) ring (ran.proxies most clear).relays
 
-  pub all_relays : (nodes : List Node) (more : List D) (rest : List L) (xs ys : List (Post D L)) (all : AllRan xs ys) → AllByRecursion (IsFitted nodes) xs
-      → AreRelays nodes (relays_of xs ys all) (map seen (map source_in xs ++ more)) (map seen (map source_in ys ++ more)) (map wire_seen (flat_map wires_in xs ++ rest)) (map wire_seen (flat_map wires_in ys ++ rest))
-  all_relays nodes more rest [] [] all fitted = (refl, refl)
-  all_relays nodes more rest [] (y ∷ ys) all fitted = absurd all
-  all_relays nodes more rest (x ∷ xs) [] all fitted = absurd all
-  all_relays nodes more rest (x ∷ xs) (y ∷ ys) all fitted =
+  pub all_relays : (most : ℕ) (nodes : List Node) (more : List D) (rest : List L) (xs ys : List (Post D L)) (all : AllRan xs ys) (clear : AreClear most xs) → AllByRecursion (IsFitted nodes) xs
+      → AreRelays most nodes (relays_of most xs ys all clear) (map seen (map source_in xs ++ more)) (map seen (map source_in ys ++ more)) (map wire_seen (flat_map wires_in xs ++ rest)) (map wire_seen (flat_map wires_in ys ++ rest))
+  all_relays most nodes more rest [] [] all clear fitted = (refl, refl)
+  all_relays most nodes more rest [] (y ∷ ys) all clear fitted = absurd all
+  all_relays most nodes more rest (x ∷ xs) [] all clear fitted = absurd all
+  all_relays most nodes more rest (x ∷ xs) (y ∷ ys) all clear fitted =
       let run : ℕ = length nodes in
       let old = append_assoc x.wires.items (flat_map wires_in xs) rest in
       let now = append_assoc y.wires.items (flat_map wires_in ys) rest in
       let old_len : length x.wires.items ≡ run = fitted.0.1 in
       let now_len : length y.wires.items ≡ run = sym y.wires.ok.0 ∙ all.0.wires ∙ x.wires.ok.0 ∙ old_len in
-      let relay : Relay = all.0.proxies.relay in
-      let first : IsRelay nodes relay (seen x.packets) (seen y.packets) (take run (map wire_seen (flat_map wires_in (x ∷ xs) ++ rest))) (take run (map wire_seen (flat_map wires_in (y ∷ ys) ++ rest))) =
-      subst (λ ws. IsRelay nodes relay (seen x.packets) (seen y.packets) ws (take run (map wire_seen (flat_map wires_in (y ∷ ys) ++ rest))))
+      let relay : Relay = (all.0.proxies most clear.0).relay in
+      let first : IsRelay most nodes relay (seen x.packets) (seen y.packets) (take run (map wire_seen (flat_map wires_in (x ∷ xs) ++ rest))) (take run (map wire_seen (flat_map wires_in (y ∷ ys) ++ rest))) =
+      subst (λ ws. IsRelay most nodes relay (seen x.packets) (seen y.packets) ws (take run (map wire_seen (flat_map wires_in (y ∷ ys) ++ rest))))
       (sym (ap (λ ws. take run (map wire_seen ws)) old ∙ take_run wire_seen run x.wires.items (flat_map wires_in xs ++ rest) old_len))
-      (subst (λ ws. IsRelay nodes relay (seen x.packets) (seen y.packets) (map wire_seen x.wires.items) ws)
+      (subst (λ ws. IsRelay most nodes relay (seen x.packets) (seen y.packets) (map wire_seen x.wires.items) ws)
       (sym (ap (λ ws. take run (map wire_seen ws)) now ∙ take_run wire_seen run y.wires.items (flat_map wires_in ys ++ rest) now_len))
-      (one_relay nodes x y all.0 fitted.0.0)) in
-      let others = all_relays nodes more rest xs ys all.1 fitted.1 in
-      let behind = subst (λ ws. AreRelays nodes (relays_of xs ys all.1) (map seen (map source_in xs ++ more)) (map seen (map source_in ys ++ more)) ws (drop run (map wire_seen (flat_map wires_in (y ∷ ys) ++ rest))))
+      (one_relay most nodes x y all.0 clear.0 fitted.0.0)) in
+      let others = all_relays most nodes more rest xs ys all.1 clear.1 fitted.1 in
+      let behind = subst (λ ws. AreRelays most nodes (relays_of most xs ys all.1 clear.1) (map seen (map source_in xs ++ more)) (map seen (map source_in ys ++ more)) ws (drop run (map wire_seen (flat_map wires_in (y ∷ ys) ++ rest))))
       (sym (ap (λ ws. drop run (map wire_seen ws)) old ∙ drop_run wire_seen run x.wires.items (flat_map wires_in xs ++ rest) old_len))
-      (subst (λ ws. AreRelays nodes (relays_of xs ys all.1) (map seen (map source_in xs ++ more)) (map seen (map source_in ys ++ more)) (map wire_seen (flat_map wires_in xs ++ rest)) ws)
+      (subst (λ ws. AreRelays most nodes (relays_of most xs ys all.1 clear.1) (map seen (map source_in xs ++ more)) (map seen (map source_in ys ++ more)) (map wire_seen (flat_map wires_in xs ++ rest)) ws)
       (sym (ap (λ ws. drop run (map wire_seen ws)) now ∙ drop_run wire_seen run y.wires.items (flat_map wires_in ys ++ rest) now_len))
       others) in
       (first, behind)

@@ -1,8 +1,9 @@
 -- What stands in posts.
-use Rattle.std.specs.Prelude.{◌≡◌, ◌≤◌, List, [], length, vec_capacity}
+use Rattle.std.specs.Prelude.{◌≡◌, ◌≤◌, ℕ, List, [], length, vec_capacity}
 use Rattle.sd_model_outside.specs.Turns.{most_datagram}
 use Rattle.sd_model_settings.specs.Entries.{Node}
 use Rattle.sd_live.specs.declared.pass.UpPass.{UpPass}
+use Rattle.sd_proxy.specs.Forwarding.{NoneWaits}
 use Rattle.sd_relay.specs.declared.parts.PostRoom.{PostRoom}
 use Rattle.sd_relay.specs.declared.post.Post.{Post}
 
@@ -19,10 +20,20 @@ module _ {D L : Type 0} where
   abbrev pub pass_in : Post D L → UpPass
   pass_in post = post.pass
 
-  -- its ring is one of these nodes, each of them has a wire, and there is room for a datagram
+  -- its ring is one of these nodes, each of them has a wire and room for lines that wait, and there is room for a datagram
   abbrev pub IsFitted : List Node → Post D L → Type 0
-  IsFitted nodes post = (post.ring ≡ nodes) × (length post.wires.items ≡ length nodes) × (most_datagram ≤ length post.buf.items)
+  IsFitted nodes post =
+      (post.ring ≡ nodes) × (length post.wires.items ≡ length nodes) × (most_datagram ≤ length post.buf.items) × (length post.waiting.items ≡ length nodes)
 
--- there is a ring of these nodes, and room for a wire to each, of which none is there, and for a datagram
+  -- no line waits in it, in room for packets of at most so many bytes
+  abbrev pub NoLineWaits : (most : ℕ) → Post D L → Type 0
+  NoLineWaits most post = NoneWaits most post.waiting.items
+
+-- there is a ring of these nodes, room for a wire to each, of which none is there, for lines that wait for each, and for a datagram
 abbrev pub HasPlace : {L : Type 0} → List Node → PostRoom L → Type 0
-HasPlace nodes room = (room.ring ≡ nodes) × (room.wires.items ≡ []) × (length nodes ≤ vec_capacity room.wires) × (most_datagram ≤ length room.buf.items)
+HasPlace nodes room =
+    (room.ring ≡ nodes) × (room.wires.items ≡ []) × (length nodes ≤ vec_capacity room.wires) × (most_datagram ≤ length room.buf.items) × (length room.waiting.items ≡ length nodes)
+
+-- no line waits there, in room for packets of at most so many bytes
+abbrev pub IsClear : {L : Type 0} → (most : ℕ) → PostRoom L → Type 0
+IsClear most room = NoneWaits most room.waiting.items

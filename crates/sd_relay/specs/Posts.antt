@@ -1,21 +1,24 @@
 -- What a receiver's post has to have, and what running it leaves.
-use Rattle.std.specs.Prelude.{◌≡◌, ◌≤◌, length, map, vec_len, Some}
+use Rattle.std.specs.Prelude.{◌≡◌, ◌≤◌, ℕ, length, map, vec_len, Some}
 use Rattle.sd_model_outside.specs.Outside.{Object}
 use Rattle.sd_model_outside.specs.Turns.{most_datagram}
 use Rattle.sd_live.specs.declared.up_cell.UpCell.{UpCell}
 use Rattle.sd_live.specs.Live.{IsPassOf, looks_of, publishes, seen as history_in}
+use Rattle.sd_proxy.specs.Forwarding.{NoneWaits}
 use Rattle.sd_proxy.specs.Proxying.{ProxiesByLooks}
 use Rattle.sd_proxy.specs.declared.proxied.Proxied.{Proxied}
 use Rattle.sd_relay.specs.declared.post.Post.{Post}
 
 module _ {D L : Type 0} where
-  -- The post's pass is the cell's, each node of its ring has a wire, and there is room for a datagram.
+  -- The post's pass is the cell's, each node of its ring has a wire and room for lines that wait, and there is room for a datagram.
   pub record IsReady (cell : UpCell) (post : Post D L) : Type 0 where
     pub pass : IsPassOf cell post.pass
     pub wires : vec_len post.wires ≡ length post.ring
+    pub waiting : vec_len post.waiting ≡ length post.ring
     pub room : most_datagram ≤ vec_len post.buf
 
-  -- The post was run, and has what that did. Its pass is still the cell's, and its ring and its room are as they were.
+  -- The post was run, and has what that did, with packets of as many bytes as it has room for. Its pass is still the cell's, and its
+  -- ring and its room are as they were.
   pub record HasRun (seen : D → Object) (wire_seen : L → Object) (cell : UpCell) (old new : Post D L) : Type 0 where
     pub got : Proxied
     pub got_is : new.got ≡ Some got
@@ -24,4 +27,4 @@ module _ {D L : Type 0} where
     pub publishes_same : publishes new.pass ≡ publishes old.pass
     pub wires : vec_len new.wires ≡ vec_len old.wires
     pub room : vec_len new.buf ≡ vec_len old.buf
-    pub proxies : ProxiesByLooks old.ring (history_in old.pass) (history_in new.pass) (looks_of old.pass) (looks_of new.pass) (seen old.packets) (seen new.packets) (map wire_seen old.wires.items) (map wire_seen new.wires.items) got
+    pub proxies : (most : ℕ) → NoneWaits most old.waiting.items → ProxiesByLooks most old.ring (history_in old.pass) (history_in new.pass) (looks_of old.pass) (looks_of new.pass) (seen old.packets) (seen new.packets) (map wire_seen old.wires.items) (map wire_seen new.wires.items) got

@@ -31,10 +31,10 @@ module _ {D L : Type 0} where
 
 -- A proxy was run, its theorem holds of what was done, and it left how its receivers and its checker ended, what these counted, the
 -- receivers added up, and how many checks were made.
-pub record HasRelayed (nodes : List Node) (receivers : ℕ) (sources sources_now wires wires_now : List Object) (beat beat_now probe probe_now : Object) (r : Relayed) : Type 0 where
+pub record HasRelayed (most : ℕ) (nodes : List Node) (receivers : ℕ) (sources sources_now wires wires_now : List Object) (beat beat_now probe probe_now : Object) (r : Relayed) : Type 0 where
   pub relays : List Relay
   pub checks : List Check
-  pub theorem : ProxyTheorem nodes relays checks (checking.end_view r.checked.ended) sources sources_now wires wires_now beat beat_now probe probe_now
+  pub theorem : ProxyTheorem most nodes relays checks (checking.end_view r.checked.ended) sources sources_now wires wires_now beat beat_now probe probe_now
   pub count : length relays ≡ receivers
   pub received : map end_view r.received.items ≡ map (λ x. x.ended) relays
   pub sums : sums_view r.sums ≡ relays_totals nodes relays

@@ -5,7 +5,7 @@ use Rattle.sd_model_live.specs.Proxy.{first_history}
 use Rattle.sd_live.specs.Live.{IsCheckerOf, IsPassOf, nodes_of, seen}
 use Rattle.sd_live.specs.declared.pass.UpPass.{UpPass}
 use Rattle.sd_live.specs.declared.up_cell.UpCell.{UpCell}
-use Rattle.sd_relay.specs.Parts.{HasPlace}
+use Rattle.sd_relay.specs.Parts.{HasPlace, IsClear}
 use Rattle.sd_relay.specs.declared.room.RelayRoom.{RelayRoom}
 
 -- a receiver's pass of a cell of these nodes, which has seen nothing published
@@ -27,3 +27,7 @@ pub record IsRoomFor {D L : Type 0} (nodes : List Node) (receivers : ℕ) (room 
   pub post_room : receivers ≤ vec_capacity room.posts
   pub no_end : room.ends.items ≡ []
   pub end_room : receivers ≤ vec_capacity room.ends
+
+-- no line waits in the room of a receiver, each of which has room for packets of at most so many bytes
+abbrev pub IsClearRoom : {D L : Type 0} → (most : ℕ) → RelayRoom D L → Type 0
+IsClearRoom most room = All (IsClear most) room.rooms.items

@@ -1,4 +1,5 @@
 use crate::live::Live;
+use log::Log;
 use sd_outside::{Beat, Gate, Probe};
 use sd_plan::Node;
 use sd_proxy::{Checked, UpPass, check};
@@ -22,7 +23,7 @@ impl<'a, P: Beat, Q: Probe, G: Gate> Worker<Live<'a, G>> for Checking<'_, '_, '_
 
     ghost has_run = { λ live old new. HasChecked P.seen Q.seen live.cell.now old new };
 
-    fn run<R: Wait>(&mut self, rt: &R, live: &Live<'a, G>) {
+    fn run<R: Wait + Log>(&mut self, rt: &R, live: &Live<'a, G>) {
         self.got = check(
             rt, live.cell, self.pass, self.nodes, self.beat, self.probe, live.gate,
         );

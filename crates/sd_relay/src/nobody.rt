@@ -1,3 +1,4 @@
+use log::Log;
 use sd_workers::Worker;
 use std::sync::Wait;
 
@@ -12,5 +13,5 @@ impl<C> Worker<C> for Nobody {
 
     ghost has_run = { λ shared old new. ⊤ };
 
-    fn run<R: Wait>(&mut self, _rt: &R, _shared: &C) {}
+    fn run<R: Wait + Log>(&mut self, _rt: &R, _shared: &C) {}
 }

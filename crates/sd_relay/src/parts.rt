@@ -1,25 +1,27 @@
 //! The parts of receivers are moved into posts, and back to where they stood.
-ghost use Rattle.std.specs.Prelude.{◌≡◌, ◌+◌, ◌*◌, ◌<◌, ◌≤◌, [], ◌∷◌, ◌++◌, All, IfOk, flat_map, length, map, vec_capacity, vec_len};
+ghost use Rattle.std.specs.Prelude.{◌≡◌, ◌+◌, ◌*◌, ◌<◌, ◌≤◌, [], ◌∷◌, ◌++◌, ℕ, All, IfOk, flat_map, length, map, vec_capacity, vec_len};
 ghost use Rattle.sd_plan.specs.Entries.{node_view};
-ghost use Rattle.sd_relay.specs.Parts.{HasPlace, IsFitted, pass_in, source_in, wires_in};
+ghost use Rattle.sd_relay.specs.Parts.{HasPlace, IsClear, IsFitted, NoLineWaits, pass_in, source_in, wires_in};
 
 use crate::post::Post;
 use sd_outside::{Datagrams, Wire};
 use sd_plan::Node;
-use sd_proxy::UpPass;
+use sd_proxy::{UpPass, Waiting};
 use sd_ring::Ring;
 use sd_workers::{datagram_room, put_first, put_run, take_first, take_run};
 use std::alloc::{AllocError, Global};
 
-/// The room of a receiver: its ring, and room for its wires and for a datagram.
+/// The room of a receiver: its ring, and room for its wires, for the lines that wait for each node, and for a datagram.
 #[derive(Drop)]
 pub(crate) struct PostRoom<L> {
     pub ring: Ring,
     pub wires: Vec<L>,
+    pub waiting: Vec<Waiting>,
     pub buf: Vec<u8>,
 }
 
-/// Room for so many receivers, each with a ring of these nodes, which remembers so many keys, and a wire for each.
+/// Room for so many receivers, each with a ring of these nodes, which remembers so many keys, a wire for each, and room for a packet
+/// of so many bytes to each.
 ///
 /// # Errors
 ///
@@ -29,17 +31,20 @@ pub(crate) fn open_rooms<L: Drop>(
     nodes: &[Node],
     count: usize,
     cache: u32,
+    batch: u32,
 ) -> Result<Vec<PostRoom<L>>, AllocError>
     requires nodes { length nodes.now ≤ 64 }
     requires cache { 0 < cache }
     ensures count { IfOk result (λ rooms. length rooms.items ≡ count) }
     ensures each { IfOk result (λ rooms. All (HasPlace (map node_view nodes.now)) rooms.items) }
+    ensures clear { IfOk result (λ rooms. All (IsClear batch) rooms.items) }
 {
     let mut rooms = Vec::with_capacity(alloc, count)?;
     for _ in 0..count {
         rooms.push_reserved(PostRoom {
             ring: Ring::open(alloc, nodes, cache)?,
             wires: Vec::with_capacity(alloc, nodes.len())?,
+            waiting: Waiting::for_nodes(alloc, nodes.len(), batch)?,
             buf: datagram_room(alloc)?,
         });
     }
@@ -64,6 +69,7 @@ pub(crate) fn gather<D: Datagrams + Drop, L: Wire + Drop>(
     requires passes { length rooms.items ≤ length passes.old.items }
     ensures len { length posts.new.items ≡ length rooms.items }
     ensures fitted { All (IsFitted (map node_view nodes.now)) posts.new.items }
+    ensures clear { (most : ℕ) → All (IsClear most) rooms.items → All (NoLineWaits most) posts.new.items }
     ensures packets { packets.old.items ≡ map source_in posts.new.items ++ packets.new.items }
     ensures wires { wires.old.items ≡ flat_map wires_in posts.new.items ++ wires.new.items }
     ensures passes { passes.old.items ≡ map pass_in posts.new.items ++ passes.new.items }
@@ -75,6 +81,7 @@ pub(crate) fn gather<D: Datagrams + Drop, L: Wire + Drop>(
         posts.push_reserved(Post {
             ring: room.ring,
             buf: room.buf,
+            waiting: room.waiting,
             got: None,
             pass: take_first(passes),
             packets: take_first(packets),

@@ -1,6 +1,7 @@
 use crate::live::Live;
+use log::Log;
 use sd_outside::{Datagrams, Ended, Wire};
-use sd_proxy::{Proxied, UpCell, UpPass, proxy_part};
+use sd_proxy::{Proxied, UpCell, UpPass, Waiting, proxy_part};
 use sd_ring::Ring;
 use sd_workers::{Reports, Worker};
 use std::sync::Wait;
@@ -12,6 +13,7 @@ pub struct Post<D, L> {
     pub pass: UpPass,
     pub packets: D,
     pub wires: Vec<L>,
+    pub waiting: Vec<Waiting>,
     pub buf: Vec<u8>,
     pub got: Option<Proxied>,
 }
@@ -32,6 +34,7 @@ impl<D: Datagrams, L: Wire> Post<D, L> {
             &mut self.pass,
             &mut self.packets,
             self.wires.as_mut_slice(),
+            self.waiting.as_mut_slice(),
             &mut self.buf,
         );
         self.got = Some(got);
@@ -45,7 +48,7 @@ impl<'a, D: Datagrams, L: Wire, G> Worker<Live<'a, G>> for Post<D, L> {
 
     ghost has_run = { λ live old new. HasRun D.seen L.seen live.cell.now old new };
 
-    fn run<R: Wait>(&mut self, rt: &R, live: &Live<'a, G>) {
+    fn run<R: Wait + Log>(&mut self, rt: &R, live: &Live<'a, G>) {
         self.run(rt, live.cell);
     }
 }

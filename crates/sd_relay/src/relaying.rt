@@ -5,7 +5,7 @@ ghost use Rattle.sd_plan.specs.Entries.{node_view};
 ghost use Rattle.sd_live.specs.Live.{IsCheckerOf, IsPassOf, seen};
 ghost use Rattle.sd_relay.specs.Parts.{pass_in, source_in, wires_in};
 ghost use Rattle.sd_relay.specs.Relaying.{HasRelayed, receivers_in};
-ghost use Rattle.sd_relay.specs.Room.{IsRoomFor};
+ghost use Rattle.sd_relay.specs.Room.{IsClearRoom, IsRoomFor};
 
 use crate::live::Live;
 use crate::parts::{gather, give_back};
@@ -13,6 +13,7 @@ use crate::post::Post;
 use crate::room::RelayRoom;
 use crate::sums::{ProxySums, add_up};
 use crate::workers::run_relays;
+use log::Log;
 use sd_outside::{Beat, Datagrams, Ended, Gate, Probe, Wire};
 use sd_plan::Node;
 use sd_proxy::{Checked, UpCell, UpPass, UpPasses};
@@ -60,7 +61,7 @@ pub fn relay<
     P: Beat + Send,
     Q: Probe + Send,
     G: Gate + Sync,
-    R: Threads + Wait + Sync,
+    R: Threads + Wait + Log + Sync,
 >(
     rt: &R,
     room: RelayRoom<D, L>,
@@ -74,7 +75,7 @@ pub fn relay<
     requires room { IsRoomFor (map node_view nodes.now) (receivers_in room) room }
     requires packets { receivers_in room ≤ length packets.old.items }
     requires wires { receivers_in room * length nodes.now ≤ length wires.old.items }
-    ensures { HasRelayed (map node_view nodes.now) (receivers_in room) (map D.seen packets.old.items) (map D.seen packets.new.items) (map L.seen wires.old.items) (map L.seen wires.new.items)
+    ensures { (most : ℕ) → IsClearRoom most room → HasRelayed most (map node_view nodes.now) (receivers_in room) (map D.seen packets.old.items) (map D.seen packets.new.items) (map L.seen wires.old.items) (map L.seen wires.new.items)
         (P.seen beat.old) (P.seen beat.new) (Q.seen probe.old) (Q.seen probe.new) result }
 {
     let RelayRoom {

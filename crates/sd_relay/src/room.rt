@@ -19,9 +19,10 @@ pub struct RelayRoom<D, L> {
 }
 
 impl<D: Drop, L: Drop> RelayRoom<D, L> {
-    ghost use Rattle.sd_relay.specs.Room.{IsRoomFor};
+    ghost use Rattle.sd_relay.specs.Room.{IsClearRoom, IsRoomFor};
 
-    /// Takes the room of a proxy of these nodes with so many receivers, each with a ring that remembers so many keys.
+    /// Takes the room of a proxy of these nodes with so many receivers, each with a ring that remembers so many keys, and with room
+    /// for a packet of so many bytes to each node.
     ///
     /// # Errors
     ///
@@ -31,18 +32,20 @@ impl<D: Drop, L: Drop> RelayRoom<D, L> {
         nodes: &[Node],
         receivers: u16,
         cache: u32,
+        batch: u32,
     ) -> Result<RelayRoom<D, L>, AllocError>
         requires nodes { (0 < length nodes.now) × (length nodes.now ≤ 64) }
         requires receivers { 0 < receivers }
         requires cache { 0 < cache }
-        ensures { IfOk result (IsRoomFor (map node_view nodes.now) receivers) }
+        ensures room { IfOk result (IsRoomFor (map node_view nodes.now) receivers) }
+        ensures clear { IfOk result (IsClearRoom batch) }
     {
         let count = usize::from(receivers);
         let (cell, passes) = UpCell::open(alloc, nodes.len() as u8, receivers)?;
         Ok(RelayRoom {
             cell,
             passes,
-            rooms: open_rooms(alloc, nodes, count, cache)?,
+            rooms: open_rooms(alloc, nodes, count, cache, batch)?,
             posts: Vec::with_capacity(alloc, count)?,
             ends: Vec::with_capacity(alloc, count)?,
         })

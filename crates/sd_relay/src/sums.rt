@@ -1,6 +1,6 @@
 //! The totals of all receivers.
 ghost use Rattle.std.specs.Prelude.{◌≡◌, ◌≤◌, ◌<◌, ◌^◌, All, length, map};
-ghost use Rattle.sd_model_proxy.specs.Routes.{sums_of_totals};
+ghost use Rattle.sd_model_proxy.specs.Batches.{sums_of_totals};
 ghost use Rattle.sd_relay.specs.Sums.{AddsTotals, GrowsLittle, HasRoom, WasRun, sums_view, totals_in};
 ghost use Rattle.sd_proxy.specs.Views.{totals_view};
 

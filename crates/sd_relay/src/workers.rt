@@ -8,6 +8,7 @@ use crate::checking::Checking;
 use crate::live::Live;
 use crate::nobody::Nobody;
 use crate::post::Post;
+use log::Log;
 use sd_outside::{Beat, Datagrams, Gate, Probe, Wire};
 use sd_plan::Node;
 use sd_proxy::{CheckEnd, Checked, UpPass};
@@ -23,7 +24,7 @@ pub fn run_relays<
     P: Beat + Send,
     Q: Probe + Send,
     G: Gate + Sync,
-    R: Threads + Wait + Sync,
+    R: Threads + Wait + Log + Sync,
 >(
     rt: &R,
     live: &Live<'_, G>,

@@ -2,6 +2,7 @@
 use Rattle.std.specs.Prelude.{◌≡◌, ℕ, ◌<◌, Bool, true, false, List, map, vec_len, Option, Some, None, option_to_list, ⊤}
 use Rattle.sd_model_outside.specs.Outside.{Object}
 use Rattle.sd_outside.specs.declared.door.DoorEnd.{DoorEnd}
+use Rattle.sd_filing.specs.Filing.{IsOpenFor}
 use Rattle.sd_pool.specs.declared.pool.Pool.{Pool}
 use Rattle.sd_pool.specs.declared.seat.Seat.{Seat}
 use Rattle.sd_pool.specs.Pool.{IsSeatOf, own_at, shards_of, who_is}
@@ -17,12 +18,16 @@ abbrev pub line_keepers : Bool → ℕ
 line_keepers false = 0
 line_keepers true = 1
 
--- Where lines of streams are read, there is room for a keeper of lines, which can read a byte at least; where they aren't, there is none.
-abbrev pub HasLineRoom : Bool → Option LineRoom → Type 0
-HasLineRoom false None = ⊤
-HasLineRoom false (Some room) = ⊥
-HasLineRoom true None = ⊥
-HasLineRoom true (Some room) = 0 < vec_len room.buf
+-- a keeper of lines can read a byte at least, and has a batch of so many shards, in which none waits
+abbrev pub IsLineRoom : ℕ → LineRoom → Type 0
+IsLineRoom shards room = (0 < vec_len room.buf) × IsOpenFor shards room.batch
+
+-- Where lines of streams are read, there is the room of a keeper of lines; where they aren't, there is none.
+abbrev pub HasLineRoom : Bool → ℕ → Option LineRoom → Type 0
+HasLineRoom false shards None = ⊤
+HasLineRoom false shards (Some room) = ⊥
+HasLineRoom true shards None = ⊥
+HasLineRoom true shards (Some room) = IsLineRoom shards room
 
 -- the room, if there is any
 abbrev pub lines_in : Option LineRoom → List LineRoom
@@ -44,7 +49,7 @@ line_owns post = map (λ p. p.own) (option_to_list post)
 pub record IsLineReady (pool : Pool) (desk : SharedDesk) (post : LinePost) : Type 0 where
   pub seat_is : IsSeatOf pool post.seat
   pub own_is : IsDeskSeatOf desk post.own
-  pub room : 0 < vec_len post.room.buf
+  pub room : IsLineRoom (shards_of pool) post.room
 
 -- The post was run over a door, which ended so. Its seats are still those of the same callers.
 pub record WasLined (says : ℕ → Type 0) (pool : Pool) (desk : SharedDesk) (run_flushes : ℕ) (old new : LinePost) (ended : DoorEnd) (door door_now : Object) : Type 0 where

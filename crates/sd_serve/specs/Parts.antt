@@ -1,6 +1,7 @@
 -- What stands in posts.
 use Rattle.std.specs.Prelude.{◌≡◌, ℕ, ◌≤◌, List, [], length, vec_capacity}
 use Rattle.sd_model_outside.specs.Turns.{most_datagram}
+use Rattle.sd_filing.specs.Filing.{IsOpenFor}
 use Rattle.sd_pool.specs.declared.seat.Seat.{Seat}
 use Rattle.sd_receive.specs.declared.post.Post.{Post}
 use Rattle.sd_shared_desk.specs.Shared.{OwnSeat as DeskSeat}
@@ -27,6 +28,14 @@ module _ {D L : Type 0} where
   abbrev pub IsFitted : ℕ → Post D L → Type 0
   IsFitted run post = (length post.wires.items ≡ run) × (most_datagram ≤ length post.buf.items)
 
+-- it has a batch of so many shards, in which none waits
+abbrev pub IsBatched : {D L : Type 0} → ℕ → Post D L → Type 0
+IsBatched shards post = IsOpenFor shards post.batch
+
 -- there is room for so many wires, of which none is there, and for a datagram
 abbrev pub HasPlace : {L : Type 0} → ℕ → PostRoom L → Type 0
 HasPlace run room = (room.wires.items ≡ []) × (run ≤ vec_capacity room.wires) × (most_datagram ≤ length room.buf.items)
+
+-- there is a batch of so many shards, in which none waits
+abbrev pub HasBatch : {L : Type 0} → ℕ → PostRoom L → Type 0
+HasBatch shards room = IsOpenFor shards room.batch

@@ -14,7 +14,7 @@ use Rattle.sd_flush.specs.Tables.{AreTablesFor}
 use Rattle.sd_session.specs.Space.{IsSpaceFor}
 use Rattle.sd_serve.specs.LinePost.{HasLineRoom, line_keepers}
 use Rattle.sd_serve.specs.OutRoom.{HasOutRooms}
-use Rattle.sd_serve.specs.Parts.{HasPlace}
+use Rattle.sd_serve.specs.Parts.{HasBatch, HasPlace}
 use Rattle.sd_serve.specs.declared.room.ServerRoom.{ServerRoom}
 use Rattle.sd_serve.specs.declared.room.Sizes.{Sizes}
 
@@ -87,7 +87,8 @@ pub record IsRoom {D L : Type 0} (room : ServerRoom D L) : Type 0 where
   pub space : IsSpaceFor (sizing_in room).limits (sizing_in room).shards room.space
   pub places : length room.rooms.items ≡ (sizing_in room).receivers
   pub place_each : All (HasPlace (sizing_in room).wires) room.rooms.items
-  pub lines : HasLineRoom (sizing_in room).streams room.lines
+  pub batches : All (HasBatch (sizing_in room).shards) room.rooms.items
+  pub lines : HasLineRoom (sizing_in room).streams (sizing_in room).shards room.lines
   pub outs : HasOutRooms (with_outlets (sizing_in room)) (sizing_in room).outlets (sizing_in room).outlet_bytes room.outs
   pub no_post : room.posts.items ≡ []
   pub post_room : (sizing_in room).receivers ≤ vec_capacity room.posts

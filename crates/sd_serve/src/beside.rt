@@ -1,6 +1,7 @@
 ghost use Rattle.std.specs.Prelude.{◌≡◌, ℕ, ◌<◌, All, length, slice_index_or};
 ghost use denote.Param.Send.{IsSync, IsSend};
 
+use log::Log;
 use sd_workers::{Worker, run_pair, run_workers};
 use std::sync::Wait;
 use std::thread::{Threads, join_mut};
@@ -12,7 +13,7 @@ pub(crate) fn run_with_third<
     G: Worker<C> + Send,
     H: Worker<C> + Send,
     W: Worker<C> + Send,
-    R: Threads + Wait + Sync,
+    R: Threads + Wait + Log + Sync,
 >(rt: &R, shared: &C, first: &mut F, second: &mut G, third: &mut H, others: &mut [W])
     requires first { F.can_run shared.now first.old }
     requires second { G.can_run shared.now second.old }
@@ -49,7 +50,7 @@ pub(crate) fn run_with_pair<
     K: Worker<C> + Send,
     M: Worker<C> + Send,
     W: Worker<C> + Send,
-    R: Threads + Wait + Sync,
+    R: Threads + Wait + Log + Sync,
 >(
     rt: &R,
     shared: &C,

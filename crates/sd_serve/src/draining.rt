@@ -1,3 +1,4 @@
+use log::Log;
 use sd_outlet::{Drain, Outlet, Worked};
 use sd_outside::{Backend, Clock, Gate};
 use sd_receive::Shared;
@@ -20,7 +21,7 @@ impl<'a, B: Backend, G: Gate, C: Clock> Worker<Shared<'a, G, C>> for Draining<'_
 
     ghost has_run = { λ shared old new. HasDrained B.seen old new };
 
-    fn run<R: Wait>(&mut self, rt: &R, shared: &Shared<'a, G, C>) {
+    fn run<R: Wait + Log>(&mut self, rt: &R, shared: &Shared<'a, G, C>) {
         self.worked = self.outlet.work(rt, self.drain, self.back, shared.gate);
     }
 }

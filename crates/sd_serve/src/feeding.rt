@@ -1,3 +1,4 @@
+use log::Log;
 use sd_flush::{FlushedOut, Outs, Tables, flush_all_out};
 use sd_outside::{Beat, Clock, Gate};
 use sd_plan::{Names, Reckoning};
@@ -28,7 +29,7 @@ impl<'a, E: Beat, G: Gate, C: Clock> Worker<Shared<'a, G, C>>
 
     ghost has_run = { λ shared old new. HasFed E.seen shared.pool.now shared.desk.now shared.run_flushes old new };
 
-    fn run<R: Wait>(&mut self, rt: &R, shared: &Shared<'a, G, C>) {
+    fn run<R: Wait + Log>(&mut self, rt: &R, shared: &Shared<'a, G, C>) {
         self.fed = flush_all_out(
             rt,
             shared.pool,

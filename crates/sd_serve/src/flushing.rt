@@ -1,3 +1,4 @@
+use log::Log;
 use sd_flush::{Flushed, Tables, flush_all};
 use sd_outside::{Backend, Backs, Beat, Clock, Gate};
 use sd_plan::{Names, Reckoning};
@@ -28,7 +29,7 @@ impl<'a, B: Backend, E: Beat, G: Gate, C: Clock> Worker<Shared<'a, G, C>>
 
     ghost has_run = { λ shared old new. HasFlushed B.seen E.seen shared.pool.now shared.desk.now shared.run_flushes old new };
 
-    fn run<R: Wait>(&mut self, rt: &R, shared: &Shared<'a, G, C>) {
+    fn run<R: Wait + Log>(&mut self, rt: &R, shared: &Shared<'a, G, C>) {
         self.flushed = flush_all(
             rt,
             shared.pool,

@@ -1,3 +1,4 @@
+use log::Log;
 use sd_config::Settings;
 use sd_outside::{Clock, Door, DoorEnd, Gate};
 use sd_pool::Seat;
@@ -25,7 +26,7 @@ impl<'a, E: Door, G: Gate, C: Clock> Worker<Shared<'a, G, C>> for Keeping<'_, '_
 
     ghost has_run = { λ shared old new. HasKept E.seen (C.may_say shared.clock.now) shared.pool.now shared.desk.now shared.run_flushes old new };
 
-    fn run<R: Wait>(&mut self, rt: &R, shared: &Shared<'a, G, C>) {
+    fn run<R: Wait + Log>(&mut self, rt: &R, shared: &Shared<'a, G, C>) {
         self.ended = doorkeep(
             rt,
             shared.pool,

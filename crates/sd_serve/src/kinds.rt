@@ -1,3 +1,4 @@
+use log::Log;
 use sd_outside::{Backend, Beat, Clock, Datagrams, Door, Gate, Probe, Sink, Source, Wire};
 use std::marker::PhantomData;
 
@@ -35,11 +36,14 @@ pub trait Kinds {
 
     /// The door of streams.
     type S: Door<Asking: Send, Telling: Send> + Send;
+
+    /// The log.
+    type W: Log + Sync;
 }
 
 /// The kinds that these types are.
-pub struct KindsOf<R, O, B, D, L, E, P, G, T, Q, S> {
-    of: PhantomData<(R, O, B, D, L, E, P, G, T, Q, S)>,
+pub struct KindsOf<R, O, B, D, L, E, P, G, T, Q, S, W> {
+    of: PhantomData<(R, O, B, D, L, E, P, G, T, Q, S, W)>,
 }
 
 impl<
@@ -54,7 +58,8 @@ impl<
     T: Clock + Sync,
     Q: Probe + Send,
     S: Door<Asking: Send, Telling: Send> + Send,
-> Kinds for KindsOf<R, O, B, D, L, E, P, G, T, Q, S> {
+    W: Log + Sync,
+> Kinds for KindsOf<R, O, B, D, L, E, P, G, T, Q, S, W> {
     type R = R;
 
     type O = O;
@@ -76,4 +81,6 @@ impl<
     type Q = Q;
 
     type S = S;
+
+    type W = W;
 }

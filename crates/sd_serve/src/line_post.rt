@@ -2,6 +2,9 @@
 ghost use Rattle.std.specs.Prelude.{◌≡◌, ◌+◌, ◌<◌, ◌≤◌, ◌^◌, ◌++◌, false, IfOk, length, vec_capacity};
 ghost use Rattle.sd_serve.specs.LinePost.{HasLineRoom, line_owns, line_rooms, line_seats, lines_in};
 
+use crate::parts::BATCH;
+use log::Log;
+use sd_batch::Batch;
 use sd_outside::{Clock, Door, DoorEnd, Gate};
 use sd_pool::Seat;
 use sd_receive::{Shared, linekeep};
@@ -11,11 +14,12 @@ use sd_workers::{datagram_room, put_first, take_first};
 use std::alloc::{AllocError, Global};
 use std::sync::Wait;
 
-/// The room of the keeper of lines: for the line that it has begun, and for the bytes of a read.
+/// The room of the keeper of lines: for the line that it has begun, for the bytes of a read, and for samples that wait.
 #[derive(Drop)]
 pub struct LineRoom {
     pub cutter: Cutter,
     pub buf: Vec<u8>,
+    pub batch: Batch,
 }
 
 /// The seats and the room of the keeper of lines.
@@ -30,7 +34,7 @@ impl LinePost {
     ghost use Rattle.sd_serve.specs.LinePost.{IsLineReady, WasLined};
 
     /// Reads the streams of a door with the parts of the post. It takes no memory.
-    pub fn run<E: Door, G: Gate, C: Clock, R: Wait>(
+    pub fn run<E: Door, G: Gate, C: Clock, R: Wait + Log>(
         &mut self,
         rt: &R,
         shared: &Shared<'_, G, C>,
@@ -52,6 +56,7 @@ impl LinePost {
             shared.clock,
             shared.gate,
             &mut self.room.buf,
+            &mut self.room.batch,
             shared.run_flushes,
         );
         lined.ended
@@ -63,8 +68,13 @@ impl LinePost {
 /// # Errors
 ///
 /// Where no memory is left for it.
-pub(crate) fn open_line_room(alloc: Global, streams: bool) -> Result<Option<LineRoom>, AllocError>
-    ensures { IfOk result (HasLineRoom streams) }
+pub(crate) fn open_line_room(
+    alloc: Global,
+    streams: bool,
+    shards: u16,
+) -> Result<Option<LineRoom>, AllocError>
+    requires { 0 < shards }
+    ensures { IfOk result (HasLineRoom streams shards) }
 {
     if !streams {
         return Ok(None);
@@ -72,6 +82,7 @@ pub(crate) fn open_line_room(alloc: Global, streams: bool) -> Result<Option<Line
     Ok(Some(LineRoom {
         cutter: Cutter::open(alloc)?,
         buf: datagram_room(alloc)?,
+        batch: Batch::open(alloc, shards, BATCH)?,
     }))
 }
 

@@ -1,4 +1,5 @@
 use crate::line_post::LinePost;
+use log::Log;
 use sd_outside::{Clock, Door, DoorEnd, Gate};
 use sd_receive::Shared;
 use sd_workers::Worker;
@@ -19,7 +20,7 @@ impl<'a, E: Door, G: Gate, C: Clock> Worker<Shared<'a, G, C>> for Lining<'_, '_,
 
     ghost has_run = { λ shared old new. HasLined E.seen (C.may_say shared.clock.now) shared.pool.now shared.desk.now shared.run_flushes old new };
 
-    fn run<R: Wait>(&mut self, rt: &R, shared: &Shared<'a, G, C>) {
+    fn run<R: Wait + Log>(&mut self, rt: &R, shared: &Shared<'a, G, C>) {
         if let Some(post) = &mut *self.post {
             self.ended = Some(post.run(rt, shared, self.door));
         }

@@ -1,7 +1,8 @@
 //! The parts of receivers are moved into posts, and back to where they stood.
-ghost use Rattle.std.specs.Prelude.{◌≡◌, ◌+◌, ◌*◌, ◌<◌, ◌≤◌, [], ◌∷◌, ◌++◌, All, IfOk, flat_map, length, map, vec_capacity, vec_len};
-ghost use Rattle.sd_serve.specs.Parts.{HasPlace, IsFitted, own_in, seat_in, source_in, wires_in};
+ghost use Rattle.std.specs.Prelude.{◌≡◌, ℕ, ◌+◌, ◌*◌, ◌<◌, ◌≤◌, [], ◌∷◌, ◌++◌, All, IfOk, flat_map, length, map, vec_capacity, vec_len};
+ghost use Rattle.sd_serve.specs.Parts.{HasBatch, HasPlace, IsBatched, IsFitted, own_in, seat_in, source_in, wires_in};
 
+use sd_batch::Batch;
 use sd_outside::{Datagrams, Wire};
 use sd_pool::Seat;
 use sd_receive::Post;
@@ -9,14 +10,18 @@ use sd_shared_desk::DeskSeat;
 use sd_workers::{datagram_room, put_first, put_run, take_first, take_run};
 use std::alloc::{AllocError, Global};
 
-/// The room of a receiver: for its wires, and for a datagram.
+// How many samples of a datagram wait at once to be submitted.
+pub(crate) const BATCH: u16 = 64;
+
+/// The room of a receiver: for its wires, for a datagram, and for samples that wait.
 #[derive(Drop)]
 pub(crate) struct PostRoom<L> {
     pub wires: Vec<L>,
     pub buf: Vec<u8>,
+    pub batch: Batch,
 }
 
-/// Room for so many receivers with so many wires each.
+/// Room for so many receivers with so many wires each, and samples of so many shards.
 ///
 /// # Errors
 ///
@@ -25,15 +30,19 @@ pub(crate) fn open_rooms<L: Drop>(
     alloc: Global,
     count: usize,
     run: usize,
+    shards: u16,
 ) -> Result<Vec<PostRoom<L>>, AllocError>
+    requires some { 0 < shards }
     ensures count { IfOk result (λ rooms. length rooms.items ≡ count) }
     ensures each { IfOk result (λ rooms. All (HasPlace run) rooms.items) }
+    ensures batches { IfOk result (λ rooms. All (HasBatch shards) rooms.items) }
 {
     let mut rooms = Vec::with_capacity(alloc, count)?;
     for _ in 0..count {
         rooms.push_reserved(PostRoom {
             wires: Vec::with_capacity(alloc, run)?,
             buf: datagram_room(alloc)?,
+            batch: Batch::open(alloc, shards, BATCH)?,
         });
     }
     Ok(rooms)
@@ -59,6 +68,7 @@ pub(crate) fn gather<D: Datagrams + Drop, L: Wire + Drop>(
     requires owns { length rooms.items ≤ length owns.old.items }
     ensures len { length posts.new.items ≡ length rooms.items }
     ensures fitted { All (IsFitted run) posts.new.items }
+    ensures batches { (shards : ℕ) → All (HasBatch shards) rooms.items → All (IsBatched shards) posts.new.items }
     ensures packets { packets.old.items ≡ map source_in posts.new.items ++ packets.new.items }
     ensures wires { wires.old.items ≡ flat_map wires_in posts.new.items ++ wires.new.items }
     ensures seats { seats.old.items ≡ map seat_in posts.new.items ++ seats.new.items }
@@ -75,6 +85,7 @@ pub(crate) fn gather<D: Datagrams + Drop, L: Wire + Drop>(
             seat: take_first(seats),
             own: take_first(owns),
             buf: room.buf,
+            batch: room.batch,
             got: None,
         });
     }

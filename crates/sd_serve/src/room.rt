@@ -83,7 +83,7 @@ impl Benches {
         ensures { IfOk result (AreBenchesFor (sizing_of sizes)) }
     {
         Ok(Benches {
-            lines: open_line_room(alloc, sizes.streams)?,
+            lines: open_line_room(alloc, sizes.streams, sizes.shards)?,
             outs: open_outlets(alloc, sizes.outlets, sizes.outlet_bytes)?,
             space: AdminSpace::open(alloc, sizes.limits, sizes.shards)?,
             tables: Tables::open(alloc, sizes.limits, sizes.shards)?,
@@ -104,13 +104,14 @@ impl<D: Drop, L: Drop> Postings<D, L> {
     ghost use Rattle.sd_serve.specs.RoomParts.{ArePostingsFor};
 
     fn open(alloc: Global, sizes: Sizes) -> Result<Postings<D, L>, AllocError>
+        requires { 0 < sizes.shards }
         ensures { IfOk result (ArePostingsFor (sizing_of sizes)) }
     {
         let count = usize::from(sizes.receivers);
         Ok(Postings {
             posts: Vec::with_capacity(alloc, count)?,
             ends: Vec::with_capacity(alloc, count)?,
-            rooms: open_rooms(alloc, count, usize::from(sizes.wires))?,
+            rooms: open_rooms(alloc, count, usize::from(sizes.wires), sizes.shards)?,
         })
     }
 }

@@ -16,6 +16,7 @@ use crate::parts::{gather, give_back};
 use crate::room::ServerRoom;
 use crate::workers::{Ends, run_all};
 use crate::workers_out::OutCounts;
+use log::Log;
 use sd_config::Settings;
 use sd_desk::Desk;
 use sd_flush::round;
@@ -91,7 +92,7 @@ fn last_round_at(now: u64, before: Option<u64>) -> u64
 /// only where the room is for that, until all have ended, with outlets before the backends, where the room has them; then makes a
 /// last round, at a moment that the clock tells, or at the second of the round before it where that is later, which writes to the
 /// backends itself, and closes the pool and the desk. Sources and wires then stand where they stood. It takes no memory.
-pub fn serve<K: Kinds, R: Threads + Wait + Sync>(
+pub fn serve<K: Kinds, R: Threads + Wait + Log + Sync>(
     rt: &R,
     room: ServerRoom<K::D, K::L>,
     settings: &Settings,

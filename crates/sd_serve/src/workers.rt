@@ -20,6 +20,7 @@ use crate::line_post::LinePost;
 use crate::lining::Lining;
 use crate::out_room::OutRooms;
 use crate::workers_out::{OutCounts, run_server_out};
+use log::Log;
 use sd_config::Settings;
 use sd_flush::{Flushed, Tables};
 use sd_outside::{Backs, DoorEnd, Ended};
@@ -41,7 +42,7 @@ pub struct Ends {
 
 // Runs the flusher, the keeper of the admin door, the keeper of lines, if there is one, and the receivers side by side, each in a
 // thread of its own where the machine gives one, until all have ended. What is lent to them is left as each says of its own work.
-fn run_server<K: Kinds, R: Threads + Wait + Sync>(
+fn run_server<K: Kinds, R: Threads + Wait + Log + Sync>(
     rt: &R,
     shared: &Shared<'_, K::G, K::T>,
     own: &mut DeskSeat,
@@ -123,7 +124,7 @@ fn run_server<K: Kinds, R: Threads + Wait + Sync>(
 
 /// Runs the workers of a server until all have ended, with outlets between the flusher and the backends, where there are any. What
 /// is lent is left as each says of its own work.
-pub(crate) fn run_all<K: Kinds, R: Threads + Wait + Sync>(
+pub(crate) fn run_all<K: Kinds, R: Threads + Wait + Log + Sync>(
     rt: &R,
     shared: &Shared<'_, K::G, K::T>,
     own: &mut DeskSeat,

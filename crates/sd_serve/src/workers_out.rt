@@ -28,6 +28,7 @@ use crate::kinds::Kinds;
 use crate::lining::Lining;
 use crate::out_room::{OutRoom, OutRooms};
 use crate::workers::Ends;
+use log::Log;
 use sd_config::Settings;
 use sd_flush::{Flushed, FlushedOut, Lead, Outs, Skips, Tables};
 use sd_outlet::{Drain, Feed, Outlet, Worked};
@@ -111,7 +112,7 @@ fn close_outlet<B: Backend, R: Wait>(
 }
 
 // Runs the flusher over outlets, the keepers of both doors, the outlets' workers and the receivers side by side, until all have ended.
-fn run_beside<K: Kinds, R: Threads + Wait + Sync>(
+fn run_beside<K: Kinds, R: Threads + Wait + Log + Sync>(
     rt: &R,
     shared: &Shared<'_, K::G, K::T>,
     own: &mut DeskSeat,
@@ -232,7 +233,7 @@ fn run_beside<K: Kinds, R: Threads + Wait + Sync>(
 /// Runs the flusher over outlets, the keepers of both doors, a worker for each outlet and the receivers side by side, each in a thread
 /// of its own where the machine gives one, until all have ended; the flusher stops the outlets' workers as it ends. Then the outlets
 /// are closed. What is lent is left as each says of its own work.
-pub(crate) fn run_server_out<K: Kinds, R: Threads + Wait + Sync>(
+pub(crate) fn run_server_out<K: Kinds, R: Threads + Wait + Log + Sync>(
     rt: &R,
     shared: &Shared<'_, K::G, K::T>,
     own: &mut DeskSeat,

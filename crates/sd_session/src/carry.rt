@@ -8,7 +8,9 @@ ghost use Rattle.sd_admin.specs.Command.{command_view, health_word_view};
 ghost use Rattle.sd_pool.specs.Pool.{IsSeatOf, limits_of, own_at, shards_of, who_is};
 ghost use Rattle.sd_session.specs.Asking.{CarriesOut, DeletesNames};
 
+use crate::telling::tell_deleted;
 use crate::together::{delete_all, dump_all};
+use log::Log;
 use sd_admin::{Command, HealthWord, Reply, write_reply};
 use sd_config::Settings;
 use sd_desk::DeskFacts;
@@ -20,7 +22,7 @@ use std::sync::Wait;
 
 /// Deletes the rows of a kind that the names of a command match, name by name, and replies with the keys, up to the name whose
 /// reply is cut.
-fn delete<O: Sink, R: Wait>(
+fn delete<O: Sink, R: Wait + Log>(
     rt: &R,
     pool: &Pool,
     seat: &mut Seat,
@@ -39,6 +41,7 @@ fn delete<O: Sink, R: Wait>(
     let mut i = 0;
     while let Some(name) = names.name(i) {
         delete_all(rt, pool, seat, kind, &name, keys);
+        tell_deleted(rt, kind, keys);
         let reply = Reply::Gone {
             pattern: &name,
             keys,
@@ -66,7 +69,7 @@ fn health_after(word: HealthWord, up: bool) -> bool
 ///
 /// `WriteFault` where the output failed. Then a front of the reply was written, and the names of a deletion behind the one whose
 /// reply was cut aren't carried out.
-pub(crate) fn carry_out<O: Sink, R: Wait>(
+pub(crate) fn carry_out<O: Sink, R: Wait + Log>(
     rt: &R,
     pool: &Pool,
     seat: &mut Seat,

@@ -9,6 +9,7 @@ ghost use Rattle.sd_session.specs.Visiting.{CanVisit, WorksOn};
 
 use crate::space::AdminSpace;
 use crate::visiting::AdminVisitor;
+use log::Log;
 use sd_config::Settings;
 use sd_door::keep_door;
 use sd_outside::{Clock, Door, DoorEnd, Gate};
@@ -17,7 +18,7 @@ use sd_shared_desk::{DeskSeat, SharedDesk};
 use std::sync::Wait;
 
 /// Visits the sessions of a door.
-fn visit_all<E: Door, C: Clock, G: Gate, R: Wait>(
+fn visit_all<E: Door, C: Clock, G: Gate, R: Wait + Log>(
     rt: &R,
     desk: &SharedDesk,
     own: &mut DeskSeat,
@@ -42,7 +43,7 @@ fn visit_all<E: Door, C: Clock, G: Gate, R: Wait>(
 /// Serves the admin sessions of a door over a pool, one after another, and gives each back, until the door has none left, so
 /// many flushes have come as are enough, where that isn't 0, or the door took 2^62 turns. A failure of the door and a session
 /// that ends since one of its ends failed are counted at the desk, and the door is asked again.
-pub fn doorkeep<E: Door, C: Clock, G: Gate, R: Wait>(
+pub fn doorkeep<E: Door, C: Clock, G: Gate, R: Wait + Log>(
     rt: &R,
     pool: &Pool,
     desk: &SharedDesk,

@@ -11,6 +11,7 @@ mod keeping;
 mod line;
 mod sessions;
 mod space;
+mod telling;
 mod together;
 mod visiting;
 

@@ -9,6 +9,8 @@ ghost use Rattle.sd_shared_desk.specs.Shared.{IsSeatOf as IsDeskSeatOf, number_o
 ghost use Rattle.sd_session.specs.Lines.{TellsLine};
 
 use crate::carry::carry_out;
+use crate::telling::tell_health;
+use log::Log;
 use sd_admin::{Command, HealthWord};
 use sd_config::Settings;
 use sd_outside::{Clock, Sink};
@@ -50,7 +52,7 @@ fn set_health<R: Wait>(rt: &R, desk: &SharedDesk, own: &mut DeskSeat, line: &[u8
 }
 
 /// Carries out a line of a session, and replies.
-pub(crate) fn tell_line<O: Sink, C: Clock, R: Wait>(
+pub(crate) fn tell_line<O: Sink, C: Clock, R: Wait + Log>(
     rt: &R,
     pool: &Pool,
     desk: &SharedDesk,
@@ -79,6 +81,7 @@ pub(crate) fn tell_line<O: Sink, C: Clock, R: Wait>(
     }
     let facts = desk.facts(rt, own);
     set_health(rt, desk, own, line);
+    tell_health(rt, line);
     let now = clock.now();
     match carry_out(
         rt, pool, seat, keys, dump, settings, &facts, now, line, sink,

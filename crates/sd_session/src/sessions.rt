@@ -11,6 +11,7 @@ ghost use Rattle.sd_session.specs.Space.{IsSpaceFor};
 
 use crate::line::{Told, tell_line};
 use crate::space::AdminSpace;
+use log::Log;
 use sd_admin::{AdminFault, Reply, write_reply};
 use sd_config::Settings;
 use sd_outside::{Clock, Sink, Source};
@@ -81,7 +82,7 @@ fn drop_line(buf: &mut [u8], len: &mut usize, end: usize)
 }
 
 /// One turn of a session: the first line that is left is carried out, or more is read.
-fn take_turn<A: Source, O: Sink, C: Clock, R: Wait>(
+fn take_turn<A: Source, O: Sink, C: Clock, R: Wait + Log>(
     rt: &R,
     pool: &Pool,
     desk: &SharedDesk,
@@ -130,7 +131,7 @@ fn take_turn<A: Source, O: Sink, C: Clock, R: Wait>(
 
 /// Holds a session by its two ends: its lines are read, carried out by all shards and replied to, one after another, until one
 /// asks for the end or is too long, or an end has nothing left or failed.
-pub fn session<A: Source, O: Sink, C: Clock, R: Wait>(
+pub fn session<A: Source, O: Sink, C: Clock, R: Wait + Log>(
     rt: &R,
     pool: &Pool,
     desk: &SharedDesk,

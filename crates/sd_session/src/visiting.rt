@@ -5,6 +5,7 @@ ghost use Rattle.sd_session.specs.Sessions.{end_of};
 
 use crate::sessions::{SessionEnd, session};
 use crate::space::AdminSpace;
+use log::Log;
 use sd_config::Settings;
 use sd_door::Visitor;
 use sd_outside::{Clock, Sink, Source};
@@ -39,7 +40,7 @@ impl<C: Clock> Visitor for AdminVisitor<'_, '_, '_, '_, '_, C> {
 
     ghost has_visited = { HasVisited C.may_say };
 
-    fn visit<A: Source, T: Sink, R: Wait>(
+    fn visit<A: Source, T: Sink, R: Wait + Log>(
         &mut self,
         rt: &R,
         desk: &SharedDesk,

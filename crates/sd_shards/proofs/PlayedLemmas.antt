@@ -11,54 +11,51 @@ use Rattle.sd_model_text.specs.Lines.{Sample, samples_of}
 use Rattle.sd_model_shard.specs.Shard.{State, Stepped, Limits, Policy, Submit, Reply, step}
 use Rattle.sd_model_shard.specs.History.{Act, History, LegalFrom, after_all, answered, part_of}
 use Rattle.sd_model_shard.specs.Whereabouts.{dropped_in, told_by}
-use Rattle.sd_model_shard.proofs.HistoryLemmas.{asked_in, legal_is_answered}
+use Rattle.sd_model_shard.proofs.HistoryLemmas.{LegalFrom-answered, asked_in, legal_is_answered}
 use Rattle.sd_model_shard.proofs.OrderLemmas.{sum_by-flat_map, sum_by-map}
-use Rattle.sd_model_serve.specs.Receiving.{asks, events_of, one_at, told_in}
+use Rattle.sd_model_serve.specs.Receiving.{asks, events_of, told_in}
 use Rattle.sd_model_replay.specs.Script.{Packet}
 use Rattle.sd_model_replay.specs.Replay.{acts_in, home_of, replies_to, states_after}
 use Rattle.sd_shard.specs.Shard.{Standing, state_of}
+use Rattle.sd_batch.specs.declared.counts.Counts.{Counts}
+use Rattle.sd_batch.specs.Runs.{CountsRun, TakesRun, run_at, submissions, submitted}
 use Rattle.sd_shards.specs.Played.{AreReady, HavePlayed}
 use Rattle.sd_shards.specs.Standings.{state_in, bounds_in, limits_in, policy_in, GoBy, GoTogether}
 use Rattle.sd_shards.proofs.StandingLemmas.{GoBy-first, GoTogether-by, state_in-at, state_in-here, state_in-other}
 
--- the shard of a sample's key took its step
-pub played_one : (who : ℕ) (s : Sample) (shards : List Standing) (i : ℕ) (before after : Standing) (reply : Reply) → before ≡ get_or shards i before → i ≡ shard s.key (length shards) → i < length shards → GoTogether shards
-    → state_of after ≡ (step before.table.limits before.policy (state_of before) (Submit s)).state
-    → reply ≡ (step before.table.limits before.policy (state_of before) (Submit s)).reply
-    → after.table.limits ≡ before.table.limits → after.policy ≡ before.policy
-    → HavePlayed shards (set shards i after) (one_at (shard s.key (length shards)) (record { who = who; event = Submit s; reply = reply }))
-played_one who s shards i before after reply there at below together state answer limits policy =
-    let home = shard s.key (length shards) in
-    let a : Act = record { who = who; event = Submit s; reply = reply } in
-    let goes : State → Limits → Policy → Stepped = λ st l p. step l p st (Submit s) in
+-- a shard took the samples of a run
+pub played_run : (who : ℕ) (samples : List Sample) (shards : List Standing) (i : ℕ) (before after : Standing) (counts : Counts) → before ≡ get_or shards i before → i < length shards → GoTogether shards
+    → TakesRun before after samples counts
+    → HavePlayed shards (set shards i after) (run_at i (submitted (limits_in shards) (policy_in shards) (state_in shards i) who samples))
+    × CountsRun counts (submitted (limits_in shards) (policy_in shards) (state_in shards i) who samples)
+played_run who samples shards i before after counts there below together takes =
     let Alike : Standing → Type 0 = λ x. (x.table.limits ≡ limits_in shards) × (x.policy ≡ policy_in shards) in
     let mine : Alike before = subst Alike (sym there) (All-get_or Alike shards i before below together) in
-    let same : goes (state_of before) before.table.limits before.policy ≡ goes (state_in shards i) (limits_in shards) (policy_in shards) =
-    ap (λ l. goes (state_of before) l before.policy) mine.0 ∙ ap (goes (state_of before) (limits_in shards)) mine.1
-    ∙ ap (λ st. goes st (limits_in shards) (policy_in shards)) (ap state_of there ∙ sym (state_in-at shards i before below)) in
-    let bounds : GoBy (limits_in shards) (policy_in shards) (set shards i after) = All-set Alike shards i after (limits ∙ mine.0, policy ∙ mine.1) together in
+    let stood : state_of before ≡ state_in shards i = ap state_of there ∙ sym (state_in-at shards i before below) in
+    let By : Limits → Policy → State → Type 0 = λ l p st. (state_of after ≡ after_all l p st (submitted l p st who samples)) × CountsRun counts (submitted l p st who samples) in
+    let done : By (limits_in shards) (policy_in shards) (state_in shards i) =
+    subst (By (limits_in shards) (policy_in shards)) stood
+    (subst (λ p. By (limits_in shards) p (state_of before)) mine.1
+    (subst (λ l. By l before.policy (state_of before)) mine.0 (takes.state who, takes.counted who))) in
+    let bounds : GoBy (limits_in shards) (policy_in shards) (set shards i after) = All-set Alike shards i after (takes.limits ∙ mine.0, takes.policy ∙ mine.1) together in
     let first = GoBy-first (limits_in shards) (policy_in shards) (set shards i after) (omega (arith, length-set shards i after)) bounds in
-    let here : one_at home a i ≡ a ∷ [] = ap (λ b. cond b (a ∷ []) []) (eq-eqb i home at) in
-    let elsewhere : (j : ℕ) → j ≢ i → one_at home a j ≡ [] = λ j other. ap (λ b. cond b (a ∷ []) []) (ne_eqb j home (λ is. other (is ∙ sym at))) in
+    let made = submitted (limits_in shards) (policy_in shards) (state_in shards i) who samples in
     let Legal : ℕ → History → Type 0 = λ j acts. LegalFrom (limits_in shards) (policy_in shards) (state_in shards j) acts in
-    let Left : ℕ → History → Type 0 = λ j acts. state_in (set shards i after) j ≡ after_all (limits_in shards) (policy_in shards) (state_in shards j) acts in
-    let left_here : Left i (a ∷ []) = state_in-here shards i after below ∙ state ∙ ap (λ (t : Stepped). t.state) same in
-    let legal_here : Legal i (a ∷ []) = (answer ∙ ap (λ (t : Stepped). t.reply) same, tt) in
-    let at_place : (P : ℕ → History → Type 0) → P i (a ∷ []) → ((j : ℕ) → j ≢ i → P j []) → (j : ℕ) → (j ≡ i) ⊎ (j ≡ i → ⊥) → P j (one_at home a j) =
-    λ P one others j. by_place P a home one others j here elsewhere in
-    record {
-      count = length-set shards i after;
-      limits = first.0;
-      policy = first.1;
-      bounds = bounds;
-      legal = λ j below_j. at_place Legal legal_here (λ k other. tt) j (cases_eq j i);
-      states = λ j below_j. at_place Left left_here (λ k other. state_in-other shards i after k other) j (cases_eq j i);
-    }
+    let Left : ℕ → History → Type 0 = λ j acts. state_in (set shards i after) j ≡ after_all (limits_in shards) (policy_in shards) (state_in shards j) acts in (
+      record {
+        count = length-set shards i after;
+        limits = first.0;
+        policy = first.1;
+        bounds = bounds;
+        legal = λ j below_j. by_place Legal made (LegalFrom-answered (limits_in shards) (policy_in shards) (state_in shards i) (submissions who samples)) (λ k other. tt) j (cases_eq j i);
+        states = λ j below_j. by_place Left made (state_in-here shards i after below ∙ done.0) (λ k other. state_in-other shards i after k other) j (cases_eq j i);
+      },
+      done.1,
+    )
   where
-    by_place : (P : ℕ → History → Type 0) (a : Act) (home : ℕ) → P i (a ∷ []) → ((j : ℕ) → j ≢ i → P j []) → (j : ℕ) → one_at home a i ≡ a ∷ []
-        → ((k : ℕ) → k ≢ i → one_at home a k ≡ []) → (j ≡ i) ⊎ (j ≡ i → ⊥) → P j (one_at home a j)
-    by_place P a home one others j here elsewhere (inl is) = subst (λ k. P k (one_at home a k)) (sym is) (subst (P i) (sym here) one)
-    by_place P a home one others j here elsewhere (inr other) = subst (P j) (sym (elsewhere j other)) (others j other)
+    by_place : (P : ℕ → History → Type 0) (made : History) → P i made → ((j : ℕ) → j ≢ i → P j []) → (j : ℕ) → (j ≡ i) ⊎ (j ≡ i → ⊥) → P j (run_at i made j)
+    by_place P made one others j (inl is) = subst (λ k. P k (run_at i made k)) (sym is) (subst (P i) (sym (ap (λ b. cond b made []) (eq-eqb i i refl))) one)
+    by_place P made one others j (inr other) = subst (P j) (sym (ap (λ b. cond b made []) (ne_eqb j i other))) (others j other)
 
 -- they can go on with it
 pub still_ready : (old new : List Standing) (acts : ℕ → History) → AreReady old → HavePlayed old new acts → AreReady new

@@ -2,6 +2,7 @@
 use Rattle.std.specs.Prelude.{◌≡◌, ◌+◌, ◌≤◌, length, map, vec_len}
 use Rattle.sd_model_shards.specs.Shards.{AtHome}
 use Rattle.sd_epoch.specs.Table.{table_of}
+use Rattle.sd_filing.specs.Filing.{IsOpenFor}
 use Rattle.sd_record.specs.Rows.{AreDisjoint}
 use Rattle.sd_shard.specs.Shard.{state_of}
 use Rattle.sd_shards.specs.Shards.{Group}
@@ -18,7 +19,7 @@ group_of s =
     }
 
 -- The shards go by one pair of limits and policy, and each has the rows of its own keys alone. There is a table for each of
--- these limits, either a spare one, which may have rows of earlier swaps, or one that was swapped out.
+-- these limits, either a spare one, which may have rows of earlier swaps, or one that was swapped out. No sample waits.
 pub record AreShards (s : Inside) : Type 0 where
   pub some : 1 ≤ vec_len s.shards
   pub few : vec_len s.shards ≤ 16
@@ -28,3 +29,4 @@ pub record AreShards (s : Inside) : Type 0 where
   pub disjoint : AreDisjoint s.spares.swapped
   pub tables : length s.spares.waiting + length s.spares.swapped ≡ vec_len s.shards
   pub room : s.spares.room ≡ vec_len s.shards
+  pub batch : IsOpenFor (length s.shards.items) s.batch

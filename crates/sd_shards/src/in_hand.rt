@@ -1,9 +1,8 @@
 //! Shards that one caller has in hand.
+use sd_batch::{Batch, Counts, take_run};
 use sd_epoch::Who;
 use sd_filing::Submit;
-use sd_key::shard_of;
-use sd_line::Sample;
-use sd_shard::{Placed, Shard};
+use sd_shard::Shard;
 
 /// A caller who has shards in hand.
 #[derive(Clone, Copy, Debug)]
@@ -23,9 +22,8 @@ impl Submit<Vec<Shard>> for InHand {
 
     ghost adds = { λ caller old new acts. HavePlayed old.items new.items acts };
 
-    fn submit(&self, seat: &mut Vec<Shard>, s: &Sample) -> Placed {
-        let home = shard_of(&s.key, seat.len() as u16);
-        seat[usize::from(home)].sample(s)
+    fn submit_run(&self, seat: &mut Vec<Shard>, batch: &Batch, home: u16) -> Counts {
+        take_run(&mut seat[usize::from(home)], batch.run(home))
     }
 
     ghost some_shards = { λ caller shards ready. ready.some };

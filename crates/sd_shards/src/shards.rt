@@ -23,6 +23,7 @@ use crate::commands::{delete_all, dump_all};
 use crate::in_hand::InHand;
 use crate::open::open_shards;
 use crate::swap::swap_all;
+use sd_batch::Batch;
 use sd_epoch::{Limits, Table, Who};
 use sd_filing::{Filed, file_datagram};
 use sd_key::{Kind, Pattern};
@@ -31,11 +32,15 @@ use sd_spares::Spares;
 use std::alloc::{AllocError, Global};
 use std::marker::Model;
 
+// How many samples of a datagram are spread over the shards at once.
+const BATCH: u16 = 64;
+
 /// The shards of a server: each has the rows of its own keys, with what came to them.
 #[derive(Debug, Drop)]
 pub struct Shards {
     shards: Vec<Shard>,
     spares: Spares,
+    batch: Batch,
 }
 
 impl Model for Shards {
@@ -77,7 +82,12 @@ impl Shards {
     {
         let shards = open_shards(alloc, n, limits, policy, seed)?;
         let spares = Spares::open(alloc, n, limits, seed)?;
-        Ok(Shards { shards, spares })
+        let batch = Batch::open(alloc, n, BATCH)?;
+        Ok(Shards {
+            shards,
+            spares,
+            batch,
+        })
     }
 
     /// How many there are.
@@ -89,7 +99,7 @@ impl Shards {
         self.shards.len() as u16
     }
 
-    /// Files the good samples of a datagram of a caller, in order, each in the shard of its key.
+    /// Files the good samples of a datagram of a caller, each in the shard of its key, where they are in order.
     pub fn file(&mut self, who: Who, datagram: &[u8]) -> Filed
         requires { length datagram.now ≤ 65527 }
         ensures states { (moment i : ℕ) → i < length self.old.states
@@ -103,7 +113,7 @@ impl Shards {
         ensures alike { AreAlike self.old self.new }
         ensures swapped { self.new.swapped ≡ self.old.swapped }
     {
-        file_datagram(&InHand { who }, &mut self.shards, datagram)
+        file_datagram(&InHand { who }, &mut self.shards, &mut self.batch, datagram)
     }
 
     /// Swaps each shard, in order, and keeps the tables that they give up to the next swap.

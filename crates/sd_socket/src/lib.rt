@@ -16,4 +16,4 @@ mod ready;
 pub use datagrams::SharedAddress;
 pub use handed_over::HandedOver;
 pub use options::{ask_receive_buffer, receive_buffer};
-pub use ready::{most_of_output, waits_for_output};
+pub use ready::{most_of_output, takes_errors, waits_for_output};

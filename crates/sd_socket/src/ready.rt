@@ -7,6 +7,9 @@ use std::time::Duration;
 /// The number of standard output.
 const OUTPUT: i32 = 1;
 
+/// That of standard error.
+const ERRORS: i32 = 2;
+
 /// How many bytes of those that are written at once standard output takes without waiting, once it says that it takes some: what a
 /// pipe takes whole (POSIX's `PIPE_BUF`, as Linux has it).
 const MOST_AT_ONCE: usize = 4_096;
@@ -14,14 +17,14 @@ const MOST_AT_ONCE: usize = 4_096;
 /// The same of a terminal, whose room grows by so many bytes and which may make two of a newline.
 const MOST_OF_TERMINAL: usize = 128;
 
-/// Waits until standard output takes bytes, or has failed, for so long at most. Whether that came.
+/// Waits until a descriptor takes bytes, or has failed, for so long at most. Whether that came.
 ///
 /// # Errors
 ///
 /// Those of the system, as where a signal ended the wait.
-pub fn waits_for_output(limit: Duration) -> io::Result<bool> {
+fn waits_for(descriptor: i32, limit: Duration) -> io::Result<bool> {
     let mut asked = [pollfd {
-        fd: OUTPUT,
+        fd: descriptor,
         events: c::POLLOUT,
         revents: 0,
     }];
@@ -30,6 +33,20 @@ pub fn waits_for_output(limit: Duration) -> io::Result<bool> {
     let count = c::poll(&mut asked, limit.cast_signed());
     check(count)?;
     Ok(count > 0)
+}
+
+/// Waits until standard output takes bytes, or has failed, for so long at most. Whether that came.
+///
+/// # Errors
+///
+/// Those of the system, as where a signal ended the wait.
+pub fn waits_for_output(limit: Duration) -> io::Result<bool> {
+    waits_for(OUTPUT, limit)
+}
+
+/// Whether standard error takes a line at once, or has failed.
+pub fn takes_errors() -> bool {
+    matches!(waits_for(ERRORS, Duration::ZERO), Ok(true))
 }
 
 /// How many bytes are written to standard output at once, so that it takes them without waiting once it takes any.

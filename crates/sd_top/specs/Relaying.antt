@@ -17,7 +17,7 @@ use Rattle.sd_serve.specs.Serving.{end_of}
 
 -- The parts of the proxy were opened, the beat was started, and then it ran. Nothing else that is seen changed.
 pub record HasRelayed (values : file.Settings) (old new : World) (r : Relayed) : Type 0 where
-  pub relayed : (let start = proxy_begun values old in relaying.HasRelayed values.lists.nodes values.sizes.receivers start.served.sources new.served.sources start.seen.wires new.seen.wires start.served.beat new.served.beat old.probe new.probe r)
+  pub relayed : (let start = proxy_begun values old in relaying.HasRelayed values.transport.batch_bytes values.lists.nodes values.sizes.receivers start.served.sources new.served.sources start.seen.wires new.seen.wires start.served.beat new.served.beat old.probe new.probe r)
   pub others : new ≡ record old {
     seen = record old.seen { wires = new.seen.wires };
     served = record old.served { sources = new.served.sources; beat = new.served.beat };

@@ -12,7 +12,7 @@ flags_in backs = record { graphite = backs.graphite_used; console = backs.consol
 
 -- by what is seen of a source of bytes, of the output, of a backend, of a source of datagrams, of a wire, of the admin door, of the
 -- beat, of the probe and of the door of streams
-abbrev pub world_of : {R O B D L E P G T Q S : Type 0} → (R → Object) → (O → Object) → (B → Object) → (D → Object) → (L → Object) → (E → Object) → (P → Object) → (Q → Object) → (S → Object) → World R O B D L E P G T Q S → model.World
+abbrev pub world_of : {R O B D L E P G T Q S W : Type 0} → (R → Object) → (O → Object) → (B → Object) → (D → Object) → (L → Object) → (E → Object) → (P → Object) → (Q → Object) → (S → Object) → World R O B D L E P G T Q S W → model.World
 world_of of_source of_output of_back of_datagrams of_wire of_door of_beat of_probe of_streams world =
     record {
       settings = of_source world.settings;
@@ -23,7 +23,7 @@ world_of of_source of_output of_back of_datagrams of_wire of_door of_beat of_pro
     }
 
 -- what is opened before a server's parts, or is no part that is opened, is as it was
-pub record SameRest {R O B D L E P G T Q S : Type 0} (old new : World R O B D L E P G T Q S) : Type 0 where
+pub record SameRest {R O B D L E P G T Q S W : Type 0} (old new : World R O B D L E P G T Q S W) : Type 0 where
   pub settings : new.settings ≡ old.settings
   pub script : new.script ≡ old.script
   pub output : new.output ≡ old.output

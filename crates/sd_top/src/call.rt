@@ -17,6 +17,8 @@ use crate::server::serve_files;
 use crate::settings::read_settings;
 use crate::status::{Status, status_of};
 use crate::words::{Form, form_of};
+use log::Log;
+use log::sink::Discard;
 use sd_config::Settings;
 use sd_outside::{
     Address, Backend, Backs, Beat, Clock, Datagrams, Door, Gate, Name, Probe, Sink, Source, Wire,
@@ -29,7 +31,7 @@ use std::thread::Threads;
 
 /// The objects that the program uses. None is opened yet.
 #[derive(Drop)]
-pub struct World<R, O, B, D, L, E, P, G, T, Q, S> {
+pub struct World<R, O, B, D, L, E, P, G, T, Q, S, W> {
     pub settings: R,
     pub script: R,
     pub output: O,
@@ -42,6 +44,7 @@ pub struct World<R, O, B, D, L, E, P, G, T, Q, S> {
     pub clock: T,
     pub probe: Q,
     pub streams: S,
+    pub log: W,
 }
 
 /// A world of objects of these kinds.
@@ -57,6 +60,7 @@ pub(crate) type WorldOf<K> = World<
     <K as Kinds>::T,
     <K as Kinds>::Q,
     <K as Kinds>::S,
+    <K as Kinds>::W,
 >;
 
 /// Opens what a replay by these settings uses, and carries out the script.
@@ -112,7 +116,12 @@ fn replay_files<K: Kinds>(
         (world_of K.R.seen K.O.seen K.B.seen K.D.seen K.L.seen K.E.seen K.P.seen K.Q.seen K.S.seen world.old)
         (world_of K.R.seen K.O.seen K.B.seen K.D.seen K.L.seen K.E.seen K.P.seen K.Q.seen K.S.seen world.new) }
 {
-    let settings = match read_settings(alloc, &mut world.settings, &Address::File(settings)) {
+    let settings = match read_settings(
+        alloc,
+        &Discard,
+        &mut world.settings,
+        &Address::File(settings),
+    ) {
         Ok(settings) => settings,
         Err(status) => return status,
     };
@@ -151,12 +160,13 @@ pub fn statsd<
     T: Clock + Sync,
     Q: Probe + Send,
     S: Door<Asking: Send, Telling: Send> + Send,
+    W: Log + Sync,
     X: Threads + Wait + Sync,
 >(
     rt: &X,
     alloc: Global,
     words: &[String],
-    world: &mut World<R, O, B, D, L, E, P, G, T, Q, S>,
+    world: &mut World<R, O, B, D, L, E, P, G, T, Q, S, W>,
 ) -> Status
     requires packets { 16 ≤ length (world.old).packets.items }
     requires wires { 256 ≤ length (world.old).wires.items }
@@ -176,13 +186,19 @@ pub fn statsd<
 {
     match form_of(words) {
         Some(Form::Replay { settings, script }) => {
-            replay_files::<KindsOf<R, O, B, D, L, E, P, G, T, Q, S>>(alloc, settings, script, world)
+            replay_files::<KindsOf<R, O, B, D, L, E, P, G, T, Q, S, W>>(
+                alloc, settings, script, world,
+            )
         }
         Some(Form::Serve { settings }) => {
-            serve_files::<KindsOf<R, O, B, D, L, E, P, G, T, Q, S>, X>(rt, alloc, settings, world)
+            serve_files::<KindsOf<R, O, B, D, L, E, P, G, T, Q, S, W>, X>(
+                rt, alloc, settings, world,
+            )
         }
         Some(Form::Proxy { settings }) => {
-            proxy_files::<KindsOf<R, O, B, D, L, E, P, G, T, Q, S>, X>(rt, alloc, settings, world)
+            proxy_files::<KindsOf<R, O, B, D, L, E, P, G, T, Q, S, W>, X>(
+                rt, alloc, settings, world,
+            )
         }
         Some(Form::Drill { packets }) => drill(alloc, packets, &mut world.output),
         None => Status::Usage,

@@ -19,6 +19,7 @@ mod server_end;
 mod server_opening;
 mod settings;
 mod status;
+mod telling;
 mod words;
 
 pub use audit::served_totals_add_up;

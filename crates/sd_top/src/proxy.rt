@@ -18,6 +18,8 @@ use crate::opening::open_peers;
 use crate::server_opening::open_packets;
 use crate::settings::read_settings;
 use crate::status::{Part, Status};
+use crate::telling::{tell_end, tell_fault, tell_proxy, tell_unopened, tell_unread};
+use log::{LevelFilter, Log, Logged};
 use sd_config::{ConfigFault, Settings};
 use sd_decimal::Line;
 use sd_outside::{Address, Beat, Ended, Failed, Interval, Name, Sink, write_all};
@@ -60,6 +62,13 @@ fn check_fit(settings: &Settings) -> Result<(), Status>
         return Err(out_of_range(b"receivers"));
     }
     Ok(())
+}
+
+/// Tells the log why settings aren't those of a proxy.
+fn tell_unfit<L: Log>(log: &L, alloc: Global, at: &Address, status: &Status) {
+    if let Status::Config(fault) = status {
+        tell_fault(log, alloc, at, b"", fault);
+    }
 }
 
 /// Opens a source for each receiver of the proxy, and a run of wires, with one to each node.
@@ -113,7 +122,13 @@ fn run_proxy<K: Kinds, X: Threads + Wait + Sync>(
 {
     let receivers = u16::try_from(settings.receivers()).unwrap();
     let nodes = settings.nodes();
-    let Ok(room) = RelayRoom::open(alloc, nodes, receivers, settings.cache_size()) else {
+    let Ok(room) = RelayRoom::open(
+        alloc,
+        nodes,
+        receivers,
+        settings.cache_size(),
+        settings.batch_bytes(),
+    ) else {
         return Err(Status::OutOfMemory);
     };
     open_proxy::<K>(settings, world)?;
@@ -121,8 +136,10 @@ fn run_proxy<K: Kinds, X: Threads + Wait + Sync>(
         ms: settings.check_interval(),
         is_aligned: false,
     });
+    tell_proxy(&world.log, settings);
+    let rt = Logged::new(rt, LevelFilter::Trace, &world.log);
     Ok(relay(
-        rt,
+        &rt,
         room,
         nodes,
         &mut world.packets,
@@ -204,17 +221,30 @@ pub(crate) fn proxy_files<K: Kinds, X: Threads + Wait + Sync>(
         (world_of K.R.seen K.O.seen K.B.seen K.D.seen K.L.seen K.E.seen K.P.seen K.Q.seen K.S.seen world.old)
         (world_of K.R.seen K.O.seen K.B.seen K.D.seen K.L.seen K.E.seen K.P.seen K.Q.seen K.S.seen world.new) }
 {
-    let settings = match read_settings(alloc, &mut world.settings, &Address::File(settings)) {
+    let at = Address::File(settings);
+    let settings = match read_settings(alloc, &world.log, &mut world.settings, &at) {
         Ok(settings) => settings,
-        Err(status) => return status,
+        Err(status) => {
+            tell_unread(&world.log, &at, &status);
+            return status;
+        }
     };
     if let Err(status) = check_fit(&settings) {
+        tell_unfit(&world.log, alloc, &at, &status);
         return status;
     }
     world.backs.graphite_used = names_backend(&settings, b"graphite");
     world.backs.console_used = names_backend(&settings, b"console");
     match run_proxy::<K, X>(rt, alloc, &settings, world) {
-        Ok(relayed) => finish(&relayed, &mut world.output),
-        Err(status) => status,
+        Ok(relayed) => {
+            let status = finish(&relayed, &mut world.output);
+            let totals = totals_text(&relayed.sums, &relayed.checked);
+            tell_end(&world.log, &status, &totals);
+            status
+        }
+        Err(status) => {
+            tell_unopened(&world.log, &settings, &status);
+            status
+        }
     }
 }

@@ -11,10 +11,12 @@ ghost use Rattle.sd_top.specs.Serving.{sizing_by};
 ghost use Rattle.sd_top.specs.World.{world_of};
 
 use crate::call::WorldOf;
-use crate::server_end::finish;
+use crate::server_end::{finish, totals_lines};
 use crate::server_opening::{open_server, reads_streams};
 use crate::settings::read_settings;
 use crate::status::Status;
+use crate::telling::{tell_end, tell_server, tell_unopened, tell_unread};
+use log::{LevelFilter, Logged};
 use sd_config::{NamesOf, Settings};
 use sd_outside::{Address, Beat, Clock, Interval, Name};
 use sd_plan::Names;
@@ -82,8 +84,10 @@ pub(crate) fn run_server<K: Kinds, X: Threads + Wait + Sync>(
         is_aligned: settings.align_flushes(),
     });
     let names = Names::of(settings);
-    Ok(serve::<K, X>(
-        rt,
+    tell_server(&world.log, settings);
+    let rt = Logged::new(rt, LevelFilter::Trace, &world.log);
+    Ok(serve::<K, Logged<&X, &K::W>>(
+        &rt,
         room,
         settings,
         settings.plan(),
@@ -116,14 +120,25 @@ pub(crate) fn serve_files<K: Kinds, X: Threads + Wait + Sync>(
         (world_of K.R.seen K.O.seen K.B.seen K.D.seen K.L.seen K.E.seen K.P.seen K.Q.seen K.S.seen world.old)
         (world_of K.R.seen K.O.seen K.B.seen K.D.seen K.L.seen K.E.seen K.P.seen K.Q.seen K.S.seen world.new) }
 {
-    let settings = match read_settings(alloc, &mut world.settings, &Address::File(settings)) {
+    let at = Address::File(settings);
+    let settings = match read_settings(alloc, &world.log, &mut world.settings, &at) {
         Ok(settings) => settings,
-        Err(status) => return status,
+        Err(status) => {
+            tell_unread(&world.log, &at, &status);
+            return status;
+        }
     };
     world.backs.graphite_used = names_backend(&settings, b"graphite");
     world.backs.console_used = names_backend(&settings, b"console");
     match run_server::<K, X>(rt, alloc, &settings, world) {
-        Ok(served) => finish(&served, &mut world.output),
-        Err(status) => status,
+        Ok(served) => {
+            let status = finish(&served, &mut world.output);
+            tell_end(&world.log, &status, &totals_lines(&served));
+            status
+        }
+        Err(status) => {
+            tell_unopened(&world.log, &settings, &status);
+            status
+        }
     }
 }

@@ -133,6 +133,12 @@ fn status_after(received: &[Ended], ends: &Ends) -> Status
     by_receivers(0, received, by_beat)
 }
 
+/// The lines of the totals of a run.
+pub(crate) fn totals_lines(served: &Served) -> Line {
+    let totals = totals_of(&served.books, &served.desk, &served.outs);
+    lines_of(&totals, &served.outs)
+}
+
 /// Writes the totals of a run, and answers how it ended.
 pub(crate) fn finish<O: Sink>(served: &Served, output: &mut O) -> Status
     requires { length (served.now).received.items ≤ 16 }

@@ -8,6 +8,8 @@ ghost use Rattle.sd_top.specs.Causes.{HoldsDeciding, IsRefused};
 
 use crate::opening::open;
 use crate::status::{Part, Status};
+use crate::telling::tell_values;
+use log::Log;
 use sd_config::{ConfigFault, Settings};
 use sd_outside::{Address, Failed, Source, read_full};
 use std::alloc::Global;
@@ -52,13 +54,15 @@ fn values_of(alloc: Global, bytes: &[u8]) -> Result<Settings, Status>
     }
 }
 
-/// Opens a settings file, reads it through a buffer with just room for its deciding bytes, and answers its values.
+/// Opens a settings file, reads it through a buffer with just room for its deciding bytes, and answers its values. The log is told
+/// why it isn't accepted.
 ///
 /// # Errors
 ///
 /// `OpenFault` and `ReadFault` where the file failed, `OutOfMemory`, and `Config` where it isn't accepted.
-fn read_through<R: Source>(
+fn read_through<R: Source, L: Log>(
     alloc: Global,
+    log: &L,
     source: &mut R,
     at: &Address,
     buf: &mut [u8],
@@ -68,7 +72,9 @@ fn read_through<R: Source>(
     ensures refused { IfErr result (λ status. IsNotTaken (answer_of status) (place_of at.now) (R.seen source.old) (R.seen source.new)) }
 {
     let len = read_deciding(source, at, buf)?;
-    values_of(alloc, &buf[..len])
+    let values = values_of(alloc, &buf[..len]);
+    tell_values(log, alloc, at, &buf[..len], &values);
+    values
 }
 
 /// Opens and reads a settings file, and answers its values. The room for its bytes is taken before it is opened.
@@ -76,8 +82,9 @@ fn read_through<R: Source>(
 /// # Errors
 ///
 /// `OpenFault` and `ReadFault` where the file failed, `OutOfMemory`, and `Config` where it isn't accepted.
-pub(crate) fn read_settings<R: Source>(
+pub(crate) fn read_settings<R: Source, L: Log>(
     alloc: Global,
+    log: &L,
     source: &mut R,
     at: &Address,
 ) -> Result<Settings, Status>
@@ -85,7 +92,7 @@ pub(crate) fn read_settings<R: Source>(
     ensures refused { IfErr result (λ status. IsNotTaken (answer_of status) (place_of at.now) (R.seen source.old) (R.seen source.new)) }
 {
     match vec![in alloc; 0u8; DECIDING] {
-        Ok(mut room) => read_through(alloc, source, at, &mut room),
+        Ok(mut room) => read_through(alloc, log, source, at, &mut room),
         Err(_) => Err(Status::OutOfMemory),
     }
 }

@@ -1,6 +1,7 @@
 ghost use Rattle.std.specs.Prelude.{◌≡◌, ℕ, ◌<◌, All, length, slice_index_or};
 ghost use denote.Param.Send.{IsSync, IsSend};
 
+use log::Log;
 use std::sync::Wait;
 use std::thread;
 use std::thread::{Threads, join_mut};
@@ -14,13 +15,13 @@ pub trait Worker<C> {
     ghost has_run: { C → Self → Self → Type 0 };
 
     /// Does its work, once.
-    fn run<R: Wait>(&mut self, rt: &R, shared: &C)
+    fn run<R: Wait + Log>(&mut self, rt: &R, shared: &C)
         requires { can_run shared.now self.old }
         ensures { has_run shared.now self.old self.new };
 }
 
 /// Runs each worker in a thread of its own.
-pub fn run_each<C: Sync, W: Worker<C> + Send, R: Threads + Wait + Sync>(
+pub fn run_each<C: Sync, W: Worker<C> + Send, R: Threads + Wait + Log + Sync>(
     rt: &R,
     shared: &C,
     workers: &mut [W],
@@ -39,7 +40,7 @@ pub fn run_each<C: Sync, W: Worker<C> + Send, R: Threads + Wait + Sync>(
 }
 
 /// Runs two workers side by side.
-pub fn run_pair<C: Sync, F: Worker<C> + Send, G: Worker<C> + Send, R: Threads + Wait + Sync>(
+pub fn run_pair<C: Sync, F: Worker<C> + Send, G: Worker<C> + Send, R: Threads + Wait + Log + Sync>(
     rt: &R,
     shared: &C,
     first: &mut F,
@@ -63,7 +64,7 @@ pub fn run_workers<
     F: Worker<C> + Send,
     G: Worker<C> + Send,
     W: Worker<C> + Send,
-    R: Threads + Wait + Sync,
+    R: Threads + Wait + Log + Sync,
 >(rt: &R, shared: &C, first: &mut F, second: &mut G, others: &mut [W])
     requires first { F.can_run shared.now first.old }
     requires second { G.can_run shared.now second.old }
@@ -99,7 +100,7 @@ impl<C, W: Worker<C>> Worker<C> for Option<W> {
 
     ghost has_run = { λ shared old new. HasRunIfThere (W.has_run shared) old new };
 
-    fn run<R: Wait>(&mut self, rt: &R, shared: &C) {
+    fn run<R: Wait + Log>(&mut self, rt: &R, shared: &C) {
         if let Some(worker) = self {
             worker.run(rt, shared);
         }

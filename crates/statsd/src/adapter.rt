@@ -14,7 +14,7 @@ use std::io::{Error, ErrorKind};
 pub(crate) struct Adapter<'a, X, T> {
     pub rt: &'a HostRuntime,
     pub threads: &'a X,
-    pub shared: &'a Shared,
+    pub shared: &'a Shared<'a>,
     pub object: Option<T>,
     pub faults: u64,
     opened_at: Option<Address>,
@@ -25,7 +25,7 @@ impl<'a, X, T: Drop> Adapter<'a, X, T> {
     pub(crate) fn new(
         rt: &'a HostRuntime,
         threads: &'a X,
-        shared: &'a Shared,
+        shared: &'a Shared<'a>,
     ) -> Adapter<'a, X, T> {
         Adapter {
             rt,
@@ -74,8 +74,9 @@ impl<'a, X, T> Faulty for Adapter<'a, X, T> {
     ghost faults_fit = { λ s. omega arith };
 }
 
-/// Why the system opened nothing.
-pub(crate) fn refusal_of(error: Error) -> OpenRefusal {
+/// Why the system opened nothing, which the log is told.
+pub(crate) fn refusal_of(shared: &Shared<'_>, error: Error) -> OpenRefusal {
+    shared.log.note_reason(&error);
     if error.kind() == ErrorKind::OutOfMemory {
         OpenRefusal::OutOfMemory
     } else {

@@ -1,14 +1,15 @@
 use crate::adapter::Adapter;
 use crate::shared::Shared;
 use crate::standard_out::{is_standard, write_text};
-use sd_net::{GraphiteLink, Text};
+use sd_event::Link;
+use sd_net::{GraphiteLink, Rounds, Text};
 use sd_outside::{Address, Backend, Failed, OpenRefusal, Opens, Sink, fault};
 use std::thread::Threads;
 
 /// Where a backend's text goes.
 #[derive(Drop)]
 pub(crate) enum Destination<'a, X> {
-    Standard,
+    Standard(Rounds),
     Graphite(GraphiteLink<'a, X>),
 }
 
@@ -20,13 +21,13 @@ pub(crate) type BackendOut<'a, X> = Adapter<'a, X, Destination<'a, X>>;
 fn destination_at<'a, X: Threads>(
     rt: &'a HostRuntime,
     threads: &'a X,
-    shared: &'a Shared,
+    shared: &'a Shared<'a>,
     at: &Address,
 ) -> Result<Destination<'a, X>, OpenRefusal> {
     if is_standard(at) {
-        return Ok(Destination::Standard);
+        return Ok(Destination::Standard(Rounds::of(Link::Console)));
     }
-    let mut link = GraphiteLink::new(rt, threads, &shared.stop, &shared.pace);
+    let mut link = GraphiteLink::new(rt, threads, &shared.stop, &shared.pace, &shared.log);
     link.open_at(at)?;
     Ok(Destination::Graphite(link))
 }
@@ -42,10 +43,13 @@ impl<'a, X: Threads> Sink for Adapter<'a, X, Destination<'a, X>> {
     fn write(&mut self, bytes: &[u8]) -> Result<usize, Failed> {
         let written = match &mut self.object {
             None => Err(Failed),
-            Some(Destination::Standard) => {
+            Some(Destination::Standard(rounds)) => {
                 match write_text(self.rt, self.shared, Text::Flush, bytes) {
                     Ok(n) => Ok(n),
-                    Err(_) => Err(Failed),
+                    Err(e) => {
+                        rounds.fail(&self.shared.log, b"", &e);
+                        Err(Failed)
+                    }
                 }
             }
             Some(Destination::Graphite(link)) => link.write(bytes),
@@ -63,7 +67,10 @@ impl<'a, X: Threads> Backend for Adapter<'a, X, Destination<'a, X>> {
     fn begin(&mut self) -> Result<(), Failed> {
         let begun = match &mut self.object {
             None => Err(Failed),
-            Some(Destination::Standard) => Ok(()),
+            Some(Destination::Standard(rounds)) => {
+                rounds.begin();
+                Ok(())
+            }
             Some(Destination::Graphite(link)) => link.begin(),
         };
         match begun {
@@ -75,7 +82,10 @@ impl<'a, X: Threads> Backend for Adapter<'a, X, Destination<'a, X>> {
     fn finish(&mut self) -> Result<(), Failed> {
         let finished = match &mut self.object {
             None => Err(Failed),
-            Some(Destination::Standard) => Ok(()),
+            Some(Destination::Standard(rounds)) => {
+                rounds.end(&self.shared.log, b"");
+                Ok(())
+            }
             Some(Destination::Graphite(link)) => link.finish(),
         };
         match finished {

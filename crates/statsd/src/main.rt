@@ -96,13 +96,13 @@ const STREAM_SIZES: DoorSizes = DoorSizes {
 /// Where no memory is left for the list.
 fn receivers<'a>(
     rt: &'a HostRuntime,
-    shared: &'a Shared,
+    shared: &'a Shared<'a>,
 ) -> Result<Vec<UdpReceiver<'a, HostRuntime>>, AllocError>
     ensures { IfOk result (λ receivers. length receivers.items ≡ 16) }
 {
     let mut receivers = Vec::with_capacity(rt.alloc(), RECEIVERS)?;
     for _ in 0..RECEIVERS {
-        receivers.push(UdpReceiver::new(rt, &shared.sockets, &shared.stop))?;
+        receivers.push(UdpReceiver::new(rt, &shared.sockets, &shared.stop, &shared.log))?;
     }
     Ok(receivers)
 }
@@ -115,13 +115,13 @@ fn receivers<'a>(
 fn wires<'a, X>(
     rt: &'a HostRuntime,
     threads: &'a X,
-    shared: &'a Shared,
+    shared: &'a Shared<'a>,
 ) -> Result<Vec<UdpWire<'a, X>>, AllocError>
     ensures { IfOk result (λ wires. length wires.items ≡ 256) }
 {
     let mut wires = Vec::with_capacity(rt.alloc(), WIRES)?;
     for _ in 0..WIRES {
-        wires.push(UdpWire::new(rt, threads, &shared.hosts))?;
+        wires.push(UdpWire::new(rt, threads, &shared.hosts, &shared.log))?;
     }
     Ok(wires)
 }
@@ -129,11 +129,18 @@ fn wires<'a, X>(
 /// The admin port, which is opened later.
 fn admin_door<'a>(
     rt: &'a HostRuntime,
-    shared: &'a Shared,
+    shared: &'a Shared<'a>,
 ) -> WatchedDoor<'a, TcpDoor<'a, HostRuntime>>
     ensures { ⟦<WatchedDoor<'a, TcpDoor<'a, HostRuntime>> as Faulty>⟧.seen result ≡ fresh Untold }
 {
-    let door = TcpDoor::new(rt, rt.alloc(), &shared.sockets, &shared.stop, ADMIN_SIZES);
+    let door = TcpDoor::new(
+        rt,
+        rt.alloc(),
+        &shared.sockets,
+        &shared.stop,
+        ADMIN_SIZES,
+        &shared.log,
+    );
     WatchedDoor::of(door, &shared.pace)
 }
 
@@ -141,7 +148,7 @@ fn admin_door<'a>(
 fn run<'a>(
     threads: &'a (impl Threads + Wait + Sync),
     rt: &'a HostRuntime,
-    shared: &'a Shared,
+    shared: &'a Shared<'a>,
 ) -> Status {
     let words = match words(rt) {
         Ok(words) => words,
@@ -167,11 +174,19 @@ fn run<'a>(
         packets,
         wires,
         door: admin_door(rt, shared),
-        beat: TickBeat::new(rt, &shared.stop, &shared.pace),
+        beat: TickBeat::new(rt, &shared.stop, &shared.pace, &shared.log),
         gate: NoGate,
         clock: SystemClock::new(rt, &shared.pace),
-        probe: TcpProbe::new(rt, threads, &shared.hosts),
-        streams: TcpDoor::new(rt, alloc, &shared.sockets, &shared.stop, STREAM_SIZES),
+        probe: TcpProbe::new(rt, threads, &shared.hosts, &shared.log),
+        streams: TcpDoor::new(
+            rt,
+            alloc,
+            &shared.sockets,
+            &shared.stop,
+            STREAM_SIZES,
+            &shared.log,
+        ),
+        log: &shared.log,
     };
     statsd(threads, alloc, behind_name(words.as_slice()), &mut world)
 }

@@ -32,7 +32,7 @@ pub(crate) fn is_standard(at: &Address) -> bool
 /// `WriteZero`, `TimedOut`, and those of the system.
 pub(crate) fn write_text(
     rt: &HostRuntime,
-    shared: &Shared,
+    shared: &Shared<'_>,
     text: Text,
     bytes: &[u8],
 ) -> io::Result<usize>

@@ -16,7 +16,7 @@ join-one-requires-after_bounds g c κs within =
     let two = (AllByRecursion-back Is c.pop.new.self.items (c.in-Some.two ∷ []) both).0 in
     let first = subst (AllByRecursion Is) c.in-Some-pop.ensures.items (AllByRecursion-front Is c.pop.new.self.items (c.in-Some.two ∷ []) both) in
     let one = (AllByRecursion-back Is c.pop-2.new.self.items (c.in-Some-pop.one ∷ []) first).0 in
-    (((one, two), search rules), (behind.0, omega (arith, c.in_ok-pool.ensures.shards), record { limits = c.in_ok-spare.ensures.limits ∙ sym c.in_ok-pool.ensures.limits; no_samples = c.in_ok-spare.ensures.held; no_entries = c.in_ok-spare.ensures.entries }))
+    ((((one, two), search rules), search rules), (behind.0, omega (arith, c.in_ok-pool.ensures.shards), record { limits = c.in_ok-spare.ensures.limits ∙ sym c.in_ok-pool.ensures.limits; no_samples = c.in_ok-spare.ensures.held; no_entries = c.in_ok-spare.ensures.entries }))
 
 pub close-books-requires-clause-all : goal.close-books-requires-clause-all
 close-books-requires-clause-all g c =

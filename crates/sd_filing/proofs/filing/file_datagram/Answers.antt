@@ -1,50 +1,69 @@
-use Rattle.std.proofs.Common.{◌≡◌, refl, subst, ◌∙◌, arith}
-use Rattle.std.specs.Prelude.{Result, Ok, ⊤}
-use Rattle.sd_model_text.specs.Lines.{Sample, reading}
+use Rattle.std.proofs.Common.{length, refl, ap, ◌∙◌, arith}
 use Rattle.sd_model_text.proofs.PieceCounts.{length-pieces}
-use Rattle.sd_line.specs.Piece.{Gives, filled}
-use Rattle.sd_line.specs.declared.piece.Bad.{Bad}
-use Rattle.sd_filing.proofs.FilingLemmas.{none_filed, all_filed, good_filed, shard_below}
+use Rattle.sd_batch.specs.Batch.{Waiting}
+use Rattle.sd_filing.proofs.FilingLemmas.{all_filed, none_filed, piece_filed, reads_same, submitted_filed}
 use Rattle.sd_filing.proofs.filing.file_datagram.Goals as goal
 
 pub loop-piece-init : goal.loop-piece-init
-loop-piece-init g c =
-    let group = c.args.group.now in
-    let seat = c.args.seat.now in
-    record {
-      ready = c.requires.ready;
-      shards = refl;
-      caller = refl;
-      files = rw c.new-lines.ensures (none_filed _ _ _ _ (g.met.G.Submit.adds_none group seat c.requires.ready));
-    }
+loop-piece-init g c = record {
+  ready = c.requires.ready;
+  shards = refl;
+  caller = refl;
+  batch = refl;
+  room = let none = ap length c.requires.batch.none in let room = c.requires.batch.room in omega (arith, none, room);
+  files = rw c.new-lines.ensures (none_filed _ _ _ _ _ c.requires.batch.none (g.met.G.Submit.adds_none c.args.group.now c.args.seat.now c.requires.ready));
+}
 
-pub overflow_add-filed : goal.overflow_add-filed
-overflow_add-filed g c = omega (arith, length-pieces c.args.datagram.now, c.requires.datagram, c.loop-piece.invariant.files.count)
+pub note-requires : goal.note-requires
+note-requires g c =
+    let files = c.loop-piece.invariant.files in
+    let whole = files.whole in
+    let count = files.count in
+    let few = length-pieces c.args.datagram.now in
+    record { few = (omega (arith, count, few, c.requires.datagram), omega (arith, whole, count, few, c.requires.datagram)) }
 
-pub file_sample-requires-clause-few : goal.file_sample-requires-clause-few
-file_sample-requires-clause-few g c =
-    omega (arith, length-pieces c.args.datagram.now, c.requires.datagram, c.loop-piece.invariant.files.count, c.loop-piece.invariant.files.whole)
+pub submit_full-requires-clause-few : goal.submit_full-requires-clause-few
+submit_full-requires-clause-few g c =
+    let files = piece_filed _ _ _ _ _ _ _ _ _ _ c.in-Some.ensures.next c.loop-piece.invariant.files in
+    let whole = files.whole in
+    let count = files.count in
+    let few = length-pieces c.args.datagram.now in
+    let same = c.note.ensures in
+    rw same (omega (arith, whole, count, few, c.requires.datagram))
 
-pub overflow_add-filed-in-Err : goal.overflow_add-filed-in-Err
-overflow_add-filed-in-Err g c =
-    omega (arith, length-pieces c.args.datagram.now, c.requires.datagram, c.loop-piece.invariant.files.count, c.loop-piece.invariant.files.whole)
-
-pub loop-piece-preserved-in-Ok : goal.loop-piece-preserved-in-Ok
-loop-piece-preserved-in-Ok g c =
+pub loop-piece-preserved : goal.loop-piece-preserved
+loop-piece-preserved g c =
     let inv = c.loop-piece.invariant in
     let group = c.args.group.now in
-    let next = c.in-Some.ensures.next in
-    let s = c.next_into.new.sample in
-    let is : reading next.0 ≡ Ok s = subst (λ (a : Result ⊤ Bad). Gives (λ (x : Sample). x) (filled s a) (reading next.0)) c.in-Ok.is next.2.read in
-    let submits = rw (inv.shards, inv.caller) at c.file_sample.ensures.submits in
+    let full = c.submit_full.ensures in
+    let read = c.in-Some.ensures.next in
+    let files = rw (← c.note.ensures) at (piece_filed _ _ _ _ _ _ _ _ _ _ read inv.files) in
+    let submits = rw (inv.shards, inv.caller) at full.submits in
+    let same = reads_same _ _ _ _ _ read in
     record {
-      ready = c.file_sample.ensures.ready;
-      shards = c.file_sample.ensures.shards ∙ inv.shards;
-      caller = c.file_sample.ensures.caller ∙ inv.caller;
-      files =
-          good_filed _ _ _ _ _ _ _ _ _ _ _ _ _ (g.met.G.Submit.adds_next group c.args.seat.now c.loop-piece.seat c.file_sample.new.seat)
-          (shard_below s.key _ (g.met.G.Submit.some_shards group c.args.seat.now c.requires.ready)) next.1 is refl inv.files submits;
+      ready = full.ready;
+      shards = full.shards ∙ inv.shards;
+      caller = full.caller ∙ inv.caller;
+      batch = λ k. record { shards = (ap (λ (w : Waiting). w.shards) full.batch ∙ same.0 ∙ ap (λ (w : Waiting). w.shards) inv.batch) k; room = (ap (λ (w : Waiting). w.room) full.batch ∙ same.1 ∙ ap (λ (w : Waiting). w.room) inv.batch) k; items = c.submit_full.new.batch.items };
+      room = let room = ap (λ (w : Waiting). w.room) full.batch in let low = full.room in omega (arith, room, low);
+      files = submitted_filed _ _ _ _ _ _ _ _ _ _ _ (g.met.G.Submit.adds_next group c.args.seat.now c.loop-piece.seat c.submit_full.new.seat) files submits;
     }
 
+pub submit_all-requires-clause-few : goal.submit_all-requires-clause-few
+submit_all-requires-clause-few g c =
+    let files = c.loop-piece.invariant.files in
+    let whole = files.whole in
+    let count = files.count in
+    let few = length-pieces c.args.datagram.now in
+    let same = ap (λ (w : Waiting). length w.items) (c.in_default.ensures.end refl).2 in
+    omega (arith, whole, count, few, c.requires.datagram, same)
+
 pub returns-clause-files : goal.returns-clause-files
-returns-clause-files g c = all_filed _ _ _ _ _ _ c.requires.datagram (c.in_default.ensures.end refl).0 c.loop-piece.invariant.files
+returns-clause-files g c =
+    let inv = c.loop-piece.invariant in
+    let group = c.args.group.now in
+    let end = c.in_default.ensures.end refl in
+    let waits = ap (λ (w : Waiting). w.items) end.2 in
+    let submits = rw (inv.shards, inv.caller, waits) at c.submit_all.ensures.submits in
+    all_filed _ _ _ _ _ _ c.requires.datagram end.0
+    (submitted_filed _ _ _ _ _ _ _ _ _ _ _ (g.met.G.Submit.adds_next group c.args.seat.now c.loop-piece.seat c.submit_all.new.seat) inv.files submits)

@@ -1,4 +1,4 @@
-use Rattle.std.proofs.Common.{◌≡◌, length}
+use Rattle.std.proofs.Common.{◌≡◌, ◌<◌, length}
 use Rattle.sd_filing.proofs.FilingLemmas.{Files}
 use Rattle.sd_filing.proofs.filing.file_datagram.Given as goal
 
@@ -7,7 +7,9 @@ invariant-loop-piece g l = record {
   ready : g.G.Submit.is_ready l.group l.seat;
   shards : g.G.Submit.shards l.group l.seat ≡ g.G.Submit.shards l.group l.fn.seat;
   caller : g.G.Submit.caller l.group l.seat ≡ g.G.Submit.caller l.group l.fn.seat;
-  files : Files (g.G.Submit.adds l.group l.fn.seat l.seat) (g.G.Submit.shards l.group l.fn.seat) (g.G.Submit.caller l.group l.fn.seat) l.datagram l.lines l.filed;
+  batch : l.batch ≡ record l.fn.batch { items = l.batch.items };
+  room : length l.batch.items < l.batch.room;
+  files : Files (g.G.Submit.adds l.group l.fn.seat l.seat) (g.G.Submit.shards l.group l.fn.seat) (g.G.Submit.caller l.group l.fn.seat) l.datagram l.lines l.batch.items l.filed;
 }
 
 abbrev pub decreases-loop-piece : goal.decreases-loop-piece

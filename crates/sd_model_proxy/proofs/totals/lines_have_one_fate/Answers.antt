@@ -1,12 +1,15 @@
 use Rattle.std.proofs.Common.{length}
-use Rattle.sd_model_proxy.specs.Routes.{how_many, is_bad, is_not_sent, is_sent, is_unowned}
+use Rattle.std.specs.Prelude.{count_by}
+use Rattle.sd_model_proxy.specs.Batches.{lines_not_sent, lines_sent, over_nodes}
+use Rattle.sd_model_proxy.specs.Routes.{is_bad, is_unowned, routes_of}
 use Rattle.sd_model_proxy.proofs.TotalLemmas.{all_fates, counted_fates}
 use Rattle.sd_model_proxy.proofs.totals.lines_have_one_fate.Goals as goal
 
 pub returns-clause-lines : goal.returns-clause-lines
-returns-clause-lines c nodes packets routed = all_fates nodes routed
+returns-clause-lines c = all_fates
 
 pub returns-clause-totals : goal.returns-clause-totals
-returns-clause-totals c nodes r few =
-    counted_fates (length r.routed) (how_many nodes is_bad r.routed) (how_many nodes is_sent r.routed) (how_many nodes is_unowned r.routed) (how_many nodes is_not_sent r.routed)
-    (all_fates nodes r.routed) few
+returns-clause-totals c most nodes r are few =
+    let routes = routes_of nodes r.reads in
+    counted_fates (length routes) (count_by is_bad routes) (over_nodes nodes r.batched lines_sent) (count_by is_unowned routes) (over_nodes nodes r.batched lines_not_sent)
+    (all_fates most nodes r.reads r.batched are) few

@@ -9,7 +9,8 @@ invariant-loop-line g l =
     record {
       ring : l.ring ≡ l.fn.ring;
       wires : length l.wires ≡ length l.fn.wires;
-      going : Going l.fn.ring l.up l.datagram l.lines (map seen l.fn.wires) (map seen l.wires) (totals_view l.fn.totals) (totals_view l.totals);
+      waiting : length l.waiting ≡ length l.fn.waiting;
+      going : Going l.fn.ring l.up l.datagram l.lines l.fn.waiting l.waiting (map seen l.fn.wires) (map seen l.wires) (totals_view l.fn.totals) (totals_view l.totals);
     }
 
 abbrev pub decreases-loop-line : goal.decreases-loop-line

@@ -1,12 +1,11 @@
-use Rattle.std.proofs.Common.{◌∙◌, ◌^◌, List, map, take, refl, subst, arith}
+use Rattle.std.proofs.Common.{◌∙◌, ◌^◌, ℕ, List, [], ◌∷◌, map, take, refl, subst, arith}
 use Rattle.std.proofs.lemmas.List.{length-map}
 use Rattle.sd_model_settings.specs.Entries.{Node}
-use Rattle.sd_model_proxy.specs.Routes.{lines_of_read}
 use Rattle.sd_outside.specs.declared.datagrams.Ended.TheVariants.{End, Failed, Worn}
 use Rattle.sd_live.specs.Live.{looks_of, seen}
-use Rattle.sd_proxy.specs.Forwarding.{Forwards}
+use Rattle.sd_proxy.specs.Forwarding.{Forwards, NoneWaits}
 use Rattle.sd_proxy.specs.Views.{totals_view}
-use Rattle.sd_proxy.proofs.RelayLemmas.{Looked, looked-next, looked-none, read_of, ran_first, ran_read, ran_out, out_looked, ends_failed, ends_spent, same_faults}
+use Rattle.sd_proxy.proofs.RelayLemmas.{Looked, looked-next, looked-none, read_of, ran_first, ran_idle, ran_read, ran_out, out_looked, ends_failed, ends_spent, same_faults}
 use Rattle.sd_proxy.proofs.looking.proxy_part.Goals as goal
 
 pub loop-turn-init : goal.loop-turn-init
@@ -17,8 +16,10 @@ loop-turn-init g c =
       ring = refl;
       pass = (c.requires.pass, refl);
       wires = refl;
+      waiting = refl;
+      none = λ most none. none;
       room = refl;
-      ran = ran_first _ (Looked history history looks looks) _ _ _ (looked-none history looks) (g.met.D.Datagrams.turns_fit c.args.packets.now) c.none-totals.ensures;
+      ran = λ most none. ran_first most _ (Looked history history looks looks) _ _ _ (looked-none history looks) (g.met.D.Datagrams.turns_fit c.args.packets.now) c.none-totals.ensures;
     }
 
 pub loop-turn-preserved : goal.loop-turn-preserved
@@ -35,37 +36,52 @@ loop-turn-preserved g c =
     let looks_after = looks_of c.look-up.new.pass in
     let forward = c.forward_datagram.ensures in
     let datagram = take c.in-Packet.len c.next.new.buf in
-    let forwards =
-    subst (λ (ns : List Node). Forwards ns 1 (lines_of_read (read_of datagram up)) (map wire c.loop-turn.wires) (map wire c.forward_datagram.new.wires) (totals_view c.loop-turn.totals) (totals_view c.forward_datagram.new.totals))
-    loop.ring forward.forwards in
+    let forwards = λ (most : ℕ) (none : NoneWaits most c.args.waiting.now).
+    subst (λ (ns : List Node). Forwards most ns (read_of datagram up ∷ []) (map wire c.loop-turn.wires) (map wire c.forward_datagram.new.wires) (totals_view c.loop-turn.totals) (totals_view c.forward_datagram.new.totals))
+    loop.ring (forward.forwards most (loop.none most none)) in
     record {
       ring = forward.ring ∙ loop.ring;
       pass = (look.pass.0, look.pass.1 ∙ loop.pass.1);
       wires = forward.wires ∙ loop.wires;
+      waiting = forward.waiting ∙ loop.waiting;
+      none = λ most none. forward.none most (loop.none most none);
       room = c.next.auto.buf ∙ loop.room;
-      ran = ran_read _ (Looked history before looks looks_before) _ _ _ _ (Looked history after looks looks_after) datagram up _ _ _ _ _ (looked-next history before after looks looks_before looks_after up datagram look.seen look.answer look.looks) loop.ran c.in-Packet.ensures.1 forwards;
+      ran = λ most none. ran_read most _ (Looked history before looks looks_before) _ _ _ _ (Looked history after looks looks_after) datagram up _ _ _ _ _ (looked-next history before after looks looks_before looks_after up datagram look.seen look.answer look.looks) (loop.ran most none) c.in-Packet.ensures.1 (forwards most none);
     }
 
 pub returns-in-End-clause-proxies : goal.returns-in-End-clause-proxies
-returns-in-End-clause-proxies g c =
+returns-in-End-clause-proxies g c most none =
     let loop = c.loop-turn.invariant in
     let known = Looked (seen c.args.pass.now) (seen c.loop-turn.pass) (looks_of c.args.pass.now) (looks_of c.loop-turn.pass) in
-    out_looked _ _ _ _ _ _ _ _ _ _
-    (ran_out _ known _ _ _ _ _ _ End c.loop-turn.totals c.proxied.result c.proxied.ensures.ended c.proxied.ensures.totals loop.ran (length-map _ _ ∙ c.requires.wires) (same_faults _ _ c.in-End.ensures.0)
-    (ends_spent _ known _ _ _ _ _ _ _ loop.ran c.in-End.ensures.0 c.in-End.ensures.1 (omega arith)))
+    out_looked most _ _ _ _ _ _ _ _ _ _
+    (ran_out most _ known _ _ _ _ _ _ End c.loop-turn.totals c.proxied.result c.proxied.ensures.ended c.proxied.ensures.totals (loop.ran most none) (length-map _ _ ∙ c.requires.wires) (same_faults _ _ c.in-End.ensures.0)
+    (ends_spent most _ known _ _ _ _ _ _ _ (loop.ran most none) c.in-End.ensures.0 c.in-End.ensures.1 (omega arith)))
 
 pub returns-in-Failed-clause-proxies : goal.returns-in-Failed-clause-proxies
-returns-in-Failed-clause-proxies g c =
+returns-in-Failed-clause-proxies g c most none =
     let loop = c.loop-turn.invariant in
     let known = Looked (seen c.args.pass.now) (seen c.loop-turn.pass) (looks_of c.args.pass.now) (looks_of c.loop-turn.pass) in
-    out_looked _ _ _ _ _ _ _ _ _ _
-    (ran_out _ known _ _ _ _ _ _ Failed c.loop-turn.totals c.proxied-in-Failed.result c.proxied-in-Failed.ensures.ended c.proxied-in-Failed.ensures.totals loop.ran (length-map _ _ ∙ c.requires.wires) c.in-Failed.ensures.same
-    (ends_failed _ known _ _ _ _ _ _ _ loop.ran c.in-Failed.ensures (omega arith)))
+    out_looked most _ _ _ _ _ _ _ _ _ _
+    (ran_out most _ known _ _ _ _ _ _ Failed c.loop-turn.totals c.proxied-in-Failed.result c.proxied-in-Failed.ensures.ended c.proxied-in-Failed.ensures.totals (loop.ran most none) (length-map _ _ ∙ c.requires.wires) c.in-Failed.ensures.same
+    (ends_failed most _ known _ _ _ _ _ _ _ (loop.ran most none) c.in-Failed.ensures (omega arith)))
 
 pub returns-clause-proxies : goal.returns-clause-proxies
-returns-clause-proxies g c =
+returns-clause-proxies g c most none =
     let loop = c.loop-turn.invariant in
     let known = Looked (seen c.args.pass.now) (seen c.loop-turn.pass) (looks_of c.args.pass.now) (looks_of c.loop-turn.pass) in
-    out_looked _ _ _ _ _ _ _ _ _ _
-    (ran_out _ known _ _ _ _ _ _ (Worn (2 ^ 62)) c.loop-turn.totals c.proxied-2.result c.proxied-2.ensures.ended c.proxied-2.ensures.totals loop.ran (length-map _ _ ∙ c.requires.wires) refl
-    (refl, omega arith, loop.ran.faults))
+    out_looked most _ _ _ _ _ _ _ _ _ _
+    (ran_out most _ known _ _ _ _ _ _ (Worn (2 ^ 62)) c.loop-turn.totals c.proxied-2.result c.proxied-2.ensures.ended c.proxied-2.ensures.totals (loop.ran most none) (length-map _ _ ∙ c.requires.wires) refl
+    (refl, omega arith, (loop.ran most none).faults))
+
+pub loop-turn-preserved-in-Idle : goal.loop-turn-preserved-in-Idle
+loop-turn-preserved-in-Idle g c =
+    let loop = c.loop-turn.invariant in
+    record {
+      ring = loop.ring;
+      pass = loop.pass;
+      wires = loop.wires;
+      waiting = loop.waiting;
+      none = loop.none;
+      room = c.next.auto.buf ∙ loop.room;
+      ran = λ most none. ran_idle most _ (Looked (seen c.args.pass.now) (seen c.loop-turn.pass) (looks_of c.args.pass.now) (looks_of c.loop-turn.pass)) _ _ _ _ _ _ _ (loop.ran most none) c.in-Idle.ensures;
+    }

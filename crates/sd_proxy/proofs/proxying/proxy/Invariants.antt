@@ -1,4 +1,5 @@
-use Rattle.std.proofs.Common.{◌≡◌, length, map}
+use Rattle.std.proofs.Common.{◌≡◌, ℕ, length, map}
+use Rattle.sd_proxy.specs.Forwarding.{NoneWaits}
 use Rattle.sd_proxy.specs.Views.{totals_view}
 use Rattle.sd_proxy.proofs.RelayLemmas.{Ran, under}
 use Rattle.sd_proxy.proofs.proxying.proxy.Given as goal
@@ -9,6 +10,8 @@ invariant-loop-turn g l =
     record {
       ring : l.ring ≡ l.fn.ring;
       wires : length l.wires ≡ length l.fn.wires;
+      waiting : length l.waiting ≡ length l.fn.waiting;
+      none : (most : ℕ) → NoneWaits most l.fn.waiting → NoneWaits most l.waiting;
       room : length l.buf ≡ length l.fn.buf;
-      ran : Ran l.fn.ring (under l.up) (g.D.Faulty.seen l.fn.packets) (g.D.Faulty.seen l.packets) l._turn (map seen l.fn.wires) (map seen l.wires) (totals_view l.totals);
+      ran : (most : ℕ) → NoneWaits most l.fn.waiting → Ran most l.fn.ring (under l.up) (g.D.Faulty.seen l.fn.packets) (g.D.Faulty.seen l.packets) l._turn (map seen l.fn.wires) (map seen l.wires) (totals_view l.totals);
     }

@@ -10,6 +10,7 @@ invariant-loop-rest g l = record {
   seat : IsSeatOf l.group.pool.now l.seat;
   who : who_is l.seat ≡ who_is l.initial.seat;
   none_ready : l.cutter.is_ready ≡ false;
+  batch : l.batch ≡ l.initial.batch;
   front : List ℕ;
   cut : l.bytes ≡ front ++ l.rest;
   takes : TakesBytes (shards_of l.group.pool.now) front l.initial.cutter l.cutter (own_at l.initial.seat) (own_at l.seat) (tally_of l.account.tally) l.account.taken;

@@ -14,6 +14,7 @@ loop-read-init g c = record {
   who = refl;
   none_ready = ap (λ (s : Cutting). s.is_ready) c.reset.ensures;
   room = refl;
+  batch = refl;
   so_far = rw (c.reset.ensures, c.none-account.ensures.tally, c.none-account.ensures.taken) (SoFar-none _ (shards_of c.args.pool.now) _ _ _);
 }
 
@@ -28,6 +29,7 @@ loop-read-preserved g c =
       who = read.seat.1 ∙ inv.who;
       none_ready = read.none_ready;
       room = read.room ∙ inv.room;
+      batch = read.batch ∙ inv.batch;
       so_far = rw (c.and-account.ensures.tally, c.and-account.ensures.taken) (SoFar-next _ (shards_of c.args.pool.now) _ _ _ _ _ _ _ _ _ _ _ _ _ _ _ _ read.none_ready inv.so_far c.in-Ok.ensures.takes);
     }
 

@@ -16,5 +16,6 @@ invariant-loop-read g l =
       who : who_is l.seat ≡ who_is l.initial.seat;
       none_ready : l.cutter.is_ready ≡ false;
       room : length l.buf ≡ length l.initial.buf;
+      batch : l.batch ≡ l.initial.batch;
       so_far : SoFar (g.C.Clock.may_say l.clock) (shards_of l.pool) l._read (source l.initial.source) (source l.source) l.cutter (own_at l.initial.seat) (own_at l.seat) (part_of l.initial.own) (part_of l.own) (tally_of l.account.tally) l.account.taken;
     }

@@ -3,7 +3,7 @@ use Rattle.std.proofs.lemmas.List.{length_push, length-map}
 use Rattle.std.proofs.Math.Nat.{suc-mul}
 use Rattle.std.proofs.lemmas.List.Elements.{All-pop, All-push, All-same}
 use Rattle.sd_plan.specs.Entries.{node_view}
-use Rattle.sd_relay.specs.Parts.{HasPlace, IsFitted, pass_in, source_in, wires_in}
+use Rattle.sd_relay.specs.Parts.{HasPlace, IsClear, IsFitted, NoLineWaits, pass_in, source_in, wires_in}
 use Rattle.sd_workers.proofs.MovingLemmas.{part-moved, run-moved}
 use Rattle.sd_relay.proofs.parts.gather.Goals as goal
 
@@ -22,7 +22,11 @@ loop-room-preserved g c =
       len = let a = loop.len in let b = push.len in omega arith;
       room = let a = loop.room in let b = push.len in let d = push.capacity in omega arith;
       rooms = taken.0;
-      fitted = All-same (IsFitted nodes) _ _ push.items (All-push (IsFitted nodes) _ _ loop.fitted (taken.1.0, wires.len ∙ sym (length-map c.args.nodes.now node_view), taken.1.3));
+      fitted = All-same (IsFitted nodes) _ _ push.items (All-push (IsFitted nodes) _ _ loop.fitted (taken.1.0, wires.len ∙ sym (length-map c.args.nodes.now node_view), taken.1.3, taken.1.4));
+      clear = λ most all.
+          let both = loop.clear most all in
+          let popped_clear = All-pop (IsClear most) _ _ (Some c.in-Some.room) popped.items both.0 in
+          (popped_clear.0, All-same (NoLineWaits most) _ _ push.items (All-push (NoLineWaits most) _ _ both.1 popped_clear.1));
       packets = part-moved source_in _ _ _ _ _ _ loop.packets source.items push.items;
       wires = run-moved wires_in _ _ _ _ _ _ loop.wires wires.items push.items;
       passes = part-moved pass_in _ _ _ _ _ _ loop.passes pass.items push.items;
@@ -33,3 +37,6 @@ loop-room-preserved g c =
       wires_room = wires.capacity ∙ loop.wires_room;
       passes_room = pass.capacity ∙ loop.passes_room;
     }
+
+pub returns-clause-clear : goal.returns-clause-clear
+returns-clause-clear g c most all = (c.loop-room.invariant.clear most all).1

@@ -1,6 +1,6 @@
-use Rattle.std.proofs.Common.{◌≡◌, ◌+◌, ◌*◌, ◌≤◌, ◌++◌, All, flat_map, length, map, vec_capacity}
+use Rattle.std.proofs.Common.{◌≡◌, ◌+◌, ◌*◌, ◌≤◌, ◌++◌, ℕ, All, flat_map, length, map, vec_capacity}
 use Rattle.sd_plan.specs.Entries.{node_view}
-use Rattle.sd_relay.specs.Parts.{HasPlace, IsFitted, pass_in, source_in, wires_in}
+use Rattle.sd_relay.specs.Parts.{HasPlace, IsClear, IsFitted, NoLineWaits, pass_in, source_in, wires_in}
 use Rattle.sd_relay.proofs.parts.gather.Given as goal
 
 abbrev pub invariant-loop-room : goal.invariant-loop-room
@@ -9,6 +9,7 @@ invariant-loop-room g l = record {
   room : length l.posts.items + length l.rooms.items ≤ vec_capacity l.posts;
   rooms : All (HasPlace (map node_view l.nodes)) l.rooms.items;
   fitted : All (IsFitted (map node_view l.nodes)) l.posts.items;
+  clear : (most : ℕ) → All (IsClear most) l.initial.rooms.items → All (IsClear most) l.rooms.items × All (NoLineWaits most) l.posts.items;
   packets : l.initial.packets.items ≡ map source_in l.posts.items ++ l.packets.items;
   wires : l.initial.wires.items ≡ flat_map wires_in l.posts.items ++ l.wires.items;
   passes : l.initial.passes.items ≡ map pass_in l.posts.items ++ l.passes.items;

@@ -1,7 +1,7 @@
 use Rattle.std.proofs.Common.{ℕ, List, ◌∷◌, ◌∙◌, ◌++◌, All, length, map, flat_map, sym, ap, subst, arith, length-append}
 use Rattle.std.specs.List.{AllByRecursion}
 use Rattle.std.proofs.lemmas.List.{with_items_is, length-map}
-use Rattle.sd_model_proxy.specs.Routes.{sums_of_totals}
+use Rattle.sd_model_proxy.specs.Batches.{sums_of_totals}
 use Rattle.sd_model_live.specs.Proxy.{Begins, all_of, first_history}
 use Rattle.sd_model_live.specs.Checks.{Check, HasChecked}
 use Rattle.sd_model_live.proofs.OrderLemmas.{one_order}
@@ -10,7 +10,7 @@ use Rattle.sd_live.specs.Live.{IsPassOf, seen}
 use Rattle.sd_live.specs.declared.pass.UpPass.{UpPass}
 use Rattle.sd_check.specs.Checking as checking
 use Rattle.sd_proxy.specs.Views.{end_view}
-use Rattle.sd_relay.specs.Parts.{IsFitted, pass_in, source_in, wires_in}
+use Rattle.sd_relay.specs.Parts.{IsFitted, NoLineWaits, pass_in, source_in, wires_in}
 use Rattle.sd_relay.specs.Posts.{IsReady}
 use Rattle.sd_relay.specs.Relaying.{ended_in}
 use Rattle.sd_relay.specs.Room.{IsFreshPass}
@@ -105,7 +105,7 @@ close-requires-clause-passes g c =
     subst (λ l. All (IsPassOf c.args.room.cell) (map pass_in l)) (sym same) (ran_passes g.D.Faulty.seen g.L.Faulty.seen c.args.room.cell slice.result.now ran.new.posts all)
 
 pub returns : goal.returns
-returns g c =
+returns g c most none =
     let cell = c.args.room.cell in
     let nodes = map node_view c.args.nodes.now in
     let ran = c.run_relays-checked in
@@ -118,20 +118,21 @@ returns g c =
     let all = all_ran g.D.Faulty.seen g.L.Faulty.seen cell xs ys ran.ensures.len ran.ensures.each in
     let fitted = subst (AllByRecursion (IsFitted nodes)) (sym value) (by_recursion (IsFitted nodes) c.gather.new.posts.items gathered.fitted) in
     let fresh = subst (AreFresh cell nodes) (sym value) (fresh_posts cell nodes c.gather.new.posts.items c.gather.new.passes.items (subst (AllByRecursion (IsFreshPass cell nodes)) gathered.passes (by_recursion (IsFreshPass cell nodes) c.args.room.passes.receivers.items c.requires.room.passes))) in
-    let relays = relays_of g.D.Faulty.seen g.L.Faulty.seen cell xs ys all in
+    let clear = subst (AllByRecursion (NoLineWaits most)) (sym value) (by_recursion (NoLineWaits most) c.gather.new.posts.items (gathered.clear most none)) in
+    let relays = relays_of g.D.Faulty.seen g.L.Faulty.seen cell most xs ys all clear in
     let history = seen ran.new.pass in
     let checks = ran.ensures.checks in
     let begins = subst (λ l. All (λ (p : UpPass). Begins (seen p) history) (map pass_in l)) same c.close.ensures.begins in
     let more = c.gather.new.packets.items in
     let rest = c.gather.new.wires.items in
-    let told = all_relays g.D.Faulty.seen g.L.Faulty.seen cell nodes more rest xs ys all fitted in
+    let told = all_relays g.D.Faulty.seen g.L.Faulty.seen cell most nodes more rest xs ys all clear fitted in
     let sources = gathered.packets ∙ ap (λ l. map source_in l ++ more) (sym value) in
     let sources_now = c.close.ensures.packets ∙ ap (λ l. map source_in l ++ more) same in
     let wires = gathered.wires ∙ ap (λ l. flat_map wires_in l ++ rest) (sym value) in
     let wires_now = c.close.ensures.wires ∙ ap (λ l. flat_map wires_in l ++ rest) same in
     let checked = subst (λ h. HasChecked nodes checks.made (checking.end_view ran.result.ended) h history (g.P.Faulty.seen c.args.beat.now) (g.P.Faulty.seen ran.new.beat) (g.Q.Faulty.seen c.args.probe.now) (g.Q.Faulty.seen ran.new.probe)) c.requires.room.first checks.checked in
     let pubs = map (λ (k : Check). k.up) checks.made in
-    let order = one_order nodes history pubs relays checked.published (relays_looked g.D.Faulty.seen g.L.Faulty.seen cell nodes history xs ys all fresh begins) in
+    let order = one_order nodes history pubs relays checked.published (relays_looked g.D.Faulty.seen g.L.Faulty.seen cell most nodes history xs ys all clear fresh begins) in
     record {
       relays = relays;
       checks = checks.made;
@@ -143,9 +144,9 @@ returns g c =
             (checked.published ∙ ap (λ (l : List ℕ). all_of (length nodes) ∷ l) (sym order.published)) checked;
         are = rw (sources, sources_now, wires, wires_now) told;
       };
-      count = relays_count g.D.Faulty.seen g.L.Faulty.seen cell xs ys all ∙ ran.ensures.len ∙ ap length value ∙ gathered.len;
-      received = ap (map end_view) (c.ends_in-received.ensures ∙ ap (map ended_in) (c.deref.ensures.value ∙ same)) ∙ relays_ended g.D.Faulty.seen g.L.Faulty.seen cell xs ys all;
-      sums = c.add_up-sums.ensures ∙ ap (λ l. sums_of_totals (map totals_in l)) (c.deref-2.ensures.value ∙ same) ∙ ap sums_of_totals (relays_counted g.D.Faulty.seen g.L.Faulty.seen cell nodes xs ys all fitted);
+      count = relays_count g.D.Faulty.seen g.L.Faulty.seen cell most xs ys all clear ∙ ran.ensures.len ∙ ap length value ∙ gathered.len;
+      received = ap (map end_view) (c.ends_in-received.ensures ∙ ap (map ended_in) (c.deref.ensures.value ∙ same)) ∙ relays_ended g.D.Faulty.seen g.L.Faulty.seen cell most xs ys all clear;
+      sums = c.add_up-sums.ensures ∙ ap (λ l. sums_of_totals (map totals_in l)) (c.deref-2.ensures.value ∙ same) ∙ ap sums_of_totals (relays_counted g.D.Faulty.seen g.L.Faulty.seen cell most nodes xs ys all clear fitted);
       checked = checks.count;
       faults = checks.faults;
     }

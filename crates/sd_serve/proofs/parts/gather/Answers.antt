@@ -2,7 +2,7 @@ use Rattle.std.proofs.Common.{◌≡◌, ◌∙◌, ◌+◌, ◌*◌, ◌≤◌,
 use Rattle.std.proofs.lemmas.List.{length_push}
 use Rattle.std.proofs.Math.Nat.{suc-mul}
 use Rattle.std.proofs.lemmas.List.Elements.{All-pop, All-push, All-same}
-use Rattle.sd_serve.specs.Parts.{HasPlace, IsFitted, own_in, seat_in, source_in, wires_in}
+use Rattle.sd_serve.specs.Parts.{HasBatch, HasPlace, IsBatched, IsFitted, own_in, seat_in, source_in, wires_in}
 use Rattle.sd_workers.proofs.MovingLemmas.{part-moved, run-moved}
 use Rattle.sd_serve.proofs.parts.gather.Goals as goal
 
@@ -22,6 +22,10 @@ loop-room-preserved g c =
       room = let a = loop.room in let b = push.len in let d = push.capacity in omega arith;
       rooms = taken.0;
       fitted = All-same (IsFitted c.args.run) _ _ push.items (All-push (IsFitted c.args.run) _ _ loop.fitted (wires.len, taken.1.2));
+      batches = λ shards given.
+          let before = loop.batches shards given in
+          let left = All-pop (HasBatch shards) _ _ (Some c.in-Some.room) popped.items before.0 in
+          (left.0, All-same (IsBatched shards) _ _ push.items (All-push (IsBatched shards) _ _ before.1 left.1));
       packets = part-moved source_in _ _ _ _ _ _ loop.packets source.items push.items;
       wires = run-moved wires_in _ _ _ _ _ _ loop.wires wires.items push.items;
       seats = part-moved seat_in _ _ _ _ _ _ loop.seats seat.items push.items;

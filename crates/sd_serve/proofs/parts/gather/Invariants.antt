@@ -1,5 +1,5 @@
-use Rattle.std.proofs.Common.{◌≡◌, ◌+◌, ◌*◌, ◌≤◌, ◌++◌, All, flat_map, length, map, vec_capacity}
-use Rattle.sd_serve.specs.Parts.{HasPlace, IsFitted, own_in, seat_in, source_in, wires_in}
+use Rattle.std.proofs.Common.{◌≡◌, ℕ, ◌+◌, ◌*◌, ◌≤◌, ◌++◌, All, flat_map, length, map, vec_capacity}
+use Rattle.sd_serve.specs.Parts.{HasBatch, HasPlace, IsBatched, IsFitted, own_in, seat_in, source_in, wires_in}
 use Rattle.sd_serve.proofs.parts.gather.Given as goal
 
 abbrev pub invariant-loop-room : goal.invariant-loop-room
@@ -8,6 +8,7 @@ invariant-loop-room g l = record {
   room : length l.posts.items + length l.rooms.items ≤ vec_capacity l.posts;
   rooms : All (HasPlace l.run) l.rooms.items;
   fitted : All (IsFitted l.run) l.posts.items;
+  batches : (shards : ℕ) → All (HasBatch shards) l.initial.rooms.items → All (HasBatch shards) l.rooms.items × All (IsBatched shards) l.posts.items;
   packets : l.initial.packets.items ≡ map source_in l.posts.items ++ l.packets.items;
   wires : l.initial.wires.items ≡ flat_map wires_in l.posts.items ++ l.wires.items;
   seats : l.initial.seats.items ≡ map seat_in l.posts.items ++ l.seats.items;

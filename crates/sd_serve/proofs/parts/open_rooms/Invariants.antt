@@ -1,5 +1,5 @@
 use Rattle.std.proofs.Common.{◌≡◌, ◌≤◌, All, length, vec_capacity}
-use Rattle.sd_serve.specs.Parts.{HasPlace}
+use Rattle.sd_serve.specs.Parts.{HasBatch, HasPlace}
 use Rattle.sd_serve.proofs.parts.open_rooms.Given as goal
 
 abbrev pub invariant-loop : goal.invariant-loop
@@ -7,4 +7,5 @@ invariant-loop g l = record {
   len : length l.rooms.items ≡ l.counter;
   room : l.count ≤ vec_capacity l.rooms;
   each : All (HasPlace l.run) l.rooms.items;
+  batches : All (HasBatch l.shards) l.rooms.items;
 }

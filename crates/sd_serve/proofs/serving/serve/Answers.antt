@@ -4,7 +4,7 @@ use Rattle.std.proofs.lemmas.List.{with_items_is, length-map, map-append}
 use Rattle.std.proofs.lemmas.List.Elements.{All-append}
 use Rattle.sd_turn.specs.Lists.{span}
 use Rattle.sd_desk.specs.Marks.{marks_of}
-use Rattle.sd_pool.specs.Pool.{IsNewSeatOf, IsSeatOf, own_at, who_is}
+use Rattle.sd_pool.specs.Pool.{IsNewSeatOf, IsSeatOf, own_at, shards_of, who_is}
 use Rattle.sd_pool.specs.declared.seat.Seat.{Seat}
 use Rattle.sd_pool.proofs.AlongLemmas.{AllByRecursion-append, AllByRecursion-back, AllByRecursion-front, none_in}
 use Rattle.sd_shared_desk.specs.Shared.{IsNewSeatOf as IsNewDeskSeatOf, IsSeatOf as IsDeskSeatOf, number_of_seat, part_of}
@@ -12,9 +12,9 @@ use Rattle.sd_flush.specs.Flushing.{MakesRoundAt, back_of, form_of, uses, uses_b
 use Rattle.sd_flush.specs.Tables.{waiting_in}
 use Rattle.sd_receive.specs.Posts.{IsReady, WasRun, ended_in}
 use Rattle.sd_serve.specs.Closing.{IsClosed}
-use Rattle.sd_serve.specs.LinePost.{line_keepers, line_owns, line_seats}
+use Rattle.sd_serve.specs.LinePost.{HasLineRoom, line_keepers, line_owns, line_seats}
 use Rattle.sd_serve.specs.OutRoom.{has_rooms}
-use Rattle.sd_serve.specs.Parts.{IsFitted, own_in, seat_in, source_in, wires_in}
+use Rattle.sd_serve.specs.Parts.{HasBatch, IsBatched, IsFitted, own_in, seat_in, source_in, wires_in}
 use Rattle.sd_serve.specs.Room.{outlets_of, sizing_in, submitters, with_outlets}
 use Rattle.sd_serve.specs.Serving.{end_of}
 use Rattle.sd_serve.proofs.ThroughLemmas.{sized}
@@ -45,7 +45,7 @@ take_line_post-line_post-requires-clause-seats g c =
     let xs = c.gather.new.posts.items in
     let all = counted_by who_is c.args.room.seats.receivers.items (submitters sizing) room.callers in
     let left = left_behind c.args.room.seats.receivers.items (map seat_in xs) c.gather.new.seats.items sizing.receivers (line_keepers sizing.streams) c.gather.ensures.seats all (length-map xs seat_in ∙ c.gather.ensures.len ∙ room.places) in
-    let there = line_there sizing.streams c.args.room.lines room.lines in
+    let there = line_there _ sizing.streams c.args.room.lines room.lines in
     omega (arith, left, there)
 
 pub take_line_post-line_post-requires-clause-owns : goal.take_line_post-line_post-requires-clause-owns
@@ -55,7 +55,7 @@ take_line_post-line_post-requires-clause-owns g c =
     let xs = c.gather.new.posts.items in
     let all = counted_by number_of_seat c.args.room.owns.items (submitters sizing + 2) room.numbers in
     let left = left_behind c.args.room.owns.items (map own_in xs) c.gather.new.owns.items sizing.receivers (line_keepers sizing.streams + 2) c.gather.ensures.owns (omega (arith, all)) (length-map xs own_in ∙ c.gather.ensures.len ∙ room.places) in
-    let there = line_there sizing.streams c.args.room.lines room.lines in
+    let there = line_there _ sizing.streams c.args.room.lines room.lines in
     omega (arith, left, there)
 
 pub take_first-own-requires : goal.take_first-own-requires
@@ -65,7 +65,7 @@ take_first-own-requires g c =
     let xs = c.gather.new.posts.items in
     let all = counted_by number_of_seat c.args.room.owns.items (submitters sizing + 2) room.numbers in
     let left = left_behind c.args.room.owns.items (map own_in xs) c.gather.new.owns.items sizing.receivers (line_keepers sizing.streams + 2) c.gather.ensures.owns (omega (arith, all)) (length-map xs own_in ∙ c.gather.ensures.len ∙ room.places) in
-    let there = line_there sizing.streams c.args.room.lines room.lines in
+    let there = line_there _ sizing.streams c.args.room.lines room.lines in
     let line = lines_long c.take_line_post-line_post.result c.args.room.lines c.take_line_post-line_post.ensures.room in
     let last = left_behind c.gather.new.owns.items (line_owns c.take_line_post-line_post.result) c.take_line_post-line_post.new.owns.items (line_keepers sizing.streams) 2 c.take_line_post-line_post.ensures.owns left (line.1 ∙ there) in
     omega (arith, last)
@@ -77,7 +77,7 @@ take_first-admin_own-requires g c =
     let xs = c.gather.new.posts.items in
     let all = counted_by number_of_seat c.args.room.owns.items (submitters sizing + 2) room.numbers in
     let left = left_behind c.args.room.owns.items (map own_in xs) c.gather.new.owns.items sizing.receivers (line_keepers sizing.streams + 2) c.gather.ensures.owns (omega (arith, all)) (length-map xs own_in ∙ c.gather.ensures.len ∙ room.places) in
-    let there = line_there sizing.streams c.args.room.lines room.lines in
+    let there = line_there _ sizing.streams c.args.room.lines room.lines in
     let line = lines_long c.take_line_post-line_post.result c.args.room.lines c.take_line_post-line_post.ensures.room in
     let last = left_behind c.gather.new.owns.items (line_owns c.take_line_post-line_post.result) c.take_line_post-line_post.new.owns.items (line_keepers sizing.streams) 2 c.take_line_post-line_post.ensures.owns left (line.1 ∙ there) in
     let next = ap length c.take_first-own.ensures.items in
@@ -103,7 +103,8 @@ run_all-counts-requires-clause-line_post g c κs within =
     c.take_first-own.result c.take_first-admin_own.result (by_recursion (IsNewDeskSeatOf room.desk) room.owns.items c.requires.room.owns) c.gather.ensures.owns line.ensures.owns c.take_first-own.ensures.items c.take_first-admin_own.ensures.items).0 in
     let seats = part_behind (IsNewSeatOf room.pool) room.seats.receivers.items (map seat_in c.gather.new.posts.items) c.gather.new.seats.items (line_seats line.result) line.new.seats.items
     (AllByRecursion-front (IsNewSeatOf room.pool) room.seats.receivers.items (room.seats.flusher ∷ room.seats.admin ∷ []) c.requires.room.seats) c.gather.ensures.seats line.ensures.seats in
-    line_ready room.pool room.desk (sizing_in room).streams room.lines line.result c.requires.room.lines line.ensures.room seats owns
+    line_ready room.pool room.desk (sizing_in room).streams room.lines line.result
+    (subst (λ n. HasLineRoom (sizing_in room).streams n room.lines) (sym c.requires.room.shards) c.requires.room.lines) line.ensures.room seats owns
 
 pub run_all-counts-requires-clause-outs : goal.run_all-counts-requires-clause-outs
 run_all-counts-requires-clause-outs g c κs within = rooms_ready (with_outlets (sizing_in c.args.room)) (sizing_in c.args.room).outlets (sizing_in c.args.room).outlet_bytes c.args.room.outs c.requires.room.outs
@@ -126,7 +127,8 @@ run_all-counts-requires-clause-posts g c κs within =
     (ready_posts room.pool room.desk c.from.result (omega (arith, few, c.from.ensures)) xs c.gather.new.seats.items c.gather.new.owns.items
     (subst (AllByRecursion (IsNewSeatOf room.pool)) c.gather.ensures.seats seats)
     (subst (AllByRecursion (IsNewDeskSeatOf room.desk)) c.gather.ensures.owns (by_recursion (IsNewDeskSeatOf room.desk) room.owns.items c.requires.room.owns))
-    (by_recursion (IsFitted c.from.result) xs c.gather.ensures.fitted))
+    (by_recursion (IsFitted c.from.result) xs c.gather.ensures.fitted)
+    (by_recursion (IsBatched (shards_of room.pool)) xs (c.gather.ensures.batches (shards_of room.pool) (subst (λ n. All (HasBatch n) room.rooms.items) (sym c.requires.room.shards) c.requires.room.batches))))
 
 pub ends_in-received-requires-clause-run : goal.ends_in-received-requires-clause-run
 ends_in-received-requires-clause-run g c =
@@ -169,7 +171,7 @@ close-books-requires-clause-none g c =
     let owns = counted_by number_of_seat c.args.room.owns.items (submitters sizing + 2) room.numbers in
     let first = length-map xs seat_in ∙ c.gather.ensures.len ∙ room.places in
     let first_owns = length-map xs own_in ∙ c.gather.ensures.len ∙ room.places in
-    let there = line_there sizing.streams c.args.room.lines room.lines in
+    let there = line_there _ sizing.streams c.args.room.lines room.lines in
     let long = lines_long line.result c.args.room.lines line.ensures.room in
     let left_seats = left_behind c.args.room.seats.receivers.items (map seat_in xs) c.gather.new.seats.items n k c.gather.ensures.seats seats first in
     let left_owns = left_behind c.args.room.owns.items (map own_in xs) c.gather.new.owns.items n (k + 2) c.gather.ensures.owns (omega (arith, owns)) first_owns in
@@ -187,7 +189,7 @@ close-books-requires-clause-places g c =
     let sizing = sizing_in c.args.room in
     let count = ap length (with_items_is c.gather.new.posts ran.new.posts (ran.ensures.len ∙ c.as_mut_slice.ensures.len)) ∙ ran.ensures.len ∙ ap length c.as_mut_slice.ensures.value in
     let seats = counted_by who_is c.args.room.seats.receivers.items (submitters sizing) c.requires.room.callers in
-    let now = lines_after (g.K.T.Clock.may_say c.args.clock.now) c.args.room.pool c.args.room.desk c.args.run_flushes sizing.streams c.args.room.lines line.result ran.new.line_post ran.result.0.liner (g.K.S.Faulty.seen c.args.streams.now) (g.K.S.Faulty.seen ran.new.streams) c.requires.room.lines line.ensures.room ran.ensures.lines in
+    let now = lines_after _ (g.K.T.Clock.may_say c.args.clock.now) c.args.room.pool c.args.room.desk c.args.run_flushes sizing.streams c.args.room.lines line.result ran.new.line_post ran.result.0.liner (g.K.S.Faulty.seen c.args.streams.now) (g.K.S.Faulty.seen ran.new.streams) c.requires.room.lines line.ensures.room ran.ensures.lines in
     omega (arith, count, c.gather.ensures.len, c.requires.room.places, seats, now.0, c.gather.ensures.seats_room, line.ensures.seats_room, c.args.room.seats.receivers.ok.0, c.args.room.seats.receivers.ok.1)
 
 pub close-books-requires-clause-own_places : goal.close-books-requires-clause-own_places
@@ -197,7 +199,7 @@ close-books-requires-clause-own_places g c =
     let sizing = sizing_in c.args.room in
     let count = ap length (with_items_is c.gather.new.posts ran.new.posts (ran.ensures.len ∙ c.as_mut_slice.ensures.len)) ∙ ran.ensures.len ∙ ap length c.as_mut_slice.ensures.value in
     let owns = counted_by number_of_seat c.args.room.owns.items (submitters sizing + 2) c.requires.room.numbers in
-    let now = lines_after (g.K.T.Clock.may_say c.args.clock.now) c.args.room.pool c.args.room.desk c.args.run_flushes sizing.streams c.args.room.lines line.result ran.new.line_post ran.result.0.liner (g.K.S.Faulty.seen c.args.streams.now) (g.K.S.Faulty.seen ran.new.streams) c.requires.room.lines line.ensures.room ran.ensures.lines in
+    let now = lines_after _ (g.K.T.Clock.may_say c.args.clock.now) c.args.room.pool c.args.room.desk c.args.run_flushes sizing.streams c.args.room.lines line.result ran.new.line_post ran.result.0.liner (g.K.S.Faulty.seen c.args.streams.now) (g.K.S.Faulty.seen ran.new.streams) c.requires.room.lines line.ensures.room ran.ensures.lines in
     omega (arith, count, c.gather.ensures.len, c.requires.room.places, owns, now.1, c.gather.ensures.owns_room, line.ensures.owns_room, c.take_first-own.ensures.capacity, c.take_first-admin_own.ensures.capacity, c.args.room.owns.ok.0, c.args.room.owns.ok.1)
 
 pub close-books-requires-clause-count : goal.close-books-requires-clause-count
@@ -205,7 +207,7 @@ close-books-requires-clause-count g c =
     let ran = c.run_all-counts in
     let line = c.take_line_post-line_post in
     let count = ap length (with_items_is c.gather.new.posts ran.new.posts (ran.ensures.len ∙ c.as_mut_slice.ensures.len)) ∙ ran.ensures.len ∙ ap length c.as_mut_slice.ensures.value in
-    let now = lines_after (g.K.T.Clock.may_say c.args.clock.now) c.args.room.pool c.args.room.desk c.args.run_flushes (sizing_in c.args.room).streams c.args.room.lines line.result ran.new.line_post ran.result.0.liner (g.K.S.Faulty.seen c.args.streams.now) (g.K.S.Faulty.seen ran.new.streams) c.requires.room.lines line.ensures.room ran.ensures.lines in
+    let now = lines_after _ (g.K.T.Clock.may_say c.args.clock.now) c.args.room.pool c.args.room.desk c.args.run_flushes (sizing_in c.args.room).streams c.args.room.lines line.result ran.new.line_post ran.result.0.liner (g.K.S.Faulty.seen c.args.streams.now) (g.K.S.Faulty.seen ran.new.streams) c.requires.room.lines line.ensures.room ran.ensures.lines in
     omega (arith, count, c.gather.ensures.len, c.requires.room.places, c.requires.room.receivers, now.0)
 
 pub close-books-requires-clause-own_count : goal.close-books-requires-clause-own_count
@@ -213,7 +215,7 @@ close-books-requires-clause-own_count g c =
     let ran = c.run_all-counts in
     let line = c.take_line_post-line_post in
     let count = ap length (with_items_is c.gather.new.posts ran.new.posts (ran.ensures.len ∙ c.as_mut_slice.ensures.len)) ∙ ran.ensures.len ∙ ap length c.as_mut_slice.ensures.value in
-    let now = lines_after (g.K.T.Clock.may_say c.args.clock.now) c.args.room.pool c.args.room.desk c.args.run_flushes (sizing_in c.args.room).streams c.args.room.lines line.result ran.new.line_post ran.result.0.liner (g.K.S.Faulty.seen c.args.streams.now) (g.K.S.Faulty.seen ran.new.streams) c.requires.room.lines line.ensures.room ran.ensures.lines in
+    let now = lines_after _ (g.K.T.Clock.may_say c.args.clock.now) c.args.room.pool c.args.room.desk c.args.run_flushes (sizing_in c.args.room).streams c.args.room.lines line.result ran.new.line_post ran.result.0.liner (g.K.S.Faulty.seen c.args.streams.now) (g.K.S.Faulty.seen ran.new.streams) c.requires.room.lines line.ensures.room ran.ensures.lines in
     omega (arith, count, c.gather.ensures.len, c.requires.room.places, c.requires.room.desk_seats, now.1)
 
 pub close-books-requires-clause-receivers : goal.close-books-requires-clause-receivers
@@ -259,9 +261,9 @@ returns-clause-served g c =
     let streams_before = g.K.S.Faulty.seen c.args.streams.now in
     let streams_behind = g.K.S.Faulty.seen ran.new.streams in
     let k = line_keepers (sizing_in room).streams in
-    let there = line_there (sizing_in room).streams room.lines is.lines in
+    let there = line_there _ (sizing_in room).streams room.lines is.lines in
     let long = lines_long line.result room.lines line.ensures.room in
-    let now_long = lines_after (g.K.T.Clock.may_say c.args.clock.now) room.pool room.desk c.args.run_flushes (sizing_in room).streams room.lines line.result ran.new.line_post ran.result.0.liner streams_before streams_behind is.lines line.ensures.room ran.ensures.lines in
+    let now_long = lines_after _ (g.K.T.Clock.may_say c.args.clock.now) room.pool room.desk c.args.run_flushes (sizing_in room).streams room.lines line.result ran.new.line_post ran.result.0.liner streams_before streams_behind is.lines line.ensures.room ran.ensures.lines in
     let new_xs = new_posts room.pool room.desk c.gather.new.posts.items c.gather.new.seats.items c.gather.new.owns.items (subst (AllByRecursion (IsNewSeatOf room.pool)) gathered.seats seats) owns in
     let count : length ys ≡ n = ran.ensures.len ∙ ap length value ∙ gathered.len ∙ is.places in
     let first = length-map c.gather.new.posts.items seat_in ∙ gathered.len ∙ is.places in

@@ -24,9 +24,9 @@ returns-in-Ok-run_proxy g c =
     let r = c.in-Ok-run_proxy.relayed in
     let relayed = c.in-Ok-run_proxy.ensures.relayed in
     let output = ap (λ (w : World). w.seen.output) relayed.others in
-    proxy_ran c.args.settings.items values settings old _ c.in-Ok.ensures.accepted fit r (answer_of c.finish.result) mid (g.K.O.Faulty.seen c.finish.new.output)
+    proxy_ran c.args.settings.items values settings old _ c.in-Ok.ensures.accepted fit r (answer_of c.finish-status.result) mid (g.K.O.Faulty.seen c.finish-status.new.output)
     (subst (λ w. HasRelayed values w mid r) is relayed) refl
-    (subst (λ o. WritesTotals (relay_lines r.sums r.checked) (relay_answer r.received.items r.checked) (answer_of c.finish.result) o (g.K.O.Faulty.seen c.finish.new.output)) output c.finish.ensures)
+    (subst (λ o. WritesTotals (relay_lines r.sums r.checked) (relay_answer r.received.items r.checked) (answer_of c.finish-status.result) o (g.K.O.Faulty.seen c.finish-status.new.output)) output c.finish-status.ensures)
 
 pub returns-in-Err-run_proxy : goal.returns-in-Err-run_proxy
 returns-in-Err-run_proxy g c =

@@ -15,5 +15,6 @@ returns g c =
       number = ensures.own.1;
       wires = refl;
       room = refl;
+      batch = ensures.batch;
       receives = rw (wires, ← c.as_mut_slice.ensures.value) ensures.receives;
     }

@@ -6,8 +6,8 @@ use Rattle.sd_live.specs.Live.{nodes_of}
 use Rattle.sd_relay.proofs.PostLemmas.{fresh_passes}
 use Rattle.sd_relay.proofs.room.RelayRoom.open.Goals as goal
 
-pub returns : goal.returns
-returns g c =
+pub returns-clause-room : goal.returns-clause-room
+returns-clause-room g c =
     let cell = c.in_ok-cell.ensures in
     let rooms = c.in_ok-open_rooms.ensures in
     let posts = c.in_ok-with_capacity.ensures in

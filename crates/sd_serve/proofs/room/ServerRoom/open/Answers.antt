@@ -30,6 +30,7 @@ returns-clause-room g c =
       space = benches.space;
       places = postings.places;
       place_each = postings.place_each;
+      batches = postings.batches;
       lines = benches.lines;
       outs = benches.outs;
       no_post = postings.no_post;

@@ -5,7 +5,9 @@ use Rattle.sd_model_shard.specs.Whereabouts.{dropped_in}
 use Rattle.sd_model_replay.specs.Script.{Packet}
 use Rattle.sd_model_replay.specs.Replay.{replies_to, states_after}
 use Rattle.sd_model_shards.proofs.HomeLemmas.{AtHome-after}
+use Rattle.sd_batch.specs.Batch.{Waiting}
 use Rattle.sd_shard.specs.Shard.{state_of}
+use Rattle.sd_shards.specs.Inside.{AreShards}
 use Rattle.sd_shards.specs.Shards.{Group, group_bounds, state_at}
 use Rattle.sd_shards.specs.Standings.{state_in, bounds_in}
 use Rattle.sd_shards.proofs.InsideLemmas.{AreAlike-kept, AreKept, AreKept-by, AreShards-kept}
@@ -28,7 +30,9 @@ kept c =
     (AtHome-after (bounds_in old) (state_in old) packet c.self.invariant.home)
 
 pub invariant_of-self : goal.invariant_of-self
-invariant_of-self c = AreShards-kept c.self.inside (record { shards = c.file_datagram.new.seat; spares = c.self.inside.spares }) c.self.invariant (kept c) (omega (arith, c.file_datagram.ensures.shards))
+invariant_of-self c =
+    subst (λ (b : Waiting). AreShards (record { shards = c.file_datagram.new.seat; spares = c.self.inside.spares; batch = b })) (sym c.file_datagram.ensures.batch)
+    (AreShards-kept c.self.inside (record { shards = c.file_datagram.new.seat; spares = c.self.inside.spares; batch = c.self.inside.batch }) c.self.invariant (kept c) (omega (arith, c.file_datagram.ensures.shards)))
 
 pub returns-clause-states : goal.returns-clause-states
 returns-clause-states c moment =
@@ -48,4 +52,4 @@ returns-clause-dropped c moment =
     ∙ ap (λ n. sum_by dropped_in (replies_to (record (bounds_in old) { shards = n }) (state_in old) packet)) (sym (length-map old state_of)))
 
 pub returns-clause-alike : goal.returns-clause-alike
-returns-clause-alike c = AreAlike-kept c.args.self.now c.self.inside (record { shards = c.file_datagram.new.seat; spares = c.self.inside.spares }) c.self.view_is (kept c)
+returns-clause-alike c = AreAlike-kept c.args.self.now c.self.inside (record { shards = c.file_datagram.new.seat; spares = c.self.inside.spares; batch = c.self.inside.batch }) c.self.view_is (kept c)

@@ -5,6 +5,7 @@ use Rattle.sd_model_shard.specs.Rows.{row_cmp}
 use Rattle.sd_model_shard.specs.Shard.{empty_state}
 use Rattle.sd_epoch.specs.Table.{Listing}
 use Rattle.sd_epoch.specs.Limits.{limits_of}
+use Rattle.sd_batch.specs.Batch.{Waiting}
 use Rattle.sd_record.specs.Rows.{AreDisjoint}
 use Rattle.sd_shard.specs.Policy.{policy_of}
 use Rattle.sd_shards.proofs.HomeLemmas.{AtHome-states}
@@ -27,4 +28,15 @@ invariant_of-result c =
       disjoint = subst AreDisjoint (sym c.in_ok-spares.ensures.swapped) tt;
       tables = omega (arith, c.in_ok-shards.ensures.len, c.in_ok-spares.ensures.waiting, ap (λ (ts : List Listing). length ts) c.in_ok-spares.ensures.swapped);
       room = omega (arith, c.in_ok-shards.ensures.len, c.in_ok-spares.ensures.room);
+      batch = record {
+        shards_are = ap (λ (w : Waiting). w.shards) c.in_ok-batch.ensures ∙ sym len;
+        room = let room = ap (λ (w : Waiting). w.room) c.in_ok-batch.ensures in omega (arith, room);
+        none = ap (λ (w : Waiting). w.items) c.in_ok-batch.ensures;
+      };
     }
+
+pub returns-clause-limits : goal.returns-clause-limits
+returns-clause-limits c = (GoBy-first (limits_of c.args.limits) (policy_of c.args.policy) c.in_ok-shards.shards.items (omega (arith, c.in_ok-shards.ensures.len)) c.in_ok-shards.ensures.bounds).0
+
+pub returns-clause-policy : goal.returns-clause-policy
+returns-clause-policy c = (GoBy-first (limits_of c.args.limits) (policy_of c.args.policy) c.in_ok-shards.shards.items (omega (arith, c.in_ok-shards.ensures.len)) c.in_ok-shards.ensures.bounds).1

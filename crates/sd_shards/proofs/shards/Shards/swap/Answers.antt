@@ -7,6 +7,7 @@ use Rattle.sd_model_shard.specs.Shard.{after_swap, table_of}
 use Rattle.sd_model_shards.specs.Shards.{AtHome}
 use Rattle.sd_model_shards.proofs.HomeLemmas.{AtHome-swap}
 use Rattle.sd_epoch.specs.Table.{Listing, table_of as table_seen}
+use Rattle.sd_filing.specs.Filing.{IsOpenFor}
 use Rattle.sd_shard.specs.Shard.{Standing, state_of}
 use Rattle.sd_spares.specs.Spares.{Stock}
 use Rattle.sd_shards.specs.Shards.{Group}
@@ -51,6 +52,7 @@ invariant_of-self c =
           (given old c.reclaim.new.self.swapped c.swap_all.new.spares.swapped (ap (λ (st : Stock). st.swapped) c.reclaim.ensures) c.swap_all.ensures.tables);
       tables = omega (arith, reclaimed, ap (λ (st : Stock). length st.swapped) c.reclaim.ensures, c.swap_all.ensures.left, c.swap_all.ensures.len, are.tables);
       room = omega (arith, c.swap_all.ensures.room, ap (λ (st : Stock). st.room) c.reclaim.ensures, are.room);
+      batch = subst (λ n. IsOpenFor n s.batch) (sym kept.count) are.batch;
     }
 
 pub returns-clause-swapped : goal.returns-clause-swapped
@@ -65,6 +67,6 @@ returns-clause-alike c =
     let old = c.deref_mut.result.now in
     let new = c.swap_all.new.shards in
     let policy = policy_in old in
-    AreAlike-kept c.args.self.now s (record { shards = with_items s.shards new; spares = c.swap_all.new.spares }) c.self.view_is
+    AreAlike-kept c.args.self.now s (record { shards = with_items s.shards new; spares = c.swap_all.new.spares; batch = s.batch }) c.self.view_is
     (AreKept-within s c.self.invariant old new c.deref_mut.ensures.value (omega arith) (omega arith) c.swap_all.ensures.bounds
     (λ i. after_swap policy (state_in old i)) c.swap_all.ensures.states (AtHome-swap policy (length old) (state_in old)))

@@ -1,0 +1,3 @@
+pub mod PlaceLemmas
+pub mod ListLemmas
+pub mod RunLemmas

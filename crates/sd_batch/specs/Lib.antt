@@ -1,0 +1,4 @@
+pub mod Batch
+pub mod Places
+pub mod Inside
+pub mod Runs
