@@ -6,7 +6,8 @@ ghost use Rattle.sd_cases_flush.specs.Bench.{IsReady};
 use sd_case::Refusal;
 use sd_epoch::Limits;
 use sd_flush::Tables;
-use sd_outside::{Backs, MemBackend};
+use sd_memory::MemBackend;
+use sd_outside::Backs;
 use sd_plan::{Names, Reckoning};
 use sd_pool::{Pool, Seat, Seats};
 use sd_shard::Policy;
@@ -63,7 +64,7 @@ pub fn open(alloc: Global, shards: u16, limits: Limits) -> Result<Bench, Refusal
     ensures { IfOk result IsReady }
 {
     let backs = backs_of(alloc)?;
-    let tables = Tables::open(alloc, limits, shards)?;
+    let tables = Tables::open(alloc, limits, shards, 0)?;
     let spares = Spares::open(alloc, shards, limits, 0)?;
     let (desk, mut owns) = SharedDesk::open(alloc, 0, 3)?;
     let watcher = owns.pop();

@@ -8,8 +8,10 @@ use log::sink::Discard;
 use log::{LevelFilter, Logged};
 use sd_batch::Batch;
 use sd_case::{Answer, Refusal};
-use sd_outside::{MemClock, MemDatagrams, MemWire, NoGate};
+use sd_memory::{MemClock, MemDatagrams, MemWire};
+use sd_outside::NoGate;
 use sd_receive::receive;
+use sd_shared::Shared;
 use std::alloc::Global;
 use std::sync::Wait;
 
@@ -62,19 +64,23 @@ pub fn receive_lines<R: Wait>(
     let mut source = MemDatagrams::of(one_datagram(alloc, lines)?);
     let mut wires: Vec<MemWire> = Vec::new(alloc);
     let log = Logged::new(rt, LevelFilter::Off, Discard);
+    let clock = MemClock::of(0);
+    let shared = Shared {
+        pool: &bench.pool,
+        desk: &bench.desk,
+        gate: &NoGate,
+        clock: &clock,
+        run_flushes: 0,
+    };
     let received = receive(
         &log,
-        &bench.pool,
-        &bench.desk,
+        &shared,
         &mut bench.adder,
         &mut bench.receiver,
         &mut source,
         wires.as_mut_slice(),
-        &NoGate,
-        &MemClock::of(0),
         buf.as_mut_slice(),
         &mut batch,
-        0,
     );
     out.count("lines ", received.tally.lines);
     out.count(", taken ", received.taken);

@@ -1,13 +1,21 @@
 //! A round that passes a gate.
+ghost use Rattle.std.specs.Prelude.{◌≡◌};
+ghost use Rattle.sd_model_serve.specs.Receiving.{flusher};
+ghost use Rattle.sd_pool.specs.Pool.{IsSeatOf as IsPoolSeatOf, limits_of, shards_of, who_is};
 ghost use Rattle.sd_shared_desk.specs.Shared.{IsSeatOf};
+ghost use Rattle.sd_flush.specs.Tables.{AreTablesFor};
 ghost use Rattle.sd_cases_flush.specs.Bench.{IsReady};
 
 use crate::bench::Bench;
 use crate::report::{given_to, show_since};
 use sd_case::Answer;
 use sd_desk::Tally;
-use sd_flush::round;
-use sd_outside::Gate;
+use sd_flush::{RecordForm, Tables, round};
+use sd_memory::{MemBackend, MemClock};
+use sd_outside::{Backs, Gate};
+use sd_plan::{Names, Reckoning};
+use sd_pool::{Pool, Seat};
+use sd_shared::Shared;
 use sd_shared_desk::{DeskSeat, SharedDesk};
 use std::sync::{Mutex, Wait};
 
@@ -50,6 +58,42 @@ impl<'a, R: Wait> Gate for WatchedGate<'a, R> {
     }
 }
 
+// Makes a round that passes this gate.
+fn round_past<G: Gate, R: Wait>(
+    rt: &R,
+    gate: &G,
+    pool: &Pool,
+    desk: &SharedDesk,
+    own: &mut DeskSeat,
+    seat: &mut Seat,
+    tables: &mut Tables,
+    backs: &mut Backs<MemBackend>,
+)
+    requires own { IsSeatOf desk.now own.old }
+    requires seat { IsPoolSeatOf pool.now seat.old }
+    requires flusher { who_is seat.old ≡ flusher }
+    requires tables { AreTablesFor (limits_of pool.now) (shards_of pool.now) tables.old }
+    ensures own { IsSeatOf desk.now own.new }
+    ensures seat { IsPoolSeatOf pool.now seat.new }
+    ensures who { who_is seat.new ≡ who_is seat.old }
+    ensures tables { AreTablesFor (limits_of pool.now) (shards_of pool.now) tables.new }
+{
+    let clock = MemClock::of(0);
+    let shared = Shared {
+        pool,
+        desk,
+        gate,
+        clock: &clock,
+        run_flushes: 0,
+    };
+    let (plan, names) = (Reckoning::plain(), Names::plain());
+    let form = RecordForm {
+        plan: &plan,
+        names: &names,
+    };
+    round(rt, &shared, own, seat, tables, &form, 10, backs);
+}
+
 /// Makes a round that passes a gate, at whose place 2 a tally is added. A bench has one seat for that.
 pub fn pass_gate<R: Wait>(rt: &R, bench: &mut Bench, tally: Tally, out: &mut Answer)
     requires { IsReady bench.old }
@@ -69,18 +113,15 @@ pub fn pass_gate<R: Wait>(rt: &R, bench: &mut Bench, tally: Tally, out: &mut Ans
             rounds: 0,
         }),
     };
-    round(
+    round_past(
         rt,
+        &gate,
         &bench.pool,
         &bench.desk,
         &mut bench.own,
         &mut bench.flusher,
         &mut bench.tables,
-        &bench.plan,
-        &bench.names,
-        10,
         &mut bench.backs,
-        &gate,
     );
     let watch = gate.watch.into_inner();
     out.count("places ", watch.places);

@@ -11,9 +11,11 @@ use crate::rounds::beat_of;
 use log::sink::Discard;
 use log::{LevelFilter, Logged};
 use sd_case::{Answer, Refusal, number};
-use sd_flush::{FlushedOut, Lead, Outs, flush_all_out, round_out};
+use sd_flush::{FlushedOut, Lead, Outs, RecordForm, flush_all_out, round_out};
+use sd_memory::{MemBackend, MemClock};
 use sd_outlet::{Drain, Feed, Outlet, Worked};
-use sd_outside::{Faulty, MemBackend, NoGate};
+use sd_outside::{Faulty, NoGate};
+use sd_shared::Shared;
 use std::alloc::Global;
 use std::sync::Wait;
 
@@ -91,18 +93,27 @@ fn make_round_out<R: Wait>(
     ensures bench { IsReady bench.new }
     ensures outs { AreOutsReady outs.new }
 {
+    let clock = MemClock::of(0);
+    let shared = Shared {
+        pool: &bench.pool,
+        desk: &bench.desk,
+        gate: &NoGate,
+        clock: &clock,
+        run_flushes: 0,
+    };
+    let form = RecordForm {
+        plan: &bench.plan,
+        names: &bench.names,
+    };
     let marks = round_out(
         rt,
-        &bench.pool,
-        &bench.desk,
+        &shared,
         &mut bench.own,
         &mut bench.flusher,
         &mut bench.tables,
-        &bench.plan,
-        &bench.names,
+        &form,
         ts,
         outs,
-        &NoGate,
     );
     out.count("\n    ", ts);
     out.text(": graphite ");
@@ -149,19 +160,27 @@ fn flush_out<R: Wait>(
     let (ticks, failing) = rest.split_once('/').ok_or(Refusal::Malformed)?;
     let mut beat = beat_of(alloc, ticks, number::<u64>(failing)?)?;
     let log = Logged::new(rt, LevelFilter::Off, Discard);
+    let clock = MemClock::of(0);
+    let shared = Shared {
+        pool: &bench.pool,
+        desk: &bench.desk,
+        gate: &NoGate,
+        clock: &clock,
+        run_flushes,
+    };
+    let form = RecordForm {
+        plan: &bench.plan,
+        names: &bench.names,
+    };
     let FlushedOut { flushed, skips } = flush_all_out(
         &log,
-        &bench.pool,
-        &bench.desk,
+        &shared,
         &mut bench.own,
         &mut bench.flusher,
         &mut bench.tables,
-        &bench.plan,
-        &bench.names,
+        &form,
         &mut beat,
         outs,
-        &NoGate,
-        run_flushes,
     );
     out.debug(&flushed.ended);
     out.count(", turns ", beat.turns());

@@ -1,6 +1,7 @@
 //! What the backends were given.
 use sd_case::Answer;
-use sd_outside::{Backs, MemBackend};
+use sd_memory::MemBackend;
+use sd_outside::Backs;
 
 /// How many lists each backend has.
 #[derive(Clone, Copy)]

@@ -5,8 +5,10 @@ ghost use Rattle.sd_cases_flush.specs.Bench.{IsReady};
 use crate::bench::Bench;
 use crate::report::{given_to, show_since};
 use sd_case::{Answer, Refusal, number};
-use sd_flush::{flush_all, round};
-use sd_outside::{Faulty, MemBeat, NoGate};
+use sd_flush::{RecordForm, flush_all, round};
+use sd_memory::{MemBeat, MemClock};
+use sd_outside::{Faulty, NoGate};
+use sd_shared::Shared;
 use std::alloc::Global;
 use std::sync::Wait;
 
@@ -16,18 +18,27 @@ pub fn make_round<R: Wait>(rt: &R, bench: &mut Bench, ts: u64, out: &mut Answer)
     ensures { IsReady bench.new }
 {
     let before = given_to(&bench.backs);
+    let clock = MemClock::of(0);
+    let shared = Shared {
+        pool: &bench.pool,
+        desk: &bench.desk,
+        gate: &NoGate,
+        clock: &clock,
+        run_flushes: 0,
+    };
+    let form = RecordForm {
+        plan: &bench.plan,
+        names: &bench.names,
+    };
     let marks = round(
         rt,
-        &bench.pool,
-        &bench.desk,
+        &shared,
         &mut bench.own,
         &mut bench.flusher,
         &mut bench.tables,
-        &bench.plan,
-        &bench.names,
+        &form,
         ts,
         &mut bench.backs,
-        &NoGate,
     );
     out.text("graphite ");
     out.debug(&marks.graphite);
@@ -69,19 +80,27 @@ pub fn flush<R: Wait>(
     let (ticks, failing) = rest.split_once('/').ok_or(Refusal::Malformed)?;
     let mut beat = beat_of(alloc, ticks, number::<u64>(failing)?)?;
     let before = given_to(&bench.backs);
+    let clock = MemClock::of(0);
+    let shared = Shared {
+        pool: &bench.pool,
+        desk: &bench.desk,
+        gate: &NoGate,
+        clock: &clock,
+        run_flushes,
+    };
+    let form = RecordForm {
+        plan: &bench.plan,
+        names: &bench.names,
+    };
     let flushed = flush_all(
         rt,
-        &bench.pool,
-        &bench.desk,
+        &shared,
         &mut bench.own,
         &mut bench.flusher,
         &mut bench.tables,
-        &bench.plan,
-        &bench.names,
+        &form,
         &mut beat,
         &mut bench.backs,
-        &NoGate,
-        run_flushes,
     );
     out.debug(&flushed.ended);
     out.count(", turns ", beat.turns());

@@ -13,7 +13,7 @@ use sd_case::{Answer, Refusal, count_up_to, number};
 use sd_desk::Tally;
 use sd_epoch::Limits;
 use sd_line::Lines;
-use sd_outside::MemBackend;
+use sd_memory::MemBackend;
 use sd_pool::{Pool, Seat};
 use sd_shard::Placed;
 use std::alloc::Global;

@@ -3,9 +3,8 @@ ghost use Rattle.std.specs.Prelude.{◌≤◌, All, IfOk, vec_len};
 use crate::sources::{fail_on, open, show_address};
 use crate::steps::each_step;
 use sd_case::{Answer, Refusal, bytes_of, number};
-use sd_outside::{
-    Beat, Clock, Datagrams, Gate, Interval, MemBeat, MemClock, MemDatagrams, Next, NoGate, Tick,
-};
+use sd_memory::{MemBeat, MemClock, MemDatagrams};
+use sd_outside::{Beat, Clock, Datagrams, Gate, Interval, Next, NoGate, Tick};
 use std::alloc::Global;
 
 /// How many bytes a datagram has at most.

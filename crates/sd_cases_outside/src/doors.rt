@@ -1,11 +1,12 @@
 ghost use Rattle.std.specs.Prelude.{◌≡◌, All, IfOk, IfSome, true};
-ghost use Rattle.sd_outside.specs.MemSessions.{HasNoFaults};
+ghost use Rattle.sd_memory.specs.MemSessions.{HasNoFaults};
 
 use crate::sinks::show_answer;
 use crate::sources::{fail_on, open, show_address};
 use crate::steps::each_step;
 use sd_case::{Answer, Refusal, bytes_of, number};
-use sd_outside::{Door, Entry, Failed, MemDoor, MemSink, MemSource, Source, write_all};
+use sd_memory::{MemDoor, MemSink, MemSource};
+use sd_outside::{Door, Entry, Failed, Source, write_all};
 use std::alloc::Global;
 
 /// The session that a word writes as `ASKED/ROOM`: what is read from one end, and for how many bytes the other has room.

@@ -7,8 +7,9 @@ use crate::count_gate::CountGate;
 use crate::report::{show_lists, show_worked};
 use crate::sources::fail_on;
 use sd_case::{Answer, Refusal, bytes_of, number};
+use sd_memory::MemBackend;
 use sd_outlet::{Drain, Feed, OutBuf, Outlet, QueueFull, buffers_keep_what_fits};
-use sd_outside::{MemBackend, write_all};
+use sd_outside::write_all;
 use std::alloc::Global;
 use std::sync::Wait;
 

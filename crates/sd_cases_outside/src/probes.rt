@@ -3,7 +3,8 @@ use crate::sources::{address_of, fail_on, show_address};
 use crate::steps::each_step;
 use arrayvec::ArrayVec;
 use sd_case::{Answer, Refusal, number};
-use sd_outside::{Failed, MemProbe, Probe};
+use sd_memory::MemProbe;
+use sd_outside::{Failed, Probe};
 use std::alloc::Global;
 
 /// Asks a question at the address that a word writes, into a line that holds a question mark, and appends the line.

@@ -2,7 +2,7 @@ use crate::sources::fail_on;
 use crate::steps::each_step;
 use crate::wires::show_packets;
 use sd_case::{Answer, Refusal, bytes_of, number};
-use sd_outside::MemWire;
+use sd_memory::MemWire;
 use sd_repeater::repeat;
 use std::alloc::Global;
 

@@ -1,6 +1,7 @@
 use crate::sources::most_of;
 use sd_case::{Answer, Refusal, bytes_of, number};
-use sd_outside::{Failed, MemSource};
+use sd_memory::MemSource;
+use sd_outside::Failed;
 use sd_script::{Flaw, Item, Reader};
 use std::alloc::Global;
 

@@ -1,7 +1,8 @@
 use crate::sources::{fail_on, most_of, open, show_address};
 use crate::steps::each_step;
 use sd_case::{Answer, Refusal, bytes_of, number};
-use sd_outside::{Backend, CountSink, Failed, MemBackend, MemSink, Sink, write_all};
+use sd_memory::{MemBackend, MemSink};
+use sd_outside::{Backend, CountSink, Failed, Sink, write_all};
 use std::alloc::Global;
 
 /// Writes a text by one call, and appends how many bytes were taken.

@@ -2,7 +2,8 @@ ghost use Rattle.std.specs.Prelude.{◌<◌, IfOk};
 
 use crate::steps::each_step;
 use sd_case::{Answer, Refusal, bytes_of, number};
-use sd_outside::{Address, Failed, MemSource, Name, OpenRefusal, Opens, Source, fault};
+use sd_memory::MemSource;
+use sd_outside::{Address, Failed, Name, OpenRefusal, Opens, Source, fault};
 use std::alloc::Global;
 
 /// The name that a word stands for.

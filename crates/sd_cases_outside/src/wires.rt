@@ -2,7 +2,8 @@ use crate::sinks::show_answer;
 use crate::sources::{fail_on, open, show_address};
 use crate::steps::each_step;
 use sd_case::{Answer, Refusal, bytes_of, number};
-use sd_outside::{MemWire, Wire};
+use sd_memory::MemWire;
+use sd_outside::Wire;
 use std::alloc::Global;
 
 /// Sends a packet, and appends whether that failed.

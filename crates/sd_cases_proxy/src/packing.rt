@@ -2,7 +2,7 @@
 ghost use Rattle.std.specs.Prelude.{◌≡◌, ◌≤◌, All, IfOk, vec_len};
 
 use sd_case::{Refusal, bytes_of, number};
-use sd_outside::{MemBeat, MemDatagrams, MemProbe, MemSink, MemWire};
+use sd_memory::{MemBeat, MemDatagrams, MemProbe, MemSink, MemWire};
 use sd_proxy::Waiting;
 use std::alloc::Global;
 

@@ -4,7 +4,7 @@ ghost use Rattle.std.specs.Prelude.{◌≡◌, ◌≤◌, All, IfOk, OnOk, lengt
 use crate::nodes::nodes_of;
 use crate::packing::{MOST_BYTES, wires_of};
 use sd_case::{Answer, Refusal, bytes_of, number};
-use sd_outside::{MemDatagrams, MemWire};
+use sd_memory::{MemDatagrams, MemWire};
 use sd_proxy::{ProxyTotals, UpCell, UpPass, UpPasses, Waiting, proxy_part};
 use sd_ring::Ring;
 use std::alloc::Global;

@@ -2,7 +2,8 @@
 use crate::packing::{MOST_BYTES, output_of, source_of, waiting_of, wires_of};
 use crate::rings::ring_of;
 use sd_case::{Answer, Refusal, number};
-use sd_outside::{Ended, MemDatagrams, MemSink, MemWire};
+use sd_memory::{MemDatagrams, MemSink, MemWire};
+use sd_outside::Ended;
 use sd_proxy::{ProxyTotals, proxy};
 use sd_ring::Ring;
 use std::alloc::Global;

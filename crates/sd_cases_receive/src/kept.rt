@@ -1,7 +1,7 @@
 //! The streams of a door.
 ghost use Rattle.std.specs.Prelude.{◌≡◌, All, IfOk, false};
-ghost use Rattle.sd_outside.specs.MemDoor.{seen_of as door_seen};
-ghost use Rattle.sd_outside.specs.MemSessions.{HasNoFaults};
+ghost use Rattle.sd_memory.specs.MemDoor.{seen_of as door_seen};
+ghost use Rattle.sd_memory.specs.MemSessions.{HasNoFaults};
 ghost use Rattle.sd_cases_receive.specs.StreamHouse.{IsReady};
 
 use crate::house::mark_often;
@@ -9,7 +9,8 @@ use crate::plan::Plan;
 use crate::shown::show_counts;
 use crate::stream_house::{House, open_desk};
 use sd_case::{Answer, Refusal, bytes_of, number};
-use sd_outside::{DoorEnd, MemDoor, MemSink, MemSource};
+use sd_memory::{MemDoor, MemSink, MemSource};
+use sd_outside::DoorEnd;
 use std::alloc::Global;
 use std::sync::Wait;
 

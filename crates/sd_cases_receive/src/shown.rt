@@ -6,7 +6,8 @@ use crate::house::Served;
 use sd_case::{Answer, Refusal};
 use sd_desk::{DeskFacts, Tally};
 use sd_epoch::Table;
-use sd_outside::{Ended, MemWire};
+use sd_memory::MemWire;
+use sd_outside::Ended;
 use sd_receive::Post;
 use std::alloc::Global;
 

@@ -11,9 +11,11 @@ use log::{LevelFilter, Logged};
 use sd_batch::Batch;
 use sd_case::{Answer, Refusal};
 use sd_epoch::Limits;
-use sd_outside::{Door, MemClock, NoGate, Source};
+use sd_memory::MemClock;
+use sd_outside::{Door, NoGate, Source};
 use sd_pool::{Pool, Seat, Seats};
 use sd_receive::{Lined, Streamed, linekeep, stream};
+use sd_shared::Shared;
 use sd_shared_desk::{DeskSeat, SharedDesk};
 use sd_tcp::Cutter;
 use std::alloc::Global;
@@ -94,15 +96,20 @@ impl House {
         ensures ready { IsReady self.new }
         ensures own { IsDeskSeatOf desk.now own.new }
     {
+        let shared = Shared {
+            pool: &self.pool,
+            desk,
+            gate: &NoGate,
+            clock: &MemClock::of(1000),
+            run_flushes: 0,
+        };
         stream(
             &Logged::new(rt, LevelFilter::Off, Discard),
-            &self.pool,
-            desk,
+            &shared,
             own,
             &mut self.seat,
             &mut self.cutter,
             source,
-            &MemClock::of(1000),
             &mut self.buf,
             &mut self.batch,
         )
@@ -124,19 +131,22 @@ impl House {
         ensures ready { IsReady self.new }
         ensures own { IsDeskSeatOf desk.now own.new }
     {
+        let shared = Shared {
+            pool: &self.pool,
+            desk,
+            gate: &NoGate,
+            clock: &MemClock::of(1000),
+            run_flushes: flushes,
+        };
         linekeep(
             &Logged::new(rt, LevelFilter::Off, Discard),
-            &self.pool,
-            desk,
+            &shared,
             own,
             &mut self.seat,
             &mut self.cutter,
             door,
-            &MemClock::of(1000),
-            &NoGate,
             &mut self.buf,
             &mut self.batch,
-            flushes,
         )
     }
 

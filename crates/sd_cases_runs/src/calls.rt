@@ -1,11 +1,11 @@
 //! Calls that are to fail.
 ghost use Rattle.std.specs.Prelude.{◌≡◌, length};
-ghost use Rattle.sd_outside.specs.MemBeat.{seen_of as beat_seen};
-ghost use Rattle.sd_outside.specs.MemDoor.{seen_of as door_seen};
+ghost use Rattle.sd_memory.specs.MemBeat.{seen_of as beat_seen};
+ghost use Rattle.sd_memory.specs.MemDoor.{seen_of as door_seen};
 
 use crate::case::MemWorld;
 use sd_case::{Refusal, number};
-use sd_outside::{MemDatagrams, MemWire};
+use sd_memory::{MemDatagrams, MemWire};
 
 /// A call on an object.
 #[derive(Clone, Copy)]

@@ -1,6 +1,6 @@
 ghost use Rattle.std.specs.Prelude.{◌≡◌, length, IfOk};
-ghost use Rattle.sd_outside.specs.MemBeat.{seen_of as beat_seen};
-ghost use Rattle.sd_outside.specs.MemDoor.{seen_of as door_seen};
+ghost use Rattle.sd_memory.specs.MemBeat.{seen_of as beat_seen};
+ghost use Rattle.sd_memory.specs.MemDoor.{seen_of as door_seen};
 ghost use Rattle.sd_cases_runs.specs.Ready.{IsReady};
 
 use crate::calls::{Failing, fail};
@@ -9,10 +9,10 @@ use crate::traffic::Traffic;
 use log::sink::Discard;
 use sd_case::{Refusal, bytes_of, number, set_number};
 use sd_drill::{Drill, MOST_PACKETS};
-use sd_outside::{
-    Backs, MemBackend, MemBeat, MemClock, MemDatagrams, MemDoor, MemProbe, MemSink, MemSource,
-    MemWire, NoGate, read_full,
+use sd_memory::{
+    MemBackend, MemBeat, MemClock, MemDatagrams, MemDoor, MemProbe, MemSink, MemSource, MemWire,
 };
+use sd_outside::{Backs, NoGate, read_full};
 use sd_top::World;
 use std::alloc::Global;
 use std::num::NonZeroUsize;

@@ -6,16 +6,16 @@ use crate::report::{show_beat, show_probe, show_wires};
 use crate::status::show_status;
 use log::sink::Discard;
 use sd_case::{Answer, Refusal, number};
-use sd_outside::{
-    Address, Datagrams, Faulty, Gate, MemBackend, MemBeat, MemClock, MemDoor, MemProbe, MemSink,
-    MemSource, MemWire, Next, OpenRefusal, Opens, fault,
-};
+use sd_memory::{MemBackend, MemBeat, MemClock, MemDoor, MemProbe, MemSink, MemSource, MemWire};
+use sd_outside::{Address, Datagrams, Faulty, Gate, Next, OpenRefusal, Opens, fault};
 use sd_top::{Status, World, statsd};
 use std::alloc::Global;
+use std::random::RandomSource;
 use std::sync::Wait;
 use std::sync::atomic::AtomicU64;
 use std::sync::atomic::Ordering::SeqCst;
 use std::thread::Threads;
+use std::time;
 
 /// The place that a proxy's checker passes behind each set that it publishes.
 const PUBLISHED: u8 = 5;
@@ -165,7 +165,7 @@ fn report(status: &Status, world: &LateWorld<'_>, out: &mut Answer) {
 
 /// `late COUNT WORDS : PARTS`: what comes of the run whose first source has its first datagram once the checker has published so
 /// many sets.
-pub(crate) fn run_late<R: Threads + Wait + Sync>(
+pub(crate) fn run_late<R: Threads + Wait + RandomSource + time::Clock + Sync>(
     rt: &R,
     alloc: Global,
     count: &str,
@@ -178,7 +178,7 @@ pub(crate) fn run_late<R: Threads + Wait + Sync>(
 }
 
 /// Runs a case whose first source has its first datagram once the checker has published so many sets.
-fn run_case<R: Threads + Wait + Sync>(
+fn run_case<R: Threads + Wait + RandomSource + time::Clock + Sync>(
     rt: &R,
     alloc: Global,
     wanted: u64,

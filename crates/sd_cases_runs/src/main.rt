@@ -14,14 +14,15 @@ mod traffic;
 
 use sd_case::{Answer, Refusal, answer_cases};
 use std::alloc::Global;
-use std::io;
+use std::random::RandomSource;
 use std::sync::Wait;
 use std::thread::Threads;
+use std::{io, time};
 
 /// Runs what a case says.
 fn run_case<R>(rt: &R, alloc: Global, words: &[&str], out: &mut Answer) -> Result<(), Refusal>
 where
-    R: Threads + Wait + Sync,
+    R: Threads + Wait + RandomSource + time::Clock + Sync,
 {
     match words {
         ["run", parts @ ..] => run::whole(rt, alloc, parts, out),

@@ -1,7 +1,8 @@
 use crate::case::MemWorld;
 use crate::status::show_status;
 use sd_case::Answer;
-use sd_outside::{Address, MemBackend, MemBeat, MemDatagrams, MemDoor, MemProbe, MemWire};
+use sd_memory::{MemBackend, MemBeat, MemDatagrams, MemDoor, MemProbe, MemWire};
+use sd_outside::Address;
 use sd_top::Status;
 
 /// Appends all that came of a run: its status, exit and explanation, Graphite's lists, what came of the objects of a server or a

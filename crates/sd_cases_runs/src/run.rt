@@ -2,14 +2,16 @@ use crate::case::Case;
 use crate::most::{Most, bytes_of_word};
 use crate::report::report;
 use sd_case::{Answer, Refusal, bytes_of};
-use sd_outside::MemBackend;
+use sd_memory::MemBackend;
 use sd_top::statsd;
 use std::alloc::Global;
+use std::random::RandomSource;
 use std::sync::Wait;
 use std::thread::Threads;
+use std::time;
 
 /// Runs the program, and appends all that came of it.
-fn carry_out<R: Threads + Wait + Sync>(
+fn carry_out<R: Threads + Wait + RandomSource + time::Clock + Sync>(
     rt: &R,
     alloc: Global,
     case: &Case,
@@ -22,7 +24,7 @@ fn carry_out<R: Threads + Wait + Sync>(
 }
 
 /// `run WORDS : PARTS`: what comes of a run.
-pub(crate) fn whole<R: Threads + Wait + Sync>(
+pub(crate) fn whole<R: Threads + Wait + RandomSource + time::Clock + Sync>(
     rt: &R,
     alloc: Global,
     parts: &[&str],
@@ -34,7 +36,7 @@ pub(crate) fn whole<R: Threads + Wait + Sync>(
 /// `cut RECORD WORDS : PARTS`: what comes of the run whose script is that of the parts and behind it the record cut
 /// short at each place, from 0 bytes of it to all but one. It is answered once for places in a row that give the
 /// same.
-pub(crate) fn each_truncation<R: Threads + Wait + Sync>(
+pub(crate) fn each_truncation<R: Threads + Wait + RandomSource + time::Clock + Sync>(
     rt: &R,
     alloc: Global,
     record: &str,
@@ -56,7 +58,7 @@ pub(crate) fn each_truncation<R: Threads + Wait + Sync>(
 }
 
 /// What comes of the run where these bytes stand behind the script.
-fn report_of_front<R: Threads + Wait + Sync>(
+fn report_of_front<R: Threads + Wait + RandomSource + time::Clock + Sync>(
     rt: &R,
     alloc: Global,
     front: &[u8],
@@ -68,7 +70,7 @@ fn report_of_front<R: Threads + Wait + Sync>(
 }
 
 /// What comes of a run.
-fn report_of<R: Threads + Wait + Sync>(
+fn report_of<R: Threads + Wait + RandomSource + time::Clock + Sync>(
     rt: &R,
     alloc: Global,
     case: &Case,
@@ -80,7 +82,7 @@ fn report_of<R: Threads + Wait + Sync>(
 
 /// `both TEXT TEXT WORDS : PARTS`: how many bytes Graphite is given in the run with each of two settings files, and whether
 /// all that comes of the two runs is the same.
-pub(crate) fn by_both<R: Threads + Wait + Sync>(
+pub(crate) fn by_both<R: Threads + Wait + RandomSource + time::Clock + Sync>(
     rt: &R,
     alloc: Global,
     first: &str,
@@ -93,7 +95,7 @@ pub(crate) fn by_both<R: Threads + Wait + Sync>(
 }
 
 /// Runs a case with each of two settings files.
-fn run_by_both<R: Threads + Wait + Sync>(
+fn run_by_both<R: Threads + Wait + RandomSource + time::Clock + Sync>(
     rt: &R,
     alloc: Global,
     case: &mut Case,
@@ -111,7 +113,7 @@ fn run_by_both<R: Threads + Wait + Sync>(
 
 /// `slow MOST WORDS : PARTS`: how many bytes Graphite is given in the run, and in the same run where no read and no write
 /// takes more than so many bytes, and whether all that comes of the two runs is the same.
-pub(crate) fn by_slow<R: Threads + Wait + Sync>(
+pub(crate) fn by_slow<R: Threads + Wait + RandomSource + time::Clock + Sync>(
     rt: &R,
     alloc: Global,
     most: &str,
@@ -124,7 +126,7 @@ pub(crate) fn by_slow<R: Threads + Wait + Sync>(
 }
 
 /// Runs a case, and once more with reads and writes that take no more than this.
-fn run_by_slow<R: Threads + Wait + Sync>(
+fn run_by_slow<R: Threads + Wait + RandomSource + time::Clock + Sync>(
     rt: &R,
     alloc: Global,
     case: &mut Case,
@@ -148,7 +150,7 @@ fn show_alike(first: &String, second: &String, out: &mut Answer) {
 }
 
 /// What comes of the run. The number of Graphite's bytes is appended.
-fn report_by<R: Threads + Wait + Sync>(
+fn report_by<R: Threads + Wait + RandomSource + time::Clock + Sync>(
     rt: &R,
     alloc: Global,
     case: &Case,

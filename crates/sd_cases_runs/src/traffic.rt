@@ -1,12 +1,12 @@
 //! What a server or a proxy of a case is given.
 ghost use Rattle.std.specs.Prelude.{◌≡◌, ◌≤◌, All, IfOk, false, length, vec_len};
 ghost use Rattle.sd_model_outside.specs.Turns.{most_datagram};
-ghost use Rattle.sd_outside.specs.MemBeat.{seen_of as beat_seen};
-ghost use Rattle.sd_outside.specs.MemDoor.{seen_of as door_seen};
-ghost use Rattle.sd_outside.specs.MemSessions.{HasNoFaults};
+ghost use Rattle.sd_memory.specs.MemBeat.{seen_of as beat_seen};
+ghost use Rattle.sd_memory.specs.MemDoor.{seen_of as door_seen};
+ghost use Rattle.sd_memory.specs.MemSessions.{HasNoFaults};
 
 use sd_case::{Refusal, bytes_of, number, push_number, set_number};
-use sd_outside::{MemBeat, MemClock, MemDatagrams, MemDoor, MemProbe, MemSink, MemSource};
+use sd_memory::{MemBeat, MemClock, MemDatagrams, MemDoor, MemProbe, MemSink, MemSource};
 use std::alloc::Global;
 use std::num::NonZeroUsize;
 

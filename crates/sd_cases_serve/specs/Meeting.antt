@@ -1,9 +1,9 @@
 -- What is seen of the objects of workers that meet.
 use Rattle.std.specs.Prelude.{min}
 use Rattle.sd_model_outside.specs.Outside.{Object, last_count}
-use Rattle.sd_outside.specs.MemDatagrams as source
-use Rattle.sd_outside.specs.MemDoor as door
-use Rattle.sd_outside.specs.MemDoor.{MemDoor}
+use Rattle.sd_memory.specs.MemDatagrams as source
+use Rattle.sd_memory.specs.MemDoor as door
+use Rattle.sd_memory.specs.MemDoor.{MemDoor}
 use Rattle.sd_cases_serve.specs.declared.meeting.MeetSource.{MeetSource}
 use Rattle.sd_cases_serve.specs.declared.meeting.Comer.{Comer}
 

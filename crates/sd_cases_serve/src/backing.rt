@@ -1,7 +1,8 @@
 //! Backends.
 use crate::setup::value_in;
 use sd_case::{Refusal, number};
-use sd_outside::{Backs, MemBackend};
+use sd_memory::MemBackend;
+use sd_outside::Backs;
 use std::alloc::Global;
 
 // For how many bytes and lists each backend has room.

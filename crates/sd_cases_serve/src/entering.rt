@@ -1,12 +1,12 @@
 //! A beat, a door with its sessions, and one with its streams.
 ghost use Rattle.std.specs.Prelude.{◌≡◌, ◌<◌, ◌^◌, All, IfOk, false};
-ghost use Rattle.sd_outside.specs.MemBeat.{seen_of as beat_seen};
-ghost use Rattle.sd_outside.specs.MemDoor.{seen_of as door_seen};
-ghost use Rattle.sd_outside.specs.MemSessions.{HasNoFaults};
+ghost use Rattle.sd_memory.specs.MemBeat.{seen_of as beat_seen};
+ghost use Rattle.sd_memory.specs.MemDoor.{seen_of as door_seen};
+ghost use Rattle.sd_memory.specs.MemSessions.{HasNoFaults};
 
 use crate::setup::{Setup, numbers_in, values_in};
 use sd_case::{Refusal, bytes_of, number};
-use sd_outside::{MemBeat, MemDoor, MemSink, MemSource};
+use sd_memory::{MemBeat, MemDoor, MemSink, MemSource};
 use std::alloc::Global;
 
 // For how many bytes of replies each session has room, where it says nothing else.

@@ -1,7 +1,7 @@
 //! Workers of a server that meet: each source before its last datagram, the first write to Graphite, and each door's first call.
 //! A source has nothing for now until all have come, and the others wait.
 ghost use Rattle.std.specs.Prelude.{IfOk};
-ghost use Rattle.sd_outside.specs.MemBeat.{seen_of as beat_seen};
+ghost use Rattle.sd_memory.specs.MemBeat.{seen_of as beat_seen};
 ghost use Rattle.sd_cases_serve.specs.Meeting.{door_seen};
 ghost use Rattle.sd_cases_serve.specs.Serving.{IsFresh};
 
@@ -14,9 +14,9 @@ use crate::setup::{Setup, setup_of};
 use crate::shown::{show_books, show_desk, show_ends};
 use crate::texts::show_graphite;
 use sd_case::{Answer, Refusal, number};
+use sd_memory::{MemBackend, MemBeat, MemDatagrams, MemDoor, MemSink, MemSource, MemWire};
 use sd_outside::{
-    Address, Backend, Backs, Datagrams, Door, Entry, Failed, Faulty, MemBackend, MemBeat,
-    MemDatagrams, MemDoor, MemSink, MemSource, MemWire, Next, OpenRefusal, Opens, Sink,
+    Address, Backend, Backs, Datagrams, Door, Entry, Failed, Faulty, Next, OpenRefusal, Opens, Sink,
 };
 use std::alloc::Global;
 use std::sync::Wait;

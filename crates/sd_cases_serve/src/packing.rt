@@ -3,7 +3,7 @@ ghost use Rattle.std.specs.Prelude.{◌≤◌, All, IfOk, vec_len};
 
 use crate::setup::{Setup, numbers_at, value_in};
 use sd_case::{Refusal, bytes_of};
-use sd_outside::{MemDatagrams, MemWire};
+use sd_memory::{MemDatagrams, MemWire};
 use std::alloc::Global;
 
 // How many bytes a datagram has at most.

@@ -9,15 +9,18 @@ use log::{LevelFilter, Logged};
 use sd_case::Refusal;
 use sd_config::Settings;
 use sd_epoch::Limits;
-use sd_outside::{
-    Backend, Backs, Beat, Datagrams, Door, Gate, MemClock, MemProbe, MemSink, MemSource, Wire,
-};
+use sd_flush::RecordForm;
+use sd_memory::{MemClock, MemProbe, MemSink, MemSource};
+use sd_outside::{Backend, Backs, Beat, Datagrams, Door, Gate, Wire};
 use sd_plan::{Names, Reckoning};
-use sd_serve::{KindsOf, Served, ServerRoom, Sizes, serve};
+use sd_serve::{KindsOf, Served, ServerObjects, ServerRoom, Sizes, Terms, serve};
 use sd_shard::Policy;
 use std::alloc::Global;
 use std::sync::Wait;
 use std::thread::Threads;
+
+/// The seed of the hashes by which rows are found.
+const SEED: u64 = 0;
 
 /// What a server works with.
 #[derive(Drop)]
@@ -87,26 +90,35 @@ pub fn serve_over<
         return Err(Refusal::Condition);
     }
     let settings = Settings::read(alloc, b"").map_err(|_| Refusal::Condition)?;
-    let room = ServerRoom::open(alloc, sizes, setup.clock)?;
+    let room = ServerRoom::open(alloc, sizes, setup.clock, SEED)?;
     let clock = MemClock::of(setup.clock);
     let log = Logged::new(rt, LevelFilter::Off, Discard);
+    let (plan, names) = (Reckoning::plain(), Names::plain());
+    let terms = Terms {
+        settings: &settings,
+        form: RecordForm {
+            plan: &plan,
+            names: &names,
+        },
+        run_flushes: setup.flushes,
+        gate,
+        clock: &clock,
+    };
+    let mut objects = ServerObjects {
+        beat: &mut world.beat,
+        backs: &mut world.backs,
+        door: &mut world.door,
+        streams: &mut world.streams,
+    };
     Ok(serve::<
         KindsOf<MemSource, MemSink, B, D, L, E, P, G, MemClock, MemProbe, S, Discard>,
         Logged<&R, Discard>,
     >(
         &log,
         room,
-        &settings,
-        &Reckoning::plain(),
-        &Names::plain(),
-        setup.flushes,
+        &terms,
         &mut world.packets,
         &mut world.wires,
-        &mut world.beat,
-        &mut world.backs,
-        &mut world.door,
-        &mut world.streams,
-        gate,
-        &clock,
+        &mut objects,
     ))
 }

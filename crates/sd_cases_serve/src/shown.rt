@@ -1,8 +1,9 @@
 //! How what a server left is printed.
 use sd_case::Answer;
 use sd_desk::DeskFacts;
+use sd_memory::{MemBeat, MemDatagrams, MemDoor, MemWire};
 use sd_outlet::Worked;
-use sd_outside::{DoorEnd, Ended, MemBeat, MemDatagrams, MemDoor, MemWire};
+use sd_outside::{DoorEnd, Ended};
 use sd_serve::Served;
 use sd_shard::ShardBook;
 

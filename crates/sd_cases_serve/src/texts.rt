@@ -1,6 +1,7 @@
 //! What backends were given.
 use sd_case::{Answer, Refusal};
-use sd_outside::{Backs, MemBackend};
+use sd_memory::MemBackend;
+use sd_outside::Backs;
 use std::alloc::Global;
 
 // What the counts of a key add up to over the rounds.

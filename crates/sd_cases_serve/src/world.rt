@@ -1,7 +1,7 @@
 //! Servers over objects in memory.
 ghost use Rattle.std.specs.Prelude.{IfOk};
-ghost use Rattle.sd_outside.specs.MemBeat.{seen_of as beat_seen};
-ghost use Rattle.sd_outside.specs.MemDoor.{seen_of as door_seen};
+ghost use Rattle.sd_memory.specs.MemBeat.{seen_of as beat_seen};
+ghost use Rattle.sd_memory.specs.MemDoor.{seen_of as door_seen};
 ghost use Rattle.sd_cases_serve.specs.Serving.{IsFresh};
 
 use crate::backing::backs_of;
@@ -16,7 +16,7 @@ use crate::shown::{
 };
 use crate::texts::show_backs;
 use sd_case::{Answer, Refusal};
-use sd_outside::{MemBackend, MemBeat, MemDatagrams, MemDoor, MemWire};
+use sd_memory::{MemBackend, MemBeat, MemDatagrams, MemDoor, MemWire};
 use sd_serve::Served;
 use std::alloc::Global;
 use std::sync::Wait;

@@ -4,7 +4,7 @@ use crate::held::end_word;
 use crate::plan::Plan;
 use crate::server::Server;
 use sd_case::{Answer, Refusal};
-use sd_outside::MemSink;
+use sd_memory::MemSink;
 use std::alloc::Global;
 use std::sync::Wait;
 

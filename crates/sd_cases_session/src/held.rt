@@ -1,12 +1,13 @@
 ghost use Rattle.std.specs.Prelude.{◌≡◌, All, IfOk, false};
-ghost use Rattle.sd_outside.specs.MemSessions.{HasNoFaults};
+ghost use Rattle.sd_memory.specs.MemSessions.{HasNoFaults};
 ghost use Rattle.sd_cases_session.specs.Pausing.{seen_of};
 
 use crate::pausing::PausingDoor;
 use crate::plan::Plan;
 use crate::server::Server;
 use sd_case::{Answer, Refusal, number};
-use sd_outside::{DoorEnd, MemDoor, MemSink, MemSource};
+use sd_memory::{MemDoor, MemSink, MemSource};
+use sd_outside::DoorEnd;
 use sd_session::SessionEnd;
 use std::alloc::Global;
 use std::sync::Wait;

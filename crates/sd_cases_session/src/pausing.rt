@@ -1,4 +1,5 @@
-use sd_outside::{Address, Door, Entry, Faulty, MemDoor, MemSink, MemSource, OpenRefusal, Opens};
+use sd_memory::{MemDoor, MemSink, MemSource};
+use sd_outside::{Address, Door, Entry, Faulty, OpenRefusal, Opens};
 
 /// A door in memory that has no session for now at calls of these numbers, counted from 1.
 #[derive(Drop)]
@@ -11,7 +12,7 @@ pub(crate) struct PausingDoor {
 
 impl PausingDoor {
     ghost use Rattle.std.specs.Prelude.{◌≡◌};
-    ghost use Rattle.sd_outside.specs.MemDoor.{seen_of as mem_seen};
+    ghost use Rattle.sd_memory.specs.MemDoor.{seen_of as mem_seen};
     ghost use Rattle.sd_cases_session.specs.Pausing.{seen_of};
 
     /// A door that has no session for now at calls of these numbers.

@@ -1,11 +1,11 @@
 ghost use Rattle.std.specs.Prelude.{◌≡◌, ◌<◌, ◌≤◌, IfOk};
-ghost use Rattle.sd_outside.specs.MemSink.{seen_of as sink_seen};
-ghost use Rattle.sd_outside.specs.MemSource.{seen_of as source_seen};
+ghost use Rattle.sd_memory.specs.MemSink.{seen_of as sink_seen};
+ghost use Rattle.sd_memory.specs.MemSource.{seen_of as source_seen};
 
 use sd_case::{Refusal, bytes_of, count_up_to, number, push_number, set_number};
 use sd_config::Settings;
 use sd_line::{Lines, Sample};
-use sd_outside::{MemSink, MemSource};
+use sd_memory::{MemSink, MemSource};
 use std::alloc::Global;
 
 // How many shards there may be.

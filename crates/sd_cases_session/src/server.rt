@@ -8,10 +8,12 @@ use log::{LevelFilter, Logged};
 use sd_case::Refusal;
 use sd_desk::{Mark, RoundMarks, Tally};
 use sd_epoch::Limits;
-use sd_outside::{Door, DoorEnd, MemClock, MemSink, MemSource, NoGate};
+use sd_memory::{MemClock, MemSink, MemSource};
+use sd_outside::{Door, DoorEnd, NoGate};
 use sd_pool::{Pool, Seat, Seats};
 use sd_session::{AdminSpace, SessionEnd, doorkeep, session};
 use sd_shard::Policy;
+use sd_shared::Shared;
 use sd_shared_desk::{DeskSeat, SharedDesk};
 use std::alloc::Global;
 use std::sync::Wait;
@@ -123,17 +125,22 @@ impl Server {
         requires { IsReady self.old }
         ensures { IsReady self.new }
     {
+        let shared = Shared {
+            pool: &self.pool,
+            desk: &self.desk,
+            gate: &NoGate,
+            clock: &self.clock,
+            run_flushes: plan.flushes,
+        };
         session(
             &Logged::new(rt, LevelFilter::Off, Discard),
-            &self.pool,
-            &self.desk,
+            &shared,
             &mut self.own,
             &mut self.seat,
             &plan.settings,
             &mut self.space,
             source,
             sink,
-            &self.clock,
         )
     }
 
@@ -144,18 +151,21 @@ impl Server {
         requires turns { (E.seen door.old).turns < 2 ^ 62 }
         ensures { IsReady self.new }
     {
+        let shared = Shared {
+            pool: &self.pool,
+            desk: &self.desk,
+            gate: &NoGate,
+            clock: &self.clock,
+            run_flushes: plan.flushes,
+        };
         doorkeep(
             &Logged::new(rt, LevelFilter::Off, Discard),
-            &self.pool,
-            &self.desk,
+            &shared,
             &mut self.own,
             &mut self.seat,
             &plan.settings,
             &mut self.space,
             door,
-            &self.clock,
-            &NoGate,
-            plan.flushes,
         )
     }
 

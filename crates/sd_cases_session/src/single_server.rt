@@ -6,7 +6,8 @@ use sd_case::{Answer, Refusal, bytes_of, number};
 use sd_config::Settings;
 use sd_desk::{Desk, Tally};
 use sd_key::{Kind, Pattern};
-use sd_outside::{MemSink, WriteFault};
+use sd_memory::MemSink;
+use sd_outside::WriteFault;
 use sd_shard::{Dump, Keys, Shard};
 use std::alloc::Global;
 

@@ -1,7 +1,8 @@
 use sd_case::{Answer, Refusal, bytes_of};
 use sd_config::Settings;
 use sd_epoch::Limits;
-use sd_replay::{ReplayRoom, limits_of, policy_of};
+use sd_replay::ReplayRoom;
+use sd_run::{limits_of, policy_of};
 use sd_shard::Policy;
 use std::alloc::Global;
 

@@ -5,7 +5,8 @@ use crate::read_calls::{
 use sd_case::{Answer, Refusal, bytes_of, number};
 use sd_config::{ConfigFault, NamesOf, Settings};
 use sd_config_text::{ConfigText, config_line};
-use sd_outside::{Failed, MemSink, Name};
+use sd_memory::MemSink;
+use sd_outside::{Failed, Name};
 use sd_plan::{Names, Reckoning};
 use std::alloc::Global;
 

@@ -10,7 +10,7 @@ use sd_config::{NamesOf, Settings};
 use sd_decimal::Micro;
 use sd_epoch::{Limits, Scratch, Table};
 use sd_key::Kind;
-use sd_outside::MemSink;
+use sd_memory::MemSink;
 use sd_plan::Names;
 use sd_record::RecordScratch;
 use std::alloc::Global;

@@ -6,12 +6,13 @@ ghost use Rattle.sd_flush.specs.Tables.{AreTablesFor};
 ghost use Rattle.sd_flush.specs.Flushing.{Flushes, back_of, form_of, uses};
 
 use crate::flushed::Flushed;
+use crate::record_form::RecordForm;
 use crate::rounds::round;
 use crate::tables::Tables;
 use sd_outside::{Backend, Backs, Beat, Ended, Gate, Tick};
-use sd_plan::{Names, Reckoning};
-use sd_pool::{Pool, Seat};
-use sd_shared_desk::{DeskSeat, SharedDesk};
+use sd_pool::Seat;
+use sd_shared::Shared;
+use sd_shared_desk::DeskSeat;
 use std::sync::Wait;
 
 /// How many rounds a flusher makes at most.
@@ -20,35 +21,32 @@ const MOST_TURNS: u64 = 1 << 62;
 /// Makes a round at each tick of a beat, until it has none left or fails, or as many rounds were made as are asked for; 0 asks for
 /// none. It tells the second of the last of them. It waits for the beat, and for the turns of the shards and of the desk, and takes no
 /// memory.
-pub fn flush_all<E: Beat, B: Backend, G: Gate, R: Wait>(
+pub fn flush_all<E: Beat, B: Backend, G: Gate, C, R: Wait>(
     rt: &R,
-    pool: &Pool,
-    desk: &SharedDesk,
+    shared: &Shared<'_, G, C>,
     own: &mut DeskSeat,
     seat: &mut Seat,
     tables: &mut Tables,
-    plan: &Reckoning,
-    names: &Names,
+    form: &RecordForm<'_>,
     beat: &mut E,
     backs: &mut Backs<B>,
-    gate: &G,
-    run_flushes: u64,
 ) -> Flushed
-    requires own { IsDeskSeatOf desk.now own.old }
-    requires seat { IsSeatOf pool.now seat.old }
+    requires own { IsDeskSeatOf shared.now.desk.now own.old }
+    requires seat { IsSeatOf shared.now.pool.now seat.old }
     requires flusher { who_is seat.old ≡ flusher }
-    requires tables { AreTablesFor (limits_of pool.now) (shards_of pool.now) tables.old }
+    requires tables { AreTablesFor (limits_of shared.now.pool.now) (shards_of shared.now.pool.now) tables.old }
     requires turns { (E.seen beat.old).turns < 2 ^ 62 }
-    ensures own { IsDeskSeatOf desk.now own.new × (number_of_seat own.new ≡ number_of_seat own.old) }
-    ensures seat { IsSeatOf pool.now seat.new }
+    ensures own { IsDeskSeatOf shared.now.desk.now own.new × (number_of_seat own.new ≡ number_of_seat own.old) }
+    ensures seat { IsSeatOf shared.now.pool.now seat.new }
     ensures who { who_is seat.new ≡ who_is seat.old }
-    ensures tables { AreTablesFor (limits_of pool.now) (shards_of pool.now) tables.new }
-    ensures flushes { Flushes (form_of pool.now plan.now names.now) (uses backs.old) run_flushes
-        (own_at seat.old) (own_at seat.new) (part_of own.old) (part_of own.new)
+    ensures tables { AreTablesFor (limits_of shared.now.pool.now) (shards_of shared.now.pool.now) tables.new }
+    ensures flushes { Flushes (form_of shared.now.pool.now form.now.plan.now form.now.names.now) (uses backs.old)
+        shared.now.run_flushes (own_at seat.old) (own_at seat.new) (part_of own.old) (part_of own.new)
         (back_of B.seen backs.old) (back_of B.seen backs.new) (E.seen beat.old) (E.seen beat.new) result }
     ensures graphite_flag { backs.new.graphite_used ≡ backs.old.graphite_used }
     ensures console_flag { backs.new.console_used ≡ backs.old.console_used }
 {
+    let run_flushes = shared.run_flushes;
     let mut last = None;
     for made in 0..MOST_TURNS {
         if run_flushes > 0 && made == run_flushes {
@@ -59,9 +57,7 @@ pub fn flush_all<E: Beat, B: Backend, G: Gate, R: Wait>(
         }
         match beat.next() {
             Tick::At(ts) => {
-                round(
-                    rt, pool, desk, own, seat, tables, plan, names, ts, backs, gate,
-                );
+                round(rt, shared, own, seat, tables, form, ts, backs);
                 last = Some(ts);
             }
             Tick::End => {

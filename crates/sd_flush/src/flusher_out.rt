@@ -11,14 +11,15 @@ ghost use Rattle.sd_flush.specs.Outs.{AreOutsReady, IsLeadReady, StopsOne, Where
 
 use crate::flushed::Flushed;
 use crate::outs::{Lead, Outs, Skips};
+use crate::record_form::RecordForm;
 use crate::rounds_out::round_out;
 use crate::tables::Tables;
 use crate::telling::SkippedInRow;
 use log::Log;
 use sd_outside::{Beat, Ended, Gate, Tick};
-use sd_plan::{Names, Reckoning};
-use sd_pool::{Pool, Seat};
-use sd_shared_desk::{DeskSeat, SharedDesk};
+use sd_pool::Seat;
+use sd_shared::Shared;
+use sd_shared_desk::DeskSeat;
 use std::sync::Wait;
 
 /// How many rounds a flusher makes at most.
@@ -67,34 +68,32 @@ fn end(outs: &mut Outs<'_>, flushed: Flushed, skips: Skips) -> FlushedOut
 /// Makes a round at each tick of a beat as `flush_all` does, but sends the texts to the outlets of the backends that are used, and
 /// then stops their feeds, however it ended. It waits for the beat, and for the turns of the shards and of the desk, but for no
 /// backend, and takes no memory.
-pub fn flush_all_out<E: Beat, G: Gate, R: Wait + Log>(
+pub fn flush_all_out<E: Beat, G: Gate, C, R: Wait + Log>(
     rt: &R,
-    pool: &Pool,
-    desk: &SharedDesk,
+    shared: &Shared<'_, G, C>,
     own: &mut DeskSeat,
     seat: &mut Seat,
     tables: &mut Tables,
-    plan: &Reckoning,
-    names: &Names,
+    form: &RecordForm<'_>,
     beat: &mut E,
     outs: &mut Outs<'_>,
-    gate: &G,
-    run_flushes: u64,
 ) -> FlushedOut
-    requires own { IsDeskSeatOf desk.now own.old }
-    requires seat { IsSeatOf pool.now seat.old }
+    requires own { IsDeskSeatOf shared.now.desk.now own.old }
+    requires seat { IsSeatOf shared.now.pool.now seat.old }
     requires flusher { who_is seat.old ≡ flusher }
-    requires tables { AreTablesFor (limits_of pool.now) (shards_of pool.now) tables.old }
+    requires tables { AreTablesFor (limits_of shared.now.pool.now) (shards_of shared.now.pool.now) tables.old }
     requires outs { AreOutsReady outs.old }
     requires turns { (E.seen beat.old).turns < 2 ^ 62 }
-    ensures own { IsDeskSeatOf desk.now own.new × (number_of_seat own.new ≡ number_of_seat own.old) }
-    ensures seat { IsSeatOf pool.now seat.new }
+    ensures own { IsDeskSeatOf shared.now.desk.now own.new × (number_of_seat own.new ≡ number_of_seat own.old) }
+    ensures seat { IsSeatOf shared.now.pool.now seat.new }
     ensures who { who_is seat.new ≡ who_is seat.old }
-    ensures tables { AreTablesFor (limits_of pool.now) (shards_of pool.now) tables.new }
+    ensures tables { AreTablesFor (limits_of shared.now.pool.now) (shards_of shared.now.pool.now) tables.new }
     ensures outs { AreOutsReady outs.new }
-    ensures flushes { FlushesOut (form_of pool.now plan.now names.now) (fed_by result.skips outs.old outs.new) run_flushes
-        (own_at seat.old) (own_at seat.new) (part_of own.old) (part_of own.new) (E.seen beat.old) (E.seen beat.new) result.flushed }
+    ensures flushes { FlushesOut (form_of shared.now.pool.now form.now.plan.now form.now.names.now)
+        (fed_by result.skips outs.old outs.new) shared.now.run_flushes (own_at seat.old) (own_at seat.new)
+        (part_of own.old) (part_of own.new) (E.seen beat.old) (E.seen beat.new) result.flushed }
 {
+    let run_flushes = shared.run_flushes;
     let mut skips = Skips {
         graphite: 0,
         console: 0,
@@ -108,9 +107,7 @@ pub fn flush_all_out<E: Beat, G: Gate, R: Wait + Log>(
         }
         match beat.next() {
             Tick::At(ts) => {
-                let marks = round_out(
-                    rt, pool, desk, own, seat, tables, plan, names, ts, outs, gate,
-                );
+                let marks = round_out(rt, shared, own, seat, tables, form, ts, outs);
                 skips.count(marks);
                 skipped_in_row.note(rt, marks);
                 last = Some(ts);

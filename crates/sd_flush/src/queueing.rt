@@ -13,12 +13,13 @@ ghost use Rattle.sd_outlet.specs.OutBuf.{IsNewBuf, size_in, text_in};
 ghost use Rattle.sd_flush.specs.Outs.{AfterText, AreOutsReady, IsLeadReady, OffersOne};
 
 use crate::outs::{Lead, OutMark, OutMarks, Outs, Skip};
+use crate::record_form::RecordForm;
 use sd_console::ConsoleText;
 use sd_desk::Tally;
 use sd_graphite::GraphiteText;
 use sd_outlet::{OutBuf, QueueFull, buffers_keep_what_fits};
 use sd_outside::CountSink;
-use sd_plan::{Names, Reckoning};
+use sd_plan::Names;
 use sd_record::{Record, RecordScratch};
 use sd_spares::Spares;
 use sd_text::RecordText;
@@ -131,8 +132,7 @@ pub(crate) fn queue_record<R: Wait>(
     rt: &R,
     spares: &Spares,
     scratch: &mut RecordScratch,
-    plan: &Reckoning,
-    names: &Names,
+    form: &RecordForm<'_>,
     tally: Tally,
     ts: u64,
     outs: &mut Outs<'_>,
@@ -143,12 +143,13 @@ pub(crate) fn queue_record<R: Wait>(
     ensures room { scratch.new.room ≡ scratch.old.room }
     ensures ready { AreOutsReady outs.new }
     ensures graphite { AfterText result.graphite
-        (graphite_text names.now (record_of (plan_view plan.now) (map table_of spares.now.swapped) (tally_of tally) ts))
+        (graphite_text form.now.names.now
+        (record_of (plan_view form.now.plan.now) (map table_of spares.now.swapped) (tally_of tally) ts))
         outs.old.graphite outs.new.graphite }
     ensures console { AfterText result.console
-        (console_text (record_of (plan_view plan.now) (map table_of spares.now.swapped) (tally_of tally) ts))
+        (console_text (record_of (plan_view form.now.plan.now) (map table_of spares.now.swapped) (tally_of tally) ts))
         outs.old.console outs.new.console }
 {
-    let mut record = Record::over(spares.swapped(), plan, scratch, tally, ts);
-    offer_texts(rt, &mut record, names, outs)
+    let mut record = Record::over(spares.swapped(), form.plan, scratch, tally, ts);
+    offer_texts(rt, &mut record, form.names, outs)
 }

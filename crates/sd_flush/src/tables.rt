@@ -6,9 +6,6 @@ use sd_record::RecordScratch;
 use sd_spares::Spares;
 use std::alloc::{AllocError, Global};
 
-/// The seed of the hashes by which rows are found.
-const SEED: u64 = 0;
-
 /// The tables that a flusher swaps the shards for, and room for a record of those that they give.
 #[derive(Debug, Drop)]
 pub struct Tables {
@@ -19,19 +16,19 @@ pub struct Tables {
 impl Tables {
     ghost use Rattle.sd_flush.specs.Tables.{AreTablesFor};
 
-    /// Tables for so many shards with these limits.
+    /// Tables for so many shards with these limits, whose rows are found by hashes under a seed.
     ///
     /// # Errors
     ///
     /// Where no memory is left for it.
-    pub fn open(alloc: Global, limits: Limits, shards: u16) -> Result<Tables, AllocError>
+    pub fn open(alloc: Global, limits: Limits, shards: u16, seed: u64) -> Result<Tables, AllocError>
         requires limits { AreLimits (limits_of limits) }
         requires some { 0 < shards }
         requires few { shards ≤ 16 }
         ensures { IfOk result (AreTablesFor (limits_of limits) shards) }
     {
         Ok(Tables {
-            spares: Spares::open(alloc, shards, limits, SEED)?,
+            spares: Spares::open(alloc, shards, limits, seed)?,
             scratch: RecordScratch::open(alloc, limits, shards)?,
         })
     }

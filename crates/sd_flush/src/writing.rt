@@ -10,10 +10,10 @@ ghost use Rattle.sd_desk.specs.Tally.{tally_of};
 ghost use Rattle.sd_record.specs.Room.{room_for};
 ghost use Rattle.sd_record.specs.Rows.{AreDisjoint};
 
+use crate::record_form::RecordForm;
 use sd_delivery::deliver;
 use sd_desk::{Mark, RoundMarks, Tally};
 use sd_outside::{Backend, Backs};
-use sd_plan::{Names, Reckoning};
 use sd_record::{Record, RecordScratch};
 use sd_spares::Spares;
 
@@ -21,8 +21,7 @@ use sd_spares::Spares;
 pub(crate) fn write_record<B: Backend>(
     spares: &Spares,
     scratch: &mut RecordScratch,
-    plan: &Reckoning,
-    names: &Names,
+    form: &RecordForm<'_>,
     tally: Tally,
     ts: u64,
     backs: &mut Backs<B>,
@@ -31,10 +30,11 @@ pub(crate) fn write_record<B: Backend>(
     requires disjoint { AreDisjoint spares.now.swapped }
     ensures room { scratch.new.room ≡ scratch.old.room }
     ensures graphite { AfterMark (mark_of result.graphite)
-        (graphite_text names.now (record_of (plan_view plan.now) (map table_of spares.now.swapped) (tally_of tally) ts))
+        (graphite_text form.now.names.now
+        (record_of (plan_view form.now.plan.now) (map table_of spares.now.swapped) (tally_of tally) ts))
         (B.seen backs.old.graphite) (B.seen backs.new.graphite) }
     ensures console { AfterMark (mark_of result.console)
-        (console_text (record_of (plan_view plan.now) (map table_of spares.now.swapped) (tally_of tally) ts))
+        (console_text (record_of (plan_view form.now.plan.now) (map table_of spares.now.swapped) (tally_of tally) ts))
         (B.seen backs.old.console) (B.seen backs.new.console) }
     ensures graphite_used { FitsUse backs.old.graphite_used (mark_of result.graphite) }
     ensures console_used { FitsUse backs.old.console_used (mark_of result.console) }
@@ -45,6 +45,6 @@ pub(crate) fn write_record<B: Backend>(
     ensures graphite_flag { backs.new.graphite_used ≡ backs.old.graphite_used }
     ensures console_flag { backs.new.console_used ≡ backs.old.console_used }
 {
-    let mut record = Record::over(spares.swapped(), plan, scratch, tally, ts);
-    deliver(&mut record, names, backs)
+    let mut record = Record::over(spares.swapped(), form.plan, scratch, tally, ts);
+    deliver(&mut record, form.names, backs)
 }

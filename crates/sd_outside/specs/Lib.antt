@@ -1,16 +1,4 @@
 pub mod Answers
-pub mod ByteStore
 pub mod CountSink
 pub mod Intervals
-pub mod MemBackend
-pub mod MemBeat
-pub mod MemDatagrams
-pub mod MemDoor
-pub mod MemObject
-pub mod MemProbe
-pub mod MemSessions
-pub mod MemSink
-pub mod MemSource
-pub mod MemWire
 pub mod Places
-pub mod RoundStore

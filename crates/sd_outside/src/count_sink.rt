@@ -3,9 +3,10 @@ use crate::backend::Backend;
 use crate::opens::{Failed, Faulty};
 use crate::sink::Sink;
 use crate::unfailing::Unfailing;
+use crate::wire::Wire;
 
 /// A sink and a backend that counts the bytes that it is given, up to 2^64 - 1, where the count stays, and keeps none
-/// of them. It takes whole pieces, takes no memory, and never fails.
+/// of them. It takes whole pieces, takes no memory, and never fails. As a wire it takes packets, and counts none.
 #[derive(Drop)]
 pub struct CountSink {
     count: u64,
@@ -75,6 +76,12 @@ impl Backend for CountSink {
         ensures ok { result ≡ Ok tt }
         ensures stays { self.new ≡ self.old }
     {
+        Ok(())
+    }
+}
+
+impl Wire for CountSink {
+    fn send(&mut self, _packet: &[u8]) -> Result<(), Failed> {
         Ok(())
     }
 }

@@ -10,6 +10,7 @@ use Rattle.sd_model_serve.specs.Doors.{Visit}
 use Rattle.sd_model_stream.specs.Streams.{CountsReads, Cut, stream_lines, AreStreamsOf, FilesLines, Stream, any_worn, bytes_in, is_worn, lines_in, reads_in}
 use Rattle.sd_desk.specs.Tally.{tally_of}
 use Rattle.sd_door.specs.Keeping.{Visited}
+use Rattle.sd_pool.specs.declared.pool.Pool.{Pool}
 use Rattle.sd_pool.specs.Pool.{own_at, shards_of}
 use Rattle.sd_receive.specs.Lining.{HasVisited, IsNew, WorksOn}
 use Rattle.sd_receive.specs.declared.line_visitor.LineVisitor.{LineVisitor}
@@ -51,23 +52,21 @@ plus-assoc a b c i d = same d i where
   same : (e : Count) → plus (plus a b) c e ≡ plus a (plus b c) e
   same e = omega arith
 
-module _ {C : Type 0} (may_say : C → ℕ → Type 0) where
+module _ (says : ℕ → Type 0) (pool : Pool) where
   -- all visits, and what the visitor has behind them
-  pub record HasVisitedAll (visits : List Visit) (old new : LineVisitor C) (own : ℕ → History) (before : List Cut) (amounts : Amounts) (calls : List DeskCall) : Type 0 where
+  pub record HasVisitedAll (visits : List Visit) (old new : LineVisitor) (own : ℕ → History) (before : List Cut) (amounts : Amounts) (calls : List DeskCall) : Type 0 where
     pub works : WorksOn old new
     pub streams : List Stream
-    pub called : CountsReads (may_say old.clock.now) (reads_in streams) calls
+    pub called : CountsReads says (reads_in streams) calls
     pub went : AreStreamsOf visits streams
-    pub filed : FilesLines (shards_of old.pool.now) (before ++ lines_in streams) own (own_at new.seat.now) (tally_of new.account.tally) new.account.taken
+    pub filed : FilesLines (shards_of pool) (before ++ lines_in streams) own (own_at new.seat.now) (tally_of new.account.tally) new.account.taken
     pub has : Has amounts (tally_of new.account.tally)
     pub worn_is : new.is_worn ≡ (old.is_worn || any_worn streams)
 
-  on_the_same : (old mid new : LineVisitor C) → WorksOn old mid → WorksOn mid new → WorksOn old new
+  on_the_same : (old mid new : LineVisitor) → WorksOn old mid → WorksOn mid new → WorksOn old new
   on_the_same old mid new a b = record {
-    pool = b.pool ∙ a.pool;
     who = b.who ∙ a.who;
     room = b.room ∙ a.room;
-    clock = b.clock ∙ a.clock;
     seat = b.seat ∙ a.seat;
     cutter = b.cutter ∙ a.cutter;
     buf = b.buf ∙ a.buf;
@@ -75,16 +74,16 @@ module _ {C : Type 0} (may_say : C → ℕ → Type 0) where
     batch = b.batch ∙ a.batch;
   }
 
-  pub visited_all : (visits : List Visit) (old new : LineVisitor C) (own : ℕ → History) (before : List Cut) (so_far amounts : Amounts) (calls : List DeskCall) → Visited (HasVisited may_say) visits old new amounts calls
-      → FilesLines (shards_of old.pool.now) before own (own_at old.seat.now) (tally_of old.account.tally) old.account.taken → Has so_far (tally_of old.account.tally)
+  pub visited_all : (visits : List Visit) (old new : LineVisitor) (own : ℕ → History) (before : List Cut) (so_far amounts : Amounts) (calls : List DeskCall) → Visited (HasVisited says pool) visits old new amounts calls
+      → FilesLines (shards_of pool) before own (own_at old.seat.now) (tally_of old.account.tally) old.account.taken → Has so_far (tally_of old.account.tally)
       → HasVisitedAll visits old new own before (plus so_far amounts) calls
   visited_all [] old new own before so_far amounts calls h filed has =
-      subst (λ (v : LineVisitor C). HasVisitedAll [] old v own before (plus so_far amounts) calls) (sym h.0) (record {
-        works = record { pool = refl; who = refl; room = refl; clock = refl; seat = refl; cutter = refl; buf = refl; batch_is = refl; batch = refl };
+      subst (λ (v : LineVisitor). HasVisitedAll [] old v own before (plus so_far amounts) calls) (sym h.0) (record {
+        works = record { who = refl; room = refl; seat = refl; cutter = refl; buf = refl; batch_is = refl; batch = refl };
         streams = [];
-        called = subst (CountsReads (may_say old.clock.now) 0) (sym h.2) (reads_none (may_say old.clock.now));
+        called = subst (CountsReads says 0) (sym h.2) (reads_none says);
         went = tt;
-        filed = subst (λ (lines : List Cut). FilesLines (shards_of old.pool.now) lines own (own_at old.seat.now) (tally_of old.account.tally) old.account.taken) (sym (append-nil before)) filed;
+        filed = subst (λ (lines : List Cut). FilesLines (shards_of pool) lines own (own_at old.seat.now) (tally_of old.account.tally) old.account.taken) (sym (append-nil before)) filed;
         has = subst (λ (a : Amounts). Has a (tally_of old.account.tally)) (plus-none so_far amounts h.1) has;
         worn_is = or_none old.is_worn;
       })
@@ -92,37 +91,34 @@ module _ {C : Type 0} (may_say : C → ℕ → Type 0) where
       let mid = h.0 in
       let first = h.5 in
       let lines = stream_lines (bytes_in first.stream) in
-      let pool : shards_of mid.pool.now ≡ shards_of old.pool.now = ap shards_of first.works.pool in
       let behind =
-      subst (λ (t : Tally). FilesLines (shards_of old.pool.now) (before ++ lines) own (own_at mid.seat.now) t mid.account.taken) (sym first.tally_is)
-      (subst (λ (n : ℕ). FilesLines (shards_of old.pool.now) (before ++ lines) own (own_at mid.seat.now) (add_tally (tally_of old.account.tally) first.tally) n) (sym first.taken_is)
+      subst (λ (t : Tally). FilesLines (shards_of pool) (before ++ lines) own (own_at mid.seat.now) t mid.account.taken) (sym first.tally_is)
+      (subst (λ (n : ℕ). FilesLines (shards_of pool) (before ++ lines) own (own_at mid.seat.now) (add_tally (tally_of old.account.tally) first.tally) n) (sym first.taken_is)
       (FilesLines-next before lines own (own_at old.seat.now) (own_at mid.seat.now) (tally_of old.account.tally) first.tally old.account.taken first.taken filed first.filed)) in
       let has_mid = subst (λ (t : Tally). Has (plus so_far h.1) t) (sym first.tally_is) (Has-next so_far h.1 (tally_of old.account.tally) first.tally has first.counts) in
       let rest =
-      visited_all visits mid new own (before ++ lines) (plus so_far h.1) h.2 h.4 h.6
-      (subst (λ (n : ℕ). FilesLines n (before ++ lines) own (own_at mid.seat.now) (tally_of mid.account.tally) mid.account.taken) (sym pool) behind) has_mid in
+      visited_all visits mid new own (before ++ lines) (plus so_far h.1) h.2 h.4 h.6 behind has_mid in
       record {
         works = on_the_same old mid new first.works rest.works;
         streams = first.stream ∷ rest.streams;
         called =
-            subst (CountsReads (may_say old.clock.now) (reads_in (first.stream ∷ rest.streams))) (sym h.8)
-            (subst (λ (k : ℕ). CountsReads (may_say old.clock.now) k (h.3 ++ h.4)) (sym (sum_by-cons (λ (s : Stream). length s.reads) first.stream rest.streams))
-            (reads_next (may_say old.clock.now) (length first.stream.reads) (reads_in rest.streams) h.3 h.4 first.called (subst (λ (k : C). CountsReads (may_say k) (reads_in rest.streams) h.4) first.works.clock rest.called)));
+            subst (CountsReads says (reads_in (first.stream ∷ rest.streams))) (sym h.8)
+            (subst (λ (k : ℕ). CountsReads says k (h.3 ++ h.4)) (sym (sum_by-cons (λ (s : Stream). length s.reads) first.stream rest.streams))
+            (reads_next says (length first.stream.reads) (reads_in rest.streams) h.3 h.4 first.called rest.called));
         went = (first.went, rest.went);
         filed =
-            subst (λ (ls : List Cut). FilesLines (shards_of old.pool.now) ls own (own_at new.seat.now) (tally_of new.account.tally) new.account.taken) (append_assoc before lines (lines_in rest.streams))
-            (subst (λ (n : ℕ). FilesLines n ((before ++ lines) ++ lines_in rest.streams) own (own_at new.seat.now) (tally_of new.account.tally) new.account.taken) pool rest.filed);
+            subst (λ (ls : List Cut). FilesLines (shards_of pool) ls own (own_at new.seat.now) (tally_of new.account.tally) new.account.taken) (append_assoc before lines (lines_in rest.streams)) rest.filed;
         has = subst (λ (a : Amounts). Has a (tally_of new.account.tally)) (plus-assoc so_far h.1 h.2 ∙ ap (plus so_far) (sym h.7)) rest.has;
         worn_is = rest.worn_is ∙ ap (λ (b : Bool). b || any_worn rest.streams) first.worn_is ∙ or_assoc old.is_worn (is_worn first.stream.ended) (any_worn rest.streams);
       }
 
   -- all visits of one that has read no stream
-  pub read_by : (visits : List Visit) (old new : LineVisitor C) (amounts : Amounts) (calls : List DeskCall) → IsNew old → Visited (HasVisited may_say) visits old new amounts calls → HasVisitedAll visits old new (own_at old.seat.now) [] amounts calls
+  pub read_by : (visits : List Visit) (old new : LineVisitor) (amounts : Amounts) (calls : List DeskCall) → IsNew old → Visited (HasVisited says pool) visits old new amounts calls → HasVisitedAll visits old new (own_at old.seat.now) [] amounts calls
   read_by visits old new amounts calls fresh visited =
       subst (λ (a : Amounts). HasVisitedAll visits old new (own_at old.seat.now) [] a calls) (λ i c. same c i)
       (visited_all visits old new (own_at old.seat.now) [] nothing amounts calls visited
-      (subst (λ (t : Tally). FilesLines (shards_of old.pool.now) [] (own_at old.seat.now) (own_at old.seat.now) t old.account.taken) (sym fresh.tally)
-      (subst (λ (n : ℕ). FilesLines (shards_of old.pool.now) [] (own_at old.seat.now) (own_at old.seat.now) no_tally n) (sym fresh.taken) (FilesLines-none (own_at old.seat.now))))
+      (subst (λ (t : Tally). FilesLines (shards_of pool) [] (own_at old.seat.now) (own_at old.seat.now) t old.account.taken) (sym fresh.tally)
+      (subst (λ (n : ℕ). FilesLines (shards_of pool) [] (own_at old.seat.now) (own_at old.seat.now) no_tally n) (sym fresh.taken) (FilesLines-none (own_at old.seat.now))))
       (subst (λ (t : Tally). Has nothing t) (sym fresh.tally) (record { same = λ c. omega (arith, no_lines c) }))) where
         same : (c : Count) → plus nothing amounts c ≡ amounts c
         same c = omega arith

@@ -12,49 +12,47 @@ use Rattle.sd_model_stream.specs.Streams.{CountsReads, stream_lines, FilesLines,
 use Rattle.sd_desk.specs.Tally.{tally_of}
 use Rattle.sd_outside.specs.declared.door.DoorEnd.TheVariants.{Worn}
 use Rattle.sd_filing.specs.Filing.{IsOpenFor}
+use Rattle.sd_pool.specs.declared.pool.Pool.{Pool}
 use Rattle.sd_pool.specs.Pool.{IsSeatOf, own_at, shards_of, who_is}
 use Rattle.sd_door.specs.Keeping.{EndsAfter}
 use Rattle.sd_receive.specs.declared.line_visitor.LineVisitor.{LineVisitor}
 use Rattle.sd_receive.specs.declared.lining.Lined.{Lined}
 
-module _ {C : Type 0} where
-  -- it has a seat of its pool, and room to read into
-  pub record CanVisit (visitor : LineVisitor C) : Type 0 where
-    pub seat : IsSeatOf visitor.pool.now visitor.seat.now
-    pub room : 0 < length visitor.buf.now
-    pub batch : IsOpenFor (shards_of visitor.pool.now) visitor.batch.now
+-- it has a seat of the pool, and room to read into
+pub record CanVisit (pool : Pool) (visitor : LineVisitor) : Type 0 where
+  pub seat : IsSeatOf pool visitor.seat.now
+  pub room : 0 < length visitor.buf.now
+  pub batch : IsOpenFor (shards_of pool) visitor.batch.now
 
-  -- it has read no stream
-  pub record IsNew (visitor : LineVisitor C) : Type 0 where
-    pub tally : tally_of visitor.account.tally ≡ no_tally
-    pub taken : visitor.account.taken ≡ 0
-    pub whole : visitor.is_worn ≡ false
+-- it has read no stream
+pub record IsNew (visitor : LineVisitor) : Type 0 where
+  pub tally : tally_of visitor.account.tally ≡ no_tally
+  pub taken : visitor.account.taken ≡ 0
+  pub whole : visitor.is_worn ≡ false
 
-  -- it works with the same as before
-  pub record WorksOn (old new : LineVisitor C) : Type 0 where
-    pub pool : new.pool.now ≡ old.pool.now
-    pub who : who_is new.seat.now ≡ who_is old.seat.now
-    pub room : length new.buf.now ≡ length old.buf.now
-    pub clock : new.clock.now ≡ old.clock.now
-    pub seat : new.seat.ghost_name ≡ old.seat.ghost_name
-    pub cutter : new.cutter.ghost_name ≡ old.cutter.ghost_name
-    pub buf : new.buf.ghost_name ≡ old.buf.ghost_name
-    pub batch_is : new.batch.now ≡ old.batch.now
-    pub batch : new.batch.ghost_name ≡ old.batch.ghost_name
+-- it works with the same as before
+pub record WorksOn (old new : LineVisitor) : Type 0 where
+  pub who : who_is new.seat.now ≡ who_is old.seat.now
+  pub room : length new.buf.now ≡ length old.buf.now
+  pub seat : new.seat.ghost_name ≡ old.seat.ghost_name
+  pub cutter : new.cutter.ghost_name ≡ old.cutter.ghost_name
+  pub buf : new.buf.ghost_name ≡ old.buf.ghost_name
+  pub batch_is : new.batch.now ≡ old.batch.now
+  pub batch : new.batch.ghost_name ≡ old.batch.ghost_name
 
-  -- A session was read as a stream, and what its lines count for was counted.
-  pub record HasVisited (may_say : C → ℕ → Type 0) (old new : LineVisitor C) (v : Visit) (amounts : Amounts) (calls : List DeskCall) : Type 0 where
-    pub works : WorksOn old new
-    pub stream : Stream
-    pub tally : Tally
-    pub taken : ℕ
-    pub went : IsStreamOf v stream
-    pub filed : FilesLines (shards_of old.pool.now) (stream_lines (bytes_in stream)) (own_at old.seat.now) (own_at new.seat.now) tally taken
-    pub counts : amounts ≡ of_tally tally
-    pub called : CountsReads (may_say old.clock.now) (length stream.reads) calls
-    pub tally_is : tally_of new.account.tally ≡ add_tally (tally_of old.account.tally) tally
-    pub taken_is : new.account.taken ≡ counted old.account.taken taken
-    pub worn_is : new.is_worn ≡ (old.is_worn || is_worn stream.ended)
+-- A session was read as a stream, and what its lines count for was counted.
+pub record HasVisited (says : ℕ → Type 0) (pool : Pool) (old new : LineVisitor) (v : Visit) (amounts : Amounts) (calls : List DeskCall) : Type 0 where
+  pub works : WorksOn old new
+  pub stream : Stream
+  pub tally : Tally
+  pub taken : ℕ
+  pub went : IsStreamOf v stream
+  pub filed : FilesLines (shards_of pool) (stream_lines (bytes_in stream)) (own_at old.seat.now) (own_at new.seat.now) tally taken
+  pub counts : amounts ≡ of_tally tally
+  pub called : CountsReads says (length stream.reads) calls
+  pub tally_is : tally_of new.account.tally ≡ add_tally (tally_of old.account.tally) tally
+  pub taken_is : new.account.taken ≡ counted old.account.taken taken
+  pub worn_is : new.is_worn ≡ (old.is_worn || is_worn stream.ended)
 
 -- What the reading of a door's streams did, and how it ended, after so many turns of the door: where a stream was worn, by that, and
 -- else as the keeping of the door did.

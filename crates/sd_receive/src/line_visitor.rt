@@ -8,19 +8,18 @@ use crate::streaming::stream;
 use log::Log;
 use sd_batch::Batch;
 use sd_door::Visitor;
-use sd_outside::{Clock, Sink, Source};
-use sd_pool::{Pool, Seat};
-use sd_shared_desk::{DeskSeat, SharedDesk};
+use sd_outside::{Clock, Gate, Sink, Source};
+use sd_pool::Seat;
+use sd_shared::Shared;
+use sd_shared_desk::DeskSeat;
 use sd_tcp::Cutter;
 use std::sync::Wait;
 
 /// Reads the sessions of a door as streams. What is told is left as it is.
 #[derive(Drop)]
-pub(crate) struct LineVisitor<'p, 's, 'k, 'c, 'b, C> {
-    pub pool: &'p Pool,
+pub(crate) struct LineVisitor<'s, 'k, 'b> {
     pub seat: &'s mut Seat,
     pub cutter: &'k mut Cutter,
-    pub clock: &'c C,
     pub buf: &'b mut [u8],
     pub batch: &'b mut Batch,
     /// What the streams so far came to.
@@ -49,17 +48,17 @@ fn is_worn_out(ended: StreamEnd) -> bool
     }
 }
 
-impl<C: Clock> Visitor for LineVisitor<'_, '_, '_, '_, '_, C> {
+impl Visitor for LineVisitor<'_, '_, '_> {
     ghost use Rattle.sd_receive.specs.Lining.{CanVisit, HasVisited};
 
     ghost can_visit = { CanVisit };
 
-    ghost has_visited = { HasVisited C.may_say };
+    ghost has_visited = { HasVisited };
 
-    fn visit<A: Source, T: Sink, R: Wait + Log>(
+    fn visit<A: Source, T: Sink, G: Gate, C: Clock, R: Wait + Log>(
         &mut self,
         rt: &R,
-        desk: &SharedDesk,
+        shared: &Shared<'_, G, C>,
         own: &mut DeskSeat,
         asking: &mut A,
         telling: &mut T,
@@ -67,13 +66,11 @@ impl<C: Clock> Visitor for LineVisitor<'_, '_, '_, '_, '_, C> {
         let _ = telling;
         let streamed = stream(
             rt,
-            self.pool,
-            desk,
+            shared,
             own,
             self.seat,
             self.cutter,
             asking,
-            self.clock,
             self.buf,
             self.batch,
         );

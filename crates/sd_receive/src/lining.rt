@@ -13,8 +13,9 @@ use sd_batch::Batch;
 use sd_desk::Tally;
 use sd_door::keep_door;
 use sd_outside::{Clock, Door, DoorEnd, Gate};
-use sd_pool::{Pool, Seat};
-use sd_shared_desk::{DeskSeat, SharedDesk};
+use sd_pool::Seat;
+use sd_shared::Shared;
+use sd_shared_desk::DeskSeat;
 use sd_tcp::Cutter;
 use std::sync::Wait;
 
@@ -43,26 +44,24 @@ fn ended_by(is_worn: bool, kept: DoorEnd) -> DoorEnd
 }
 
 /// Reads the streams of a door.
-fn read_all<E: Door, C: Clock, G: Gate, R: Wait + Log>(
+fn read_all<E: Door, G: Gate, C: Clock, R: Wait + Log>(
     rt: &R,
-    desk: &SharedDesk,
+    shared: &Shared<'_, G, C>,
     own: &mut DeskSeat,
-    visitor: &mut LineVisitor<'_, '_, '_, '_, '_, C>,
+    visitor: &mut LineVisitor<'_, '_, '_>,
     door: &mut E,
-    gate: &G,
-    run_flushes: u64,
 ) -> Lined
-    requires ready { CanVisit visitor.old }
+    requires ready { CanVisit shared.now.pool.now visitor.old }
     requires new { IsNew visitor.old }
-    requires own { IsDeskSeatOf desk.now own.old }
+    requires own { IsDeskSeatOf shared.now.desk.now own.old }
     requires none_out { (E.seen door.old).is_out ≡ false }
     requires turns { (E.seen door.old).turns < 2 ^ 62 }
-    ensures ready { CanVisit visitor.new }
+    ensures ready { CanVisit shared.now.pool.now visitor.new }
     ensures works { WorksOn visitor.old visitor.new }
-    ensures own { IsDeskSeatOf desk.now own.new × (number_of_seat own.new ≡ number_of_seat own.old) }
-    ensures keeps { KeepsLines (C.may_say visitor.old.clock.now) (shards_of visitor.old.pool.now) run_flushes (own_at visitor.old.seat.now) (own_at visitor.new.seat.now) (E.seen door.old) (E.seen door.new) (part_of own.old) (part_of own.new) result }
+    ensures own { IsDeskSeatOf shared.now.desk.now own.new × (number_of_seat own.new ≡ number_of_seat own.old) }
+    ensures keeps { KeepsLines (C.may_say shared.now.clock.now) (shards_of shared.now.pool.now) shared.now.run_flushes (own_at visitor.old.seat.now) (own_at visitor.new.seat.now) (E.seen door.old) (E.seen door.new) (part_of own.old) (part_of own.new) result }
 {
-    let kept = keep_door(rt, desk, own, visitor, door, gate, run_flushes);
+    let kept = keep_door(rt, shared, own, visitor, door);
     Lined {
         ended: ended_by(visitor.is_worn, kept),
         tally: visitor.account.tally,
@@ -73,41 +72,35 @@ fn read_all<E: Door, C: Clock, G: Gate, R: Wait + Log>(
 /// Reads the sessions of a door as streams, one after another, and gives each back, until the door has none left, so many flushes
 /// have come as are enough, where that isn't 0, or the door took 2^62 turns. A failure of the door and a stream that failed are
 /// counted at the desk, and the door is asked again. It takes no memory.
-pub fn linekeep<E: Door, C: Clock, G: Gate, R: Wait + Log>(
+pub fn linekeep<E: Door, G: Gate, C: Clock, R: Wait + Log>(
     rt: &R,
-    pool: &Pool,
-    desk: &SharedDesk,
+    shared: &Shared<'_, G, C>,
     own: &mut DeskSeat,
     seat: &mut Seat,
     cutter: &mut Cutter,
     door: &mut E,
-    clock: &C,
-    gate: &G,
     buf: &mut [u8],
     batch: &mut Batch,
-    run_flushes: u64,
 ) -> Lined
-    requires own { IsDeskSeatOf desk.now own.old }
-    requires seat { IsSeatOf pool.now seat.old }
+    requires own { IsDeskSeatOf shared.now.desk.now own.old }
+    requires seat { IsSeatOf shared.now.pool.now seat.old }
     requires room { 0 < length buf.old }
-    requires batch { IsOpenFor (shards_of pool.now) batch.old }
+    requires batch { IsOpenFor (shards_of shared.now.pool.now) batch.old }
     requires none_out { (E.seen door.old).is_out ≡ false }
     requires turns { (E.seen door.old).turns < 2 ^ 62 }
-    ensures own { IsDeskSeatOf desk.now own.new × (number_of_seat own.new ≡ number_of_seat own.old) }
-    ensures seat { IsSeatOf pool.now seat.new × (who_is seat.new ≡ who_is seat.old) }
+    ensures own { IsDeskSeatOf shared.now.desk.now own.new × (number_of_seat own.new ≡ number_of_seat own.old) }
+    ensures seat { IsSeatOf shared.now.pool.now seat.new × (who_is seat.new ≡ who_is seat.old) }
     ensures room { length buf.new ≡ length buf.old }
     ensures batch { batch.new ≡ batch.old }
-    ensures keeps { KeepsLines (C.may_say clock.now) (shards_of pool.now) run_flushes (own_at seat.old) (own_at seat.new) (E.seen door.old) (E.seen door.new) (part_of own.old) (part_of own.new) result }
+    ensures keeps { KeepsLines (C.may_say shared.now.clock.now) (shards_of shared.now.pool.now) shared.now.run_flushes (own_at seat.old) (own_at seat.new) (E.seen door.old) (E.seen door.new) (part_of own.old) (part_of own.new) result }
 {
     let mut visitor = LineVisitor {
-        pool,
         seat,
         cutter,
-        clock,
         buf,
         batch,
         account: Account::none(),
         is_worn: false,
     };
-    read_all(rt, desk, own, &mut visitor, door, gate, run_flushes)
+    read_all(rt, shared, own, &mut visitor, door)
 }

@@ -1,11 +1,11 @@
 use crate::received::Received;
 use crate::receiving::receive;
-use crate::shared::Shared;
 use log::Log;
 use sd_batch::Batch;
 use sd_outside::{Clock, Datagrams, Ended, Gate, Wire};
-use sd_pool::{Pool, Seat};
-use sd_shared_desk::{DeskSeat, SharedDesk};
+use sd_pool::Seat;
+use sd_shared::Shared;
+use sd_shared_desk::DeskSeat;
 use sd_workers::{Reports, Worker};
 use std::sync::Wait;
 
@@ -25,31 +25,19 @@ impl<D: Datagrams, L: Wire> Post<D, L> {
     ghost use Rattle.sd_receive.specs.Posts.{IsReady, HasRun};
 
     /// Receives with the parts of the post, and keeps what that did. It takes no memory.
-    pub fn run<G: Gate, C: Clock, R: Wait + Log>(
-        &mut self,
-        rt: &R,
-        pool: &Pool,
-        desk: &SharedDesk,
-        gate: &G,
-        clock: &C,
-        run_flushes: u64,
-    )
-        requires { IsReady pool.now desk.now self.old }
-        ensures { HasRun D.seen L.seen (C.may_say clock.now) pool.now desk.now run_flushes self.old self.new }
+    pub fn run<G: Gate, C: Clock, R: Wait + Log>(&mut self, rt: &R, shared: &Shared<'_, G, C>)
+        requires { IsReady shared.now.pool.now shared.now.desk.now self.old }
+        ensures { HasRun D.seen L.seen (C.may_say shared.now.clock.now) shared.now.pool.now shared.now.desk.now shared.now.run_flushes self.old self.new }
     {
         let got = receive(
             rt,
-            pool,
-            desk,
+            shared,
             &mut self.own,
             &mut self.seat,
             &mut self.packets,
             self.wires.as_mut_slice(),
-            gate,
-            clock,
             &mut self.buf,
             &mut self.batch,
-            run_flushes,
         );
         self.got = Some(got);
     }
@@ -63,14 +51,7 @@ impl<'a, D: Datagrams, L: Wire, G: Gate, C: Clock> Worker<Shared<'a, G, C>> for 
     ghost has_run = { λ shared old new. HasRun D.seen L.seen (C.may_say shared.clock.now) shared.pool.now shared.desk.now shared.run_flushes old new };
 
     fn run<R: Wait + Log>(&mut self, rt: &R, shared: &Shared<'a, G, C>) {
-        self.run(
-            rt,
-            shared.pool,
-            shared.desk,
-            shared.gate,
-            shared.clock,
-            shared.run_flushes,
-        );
+        self.run(rt, shared);
     }
 }
 

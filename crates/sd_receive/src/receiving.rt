@@ -7,14 +7,14 @@ ghost use Rattle.sd_shared_desk.specs.Shared.{IsSeatOf as IsDeskSeatOf, number_o
 ghost use Rattle.sd_receive.specs.Receiving.{Receives};
 
 use crate::received::Received;
-use crate::shared::Shared;
 use crate::turn::take_turn;
 use log::Log;
 use sd_batch::Batch;
 use sd_desk::Tally;
 use sd_outside::{Clock, Datagrams, Ended, Gate, Wire};
-use sd_pool::{Pool, Seat};
-use sd_shared_desk::{DeskSeat, SharedDesk};
+use sd_pool::Seat;
+use sd_shared::Shared;
+use sd_shared_desk::DeskSeat;
 use std::sync::Wait;
 
 // The most turns of a source.
@@ -30,47 +30,36 @@ pub(crate) fn counted(n: u64, more: u64) -> u64
     n.saturating_add(more).min(LAST_COUNT)
 }
 
-/// Takes the datagrams of a source, until none is left or it fails, `run_flushes` flushes were counted at the desk, or the
+/// Takes the datagrams of a source, until none is left or it fails, `shared.run_flushes` flushes were counted at the desk, or the
 /// source took 2^62 turns. Each datagram is repeated on the wires, its good samples are submitted, in order at each shard, by
 /// one turn of it for as many as the batch has room for, and then it is counted at the desk, once. Before it asks for a datagram it
 /// passes place 0 of the gate, and behind the answers of a turn place 1, once for each sample.
 pub fn receive<D: Datagrams, L: Wire, G: Gate, C: Clock, R: Wait + Log>(
     rt: &R,
-    pool: &Pool,
-    desk: &SharedDesk,
+    shared: &Shared<'_, G, C>,
     own: &mut DeskSeat,
     seat: &mut Seat,
     packets: &mut D,
     wires: &mut [L],
-    gate: &G,
-    clock: &C,
     buf: &mut [u8],
     batch: &mut Batch,
-    run_flushes: u64,
 ) -> Received
-    requires own { IsDeskSeatOf desk.now own.old }
-    requires seat { IsSeatOf pool.now seat.old }
+    requires own { IsDeskSeatOf shared.now.desk.now own.old }
+    requires seat { IsSeatOf shared.now.pool.now seat.old }
     requires wires { length wires.old < 2 ^ 32 }
     requires room { most_datagram ≤ length buf.old }
-    requires batch { IsOpenFor (shards_of pool.now) batch.old }
-    ensures own { IsDeskSeatOf desk.now own.new × (number_of_seat own.new ≡ number_of_seat own.old) }
-    ensures seat { IsSeatOf pool.now seat.new × (who_is seat.new ≡ who_is seat.old) }
+    requires batch { IsOpenFor (shards_of shared.now.pool.now) batch.old }
+    ensures own { IsDeskSeatOf shared.now.desk.now own.new × (number_of_seat own.new ≡ number_of_seat own.old) }
+    ensures seat { IsSeatOf shared.now.pool.now seat.new × (who_is seat.new ≡ who_is seat.old) }
     ensures wires { length wires.new ≡ length wires.old }
     ensures room { length buf.new ≡ length buf.old }
     ensures batch { batch.new ≡ batch.old }
-    ensures receives { Receives (C.may_say clock.now) (shards_of pool.now) run_flushes (D.seen packets.old) (D.seen packets.new) (map L.seen wires.old) (map L.seen wires.new) (own_at seat.old) (own_at seat.new) (part_of own.old) (part_of own.new) result }
+    ensures receives { Receives (C.may_say shared.now.clock.now) (shards_of shared.now.pool.now) shared.now.run_flushes (D.seen packets.old) (D.seen packets.new) (map L.seen wires.old) (map L.seen wires.new) (own_at seat.old) (own_at seat.new) (part_of own.old) (part_of own.new) result }
 {
-    let shared = Shared {
-        pool,
-        desk,
-        gate,
-        clock,
-        run_flushes,
-    };
     let mut tally = Tally::none();
     let mut taken = 0;
     for _turn in 0..MOST_TURNS {
-        let turn = take_turn(rt, &shared, own, seat, packets, wires, buf, batch);
+        let turn = take_turn(rt, shared, own, seat, packets, wires, buf, batch);
         tally = tally.and(turn.tally);
         taken = counted(taken, turn.taken);
         if let Some(ended) = turn.ended {

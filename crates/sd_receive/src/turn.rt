@@ -11,7 +11,6 @@ ghost use Rattle.sd_shared_desk.specs.Shared.{IsSeatOf as IsDeskSeatOf, number_o
 ghost use Rattle.sd_model_serve.specs.Receiving.{HasReceived};
 ghost use Rattle.sd_receive.specs.Receiving.{EndsSo, IsFailedSend, TakesDatagram, most_read};
 
-use crate::shared::Shared;
 use crate::submitting::Submitting;
 use crate::telling::tell_bad;
 use log::Log;
@@ -21,6 +20,7 @@ use sd_filing::file_datagram;
 use sd_outside::{Clock, Datagrams, Ended, Gate, Next, Wire};
 use sd_pool::Seat;
 use sd_repeater::repeat;
+use sd_shared::Shared;
 use sd_shared_desk::{DeskSeat, SharedDesk};
 use std::sync::Wait;
 

@@ -38,7 +38,7 @@ use Rattle.sd_model_outside.proofs.DeliveryLemmas.{AfterDeliveries-push}
 use Rattle.sd_model_record.proofs.WireLemmas.{AreRepeated-next, AreRepeated-none}
 use Rattle.sd_model_replay.proofs.ReplayLemmas.{run_before, run_of-push, output_of-push, deliveries-push, delivery_of, sendings-push, script_text-end, AllByRecursion-push}
 use Rattle.sd_shards.specs.Shards.{Group, AreAlike, group_bounds, numbers, state_at}
-use Rattle.sd_replay.specs.Totals.{totals_of_group}
+use Rattle.sd_run.specs.Totals.{totals_of_group}
 
 -- the records that were carried out
 abbrev commands_of : List Played → List Command

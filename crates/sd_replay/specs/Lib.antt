@@ -4,4 +4,3 @@ pub mod RoomInside
 pub mod Seen
 pub mod Sent
 pub mod Start
-pub mod Totals

@@ -1,8 +1,8 @@
 ghost use Rattle.std.specs.Prelude.{◌≡◌, IfOk};
 
-use crate::settings::{limits_of, policy_of};
 use sd_config::Settings;
 use sd_record::RecordScratch;
+use sd_run::{limits_of, policy_of};
 use sd_script::Reader;
 use sd_shard::{Dump, Keys};
 use sd_shards::Shards;

@@ -13,14 +13,12 @@ ghost use Rattle.sd_replay.specs.Room.{sizing_of};
 ghost use Rattle.sd_replay.specs.Seen.{seen_of};
 ghost use Rattle.sd_replay.specs.Start.{start_in};
 ghost use Rattle.sd_replay.specs.Sent.{IsPlayed};
-ghost use Rattle.sd_replay.specs.Totals.{totals_of_group, totals_view};
+ghost use Rattle.sd_run.specs.Totals.{totals_of_group, totals_view};
 ghost use Rattle.sd_model_record.specs.Backends.{Graphite, Console};
 
 use crate::fault::{ScriptFault, fault_at};
 use crate::flush::flush;
 use crate::room::ReplayRoom;
-use crate::settings::targets_of;
-use crate::totals::{Totals, write_totals};
 use sd_command::carry_out;
 use sd_config::{NamesOf, Settings};
 use sd_desk::{Desk, Tally};
@@ -28,6 +26,7 @@ use sd_epoch::Who;
 use sd_outside::{Backend, Backs, Sink, Source, Wire, WriteFault};
 use sd_plan::Names;
 use sd_repeater::repeat;
+use sd_run::{Totals, targets_of, write_totals};
 use sd_script::Item;
 use sd_shards::Shards;
 

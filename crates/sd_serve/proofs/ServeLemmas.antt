@@ -1,5 +1,5 @@
 -- A run of the server, put together from what its workers tell, and the closing of its pool and its desk.
-use Rattle.std.proofs.Common.{◌≡◌, ◌⊎◌, ℕ, suc, ◌+◌, ◌<◌, ◌≤◌, Bool, Option, List, [], ◌∷◌, ◌++◌, length, map, flat_map, get_or, All, inl, inr, refl, sym, ap, subst, ◌∙◌, arith, length-append, append_assoc}
+use Rattle.std.proofs.Common.{◌≡◌, ◌⊎◌, ℕ, suc, ◌+◌, ◌<◌, ◌≤◌, Bool, Option, List, [], ◌∷◌, ◌++◌, length, map, flat_map, get_or, All, inl, inr, sym, ap, subst, ◌∙◌, arith, length-append, append_assoc}
 use Rattle.std.specs.Prelude.{Some, min, option_to_list, slice_get, sum_by}
 use Rattle.std.specs.List.{AllByRecursion, range_with_len}
 use Rattle.std.proofs.lemmas.Bool.{cases_lt}
@@ -16,11 +16,11 @@ use Rattle.sd_model_shard.specs.Shard.{empty_state}
 use Rattle.sd_model_shard.specs.Whereabouts.{dropped_in, told_by}
 use Rattle.sd_model_record.specs.Backends.{Backend, mark_of}
 use Rattle.sd_model_serve.specs.Receiving.{CountsDatagrams, administrator, flusher, Adds, events_by, events_of, told_in, brought_by}
-use Rattle.sd_model_record.specs.Counts.{Among, HasCalled, IsKeeping, share, Count, RoundsMade, TotalPackets, TotalLines, TotalBad, TotalDropped, TakenPackets, TakenLines, TakenBad, TakenDropped, HasCounted, Part, number_of}
+use Rattle.sd_model_record.specs.Counts.{Among, IsKeeping, share, Count, RoundsMade, TotalPackets, TotalLines, TotalBad, TotalDropped, TakenPackets, TakenLines, TakenBad, TakenDropped, HasCounted, Part, number_of}
 use Rattle.sd_model_record.specs.Desk.{Desk, IsBalanced, Marks, last_counted}
 use Rattle.sd_model_record.specs.DeskHistory.{DeskCall, IsDeskHistory, calls_by, desk_after}
 use Rattle.sd_model_serve.specs.Ends.{EndsFlusher}
-use Rattle.sd_model_serve.specs.Rounds.{Round, last_second, of_rounds, round_calls, round_deliveries, round_text, swaps_at, AreCommands, JoinsAs, Ran}
+use Rattle.sd_model_serve.specs.Rounds.{Round, of_rounds, round_calls, round_deliveries, round_text, swaps_at, AreCommands, JoinsAs, Ran}
 use Rattle.sd_model_serve.specs.Sessions.{acts_in, events_in}
 use Rattle.sd_model_serve.specs.Doors.{ServesSessions, asked_by, called_in}
 use Rattle.sd_model_serve.proofs.ServedLemmas.{events_of_acts, ran_by_callers}

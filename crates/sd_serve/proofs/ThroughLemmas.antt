@@ -1,6 +1,6 @@
 -- What the flusher left, with outlets and without.
-use Rattle.std.proofs.Common.{◌≡◌, ◌≢◌, ℕ, suc, ◌+◌, Bool, true, false, List, [], ◌∷◌, ◌++◌, length, map, min, refl, sym, ap, subst, ◌∙◌, arith, inl, inr, length-append}
-use Rattle.std.specs.Prelude.{Option, Some, None, flat_map}
+use Rattle.std.proofs.Common.{◌≡◌, ℕ, Bool, true, false, List, [], ◌∷◌, ◌++◌, length, map, min, refl, sym, ap, subst, ◌∙◌, arith, inl, inr, length-append}
+use Rattle.std.specs.Prelude.{Option, Some, None}
 use Rattle.std.specs.List.{AllByRecursion}
 use Rattle.std.proofs.lemmas.List.{length-map}
 use Rattle.sd_model_outside.specs.Deliveries.{Delivery, AfterDeliveries, FitsUse, missed}
@@ -11,12 +11,12 @@ use Rattle.sd_model_record.specs.Backends.{Backend, Graphite, Console, mark_of}
 use Rattle.sd_model_record.specs.Counts.{Part}
 use Rattle.sd_model_record.specs.Desk.{Marks}
 use Rattle.sd_model_serve.specs.Rounds.{Form, MarksFit, Round, round_deliveries, round_text}
-use Rattle.sd_model_run.specs.Outlets.{AreChosen, HasFlowed, Outflow, OutletRoom, WentThrough, chosen, has_outlet, no_outflow, uses_at_ticks}
+use Rattle.sd_model_run.specs.Outlets.{AreChosen, HasFlowed, Outflow, OutletRoom, chosen, no_outflow}
 use Rattle.sd_outlet.specs.declared.feed.Feed.{Feed}
 use Rattle.sd_outlet.specs.declared.outlet.Outlet.{Outlet}
 use Rattle.sd_outlet.specs.declared.worked.Worked.{Worked}
 use Rattle.sd_outlet.specs.Feed.{buffers, bytes_of, sent}
-use Rattle.sd_outlet.specs.Worked.{EachUsed, HasWorked}
+use Rattle.sd_outlet.specs.Worked.{EachUsed}
 use Rattle.sd_flush.specs.Flushing.{Flushes}
 use Rattle.sd_flush.specs.FlushingOut.{FlushesOut, no_marks}
 use Rattle.sd_flush.specs.Offers.{AfterOffers, AfterOut, Offer, queued_by, texts_queued}
@@ -25,8 +25,8 @@ use Rattle.sd_flush.specs.declared.outs.OutMark.{OutMark}
 use Rattle.sd_flush.specs.declared.outs.OutMark.TheVariants.{NotUsed, Queued, Skipped}
 use Rattle.sd_flush.specs.declared.outs.Skip.TheVariants.{Full, Long, Spent}
 use Rattle.sd_serve.specs.OutRoom.{HasOutRooms, IsOutRoom, feed_in, has_rooms, outlet_in, room_seen, rooms_at, rooms_of}
-use Rattle.sd_serve.specs.Through.{AreCounted, FlushesThrough, faults_at, skips_at}
-use Rattle.sd_serve.specs.Written.{HasWritten, WritesQueued, written_by}
+use Rattle.sd_serve.specs.Through.{FlushesThrough, faults_at, skips_at}
+use Rattle.sd_serve.specs.Written.{HasWritten, written_by}
 use Rattle.sd_serve.specs.declared.out_room.OutRoom.{OutRoom}
 use Rattle.sd_serve.specs.declared.out_room.OutRooms.{OutRooms}
 use Rattle.sd_serve.specs.declared.workers_out.OutCounts.{OutCounts}

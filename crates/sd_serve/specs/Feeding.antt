@@ -35,5 +35,5 @@ module _ {E : Type 0} where
     pub number : number_of_seat new.own.now ≡ number_of_seat old.own.now
     pub tables_are : AreTablesFor (limits_of pool) (shards_of pool) new.tables.now
     pub outs_are : AreOutsReady new.outs.now
-    pub flushes : FlushesOut (form_of pool old.plan.now old.names.now) (fed_by new.fed.skips old.outs.now new.outs.now) run_flushes (own_at old.seat.now) (own_at new.seat.now) (part_of old.own.now) (part_of new.own.now)
+    pub flushes : FlushesOut (form_of pool old.form.now.plan.now old.form.now.names.now) (fed_by new.fed.skips old.outs.now new.outs.now) run_flushes (own_at old.seat.now) (own_at new.seat.now) (part_of old.own.now) (part_of new.own.now)
         (seen old.beat.now) (seen new.beat.now) new.fed.flushed

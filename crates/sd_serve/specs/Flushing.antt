@@ -31,7 +31,7 @@ module _ {B E : Type 0} where
     pub own_is : IsDeskSeatOf desk new.own.now
     pub number : number_of_seat new.own.now ≡ number_of_seat old.own.now
     pub tables_are : AreTablesFor (limits_of pool) (shards_of pool) new.tables.now
-    pub flushes : Flushes (form_of pool old.plan.now old.names.now) (uses old.backs.now) run_flushes (own_at old.seat.now) (own_at new.seat.now) (part_of old.own.now) (part_of new.own.now)
+    pub flushes : Flushes (form_of pool old.form.now.plan.now old.form.now.names.now) (uses old.backs.now) run_flushes (own_at old.seat.now) (own_at new.seat.now) (part_of old.own.now) (part_of new.own.now)
         (back_of back_seen old.backs.now) (back_of back_seen new.backs.now) (seen old.beat.now) (seen new.beat.now) new.flushed
     pub graphite_flag : new.backs.now.graphite_used ≡ old.backs.now.graphite_used
     pub console_flag : new.backs.now.console_used ≡ old.backs.now.console_used

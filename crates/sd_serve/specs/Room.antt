@@ -83,14 +83,14 @@ pub record IsRoom {D L : Type 0} (room : ServerRoom D L) : Type 0 where
   pub desk_seats : seats_of room.desk ≡ submitters (sizing_in room) + 2
   pub numbers : map number_of_seat room.owns.items ≡ span 0 (submitters (sizing_in room) + 2)
   pub owns : All (IsNewDeskSeatOf room.desk) room.owns.items
-  pub tables : AreTablesFor (sizing_in room).limits (sizing_in room).shards room.tables
-  pub space : IsSpaceFor (sizing_in room).limits (sizing_in room).shards room.space
-  pub places : length room.rooms.items ≡ (sizing_in room).receivers
-  pub place_each : All (HasPlace (sizing_in room).wires) room.rooms.items
-  pub batches : All (HasBatch (sizing_in room).shards) room.rooms.items
-  pub lines : HasLineRoom (sizing_in room).streams (sizing_in room).shards room.lines
-  pub outs : HasOutRooms (with_outlets (sizing_in room)) (sizing_in room).outlets (sizing_in room).outlet_bytes room.outs
-  pub no_post : room.posts.items ≡ []
-  pub post_room : (sizing_in room).receivers ≤ vec_capacity room.posts
-  pub no_end : room.ends.items ≡ []
-  pub end_room : (sizing_in room).receivers ≤ vec_capacity room.ends
+  pub tables : AreTablesFor (sizing_in room).limits (sizing_in room).shards room.benches.tables
+  pub space : IsSpaceFor (sizing_in room).limits (sizing_in room).shards room.benches.space
+  pub places : length room.postings.rooms.items ≡ (sizing_in room).receivers
+  pub place_each : All (HasPlace (sizing_in room).wires) room.postings.rooms.items
+  pub batches : All (HasBatch (sizing_in room).shards) room.postings.rooms.items
+  pub lines : HasLineRoom (sizing_in room).streams (sizing_in room).shards room.benches.lines
+  pub outs : HasOutRooms (with_outlets (sizing_in room)) (sizing_in room).outlets (sizing_in room).outlet_bytes room.benches.outs
+  pub no_post : room.postings.posts.items ≡ []
+  pub post_room : (sizing_in room).receivers ≤ vec_capacity room.postings.posts
+  pub no_end : room.postings.ends.items ≡ []
+  pub end_room : (sizing_in room).receivers ≤ vec_capacity room.postings.ends

@@ -1,7 +1,7 @@
 use log::Log;
 use sd_outlet::{Drain, Outlet, Worked};
 use sd_outside::{Backend, Clock, Gate};
-use sd_receive::Shared;
+use sd_shared::Shared;
 use sd_workers::Worker;
 use std::sync::Wait;
 

@@ -1,21 +1,19 @@
 use log::Log;
-use sd_flush::{FlushedOut, Outs, Tables, flush_all_out};
+use sd_flush::{FlushedOut, Outs, RecordForm, Tables, flush_all_out};
 use sd_outside::{Beat, Clock, Gate};
-use sd_plan::{Names, Reckoning};
 use sd_pool::Seat;
-use sd_receive::Shared;
+use sd_shared::Shared;
 use sd_shared_desk::DeskSeat;
 use sd_workers::Worker;
 use std::sync::Wait;
 
 /// The work of a flusher over outlets, and how it ended, once it was run.
 #[derive(Drop)]
-pub(crate) struct Feeding<'s, 'o, 't, 'p, 'n, 'u, 'l, 'e, E> {
+pub(crate) struct Feeding<'s, 'o, 't, 'p, 'f, 'u, 'l, 'e, E> {
     pub seat: &'s mut Seat,
     pub own: &'o mut DeskSeat,
     pub tables: &'t mut Tables,
-    pub plan: &'p Reckoning,
-    pub names: &'n Names,
+    pub form: &'f RecordForm<'p>,
     pub outs: &'u mut Outs<'l>,
     pub beat: &'e mut E,
     pub fed: FlushedOut,
@@ -32,17 +30,13 @@ impl<'a, E: Beat, G: Gate, C: Clock> Worker<Shared<'a, G, C>>
     fn run<R: Wait + Log>(&mut self, rt: &R, shared: &Shared<'a, G, C>) {
         self.fed = flush_all_out(
             rt,
-            shared.pool,
-            shared.desk,
+            shared,
             self.own,
             self.seat,
             self.tables,
-            self.plan,
-            self.names,
+            self.form,
             self.beat,
             self.outs,
-            shared.gate,
-            shared.run_flushes,
         );
     }
 }

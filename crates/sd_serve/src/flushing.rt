@@ -1,21 +1,19 @@
 use log::Log;
-use sd_flush::{Flushed, Tables, flush_all};
+use sd_flush::{Flushed, RecordForm, Tables, flush_all};
 use sd_outside::{Backend, Backs, Beat, Clock, Gate};
-use sd_plan::{Names, Reckoning};
 use sd_pool::Seat;
-use sd_receive::Shared;
+use sd_shared::Shared;
 use sd_shared_desk::DeskSeat;
 use sd_workers::Worker;
 use std::sync::Wait;
 
 /// The flusher's work over what is lent to it, and how it ended, once it was run.
 #[derive(Drop)]
-pub(crate) struct Flushing<'s, 'o, 't, 'p, 'n, 'b, 'e, B, E> {
+pub(crate) struct Flushing<'s, 'o, 't, 'p, 'f, 'b, 'e, B, E> {
     pub seat: &'s mut Seat,
     pub own: &'o mut DeskSeat,
     pub tables: &'t mut Tables,
-    pub plan: &'p Reckoning,
-    pub names: &'n Names,
+    pub form: &'f RecordForm<'p>,
     pub backs: &'b mut Backs<B>,
     pub beat: &'e mut E,
     pub flushed: Flushed,
@@ -32,17 +30,13 @@ impl<'a, B: Backend, E: Beat, G: Gate, C: Clock> Worker<Shared<'a, G, C>>
     fn run<R: Wait + Log>(&mut self, rt: &R, shared: &Shared<'a, G, C>) {
         self.flushed = flush_all(
             rt,
-            shared.pool,
-            shared.desk,
+            shared,
             self.own,
             self.seat,
             self.tables,
-            self.plan,
-            self.names,
+            self.form,
             self.beat,
             self.backs,
-            shared.gate,
-            shared.run_flushes,
         );
     }
 }

@@ -2,8 +2,8 @@ use log::Log;
 use sd_config::Settings;
 use sd_outside::{Clock, Door, DoorEnd, Gate};
 use sd_pool::Seat;
-use sd_receive::Shared;
 use sd_session::{AdminSpace, doorkeep};
+use sd_shared::Shared;
 use sd_shared_desk::DeskSeat;
 use sd_workers::Worker;
 use std::sync::Wait;
@@ -29,16 +29,12 @@ impl<'a, E: Door, G: Gate, C: Clock> Worker<Shared<'a, G, C>> for Keeping<'_, '_
     fn run<R: Wait + Log>(&mut self, rt: &R, shared: &Shared<'a, G, C>) {
         self.ended = doorkeep(
             rt,
-            shared.pool,
-            shared.desk,
+            shared,
             self.own,
             self.seat,
             self.settings,
             self.space,
             self.door,
-            shared.clock,
-            shared.gate,
-            shared.run_flushes,
         );
     }
 }

@@ -1,3 +1,4 @@
+use crate::objects::ServerObjects;
 use log::Log;
 use sd_outside::{Backend, Beat, Clock, Datagrams, Door, Gate, Probe, Sink, Source, Wire};
 use std::marker::PhantomData;
@@ -84,3 +85,15 @@ impl<
 
     type W = W;
 }
+
+/// The objects of these kinds that a server is lent.
+pub type ObjectsOf<'p, 'b, 'e, 's, K> = ServerObjects<
+    'p,
+    'b,
+    'e,
+    's,
+    <K as Kinds>::P,
+    <K as Kinds>::B,
+    <K as Kinds>::E,
+    <K as Kinds>::S,
+>;

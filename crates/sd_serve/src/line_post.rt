@@ -7,7 +7,8 @@ use log::Log;
 use sd_batch::Batch;
 use sd_outside::{Clock, Door, DoorEnd, Gate};
 use sd_pool::Seat;
-use sd_receive::{Shared, linekeep};
+use sd_receive::linekeep;
+use sd_shared::Shared;
 use sd_shared_desk::DeskSeat;
 use sd_tcp::Cutter;
 use sd_workers::{datagram_room, put_first, take_first};
@@ -47,17 +48,13 @@ impl LinePost {
     {
         let lined = linekeep(
             rt,
-            shared.pool,
-            shared.desk,
+            shared,
             &mut self.own,
             &mut self.seat,
             &mut self.room.cutter,
             door,
-            shared.clock,
-            shared.gate,
             &mut self.room.buf,
             &mut self.room.batch,
-            shared.run_flushes,
         );
         lined.ended
     }

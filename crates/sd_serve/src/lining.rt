@@ -1,7 +1,7 @@
 use crate::line_post::LinePost;
 use log::Log;
 use sd_outside::{Clock, Door, DoorEnd, Gate};
-use sd_receive::Shared;
+use sd_shared::Shared;
 use sd_workers::Worker;
 use std::sync::Wait;
 

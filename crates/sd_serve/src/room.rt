@@ -14,9 +14,6 @@ use sd_shard::Policy;
 use sd_shared_desk::{DeskSeat, SharedDesk};
 use std::alloc::{AllocError, Global};
 
-/// The seed of the hashes by which rows are found.
-const SEED: u64 = 0;
-
 /// How many shards and receivers a server has, how many wires each receiver has, whether it reads lines of streams, how many buffers
 /// each outlet has, none where there are no outlets, and how many bytes each buffer, and what goes by each shard.
 #[derive(Clone, Copy, Debug)]
@@ -56,29 +53,24 @@ pub struct ServerRoom<D, L> {
     pub(crate) seats: Seats,
     pub(crate) desk: SharedDesk,
     pub(crate) owns: Vec<DeskSeat>,
-    pub(crate) tables: Tables,
-    pub(crate) space: AdminSpace,
-    pub(crate) rooms: Vec<PostRoom<L>>,
-    pub(crate) lines: Option<LineRoom>,
-    pub(crate) outs: Option<OutRooms>,
-    pub(crate) posts: Vec<Post<D, L>>,
-    pub(crate) ends: Vec<Ended>,
+    pub(crate) benches: Benches,
+    pub(crate) postings: Postings<D, L>,
 }
 
 /// What the flusher, the sessions, the keeper of lines and the outlets work with.
 #[derive(Drop)]
-struct Benches {
-    tables: Tables,
-    space: AdminSpace,
-    lines: Option<LineRoom>,
-    outs: Option<OutRooms>,
+pub(crate) struct Benches {
+    pub(crate) tables: Tables,
+    pub(crate) space: AdminSpace,
+    pub(crate) lines: Option<LineRoom>,
+    pub(crate) outs: Option<OutRooms>,
 }
 
 impl Benches {
     ghost use Rattle.sd_serve.specs.Room.{AreSizes, sizing_of};
     ghost use Rattle.sd_serve.specs.RoomParts.{AreBenchesFor};
 
-    fn open(alloc: Global, sizes: Sizes) -> Result<Benches, AllocError>
+    fn open(alloc: Global, sizes: Sizes, seed: u64) -> Result<Benches, AllocError>
         requires { AreSizes (sizing_of sizes) }
         ensures { IfOk result (AreBenchesFor (sizing_of sizes)) }
     {
@@ -86,17 +78,17 @@ impl Benches {
             lines: open_line_room(alloc, sizes.streams, sizes.shards)?,
             outs: open_outlets(alloc, sizes.outlets, sizes.outlet_bytes)?,
             space: AdminSpace::open(alloc, sizes.limits, sizes.shards)?,
-            tables: Tables::open(alloc, sizes.limits, sizes.shards)?,
+            tables: Tables::open(alloc, sizes.limits, sizes.shards, seed)?,
         })
     }
 }
 
 /// What the receivers work with.
 #[derive(Drop)]
-struct Postings<D, L> {
-    rooms: Vec<PostRoom<L>>,
-    posts: Vec<Post<D, L>>,
-    ends: Vec<Ended>,
+pub(crate) struct Postings<D, L> {
+    pub(crate) rooms: Vec<PostRoom<L>>,
+    pub(crate) posts: Vec<Post<D, L>>,
+    pub(crate) ends: Vec<Ended>,
 }
 
 impl<D: Drop, L: Drop> Postings<D, L> {
@@ -119,12 +111,17 @@ impl<D: Drop, L: Drop> Postings<D, L> {
 impl<D: Drop, L: Drop> ServerRoom<D, L> {
     ghost use Rattle.sd_serve.specs.Room.{AreSizes, IsRoom, sizing_in, sizing_of, start_in};
 
-    /// Takes the room of a server that starts at this Unix second.
+    /// Takes the room of a server that starts at this Unix second, and whose rows are found by hashes under a seed.
     ///
     /// # Errors
     ///
     /// Where no memory is left for it.
-    pub fn open(alloc: Global, sizes: Sizes, start: u64) -> Result<ServerRoom<D, L>, AllocError>
+    pub fn open(
+        alloc: Global,
+        sizes: Sizes,
+        start: u64,
+        seed: u64,
+    ) -> Result<ServerRoom<D, L>, AllocError>
         requires { AreSizes (sizing_of sizes) }
         ensures room { IfOk result IsRoom }
         ensures sizes { IfOk result (λ room. sizing_in room ≡ sizing_of sizes) }
@@ -132,7 +129,7 @@ impl<D: Drop, L: Drop> ServerRoom<D, L> {
     {
         let submitters = sizes.submitters();
         // where one of these isn't opened, each of those before is let go as a whole
-        let benches = Benches::open(alloc, sizes)?;
+        let benches = Benches::open(alloc, sizes, seed)?;
         let postings = Postings::open(alloc, sizes)?;
         let (desk, owns) = SharedDesk::open(alloc, start, submitters + 2)?;
         let (pool, seats) = Pool::open(
@@ -141,28 +138,16 @@ impl<D: Drop, L: Drop> ServerRoom<D, L> {
             sizes.policy,
             sizes.shards,
             submitters,
-            SEED,
+            seed,
         )?;
-        let Benches {
-            tables,
-            space,
-            lines,
-            outs,
-        } = benches;
-        let Postings { rooms, posts, ends } = postings;
         Ok(ServerRoom {
             sizes,
             pool,
             seats,
             desk,
             owns,
-            tables,
-            space,
-            rooms,
-            lines,
-            outs,
-            posts,
-            ends,
+            benches,
+            postings,
         })
     }
 }

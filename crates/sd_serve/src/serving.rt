@@ -8,22 +8,24 @@ ghost use Rattle.sd_serve.specs.Closing.{IsClosed};
 ghost use Rattle.sd_serve.specs.LinePost.{line_owns, line_seats};
 ghost use Rattle.sd_serve.specs.Parts.{own_in, seat_in, source_in, wires_in};
 ghost use Rattle.sd_serve.specs.Room.{IsRoom, sizing_in, start_in};
+ghost use Rattle.sd_serve.specs.Objects.{StayObjects};
 ghost use Rattle.sd_serve.specs.Serving.{HasServed, objects_of, terms_of};
 
-use crate::kinds::Kinds;
-use crate::line_post::{LinePost, put_line_post, take_line_post};
+use crate::kinds::{Kinds, ObjectsOf};
+use crate::line_post::{put_line_post, take_line_post};
 use crate::parts::{gather, give_back};
 use crate::room::ServerRoom;
+use crate::services::{AdminPost, FlusherPost, ServicePosts};
+use crate::terms::Terms;
 use crate::workers::{Ends, run_all};
 use crate::workers_out::OutCounts;
 use log::Log;
-use sd_config::Settings;
 use sd_desk::Desk;
 use sd_flush::round;
-use sd_outside::{Backs, Clock, Datagrams, Ended, Wire};
-use sd_plan::{Names, Reckoning};
-use sd_pool::{Books, Pool, Seats};
-use sd_receive::{Post, Shared};
+use sd_outside::{Clock, Datagrams, Ended, Wire};
+use sd_pool::{Books, Pool, Room, Seat, Seats};
+use sd_receive::Post;
+use sd_shared::Shared;
 use sd_shared_desk::{DeskSeat, SharedDesk};
 use sd_workers::{ends_in, put_first, take_first};
 use std::sync::Wait;
@@ -40,42 +42,58 @@ pub struct Served {
     pub desk: Desk,
 }
 
+// The lists of seats from which those of all workers were taken, and the room that closing the pool takes.
+#[derive(Drop)]
+struct SeatLists {
+    seats: Vec<Seat>,
+    owns: Vec<DeskSeat>,
+    room: Room,
+}
+
 // Puts sources and wires back to where they stood, and closes the pool and the desk over all seats.
 fn close<D: Datagrams + Drop, L: Wire + Drop>(
     pool: Pool,
     desk: SharedDesk,
-    mut seats: Seats,
-    mut owns: Vec<DeskSeat>,
-    own: DeskSeat,
-    admin_own: DeskSeat,
-    line_post: Option<LinePost>,
+    mut lists: SeatLists,
+    services: ServicePosts,
     posts: Vec<Post<D, L>>,
     packets: &mut Vec<D>,
     wires: &mut Vec<L>,
 ) -> (Books, Desk)
     requires packets { length posts.items + length packets.old.items ≤ vec_capacity packets.old }
     requires wires { length (flat_map wires_in posts.items) + length wires.old.items ≤ vec_capacity wires.old }
-    requires none { (seats.receivers.items ≡ []) × (owns.items ≡ []) }
-    requires places { length posts.items + length (line_seats line_post) ≤ vec_capacity seats.receivers }
-    requires own_places { length posts.items + length (line_owns line_post) + 2 ≤ vec_capacity owns }
-    requires receivers { AllByRecursion (IsSeatOf pool) (map seat_in posts.items ++ line_seats line_post) }
-    requires flusher { IsSeatOf pool seats.flusher }
-    requires admin { IsSeatOf pool seats.admin }
-    requires count { length posts.items + length (line_seats line_post) ≡ receivers_of pool }
-    requires room { IsRoomOf pool seats.room }
-    requires owns { All (IsDeskSeatOf desk) (map own_in posts.items ++ line_owns line_post) }
-    requires own { IsDeskSeatOf desk own }
-    requires admin_own { IsDeskSeatOf desk admin_own }
-    requires own_count { length posts.items + length (line_owns line_post) + 2 ≡ seats_of desk }
+    requires none { (lists.seats.items ≡ []) × (lists.owns.items ≡ []) }
+    requires places { length posts.items + length (line_seats services.lines) ≤ vec_capacity lists.seats }
+    requires own_places { length posts.items + length (line_owns services.lines) + 2 ≤ vec_capacity lists.owns }
+    requires receivers { AllByRecursion (IsSeatOf pool) (map seat_in posts.items ++ line_seats services.lines) }
+    requires flusher { IsSeatOf pool services.flusher.seat }
+    requires admin { IsSeatOf pool services.admin.seat }
+    requires count { length posts.items + length (line_seats services.lines) ≡ receivers_of pool }
+    requires room { IsRoomOf pool lists.room }
+    requires owns { All (IsDeskSeatOf desk) (map own_in posts.items ++ line_owns services.lines) }
+    requires own { IsDeskSeatOf desk services.flusher.own }
+    requires admin_own { IsDeskSeatOf desk services.admin.own }
+    requires own_count { length posts.items + length (line_owns services.lines) + 2 ≡ seats_of desk }
     ensures packets { packets.new.items ≡ map source_in posts.items ++ packets.old.items }
     ensures wires { wires.new.items ≡ flat_map wires_in posts.items ++ wires.old.items }
-    ensures closed { IsClosed pool desk ((map seat_in posts.items ++ line_seats line_post) ++ seats.flusher ∷ seats.admin ∷ []) ((map own_in posts.items ++ line_owns line_post) ++ own ∷ admin_own ∷ []) result.0.items result.1 }
+    ensures closed { IsClosed pool desk ((map seat_in posts.items ++ line_seats services.lines) ++ services.flusher.seat ∷ services.admin.seat ∷ []) ((map own_in posts.items ++ line_owns services.lines) ++ services.flusher.own ∷ services.admin.own ∷ []) result.0.items result.1 }
 {
-    put_first(&mut owns, admin_own);
-    put_first(&mut owns, own);
-    put_line_post(line_post, &mut seats.receivers, &mut owns);
-    give_back(posts, packets, wires, &mut seats.receivers, &mut owns);
-    (pool.close(seats), desk.close(owns))
+    let ServicePosts {
+        flusher,
+        admin,
+        lines,
+    } = services;
+    put_first(&mut lists.owns, admin.own);
+    put_first(&mut lists.owns, flusher.own);
+    put_line_post(lines, &mut lists.seats, &mut lists.owns);
+    give_back(posts, packets, wires, &mut lists.seats, &mut lists.owns);
+    let seats = Seats {
+        receivers: lists.seats,
+        flusher: flusher.seat,
+        admin: admin.seat,
+        room: lists.room,
+    };
+    (pool.close(seats), desk.close(lists.owns))
 }
 
 // The second of the last round: now, or that of the round before it, where that is later.
@@ -95,102 +113,93 @@ fn last_round_at(now: u64, before: Option<u64>) -> u64
 pub fn serve<K: Kinds, R: Threads + Wait + Log + Sync>(
     rt: &R,
     room: ServerRoom<K::D, K::L>,
-    settings: &Settings,
-    plan: &Reckoning,
-    names: &Names,
-    run_flushes: u64,
+    terms: &Terms<'_, K::G, K::T>,
     packets: &mut Vec<K::D>,
     wires: &mut Vec<K::L>,
-    beat: &mut K::P,
-    backs: &mut Backs<K::B>,
-    door: &mut K::E,
-    streams: &mut K::S,
-    gate: &K::G,
-    clock: &K::T,
+    objects: &mut ObjectsOf<'_, '_, '_, '_, K>,
 ) -> Served
     requires room { IsRoom room }
-    requires start { K.T.may_say clock.now (start_in room) }
+    requires start { K.T.may_say terms.now.clock.now (start_in room) }
     requires packets { (sizing_in room).receivers ≤ length packets.old.items }
     requires wires { (sizing_in room).receivers * (sizing_in room).wires ≤ length wires.old.items }
-    requires beat { (K.P.seen beat.old).turns < 2 ^ 62 }
-    requires door { ((K.E.seen door.old).is_out ≡ false) × ((K.E.seen door.old).turns < 2 ^ 62) }
-    requires streams { ((K.S.seen streams.old).is_out ≡ false) × ((K.S.seen streams.old).turns < 2 ^ 62) }
-    ensures served { HasServed (terms_of (sizing_in room) plan.now names.now settings.now backs.old run_flushes) (K.T.may_say clock.now)
-        (objects_of K.D.seen K.L.seen K.P.seen K.B.seen K.E.seen K.S.seen packets.old.items wires.old.items beat.old backs.old door.old streams.old)
-        (objects_of K.D.seen K.L.seen K.P.seen K.B.seen K.E.seen K.S.seen packets.new.items wires.new.items beat.new backs.new door.new streams.new) result }
-    ensures graphite_flag { backs.new.graphite_used ≡ backs.old.graphite_used }
-    ensures console_flag { backs.new.console_used ≡ backs.old.console_used }
+    requires beat { (K.P.seen objects.old.beat.now).turns < 2 ^ 62 }
+    requires door { ((K.E.seen objects.old.door.now).is_out ≡ false) × ((K.E.seen objects.old.door.now).turns < 2 ^ 62) }
+    requires streams { ((K.S.seen objects.old.streams.now).is_out ≡ false) × ((K.S.seen objects.old.streams.now).turns < 2 ^ 62) }
+    ensures served { HasServed (terms_of (sizing_in room) terms.now.form.plan.now terms.now.form.names.now terms.now.settings.now objects.old.backs.now terms.now.run_flushes) (K.T.may_say terms.now.clock.now)
+        (objects_of K.D.seen K.L.seen K.P.seen K.B.seen K.E.seen K.S.seen packets.old.items wires.old.items objects.old.beat.now objects.old.backs.now objects.old.door.now objects.old.streams.now)
+        (objects_of K.D.seen K.L.seen K.P.seen K.B.seen K.E.seen K.S.seen packets.new.items wires.new.items objects.new.beat.now objects.new.backs.now objects.new.door.now objects.new.streams.now) result }
+    ensures objects { StayObjects objects.old objects.new }
+    ensures graphite_flag { objects.new.backs.now.graphite_used ≡ objects.old.backs.now.graphite_used }
+    ensures console_flag { objects.new.backs.now.console_used ≡ objects.old.backs.now.console_used }
 {
     let ServerRoom {
         sizes,
         pool,
-        mut seats,
+        seats,
         desk,
-        mut owns,
-        mut tables,
-        mut space,
-        rooms,
-        lines,
-        outs,
-        mut posts,
-        ends: end_room,
+        owns,
+        benches,
+        postings,
     } = room;
+    let mut lists = SeatLists {
+        seats: seats.receivers,
+        owns,
+        room: seats.room,
+    };
+    let mut posts = postings.posts;
     gather(
         packets,
         wires,
         usize::from(sizes.wires),
-        &mut seats.receivers,
-        &mut owns,
-        rooms,
+        &mut lists.seats,
+        &mut lists.owns,
+        postings.rooms,
         &mut posts,
     );
-    let mut line_post = take_line_post(lines, &mut seats.receivers, &mut owns);
-    let mut own = take_first(&mut owns);
-    let mut admin_own = take_first(&mut owns);
+    let line_post = take_line_post(benches.lines, &mut lists.seats, &mut lists.owns);
+    let own = take_first(&mut lists.owns);
+    let admin_own = take_first(&mut lists.owns);
+    let mut services = ServicePosts {
+        flusher: FlusherPost {
+            seat: seats.flusher,
+            own,
+            tables: benches.tables,
+        },
+        admin: AdminPost {
+            seat: seats.admin,
+            own: admin_own,
+            space: benches.space,
+        },
+        lines: line_post,
+    };
     let shared = Shared {
         pool: &pool,
         desk: &desk,
-        gate,
-        clock,
-        run_flushes,
+        gate: terms.gate,
+        clock: terms.clock,
+        run_flushes: terms.run_flushes,
     };
     let (ends, counts) = run_all::<K, R>(
         rt,
         &shared,
-        &mut own,
-        &mut seats.flusher,
-        &mut tables,
-        plan,
-        names,
-        beat,
-        backs,
-        outs,
-        &mut admin_own,
-        &mut seats.admin,
-        settings,
-        &mut space,
-        door,
-        &mut line_post,
-        streams,
+        terms,
+        &mut services,
         posts.as_mut_slice(),
+        benches.outs,
+        objects,
     );
     round(
         rt,
-        &pool,
-        &desk,
-        &mut own,
-        &mut seats.flusher,
-        &mut tables,
-        plan,
-        names,
-        last_round_at(clock.now(), ends.flusher.last),
-        backs,
-        gate,
+        &shared,
+        &mut services.flusher.own,
+        &mut services.flusher.seat,
+        &mut services.flusher.tables,
+        &terms.form,
+        last_round_at(terms.clock.now(), ends.flusher.last),
+        objects.backs,
     );
-    let received = ends_in(&posts, end_room);
-    let (books, desk) = close(
-        pool, desk, seats, owns, own, admin_own, line_post, posts, packets, wires,
-    );
+    let received = ends_in(&posts, postings.ends);
+    let (books, desk) = close(pool, desk, lists, services, posts, packets, wires);
     Served {
         received,
         ends,

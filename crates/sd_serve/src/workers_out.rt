@@ -16,7 +16,11 @@ ghost use Rattle.sd_flush.specs.Tables.{AreTablesFor};
 ghost use Rattle.sd_door.specs.Keeping.{EndsKeeping};
 ghost use Rattle.sd_session.specs.Space.{IsSpaceFor};
 ghost use Rattle.sd_serve.specs.Draining.{WasDrained};
+ghost use Rattle.sd_serve.specs.Feeding.{CanFeed, HasFed};
+ghost use Rattle.sd_serve.specs.Keeping.{CanKeep, HasKept};
 ghost use Rattle.sd_serve.specs.Lining.{CanLine, HasLined};
+ghost use Rattle.sd_serve.specs.LinePost.{AreLinedBy, IsLineReady};
+ghost use Rattle.sd_serve.specs.Objects.{StayObjects};
 ghost use Rattle.sd_serve.specs.OutRoom.{IsLentOrIdle, IsOutRoom};
 ghost use Rattle.sd_serve.specs.Written.{written_by};
 
@@ -24,20 +28,18 @@ use crate::beside::run_with_pair;
 use crate::draining::Draining;
 use crate::feeding::Feeding;
 use crate::keeping::Keeping;
-use crate::kinds::Kinds;
+use crate::kinds::{Kinds, ObjectsOf};
 use crate::lining::Lining;
 use crate::out_room::{OutRoom, OutRooms};
+use crate::services::ServicePosts;
+use crate::terms::Terms;
 use crate::workers::Ends;
 use log::Log;
-use sd_config::Settings;
-use sd_flush::{Flushed, FlushedOut, Lead, Outs, Skips, Tables};
+use sd_flush::{Flushed, FlushedOut, Lead, Outs, Skips};
 use sd_outlet::{Drain, Feed, Outlet, Worked};
 use sd_outside::{Backend, Backs, DoorEnd, Ended};
-use sd_plan::{Names, Reckoning};
-use sd_pool::Seat;
-use sd_receive::{Post, Shared};
-use sd_session::AdminSpace;
-use sd_shared_desk::DeskSeat;
+use sd_receive::Post;
+use sd_shared::Shared;
 use std::sync::Wait;
 use std::thread::Threads;
 
@@ -56,10 +58,36 @@ pub(crate) struct OutEnds {
     pub counts: OutCounts,
 }
 
+/// An outlet, and the drain by which its worker gets the texts.
+#[derive(Drop)]
+struct OutletDrain<'o> {
+    outlet: &'o Outlet,
+    drain: Drain,
+}
+
+/// The outlets of both backends with their drains.
+#[derive(Drop)]
+struct Drains<'o> {
+    graphite: OutletDrain<'o>,
+    console: OutletDrain<'o>,
+}
+
 // Nothing was written yet.
 const NOTHING: Worked = Worked {
     written: 0,
     faults: 0,
+};
+
+// No round was made yet.
+const NOT_FED: FlushedOut = FlushedOut {
+    flushed: Flushed {
+        ended: Ended::End,
+        last: None,
+    },
+    skips: Skips {
+        graphite: 0,
+        console: 0,
+    },
 };
 
 // The lead of a backend that is used. The feed of one that isn't is stopped, so that its worker ends at once.
@@ -111,109 +139,133 @@ fn close_outlet<B: Backend, R: Wait>(
     worked.and(left)
 }
 
-// Runs the flusher over outlets, the keepers of both doors, the outlets' workers and the receivers side by side, until all have ended.
-fn run_beside<K: Kinds, R: Threads + Wait + Log + Sync>(
+// Runs three workers, the outlets' workers and the receivers side by side, until all have ended.
+fn run_drained<K: Kinds, R: Threads + Wait + Log + Sync>(
     rt: &R,
     shared: &Shared<'_, K::G, K::T>,
-    own: &mut DeskSeat,
-    seat: &mut Seat,
-    tables: &mut Tables,
-    plan: &Reckoning,
-    names: &Names,
-    beat: &mut K::P,
-    outs: &mut Outs<'_>,
-    graphite: &Outlet,
-    graphite_drain: &mut Drain,
-    graphite_back: &mut K::B,
-    console: &Outlet,
-    console_drain: &mut Drain,
-    console_back: &mut K::B,
-    admin_own: &mut DeskSeat,
-    admin_seat: &mut Seat,
-    settings: &Settings,
-    space: &mut AdminSpace,
-    door: &mut K::E,
+    feeding: &mut Feeding<'_, '_, '_, '_, '_, '_, '_, '_, K::P>,
+    keeping: &mut Keeping<'_, '_, '_, '_, '_, K::E>,
     lining: &mut Lining<'_, '_, K::S>,
+    drains: &mut Drains<'_>,
+    backs: &mut Backs<K::B>,
     posts: &mut [Post<K::D, K::L>],
-) -> OutEnds
-    requires own { IsDeskSeatOf shared.now.desk.now own.old }
-    requires seat { IsSeatOf shared.now.pool.now seat.old × (who_is seat.old ≡ flusher) }
-    requires tables { AreTablesFor (limits_of shared.now.pool.now) (shards_of shared.now.pool.now) tables.old }
-    requires beat { (K.P.seen beat.old).turns < 2 ^ 62 }
-    requires outs { AreOutsReady outs.old }
-    requires graphite { IsDrainOf graphite.now graphite_drain.old × (got graphite_drain.old ≡ []) }
-    requires console { IsDrainOf console.now console_drain.old × (got console_drain.old ≡ []) }
-    requires admin_own { IsDeskSeatOf shared.now.desk.now admin_own.old }
-    requires admin_seat { IsSeatOf shared.now.pool.now admin_seat.old × (who_is admin_seat.old ≡ administrator) }
-    requires space { IsSpaceFor (limits_of shared.now.pool.now) (shards_of shared.now.pool.now) space.old }
-    requires door { ((K.E.seen door.old).is_out ≡ false) × ((K.E.seen door.old).turns < 2 ^ 62) }
+) -> (Worked, Worked)
+    requires feeding { CanFeed K.P.seen shared.now.pool.now shared.now.desk.now feeding.old }
+    requires keeping { CanKeep K.E.seen shared.now.pool.now shared.now.desk.now keeping.old }
     requires lining { CanLine K.S.seen shared.now.pool.now shared.now.desk.now lining.old }
+    requires graphite { IsDrainOf drains.old.graphite.outlet.now drains.old.graphite.drain × (got drains.old.graphite.drain ≡ []) }
+    requires console { IsDrainOf drains.old.console.outlet.now drains.old.console.drain × (got drains.old.console.drain ≡ []) }
     requires posts { All (IsReady shared.now.pool.now shared.now.desk.now) posts.old }
-    ensures own { IsDeskSeatOf shared.now.desk.now own.new × (number_of_seat own.new ≡ number_of_seat own.old) }
-    ensures seat { IsSeatOf shared.now.pool.now seat.new × (who_is seat.new ≡ flusher) }
-    ensures tables { AreTablesFor (limits_of shared.now.pool.now) (shards_of shared.now.pool.now) tables.new }
-    ensures outs { AreOutsReady outs.new }
-    ensures flushes { FlushesOut (form_of shared.now.pool.now plan.now names.now) (fed_by result.counts.skips outs.old outs.new) shared.now.run_flushes (own_at seat.old) (own_at seat.new) (part_of own.old) (part_of own.new)
-        (K.P.seen beat.old) (K.P.seen beat.new) result.ends.flusher }
-    ensures graphite { WasDrained graphite.now graphite_drain.new result.counts.graphite (K.B.seen graphite_back.old) (K.B.seen graphite_back.new) }
-    ensures console { WasDrained console.now console_drain.new result.counts.console (K.B.seen console_back.old) (K.B.seen console_back.new) }
-    ensures admin_own { IsDeskSeatOf shared.now.desk.now admin_own.new × (number_of_seat admin_own.new ≡ number_of_seat admin_own.old) }
-    ensures admin_seat { IsSeatOf shared.now.pool.now admin_seat.new × (who_is admin_seat.new ≡ administrator) }
-    ensures space { IsSpaceFor (limits_of shared.now.pool.now) (shards_of shared.now.pool.now) space.new }
-    ensures serves { ServesSessions (shards_of shared.now.pool.now) settings.now (K.T.may_say shared.now.clock.now) (own_at admin_seat.old) (own_at admin_seat.new) (K.E.seen door.old) (K.E.seen door.new) (part_of admin_own.old) (part_of admin_own.new) }
-    ensures keeper { EndsKeeping shared.now.run_flushes result.ends.keeper (K.E.seen door.old) (K.E.seen door.new) (part_of admin_own.new) }
+    ensures feeding { HasFed K.P.seen shared.now.pool.now shared.now.desk.now shared.now.run_flushes feeding.old feeding.new }
+    ensures keeping { HasKept K.E.seen (K.T.may_say shared.now.clock.now) shared.now.pool.now shared.now.desk.now shared.now.run_flushes keeping.old keeping.new }
     ensures lining { HasLined K.S.seen (K.T.may_say shared.now.clock.now) shared.now.pool.now shared.now.desk.now shared.now.run_flushes lining.old lining.new }
-    ensures liner { result.ends.liner ≡ (lining.new).ended }
+    ensures graphite { WasDrained drains.old.graphite.outlet.now drains.new.graphite.drain result.0 (K.B.seen backs.old.graphite) (K.B.seen backs.new.graphite) }
+    ensures console { WasDrained drains.old.console.outlet.now drains.new.console.drain result.1 (K.B.seen backs.old.console) (K.B.seen backs.new.console) }
+    ensures graphite_flag { backs.new.graphite_used ≡ backs.old.graphite_used }
+    ensures console_flag { backs.new.console_used ≡ backs.old.console_used }
     ensures len { length posts.new ≡ length posts.old }
     ensures each { (i : ℕ) (d : _) → i < length posts.old → HasRun K.D.seen K.L.seen (K.T.may_say shared.now.clock.now) shared.now.pool.now shared.now.desk.now shared.now.run_flushes (slice_index_or posts.old i d) (slice_index_or posts.new i d) }
 {
-    let mut feeding = Feeding {
-        seat,
-        own,
-        tables,
-        plan,
-        names,
-        outs,
-        beat,
-        fed: FlushedOut {
-            flushed: Flushed {
-                ended: Ended::End,
-                last: None,
-            },
-            skips: Skips {
-                graphite: 0,
-                console: 0,
-            },
-        },
-    };
-    let mut keeping = Keeping {
-        seat: admin_seat,
-        own: admin_own,
-        settings,
-        space,
-        door,
-        ended: DoorEnd::End,
-    };
     let mut to_graphite = Draining {
-        outlet: graphite,
-        drain: graphite_drain,
-        back: graphite_back,
+        outlet: drains.graphite.outlet,
+        drain: &mut drains.graphite.drain,
+        back: &mut backs.graphite,
         worked: NOTHING,
     };
     let mut to_console = Draining {
-        outlet: console,
-        drain: console_drain,
-        back: console_back,
+        outlet: drains.console.outlet,
+        drain: &mut drains.console.drain,
+        back: &mut backs.console,
         worked: NOTHING,
     };
     run_with_pair(
         rt,
         shared,
-        &mut feeding,
-        &mut keeping,
+        feeding,
+        keeping,
         lining,
         &mut to_graphite,
         &mut to_console,
+        posts,
+    );
+    (to_graphite.worked, to_console.worked)
+}
+
+// Runs the flusher over outlets, the keepers of both doors, the outlets' workers and the receivers side by side, until all have ended.
+fn run_beside<K: Kinds, R: Threads + Wait + Log + Sync>(
+    rt: &R,
+    shared: &Shared<'_, K::G, K::T>,
+    terms: &Terms<'_, K::G, K::T>,
+    services: &mut ServicePosts,
+    posts: &mut [Post<K::D, K::L>],
+    objects: &mut ObjectsOf<'_, '_, '_, '_, K>,
+    outs: &mut Outs<'_>,
+    drains: &mut Drains<'_>,
+) -> OutEnds
+    requires own { IsDeskSeatOf shared.now.desk.now services.old.flusher.own }
+    requires seat { IsSeatOf shared.now.pool.now services.old.flusher.seat × (who_is services.old.flusher.seat ≡ flusher) }
+    requires tables { AreTablesFor (limits_of shared.now.pool.now) (shards_of shared.now.pool.now) services.old.flusher.tables }
+    requires beat { (K.P.seen objects.old.beat.now).turns < 2 ^ 62 }
+    requires outs { AreOutsReady outs.old }
+    requires graphite { IsDrainOf drains.old.graphite.outlet.now drains.old.graphite.drain × (got drains.old.graphite.drain ≡ []) }
+    requires console { IsDrainOf drains.old.console.outlet.now drains.old.console.drain × (got drains.old.console.drain ≡ []) }
+    requires admin_own { IsDeskSeatOf shared.now.desk.now services.old.admin.own }
+    requires admin_seat { IsSeatOf shared.now.pool.now services.old.admin.seat × (who_is services.old.admin.seat ≡ administrator) }
+    requires space { IsSpaceFor (limits_of shared.now.pool.now) (shards_of shared.now.pool.now) services.old.admin.space }
+    requires door { ((K.E.seen objects.old.door.now).is_out ≡ false) × ((K.E.seen objects.old.door.now).turns < 2 ^ 62) }
+    requires line_post { IfSome services.old.lines (IsLineReady shared.now.pool.now shared.now.desk.now) }
+    requires streams { ((K.S.seen objects.old.streams.now).is_out ≡ false) × ((K.S.seen objects.old.streams.now).turns < 2 ^ 62) }
+    requires posts { All (IsReady shared.now.pool.now shared.now.desk.now) posts.old }
+    ensures own { IsDeskSeatOf shared.now.desk.now services.new.flusher.own × (number_of_seat services.new.flusher.own ≡ number_of_seat services.old.flusher.own) }
+    ensures seat { IsSeatOf shared.now.pool.now services.new.flusher.seat × (who_is services.new.flusher.seat ≡ flusher) }
+    ensures tables { AreTablesFor (limits_of shared.now.pool.now) (shards_of shared.now.pool.now) services.new.flusher.tables }
+    ensures outs { AreOutsReady outs.new }
+    ensures flushes { FlushesOut (form_of shared.now.pool.now terms.now.form.plan.now terms.now.form.names.now) (fed_by result.counts.skips outs.old outs.new) shared.now.run_flushes (own_at services.old.flusher.seat) (own_at services.new.flusher.seat) (part_of services.old.flusher.own) (part_of services.new.flusher.own)
+        (K.P.seen objects.old.beat.now) (K.P.seen objects.new.beat.now) result.ends.flusher }
+    ensures graphite { WasDrained drains.old.graphite.outlet.now drains.new.graphite.drain result.counts.graphite (K.B.seen objects.old.backs.now.graphite) (K.B.seen objects.new.backs.now.graphite) }
+    ensures console { WasDrained drains.old.console.outlet.now drains.new.console.drain result.counts.console (K.B.seen objects.old.backs.now.console) (K.B.seen objects.new.backs.now.console) }
+    ensures graphite_flag { objects.new.backs.now.graphite_used ≡ objects.old.backs.now.graphite_used }
+    ensures console_flag { objects.new.backs.now.console_used ≡ objects.old.backs.now.console_used }
+    ensures admin_own { IsDeskSeatOf shared.now.desk.now services.new.admin.own × (number_of_seat services.new.admin.own ≡ number_of_seat services.old.admin.own) }
+    ensures admin_seat { IsSeatOf shared.now.pool.now services.new.admin.seat × (who_is services.new.admin.seat ≡ administrator) }
+    ensures space { IsSpaceFor (limits_of shared.now.pool.now) (shards_of shared.now.pool.now) services.new.admin.space }
+    ensures serves { ServesSessions (shards_of shared.now.pool.now) terms.now.settings.now (K.T.may_say shared.now.clock.now) (own_at services.old.admin.seat) (own_at services.new.admin.seat) (K.E.seen objects.old.door.now) (K.E.seen objects.new.door.now) (part_of services.old.admin.own) (part_of services.new.admin.own) }
+    ensures keeper { EndsKeeping shared.now.run_flushes result.ends.keeper (K.E.seen objects.old.door.now) (K.E.seen objects.new.door.now) (part_of services.new.admin.own) }
+    ensures lines { AreLinedBy (K.T.may_say shared.now.clock.now) shared.now.pool.now shared.now.desk.now shared.now.run_flushes services.old.lines services.new.lines result.ends.liner (K.S.seen objects.old.streams.now) (K.S.seen objects.new.streams.now) }
+    ensures objects { StayObjects objects.old objects.new }
+    ensures len { length posts.new ≡ length posts.old }
+    ensures each { (i : ℕ) (d : _) → i < length posts.old → HasRun K.D.seen K.L.seen (K.T.may_say shared.now.clock.now) shared.now.pool.now shared.now.desk.now shared.now.run_flushes (slice_index_or posts.old i d) (slice_index_or posts.new i d) }
+{
+    let mut feeding = Feeding {
+        seat: &mut services.flusher.seat,
+        own: &mut services.flusher.own,
+        tables: &mut services.flusher.tables,
+        form: &terms.form,
+        outs,
+        beat: &mut *objects.beat,
+        fed: NOT_FED,
+    };
+    let mut keeping = Keeping {
+        seat: &mut services.admin.seat,
+        own: &mut services.admin.own,
+        settings: terms.settings,
+        space: &mut services.admin.space,
+        door: &mut *objects.door,
+        ended: DoorEnd::End,
+    };
+    let mut lining = Lining {
+        post: &mut services.lines,
+        door: &mut *objects.streams,
+        ended: None,
+    };
+    let (graphite, console) = run_drained::<K, R>(
+        rt,
+        shared,
+        &mut feeding,
+        &mut keeping,
+        &mut lining,
+        drains,
+        objects.backs,
         posts,
     );
     OutEnds {
@@ -224,112 +276,109 @@ fn run_beside<K: Kinds, R: Threads + Wait + Log + Sync>(
         },
         counts: OutCounts {
             skips: feeding.fed.skips,
-            graphite: to_graphite.worked,
-            console: to_console.worked,
+            graphite,
+            console,
         },
     }
 }
 
-/// Runs the flusher over outlets, the keepers of both doors, a worker for each outlet and the receivers side by side, each in a thread
+/// Runs the flusher over outlets, the keepers of both doors, the outlets' workers and the receivers side by side, each in a thread
 /// of its own where the machine gives one, until all have ended; the flusher stops the outlets' workers as it ends. Then the outlets
-/// are closed. What is lent is left as each says of its own work.
+/// are closed. What they hold and what is lent to them is left as each says of its own work.
 pub(crate) fn run_server_out<K: Kinds, R: Threads + Wait + Log + Sync>(
     rt: &R,
     shared: &Shared<'_, K::G, K::T>,
-    own: &mut DeskSeat,
-    seat: &mut Seat,
-    tables: &mut Tables,
-    plan: &Reckoning,
-    names: &Names,
-    beat: &mut K::P,
-    backs: &mut Backs<K::B>,
-    outs: OutRooms,
-    admin_own: &mut DeskSeat,
-    admin_seat: &mut Seat,
-    settings: &Settings,
-    space: &mut AdminSpace,
-    door: &mut K::E,
-    lining: &mut Lining<'_, '_, K::S>,
+    terms: &Terms<'_, K::G, K::T>,
+    services: &mut ServicePosts,
     posts: &mut [Post<K::D, K::L>],
+    outs: OutRooms,
+    objects: &mut ObjectsOf<'_, '_, '_, '_, K>,
 ) -> OutEnds
-    requires own { IsDeskSeatOf shared.now.desk.now own.old }
-    requires seat { IsSeatOf shared.now.pool.now seat.old × (who_is seat.old ≡ flusher) }
-    requires tables { AreTablesFor (limits_of shared.now.pool.now) (shards_of shared.now.pool.now) tables.old }
-    requires beat { (K.P.seen beat.old).turns < 2 ^ 62 }
+    requires own { IsDeskSeatOf shared.now.desk.now services.old.flusher.own }
+    requires seat { IsSeatOf shared.now.pool.now services.old.flusher.seat × (who_is services.old.flusher.seat ≡ flusher) }
+    requires tables { AreTablesFor (limits_of shared.now.pool.now) (shards_of shared.now.pool.now) services.old.flusher.tables }
+    requires beat { (K.P.seen objects.old.beat.now).turns < 2 ^ 62 }
     requires outs { IsOutRoom outs.graphite × IsOutRoom outs.console }
-    requires admin_own { IsDeskSeatOf shared.now.desk.now admin_own.old }
-    requires admin_seat { IsSeatOf shared.now.pool.now admin_seat.old × (who_is admin_seat.old ≡ administrator) }
-    requires space { IsSpaceFor (limits_of shared.now.pool.now) (shards_of shared.now.pool.now) space.old }
-    requires door { ((K.E.seen door.old).is_out ≡ false) × ((K.E.seen door.old).turns < 2 ^ 62) }
-    requires lining { CanLine K.S.seen shared.now.pool.now shared.now.desk.now lining.old }
+    requires admin_own { IsDeskSeatOf shared.now.desk.now services.old.admin.own }
+    requires admin_seat { IsSeatOf shared.now.pool.now services.old.admin.seat × (who_is services.old.admin.seat ≡ administrator) }
+    requires space { IsSpaceFor (limits_of shared.now.pool.now) (shards_of shared.now.pool.now) services.old.admin.space }
+    requires door { ((K.E.seen objects.old.door.now).is_out ≡ false) × ((K.E.seen objects.old.door.now).turns < 2 ^ 62) }
+    requires line_post { IfSome services.old.lines (IsLineReady shared.now.pool.now shared.now.desk.now) }
+    requires streams { ((K.S.seen objects.old.streams.now).is_out ≡ false) × ((K.S.seen objects.old.streams.now).turns < 2 ^ 62) }
     requires posts { All (IsReady shared.now.pool.now shared.now.desk.now) posts.old }
-    ensures own { IsDeskSeatOf shared.now.desk.now own.new × (number_of_seat own.new ≡ number_of_seat own.old) }
-    ensures seat { IsSeatOf shared.now.pool.now seat.new × (who_is seat.new ≡ flusher) }
-    ensures tables { AreTablesFor (limits_of shared.now.pool.now) (shards_of shared.now.pool.now) tables.new }
-    ensures flushes { FlushesOut (form_of shared.now.pool.now plan.now names.now) (written_by (uses backs.old) outs.graphite outs.console result.counts (back_of K.B.seen backs.old) (back_of K.B.seen backs.new)) shared.now.run_flushes
-        (own_at seat.old) (own_at seat.new) (part_of own.old) (part_of own.new) (K.P.seen beat.old) (K.P.seen beat.new) result.ends.flusher }
-    ensures graphite_flag { backs.new.graphite_used ≡ backs.old.graphite_used }
-    ensures console_flag { backs.new.console_used ≡ backs.old.console_used }
-    ensures admin_own { IsDeskSeatOf shared.now.desk.now admin_own.new × (number_of_seat admin_own.new ≡ number_of_seat admin_own.old) }
-    ensures admin_seat { IsSeatOf shared.now.pool.now admin_seat.new × (who_is admin_seat.new ≡ administrator) }
-    ensures space { IsSpaceFor (limits_of shared.now.pool.now) (shards_of shared.now.pool.now) space.new }
-    ensures serves { ServesSessions (shards_of shared.now.pool.now) settings.now (K.T.may_say shared.now.clock.now) (own_at admin_seat.old) (own_at admin_seat.new) (K.E.seen door.old) (K.E.seen door.new) (part_of admin_own.old) (part_of admin_own.new) }
-    ensures keeper { EndsKeeping shared.now.run_flushes result.ends.keeper (K.E.seen door.old) (K.E.seen door.new) (part_of admin_own.new) }
-    ensures lining { HasLined K.S.seen (K.T.may_say shared.now.clock.now) shared.now.pool.now shared.now.desk.now shared.now.run_flushes lining.old lining.new }
-    ensures liner { result.ends.liner ≡ (lining.new).ended }
+    ensures own { IsDeskSeatOf shared.now.desk.now services.new.flusher.own × (number_of_seat services.new.flusher.own ≡ number_of_seat services.old.flusher.own) }
+    ensures seat { IsSeatOf shared.now.pool.now services.new.flusher.seat × (who_is services.new.flusher.seat ≡ flusher) }
+    ensures tables { AreTablesFor (limits_of shared.now.pool.now) (shards_of shared.now.pool.now) services.new.flusher.tables }
+    ensures flushes { FlushesOut (form_of shared.now.pool.now terms.now.form.plan.now terms.now.form.names.now) (written_by (uses objects.old.backs.now) outs.graphite outs.console result.counts (back_of K.B.seen objects.old.backs.now) (back_of K.B.seen objects.new.backs.now)) shared.now.run_flushes
+        (own_at services.old.flusher.seat) (own_at services.new.flusher.seat) (part_of services.old.flusher.own) (part_of services.new.flusher.own) (K.P.seen objects.old.beat.now) (K.P.seen objects.new.beat.now) result.ends.flusher }
+    ensures graphite_flag { objects.new.backs.now.graphite_used ≡ objects.old.backs.now.graphite_used }
+    ensures console_flag { objects.new.backs.now.console_used ≡ objects.old.backs.now.console_used }
+    ensures admin_own { IsDeskSeatOf shared.now.desk.now services.new.admin.own × (number_of_seat services.new.admin.own ≡ number_of_seat services.old.admin.own) }
+    ensures admin_seat { IsSeatOf shared.now.pool.now services.new.admin.seat × (who_is services.new.admin.seat ≡ administrator) }
+    ensures space { IsSpaceFor (limits_of shared.now.pool.now) (shards_of shared.now.pool.now) services.new.admin.space }
+    ensures serves { ServesSessions (shards_of shared.now.pool.now) terms.now.settings.now (K.T.may_say shared.now.clock.now) (own_at services.old.admin.seat) (own_at services.new.admin.seat) (K.E.seen objects.old.door.now) (K.E.seen objects.new.door.now) (part_of services.old.admin.own) (part_of services.new.admin.own) }
+    ensures keeper { EndsKeeping shared.now.run_flushes result.ends.keeper (K.E.seen objects.old.door.now) (K.E.seen objects.new.door.now) (part_of services.new.admin.own) }
+    ensures lines { AreLinedBy (K.T.may_say shared.now.clock.now) shared.now.pool.now shared.now.desk.now shared.now.run_flushes services.old.lines services.new.lines result.ends.liner (K.S.seen objects.old.streams.now) (K.S.seen objects.new.streams.now) }
+    ensures objects { StayObjects objects.old objects.new }
     ensures len { length posts.new ≡ length posts.old }
     ensures each { (i : ℕ) (d : _) → i < length posts.old → HasRun K.D.seen K.L.seen (K.T.may_say shared.now.clock.now) shared.now.pool.now shared.now.desk.now shared.now.run_flushes (slice_index_or posts.old i d) (slice_index_or posts.new i d) }
 {
     let OutRoom {
         outlet: graphite,
         feed: graphite_feed,
-        drain: mut graphite_drain,
+        drain: graphite_drain,
     } = outs.graphite;
     let OutRoom {
         outlet: console,
         feed: console_feed,
-        drain: mut console_drain,
+        drain: console_drain,
     } = outs.console;
     let (graphite_lead, graphite_idle) = lead_or_idle(
-        backs.graphite_used,
+        objects.backs.graphite_used,
         &graphite,
         graphite_feed,
     );
-    let (console_lead, console_idle) = lead_or_idle(backs.console_used, &console, console_feed);
+    let (console_lead, console_idle) = lead_or_idle(
+        objects.backs.console_used,
+        &console,
+        console_feed,
+    );
     let mut leads = Outs {
         graphite: graphite_lead,
         console: console_lead,
     };
+    let mut drains = Drains {
+        graphite: OutletDrain {
+            outlet: &graphite,
+            drain: graphite_drain,
+        },
+        console: OutletDrain {
+            outlet: &console,
+            drain: console_drain,
+        },
+    };
     let out = run_beside::<K, R>(
         rt,
         shared,
-        own,
-        seat,
-        tables,
-        plan,
-        names,
-        beat,
-        &mut leads,
-        &graphite,
-        &mut graphite_drain,
-        &mut backs.graphite,
-        &console,
-        &mut console_drain,
-        &mut backs.console,
-        admin_own,
-        admin_seat,
-        settings,
-        space,
-        door,
-        lining,
+        terms,
+        services,
         posts,
+        objects,
+        &mut leads,
+        &mut drains,
     );
     let Outs {
         graphite: graphite_lead,
         console: console_lead,
     } = leads;
+    let Drains {
+        graphite: graphite_drain,
+        console: console_drain,
+    } = drains;
     let graphite_feed = feed_back(graphite_lead, graphite_idle);
     let console_feed = feed_back(console_lead, console_idle);
+    let graphite_drain = graphite_drain.drain;
+    let console_drain = console_drain.drain;
     let counts = OutCounts {
         skips: out.counts.skips,
         graphite: close_outlet(
@@ -338,7 +387,7 @@ pub(crate) fn run_server_out<K: Kinds, R: Threads + Wait + Log + Sync>(
             graphite_feed,
             graphite_drain,
             out.counts.graphite,
-            &mut backs.graphite,
+            &mut objects.backs.graphite,
         ),
         console: close_outlet(
             rt,
@@ -346,7 +395,7 @@ pub(crate) fn run_server_out<K: Kinds, R: Threads + Wait + Log + Sync>(
             console_feed,
             console_drain,
             out.counts.console,
-            &mut backs.console,
+            &mut objects.backs.console,
         ),
     };
     OutEnds {

@@ -1,5 +1,5 @@
 -- The visits of admin sessions, one after another.
-use Rattle.std.proofs.Common.{◌≡◌, ℕ, ◌+◌, List, [], ◌∷◌, ◌++◌, flat_map, ap, subst, sym, ◌∙◌, arith}
+use Rattle.std.proofs.Common.{◌≡◌, ℕ, List, [], ◌∷◌, ◌++◌, flat_map, ap, subst, sym, ◌∙◌, arith}
 use Rattle.sd_model_settings.specs.Settings as file
 use Rattle.sd_model_record.specs.Counts.{Amounts, Count, HasCounted, Part, nothing, plus}
 use Rattle.sd_model_record.specs.DeskHistory.{DeskCall}
@@ -22,39 +22,35 @@ none_and_none a b first second = (λ i. plus (first i) (second i)) ∙ (λ i c. 
 calls_of_one : (d : Dialogue) (dialogues : List Dialogue) (first rest calls : List DeskCall) → first ≡ flat_map line_calls (lines_in d) → rest ≡ called_in dialogues → calls ≡ first ++ rest → calls ≡ called_in (d ∷ dialogues)
 calls_of_one d dialogues first rest calls a b both = both ∙ ap (λ (l : List DeskCall). l ++ rest) a ∙ ap (λ (l : List DeskCall). flat_map line_calls (lines_in d) ++ l) b
 
-module _ {C : Type 0} (may_say : C → ℕ → Type 0) where
+module _ (says : ℕ → Type 0) (pool : Pool) where
   -- all visits, and the sessions that they held
-  pub record HasVisitedAll (visits : List Visit) (old new : AdminVisitor C) (amounts : Amounts) (calls : List DeskCall) : Type 0 where
+  pub record HasVisitedAll (visits : List Visit) (old new : AdminVisitor) (amounts : Amounts) (calls : List DeskCall) : Type 0 where
     pub works : WorksOn old new
     pub none : amounts ≡ nothing
     pub dialogues : List Dialogue
     pub called : calls ≡ called_in dialogues
-    pub went : AreVisitsOf (shards_of old.pool.now) old.settings.now (may_say old.clock.now) visits dialogues
-    pub asked : Broadcasts (shards_of old.pool.now) (asked_by dialogues) (own_at old.seat.now) (own_at new.seat.now)
+    pub went : AreVisitsOf (shards_of pool) old.settings.now says visits dialogues
+    pub asked : Broadcasts (shards_of pool) (asked_by dialogues) (own_at old.seat.now) (own_at new.seat.now)
 
-  on_the_same : (old mid new : AdminVisitor C) → WorksOn old mid → WorksOn mid new → WorksOn old new
+  on_the_same : (old mid new : AdminVisitor) → WorksOn old mid → WorksOn mid new → WorksOn old new
   on_the_same old mid new a b = record {
-    pool = b.pool ∙ a.pool;
     settings = b.settings ∙ a.settings;
-    clock = b.clock ∙ a.clock;
     seat = b.seat ∙ a.seat;
     space = b.space ∙ a.space;
   }
 
-  pub visited_all : (visits : List Visit) (old new : AdminVisitor C) (amounts : Amounts) (calls : List DeskCall) → Visited (HasVisited may_say) visits old new amounts calls → HasVisitedAll visits old new amounts calls
+  pub visited_all : (visits : List Visit) (old new : AdminVisitor) (amounts : Amounts) (calls : List DeskCall) → Visited (HasVisited says pool) visits old new amounts calls → HasVisitedAll visits old new amounts calls
   visited_all [] old new amounts calls h = let same = h.0 in record {
     works = record {
-      pool = ap (λ (v : AdminVisitor C). v.pool.now) same;
-      settings = ap (λ (v : AdminVisitor C). v.settings.now) same;
-      clock = ap (λ (v : AdminVisitor C). v.clock.now) same;
-      seat = ap (λ (v : AdminVisitor C). v.seat.ghost_name) same;
-      space = ap (λ (v : AdminVisitor C). v.space.ghost_name) same;
+      settings = ap (λ (v : AdminVisitor). v.settings.now) same;
+      seat = ap (λ (v : AdminVisitor). v.seat.ghost_name) same;
+      space = ap (λ (v : AdminVisitor). v.space.ghost_name) same;
     };
     none = h.1;
     dialogues = [];
     called = h.2;
     went = tt;
-    asked = subst (λ (v : AdminVisitor C). Broadcasts (shards_of old.pool.now) [] (own_at old.seat.now) (own_at v.seat.now)) (sym same) (Broadcasts-none (shards_of old.pool.now) (own_at old.seat.now));
+    asked = subst (λ (v : AdminVisitor). Broadcasts (shards_of pool) [] (own_at old.seat.now) (own_at v.seat.now)) (sym same) (Broadcasts-none (shards_of pool) (own_at old.seat.now));
   }
   visited_all (v ∷ visits) old new amounts calls h =
       let mid = h.0 in
@@ -67,13 +63,9 @@ module _ {C : Type 0} (may_say : C → ℕ → Type 0) where
         called = calls_of_one first.dialogue rest.dialogues h.3 h.4 calls first.called rest.called h.8;
         went = (
           first.went,
-          subst (λ (p : Pool). AreVisitsOf (shards_of p) old.settings.now (may_say old.clock.now) visits rest.dialogues) first.works.pool
-              (subst (λ (s : file.Settings). AreVisitsOf (shards_of mid.pool.now) s (may_say old.clock.now) visits rest.dialogues) first.works.settings
-              (subst (λ (k : C). AreVisitsOf (shards_of mid.pool.now) mid.settings.now (may_say k) visits rest.dialogues) first.works.clock rest.went)),
+          subst (λ (s : file.Settings). AreVisitsOf (shards_of pool) s says visits rest.dialogues) first.works.settings rest.went,
         );
-        asked =
-            Broadcasts-next (shards_of old.pool.now) (asked_in (lines_in first.dialogue)) (asked_by rest.dialogues) (own_at old.seat.now) (own_at mid.seat.now) (own_at new.seat.now) first.asked
-            (subst (λ (p : Pool). Broadcasts (shards_of p) (asked_by rest.dialogues) (own_at mid.seat.now) (own_at new.seat.now)) first.works.pool rest.asked);
+        asked = Broadcasts-next (shards_of pool) (asked_in (lines_in first.dialogue)) (asked_by rest.dialogues) (own_at old.seat.now) (own_at mid.seat.now) (own_at new.seat.now) first.asked rest.asked;
       }
 
 -- where the visits counted nothing, the faults alone were counted

@@ -6,6 +6,6 @@ use Rattle.sd_session.specs.declared.space.AdminSpace.{AdminSpace}
 
 -- there is room for the rows of so many shards of these limits, and for a line
 pub record IsSpaceFor (limits : Limits) (shards : ℕ) (space : AdminSpace) : Type 0 where
-  pub keys : shards * limits.rows ≤ space.keys.room
-  pub dump : shards * limits.rows ≤ space.dump.room
-  pub line : length space.line.items ≡ too_many
+  pub keys : shards * limits.rows ≤ space.replies.keys.room
+  pub dump : shards * limits.rows ≤ space.replies.dump.room
+  pub line : length space.line.bytes.items ≡ too_many

@@ -6,29 +6,27 @@ use Rattle.sd_model_record.specs.DeskHistory.{DeskCall}
 use Rattle.sd_model_serve.specs.Doors.{Visit, IsVisitOf, line_calls}
 use Rattle.sd_model_serve.specs.Sessions.{Dialogue, Broadcasts, asked_in, lines_in}
 use Rattle.sd_pool.specs.Pool.{IsSeatOf, limits_of, own_at, shards_of, who_is}
+use Rattle.sd_pool.specs.declared.pool.Pool.{Pool}
 use Rattle.sd_session.specs.Space.{IsSpaceFor}
 use Rattle.sd_session.specs.declared.visiting.AdminVisitor.{AdminVisitor}
 
-module _ {C : Type 0} where
-  -- it has the administrator's seat of its pool, and room for the replies
-  pub record CanVisit (visitor : AdminVisitor C) : Type 0 where
-    pub seat : IsSeatOf visitor.pool.now visitor.seat.now
-    pub who : who_is visitor.seat.now ≡ administrator
-    pub space : IsSpaceFor (limits_of visitor.pool.now) (shards_of visitor.pool.now) visitor.space.now
+-- it has the administrator's seat of a pool, and room for the replies
+pub record CanVisit (pool : Pool) (visitor : AdminVisitor) : Type 0 where
+  pub seat : IsSeatOf pool visitor.seat.now
+  pub who : who_is visitor.seat.now ≡ administrator
+  pub space : IsSpaceFor (limits_of pool) (shards_of pool) visitor.space.now
 
-  -- it works with the same as before
-  pub record WorksOn (old new : AdminVisitor C) : Type 0 where
-    pub pool : new.pool.now ≡ old.pool.now
-    pub settings : new.settings.now ≡ old.settings.now
-    pub clock : new.clock.now ≡ old.clock.now
-    pub seat : new.seat.ghost_name ≡ old.seat.ghost_name
-    pub space : new.space.ghost_name ≡ old.space.ghost_name
+-- it works with the same as before
+pub record WorksOn (old new : AdminVisitor) : Type 0 where
+  pub settings : new.settings.now ≡ old.settings.now
+  pub seat : new.seat.ghost_name ≡ old.seat.ghost_name
+  pub space : new.space.ghost_name ≡ old.space.ghost_name
 
-  -- a session was visited, and went so, its lines' calls of the desk were made, and nothing was counted for it
-  pub record HasVisited (may_say : C → ℕ → Type 0) (old new : AdminVisitor C) (v : Visit) (amounts : Amounts) (calls : List DeskCall) : Type 0 where
-    pub works : WorksOn old new
-    pub none : amounts ≡ nothing
-    pub dialogue : Dialogue
-    pub called : calls ≡ flat_map line_calls (lines_in dialogue)
-    pub went : IsVisitOf (shards_of old.pool.now) old.settings.now (may_say old.clock.now) v dialogue
-    pub asked : Broadcasts (shards_of old.pool.now) (asked_in (lines_in dialogue)) (own_at old.seat.now) (own_at new.seat.now)
+-- a session was visited over a pool, and went so, its lines' calls of the desk were made, and nothing was counted for it
+pub record HasVisited (says : ℕ → Type 0) (pool : Pool) (old new : AdminVisitor) (v : Visit) (amounts : Amounts) (calls : List DeskCall) : Type 0 where
+  pub works : WorksOn old new
+  pub none : amounts ≡ nothing
+  pub dialogue : Dialogue
+  pub called : calls ≡ flat_map line_calls (lines_in dialogue)
+  pub went : IsVisitOf (shards_of pool) old.settings.now says v dialogue
+  pub asked : Broadcasts (shards_of pool) (asked_in (lines_in dialogue)) (own_at old.seat.now) (own_at new.seat.now)

@@ -8,6 +8,7 @@ ghost use Rattle.sd_admin.specs.Command.{command_view, health_word_view};
 ghost use Rattle.sd_pool.specs.Pool.{IsSeatOf, limits_of, own_at, shards_of, who_is};
 ghost use Rattle.sd_session.specs.Asking.{CarriesOut, DeletesNames};
 
+use crate::space::ReplyRoom;
 use crate::telling::tell_deleted;
 use crate::together::{delete_all, dump_all};
 use log::Log;
@@ -17,7 +18,7 @@ use sd_desk::DeskFacts;
 use sd_key::Kind;
 use sd_outside::{Sink, WriteFault};
 use sd_pool::{Pool, Seat};
-use sd_shard::{Dump, Keys};
+use sd_shard::Keys;
 use std::sync::Wait;
 
 /// Deletes the rows of a kind that the names of a command match, name by name, and replies with the keys, up to the name whose
@@ -63,7 +64,15 @@ fn health_after(word: HealthWord, up: bool) -> bool
     }
 }
 
-/// Carries out by all shards what a line asks for that came now, and replies, with what the desk told of itself before it.
+/// What a line is answered from beside the shards: the settings, what the desk told of itself before the line, and the moment.
+#[derive(Drop)]
+pub(crate) struct AnswerBasis<'a> {
+    pub settings: &'a Settings,
+    pub facts: &'a DeskFacts,
+    pub moment: u64,
+}
+
+/// Carries out by all shards what a line asks for, and replies.
 ///
 /// # Errors
 ///
@@ -73,39 +82,43 @@ pub(crate) fn carry_out<O: Sink, R: Wait + Log>(
     rt: &R,
     pool: &Pool,
     seat: &mut Seat,
-    keys: &mut Keys,
-    dump: &mut Dump,
-    settings: &Settings,
-    facts: &DeskFacts,
-    now: u64,
+    replies: &mut ReplyRoom,
+    basis: &AnswerBasis<'_>,
     line: &[u8],
     output: &mut O,
 ) -> Result<(), WriteFault>
     requires seat { IsSeatOf pool.now seat.old × (who_is seat.old ≡ administrator) }
-    requires keys { shards_of pool.now * (limits_of pool.now).rows ≤ keys.old.room }
-    requires dump { shards_of pool.now * (limits_of pool.now).rows ≤ dump.old.room }
+    requires keys { shards_of pool.now * (limits_of pool.now).rows ≤ replies.old.keys.room }
+    requires dump { shards_of pool.now * (limits_of pool.now).rows ≤ replies.old.dump.room }
     ensures seat { IsSeatOf pool.now seat.new × (who_is seat.new ≡ administrator) }
-    ensures keys { keys.new.room ≡ keys.old.room }
-    ensures dump { dump.new.room ≡ dump.old.room }
-    ensures carried { CarriesOut (shards_of pool.now) settings.now (facts_view facts.now) now line.now result (own_at seat.old) (own_at seat.new) (O.seen output.old) (O.seen output.new) }
+    ensures keys { replies.new.keys.room ≡ replies.old.keys.room }
+    ensures dump { replies.new.dump.room ≡ replies.old.dump.room }
+    ensures carried { CarriesOut (shards_of pool.now) basis.now.settings.now (facts_view basis.now.facts.now) basis.now.moment line.now result (own_at seat.old) (own_at seat.new) (O.seen output.old) (O.seen output.new) }
 {
     let command = match Command::read(line) {
         Ok(command) => command,
         Err(fault) => return write_reply(&Reply::Fault { fault }, output),
     };
     match command {
-        Command::Stats => write_reply(&Reply::Stats { facts, now }, output),
-        Command::Config => write_reply(&Reply::Config { settings }, output),
+        Command::Stats => {
+            let (facts, now) = (basis.facts, basis.moment);
+            write_reply(&Reply::Stats { facts, now }, output)
+        }
+        Command::Config => {
+            let settings = basis.settings;
+            write_reply(&Reply::Config { settings }, output)
+        }
         Command::Quit => Ok(()),
         Command::Show(kind) => {
+            let dump = &mut replies.dump;
             dump_all(rt, pool, seat, kind, dump);
             write_reply(&Reply::Rows { kind, dump }, output)
         }
         Command::Delete { kind, names: _ } => {
-            delete(rt, pool, seat, kind, &command, keys, output)
+            delete(rt, pool, seat, kind, &command, &mut replies.keys, output)
         }
         Command::Health(word) => {
-            let up = health_after(word, facts.up);
+            let up = health_after(word, basis.facts.up);
             write_reply(&Reply::Health { up }, output)
         }
     }

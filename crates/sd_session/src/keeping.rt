@@ -13,31 +13,30 @@ use log::Log;
 use sd_config::Settings;
 use sd_door::keep_door;
 use sd_outside::{Clock, Door, DoorEnd, Gate};
-use sd_pool::{Pool, Seat};
-use sd_shared_desk::{DeskSeat, SharedDesk};
+use sd_pool::Seat;
+use sd_shared::Shared;
+use sd_shared_desk::DeskSeat;
 use std::sync::Wait;
 
 /// Visits the sessions of a door.
 fn visit_all<E: Door, C: Clock, G: Gate, R: Wait + Log>(
     rt: &R,
-    desk: &SharedDesk,
+    shared: &Shared<'_, G, C>,
     own: &mut DeskSeat,
-    visitor: &mut AdminVisitor<'_, '_, '_, '_, '_, C>,
+    visitor: &mut AdminVisitor<'_, '_, '_>,
     door: &mut E,
-    gate: &G,
-    run_flushes: u64,
 ) -> DoorEnd
-    requires ready { CanVisit visitor.old }
-    requires own { IsDeskSeatOf desk.now own.old }
+    requires ready { CanVisit shared.now.pool.now visitor.old }
+    requires own { IsDeskSeatOf shared.now.desk.now own.old }
     requires none_out { (E.seen door.old).is_out ≡ false }
     requires turns { (E.seen door.old).turns < 2 ^ 62 }
-    ensures ready { CanVisit visitor.new }
+    ensures ready { CanVisit shared.now.pool.now visitor.new }
     ensures works { WorksOn visitor.old visitor.new }
-    ensures own { IsDeskSeatOf desk.now own.new × (number_of_seat own.new ≡ number_of_seat own.old) }
-    ensures serves { ServesSessions (shards_of visitor.old.pool.now) visitor.old.settings.now (C.may_say visitor.old.clock.now) (own_at visitor.old.seat.now) (own_at visitor.new.seat.now) (E.seen door.old) (E.seen door.new) (part_of own.old) (part_of own.new) }
-    ensures ends { EndsKeeping run_flushes result (E.seen door.old) (E.seen door.new) (part_of own.new) }
+    ensures own { IsDeskSeatOf shared.now.desk.now own.new × (number_of_seat own.new ≡ number_of_seat own.old) }
+    ensures serves { ServesSessions (shards_of shared.now.pool.now) visitor.old.settings.now (C.may_say shared.now.clock.now) (own_at visitor.old.seat.now) (own_at visitor.new.seat.now) (E.seen door.old) (E.seen door.new) (part_of own.old) (part_of own.new) }
+    ensures ends { EndsKeeping shared.now.run_flushes result (E.seen door.old) (E.seen door.new) (part_of own.new) }
 {
-    keep_door(rt, desk, own, visitor, door, gate, run_flushes)
+    keep_door(rt, shared, own, visitor, door)
 }
 
 /// Serves the admin sessions of a door over a pool, one after another, and gives each back, until the door has none left, so
@@ -45,34 +44,28 @@ fn visit_all<E: Door, C: Clock, G: Gate, R: Wait + Log>(
 /// that ends since one of its ends failed are counted at the desk, and the door is asked again.
 pub fn doorkeep<E: Door, C: Clock, G: Gate, R: Wait + Log>(
     rt: &R,
-    pool: &Pool,
-    desk: &SharedDesk,
+    shared: &Shared<'_, G, C>,
     own: &mut DeskSeat,
     seat: &mut Seat,
     settings: &Settings,
     space: &mut AdminSpace,
     door: &mut E,
-    clock: &C,
-    gate: &G,
-    run_flushes: u64,
 ) -> DoorEnd
-    requires seat { IsSeatOf pool.now seat.old × (who_is seat.old ≡ administrator) }
-    requires own { IsDeskSeatOf desk.now own.old }
-    requires space { IsSpaceFor (limits_of pool.now) (shards_of pool.now) space.old }
+    requires seat { IsSeatOf shared.now.pool.now seat.old × (who_is seat.old ≡ administrator) }
+    requires own { IsDeskSeatOf shared.now.desk.now own.old }
+    requires space { IsSpaceFor (limits_of shared.now.pool.now) (shards_of shared.now.pool.now) space.old }
     requires none_out { (E.seen door.old).is_out ≡ false }
     requires turns { (E.seen door.old).turns < 2 ^ 62 }
-    ensures seat { IsSeatOf pool.now seat.new × (who_is seat.new ≡ administrator) }
-    ensures own { IsDeskSeatOf desk.now own.new × (number_of_seat own.new ≡ number_of_seat own.old) }
-    ensures space { IsSpaceFor (limits_of pool.now) (shards_of pool.now) space.new }
-    ensures serves { ServesSessions (shards_of pool.now) settings.now (C.may_say clock.now) (own_at seat.old) (own_at seat.new) (E.seen door.old) (E.seen door.new) (part_of own.old) (part_of own.new) }
-    ensures ends { EndsKeeping run_flushes result (E.seen door.old) (E.seen door.new) (part_of own.new) }
+    ensures seat { IsSeatOf shared.now.pool.now seat.new × (who_is seat.new ≡ administrator) }
+    ensures own { IsDeskSeatOf shared.now.desk.now own.new × (number_of_seat own.new ≡ number_of_seat own.old) }
+    ensures space { IsSpaceFor (limits_of shared.now.pool.now) (shards_of shared.now.pool.now) space.new }
+    ensures serves { ServesSessions (shards_of shared.now.pool.now) settings.now (C.may_say shared.now.clock.now) (own_at seat.old) (own_at seat.new) (E.seen door.old) (E.seen door.new) (part_of own.old) (part_of own.new) }
+    ensures ends { EndsKeeping shared.now.run_flushes result (E.seen door.old) (E.seen door.new) (part_of own.new) }
 {
     let mut visitor = AdminVisitor {
-        pool,
         seat,
         settings,
         space,
-        clock,
     };
-    visit_all(rt, desk, own, &mut visitor, door, gate, run_flushes)
+    visit_all(rt, shared, own, &mut visitor, door)
 }

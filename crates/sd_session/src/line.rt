@@ -8,14 +8,15 @@ ghost use Rattle.sd_pool.specs.Pool.{IsSeatOf, limits_of, own_at, shards_of, who
 ghost use Rattle.sd_shared_desk.specs.Shared.{IsSeatOf as IsDeskSeatOf, number_of_seat, part_of};
 ghost use Rattle.sd_session.specs.Lines.{TellsLine};
 
-use crate::carry::carry_out;
+use crate::carry::{AnswerBasis, carry_out};
+use crate::space::ReplyRoom;
 use crate::telling::tell_health;
 use log::Log;
 use sd_admin::{Command, HealthWord};
 use sd_config::Settings;
 use sd_outside::{Clock, Sink};
-use sd_pool::{Pool, Seat};
-use sd_shard::{Dump, Keys};
+use sd_pool::Seat;
+use sd_shared::Shared;
 use sd_shared_desk::{DeskSeat, SharedDesk};
 use std::sync::Wait;
 
@@ -52,40 +53,39 @@ fn set_health<R: Wait>(rt: &R, desk: &SharedDesk, own: &mut DeskSeat, line: &[u8
 }
 
 /// Carries out a line of a session, and replies.
-pub(crate) fn tell_line<O: Sink, C: Clock, R: Wait + Log>(
+pub(crate) fn tell_line<O: Sink, C: Clock, G, R: Wait + Log>(
     rt: &R,
-    pool: &Pool,
-    desk: &SharedDesk,
+    shared: &Shared<'_, G, C>,
     own: &mut DeskSeat,
     seat: &mut Seat,
     settings: &Settings,
-    keys: &mut Keys,
-    dump: &mut Dump,
-    clock: &C,
+    replies: &mut ReplyRoom,
     line: &[u8],
     sink: &mut O,
 ) -> Told
-    requires seat { IsSeatOf pool.now seat.old × (who_is seat.old ≡ administrator) }
-    requires own { IsDeskSeatOf desk.now own.old }
-    requires keys { shards_of pool.now * (limits_of pool.now).rows ≤ keys.old.room }
-    requires dump { shards_of pool.now * (limits_of pool.now).rows ≤ dump.old.room }
-    ensures seat { IsSeatOf pool.now seat.new × (who_is seat.new ≡ administrator) }
-    ensures own { IsDeskSeatOf desk.now own.new × (number_of_seat own.new ≡ number_of_seat own.old) }
-    ensures keys { keys.new.room ≡ keys.old.room }
-    ensures dump { dump.new.room ≡ dump.old.room }
+    requires seat { IsSeatOf shared.now.pool.now seat.old × (who_is seat.old ≡ administrator) }
+    requires own { IsDeskSeatOf shared.now.desk.now own.old }
+    requires keys { shards_of shared.now.pool.now * (limits_of shared.now.pool.now).rows ≤ replies.old.keys.room }
+    requires dump { shards_of shared.now.pool.now * (limits_of shared.now.pool.now).rows ≤ replies.old.dump.room }
+    ensures seat { IsSeatOf shared.now.pool.now seat.new × (who_is seat.new ≡ administrator) }
+    ensures own { IsDeskSeatOf shared.now.desk.now own.new × (number_of_seat own.new ≡ number_of_seat own.old) }
+    ensures keys { replies.new.keys.room ≡ replies.old.keys.room }
+    ensures dump { replies.new.dump.room ≡ replies.old.dump.room }
     ensures counted { HasCounted nothing (part_of own.old) (part_of own.new) }
-    ensures tells { TellsLine (shards_of pool.now) settings.now (C.may_say clock.now) line.now result (own_at seat.old) (own_at seat.new) (part_of own.old) (part_of own.new) (O.seen sink.old) (O.seen sink.new) }
+    ensures tells { TellsLine (shards_of shared.now.pool.now) settings.now (C.may_say shared.now.clock.now) line.now result (own_at seat.old) (own_at seat.new) (part_of own.old) (part_of own.new) (O.seen sink.old) (O.seen sink.new) }
 {
     if asks_for_end(line) {
         return Told::Quit;
     }
-    let facts = desk.facts(rt, own);
-    set_health(rt, desk, own, line);
+    let facts = shared.desk.facts(rt, own);
+    set_health(rt, shared.desk, own, line);
     tell_health(rt, line);
-    let now = clock.now();
-    match carry_out(
-        rt, pool, seat, keys, dump, settings, &facts, now, line, sink,
-    ) {
+    let basis = AnswerBasis {
+        settings,
+        facts: &facts,
+        moment: shared.clock.now(),
+    };
+    match carry_out(rt, shared.pool, seat, replies, &basis, line, sink) {
         Ok(()) => Told::Whole,
         Err(_) => Told::Cut,
     }

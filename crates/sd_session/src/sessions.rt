@@ -15,8 +15,9 @@ use log::Log;
 use sd_admin::{AdminFault, Reply, write_reply};
 use sd_config::Settings;
 use sd_outside::{Clock, Sink, Source};
-use sd_pool::{Pool, Seat};
-use sd_shared_desk::{DeskSeat, SharedDesk};
+use sd_pool::Seat;
+use sd_shared::Shared;
+use sd_shared_desk::DeskSeat;
 use std::sync::Wait;
 
 /// How a session ended.
@@ -82,46 +83,41 @@ fn drop_line(buf: &mut [u8], len: &mut usize, end: usize)
 }
 
 /// One turn of a session: the first line that is left is carried out, or more is read.
-fn take_turn<A: Source, O: Sink, C: Clock, R: Wait + Log>(
+fn take_turn<A: Source, O: Sink, C: Clock, G, R: Wait + Log>(
     rt: &R,
-    pool: &Pool,
-    desk: &SharedDesk,
+    shared: &Shared<'_, G, C>,
     own: &mut DeskSeat,
     seat: &mut Seat,
     settings: &Settings,
     space: &mut AdminSpace,
     source: &mut A,
     sink: &mut O,
-    clock: &C,
-    len: &mut usize,
 ) -> Option<SessionEnd>
-    requires seat { IsSeatOf pool.now seat.old × (who_is seat.old ≡ administrator) }
-    requires own { IsDeskSeatOf desk.now own.old }
-    requires space { IsSpaceFor (limits_of pool.now) (shards_of pool.now) space.old }
-    requires len { len.old ≤ too_many }
-    ensures seat { IsSeatOf pool.now seat.new × (who_is seat.new ≡ administrator) }
-    ensures own { IsDeskSeatOf desk.now own.new × (number_of_seat own.new ≡ number_of_seat own.old) }
-    ensures space { IsSpaceFor (limits_of pool.now) (shards_of pool.now) space.new }
-    ensures len { len.new ≤ too_many }
+    requires seat { IsSeatOf shared.now.pool.now seat.old × (who_is seat.old ≡ administrator) }
+    requires own { IsDeskSeatOf shared.now.desk.now own.old }
+    requires space { IsSpaceFor (limits_of shared.now.pool.now) (shards_of shared.now.pool.now) space.old }
+    requires len { space.old.line.len ≤ too_many }
+    ensures seat { IsSeatOf shared.now.pool.now seat.new × (who_is seat.new ≡ administrator) }
+    ensures own { IsDeskSeatOf shared.now.desk.now own.new × (number_of_seat own.new ≡ number_of_seat own.old) }
+    ensures space { IsSpaceFor (limits_of shared.now.pool.now) (shards_of shared.now.pool.now) space.new }
+    ensures len { space.new.line.len ≤ too_many }
     ensures counted { HasCounted nothing (part_of own.old) (part_of own.new) }
-    ensures on { IfNone result (Listens (shards_of pool.now) settings.now (C.may_say clock.now) (own_at seat.old) (own_at seat.new) (part_of own.old) (part_of own.new) (take len.old space.old.line.items) (take len.new space.new.line.items) (A.seen source.old) (A.seen source.new) (O.seen sink.old) (O.seen sink.new)) }
-    ensures ends { IfSome result (λ ended. Stops (shards_of pool.now) settings.now (C.may_say clock.now) (end_of ended) (own_at seat.old) (own_at seat.new) (part_of own.old) (part_of own.new) (take len.old space.old.line.items) (A.seen source.old) (A.seen source.new) (O.seen sink.old) (O.seen sink.new)) }
+    ensures on { IfNone result (Listens (shards_of shared.now.pool.now) settings.now (C.may_say shared.now.clock.now) (own_at seat.old) (own_at seat.new) (part_of own.old) (part_of own.new) (take space.old.line.len space.old.line.bytes.items) (take space.new.line.len space.new.line.bytes.items) (A.seen source.old) (A.seen source.new) (O.seen sink.old) (O.seen sink.new)) }
+    ensures ends { IfSome result (λ ended. Stops (shards_of shared.now.pool.now) settings.now (C.may_say shared.now.clock.now) (end_of ended) (own_at seat.old) (own_at seat.new) (part_of own.old) (part_of own.new) (take space.old.line.len space.old.line.bytes.items) (A.seen source.old) (A.seen source.new) (O.seen sink.old) (O.seen sink.new)) }
 {
-    let left = &space.line[..*len];
+    let left = &space.line.bytes[..space.line.len];
     let Some(end) = line_len(left) else {
-        if *len == space.line.len() {
+        if space.line.len == space.line.bytes.len() {
             return Some(end_too_long(sink));
         }
-        return read_on(source, &mut space.line, len);
+        return read_on(source, &mut space.line.bytes, &mut space.line.len);
     };
-    let (keys, dump) = (&mut space.keys, &mut space.dump);
     let line = &left[..end];
-    let told = tell_line(
-        rt, pool, desk, own, seat, settings, keys, dump, clock, line, sink,
-    );
+    let replies = &mut space.replies;
+    let told = tell_line(rt, shared, own, seat, settings, replies, line, sink);
     match told {
         Told::Whole => {
-            drop_line(&mut space.line, len, end);
+            drop_line(&mut space.line.bytes, &mut space.line.len, end);
             None
         }
         Told::Quit => Some(SessionEnd::Quit),
@@ -131,32 +127,28 @@ fn take_turn<A: Source, O: Sink, C: Clock, R: Wait + Log>(
 
 /// Holds a session by its two ends: its lines are read, carried out by all shards and replied to, one after another, until one
 /// asks for the end or is too long, or an end has nothing left or failed.
-pub fn session<A: Source, O: Sink, C: Clock, R: Wait + Log>(
+pub fn session<A: Source, O: Sink, C: Clock, G, R: Wait + Log>(
     rt: &R,
-    pool: &Pool,
-    desk: &SharedDesk,
+    shared: &Shared<'_, G, C>,
     own: &mut DeskSeat,
     seat: &mut Seat,
     settings: &Settings,
     space: &mut AdminSpace,
     source: &mut A,
     sink: &mut O,
-    clock: &C,
 ) -> SessionEnd
-    requires seat { IsSeatOf pool.now seat.old × (who_is seat.old ≡ administrator) }
-    requires own { IsDeskSeatOf desk.now own.old }
-    requires space { IsSpaceFor (limits_of pool.now) (shards_of pool.now) space.old }
-    ensures seat { IsSeatOf pool.now seat.new × (who_is seat.new ≡ administrator) }
-    ensures own { IsDeskSeatOf desk.now own.new × (number_of_seat own.new ≡ number_of_seat own.old) }
-    ensures space { IsSpaceFor (limits_of pool.now) (shards_of pool.now) space.new }
+    requires seat { IsSeatOf shared.now.pool.now seat.old × (who_is seat.old ≡ administrator) }
+    requires own { IsDeskSeatOf shared.now.desk.now own.old }
+    requires space { IsSpaceFor (limits_of shared.now.pool.now) (shards_of shared.now.pool.now) space.old }
+    ensures seat { IsSeatOf shared.now.pool.now seat.new × (who_is seat.new ≡ administrator) }
+    ensures own { IsDeskSeatOf shared.now.desk.now own.new × (number_of_seat own.new ≡ number_of_seat own.old) }
+    ensures space { IsSpaceFor (limits_of shared.now.pool.now) (shards_of shared.now.pool.now) space.new }
     ensures counted { HasCounted nothing (part_of own.old) (part_of own.new) }
-    ensures held { HoldsSession (shards_of pool.now) settings.now (C.may_say clock.now) result (own_at seat.old) (own_at seat.new) (part_of own.old) (part_of own.new) (A.seen source.old) (A.seen source.new) (O.seen sink.old) (O.seen sink.new) }
+    ensures held { HoldsSession (shards_of shared.now.pool.now) settings.now (C.may_say shared.now.clock.now) result (own_at seat.old) (own_at seat.new) (part_of own.old) (part_of own.new) (A.seen source.old) (A.seen source.new) (O.seen sink.old) (O.seen sink.new) }
 {
-    let mut len = 0;
+    space.line.len = 0;
     for _ in rt.forever() {
-        let ended = take_turn(
-            rt, pool, desk, own, seat, settings, space, source, sink, clock, &mut len,
-        );
+        let ended = take_turn(rt, shared, own, seat, settings, space, source, sink);
         if let Some(ended) = ended {
             return ended;
         }

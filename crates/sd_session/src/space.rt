@@ -8,12 +8,25 @@ use std::alloc::{AllocError, Global};
 // The most bytes of a line, with the newline that ends it.
 const LINE_ROOM: usize = 1024;
 
-/// The room that admin sessions work in: for what all shards tell, and for a line.
+/// The room for replies: for the keys and the rows that all shards tell.
+#[derive(Drop)]
+pub(crate) struct ReplyRoom {
+    pub keys: Keys,
+    pub dump: Dump,
+}
+
+/// The room for a line. In a session its first `len` bytes were read, and aren't carried out yet.
+#[derive(Drop)]
+pub(crate) struct LineRoom {
+    pub bytes: Vec<u8>,
+    pub len: usize,
+}
+
+/// The room that admin sessions work in: for replies, and for a line.
 #[derive(Drop)]
 pub struct AdminSpace {
-    pub(crate) keys: Keys,
-    pub(crate) dump: Dump,
-    pub(crate) line: Vec<u8>,
+    pub(crate) replies: ReplyRoom,
+    pub(crate) line: LineRoom,
 }
 
 impl AdminSpace {
@@ -31,9 +44,14 @@ impl AdminSpace {
     {
         let rows = u32::from(shards) * limits.rows;
         Ok(AdminSpace {
-            keys: Keys::open(alloc, rows)?,
-            dump: Dump::open(alloc, rows)?,
-            line: vec![in alloc; 0; LINE_ROOM]?,
+            replies: ReplyRoom {
+                keys: Keys::open(alloc, rows)?,
+                dump: Dump::open(alloc, rows)?,
+            },
+            line: LineRoom {
+                bytes: vec![in alloc; 0; LINE_ROOM]?,
+                len: 0,
+            },
         })
     }
 }

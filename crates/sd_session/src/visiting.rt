@@ -8,19 +8,18 @@ use crate::space::AdminSpace;
 use log::Log;
 use sd_config::Settings;
 use sd_door::Visitor;
-use sd_outside::{Clock, Sink, Source};
-use sd_pool::{Pool, Seat};
-use sd_shared_desk::{DeskSeat, SharedDesk};
+use sd_outside::{Clock, Gate, Sink, Source};
+use sd_pool::Seat;
+use sd_shared::Shared;
+use sd_shared_desk::DeskSeat;
 use std::sync::Wait;
 
 /// Holds the admin sessions of a door.
 #[derive(Drop)]
-pub(crate) struct AdminVisitor<'p, 's, 'f, 'r, 'c, C> {
-    pub pool: &'p Pool,
+pub(crate) struct AdminVisitor<'s, 'f, 'r> {
     pub seat: &'s mut Seat,
     pub settings: &'f Settings,
     pub space: &'r mut AdminSpace,
-    pub clock: &'c C,
 }
 
 /// Whether a session ended since one of its ends failed.
@@ -33,32 +32,30 @@ fn is_fault(ended: SessionEnd) -> bool
     }
 }
 
-impl<C: Clock> Visitor for AdminVisitor<'_, '_, '_, '_, '_, C> {
+impl Visitor for AdminVisitor<'_, '_, '_> {
     ghost use Rattle.sd_session.specs.Visiting.{CanVisit, HasVisited};
 
     ghost can_visit = { CanVisit };
 
-    ghost has_visited = { HasVisited C.may_say };
+    ghost has_visited = { HasVisited };
 
-    fn visit<A: Source, T: Sink, R: Wait + Log>(
+    fn visit<A: Source, T: Sink, G: Gate, C: Clock, R: Wait + Log>(
         &mut self,
         rt: &R,
-        desk: &SharedDesk,
+        shared: &Shared<'_, G, C>,
         own: &mut DeskSeat,
         asking: &mut A,
         telling: &mut T,
     ) -> bool {
         let ended = session(
             rt,
-            self.pool,
-            desk,
+            shared,
             own,
             self.seat,
             self.settings,
             self.space,
             asking,
             telling,
-            self.clock,
         );
         is_fault(ended)
     }

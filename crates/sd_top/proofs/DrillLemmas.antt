@@ -17,7 +17,7 @@ use Rattle.sd_replay.specs.Ends.{end_of}
 use Rattle.sd_replay.specs.declared.fault.ScriptFault.TheVariants.{Word, Length, Truncated}
 use Rattle.sd_replay.specs.declared.run.ReplayEnd.{ReplayEnd}
 use Rattle.sd_replay.specs.declared.run.ReplayEnd.TheVariants as code
-use Rattle.sd_replay.specs.declared.totals.Totals.{Totals as CodeTotals}
+use Rattle.sd_run.specs.declared.totals.Totals.{Totals as CodeTotals}
 use Rattle.sd_top.specs.Causes.{IsDrill}
 
 -- the settings of an empty file

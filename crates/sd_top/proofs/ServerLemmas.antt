@@ -21,7 +21,7 @@ use Rattle.sd_model_call.specs.Opening.{IsAccepted, World, flags_of, settled}
 use Rattle.sd_model_call.specs.Server.{HasServed, begun, ends_answer, has_outlets, is_worn, objects_in, run_answer, run_totals, serves_by}
 use Rattle.sd_outside.specs.declared.datagrams.Ended.{Ended}
 use Rattle.sd_pool.specs.Books.{IsBookOf, no_book}
-use Rattle.sd_replay.specs.Totals.{totals_by}
+use Rattle.sd_run.specs.Totals.{totals_by}
 use Rattle.sd_serve.specs.Serving.{HasServed as Ran, end_of}
 use Rattle.sd_serve.specs.Through.{AreCounted, has_counts}
 use Rattle.sd_serve.specs.declared.serving.Served.{Served}

@@ -11,7 +11,7 @@ use Rattle.sd_model_call.specs.Server.{ends_answer, has_streams}
 use Rattle.sd_outside.specs.declared.datagrams.Ended.{Ended}
 use Rattle.sd_shard.specs.declared.shard.ShardBook.{ShardBook}
 use Rattle.sd_shards.specs.declared.book.ShardsBook.{ShardsBook}
-use Rattle.sd_replay.specs.Totals.{totals_by}
+use Rattle.sd_run.specs.Totals.{totals_by}
 use Rattle.sd_serve.specs.Room.{Sizing}
 use Rattle.sd_serve.specs.Serving.{door_end_of, end_of}
 use Rattle.sd_serve.specs.Through.{faults_at}

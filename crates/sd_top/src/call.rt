@@ -23,11 +23,14 @@ use sd_config::Settings;
 use sd_outside::{
     Address, Backend, Backs, Beat, Clock, Datagrams, Door, Gate, Name, Probe, Sink, Source, Wire,
 };
-use sd_replay::{ReplayEnd, ReplayRoom, names_backend, replay};
+use sd_replay::{ReplayEnd, ReplayRoom, replay};
+use sd_run::names_backend;
 use sd_serve::{Kinds, KindsOf};
 use std::alloc::Global;
+use std::random::RandomSource;
 use std::sync::Wait;
 use std::thread::Threads;
+use std::time;
 
 /// The objects that the program uses. None is opened yet.
 #[derive(Drop)]
@@ -161,7 +164,7 @@ pub fn statsd<
     Q: Probe + Send,
     S: Door<Asking: Send, Telling: Send> + Send,
     W: Log + Sync,
-    X: Threads + Wait + Sync,
+    X: Threads + Wait + RandomSource + time::Clock + Sync,
 >(
     rt: &X,
     alloc: Global,

@@ -6,8 +6,9 @@ ghost use Rattle.sd_top.specs.Causes.{IsDrill};
 use crate::status::{Status, status_of};
 use sd_config::Settings;
 use sd_drill::Drill;
-use sd_outside::{Backs, CountSink, MemWire, Sink, WriteFault};
-use sd_replay::{ReplayEnd, ReplayRoom, replay, write_total};
+use sd_outside::{Backs, CountSink, Sink, WriteFault};
+use sd_replay::{ReplayEnd, ReplayRoom, replay};
+use sd_run::write_total;
 use std::alloc::Global;
 
 /// Carries out the made script of so many packets by the settings of an empty file, and writes the totals and the number of
@@ -30,7 +31,7 @@ pub(crate) fn drill<O: Sink>(alloc: Global, packets: u32, output: &mut O) -> Sta
         graphite_used: true,
         console_used: false,
     };
-    let mut wires: [MemWire; 0] = [];
+    let mut wires: [CountSink; 0] = [];
     match replay(&settings, room, &mut script, output, &mut backs, &mut wires) {
         ReplayEnd::Ok(_) => {
             match write_total(b"bytes", u128::from(backs.graphite.count()), output) {

@@ -20,6 +20,7 @@ mod server_opening;
 mod settings;
 mod status;
 mod telling;
+mod threads;
 mod words;
 
 pub use audit::served_totals_add_up;

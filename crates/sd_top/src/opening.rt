@@ -15,7 +15,7 @@ use crate::status::{Part, Status};
 use sd_config::Settings;
 use sd_outside::{Address, Backend, Backs, Name, OpenRefusal, Opens, Wire};
 use sd_plan::{Node, Target};
-use sd_replay::targets_of;
+use sd_run::targets_of;
 use sd_serve::Kinds;
 
 /// Opens an object.

@@ -19,6 +19,7 @@ use crate::server_opening::open_packets;
 use crate::settings::read_settings;
 use crate::status::{Part, Status};
 use crate::telling::{tell_end, tell_fault, tell_proxy, tell_unopened, tell_unread};
+use crate::threads::{has_threads, threads_of_proxy};
 use log::{LevelFilter, Log, Logged};
 use sd_config::{ConfigFault, Settings};
 use sd_decimal::Line;
@@ -26,11 +27,12 @@ use sd_outside::{Address, Beat, Ended, Failed, Interval, Name, Sink, write_all};
 use sd_plan::Node;
 use sd_proxy::{CheckEnd, Checked};
 use sd_relay::{ProxySums, RelayRoom, Relayed, relay};
-use sd_replay::{names_backend, push_total};
+use sd_run::{names_backend, push_total};
 use sd_serve::Kinds;
 use std::alloc::Global;
 use std::sync::Wait;
 use std::thread::Threads;
+use std::time;
 
 /// How many wires the proxy has at most.
 const MOST_WIRES: usize = 256;
@@ -103,7 +105,7 @@ fn open_proxy<K: Kinds>(settings: &Settings, world: &mut WorldOf<K>) -> Result<(
 /// # Errors
 ///
 /// `OpenFault` where a part couldn't be opened, and `OutOfMemory`.
-fn run_proxy<K: Kinds, X: Threads + Wait + Sync>(
+fn run_proxy<K: Kinds, X: Threads + Wait + time::Clock + Sync>(
     rt: &X,
     alloc: Global,
     settings: &Settings,
@@ -209,7 +211,7 @@ fn finish<O: Sink>(relayed: &Relayed, output: &mut O) -> Status
 }
 
 /// Reads a settings file, and runs the proxy by the settings.
-pub(crate) fn proxy_files<K: Kinds, X: Threads + Wait + Sync>(
+pub(crate) fn proxy_files<K: Kinds, X: Threads + Wait + time::Clock + Sync>(
     rt: &X,
     alloc: Global,
     settings: Name,
@@ -235,6 +237,9 @@ pub(crate) fn proxy_files<K: Kinds, X: Threads + Wait + Sync>(
     }
     world.backs.graphite_used = names_backend(&settings, b"graphite");
     world.backs.console_used = names_backend(&settings, b"console");
+    if !has_threads(rt, &world.log, threads_of_proxy(&settings)) {
+        return Status::OutOfMemory;
+    }
     match run_proxy::<K, X>(rt, alloc, &settings, world) {
         Ok(relayed) => {
             let status = finish(&relayed, &mut world.output);

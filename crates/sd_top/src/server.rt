@@ -16,15 +16,19 @@ use crate::server_opening::{open_server, reads_streams};
 use crate::settings::read_settings;
 use crate::status::Status;
 use crate::telling::{tell_end, tell_server, tell_unopened, tell_unread};
+use crate::threads::{has_threads, threads_of_server};
 use log::{LevelFilter, Logged};
 use sd_config::{NamesOf, Settings};
+use sd_flush::RecordForm;
 use sd_outside::{Address, Beat, Clock, Interval, Name};
 use sd_plan::Names;
-use sd_replay::{limits_of, names_backend, policy_of, targets_of};
-use sd_serve::{Kinds, Served, ServerRoom, Sizes, serve};
+use sd_run::{limits_of, names_backend, policy_of, targets_of};
+use sd_serve::{Kinds, Served, ServerObjects, ServerRoom, Sizes, Terms, serve};
 use std::alloc::Global;
+use std::random::RandomSource;
 use std::sync::Wait;
 use std::thread::Threads;
+use std::time;
 
 /// What a server is opened for, by these settings.
 fn sizes_of(settings: &Settings) -> Sizes
@@ -43,13 +47,22 @@ fn sizes_of(settings: &Settings) -> Sizes
     }
 }
 
+/// A number that nobody outside knows, for the hashes by which rows are found; 0 where the system gives no bytes for it.
+fn seed_of<X: RandomSource>(rt: &X) -> u64 {
+    let mut bytes = [0; 8];
+    match rt.fill_bytes(&mut bytes) {
+        Ok(()) => u64::from_le_bytes(bytes),
+        Err(_) => 0,
+    }
+}
+
 /// Takes the room of a server by these settings, opens its parts, starts the beat, and runs the server until its workers have
 /// ended and its last round is made.
 ///
 /// # Errors
 ///
 /// `OpenFault` where a part couldn't be opened, and `OutOfMemory`.
-pub(crate) fn run_server<K: Kinds, X: Threads + Wait + Sync>(
+pub(crate) fn run_server<K: Kinds, X: Threads + Wait + RandomSource + time::Clock + Sync>(
     rt: &X,
     alloc: Global,
     settings: &Settings,
@@ -75,7 +88,7 @@ pub(crate) fn run_server<K: Kinds, X: Threads + Wait + Sync>(
         (world_of K.R.seen K.O.seen K.B.seen K.D.seen K.L.seen K.E.seen K.P.seen K.Q.seen K.S.seen world.new)) }
 {
     let start = world.clock.now();
-    let Ok(room) = ServerRoom::open(alloc, sizes_of(settings), start) else {
+    let Ok(room) = ServerRoom::open(alloc, sizes_of(settings), start, seed_of(rt)) else {
         return Err(Status::OutOfMemory);
     };
     open_server::<K>(settings, world)?;
@@ -86,26 +99,34 @@ pub(crate) fn run_server<K: Kinds, X: Threads + Wait + Sync>(
     let names = Names::of(settings);
     tell_server(&world.log, settings);
     let rt = Logged::new(rt, LevelFilter::Trace, &world.log);
+    let terms = Terms {
+        settings,
+        form: RecordForm {
+            plan: settings.plan(),
+            names: &names,
+        },
+        run_flushes: u64::from(settings.run_flushes()),
+        gate: &world.gate,
+        clock: &world.clock,
+    };
+    let mut objects = ServerObjects {
+        beat: &mut world.beat,
+        backs: &mut world.backs,
+        door: &mut world.door,
+        streams: &mut world.streams,
+    };
     Ok(serve::<K, Logged<&X, &K::W>>(
         &rt,
         room,
-        settings,
-        settings.plan(),
-        &names,
-        u64::from(settings.run_flushes()),
+        &terms,
         &mut world.packets,
         &mut world.wires,
-        &mut world.beat,
-        &mut world.backs,
-        &mut world.door,
-        &mut world.streams,
-        &world.gate,
-        &world.clock,
+        &mut objects,
     ))
 }
 
 /// Reads a settings file, and runs the server by the settings.
-pub(crate) fn serve_files<K: Kinds, X: Threads + Wait + Sync>(
+pub(crate) fn serve_files<K: Kinds, X: Threads + Wait + RandomSource + time::Clock + Sync>(
     rt: &X,
     alloc: Global,
     settings: Name,
@@ -130,6 +151,9 @@ pub(crate) fn serve_files<K: Kinds, X: Threads + Wait + Sync>(
     };
     world.backs.graphite_used = names_backend(&settings, b"graphite");
     world.backs.console_used = names_backend(&settings, b"console");
+    if !has_threads(rt, &world.log, threads_of_server(&settings)) {
+        return Status::OutOfMemory;
+    }
     match run_server::<K, X>(rt, alloc, &settings, world) {
         Ok(served) => {
             let status = finish(&served, &mut world.output);

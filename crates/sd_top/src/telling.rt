@@ -9,7 +9,7 @@ use sd_event::{
     refused_with, server_started, stopped,
 };
 use sd_outside::{Address, Name};
-use sd_replay::names_backend;
+use sd_run::names_backend;
 use std::alloc::Global;
 use std::str;
 
@@ -215,6 +215,11 @@ pub(crate) fn tell_unopened<L: Log>(log: &L, settings: &Settings, status: &Statu
         Status::OutOfMemory => refused_with(log, "memory", "out of memory"),
         _ => {}
     }
+}
+
+/// Tells that the system starts too few threads.
+pub(crate) fn tell_too_few<L: Log>(log: &L) {
+    refused_with(log, "threads", "the system starts too few");
 }
 
 /// Which backends settings name, in words.

@@ -29,11 +29,12 @@ use sd_top::{Status, World, explain, statsd};
 use shared::{Shared, no_memory};
 use standard_out::StandardOut;
 use std::alloc::{AllocError, Global};
-use std::env;
 use std::io::{ErrorKind, Write};
 use std::process::ExitCode;
+use std::random::RandomSource;
 use std::sync::Wait;
 use std::thread::Threads;
+use std::{env, time};
 
 /// The words of the command line, with the program's name first.
 ///
@@ -146,7 +147,7 @@ fn admin_door<'a>(
 
 /// Carries out what the words ask for.
 fn run<'a>(
-    threads: &'a (impl Threads + Wait + Sync),
+    threads: &'a (impl Threads + Wait + RandomSource + time::Clock + Sync),
     rt: &'a HostRuntime,
     shared: &'a Shared<'a>,
 ) -> Status {

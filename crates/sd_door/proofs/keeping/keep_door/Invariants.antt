@@ -5,8 +5,8 @@ use Rattle.sd_door.proofs.keeping.keep_door.Given as goal
 
 abbrev pub invariant-loop-turn : goal.invariant-loop-turn
 invariant-loop-turn g l = record {
-  own : IsSeatOf l.desk l.own × (number_of_seat l.own ≡ number_of_seat l.initial.own);
-  ready : g.V.Visitor.can_visit l.visitor;
-  kept : HasKept g.V.Visitor.has_visited l.initial.visitor l.visitor (g.E.Faulty.seen l.initial.door) (g.E.Faulty.seen l.door) (part_of l.initial.own) (part_of l.own);
+  own : IsSeatOf l.shared.desk.now l.own × (number_of_seat l.own ≡ number_of_seat l.initial.own);
+  ready : g.V.Visitor.can_visit l.shared.pool.now l.visitor;
+  kept : HasKept (g.V.Visitor.has_visited (g.C.Clock.may_say l.shared.clock.now) l.shared.pool.now) l.initial.visitor l.visitor (g.E.Faulty.seen l.initial.door) (g.E.Faulty.seen l.door) (part_of l.initial.own) (part_of l.own);
   turns : (g.E.Faulty.seen l.door).turns ≡ (g.E.Faulty.seen l.initial.door).turns + l._turn;
 }

@@ -22,7 +22,7 @@ returns-clause-round g c =
     let tables = map table_of listings in
     let swaps = c.begin_round-tally.ensures.swaps in
     let wrote = c.write_record-marks.ensures in
-    let form = form_of c.args.pool.now c.args.plan.now c.args.names.now in
+    let form = form_of c.args.shared.now.pool.now c.args.form.now.plan.now c.args.form.now.names.now in
     let round : Round = record { ts = c.args.ts; tally = tally_of c.begin_round-tally.result; tables = table_at tables; marks = marks_of c.write_record-marks.result } in
     let all : map round.tables (range_with_len 0 form.shards) ≡ tables = tables_all tables form.shards (length-map listings table_of ∙ swaps.count) in
     let back = back_of g.B.Faulty.seen c.args.backs.now in

@@ -23,7 +23,7 @@ returns-clause-round g c =
     let marks = c.queue_record-marks.result in
     let outs = c.args.outs.now in
     let outs_now = c.queue_record-marks.new.outs in
-    let form = form_of c.args.pool.now c.args.plan.now c.args.names.now in
+    let form = form_of c.args.shared.now.pool.now c.args.form.now.plan.now c.args.form.now.names.now in
     let round : Round = record { ts = c.args.ts; tally = tally_of c.begin_round-tally.result; tables = table_at tables; marks = no_marks } in
     let all : map round.tables (range_with_len 0 form.shards) ≡ tables = tables_all tables form.shards (length-map listings table_of ∙ swaps.count) in
     record {

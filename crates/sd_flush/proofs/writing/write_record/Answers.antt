@@ -10,10 +10,10 @@ use Rattle.sd_flush.proofs.writing.write_record.Goals as goal
 
 pub returns-clause-graphite : goal.returns-clause-graphite
 returns-clause-graphite g c =
-    let same = c.over-record.ensures.record ∙ ap (λ (ts : List Listing). record_of (plan_view c.args.plan.now) (map table_of ts) (tally_of c.args.tally) c.args.ts) c.swapped.ensures.tables in
-    subst (λ (r : _). AfterMark (mark_of c.deliver.result.graphite) (graphite_text c.args.names.now r) (g.B.Faulty.seen c.args.backs.now.graphite) (g.B.Faulty.seen c.deliver.new.backs.graphite)) same c.deliver.ensures.graphite
+    let same = c.over-record.ensures.record ∙ ap (λ (ts : List Listing). record_of (plan_view c.args.form.now.plan.now) (map table_of ts) (tally_of c.args.tally) c.args.ts) c.swapped.ensures.tables in
+    subst (λ (r : _). AfterMark (mark_of c.deliver.result.graphite) (graphite_text c.args.form.now.names.now r) (g.B.Faulty.seen c.args.backs.now.graphite) (g.B.Faulty.seen c.deliver.new.backs.graphite)) same c.deliver.ensures.graphite
 
 pub returns-clause-console : goal.returns-clause-console
 returns-clause-console g c =
-    let same = c.over-record.ensures.record ∙ ap (λ (ts : List Listing). record_of (plan_view c.args.plan.now) (map table_of ts) (tally_of c.args.tally) c.args.ts) c.swapped.ensures.tables in
+    let same = c.over-record.ensures.record ∙ ap (λ (ts : List Listing). record_of (plan_view c.args.form.now.plan.now) (map table_of ts) (tally_of c.args.tally) c.args.ts) c.swapped.ensures.tables in
     subst (λ (r : _). AfterMark (mark_of c.deliver.result.console) (console_text r) (g.B.Faulty.seen c.args.backs.now.console) (g.B.Faulty.seen c.deliver.new.backs.console)) same c.deliver.ensures.console

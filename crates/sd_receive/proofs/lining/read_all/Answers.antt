@@ -12,12 +12,12 @@ use Rattle.sd_receive.proofs.lining.read_all.Goals as goal
 pub returns-clause-works : goal.returns-clause-works
 returns-clause-works g c =
     let k = c.keep_door-kept.ensures.kept in
-    (read_by g.C.Clock.may_say k.visits c.args.visitor.now c.keep_door-kept.new.visitor k.amounts k.calls c.requires.new k.visited).works
+    (read_by (g.C.Clock.may_say c.args.shared.now.clock.now) c.args.shared.now.pool.now k.visits c.args.visitor.now c.keep_door-kept.new.visitor k.amounts k.calls c.requires.new k.visited).works
 
 pub returns-clause-keeps : goal.returns-clause-keeps
 returns-clause-keeps g c =
     let k = c.keep_door-kept.ensures.kept in
-    let all = read_by g.C.Clock.may_say k.visits c.args.visitor.now c.keep_door-kept.new.visitor k.amounts k.calls c.requires.new k.visited in
+    let all = read_by (g.C.Clock.may_say c.args.shared.now.clock.now) c.args.shared.now.pool.now k.visits c.args.visitor.now c.keep_door-kept.new.visitor k.amounts k.calls c.requires.new k.visited in
     let worn : c.keep_door-kept.new.visitor.is_worn ≡ any_worn all.streams = all.worn_is ∙ ap (λ (b : Bool). b || any_worn all.streams) c.requires.new.whole in
     record {
       streams = all.streams;
@@ -33,5 +33,5 @@ returns-clause-keeps g c =
       turned = c.keep_door-kept.ensures.ends.turns;
       turns = c.keep_door-kept.ensures.ends.turned;
       worn = λ is. c.ended_by.ensures.worn (worn ∙ is);
-      ends = λ is. subst (λ (ended : DoorEnd). EndsAfter c.args.run_flushes ended (g.E.Faulty.seen c.keep_door-kept.new.door) (part_of c.keep_door-kept.new.own) c.keep_door-kept.ensures.ends.turns) (sym (c.ended_by.ensures.kept (worn ∙ is))) c.keep_door-kept.ensures.ends.ends;
+      ends = λ is. subst (λ (ended : DoorEnd). EndsAfter c.args.shared.now.run_flushes ended (g.E.Faulty.seen c.keep_door-kept.new.door) (part_of c.keep_door-kept.new.own) c.keep_door-kept.ensures.ends.turns) (sym (c.ended_by.ensures.kept (worn ∙ is))) c.keep_door-kept.ensures.ends.ends;
     }

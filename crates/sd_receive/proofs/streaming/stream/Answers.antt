@@ -15,7 +15,7 @@ loop-read-init g c = record {
   none_ready = ap (λ (s : Cutting). s.is_ready) c.reset.ensures;
   room = refl;
   batch = refl;
-  so_far = rw (c.reset.ensures, c.none-account.ensures.tally, c.none-account.ensures.taken) (SoFar-none _ (shards_of c.args.pool.now) _ _ _);
+  so_far = rw (c.reset.ensures, c.none-account.ensures.tally, c.none-account.ensures.taken) (SoFar-none _ (shards_of c.args.shared.now.pool.now) _ _ _);
 }
 
 pub loop-read-preserved : goal.loop-read-preserved
@@ -30,7 +30,7 @@ loop-read-preserved g c =
       none_ready = read.none_ready;
       room = read.room ∙ inv.room;
       batch = read.batch ∙ inv.batch;
-      so_far = rw (c.and-account.ensures.tally, c.and-account.ensures.taken) (SoFar-next _ (shards_of c.args.pool.now) _ _ _ _ _ _ _ _ _ _ _ _ _ _ _ _ read.none_ready inv.so_far c.in-Ok.ensures.takes);
+      so_far = rw (c.and-account.ensures.tally, c.and-account.ensures.taken) (SoFar-next _ (shards_of c.args.shared.now.pool.now) _ _ _ _ _ _ _ _ _ _ _ _ _ _ _ _ read.none_ready inv.so_far c.in-Ok.ensures.takes);
     }
 
 pub returns-in-Err-clause-streams : goal.returns-in-Err-clause-streams
@@ -40,7 +40,7 @@ returns-in-Err-clause-streams g c =
     rw (c.of.ensures, unchanged.0, unchanged.1) (record {
       stream = record { reads = so_far.reads; ended = end_of c.in-Err.ended };
       ended = refl;
-      went = SoFar-ended _ (shards_of c.args.pool.now) _ _ _ _ _ _ _ _ _ _ _ _ (search rules) c.in-Err.ensures.ends so_far;
+      went = SoFar-ended _ (shards_of c.args.shared.now.pool.now) _ _ _ _ _ _ _ _ _ _ _ _ (search rules) c.in-Err.ensures.ends so_far;
     })
 
 pub returns-clause-streams : goal.returns-clause-streams
@@ -49,5 +49,5 @@ returns-clause-streams g c =
     rw c.of-2.ensures (record {
       stream = record { reads = so_far.reads; ended = WornOut most_turns };
       ended = refl;
-      went = SoFar-worn _ (shards_of c.args.pool.now) _ _ _ _ _ _ _ _ _ _ (search rules) so_far;
+      went = SoFar-worn _ (shards_of c.args.shared.now.pool.now) _ _ _ _ _ _ _ _ _ _ (search rules) so_far;
     })

@@ -10,12 +10,12 @@ abbrev pub invariant-loop-read : goal.invariant-loop-read
 invariant-loop-read g l =
     let source = g.A.Faulty.seen in
     record {
-      own : IsDeskSeatOf l.desk l.own;
+      own : IsDeskSeatOf l.shared.desk.now l.own;
       number : number_of_seat l.own ≡ number_of_seat l.initial.own;
-      seat : IsSeatOf l.pool l.seat;
+      seat : IsSeatOf l.shared.pool.now l.seat;
       who : who_is l.seat ≡ who_is l.initial.seat;
       none_ready : l.cutter.is_ready ≡ false;
       room : length l.buf ≡ length l.initial.buf;
       batch : l.batch ≡ l.initial.batch;
-      so_far : SoFar (g.C.Clock.may_say l.clock) (shards_of l.pool) l._read (source l.initial.source) (source l.source) l.cutter (own_at l.initial.seat) (own_at l.seat) (part_of l.initial.own) (part_of l.own) (tally_of l.account.tally) l.account.taken;
+      so_far : SoFar (g.C.Clock.may_say l.shared.clock.now) (shards_of l.shared.pool.now) l._read (source l.initial.source) (source l.source) l.cutter (own_at l.initial.seat) (own_at l.seat) (part_of l.initial.own) (part_of l.own) (tally_of l.account.tally) l.account.taken;
     }

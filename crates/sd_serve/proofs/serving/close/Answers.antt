@@ -16,27 +16,27 @@ use Rattle.sd_serve.proofs.serving.close.Goals as goal
 
 pub close-requires-clause-seats : goal.close-requires-clause-seats
 close-requires-clause-seats g c =
-    let receivers = put_back c.give_back.new.seats.items (map seat_in c.args.posts.items) (line_seats c.args.line_post) c.put_line_post.new.seats.items [] c.args.seats.receivers.items c.give_back.ensures.seats c.put_line_post.ensures.seats c.requires.none.0 in
+    let receivers = put_back c.give_back.new.seats.items (map seat_in c.args.posts.items) (line_seats c.args.services.lines) c.put_line_post.new.seats.items [] c.args.lists.seats.items c.give_back.ensures.seats c.put_line_post.ensures.seats c.requires.none.0 in
     let Is = IsPoolSeatOf c.args.pool in
-    subst (λ (l : List Seat). AllByRecursion Is (l ++ c.args.seats.flusher ∷ c.args.seats.admin ∷ [])) (sym (receivers ∙ append-nil (map seat_in c.args.posts.items ++ line_seats c.args.line_post)))
-    (AllByRecursion-append Is (map seat_in c.args.posts.items ++ line_seats c.args.line_post) (c.args.seats.flusher ∷ c.args.seats.admin ∷ []) c.requires.receivers (c.requires.flusher, (c.requires.admin, tt)))
+    subst (λ (l : List Seat). AllByRecursion Is (l ++ c.args.services.flusher.seat ∷ c.args.services.admin.seat ∷ [])) (sym (receivers ∙ append-nil (map seat_in c.args.posts.items ++ line_seats c.args.services.lines)))
+    (AllByRecursion-append Is (map seat_in c.args.posts.items ++ line_seats c.args.services.lines) (c.args.services.flusher.seat ∷ c.args.services.admin.seat ∷ []) c.requires.receivers (c.requires.flusher, (c.requires.admin, tt)))
 
 pub close-requires-2-clause-seats : goal.close-requires-2-clause-seats
 close-requires-2-clause-seats g c =
-    let all = put_back c.give_back.new.owns.items (map own_in c.args.posts.items) (line_owns c.args.line_post) c.put_line_post.new.owns.items (c.args.own ∷ c.args.admin_own ∷ []) c.put_first-2.new.items.items c.give_back.ensures.owns c.put_line_post.ensures.owns
-    (c.put_first-2.ensures.items ∙ ap (λ (l : List OwnSeat). c.args.own ∷ l) (c.put_first.ensures.items ∙ ap (λ (l : List OwnSeat). c.args.admin_own ∷ l) c.requires.none.1)) in
+    let all = put_back c.give_back.new.owns.items (map own_in c.args.posts.items) (line_owns c.args.services.lines) c.put_line_post.new.owns.items (c.args.services.flusher.own ∷ c.args.services.admin.own ∷ []) c.put_first-2.new.items.items c.give_back.ensures.owns c.put_line_post.ensures.owns
+    (c.put_first-2.ensures.items ∙ ap (λ (l : List OwnSeat). c.args.services.flusher.own ∷ l) (c.put_first.ensures.items ∙ ap (λ (l : List OwnSeat). c.args.services.admin.own ∷ l) c.requires.none.1)) in
     let Is = IsSeatOf c.args.desk in
     subst (λ (l : List OwnSeat). All Is l) (sym all)
-    (All-append Is (map own_in c.args.posts.items ++ line_owns c.args.line_post) (c.args.own ∷ c.args.admin_own ∷ []) c.requires.owns
-    (All-cons Is c.args.own (c.args.admin_own ∷ []) c.requires.own (All-cons Is c.args.admin_own [] c.requires.admin_own (All-nil Is))))
+    (All-append Is (map own_in c.args.posts.items ++ line_owns c.args.services.lines) (c.args.services.flusher.own ∷ c.args.services.admin.own ∷ []) c.requires.owns
+    (All-cons Is c.args.services.flusher.own (c.args.services.admin.own ∷ []) c.requires.own (All-cons Is c.args.services.admin.own [] c.requires.admin_own (All-nil Is))))
 
 pub returns-clause-closed : goal.returns-clause-closed
 returns-clause-closed g c =
-    let owns = put_back c.give_back.new.owns.items (map own_in c.args.posts.items) (line_owns c.args.line_post) c.put_line_post.new.owns.items (c.args.own ∷ c.args.admin_own ∷ []) c.put_first-2.new.items.items c.give_back.ensures.owns c.put_line_post.ensures.owns
-    (c.put_first-2.ensures.items ∙ ap (λ (l : List OwnSeat). c.args.own ∷ l) (c.put_first.ensures.items ∙ ap (λ (l : List OwnSeat). c.args.admin_own ∷ l) c.requires.none.1)) in
-    let receivers = put_back c.give_back.new.seats.items (map seat_in c.args.posts.items) (line_seats c.args.line_post) c.put_line_post.new.seats.items [] c.args.seats.receivers.items c.give_back.ensures.seats c.put_line_post.ensures.seats c.requires.none.0
-    ∙ append-nil (map seat_in c.args.posts.items ++ line_seats c.args.line_post) in
-    let seats = ap (λ (l : List Seat). l ++ c.args.seats.flusher ∷ c.args.seats.admin ∷ []) receivers in
+    let owns = put_back c.give_back.new.owns.items (map own_in c.args.posts.items) (line_owns c.args.services.lines) c.put_line_post.new.owns.items (c.args.services.flusher.own ∷ c.args.services.admin.own ∷ []) c.put_first-2.new.items.items c.give_back.ensures.owns c.put_line_post.ensures.owns
+    (c.put_first-2.ensures.items ∙ ap (λ (l : List OwnSeat). c.args.services.flusher.own ∷ l) (c.put_first.ensures.items ∙ ap (λ (l : List OwnSeat). c.args.services.admin.own ∷ l) c.requires.none.1)) in
+    let receivers = put_back c.give_back.new.seats.items (map seat_in c.args.posts.items) (line_seats c.args.services.lines) c.put_line_post.new.seats.items [] c.args.lists.seats.items c.give_back.ensures.seats c.put_line_post.ensures.seats c.requires.none.0
+    ∙ append-nil (map seat_in c.args.posts.items ++ line_seats c.args.services.lines) in
+    let seats = ap (λ (l : List Seat). l ++ c.args.services.flusher.seat ∷ c.args.services.admin.seat ∷ []) receivers in
     record {
       shards = c.close.ensures.len;
       histories = λ i below. subst (λ l. ShardHistory c.args.pool l i (get_or c.close.result.items i no_book)) seats (c.close.ensures.histories i below);

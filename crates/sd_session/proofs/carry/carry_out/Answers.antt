@@ -22,12 +22,12 @@ returns-in-Err-clause-carried g c =
 pub returns-in-Stats-clause-carried : goal.returns-in-Stats-clause-carried
 returns-in-Stats-clause-carried g c =
     carries _ _ _ _ _ _ _ _ _ _ (Ok model.Stats) [] (sym c.read.ensures ∙ ap answer_view (c.in-Ok.is ∙ ap Ok c.in-Stats.is)) (Broadcasts-none (shards_of c.args.pool.now) (own_at c.args.seat.now))
-    (one_reply (replies.Stats (facts_view c.args.facts.now) c.args.now) [] c.write_reply-in-Stats.result _ _ (omega arith) c.write_reply-in-Stats.ensures.ok c.write_reply-in-Stats.ensures.failed (g.met.O.Sink.number_fits c.args.output.now))
+    (one_reply (replies.Stats (facts_view c.args.basis.now.facts.now) c.args.basis.now.moment) [] c.write_reply-in-Stats.result _ _ (omega arith) c.write_reply-in-Stats.ensures.ok c.write_reply-in-Stats.ensures.failed (g.met.O.Sink.number_fits c.args.output.now))
 
 pub returns-in-Config-clause-carried : goal.returns-in-Config-clause-carried
 returns-in-Config-clause-carried g c =
     carries _ _ _ _ _ _ _ _ _ _ (Ok model.Config) [] (sym c.read.ensures ∙ ap answer_view (c.in-Ok.is ∙ ap Ok c.in-Config.is)) (Broadcasts-none (shards_of c.args.pool.now) (own_at c.args.seat.now))
-    (one_reply (replies.Config c.args.settings.now) [] c.write_reply-in-Config.result _ _ (omega arith) c.write_reply-in-Config.ensures.ok c.write_reply-in-Config.ensures.failed (g.met.O.Sink.number_fits c.args.output.now))
+    (one_reply (replies.Config c.args.basis.now.settings.now) [] c.write_reply-in-Config.result _ _ (omega arith) c.write_reply-in-Config.ensures.ok c.write_reply-in-Config.ensures.failed (g.met.O.Sink.number_fits c.args.output.now))
 
 pub returns-in-Quit-clause-carried : goal.returns-in-Quit-clause-carried
 returns-in-Quit-clause-carried g c =

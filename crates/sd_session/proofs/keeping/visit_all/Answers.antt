@@ -9,12 +9,12 @@ use Rattle.sd_session.proofs.keeping.visit_all.Goals as goal
 pub returns-clause-works : goal.returns-clause-works
 returns-clause-works g c =
     let k = c.keep_door.ensures.kept in
-    (visited_all g.C.Clock.may_say k.visits c.args.visitor.now c.keep_door.new.visitor k.amounts k.calls k.visited).works
+    (visited_all (g.C.Clock.may_say c.args.shared.now.clock.now) c.args.shared.now.pool.now k.visits c.args.visitor.now c.keep_door.new.visitor k.amounts k.calls k.visited).works
 
 pub returns-clause-serves : goal.returns-clause-serves
 returns-clause-serves g c =
     let k = c.keep_door.ensures.kept in
-    let all = visited_all g.C.Clock.may_say k.visits c.args.visitor.now c.keep_door.new.visitor k.amounts k.calls k.visited in
+    let all = visited_all (g.C.Clock.may_say c.args.shared.now.clock.now) c.args.shared.now.pool.now k.visits c.args.visitor.now c.keep_door.new.visitor k.amounts k.calls k.visited in
     record {
       visits = k.visits;
       failures = k.failures;

@@ -11,10 +11,10 @@ use Rattle.sd_session.proofs.sessions.session.Given as goal
 
 abbrev pub invariant-loop : goal.invariant-loop
 invariant-loop g l = record {
-  seat : IsSeatOf l.pool l.seat × (who_is l.seat ≡ administrator);
-  own : desk.IsSeatOf l.desk l.own × (number_of_seat l.own ≡ number_of_seat l.initial.own);
-  space : IsSpaceFor (limits_of l.pool) (shards_of l.pool) l.space;
-  within : l.len ≤ too_many;
+  seat : IsSeatOf l.shared.pool.now l.seat × (who_is l.seat ≡ administrator);
+  own : desk.IsSeatOf l.shared.desk.now l.own × (number_of_seat l.own ≡ number_of_seat l.initial.own);
+  space : IsSpaceFor (limits_of l.shared.pool.now) (shards_of l.shared.pool.now) l.space;
+  within : l.space.line.len ≤ too_many;
   counted : HasCounted nothing (part_of l.initial.own) (part_of l.own);
-  listens : Listens (shards_of l.pool) l.settings (g.C.Clock.may_say l.clock) (own_at l.initial.seat) (own_at l.seat) (part_of l.initial.own) (part_of l.own) [] (take l.len l.space.line.items) (g.A.Faulty.seen l.initial.source) (g.A.Faulty.seen l.source) (g.O.Faulty.seen l.initial.sink) (g.O.Faulty.seen l.sink);
+  listens : Listens (shards_of l.shared.pool.now) l.settings (g.C.Clock.may_say l.shared.clock.now) (own_at l.initial.seat) (own_at l.seat) (part_of l.initial.own) (part_of l.own) [] (take l.space.line.len l.space.line.bytes.items) (g.A.Faulty.seen l.initial.source) (g.A.Faulty.seen l.source) (g.O.Faulty.seen l.initial.sink) (g.O.Faulty.seen l.sink);
 }

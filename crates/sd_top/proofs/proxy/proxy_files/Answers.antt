@@ -1,7 +1,7 @@
-use Rattle.std.proofs.Common.{◌≡◌, None, inl, refl, ap, subst, rules}
+use Rattle.std.proofs.Common.{◌≡◌, None, [], inl, refl, ap, subst, rules}
 use Rattle.sd_model_call.specs.Opening.{World, flags_of, settled}
 use Rattle.sd_model_call.specs.Proxy.{proxy_flaw, proxy_openings}
-use Rattle.sd_model_call.specs.Call.{StopsAmong, WritesTotals}
+use Rattle.sd_model_call.specs.Call.{NoMemory, StopsAmong, WritesTotals}
 use Rattle.sd_top.specs.Answers.{answer_of}
 use Rattle.sd_top.specs.Relaying.{HasRelayed, relay_answer, relay_lines}
 use Rattle.sd_top.specs.World.{world_of}
@@ -10,6 +10,18 @@ use Rattle.sd_top.proofs.proxy.proxy_files.Goals as goal
 
 pub returns-in-Err : goal.returns-in-Err
 returns-in-Err g c = inl (record { why = c.in-Err.ensures.refused; only = refl })
+
+pub returns-then-not-has_threads : goal.returns-then-not-has_threads
+returns-then-not-has_threads g c =
+    let values = c.in-Ok.settings in
+    let fit : proxy_flaw values ≡ None = search rules in
+    let old = world_of g.K.R.Faulty.seen g.K.O.Faulty.seen g.K.B.Faulty.seen g.K.D.Faulty.seen g.K.L.Faulty.seen g.K.E.Faulty.seen g.K.P.Faulty.seen g.K.Q.Faulty.seen g.K.S.Faulty.seen c.args.world.now in
+    let settings = g.K.R.Faulty.seen c.read_settings.new.source in
+    let begun : World = record old { settings = settings; flags = record { graphite = c.names_backend-world.result; console = c.names_backend-world-2.result } } in
+    let flags : begun.flags ≡ flags_of values = λ i. record { graphite = c.names_backend-world.ensures i; console = c.names_backend-world-2.ensures i } in
+    let is : begun ≡ settled values settings old = λ i. record old { settings = settings; flags = flags i } in
+    proxy_stopped c.args.settings.items values settings old begun c.in-Ok.ensures.accepted fit NoMemory
+    (subst (λ (w : World). StopsAmong (proxy_openings values) NoMemory w begun) is (inl (refl, record { before = []; behind = proxy_openings values; order = refl; opened = refl })))
 
 pub returns-in-Ok-run_proxy : goal.returns-in-Ok-run_proxy
 returns-in-Ok-run_proxy g c =

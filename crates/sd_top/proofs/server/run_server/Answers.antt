@@ -101,15 +101,15 @@ returns-clause-served g c =
       door = g.K.E.Faulty.seen mid.door;
       streams = g.K.S.Faulty.seen mid.streams;
     }) in
-    let new = world_of g.K.R.Faulty.seen g.K.O.Faulty.seen g.K.B.Faulty.seen g.K.D.Faulty.seen g.K.L.Faulty.seen g.K.E.Faulty.seen g.K.P.Faulty.seen g.K.Q.Faulty.seen g.K.S.Faulty.seen (record mid { backs = c.serve.new.backs; packets = c.serve.new.packets; wires = c.serve.new.wires; door = c.serve.new.door; streams = c.serve.new.streams; beat = c.serve.new.beat }) in
-    let after : objects_of g.K.D.Faulty.seen g.K.L.Faulty.seen g.K.P.Faulty.seen g.K.B.Faulty.seen g.K.E.Faulty.seen g.K.S.Faulty.seen c.serve.new.packets.items c.serve.new.wires.items c.serve.new.beat c.serve.new.backs c.serve.new.door c.serve.new.streams ≡ objects_in new =
+    let new = world_of g.K.R.Faulty.seen g.K.O.Faulty.seen g.K.B.Faulty.seen g.K.D.Faulty.seen g.K.L.Faulty.seen g.K.E.Faulty.seen g.K.P.Faulty.seen g.K.Q.Faulty.seen g.K.S.Faulty.seen (record mid { backs = c.serve.new.objects.backs.now; packets = c.serve.new.packets; wires = c.serve.new.wires; door = c.serve.new.objects.door.now; streams = c.serve.new.objects.streams.now; beat = c.serve.new.objects.beat.now }) in
+    let after : objects_of g.K.D.Faulty.seen g.K.L.Faulty.seen g.K.P.Faulty.seen g.K.B.Faulty.seen g.K.E.Faulty.seen g.K.S.Faulty.seen c.serve.new.packets.items c.serve.new.wires.items c.serve.new.objects.beat.now c.serve.new.objects.backs.now c.serve.new.objects.door.now c.serve.new.objects.streams.now ≡ objects_in new =
     (λ i. record {
       sources = map g.K.D.Faulty.seen c.serve.new.packets.items;
       wires = map g.K.L.Faulty.seen c.serve.new.wires.items;
-      beat = g.K.P.Faulty.seen c.serve.new.beat;
-      backs = λ b. seen_as g.K.B.Faulty.seen c.serve.new.backs new refl refl b i;
-      door = g.K.E.Faulty.seen c.serve.new.door;
-      streams = g.K.S.Faulty.seen c.serve.new.streams;
+      beat = g.K.P.Faulty.seen c.serve.new.objects.beat.now;
+      backs = λ b. seen_as g.K.B.Faulty.seen c.serve.new.objects.backs.now new refl refl b i;
+      door = g.K.E.Faulty.seen c.serve.new.objects.door.now;
+      streams = g.K.S.Faulty.seen c.serve.new.objects.streams.now;
     }) in
     subst (λ (t : Terms). HasServed t (g.K.T.Clock.may_say c.args.world.now.clock) (objects_in (begun s old)) (objects_in new) c.serve.result) terms
     (subst (λ k. HasServed (terms_of (sizing_in c.in-Ok.room) c.plan.result.now c.of-names.result s mid.backs c.from.result) (g.K.T.Clock.may_say k) (objects_in (begun s old)) (objects_in new) c.serve.result) c.open_server.ensures.rest.clock

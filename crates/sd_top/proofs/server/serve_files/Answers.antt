@@ -1,6 +1,7 @@
-use Rattle.std.proofs.Common.{◌≡◌, inl, inr, refl, ap, subst, ◌∙◌}
+use Rattle.std.proofs.Common.{◌≡◌, [], inl, inr, refl, ap, subst, ◌∙◌}
 use Rattle.sd_model_call.specs.Opening.{World, flags_of}
 use Rattle.sd_model_call.specs.Call.{WritesTotals}
+use Rattle.sd_model_call.specs.Server.{server_openings}
 use Rattle.sd_top.specs.Answers.{answer_of}
 use Rattle.sd_top.specs.Serving.{ends_of, lines_in}
 use Rattle.sd_top.specs.World.{world_of}
@@ -9,6 +10,14 @@ use Rattle.sd_top.proofs.server.serve_files.Goals as goal
 
 pub returns-in-Err : goal.returns-in-Err
 returns-in-Err g c = inl (record { why = c.in-Err.ensures.refused; only = refl })
+
+pub returns-then-not-has_threads : goal.returns-then-not-has_threads
+returns-then-not-has_threads g c =
+    let values = c.in-Ok.settings in
+    let old = world_of g.K.R.Faulty.seen g.K.O.Faulty.seen g.K.B.Faulty.seen g.K.D.Faulty.seen g.K.L.Faulty.seen g.K.E.Faulty.seen g.K.P.Faulty.seen g.K.Q.Faulty.seen g.K.S.Faulty.seen c.args.world.now in
+    let settings = g.K.R.Faulty.seen c.read_settings.new.source in
+    let flags : record { graphite = c.names_backend-world.result; console = c.names_backend-world-2.result } ≡ flags_of values = λ i. record { graphite = c.names_backend-world.ensures i; console = c.names_backend-world-2.ensures i } in
+    inr (inl (record { values = values; settings = settings; taken = c.in-Ok.ensures.accepted; stops = inl (refl, record { before = []; behind = server_openings values; order = refl; opened = λ i. record old { settings = settings; flags = flags i } }) }))
 
 pub finish-status-requires : goal.finish-status-requires
 finish-status-requires g c = c.in-Ok-run_server.ensures.few

@@ -1,6 +1,6 @@
 -- Where there were no outlets, nothing is added.
 use Rattle.std.proofs.Common.{◌≡◌, ◌∙◌, ℕ, ◌+◌, ap, sym, arith}
-use Rattle.sd_replay.specs.Totals.{totals_by}
+use Rattle.sd_run.specs.Totals.{totals_by}
 use Rattle.sd_top.specs.Serving.{totals_in}
 use Rattle.sd_top.proofs.server_end.totals_of.Goals as goal
 

@@ -1,5 +1,5 @@
-use Rattle.sd_outside.specs.MemBeat as beat
-use Rattle.sd_outside.specs.MemDoor as door
+use Rattle.sd_memory.specs.MemBeat as beat
+use Rattle.sd_memory.specs.MemDoor as door
 use Rattle.sd_cases_runs.specs.Ready.{IsReady}
 use Rattle.sd_cases_runs.proofs.case.Case.fail_all.Given as goal
 

@@ -1,0 +1,3 @@
+pub mod DoorLemmas
+pub mod LineLemmas
+pub mod RoundLemmas

@@ -1,0 +1,12 @@
+pub mod ByteStore
+pub mod MemBackend
+pub mod MemBeat
+pub mod MemDatagrams
+pub mod MemDoor
+pub mod MemObject
+pub mod MemProbe
+pub mod MemSessions
+pub mod MemSink
+pub mod MemSource
+pub mod MemWire
+pub mod RoundStore

@@ -1,0 +1,10 @@
+use sd_outside::Backs;
+
+/// The objects of a server beside its receivers' own, lent to its run: the beat, the backends, the admin door, and the door of streams.
+#[derive(Drop)]
+pub struct ServerObjects<'p, 'b, 'e, 's, P, B, E, S> {
+    pub beat: &'p mut P,
+    pub backs: &'b mut Backs<B>,
+    pub door: &'e mut E,
+    pub streams: &'s mut S,
+}

@@ -1,0 +1,32 @@
+//! What the workers beside the receivers hold while they run.
+
+use crate::line_post::LinePost;
+use sd_flush::Tables;
+use sd_pool::Seat;
+use sd_session::AdminSpace;
+use sd_shared_desk::DeskSeat;
+
+/// The flusher's seats at the shards and at the desk, and its tables.
+#[derive(Drop)]
+pub(crate) struct FlusherPost {
+    pub seat: Seat,
+    pub own: DeskSeat,
+    pub tables: Tables,
+}
+
+/// The seats of the keeper of the admin door at the shards and at the desk, and its room for replies.
+#[derive(Drop)]
+pub(crate) struct AdminPost {
+    pub seat: Seat,
+    pub own: DeskSeat,
+    pub space: AdminSpace,
+}
+
+/// The posts of all workers but the receivers: of the flusher, of the keeper of the admin door, and of the keeper of lines, if there
+/// is one.
+#[derive(Drop)]
+pub(crate) struct ServicePosts {
+    pub flusher: FlusherPost,
+    pub admin: AdminPost,
+    pub lines: Option<LinePost>,
+}
