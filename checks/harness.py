@@ -116,6 +116,16 @@ def read(name):
         return ""
 
 
+def read_end(name, size=4096):
+    """So many bytes of a file's end, which may be long."""
+    try:
+        with open(name, "rb") as file:
+            file.seek(max(0, os.path.getsize(name) - size))
+            return file.read().decode(errors="replace")
+    except FileNotFoundError:
+        return ""
+
+
 def write(name, text=""):
     with open(name, "w", encoding="utf-8") as file:
         file.write(text)
@@ -288,7 +298,7 @@ class Program:
 
     def numbers(self):
         """The numbers of its last lines, by their names."""
-        lines = [it.split() for it in self.out().splitlines()[-TOTALS - 2:]]
+        lines = [it.split() for it in read_end(f"{self.name}.out").splitlines()[-TOTALS - 2:]]
         return {it[0]: int(it[1]) for it in lines if len(it) == 2 and it[1].isdigit()}
 
     def total(self, what):
@@ -333,6 +343,21 @@ def relay(name, nodes, command=None, environment=None, receivers=2, **settings):
         if not proxy.has_ended() or "open fault packets 0" not in proxy.err():
             break
     return proxy
+
+
+def named(names, server=""):
+    """The words that run a program with a table of names of its own, in the file `names`, and a name server; none where this
+    machine can't."""
+    write(names)
+    write(f"{names}.resolv", f"nameserver {server}\n" if server else "")
+    hold = f"mount --bind {names} /etc/hosts && mount --bind {names}.resolv /etc/resolv.conf"
+    command = ["unshare", "--map-root-user", "--mount", "sh", "-c", f'{hold} && exec "$@"', "sh"]
+    try:
+        if subprocess.run([*command, "true"], stderr=subprocess.DEVNULL, timeout=WAIT).returncode == 0:
+            return command
+    except OSError:
+        pass
+    return None
 
 
 # --- clients ---

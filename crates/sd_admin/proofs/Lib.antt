@@ -1,1 +1,2 @@
 pub mod WordPlaces
+pub mod TotalsLines

@@ -5,7 +5,7 @@ use Rattle.sd_key.specs.Kind.{kind_of}
 use Rattle.sd_admin.specs.declared.command.HealthWord.{HealthWord}
 use Rattle.sd_admin.specs.declared.command.HealthWord.TheVariants.{Up, Down, Ask}
 use Rattle.sd_admin.specs.declared.command.Command.{Command}
-use Rattle.sd_admin.specs.declared.command.Command.TheVariants.{Stats, Config, Quit, Show, Delete, Health}
+use Rattle.sd_admin.specs.declared.command.Command.TheVariants.{Stats, Totals, Config, Quit, Show, Delete, Health}
 use Rattle.sd_admin.specs.declared.command.AdminFault.{AdminFault}
 use Rattle.sd_admin.specs.declared.command.AdminFault.TheVariants.{UnknownWord, MissingName, TooLong}
 
@@ -16,6 +16,7 @@ health_word_view Ask = model.Ask
 
 abbrev pub command_view : Command → model.Command
 command_view Stats = model.Stats
+command_view Totals = model.Totals
 command_view Config = model.Config
 command_view Quit = model.Quit
 command_view (Show kind) = model.Show (kind_of kind)

@@ -26,6 +26,8 @@ pub enum HealthWord {
 pub enum Command<'a> {
     /// What the server counts of itself.
     Stats,
+    /// The totals so far, and the numbers of each shard.
+    Totals,
     /// The settings in force.
     Config,
     /// The end of the session.
@@ -104,6 +106,8 @@ fn named<'a>(word: &[u8], rest: &'a [u8]) -> Result<Command<'a>, AdminFault>
         deletion(Kind::Gauge, rest)
     } else if word == b"health".as_slice() {
         Ok(Command::Health(health_word(rest)))
+    } else if word == b"totals".as_slice() {
+        Ok(Command::Totals)
     } else if word == b"config".as_slice() {
         Ok(Command::Config)
     } else if word == b"quit".as_slice() {

@@ -5,14 +5,15 @@ ghost use Rattle.sd_admin.specs.Reply.{reply_view};
 
 use crate::command::AdminFault;
 use crate::reply_lines::{
-    config_line, end_line, fault_line, gone_line, health_line, rows_line, stats_line,
+    config_line, end_line, fault_line, gone_line, health_line, rows_line, stats_line, totals_line,
 };
 use sd_config::Settings;
 use sd_config_text::{LineText, ReplyLine, config_line_count, write_lines};
 use sd_desk::DeskFacts;
 use sd_key::{Kind, Pattern};
 use sd_outside::{Failed, Sink, WriteFault};
-use sd_shard::{Dump, Keys};
+use sd_shard::{Books, Dump, Keys};
+use sd_totals::TOTALS;
 
 /// What a reply tells. The reply to a deletion is `Gone` for each of its names, and `Finish`. Each other form is a whole reply.
 #[derive(Clone, Copy, Debug)]
@@ -21,6 +22,11 @@ pub enum Reply<'a> {
     Stats {
         facts: &'a DeskFacts,
         now: u64,
+    },
+    /// To `totals`: what the desk tells of itself, and the numbers of all shards, in order.
+    Totals {
+        facts: &'a DeskFacts,
+        books: &'a Books,
     },
     /// To `counters`, `timers` or `gauges`: the rows of all shards, in the order of the bytes of their keys.
     Rows {
@@ -54,6 +60,7 @@ impl LineText for Reply<'_> {
     fn line_count(&self) -> usize {
         match self {
             Reply::Stats { facts: _, now: _ } => 5,
+            Reply::Totals { facts: _, books } => TOTALS + books.len() + 2,
             Reply::Rows { kind: _, dump } => dump.len() + 2,
             Reply::Gone { pattern: _, keys } => keys.len().max(1),
             Reply::Finish => 2,
@@ -65,6 +72,7 @@ impl LineText for Reply<'_> {
     fn line(&self, place: usize) -> Option<ReplyLine> {
         match self {
             Reply::Stats { facts, now } => stats_line(facts, *now, place),
+            Reply::Totals { facts, books } => totals_line(facts, books, place),
             Reply::Rows { kind, dump } => rows_line(*kind, dump, place),
             Reply::Gone { pattern, keys } => gone_line(pattern, keys, place),
             Reply::Finish => end_line(place),

@@ -1,9 +1,12 @@
-ghost use Rattle.std.specs.Prelude.{◌≡◌, ◌≤◌, ◌∷◌, ◌++◌, [], length, map, slice_get};
+ghost use Rattle.std.specs.Prelude.{◌≡◌, ◌+◌, ◌<◌, ◌≤◌, ◌∷◌, ◌++◌, [], length, map, slice_get, decimal};
 ghost use Rattle.std.specs.Option.{option_map};
 ghost use Rattle.sd_model_settings.specs.ConfigText.{config_lines};
-ghost use Rattle.sd_model_record.specs.Replies.{end_lines, stats_lines, row_value, row_line, gone_lines, health_line, fault_line};
+ghost use Rattle.sd_model_record.specs.Replies.{end_lines, stats_lines, shard_line, totals_lines, row_value, row_line, gone_lines, health_line, fault_line};
 ghost use Rattle.sd_key.specs.Kind.{kind_of};
+ghost use Rattle.sd_model_record.specs.Totals.{total_line};
 ghost use Rattle.sd_shard.specs.Dump.{dump_row_of, rows_of};
+ghost use Rattle.sd_shard.specs.Shard.{numbers_in};
+ghost use Rattle.sd_totals.specs.Totals.{totals_view};
 ghost use Rattle.sd_desk.specs.Facts.{facts_view};
 ghost use Rattle.sd_admin.specs.Command.{fault_view};
 
@@ -13,7 +16,8 @@ use sd_config_text::{ReplyLine, config_line_count, line_of, number_line, push_te
 use sd_decimal::{Line, write, write_whole};
 use sd_desk::DeskFacts;
 use sd_key::{Kind, Pattern};
-use sd_shard::{Dump, DumpRow, Keys};
+use sd_shard::{Books, Dump, DumpRow, Keys, ShardBook};
+use sd_totals::{TOTALS, Totals, push_total};
 
 /// The line of a text, which ends with a newline.
 fn text_line(text: &[u8]) -> ReplyLine
@@ -52,6 +56,52 @@ pub(crate) fn stats_line(facts: &DeskFacts, now: u64, place: usize) -> Option<Re
         1 => Some(number_line(b"messages.last_msg_seen", now.saturating_sub(facts.last))),
         2 => Some(number_line(b"messages.bad_lines_seen", facts.totals.bad)),
         _ => end_line(place - 3),
+    }
+}
+
+/// The line of the totals at a place.
+fn total_line(totals: &Totals, place: usize) -> Option<ReplyLine>
+    ensures { option_map (λ l. l.items) result ≡ slice_get (map total_line (totals_view totals.now)) place }
+{
+    let total = totals.at(place)?;
+    let mut line = Line::new();
+    push_total(total.name, total.number, &mut line);
+    Some(text_line(line.as_slice()))
+}
+
+/// Appends a word and a number.
+fn push_number(word: &[u8], n: u128, line: &mut Line)
+    requires { length line.old.items + length word.now + 39 ≤ 1024 }
+    ensures text { line.new.items ≡ line.old.items ++ word.now ++ decimal n }
+    ensures len { length line.new.items ≤ length line.old.items + length word.now + 39 }
+{
+    line.try_extend_from_slice(word).unwrap();
+    write_whole(n, line);
+}
+
+/// The line of a shard by its number.
+fn shard_line(i: usize, book: &ShardBook) -> ReplyLine
+    ensures { result.items ≡ shard_line i (numbers_in book.now) }
+{
+    let mut line = Line::new();
+    push_number(b"shard ", i as u128, &mut line);
+    push_number(b" rows ", u128::from(book.rows), &mut line);
+    push_number(b" held ", u128::from(book.held), &mut line);
+    line.push(b'\n');
+    text_line(line.as_slice())
+}
+
+/// The line of the reply to `totals` at a place.
+pub(crate) fn totals_line(facts: &DeskFacts, books: &Books, place: usize) -> Option<ReplyLine>
+    ensures { option_map (λ l. l.items) result ≡ slice_get (totals_lines (facts_view facts.now) (map numbers_in books.now.items) ++ end_lines) place }
+{
+    if place < TOTALS {
+        return total_line(&Totals::new(books, facts), place);
+    }
+    let i = place - TOTALS;
+    match books.get(i) {
+        Some(book) => Some(shard_line(i, book)),
+        None => end_line(i - books.len()),
     }
 }
 

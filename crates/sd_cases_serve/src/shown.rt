@@ -74,6 +74,7 @@ pub fn show_desk(facts: &DeskFacts, out: &mut Answer) {
 /// The sums of books.
 pub fn sums_of(books: &[ShardBook]) -> ShardBook {
     let mut sums = ShardBook {
+        rows: 0,
         taken: 0,
         flushed: 0,
         deleted: 0,
@@ -82,6 +83,7 @@ pub fn sums_of(books: &[ShardBook]) -> ShardBook {
     };
     for book in books {
         sums = ShardBook {
+            rows: sums.rows.saturating_add(book.rows),
             taken: sums.taken.saturating_add(book.taken),
             flushed: sums.flushed.saturating_add(book.flushed),
             deleted: sums.deleted.saturating_add(book.deleted),

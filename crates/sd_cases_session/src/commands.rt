@@ -8,6 +8,7 @@ pub(crate) fn show_command(alloc: Global, line: &str, out: &mut Answer) -> Resul
     let line = bytes_of(alloc, line)?;
     match Command::read(&line) {
         Ok(Command::Stats) => out.text(" = stats"),
+        Ok(Command::Totals) => out.text(" = totals"),
         Ok(Command::Config) => out.text(" = config"),
         Ok(Command::Quit) => out.text(" = quit"),
         Ok(Command::Show(kind)) => show_kind(" = show ", kind, out),

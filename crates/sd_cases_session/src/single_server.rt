@@ -8,7 +8,7 @@ use sd_desk::{Desk, Tally};
 use sd_key::{Kind, Pattern};
 use sd_memory::MemSink;
 use sd_outside::WriteFault;
-use sd_shard::{Dump, Keys, Shard};
+use sd_shard::{Books, Dump, Keys, Shard};
 use std::alloc::Global;
 
 // the room of the output where a case says nothing
@@ -123,6 +123,7 @@ impl Server {
     fn answer(&mut self, alloc: Global, line: &[u8]) -> Result<Result<(), WriteFault>, Refusal> {
         match Command::read(line) {
             Ok(Command::Stats) => Ok(self.stats()),
+            Ok(Command::Totals) => Ok(self.totals()),
             Ok(Command::Config) => Ok(self.config()),
             Ok(Command::Quit) => Ok(Ok(())),
             Ok(Command::Show(kind)) => self.show(alloc, kind),
@@ -139,6 +140,18 @@ impl Server {
         let facts = self.desk.facts();
         let now = self.now;
         write_reply(&Reply::Stats { facts: &facts, now }, &mut self.output)
+    }
+
+    /// Shows the totals, and the numbers of the one shard.
+    fn totals(&mut self) -> Result<(), WriteFault> {
+        let facts = self.desk.facts();
+        let mut books = Books::new();
+        books.push(self.shard.book());
+        let totals = Reply::Totals {
+            facts: &facts,
+            books: &books,
+        };
+        write_reply(&totals, &mut self.output)
     }
 
     /// Shows the settings.

@@ -200,6 +200,7 @@ fn show_book(book: &ShardBook, out: &mut Answer) {
     out.count(", deleted ", book.deleted);
     out.count(", dropped ", book.dropped);
     out.count(", held ", book.held);
+    out.count(", rows ", u64::from(book.rows));
 }
 
 /// Appends what became of a sample.

@@ -5,6 +5,7 @@ use Rattle.std.specs.FinMap.{empty, get, get-empty, same_map}
 use Rattle.std.proofs.lemmas.List.{get_or_past}
 use Rattle.std.specs.List.{range_with_len, onto_first, slice_split}
 use Rattle.std.proofs.Math.Seq.{take-nil}
+use Rattle.std.proofs.lemmas.List.Folds.{flat_map-map}
 use Rattle.std.proofs.lemmas.List.Sums.{fold_push}
 use Rattle.std.proofs.lemmas.Grind.{flat_map-append, common_steps}
 use Rattle.std.proofs.lemmas.Bool.Decides.{nat_tests}
@@ -14,7 +15,7 @@ use Rattle.sd_model_text.specs.Lines.{is_empty}
 use Rattle.sd_model_outside.specs.Outside.{Object, HasFailedBehind, given}
 use Rattle.sd_model_outside.proofs.WriteLemmas.{given-given, behind-later}
 use Rattle.sd_model_shard.specs.Shard as shard
-use Rattle.sd_model_shard.specs.Shard.{State, empty_state, Event, Delete, Dump, after_delete, deletion_of}
+use Rattle.sd_model_shard.specs.Shard.{State, empty_state, Event, Delete, Dump, Look, Numbers, after_delete, deletion_of, numbers_of}
 use Rattle.sd_model_shard.specs.Rows.{RowId, Kept, row_cmp}
 use Rattle.sd_model_shard.specs.Commands.{is_hit, rows_left, rows_taken_out}
 use Rattle.sd_model_shard.specs.Summaries.{samples_in, samples_where, listed_in}
@@ -25,7 +26,7 @@ use Rattle.sd_model_shard.proofs.DeletionLemmas.{get-rows_left}
 use Rattle.sd_model_shard.specs.History.{Asked, answered, after_all}
 use Rattle.sd_model_record.specs.Admin as admin
 use Rattle.sd_model_record.specs.Admin.{AdminFault, TooLong, words, command_named, command_of_words, longest_line}
-use Rattle.sd_model_record.specs.Replies.{Reply, Stats, Rows, Gone, Finish, reply_text, admin_events, keys_told, names_replied, replies_by, replies_text, rows_told}
+use Rattle.sd_model_record.specs.Replies.{Reply, Stats, Totals, Rows, Gone, Finish, reply_text, admin_events, keys_told, names_replied, numbers_in, numbers_told, replies_by, replies_text, rows_told}
 use Rattle.sd_model_replay.specs.Settings.{Bounds, bounds_of}
 use Rattle.sd_model_replay.specs.Script.{Admin}
 use Rattle.sd_model_serve.specs.Receiving.{administrator}
@@ -33,7 +34,7 @@ use Rattle.sd_model_record.specs.Desk.{Desk, Facts}
 use Rattle.sd_model_serve.specs.Sessions.{Broadcast, replies_at}
 use Rattle.sd_model_replay.specs.Replay.{states_after}
 use Rattle.sd_model_replay.specs.Asked.{broadcasts, output_in}
-use Rattle.sd_shards.specs.Shards.{Group, AreAlike, state_at}
+use Rattle.sd_shards.specs.Shards.{Group, AreAlike, numbers as shards_of, state_at}
 use Rattle.sd_command.specs.Commanded.{IsWritten, deleted}
 use Rattle.sd_model_settings.specs.Settings.{Settings}
 
@@ -108,12 +109,18 @@ module _ (bounds : Bounds) where
 
   pub idle_line : (answer : Result admin.Command AdminFault) → asked_of answer empty_state ≡ empty_state
   idle_line (Ok admin.Stats) = refl
+  idle_line (Ok admin.Totals) = refl
   idle_line (Ok admin.Config) = refl
   idle_line (Ok admin.Quit) = refl
   idle_line (Ok (admin.Show kind)) = refl
   idle_line (Ok (admin.Delete kind names)) = idle_names kind names
   idle_line (Ok (admin.Health word)) = refl
   idle_line (Err fault) = refl
+
+-- each alone
+flat_map-alone : {X A : Type 0} (f : X → A) (xs : List X) → flat_map (λ x. f x ∷ []) xs ≡ map f xs
+flat_map-alone f [] = refl
+flat_map-alone f (x ∷ xs) = ap (λ ys. f x ∷ ys) (flat_map-alone f xs)
 
 -- the text of what is replied to a line, as it is written
 module _ (settings : Settings) (states : ℕ → State) (desk : Desk) (moment : ℕ) (line : List ℕ) where
@@ -126,6 +133,17 @@ module _ (settings : Settings) (states : ℕ → State) (desk : Desk) (moment : 
   pub stats_told : (facts : Facts) → facts ≡ desk.facts → admin.command line ≡ Ok admin.Stats → reply_text (Stats facts moment) ≡ told
   stats_told facts same read =
       ap (λ f. reply_text (Stats f moment)) same ∙ sym (append-nil (reply_text (Stats desk.facts moment))) ∙ sym (ap text_by read)
+
+  pub totals_told : (group : Group) (facts : Facts) (numbers : List Numbers) → length group.states ≡ settings.sizes.shards → states ≡ state_at group → facts ≡ desk.facts
+      → numbers ≡ map (λ i. numbers_of (state_at group i)) (shards_of group) → admin.command line ≡ Ok admin.Totals → reply_text (Totals facts numbers) ≡ told
+  totals_told group facts numbers count are same tell read =
+      let answers : (ℕ → State) → ℕ → List shard.Reply = λ at n. replies_at n (broadcasts (bounds_of settings) at (Look ∷ [])) 0 in
+      let all : numbers ≡ numbers_told (answers states settings.sizes.shards) =
+      tell ∙ sym (flat_map-alone (λ i. numbers_of (state_at group i)) (shards_of group))
+      ∙ sym (flat_map-map numbers_in (λ i. shard.Looked (numbers_of (state_at group i))) (shards_of group))
+      ∙ ap (λ n. numbers_told (answers (state_at group) n)) count ∙ ap (λ at. numbers_told (answers at settings.sizes.shards)) (sym are) in
+      (λ i. reply_text (Totals (same i) (all i)))
+      ∙ sym (append-nil (reply_text (Totals desk.facts (numbers_told (answers states settings.sizes.shards))))) ∙ sym (ap text_by read)
 
   pub rows_shown : (bounds : Bounds) (kind : Kind) → bounds.shards ≡ settings.sizes.shards → admin.command line ≡ Ok (admin.Show kind)
       → reply_text (Rows kind (rows_told (replies_at bounds.shards (broadcasts bounds states (Dump kind ∷ [])) 0))) ≡ told
@@ -157,14 +175,6 @@ ok_written text (Err fault) old new failed = tt
 pub err_written : {E : Type 0} (text : List ℕ) (result : Result ⊤ E) (old new : Object) → IsWritten text result old new → OnErr result (HasFailedBehind text old new)
 err_written text (Ok whole) old new written = tt
 err_written text (Err fault) old new failed = failed
-
--- a name more is taken
-pub take-more : (names : List (List ℕ)) (i : ℕ) (name : List ℕ) → slice_get names i ≡ Some name → take (i + 1) names ≡ take i names ++ name ∷ []
-take-more names i name found = ap (λ k. take k names) (let next : i + 1 ≡ suc i = omega arith in next) ∙ next_taken names i found where
-  next_taken : (ns : List (List ℕ)) (k : ℕ) → slice_get ns k ≡ Some name → take (suc k) ns ≡ take k ns ++ name ∷ []
-  next_taken [] k found = absurd (cc)
-  next_taken (n ∷ ns) zero found = let same : n ≡ name = cc found in ap (λ x. x ∷ []) same
-  next_taken (n ∷ ns) (suc k) found = ap (λ xs. n ∷ xs) (next_taken ns k found)
 
 -- beyond the last shard there is none
 pub state_past : (group : Group) (i : ℕ) → length group.states ≤ i → state_at group i ≡ empty_state

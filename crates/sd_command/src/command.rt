@@ -141,6 +141,10 @@ pub fn carry_out<O: Sink>(
             let reply = Reply::Stats { facts: &facts, now };
             write_reply(&reply, output)
         }
+        Command::Totals => {
+            let (facts, books) = (&desk.facts(), &shards.books());
+            write_reply(&Reply::Totals { facts, books }, output)
+        }
         Command::Config => write_reply(&Reply::Config { settings }, output),
         Command::Quit => Ok(()),
         Command::Show(kind) => show(shards, kind, dump, output),

@@ -11,7 +11,9 @@ mod parts;
 mod runs;
 mod samples;
 
-pub use links::{HostPort, Link, link_down, link_up, node_down, node_up, text_skipped};
+pub use links::{
+    HostPort, Link, link_down, link_up, node_down, node_up, outlets_small, text_skipped,
+};
 pub use parts::{client_let_go, deleted, flush_is_late, health_set};
 pub use runs::{
     ProxyParts, ServerParts, SettingRefused, proxy_started, refused, refused_setting, refused_toml,

@@ -35,6 +35,11 @@ pub fn text_skipped<L: Log>(log: &L, backend: &str, texts: u64, cause: &str) {
     warn!(log; backend, texts, cause; "skipped");
 }
 
+/// A backend's outlet holds texts of so many bytes, and the text of full tables may have more.
+pub fn outlets_small<L: Log>(log: &L, backend: &str, bytes: u64, full: u64) {
+    warn!(log; backend, bytes, full; "outlets_small");
+}
+
 /// A host and a port.
 #[derive(Clone, Copy, Debug)]
 pub struct HostPort<'a> {

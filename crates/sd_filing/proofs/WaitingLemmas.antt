@@ -1,6 +1,6 @@
 -- The samples that wait, shard by shard.
 use Rattle.std.proofs.Common.{◌≡◌, ℕ, suc, ◌+◌, ◌<◌, ◌≤◌, ◌⊎◌, inl, inr, Bool, true, false, cond, eqb, List, [], ◌∷◌, ◌++◌, length, map, refl, sym, ap, subst, ◌∙◌, arith, append-nil}
-use Rattle.std.specs.Prelude.{All, sum_by}
+use Rattle.std.specs.Prelude.{All, None, sum_by}
 use Rattle.std.specs.List.{range_with_len}
 use Rattle.std.proofs.lemmas.Bool.{cases_eq, cases_lt, eq-eqb, ne_eqb}
 use Rattle.std.proofs.lemmas.List.{length-map}
@@ -90,6 +90,28 @@ pub run_counted : (adds : (ℕ → History) → Type 0) (caller home : ℕ) (sam
 run_counted adds caller home samples counts o =
     o.counted.whole ∙ sym (length-map o.made (λ (a : Act). a.event)) ∙ ap length o.asked ∙ length-map samples Submit
 
+-- the run of a shard is what waits for it
+pub run_is : (shards spread home : ℕ) (waiting run : List Sample) → spread ≡ shards → run ≡ waiting_at spread home waiting → run ≡ waiting_at shards home waiting
+run_is shards spread home waiting run same is = is ∙ ap (λ n. waiting_at n home waiting) same
+
+-- none was submitted where none waits
+pub none_run : (adds : (ℕ → History) → Type 0) (caller home : ℕ) (samples : List Sample) (counts : Counts) → counts ≡ record { taken = 0; dropped = 0; first_drop = None } → samples ≡ [] → adds (λ i. [])
+    → SubmitsRun adds caller home samples counts
+none_run adds caller home samples counts is none added = record {
+  made = [];
+  added = subst adds (λ k i. by_test (eqb i home) k) added;
+  asked = ap (λ s. map Submit s) (sym none);
+  whose = All-nil (λ (a : Act). a.who ≡ caller);
+  counted = record {
+    taken = ap (λ (n : Counts). n.taken) is;
+    dropped = ap (λ (n : Counts). n.dropped) is;
+    whole = let taken = ap (λ (n : Counts). n.taken) is in let dropped = ap (λ (n : Counts). n.dropped) is in omega (arith, taken, dropped);
+  };
+} where
+  by_test : (b : Bool) → ◌≡◌ {A = History} [] (cond b [] [])
+  by_test true = refl
+  by_test false = refl
+
 -- those of one more
 pub run_submitted : (before one adds : (ℕ → History) → Type 0) (shards caller : ℕ) (waiting : List Sample) (home : ℕ) (counts : Counts) (old mid new : Filed)
     → ((xs ys : ℕ → History) → before xs → one ys → adds (λ i. xs i ++ ys i)) → home < shards
@@ -136,9 +158,11 @@ run_submitted before one adds shards caller waiting home counts old mid new next
 pub all_submitted : (adds : (ℕ → History) → Type 0) (shards caller : ℕ) (waiting : List Sample) (home : ℕ) (old new : Filed) → 0 < shards → home ≡ shards
     → Submits adds shards caller waiting home old new → SubmitsWaiting adds shards caller waiting [] old new
 all_submitted adds shards caller waiting home old new some end h = record {
+  sent = waiting;
+  split = sym (append-nil waiting);
   acts = h.acts;
   added = h.added;
-  asked = λ i. append-nil (events_of (h.acts i)) ∙ by_place i (cases_lt i shards);
+  asked = λ i. by_place i (cases_lt i shards);
   whose = h.whose;
   placed = h.placed;
   taken = h.taken;
@@ -154,6 +178,8 @@ all_submitted adds shards caller waiting home old new some end h = record {
 -- none was submitted
 pub left_waiting : (adds : (ℕ → History) → Type 0) (shards caller : ℕ) (waiting : List Sample) (filed : Filed) → adds (λ i. []) → SubmitsWaiting adds shards caller waiting waiting filed filed
 left_waiting adds shards caller waiting filed added = record {
+  sent = [];
+  split = refl;
   acts = λ i. [];
   added = added;
   asked = λ i. refl;

@@ -1,3 +1,4 @@
 pub mod Clean
 pub mod KeyInside
 pub mod Kind
+pub mod Pattern

@@ -122,14 +122,15 @@ impl Key {
         }
     }
 
-    /// Takes these bytes in the place of its own. It copies and clears no more bytes than there are.
-    pub fn copy_from_slice(&mut self, bytes: &[u8])
-        requires { length bytes.now ≤ 255 }
+    /// Takes these bytes, whose hash is known, in the place of its own. It copies and clears no more bytes than there are.
+    pub fn copy_hashed(&mut self, bytes: &[u8], hash: u64)
+        requires short { length bytes.now ≤ 255 }
+        requires hash { hash ≡ fnv1a bytes.now }
         ensures { self.new ≡ bytes.now }
     {
         self.bytes.clear();
         self.bytes.try_extend_from_slice(bytes).unwrap();
-        self.hash = fnv1a(bytes);
+        self.hash = hash;
     }
 
     /// Takes the bytes of another key in the place of its own.

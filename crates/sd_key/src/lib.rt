@@ -9,6 +9,7 @@ mod key;
 mod kind;
 mod part;
 mod pattern;
+mod prefix;
 mod shard;
 
 pub use cleaning::{KeyFault, clean, is_name_byte, is_white_space};
@@ -16,4 +17,5 @@ pub use key::{Key, keys_order};
 pub use kind::{Kind, kinds_order};
 pub use part::has_part;
 pub use pattern::{Pattern, matches};
+pub use prefix::{Prefix, name_prefix};
 pub use shard::{fnv1a, shard_of};

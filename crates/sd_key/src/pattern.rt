@@ -1,5 +1,6 @@
-ghost use Rattle.std.specs.Prelude.{◌≡◌, ◌↔◌, ℕ, ◌≤◌, List, [], length, IsSome, IfSome, IsTrue};
+ghost use Rattle.std.specs.Prelude.{◌≡◌, ◌↔◌, ℕ, ◌≤◌, List, [], length, IsSome, IfSome, IsTrue, true};
 ghost use Rattle.sd_model_text.specs.Names.{matches};
+ghost use Rattle.sd_key.specs.Pattern.{only_key};
 
 use crate::Key;
 use arrayvec::ArrayVec;
@@ -55,6 +56,19 @@ impl Pattern {
         ensures { IsTrue result ↔ (self.now ≡ []) }
     {
         self.bytes.is_empty()
+    }
+
+    /// The key that it names: where there is one, it is the only key that it matches. None where it ends in `.*`, or is longer than
+    /// any key.
+    pub fn only_key(&self) -> Option<Key>
+        ensures key { result ≡ only_key self.now }
+        ensures only { IfSome result (λ only. (key : List ℕ) → matches self.now key ≡ true → key ≡ only) }
+    {
+        let text = self.as_slice();
+        if text.ends_with(b".*") {
+            return None;
+        }
+        Key::of(text)
     }
 }
 

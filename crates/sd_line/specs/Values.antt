@@ -17,7 +17,8 @@ key_by name (Some (Err fault)) = Err (fault_of fault)
 abbrev pub values_view : Inside → List (List ℕ)
 values_view v = map (λ part. v.name.now ++ 58 ∷ part) (parts_in 58 (option_map (λ b. b.now) v.left))
 
--- The name has no colon, and its key is the one that is kept.
+-- The name has no colon, its key is the one that is kept, and where it is its own key its hash is kept.
 pub record IsValues (v : Inside) : Type 0 where
   pub first : has_byte 58 v.name.now ≡ false
   pub keyed : model.clean v.name.now ≡ key_by v.name.now v.cleaned
+  pub hashed : v.cleaned ≡ None → v.hash ≡ model.fnv1a v.name.now

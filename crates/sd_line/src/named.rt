@@ -1,33 +1,19 @@
 ghost use Rattle.std.specs.Prelude.{◌≡◌, ◌<◌, ◌≤◌, ◌+◌, length, take, true, false, IfSome, option_map, Ok};
-ghost use Rattle.std.specs.List.{prefix_len};
 ghost use Rattle.sd_model_text.specs.Lists.{cut_at};
-ghost use Rattle.sd_model_text.specs.Names.{is_name_byte as is_name, clean};
+ghost use Rattle.sd_model_text.specs.Names.{clean, fnv1a};
 ghost use Rattle.sd_line.specs.Named.{named_view};
 
 use crate::cut::{cut_around, first_cut};
-use sd_key::is_name_byte;
+use sd_key::name_prefix;
 
 /// The name before the first colon of a line, and what stands behind it. `is_key` says that the name is a key
-/// as it stands, where that is known.
+/// as it stands, where that is known, and `hash` is the hash of that key then.
 #[derive(Clone, Copy)]
 pub(crate) struct Named<'a> {
     pub name: &'a [u8],
     pub rest: &'a [u8],
     pub is_key: bool,
-}
-
-/// How many bytes of names a line begins with.
-// A call of its own keeps the loop small, which goes over most bytes of a datagram.
-#[inline(never)]
-fn plain_len(line: &[u8]) -> usize
-    ensures { result ≡ prefix_len is_name line.now }
-{
-    for (i, byte) in line.iter().enumerate() {
-        if !is_name_byte(*byte) {
-            return i;
-        }
-    }
-    line.len()
+    pub hash: u64,
 }
 
 /// The name of a line, where it has one. Most names are keys as they stand, and end at the first byte that no key
@@ -35,8 +21,10 @@ fn plain_len(line: &[u8]) -> usize
 pub(crate) fn name_of(line: &[u8]) -> Option<Named<'_>>
     ensures cut { option_map named_view result ≡ cut_at 58 line.now }
     ensures key { IfSome result (λ n. n.is_key ≡ true → clean n.name.now ≡ Ok n.name.now) }
+    ensures hash { IfSome result (λ n. n.is_key ≡ true → n.hash ≡ fnv1a n.name.now) }
 {
-    let len = plain_len(line);
+    let prefix = name_prefix(line);
+    let len = prefix.len;
     match line.get(len) {
         Some(b':') if 0 < len && len <= 255 => {
             let cut = cut_around(line, len);
@@ -44,6 +32,7 @@ pub(crate) fn name_of(line: &[u8]) -> Option<Named<'_>>
                 name: cut.part,
                 rest: cut.rest,
                 is_key: true,
+                hash: prefix.hash,
             })
         }
         _ => {
@@ -52,6 +41,7 @@ pub(crate) fn name_of(line: &[u8]) -> Option<Named<'_>>
                 name: cut.part,
                 rest: cut.rest,
                 is_key: false,
+                hash: 0,
             })
         }
     }

@@ -1,4 +1,4 @@
-ghost use Rattle.std.specs.Prelude.{◌≡◌, ◌^◌, ◌≤◌, ◌<◌, ℤ, pos, ◌≤ℤ◌, length, map, nat_lt, unsigned_abs, IfOk, IfSome, option_map, ok_or, true, Ok};
+ghost use Rattle.std.specs.Prelude.{◌≡◌, ◌^◌, ◌≤◌, ◌<◌, ℤ, pos, ◌≤ℤ◌, length, map, nat_lt, unsigned_abs, IfOk, IfSome, option_map, ok_or, true, None, Ok};
 ghost use Rattle.sd_model_text.specs.Lists.{split};
 ghost use Rattle.sd_model_text.specs.Numbers as numbers;
 ghost use Rattle.sd_model_text.specs.Names as names;
@@ -6,7 +6,7 @@ ghost use Rattle.sd_model_text.specs.Lines as model;
 ghost use Rattle.sd_decimal.specs.NumberFault.{seen_by as number_seen_by};
 ghost use Rattle.sd_key.specs.Kind.{kind_of as kind_view};
 ghost use Rattle.sd_line.specs.Piece.{Gives};
-ghost use Rattle.sd_line.specs.Reading.{key_view};
+ghost use Rattle.sd_line.specs.Reading.{key_view, IsHashed};
 ghost use Rattle.sd_line.specs.Values.{key_by};
 
 use crate::fields::Fields;
@@ -132,15 +132,18 @@ fn not_below_zero(kind: Kind, value: Micro) -> Result<(), Bad>
 /// The key of a name, by what cleaning made of it.
 fn key_of<'a>(
     name: &'a [u8],
+    hash: u64,
     cleaned: &'a Option<Result<Key, KeyFault>>,
 ) -> Result<KeyBytes<'a>, Bad>
-    requires { names.clean name.now ≡ key_by name.now cleaned.now }
+    requires cleaned { names.clean name.now ≡ key_by name.now cleaned.now }
+    requires hash { cleaned.now ≡ None → hash ≡ names.fnv1a name.now }
     ensures key { Gives key_view result (model.named (names.clean name.now)) }
     ensures some { IfOk result (λ k. 0 < length (key_view k)) }
     ensures short { IfOk result (λ k. length (key_view k) ≤ 255) }
+    ensures hashed { IfOk result IsHashed }
 {
     match cleaned {
-        None => Ok(KeyBytes::Name(name)),
+        None => Ok(KeyBytes::Name { bytes: name, hash }),
         Some(Ok(key)) => Ok(KeyBytes::Cleaned(key)),
         Some(Err(fault)) => Err(Bad::Key(*fault)),
     }
@@ -170,10 +173,12 @@ fn not_over(fields: &Fields<'_>) -> Result<(), Bad>
 #[tactic(auto, unfolding(sd_model_text::specs::Lines::reading_behind))]
 pub(crate) fn read_value<'a>(
     name: &'a [u8],
+    hash: u64,
     cleaned: &'a Option<Result<Key, KeyFault>>,
     value: &'a [u8],
 ) -> Result<Reading<'a>, Bad>
-    requires { names.clean name.now ≡ key_by name.now cleaned.now }
+    requires cleaned { names.clean name.now ≡ key_by name.now cleaned.now }
+    requires hash { cleaned.now ≡ None → hash ≡ names.fnv1a name.now }
     ensures { Gives (λ r. r) result (model.reading_behind name.now (split 124 value.now)) }
 {
     let fields = Fields::of(value);
@@ -181,7 +186,7 @@ pub(crate) fn read_value<'a>(
     let number = value_of(kind, fields.value)?;
     let rate = rate_of(fields.rate)?;
     not_below_zero(kind, number)?;
-    let key = key_of(name, cleaned)?;
+    let key = key_of(name, hash, cleaned)?;
     not_long(kind, fields.value)?;
     not_over(&fields)?;
     Ok(Reading::of(kind, key, fields.value, number, rate))

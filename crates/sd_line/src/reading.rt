@@ -4,18 +4,32 @@ ghost use Rattle.sd_model_text.specs.Lines.{sample, is_long_member};
 ghost use Rattle.sd_model_text.specs.Lines as model;
 ghost use Rattle.sd_model_text.specs.Numbers as numbers;
 ghost use Rattle.sd_key.specs.Kind.{kind_of};
-ghost use Rattle.sd_line.specs.Reading.{key_view};
+ghost use Rattle.sd_line.specs.Reading.{key_view, IsHashed};
 
 use crate::sample::{ONE, Sample};
 use sd_decimal::Micro;
 use sd_key::{Key, Kind};
 use std::marker::Model;
 
-/// The bytes of a key: a name that is one as it stands, or what cleaning left of a name.
+/// The bytes of a key: a name that is one as it stands, with its hash, or what cleaning left of a name.
 #[derive(Clone, Copy)]
 pub(crate) enum KeyBytes<'a> {
-    Name(&'a [u8]),
+    Name { bytes: &'a [u8], hash: u64 },
     Cleaned(&'a Key),
+}
+
+impl<'a> KeyBytes<'a> {
+    /// Puts the key in the place of another.
+    fn fill(self, key: &mut Key)
+        requires short { length (key_view self) ≤ 255 }
+        requires hashed { IsHashed self }
+        ensures { key.new ≡ key_view self.entry }
+    {
+        match self {
+            KeyBytes::Name { bytes, hash } => key.copy_hashed(bytes, hash),
+            KeyBytes::Cleaned(source) => key.clone_from(source),
+        }
+    }
 }
 
 /// What a good piece says. Its bytes aren't copied.
@@ -67,6 +81,7 @@ impl<'a> Reading<'a> {
     ) -> Reading<'a>
         requires some { 0 < length (key_view key) }
         requires short { length (key_view key) ≤ 255 }
+        requires hashed { IsHashed key }
         requires rate_low { pos 1 ≤ℤ rate.0 }
         requires rate_high { rate.0 ≤ℤ pos (10 ^ 9) }
         requires value { unsigned_abs value.0 ≤ 10 ^ 18 }
@@ -89,23 +104,12 @@ impl<'a> Reading<'a> {
         }
     }
 
-    /// The key's bytes.
-    fn key(&self) -> &[u8]
-        ensures bytes { result.now ≡ self.now.key }
-        ensures short { length result.now ≤ 255 }
-    {
-        match self.key {
-            KeyBytes::Name(name) => name,
-            KeyBytes::Cleaned(key) => key.as_slice(),
-        }
-    }
-
     /// Puts what it says in the place of a sample.
     pub(crate) fn fill(&self, sample: &mut Sample)
         ensures { sample.new ≡ self.now }
     {
         sample.kind = self.kind;
-        sample.key.copy_from_slice(self.key());
+        self.key.fill(&mut sample.key);
         sample.value = self.value;
         sample.rate = self.rate;
         sample.signed = self.signed;

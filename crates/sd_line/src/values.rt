@@ -1,6 +1,6 @@
 ghost use Rattle.std.specs.Prelude.{◌≡◌, ◌↔◌, ℕ, List, [], ◌∷◌, ◌++◌, map, IsNone, IfSome, IsTrue, None, Ok, true, false};
 ghost use Rattle.sd_model_text.specs.Lists.{split};
-ghost use Rattle.sd_model_text.specs.Names.{clean as clean_name};
+ghost use Rattle.sd_model_text.specs.Names.{clean as clean_name, fnv1a};
 ghost use Rattle.sd_model_text.specs.Lines.{has_byte};
 ghost use Rattle.sd_line.specs.Piece.{Answers, Stays, filled};
 
@@ -15,6 +15,8 @@ use std::marker::Model;
 #[derive(Debug, Drop)]
 pub(crate) struct Values<'a> {
     name: &'a [u8],
+    /// The hash of the name, where that is a key as it stands.
+    hash: u64,
     /// What cleaning made of the name. Nothing is here where the name is a key as it stands.
     cleaned: Option<Result<Key, KeyFault>>,
     left: Option<&'a [u8]>,
@@ -47,6 +49,7 @@ impl<'a> Values<'a> {
     {
         Values {
             name: &[],
+            hash: 0,
             cleaned: Some(Err(KeyFault::Empty)),
             left: None,
         }
@@ -62,10 +65,12 @@ impl<'a> Values<'a> {
     /// Begins with the values of this name, in the place of those that are left.
     pub(crate) fn begin(&mut self, named: &Named<'a>)
         requires key { named.now.is_key ≡ true → clean_name named.now.name.now ≡ Ok named.now.name.now }
+        requires hash { named.now.is_key ≡ true → named.now.hash ≡ fnv1a named.now.name.now }
         requires first { has_byte 58 named.now.name.now ≡ false }
         ensures { self.new ≡ map (λ part. named.now.name.now ++ 58 ∷ part) (split 58 named.now.rest.now) }
     {
         self.name = named.name;
+        self.hash = named.hash;
         if named.is_key {
             forget(&mut self.cleaned);
         } else {
@@ -83,7 +88,7 @@ impl<'a> Values<'a> {
     {
         let part = first_part(self.left?, b':');
         self.left = part.behind;
-        match read_value(self.name, &self.cleaned, part.text) {
+        match read_value(self.name, self.hash, &self.cleaned, part.text) {
             Ok(reading) => {
                 reading.fill(sample);
                 Some(Ok(()))

@@ -14,7 +14,8 @@ use Rattle.sd_model_settings.specs.Settings.{default_settings, Settings}
 use Rattle.sd_model_settings.proofs.OnLiterals.{defaults_on_literals}
 use Rattle.sd_model_call.specs.Drill.{well, well_mark, bytes_counted, drill_start, drilled}
 use Rattle.sd_model_replay.specs.Asked.{output_in, output_of}
-use Rattle.sd_model_replay.specs.Totals.{totals_after, totals_text}
+use Rattle.sd_model_record.specs.Totals.{totals_text}
+use Rattle.sd_model_replay.specs.Totals.{totals_after}
 use Rattle.sd_model_replay.specs.AccountingTheorem.{Seen, Course, AccountingTheorem, seen_at}
 use Rattle.sd_model_replay.specs.Ends.{End, Complete, WriteFailed, EndsAs, most_records}
 use Rattle.sd_model_call.specs.Words.{most_packets}

@@ -15,7 +15,8 @@ use Rattle.sd_model_shard.specs.Shard.{table_of}
 use Rattle.sd_model_replay.specs.Replay.{Outcome, Played, Run, IsOutcome, first_run, run_of, play, rounds_from, deliveries, sendings}
 use Rattle.sd_model_call.specs.Drill.{well, well_mark, well_sent}
 use Rattle.sd_model_replay.specs.Asked.{output_in, output_of}
-use Rattle.sd_model_replay.specs.Totals.{Total, totals_after, totals_text}
+use Rattle.sd_model_record.specs.Totals.{Total, totals_text}
+use Rattle.sd_model_replay.specs.Totals.{totals_after}
 use Rattle.sd_model_replay.specs.AccountingTheorem.{Seen, Course, AccountingTheorem, seen_at}
 use Rattle.sd_model_replay.specs.Ends.{End, Complete, Faulted, ReadFailed, WriteFailed, WornOut, most_records, StopsFor, IsInReply, IsBrokenOff, EndsAs, Replayed, behind}
 use Rattle.sd_model_call.specs.Completeness.{EndsSo, IsSteady, IsUnhindered, IsCutOff, IsLongest, CarriedOut, CarriedOutWell, NoneMissed}

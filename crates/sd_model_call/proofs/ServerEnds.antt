@@ -16,7 +16,7 @@ use Rattle.sd_model_call.specs.Words.{Form, Serve, form}
 use Rattle.sd_model_call.specs.Opening.{World, Opening, Part, OfSettings, OfScript, OfSource, OfBeat, OfWire, OfGraphite, OfConsole, OfDoor, OfStreams, IsAccepted, IsFlawed, opening_where, repeated, settled, source_at, target_place, wire_openings}
 use Rattle.sd_model_call.specs.Call.{Answer, Done, NoMemory, NoForm, Misset, BadScript, NotOpened, NotRead, NotWritten, Worn, WritesTotals}
 use Rattle.sd_model_call.specs.Completeness.{IsWhole, IsBlocked}
-use Rattle.sd_model_replay.specs.Totals.{totals_text}
+use Rattle.sd_model_record.specs.Totals.{totals_text}
 use Rattle.sd_model_call.specs.Server.{AnswersServer, HasServed, ServerAccounts, begun, door_openings, flush_interval, has_streams, is_worn, run_answer, run_totals, server_openings, source_openings}
 use Rattle.sd_model_call.specs.ServerCompleteness.{AStreamTookMost, AreAllSpent, AsksFor, HasFaultOf, IsCauseOf, IsOpenedToServe, IsOutermost, IsServed, IsUnhinderedServer, NoneFailed, OneTookMost, TookMost}
 use Rattle.sd_model_call.proofs.BegunLemmas.{Same, all_numbered, accepted_so, at_same, has_flaw, none_failed, not_begun, not_taken, same_all, same_start, uncut}
@@ -34,14 +34,15 @@ all_served s =
     let at_graphite : Opening = record { part = OfGraphite; place = Host s.addresses.graphite_host s.addresses.graphite_port } in
     let at_console : Opening = record { part = OfConsole; place = File [] } in
     let at_streams : Opening = record { part = OfStreams; place = Host s.addresses.address s.transport.tcp_port } in
-    let at_door = door_openings s in
+    let at_door : Opening = record { part = OfDoor; place = Host s.addresses.mgmt_address s.server.mgmt_port } in
+    let doors = door_openings s in
     let graphite = opening_where (is_used s Graphite) at_graphite in
     let console = opening_where (is_used s Console) at_console in
-    let door : AllByRecursion is_served at_door = (tt, all_where is_served (has_streams s) at_streams (λ on. tt)) in
-    all_append is_served (source_openings s) (wire_openings s.sizes.receivers s ++ (graphite ++ (console ++ at_door))) (all_numbered IsOpenedToServe OfSource (λ i. tt) 0 (repeated s.sizes.receivers (Datagrams s.addresses.address s.server.port s.transport.receive_buffer ∷ [])))
-    (all_append is_served (wire_openings s.sizes.receivers s) (graphite ++ (console ++ at_door)) (all_numbered IsOpenedToServe OfWire (λ i. tt) 0 (repeated s.sizes.receivers (map target_place (targets_of s))))
-    (all_append is_served graphite (console ++ at_door) (all_where is_served (is_used s Graphite) at_graphite (λ on. tt))
-    (all_append is_served console at_door (all_where is_served (is_used s Console) at_console (λ on. tt)) door)))
+    let each_door : AllByRecursion is_served doors = all_append is_served (opening_where (has_streams s) at_streams) (at_door ∷ []) (all_where is_served (has_streams s) at_streams (λ on. tt)) (tt, tt) in
+    all_append is_served (source_openings s) (wire_openings s.sizes.receivers s ++ (graphite ++ (console ++ doors))) (all_numbered IsOpenedToServe OfSource (λ i. tt) 0 (repeated s.sizes.receivers (Datagrams s.addresses.address s.server.port s.transport.receive_buffer ∷ [])))
+    (all_append is_served (wire_openings s.sizes.receivers s) (graphite ++ (console ++ doors)) (all_numbered IsOpenedToServe OfWire (λ i. tt) 0 (repeated s.sizes.receivers (map target_place (targets_of s))))
+    (all_append is_served graphite (console ++ doors) (all_where is_served (is_used s Graphite) at_graphite (λ on. tt))
+    (all_append is_served console doors (all_where is_served (is_used s Console) at_console (λ on. tt)) each_door)))
 
 are_ended : (asked made run : ℕ) (rs : List Reception) (ss ns ws wn : List Object) → AreReceptions asked made run rs ss ns ws wn → AreEnded asked made (map (λ r. r.ended) rs) ss ns
 are_ended asked made run [] ss ns ws wn h = tt

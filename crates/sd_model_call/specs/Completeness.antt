@@ -10,7 +10,8 @@ use Rattle.sd_model_record.specs.WireSends.{wire_at, AreRepeated}
 use Rattle.sd_model_replay.specs.Replay.{deliveries, sendings}
 use Rattle.sd_model_call.specs.Drill.{well}
 use Rattle.sd_model_replay.specs.Asked.{output_of}
-use Rattle.sd_model_replay.specs.Totals.{totals_after, totals_text}
+use Rattle.sd_model_record.specs.Totals.{totals_text}
+use Rattle.sd_model_replay.specs.Totals.{totals_after}
 use Rattle.sd_model_replay.specs.AccountingTheorem.{Seen, Course, AccountingTheorem, seen_at}
 use Rattle.sd_model_replay.specs.Ends.{End, WriteFailed, most_records, behind}
 use Rattle.sd_model_call.specs.Words.{Replay, form}

@@ -6,7 +6,8 @@ use Rattle.sd_model_settings.specs.Settings.{default_settings, Settings}
 use Rattle.sd_model_record.specs.Backends.{Graphite, Console}
 use Rattle.sd_model_replay.specs.MadeScript.{made_commands, made_script}
 use Rattle.sd_model_replay.specs.Replay.{Played, deliveries, no_marks}
-use Rattle.sd_model_replay.specs.Totals.{totals_after, totals_text}
+use Rattle.sd_model_record.specs.Totals.{totals_text}
+use Rattle.sd_model_replay.specs.Totals.{totals_after}
 use Rattle.sd_model_replay.specs.AccountingTheorem.{Seen}
 use Rattle.sd_model_settings.specs.Entries.{Target}
 use Rattle.sd_model_outside.specs.Deliveries.{Mark, NotUsed, Written}

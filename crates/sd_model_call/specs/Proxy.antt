@@ -4,7 +4,7 @@ use Rattle.sd_model_outside.specs.Outside.{Interval, Object, Place, File, Host}
 use Rattle.sd_model_settings.specs.Entries.{Node}
 use Rattle.sd_model_settings.specs.Settings.{Settings, SettingsFlaw, OutOfRange}
 use Rattle.sd_model_serve.specs.Ends.{LoopEnd}
-use Rattle.sd_model_replay.specs.Totals.{totals_text}
+use Rattle.sd_model_record.specs.Totals.{totals_text}
 use Rattle.sd_model_proxy.specs.Relays.{Relay, relays_totals}
 use Rattle.sd_model_live.specs.Checks.{Check, failed_in}
 use Rattle.sd_model_live.specs.Proxy.{ProxyTheorem}

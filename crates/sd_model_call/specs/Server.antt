@@ -10,7 +10,8 @@ use Rattle.sd_model_record.specs.Backends.{Backend, Graphite, Console}
 use Rattle.sd_model_serve.specs.Ends.{LoopEnd, Failed, WornOut, most_turns}
 use Rattle.sd_model_run.specs.Run.{Course, Terms, Objects, ServerTheorem}
 use Rattle.sd_model_replay.specs.Settings.{is_used, limits_of, policy_of, targets_of}
-use Rattle.sd_model_replay.specs.Totals.{Total, summed, totals_of, totals_text}
+use Rattle.sd_model_record.specs.Totals.{Total, totals_of, totals_text}
+use Rattle.sd_model_replay.specs.Totals.{summed}
 use Rattle.sd_model_call.specs.Words.{Form, Serve}
 use Rattle.sd_model_call.specs.Opening.{Opening, OfSource, OfBeat, OfGraphite, OfConsole, OfDoor, OfStreams, World, IsAccepted, flags_of, numbered, opened_all, opening_where, repeated, settled, wire_openings}
 use Rattle.sd_model_call.specs.Call.{Answer, Done, NotRead, Worn, NotBegun, NotTaken, WritesTotals}
@@ -27,14 +28,15 @@ has_streams s = nat_lt 0 s.transport.tcp_port
 abbrev pub has_outlets : Settings → Bool
 has_outlets s = nat_lt 0 s.transport.outlets
 
--- the admin door, and the door of streams, where it is used
+-- the door of streams, where it is used, and the admin door, which comes last: where it is open, all parts of the server are
 abbrev pub door_openings : Settings → List Opening
 door_openings s =
-    record { part = OfDoor; place = Host s.addresses.mgmt_address s.server.mgmt_port }
-    ∷ opening_where (has_streams s) (record { part = OfStreams; place = Host s.addresses.address s.transport.tcp_port })
+    opening_where (has_streams s) (record { part = OfStreams; place = Host s.addresses.address s.transport.tcp_port })
+    ++ record { part = OfDoor; place = Host s.addresses.mgmt_address s.server.mgmt_port }
+    ∷ []
 
 -- What a server opens once the settings are read, in this order: the sources; a run of wires for each receiver; Graphite and the
--- console, where they are used; and the doors.
+-- console, where they are used; and the doors, of which the admin door comes last.
 abbrev pub server_openings : Settings → List Opening
 server_openings s =
     source_openings s

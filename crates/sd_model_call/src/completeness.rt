@@ -2,7 +2,7 @@ ghost use Rattle.std.specs.Prelude.{◌≡◌, ◌<◌, ◌≤◌, ℕ, List, []
 ghost use Rattle.sd_model_outside.specs.Outside.{Rose, Used, given, last_count};
 ghost use Rattle.sd_model_settings.specs.Settings.{SettingsFlaw, settings, Settings};
 ghost use Rattle.sd_model_replay.specs.Script.{Command, script_text, ScriptFlaw};
-ghost use Rattle.sd_model_replay.specs.Totals.{Total};
+ghost use Rattle.sd_model_record.specs.Totals.{Total};
 ghost use Rattle.sd_model_record.specs.WireSends.{wire_at};
 ghost use Rattle.sd_model_replay.specs.AccountingTheorem.{Seen};
 ghost use Rattle.sd_model_replay.specs.Ends.{Complete, End, Faulted, Replayed, WornOut, most_records};

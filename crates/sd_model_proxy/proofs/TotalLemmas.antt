@@ -10,7 +10,7 @@ use Rattle.sd_model_settings.specs.Entries.{Node}
 use Rattle.sd_model_text.specs.Lines.{lines}
 use Rattle.sd_model_record.specs.Desk.{counted, last_counted}
 use Rattle.sd_model_record.specs.WireSends.{WireSend, failed_among, packets_of}
-use Rattle.sd_model_replay.specs.Totals.{Total, number_in}
+use Rattle.sd_model_record.specs.Totals.{Total, number_in}
 use Rattle.sd_model_proxy.specs.Batches.{AreBatched, Batch, Batched, add_totals, batches, lines_not_sent, lines_sent, no_totals, over_nodes, send_of, sums_of_totals, totals_by}
 use Rattle.sd_model_proxy.specs.Routes.{Bad, Read, Route, To, Unowned, goes_to, is_bad, is_unowned, lines_to, route, routes_of}
 use Rattle.sd_model_proxy.proofs.BatchLemmas.{each-alone, packets-lines}

@@ -6,7 +6,7 @@ use Rattle.sd_model_settings.specs.Entries.{Node}
 use Rattle.sd_model_outside.specs.Outside.{Object}
 use Rattle.sd_model_record.specs.Desk.{counted}
 use Rattle.sd_model_record.specs.WireSends.{WireSend, AfterSendsOn}
-use Rattle.sd_model_replay.specs.Totals.{Total, number_in}
+use Rattle.sd_model_record.specs.Totals.{Total, number_in}
 use Rattle.sd_model_proxy.specs.Routes.{Read, Route, is_bad, is_unowned, lines_to, routes_of}
 
 -- the text of a packet of lines, with a newline between each two

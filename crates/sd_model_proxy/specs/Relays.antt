@@ -7,7 +7,7 @@ use Rattle.sd_model_serve.specs.Ends.{LoopEnd, EndsReceiver}
 use Rattle.sd_model_serve.specs.Receiving.{HaveRun}
 use Rattle.sd_model_proxy.specs.Routes.{Read}
 use Rattle.sd_model_proxy.specs.Batches.{AreBatched, AreForwarded, Batched, add_totals, no_totals, sums_of_totals, totals_of}
-use Rattle.sd_model_replay.specs.Totals.{Total}
+use Rattle.sd_model_record.specs.Totals.{Total}
 
 -- What a receiver of a proxy did: the datagrams that it read, each with the nodes that were up; the packets of their lines to each
 -- node; and how it ended.

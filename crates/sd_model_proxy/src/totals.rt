@@ -1,7 +1,7 @@
 ghost use Rattle.std.specs.Prelude.{◌≡◌, ℕ, ◌+◌, ◌<◌, List, [], ◌∷◌, ◌++◌, codes, length, map};
 ghost use Rattle.sd_model_settings.specs.Entries.{Node};
 ghost use Rattle.sd_model_record.specs.Desk.{last_counted};
-ghost use Rattle.sd_model_replay.specs.Totals.{number_in};
+ghost use Rattle.sd_model_record.specs.Totals.{number_in};
 ghost use Rattle.sd_model_record.specs.WireSends.{failed_among, packets_of};
 ghost use Rattle.sd_model_proxy.specs.Batches.{AreBatched, Batched, lines_not_sent, lines_sent, over_nodes, send_of, sums_of_totals, totals_of};
 ghost use Rattle.sd_model_proxy.specs.Relays.{Relay, relay_totals, relays_totals};

@@ -10,10 +10,12 @@ use Rattle.sd_model_settings.specs.Settings as file
 use Rattle.sd_model_settings.specs.ConfigText.{line, config_lines, front_lines, entry_lines, back_lines, histogram_line, repeater_line, node_line}
 use Rattle.sd_model_shard.specs.Commands.{DumpRow}
 use Rattle.sd_model_shard.specs.Shard as shard
+use Rattle.sd_model_shard.specs.Shard.{Numbers}
 use Rattle.sd_model_record.specs.Admin as admin
 use Rattle.sd_model_record.specs.Admin.{AdminFault, UnknownWord, MissingName, TooLong}
 use Rattle.sd_model_record.specs.Desk.{Facts}
-use Rattle.sd_model_record.specs.Replies.{Finish, end_lines, stats_lines, row_line, row_value, gone_lines, health_line, fault_line, reply_lines, replies_by, names_replied, rows_told, keys_told, health_after}
+use Rattle.sd_model_record.specs.Totals.{added, total_line, totals_of}
+use Rattle.sd_model_record.specs.Replies.{Finish, end_lines, stats_lines, shard_line, shard_lines, totals_lines, row_line, row_value, gone_lines, health_line, fault_line, reply_lines, replies_by, names_replied, rows_told, keys_told, numbers_told, health_after}
 
 -- a line isn't `END`
 abbrev IsOther : List ℕ → Type 0
@@ -48,13 +50,17 @@ and_true : (x y : Bool) → (x && y) ≡ true → (x ≡ true) × (y ≡ true)
 and_true true y h = (refl, h)
 and_true false y h = absurd (cc)
 
+-- lines that each have a byte that `END` doesn't have
+with_bytes : (byte : ℕ) → has_byte byte (codes "END\n") ≡ false → (lines : List (List ℕ)) → list_all (has_byte byte) lines ≡ true → AreOthers lines
+with_bytes byte absent [] h = tt
+with_bytes byte absent (l ∷ lines) h = (by_byte byte l both.0 absent, with_bytes byte absent lines both.1)
+  where
+    both : (has_byte byte l ≡ true) × (list_all (has_byte byte) lines ≡ true)
+    both = and_true (has_byte byte l) (list_all (has_byte byte) lines) h
+
 -- lines that each have a colon
 with_colons : (lines : List (List ℕ)) → list_all (has_byte 58) lines ≡ true → AreOthers lines
-with_colons [] h = tt
-with_colons (l ∷ lines) h = (by_byte 58 l both.0 refl, with_colons lines both.1)
-  where
-    both : (has_byte 58 l ≡ true) × (list_all (has_byte 58) lines ≡ true)
-    both = and_true (has_byte 58 l) (list_all (has_byte 58) lines) h
+with_colons = with_bytes 58 refl
 
 others-append : (xs ys : List (List ℕ)) → AreOthers xs → AreOthers ys → AreOthers (xs ++ ys)
 others-append [] ys first second = second
@@ -121,6 +127,15 @@ others_of_entries s =
 others_of_stats : (facts : Facts) (now : ℕ) → AreOthers (stats_lines facts now)
 others_of_stats facts now = with_colons (stats_lines facts now) refl
 
+others_of_shards : (i : ℕ) (shards : List Numbers) → AreOthers (shard_lines i shards)
+others_of_shards i [] = tt
+others_of_shards i (n ∷ shards) = (by_byte 32 (shard_line i n) refl refl, others_of_shards (i + 1) shards)
+
+others_of_totals : (facts : Facts) (shards : List Numbers) → AreOthers (totals_lines facts shards)
+others_of_totals facts shards =
+    let totals = map total_line (totals_of (added shards) facts) in
+    others-append totals (shard_lines 0 shards) (with_bytes 32 refl totals refl) (others_of_shards 0 shards)
+
 of_names : (answers : ℕ → List shard.Reply) (names : List (List ℕ)) → StandsLast (flat_map reply_lines (names_replied answers names ++ Finish ∷ []))
 of_names answers names front back same =
     with_end (flat_map reply_lines (names_replied answers names)) (others_of_names answers names) front back
@@ -138,6 +153,7 @@ others_of_fault fault = by_byte 82 (fault_line fault) refl refl
 -- behind `END` the empty line stands alone, whatever is replied to a line
 pub ends-last : (answers : ℕ → List shard.Reply) (facts : Facts) (settings : file.Settings) (now : ℕ) (asked : Result admin.Command AdminFault) → StandsLast (flat_map reply_lines (replies_by answers facts settings now asked))
 ends-last answers facts settings now (Ok admin.Stats) = with_end (stats_lines facts now) (others_of_stats facts now)
+ends-last answers facts settings now (Ok admin.Totals) = with_end (totals_lines facts (numbers_told (answers 0))) (others_of_totals facts (numbers_told (answers 0)))
 ends-last answers facts settings now (Ok admin.Config) = with_end (config_lines settings) (others_of_config settings)
 ends-last answers facts settings now (Ok admin.Quit) = λ front back same. absurd (stands_nowhere [] front back tt same)
 ends-last answers facts settings now (Ok (admin.Show kind)) =

@@ -7,3 +7,4 @@ pub mod EndLemmas
 pub mod OrderLemmas
 pub mod SentLemmas
 pub mod WireLemmas
+pub mod TotalLemmas

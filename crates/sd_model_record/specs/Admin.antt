@@ -1,4 +1,4 @@
--- Admin commands: what a line asks for, or why it asks for nothing. The commands but `config` and `quit` are those of
+-- Admin commands: what a line asks for, or why it asks for nothing. The commands but `totals`, `config` and `quit` are those of
 -- StatsD's admin interface (docs/admin_interface.md).
 use Rattle.std.specs.Prelude.{◌≡◌, ℕ, ◌<◌, false, not, nat_le, if◌then◌else◌, List, [], ◌∷◌, length, filter, Option, Result, Ok, Err, slice_get, codes}
 use Rattle.std.specs.List.{All, slice_split}
@@ -13,10 +13,11 @@ pub data HealthWord : Type 0 where
   Down : HealthWord
   Ask : HealthWord
 
--- A command: it asks for what the server counts of itself, for the settings, or for the end of the session; shows the rows
--- of a kind; deletes the rows of a kind that the names match; or is about the health.
+-- A command: it asks for what the server counts of itself, for the totals so far, for the settings, or for the end of the session;
+-- shows the rows of a kind; deletes the rows of a kind that the names match; or is about the health.
 pub data Command : Type 0 where
   Stats : Command
+  Totals : Command
   Config : Command
   Quit : Command
   Show : (kind : Kind) → Command
@@ -61,9 +62,10 @@ command_named word rest =
     else (if bytes_eq word (codes "deltimers") then deletion Timer rest
     else (if bytes_eq word (codes "delgauges") then deletion Gauge rest
     else (if bytes_eq word (codes "health") then Ok (Health (health_word rest))
+    else (if bytes_eq word (codes "totals") then Ok Totals
     else (if bytes_eq word (codes "config") then Ok Config
     else (if bytes_eq word (codes "quit") then Ok Quit
-    else Err UnknownWord)))))))))
+    else Err UnknownWord))))))))))
 
 -- the command of a line's words
 abbrev pub command_of_words : List (List ℕ) → Result Command AdminFault

@@ -2,6 +2,7 @@ pub mod Record
 pub mod Documented
 pub mod Desk
 pub mod DeskHistory
+pub mod Totals
 pub mod Admin
 pub mod Replies
 pub mod Counts

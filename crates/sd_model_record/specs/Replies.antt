@@ -11,13 +11,16 @@ use Rattle.sd_model_settings.specs.ConfigText.{line, config_lines}
 use Rattle.sd_model_shard.specs.Commands.{DumpRow, in_key_order}
 use Rattle.sd_model_record.specs.Desk.{Facts}
 use Rattle.sd_model_record.specs.Admin.{AdminFault, UnknownWord, MissingName, TooLong, HealthWord, Up, Down, Ask}
+use Rattle.sd_model_record.specs.Totals.{added, total_line, totals_of}
 use Rattle.sd_model_shard.specs.Shard as shard
+use Rattle.sd_model_shard.specs.Shard.{Numbers}
 use Rattle.sd_model_record.specs.Admin as admin
 
--- What a reply tells: the facts of the desk at a moment; the rows of a kind; the keys that a name of a deletion deleted; that
--- a deletion has no further name; the health; the settings; why a line is no command.
+-- What a reply tells: the facts of the desk at a moment; these with the numbers of each shard, in order; the rows of a kind; the keys
+-- that a name of a deletion deleted; that a deletion has no further name; the health; the settings; why a line is no command.
 pub data Reply : Type 0 where
   Stats : (facts : Facts) (now : ℕ) → Reply
+  Totals : (facts : Facts) (shards : List Numbers) → Reply
   Rows : (kind : Kind) (rows : List DumpRow) → Reply
   Gone : (name : List ℕ) (keys : List (List ℕ)) → Reply
   Finish : Reply
@@ -40,6 +43,19 @@ stats_lines facts now =
     ∷ line (codes "messages.last_msg_seen") (decimal (seconds_since facts.last now))
     ∷ line (codes "messages.bad_lines_seen") (decimal facts.totals.bad)
     ∷ []
+
+-- the line of shard i: how many rows it has, and how many samples it holds
+abbrev pub shard_line : ℕ → Numbers → List ℕ
+shard_line i n = codes "shard " ++ decimal i ++ codes " rows " ++ decimal n.rows ++ codes " held " ++ decimal n.held ++ 10 ∷ []
+
+-- the lines of shards, from number i on
+abbrev pub shard_lines : ℕ → List Numbers → List (List ℕ)
+shard_lines i [] = []
+shard_lines i (n ∷ shards) = shard_line i n ∷ shard_lines (i + 1) shards
+
+-- the totals so far, and a line for each shard
+abbrev pub totals_lines : Facts → List Numbers → List (List ℕ)
+totals_lines facts shards = map total_line (totals_of (added shards) facts) ++ shard_lines 0 shards
 
 -- what stands behind a row's key: what its samples come to, and of a timer their number before it
 abbrev pub row_value : Kind → DumpRow → List ℕ
@@ -72,6 +88,7 @@ fault_line fault = codes "ERROR " ++ fault_text fault ++ 10 ∷ []
 -- the lines of a reply; health and faults have one line and no end
 abbrev pub reply_lines : Reply → List (List ℕ)
 reply_lines (Stats facts now) = stats_lines facts now ++ end_lines
+reply_lines (Totals facts shards) = totals_lines facts shards ++ end_lines
 reply_lines (Rows kind rows) = map (row_line kind) rows ++ end_lines
 reply_lines (Gone name keys) = gone_lines name keys
 reply_lines Finish = end_lines
@@ -89,11 +106,12 @@ IsInOrder (Rows kind rows) = (kind ≢ Set) × IsSortedByKey (λ row. row.key) (
 IsInOrder (Gone name keys) = IsSorted (slice_cmp nat_cmp) keys
 IsInOrder reply = ⊤
 
--- what an admin line asks of each shard: a deletion for each name of its command, in their order, or a dump; and nothing
--- where its command is another one, or it has none
+-- what an admin line asks of each shard: a deletion for each name of its command, in their order, a dump, or its numbers; and
+-- nothing where its command is another one, or it has none
 abbrev pub admin_events : Result admin.Command AdminFault → List shard.Event
 admin_events (Ok (admin.Delete kind names)) = map (shard.Delete kind) names
 admin_events (Ok (admin.Show kind)) = shard.Dump kind ∷ []
+admin_events (Ok admin.Totals) = shard.Look ∷ []
 admin_events answer = []
 
 -- the keys that an answer tells as deleted
@@ -106,6 +124,11 @@ abbrev pub rows_in : shard.Reply → List DumpRow
 rows_in (shard.Dumped rows) = rows
 rows_in answer = []
 
+-- the numbers that an answer tells
+abbrev pub numbers_in : shard.Reply → List Numbers
+numbers_in (shard.Looked numbers) = numbers ∷ []
+numbers_in answer = []
+
 -- the keys that all shards tell as deleted
 abbrev pub keys_told : List shard.Reply → List (List ℕ)
 keys_told answers = in_key_order (λ key. key) (flat_map keys_in answers)
@@ -113,6 +136,10 @@ keys_told answers = in_key_order (λ key. key) (flat_map keys_in answers)
 -- the rows that all shards tell of a dump
 abbrev pub rows_told : List shard.Reply → List DumpRow
 rows_told answers = in_key_order (λ row. row.key) (flat_map rows_in answers)
+
+-- the numbers that all shards tell, in their order
+abbrev pub numbers_told : List shard.Reply → List Numbers
+numbers_told answers = flat_map numbers_in answers
 
 -- what is replied to the names of a deletion, each with the keys that all shards tell in the answers of its number
 abbrev pub names_replied : (ℕ → List shard.Reply) → List (List ℕ) → List Reply
@@ -126,10 +153,11 @@ health_after Down up = false
 health_after Ask up = up
 
 -- What is replied to an admin line that came now, by its command or its fault, from what all shards answer to each event
--- that it asks for, by the event's number from 0: the facts of the desk; the settings in force; nothing to `quit`; the rows
--- of a dump; what each name deleted, and the end; the health, as the line leaves it; the fault.
+-- that it asks for, by the event's number from 0: the facts of the desk; these with the numbers of each shard; the settings in
+-- force; nothing to `quit`; the rows of a dump; what each name deleted, and the end; the health, as the line leaves it; the fault.
 abbrev pub replies_by : (ℕ → List shard.Reply) → Facts → file.Settings → ℕ → Result admin.Command AdminFault → List Reply
 replies_by answers facts settings now (Ok admin.Stats) = Stats facts now ∷ []
+replies_by answers facts settings now (Ok admin.Totals) = Totals facts (numbers_told (answers 0)) ∷ []
 replies_by answers facts settings now (Ok admin.Config) = Config settings ∷ []
 replies_by answers facts settings now (Ok admin.Quit) = []
 replies_by answers facts settings now (Ok (admin.Show kind)) = Rows kind (rows_told (answers 0)) ∷ []

@@ -9,4 +9,3 @@ pub mod Numbers
 pub mod ReadingLemmas
 pub mod ReplayLemmas
 pub mod EarlierLemmas
-pub mod TotalLemmas

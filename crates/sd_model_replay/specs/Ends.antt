@@ -5,7 +5,8 @@ use Rattle.sd_model_replay.specs.Settings.{bounds_of}
 use Rattle.sd_model_replay.specs.Script.{script_text, BeginsEnd, ScriptFlaw, Next, Faulty, Begins, IsUndecided}
 use Rattle.sd_model_replay.specs.Replay.{Played, first_run, run_of}
 use Rattle.sd_model_replay.specs.Asked.{output_in, output_of}
-use Rattle.sd_model_replay.specs.Totals.{Total, totals_after, totals_text}
+use Rattle.sd_model_record.specs.Totals.{Total, totals_text}
+use Rattle.sd_model_replay.specs.Totals.{totals_after}
 use Rattle.sd_model_replay.specs.AccountingTheorem.{Seen, Course, AccountingTheorem}
 use Rattle.sd_model_settings.specs.Settings.{Settings}
 

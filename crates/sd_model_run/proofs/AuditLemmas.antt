@@ -7,7 +7,7 @@ use Rattle.std.proofs.lemmas.List.{length-map}
 use Rattle.std.proofs.lemmas.List.Sums.{sum_by-cons}
 use Rattle.sd_model_text.specs.Lines.{Sample}
 use Rattle.sd_model_text.specs.Names.{shard}
-use Rattle.sd_model_shard.specs.Shard.{Cause, Limits, Policy, State, Event, Reply, Submit, Swap, Delete, Dump, admitted, refusal, step}
+use Rattle.sd_model_shard.specs.Shard.{Cause, Limits, Policy, State, Event, Reply, Submit, Swap, Delete, Dump, Look, admitted, refusal, step}
 use Rattle.sd_model_shard.specs.History.{Act, History, LegalFrom, after, part_of}
 use Rattle.sd_model_shard.specs.Whereabouts.{dropped_in, taken_in, told_by}
 use Rattle.sd_model_shard.proofs.OrderLemmas.{sum_by-map, weighed_once}
@@ -22,6 +22,7 @@ submit_in (Submit s) = 1
 submit_in Swap = 0
 submit_in (Delete kind pattern) = 0
 submit_in (Dump kind) = 0
+submit_in Look = 0
 
 -- how many samples acts submit
 abbrev submits_in : History → ℕ
@@ -37,6 +38,7 @@ by_event limits policy state (Submit s) = by_admission state s (refusal limits s
 by_event limits policy state Swap = refl
 by_event limits policy state (Delete kind pattern) = refl
 by_event limits policy state (Dump kind) = refl
+by_event limits policy state Look = refl
 
 each_submit : (limits : Limits) (policy : Policy) (state : State) (acts : History) → LegalFrom limits policy state acts → told_by taken_in acts + told_by dropped_in acts ≡ submits_in acts
 each_submit limits policy state [] legal = refl
@@ -95,6 +97,7 @@ commands_submit_nothing (Submit s ∷ events) h = absurd h.0
 commands_submit_nothing (Swap ∷ events) h = absurd h.0
 commands_submit_nothing (Delete kind pattern ∷ events) h = commands_submit_nothing events h.1
 commands_submit_nothing (Dump kind ∷ events) h = commands_submit_nothing events h.1
+commands_submit_nothing (Look ∷ events) h = commands_submit_nothing events h.1
 
 asked_submits : (shards i : ℕ) (samples : List Sample) → sum_by submit_in (asks shards i samples) ≡ length (part_of (λ (s : Sample). shard s.key shards) i samples)
 asked_submits shards i samples = sum_by-map submit_in (λ (s : Sample). Submit s) (part_of (λ (s : Sample). shard s.key shards) i samples) ∙ ones (part_of (λ (s : Sample). shard s.key shards) i samples) where

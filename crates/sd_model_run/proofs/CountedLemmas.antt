@@ -5,7 +5,7 @@ use Rattle.std.specs.List.{range_with_len}
 use Rattle.std.proofs.lemmas.List.Sums.{sum_by-cons, sum_by-append}
 use Rattle.sd_model_text.specs.Lines.{pieces, bad_of}
 use Rattle.sd_model_outside.specs.Deliveries.{fault_of}
-use Rattle.sd_model_shard.specs.Shard.{Limits, Policy, State, Event, Submit, Swap, Delete, Dump, step}
+use Rattle.sd_model_shard.specs.Shard.{Limits, Policy, State, Event, Submit, Swap, Delete, Dump, Look, step}
 use Rattle.sd_model_shard.specs.History.{Act, History, LegalFrom, after}
 use Rattle.sd_model_shard.specs.Whereabouts.{dropped_in, told_by}
 use Rattle.sd_model_record.specs.Backends.{Graphite, Console, mark_of}
@@ -60,6 +60,7 @@ drops_nothing limits policy state (Submit s) h = absurd (h.0)
 drops_nothing limits policy state Swap h = absurd (h.0)
 drops_nothing limits policy state (Delete kind pattern) h = refl
 drops_nothing limits policy state (Dump kind) h = refl
+drops_nothing limits policy state Look h = refl
 
 pub no_drops : (limits : Limits) (policy : Policy) (state : State) (who : ℕ) (acts : History) → LegalFrom limits policy state acts → AreCommands (events_by who acts) → told_by dropped_in (acts_by who acts) ≡ 0
 no_drops limits policy state who [] legal commands = refl

@@ -6,7 +6,7 @@ use Rattle.std.proofs.lemmas.Bool.{eqb-true, ltb-false, ltb-true}
 use Rattle.std.proofs.lemmas.Cmp.{nat_eq_equiv}
 use Rattle.sd_model_text.specs.Names.{Kind, shard}
 use Rattle.sd_model_text.specs.Lines.{Sample}
-use Rattle.sd_model_shard.specs.Shard.{Limits, Policy, State, Cause, Event, Submit, Swap, Delete, Dump, Table, step, admitted, refusal, empty_state}
+use Rattle.sd_model_shard.specs.Shard.{Limits, Policy, State, Cause, Event, Submit, Swap, Delete, Dump, Look, Table, step, admitted, refusal, empty_state}
 use Rattle.sd_model_shard.specs.History.{Act, History, LegalFrom, after, part_of}
 use Rattle.sd_model_shard.specs.Whereabouts.{tables, table_in}
 use Rattle.sd_model_record.specs.Admin as admin
@@ -25,6 +25,7 @@ no_swap (Submit s) h is = absurd h
 no_swap Swap h is = absurd h
 no_swap (Delete kind pattern) h is = absurd (cc)
 no_swap (Dump kind) h is = absurd (cc)
+no_swap Look h is = absurd (cc)
 
 no_swaps : (events : List Event) → AreCommands events → AsksNoSwap events
 no_swaps [] all = tt
@@ -40,6 +41,7 @@ no_table limits policy state (Submit s) isnt = no_table_admitted state s (refusa
 no_table limits policy state Swap isnt = absurd (isnt refl)
 no_table limits policy state (Delete kind pattern) isnt = refl
 no_table limits policy state (Dump kind) isnt = refl
+no_table limits policy state Look isnt = refl
 
 same : (n : ℕ) → (n == n) ≡ true
 same n = nat_eq_equiv.refl n
@@ -117,12 +119,13 @@ names_commands : (kind : Kind) (names : List (List ℕ)) → AreCommands (map (D
 names_commands kind [] = tt
 names_commands kind (name ∷ names) = (tt, names_commands kind names)
 
--- an admin line asks for deletions or dumps alone
+-- an admin line asks for deletions, dumps and looks alone
 pub line_commands : (answer : Result admin.Command AdminFault) → AreCommands (admin_events answer)
 line_commands (Ok admin.Stats) = tt
 line_commands (Ok admin.Config) = tt
 line_commands (Ok admin.Quit) = tt
 line_commands (Ok (admin.Show kind)) = (tt, tt)
+line_commands (Ok admin.Totals) = (tt, tt)
 line_commands (Ok (admin.Delete kind names)) = names_commands kind names
 line_commands (Ok (admin.Health word)) = tt
 line_commands (Err fault) = tt

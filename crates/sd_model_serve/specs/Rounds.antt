@@ -6,7 +6,7 @@ use Rattle.std.specs.List.{AllByRecursion, range_with_len}
 use Rattle.sd_model_outside.specs.Outside.{Object, Rose}
 use Rattle.sd_model_outside.specs.Deliveries.{Written, Delivery, AfterMark, AfterDeliveries, FitsUse}
 use Rattle.sd_model_settings.specs.Settings.{Plan, Names}
-use Rattle.sd_model_shard.specs.Shard.{Table, Swap, Swapped, Limits, Policy, Event, Submit, Delete, Dump}
+use Rattle.sd_model_shard.specs.Shard.{Table, Swap, Swapped, Limits, Policy, Event, Submit, Delete, Dump, Look}
 use Rattle.sd_model_shard.specs.History.{Act, History, Legal}
 use Rattle.sd_model_record.specs.Record.{Tally, Record, record_of}
 use Rattle.sd_model_record.specs.Documented.{documented_rows}
@@ -144,12 +144,13 @@ pub record Ran (limits : Limits) (policy : Policy) (shards : ℕ) (brought : Lis
   pub others : (who : ℕ) → length brought ≤ who → who ≢ flusher → who ≢ administrator → acts_by who acts ≡ []
   pub handed_out : tables acts ≡ map (λ round. round.tables i) rounds
 
--- an event is one that an admin line asks for: a deletion or a dump
+-- an event is one that an admin line asks for: a deletion, a dump or a look
 abbrev pub IsCommand : Event → Type 0
 IsCommand (Submit sample) = ⊥
 IsCommand Swap = ⊥
 IsCommand (Delete kind pattern) = ⊤
 IsCommand (Dump kind) = ⊤
+IsCommand Look = ⊤
 
 -- all of the events are
 abbrev pub AreCommands : List Event → Type 0

@@ -17,7 +17,7 @@ use Rattle.sd_model_text.specs.Lines.{Sample}
 use Rattle.sd_model_shard.specs.Commands.{DumpRow, is_hit, rows_left, entries_taken_out, entries_left, dump_of}
 use Rattle.sd_model_shard.specs.Rows.{Rows, Entry, row_of}
 use Rattle.sd_model_shard.specs.Summaries.{is_listed, Tell}
-use Rattle.sd_model_shard.specs.Shard.{State, empty_state, Cause, Limits, Policy, Taken, Dropped, Event, Submit, Swap, Delete, Dump, step, admitted, refusal, with_sample, with_drop, carried, after_swap, after_delete, deletion_of, Table, table_of, Answered, Swapped, Dumped, last_number}
+use Rattle.sd_model_shard.specs.Shard.{State, empty_state, Cause, Limits, Policy, Taken, Dropped, Event, Submit, Swap, Delete, Dump, Look, step, admitted, refusal, with_sample, with_drop, carried, after_swap, after_delete, deletion_of, Table, table_of, Answered, Swapped, Dumped, Numbers, numbers_of, Looked, last_number}
 use Rattle.sd_model_shard.specs.History.{History, Act, Asked, after, after_all, state_after, LegalFrom, Legal, StandsAt, act_of, answered, held_from, held_after}
 use Rattle.sd_model_shard.specs.Whereabouts.{arrivals, fates, filed, causes, journaled, Flushed, ActOver, acts_over, flushes, flushes_from, deleted_from, deletions, taken_out, told_by, flushed_in, tables as handed_out, AreDocumented, RowsAreCarried, Accounted, StandsOnce}
 use Rattle.sd_model_shard.specs.Told.{IsToldBy, AreToldBy}
@@ -237,6 +237,29 @@ dump_goes limits policy kind carried_in journal old new who rows acts h = record
   carries = (tt, h.carries);
 }
 
+-- a look before them
+look_goes : (limits : Limits) (policy : Policy) (carried_in : Rows) (journal : List Entry) (old new : State) (who : ℕ) (numbers : Numbers) (acts : History)
+    → Goes limits policy carried_in journal old new acts
+    → Goes limits policy carried_in journal old new (record { who = who; event = Look; reply = Looked numbers } ∷ acts)
+look_goes limits policy carried_in journal old new who numbers acts h = record {
+  one_fate = h.one_fate;
+  numbers = h.numbers;
+  order = h.order;
+  places = h.places;
+  taken = h.taken;
+  flushed = h.flushed;
+  deleted = h.deleted;
+  dropped = h.dropped;
+  held = h.held;
+  listed = h.listed;
+  told = h.told;
+  handed = h.handed;
+  tables = h.tables;
+  last = h.last;
+  answers = h.answers;
+  carries = (tt, h.carries);
+}
+
 -- events with the replies of the step, from a state that stands on some entries
 abbrev GoesOn : Limits → Policy → State → List Asked → Type 0
 GoesOn limits policy state asked =
@@ -295,6 +318,9 @@ goes limits policy state (q ∷ asked) carried_in journal stands = goes_by limit
   goes_by limits policy state who (Dump kind) asked rest carried_in journal stands =
       let acts = answered limits policy state asked in
       dump_goes limits policy kind carried_in journal state (after_all limits policy state acts) who (dump_of kind state.live) acts (rest carried_in journal stands)
+  goes_by limits policy state who Look asked rest carried_in journal stands =
+      let acts = answered limits policy state asked in
+      look_goes limits policy carried_in journal state (after_all limits policy state acts) who (numbers_of state) acts (rest carried_in journal stands)
 
 abbrev GoesAll : Limits → Policy → History → Type 0
 GoesAll limits policy acts = Goes limits policy empty [] empty_state (state_after limits policy acts) acts

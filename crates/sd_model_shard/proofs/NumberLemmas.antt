@@ -3,7 +3,7 @@ use Rattle.std.proofs.Common.{◌≡◌, ℕ, ◌+◌, ◌≤◌, [], ◌∷◌,
 use Rattle.std.specs.Prelude.{min, Option, Some, None}
 use Rattle.std.proofs.lemmas.List.Sums.{sum_by-cons}
 use Rattle.sd_model_text.specs.Lines.{Sample}
-use Rattle.sd_model_shard.specs.Shard.{State, Cause, Limits, Policy, Event, Submit, Swap, Delete, Dump, Reply, empty_state, step, admitted, refusal, last_number}
+use Rattle.sd_model_shard.specs.Shard.{State, Cause, Limits, Policy, Event, Submit, Swap, Delete, Dump, Look, Reply, empty_state, step, admitted, refusal, last_number}
 use Rattle.sd_model_shard.specs.History.{Act, History, LegalFrom, Legal, after, after_all, state_after}
 use Rattle.sd_model_shard.proofs.HistoryLemmas.{flushes_told}
 use Rattle.sd_model_shard.specs.Whereabouts.{taken_in, dropped_in, deleted_in, told_by, AreSums}
@@ -30,6 +30,7 @@ by_step limits policy state (Submit s) most = sampled state s (refusal limits st
 by_step limits policy state Swap most = record { taken_is = omega arith; deleted_is = omega arith; dropped_is = same state.dropped most }
 by_step limits policy state (Delete kind pattern) most = record { taken_is = omega arith; deleted_is = refl; dropped_is = same state.dropped most }
 by_step limits policy state (Dump kind) most = record { taken_is = omega arith; deleted_is = omega arith; dropped_is = same state.dropped most }
+by_step limits policy state Look most = record { taken_is = omega arith; deleted_is = omega arith; dropped_is = same state.dropped most }
 
 -- one reply before others
 told_by-cons : (weigh : Reply → ℕ) (a : Act) (acts : History) → told_by weigh (a ∷ acts) ≡ weigh a.reply + told_by weigh acts

@@ -151,14 +151,38 @@ pub data Event : Type 0 where
   Swap : Event
   Delete : (kind : Kind) (pattern : List ℕ) → Event
   Dump : (kind : Kind) → Event
+  Look : Event
+
+-- What a shard tells of itself: how many rows it has and how many samples it holds; and how many samples it took, flushed,
+-- deleted and dropped so far.
+pub record Numbers : Type 0 where
+  pub rows : ℕ
+  pub held : ℕ
+  pub taken : ℕ
+  pub flushed : ℕ
+  pub deleted : ℕ
+  pub dropped : ℕ
+
+-- the numbers of a state
+abbrev pub numbers_of : State → Numbers
+numbers_of state =
+    record {
+      rows = len state.live;
+      held = state.held;
+      taken = state.taken;
+      flushed = state.flushed;
+      deleted = state.deleted;
+      dropped = state.dropped;
+    }
 
 -- What a shard answers: what became of a sample; the table that it hands out; the keys of the rows that a deletion took
--- out, how many rows those are and how many samples they had; the rows that a dump tells.
+-- out, how many rows those are and how many samples they had; the rows that a dump tells; its numbers.
 pub data Reply : Type 0 where
   Answered : (placed : Placed) → Reply
   Swapped : (table : Table) → Reply
   Deleted : (keys : List (List ℕ)) (rows samples : ℕ) → Reply
   Dumped : (rows : List DumpRow) → Reply
+  Looked : (numbers : Numbers) → Reply
 
 -- a state, and the reply that led there
 pub record Stepped : Type 0 where
@@ -183,3 +207,4 @@ step limits policy state Swap = record { state = after_swap policy state; reply 
 step limits policy state (Delete kind pattern) =
     record { state = after_delete kind pattern state; reply = deletion_of kind pattern state }
 step limits policy state (Dump kind) = record { state = state; reply = Dumped (dump_of kind state.live) }
+step limits policy state Look = record { state = state; reply = Looked (numbers_of state) }

@@ -11,7 +11,7 @@ use Rattle.sd_model_text.specs.Names.{Kind, fnv1a}
 use Rattle.sd_model_text.specs.Lines.{Sample, samples_of}
 use Rattle.sd_model_shard.specs.Rows.{Rows, Entry, row_of}
 use Rattle.sd_model_shard.specs.Commands.{is_hit, rows_left, entries_taken_out, entries_left}
-use Rattle.sd_model_shard.specs.Shard.{State, Cause, Limits, Policy, Event, Submit, Swap, Delete, Dump, step, admitted, refusal, carried, after_swap, after_delete}
+use Rattle.sd_model_shard.specs.Shard.{State, Cause, Limits, Policy, Event, Submit, Swap, Delete, Dump, Look, step, admitted, refusal, carried, after_swap, after_delete}
 use Rattle.sd_model_shard.specs.History.{Asked, act_of, answered, part_of}
 use Rattle.sd_model_shard.specs.Whereabouts.{causes}
 use Rattle.sd_model_shard.proofs.CarriedLemmas.{Stands, Stands-empty, Stands-sample, Stands-swap, Stands-delete, deleted_told}
@@ -46,6 +46,7 @@ books_event b (Submit s) = record { came = b.came ++ s ∷ []; flushed = b.flush
 books_event b Swap = record { came = b.came; flushed = b.flushed ++ b.held; deleted = b.deleted; held = [] }
 books_event b (Delete kind pattern) = record { came = b.came; flushed = b.flushed; deleted = b.deleted ++ filter (is_hit_by kind pattern) b.held; held = filter (is_left_by kind pattern) b.held }
 books_event b (Dump kind) = b
+books_event b Look = b
 
 abbrev pub books_step : Books → Asked → Books
 books_step b q = books_event b q.event
@@ -136,6 +137,7 @@ tells_asked limits policy state b (q ∷ asked) h none =
       by_event who Swap none = (none, swap_tells policy state b h)
       by_event who (Delete kind pattern) none = (none, delete_tells kind pattern state b h)
       by_event who (Dump kind) none = (none, h)
+      by_event who Look none = (none, h)
 
 same_books : {b c : Books} → b.came ≡ c.came → b.flushed ≡ c.flushed → b.deleted ≡ c.deleted → b.held ≡ c.held → b ≡ c
 same_books x y z w = λ k. record { came = x k; flushed = y k; deleted = z k; held = w k }
@@ -193,6 +195,7 @@ module _ (bounds : Bounds) (i : ℕ) where
   part-line b (Ok admin.Config) = refl
   part-line b (Ok admin.Quit) = refl
   part-line b (Ok (admin.Show kind)) = refl
+  part-line b (Ok admin.Totals) = refl
   part-line b (Ok (admin.Delete kind names)) = part-names b kind names
   part-line b (Ok (admin.Health word)) = refl
   part-line b (Err fault) = refl

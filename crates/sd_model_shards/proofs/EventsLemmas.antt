@@ -91,6 +91,7 @@ module _ (bounds : Bounds) (i : ℕ) (id : RowId) where
     line_other (Ok admin.Config) = refl
     line_other (Ok admin.Quit) = refl
     line_other (Ok (admin.Show kind)) = refl
+    line_other (Ok admin.Totals) = refl
     line_other (Ok (admin.Delete kind names)) = names_other kind names
     line_other (Ok (admin.Health word)) = refl
     line_other (Err fault) = refl

@@ -14,7 +14,7 @@ use Rattle.sd_model_text.specs.Lines.{Sample, samples_of}
 use Rattle.sd_model_shard.specs.Rows.{RowId, row_cmp, Kept, row_of, is_same_row}
 use Rattle.sd_model_shard.specs.Summaries.{sampled, row_in}
 use Rattle.sd_model_shard.specs.Commands.{DumpRow, dump_of, dump_row, is_hit, is_of_kind, keys_of, rows_taken_out}
-use Rattle.sd_model_shard.specs.Shard.{State, Cause, Limits, Policy, Event, Submit, Swap, Delete, Dump, step, admitted, refusal, left_of, after_swap, after_delete, empty_state, Table}
+use Rattle.sd_model_shard.specs.Shard.{State, Cause, Limits, Policy, Event, Submit, Swap, Delete, Dump, Look, step, admitted, refusal, left_of, after_swap, after_delete, empty_state, Table}
 use Rattle.sd_model_shard.specs.History.{Asked, part_of}
 use Rattle.sd_model_shard.proofs.RowLemmas.{rows_total}
 use Rattle.sd_model_shard.proofs.SummaryLemmas.{get-carried, get-touched}
@@ -60,6 +60,7 @@ absent_step limits policy state (Submit s) id foreign none = absent_sample state
 absent_step limits policy state Swap id foreign none = get-carried policy state.live id ∙ ap (option_and_then (left_of policy id)) none
 absent_step limits policy state (Delete kind pattern) id foreign none = absent_delete kind pattern state id none
 absent_step limits policy state (Dump kind) id foreign none = none
+absent_step limits policy state Look id foreign none = none
 
 absent_asked : (limits : Limits) (policy : Policy) (state : State) (asked : List Asked) (id : RowId) → AreForeign id asked → get state.live id ≡ None → get (after_asked limits policy state asked).live id ≡ None
 absent_asked limits policy state [] id foreign none = none
@@ -84,6 +85,7 @@ module _ (bounds : Bounds) (i : ℕ) (id : RowId) (away : eqb i (shard id.key bo
   foreign_line (Ok admin.Config) = tt
   foreign_line (Ok admin.Quit) = tt
   foreign_line (Ok (admin.Show kind)) = (tt, tt)
+  foreign_line (Ok admin.Totals) = (tt, tt)
   foreign_line (Ok (admin.Delete kind names)) = foreign_names kind names
   foreign_line (Ok (admin.Health word)) = tt
   foreign_line (Err fault) = tt

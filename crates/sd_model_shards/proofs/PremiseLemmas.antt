@@ -8,7 +8,8 @@ use Rattle.sd_model_shard.specs.Shard.{State, Cause}
 use Rattle.sd_model_shard.specs.Whereabouts.{causes}
 use Rattle.sd_model_replay.specs.Settings.{bounds_of}
 use Rattle.sd_model_replay.specs.Replay.{Played, first_run, run_of, history_at}
-use Rattle.sd_model_replay.specs.Totals.{number_in, totals_after}
+use Rattle.sd_model_record.specs.Totals.{number_in}
+use Rattle.sd_model_replay.specs.Totals.{totals_after}
 use Rattle.sd_model_replay.proofs.AccountingLemmas.{are_accounted}
 use Rattle.sd_model_replay.proofs.HistoryLemmas.{state-history_at}
 use Rattle.sd_model_shards.specs.Shards.{NoneDropped}

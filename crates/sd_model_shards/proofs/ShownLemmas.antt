@@ -11,7 +11,7 @@ use Rattle.sd_model_text.specs.Lines.{Sample}
 use Rattle.sd_model_shard.specs.Rows.{RowId, row_cmp}
 use Rattle.sd_model_shard.specs.Commands.{dump_of, in_key_order}
 use Rattle.sd_model_shard.specs.Shard as at_shard
-use Rattle.sd_model_shard.specs.Shard.{State, Cause, Limits, Policy, Event, Submit, Swap, Delete, Dump, step, admitted, refusal, deletion_of, after_delete, table_of, Dumped}
+use Rattle.sd_model_shard.specs.Shard.{State, Cause, Limits, Policy, Event, Submit, Swap, Delete, Dump, Look, step, admitted, refusal, deletion_of, after_delete, table_of, Dumped}
 use Rattle.sd_model_shard.specs.History.{Act, Asked, act_of, answered}
 use Rattle.sd_model_shard.specs.Whereabouts.{causes, dropped_in}
 use Rattle.sd_model_shard.proofs.OrderLemmas.{sum_by-flat_map}
@@ -29,7 +29,7 @@ use Rattle.sd_model_serve.specs.Rounds.{Round, round_record}
 use Rattle.sd_model_serve.specs.Sessions.{replies_at}
 use Rattle.sd_model_replay.specs.Replay.{Outcome, Played, Run, first_run, events_in, events_at, acts_in, replies_to, packet_tally, desk_after, desk_after_line, play, run_of, Moment, moments, form_of, round_by, rounds, rounds_from, records, deliveries}
 use Rattle.sd_model_replay.specs.Asked.{broadcasts, replies_in, output_in, output_of}
-use Rattle.sd_model_shards.specs.Shards.{NoneDropped, with_shards, ShowsNone, ShowsNoSettings}
+use Rattle.sd_model_shards.specs.Shards.{NoneDropped, with_shards, ShowsNone, ShowsNoShards, ShowNone}
 use Rattle.sd_model_shards.proofs.ViewLemmas.{View, nothing, view-empty}
 use Rattle.sd_model_shards.proofs.EventsLemmas.{Reflects, Reflects-command, Reflects-delete, seen_after, seen_left, NoneIn, none_cut}
 use Rattle.sd_model_shards.proofs.ToldLemmas.{keys_alike, rows_alike, values_alike}
@@ -57,6 +57,8 @@ none_answered limits policy state (q ∷ asked) none = by_event q.who q.event (�
       omega (arith, rest none, sum_by-cons dropped_in ((step limits policy state (Delete kind pattern)).reply) (map (λ (a : Act). a.reply) (answered limits policy (step limits policy state (Delete kind pattern)).state asked)))
   by_event who (Dump kind) rest none =
       omega (arith, rest none, sum_by-cons dropped_in ((step limits policy state (Dump kind)).reply) (map (λ (a : Act). a.reply) (answered limits policy state asked)))
+  by_event who Look rest none =
+      omega (arith, rest none, sum_by-cons dropped_in ((step limits policy state Look).reply) (map (λ (a : Act). a.reply) (answered limits policy state asked)))
 
 -- a sum over all shards of what is 0 in each
 pub none_summed : (f : ℕ → ℕ) (shards start count : ℕ) → start + count ≤ shards → ((i : ℕ) → i < shards → f i ≡ 0) → sum_by f (range_with_len start count) ≡ 0
@@ -198,10 +200,11 @@ module _ (settings : Settings) (n m : ℕ) (some_n : 1 ≤ n) (some_m : 1 ≤ m)
   abbrev line_replied : Settings → Run → ℕ → List ℕ → Result admin.Command AdminFault → List Reply
   line_replied s run moment line answer = replies_by (answers_at (bounds_of s) run.shards (admin_events (admin.command line))) run.desk.facts s moment answer
 
-  line_alike : (one another : Run) (seen : RowId → View) (moment : ℕ) (line : List ℕ) (answer : Result admin.Command AdminFault) → admin.command line ≡ answer → (answer ≡ Ok admin.Config → ⊥) → AreAlike n m one another seen
+  line_alike : (one another : Run) (seen : RowId → View) (moment : ℕ) (line : List ℕ) (answer : Result admin.Command AdminFault) → admin.command line ≡ answer → ShowsNoShards answer → AreAlike n m one another seen
       → line_replied S one moment line answer ≡ line_replied T another moment line answer
   line_alike one another seen moment line (Ok admin.Stats) is shows h = ap (λ (desk : Desk). Stats desk.facts moment ∷ []) h.desk
-  line_alike one another seen moment line (Ok admin.Config) is shows h = absurd (shows refl)
+  line_alike one another seen moment line (Ok admin.Totals) is shows h = absurd (shows.1 refl)
+  line_alike one another seen moment line (Ok admin.Config) is shows h = absurd (shows.0 refl)
   line_alike one another seen moment line (Ok admin.Quit) is shows h = refl
   line_alike one another seen moment line (Ok (admin.Show kind)) is shows h = ap (λ rows. Rows kind rows ∷ []) (
       ap (λ answer. rows_told (answers_at (bounds_of S) one.shards (admin_events answer) 0)) is
@@ -222,7 +225,7 @@ module _ (settings : Settings) (n m : ℕ) (some_n : 1 ≤ n) (some_m : 1 ≤ m)
   replies_alike one another seen (Flush ts) shows h = refl
   replies_alike one another seen (Admin moment line) shows h = line_alike one another seen moment line (admin.command line) refl shows h
 
-  outputs_alike : (one another : Run) (seen : RowId → View) (played : List Played) → AreAlike n m one another seen → NoneFrom (bounds_of S) one played → NoneFrom (bounds_of T) another played → ShowsNoSettings played
+  outputs_alike : (one another : Run) (seen : RowId → View) (played : List Played) → AreAlike n m one another seen → NoneFrom (bounds_of S) one played → NoneFrom (bounds_of T) another played → ShowNone played
       → flat_map (λ (m : Moment). output_in S m.before m.played.command) (moments (bounds_of S) one played) ≡ flat_map (λ (m : Moment). output_in T m.before m.played.command) (moments (bounds_of T) another played)
   outputs_alike one another seen [] h none_n none_m shows = refl
   outputs_alike one another seen (p ∷ played) h none_n none_m shows =
@@ -231,7 +234,7 @@ module _ (settings : Settings) (n m : ℕ) (some_n : 1 ≤ n) (some_m : 1 ≤ m)
       (none_behind (bounds_of S) one p played none_n) (none_behind (bounds_of T) another p played none_m) shows.1 in
       λ k. here k ++ rest k
 
-  pub output_alike : (played : List Played) → NoneDropped (bounds_of S) played → NoneDropped (bounds_of T) played → ShowsNoSettings played → output_of S played ≡ output_of T played
+  pub output_alike : (played : List Played) → NoneDropped (bounds_of S) played → NoneDropped (bounds_of T) played → ShowNone played → output_of S played ≡ output_of T played
   output_alike played none_n none_m shows = outputs_alike (first_run played) (first_run played) (λ id. nothing) played (alike_first n m played) none_n none_m shows
 
   desks_alike : (one another : Run) (seen : RowId → View) (played : List Played) → AreAlike n m one another seen → NoneFrom (bounds_of S) one played → NoneFrom (bounds_of T) another played → (run_of (bounds_of S) one played).desk ≡ (run_of (bounds_of T) another played).desk

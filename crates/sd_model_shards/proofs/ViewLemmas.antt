@@ -6,7 +6,7 @@ use Rattle.sd_model_text.specs.Lines.{Sample}
 use Rattle.sd_model_shard.specs.Rows.{RowId, row_cmp, Kept, row_of, is_same_row}
 use Rattle.sd_model_shard.specs.Summaries.{without_samples, sampled, row_in}
 use Rattle.sd_model_shard.specs.Commands.{is_hit}
-use Rattle.sd_model_shard.specs.Shard.{State, empty_state, Cause, Limits, Policy, Event, Submit, Swap, Delete, Dump, step, admitted, refusal, with_sample, left_of}
+use Rattle.sd_model_shard.specs.Shard.{State, empty_state, Cause, Limits, Policy, Event, Submit, Swap, Delete, Dump, Look, step, admitted, refusal, with_sample, left_of}
 use Rattle.sd_model_shard.specs.History.{Asked, act_of, after_all, answered}
 use Rattle.sd_model_shard.specs.Whereabouts.{causes}
 use Rattle.sd_model_shard.proofs.SummaryLemmas.{get-carried, get-touched}
@@ -28,6 +28,7 @@ row_event policy id v (Submit s) = cond (is_same_row id (row_of s)) (Some (sampl
 row_event policy id v Swap = option_and_then (left_of policy id) v
 row_event policy id v (Delete kind pattern) = cond (not (is_hit kind pattern id)) v nothing
 row_event policy id v (Dump kind) = v
+row_event policy id v Look = v
 
 abbrev pub row_step : Policy → RowId → View → Asked → View
 row_step policy id v q = row_event policy id v q.event
@@ -67,3 +68,4 @@ view-asked limits policy state id (q ∷ asked) none =
       by_event who Swap rest none = rest none ∙ ap (λ (v : View). fold (row_step policy id) v asked) (get-carried policy state.live id)
       by_event who (Delete kind pattern) rest none = rest none ∙ ap (λ (v : View). fold (row_step policy id) v asked) (get-rows_left kind pattern state.live id)
       by_event who (Dump kind) rest none = rest none
+      by_event who Look rest none = rest none

@@ -5,12 +5,13 @@ ghost use Rattle.sd_model_text.specs.Names.{shard};
 ghost use Rattle.sd_model_shard.specs.Rows.{RowId, is_same_row};
 ghost use Rattle.sd_model_replay.specs.Settings.{Bounds, bounds_of};
 ghost use Rattle.sd_model_replay.specs.Replay.{Played, first_run, rounds, run_of};
-ghost use Rattle.sd_model_replay.specs.Totals.{number_in, totals_after};
+ghost use Rattle.sd_model_record.specs.Totals.{number_in};
+ghost use Rattle.sd_model_replay.specs.Totals.{totals_after};
 ghost use Rattle.sd_model_shards.specs.Shards.{NoneDropped, ShowTheSame, rows_taken, with_shards};
 ghost use Rattle.sd_model_settings.specs.Settings.{Settings};
 
 /// Where settings that differ in the number of shards alone drop no sample, a script shows the same by both: the texts that backends
-/// are given, the records, the totals, and the output but for what `config` tells.
+/// are given, the records, the totals, and the output but for what `config` and `totals` tell.
 pub fn shards_are_not_shown()
     ensures { (settings : Settings) (n m : ℕ) (played : List Played) → 1 ≤ n → 1 ≤ m
         → NoneDropped (bounds_of (with_shards n settings)) played → NoneDropped (bounds_of (with_shards m settings)) played

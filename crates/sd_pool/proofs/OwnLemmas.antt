@@ -7,7 +7,7 @@ use Rattle.sd_model_text.specs.Lines.{Sample}
 use Rattle.sd_model_shard.specs.Rows.{RowId, row_cmp, Kept, row_of, is_same_row}
 use Rattle.sd_model_shard.specs.Summaries.{sampled, row_in}
 use Rattle.sd_model_shard.specs.Commands.{is_hit}
-use Rattle.sd_model_shard.specs.Shard.{State, Cause, Event, Submit, Swap, Delete, Dump, empty_state, step, admitted, refusal, left_of}
+use Rattle.sd_model_shard.specs.Shard.{State, Cause, Event, Submit, Swap, Delete, Dump, Look, empty_state, step, admitted, refusal, left_of}
 use Rattle.sd_model_shard.proofs.SummaryLemmas.{get-carried, get-touched}
 use Rattle.sd_model_shard.proofs.DeletionLemmas.{get-rows_left, same_row}
 use Rattle.sd_pool.specs.Setup.{Setup, IsOwn, OnlyOf}
@@ -35,6 +35,7 @@ OnlyOf-step setup state (Submit s) own only id away =
 OnlyOf-step setup state Swap own only id away = get-carried setup.policy state.live id ∙ ap (option_and_then (left_of setup.policy id)) (only id away)
 OnlyOf-step setup state (Delete kind pattern) own only id away = get-rows_left kind pattern state.live id ∙ neither (not (is_hit kind pattern id)) (get state.live id) (only id away)
 OnlyOf-step setup state (Dump kind) own only id away = only id away
+OnlyOf-step setup state Look own only id away = only id away
 
 pub OnlyOf-empty : (i shards : ℕ) → OnlyOf i shards empty_state.live
 OnlyOf-empty i shards id away = get-empty row_cmp id

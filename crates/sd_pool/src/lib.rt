@@ -16,7 +16,6 @@ mod setup;
 mod shares;
 mod value;
 
-pub use close::Books;
 pub use noted::Noted;
 pub use pool::Pool;
 pub use seat::{Room, Seat, Seats};

@@ -1,13 +1,13 @@
 //! The value behind a turn: a shard that has rows of its own keys alone.
 ghost use Rattle.std.specs.Prelude.{◌≡◌, ◌+◌, ◌<◌, ◌≤◌, [], length, refl, IfOk};
 ghost use Rattle.sd_model_text.specs.Names.{shard};
-ghost use Rattle.sd_model_shard.specs.Shard.{Answered, Swapped, Submit, Swap, Delete, Dump as DumpOf};
+ghost use Rattle.sd_model_shard.specs.Shard.{Answered, Looked, Swapped, Submit, Swap, Delete, Dump as DumpOf, Look};
 ghost use Rattle.sd_key.specs.Kind.{kind_of};
 ghost use Rattle.sd_epoch.specs.Limits.{limits_of, AreLimits};
 ghost use Rattle.sd_epoch.specs.Table.{table_of};
 ghost use Rattle.sd_shard.specs.Dump.{rows_of};
 ghost use Rattle.sd_shard.specs.Policy.{policy_of};
-ghost use Rattle.sd_shard.specs.Shard.{placed_of, state_of};
+ghost use Rattle.sd_shard.specs.Shard.{numbers_in, placed_of, state_of};
 ghost use Rattle.sd_pool.specs.Setup.{who_of};
 ghost use Rattle.sd_pool.specs.Behind.{setup_of, Stands, Steps as IsStep};
 ghost use Rattle.sd_spares.specs.Tables.{IsSpare};
@@ -135,6 +135,12 @@ impl ShardValue {
         // It has no more rows than its limits say, for which there is room.
         let _ = self.shard.rows();
         self.shard.dump(kind, out);
+    }
+
+    pub(crate) fn look(&self) -> ShardBook
+        ensures { IsStep self.now self.now Look (Looked (numbers_in result)) }
+    {
+        self.shard.book()
     }
 
     pub(crate) fn swap(&mut self, spare: Table) -> Table

@@ -15,7 +15,7 @@ use Rattle.sd_model_proxy.specs.Batches.{AreForwarded, Batch, Batched, add_total
 use Rattle.sd_model_proxy.specs.Routes.{Bad, Read, Route, To, Unowned, goes_to, lines_to, route, routes_of}
 use Rattle.sd_model_proxy.proofs.SendLemmas.{AreForwarded-next, AreForwarded-none, AreForwarded-only, behind, only, only-elsewhere, only-here}
 use Rattle.sd_model_proxy.proofs.TotalLemmas.{add_totals-next, over-only}
-use Rattle.sd_model_replay.specs.Totals.{Total}
+use Rattle.sd_model_record.specs.Totals.{Total}
 use Rattle.sd_proxy.specs.Forwarding.{AreSent, AreUnderWay, Forwards, IsLeft, IsUnderWay, NoneWaits, Stands, lines_for, routes_by}
 use Rattle.sd_proxy.specs.Views.{totals_of_route, totals_view}
 use Rattle.sd_proxy.specs.Sending.{Sends, totals_of_batches}

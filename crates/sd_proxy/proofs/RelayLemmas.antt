@@ -12,7 +12,7 @@ use Rattle.sd_model_serve.specs.Ends.{EndsReceiver, most_turns}
 use Rattle.sd_model_proxy.specs.Routes.{Read}
 use Rattle.sd_model_proxy.specs.Batches.{no_totals}
 use Rattle.sd_model_proxy.specs.Relays.{IsRelay, Relay, relay_totals}
-use Rattle.sd_model_replay.specs.Totals.{Total}
+use Rattle.sd_model_record.specs.Totals.{Total}
 use Rattle.sd_model_live.specs.Proxy.{Begins, HaveAnswered, last_place}
 use Rattle.sd_model_live.proofs.LookLemmas.{answered_more, begun, last_at, none_answered, one_answered}
 use Rattle.sd_proxy.specs.Forwarding.{Forwards}

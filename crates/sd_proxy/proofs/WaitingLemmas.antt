@@ -11,7 +11,7 @@ use Rattle.sd_model_outside.specs.Outside.{Object}
 use Rattle.sd_model_outside.specs.Wires.{HasSent}
 use Rattle.sd_model_record.specs.Desk.{counted, last_counted}
 use Rattle.sd_model_record.specs.WireSends.{AfterSends, WireSend}
-use Rattle.sd_model_replay.specs.Totals.{Total, number_in}
+use Rattle.sd_model_record.specs.Totals.{Total, number_in}
 use Rattle.sd_model_proxy.specs.Batches.{Batch, add_totals, batches, batches_from, fits, joined, lines_not_sent, lines_sent, send_of}
 use Rattle.sd_model_proxy.proofs.TotalLemmas.{add-twice}
 use Rattle.sd_proxy.specs.Views.{totals_view}

@@ -4,7 +4,7 @@ use Rattle.sd_model_outside.specs.Outside.{Object}
 use Rattle.sd_model_settings.specs.Entries.{Node}
 use Rattle.sd_model_proxy.specs.Batches.{AreBatched, AreForwarded, Batched, add_totals, batches, totals_by, totals_of}
 use Rattle.sd_model_proxy.specs.Routes.{Read, Route, goes_to, route}
-use Rattle.sd_model_replay.specs.Totals.{Total}
+use Rattle.sd_model_record.specs.Totals.{Total}
 use Rattle.sd_proxy.specs.Waiting.{Holds, batches_behind, under_way}
 use Rattle.sd_proxy.specs.declared.waiting.Waiting.{Waiting}
 

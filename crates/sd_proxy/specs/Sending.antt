@@ -2,7 +2,7 @@
 use Rattle.std.specs.Prelude.{◌≡◌, ℕ, List, [], ◌∷◌, codes, map}
 use Rattle.sd_model_outside.specs.Outside.{Object}
 use Rattle.sd_model_record.specs.WireSends.{AfterSends}
-use Rattle.sd_model_replay.specs.Totals.{Total}
+use Rattle.sd_model_record.specs.Totals.{Total}
 use Rattle.sd_model_proxy.specs.Batches.{Batch, add_totals, lines_not_sent, lines_sent, send_of}
 
 -- what packets count for

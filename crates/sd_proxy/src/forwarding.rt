@@ -1,7 +1,7 @@
 //! The lines of one datagram.
 ghost use Rattle.std.specs.Prelude.{◌≡◌, ◌++◌, ◌∷◌, ℕ, List, [], length, map};
 ghost use Rattle.sd_model_outside.specs.Outside.{Object};
-ghost use Rattle.sd_model_replay.specs.Totals.{Total};
+ghost use Rattle.sd_model_record.specs.Totals.{Total};
 ghost use Rattle.sd_model_settings.specs.Entries.{Node};
 ghost use Rattle.sd_proxy.specs.Forwarding.{AreSent, AreUnderWay, Forwards, NoneWaits};
 ghost use Rattle.sd_proxy.specs.Views.{totals_view};

@@ -1,7 +1,7 @@
 ghost use Rattle.std.specs.Prelude.{◌≡◌, ◌+◌, ◌≤◌, ◌^◌, [], ◌∷◌, ◌++◌, codes, length, OnOk, OnErr};
 ghost use Rattle.sd_model_outside.specs.Outside.{HasFailedBehind, given};
 ghost use Rattle.sd_model_record.specs.Desk.{counted};
-ghost use Rattle.sd_model_replay.specs.Totals.{total_line, totals_text};
+ghost use Rattle.sd_model_record.specs.Totals.{total_line, totals_text};
 
 use crate::destination::Route;
 use sd_decimal::{Line, write_whole};

@@ -1,89 +1,149 @@
 -- Lines of streams that were filed one after the other.
-use Rattle.std.proofs.Common.{◌≡◌, ℕ, List, [], ◌∷◌, ◌++◌, refl, sym, ap, subst, ◌∙◌, arith, append-nil}
+use Rattle.std.proofs.Common.{◌≡◌, ℕ, ◌+◌, ◌≤◌, List, [], ◌∷◌, ◌++◌, length, min, refl, sym, ap, subst, ◌∙◌, arith, append-nil, append_assoc}
 use Rattle.std.specs.Prelude.{flat_map, sum_by}
 use Rattle.std.proofs.lemmas.Grind.{flat_map-append}
-use Rattle.std.proofs.lemmas.List.Sums.{sum_by-append}
-use Rattle.sd_model_text.specs.Lines.{Sample}
+use Rattle.std.proofs.lemmas.List.Sums.{count_by-le-length, sum_by-append, sum_by-cons}
+use Rattle.sd_model_text.specs.Lines.{Sample, bad_of, is_bad, pieces, reading, samples_of}
 use Rattle.sd_model_shard.specs.History.{History}
 use Rattle.sd_model_shard.specs.Whereabouts.{taken_in, dropped_in}
 use Rattle.sd_model_record.specs.Record.{Tally}
-use Rattle.sd_model_record.specs.Desk.{add_tally, counted, no_tally}
+use Rattle.sd_model_record.specs.Desk.{add_tally, counted, last_counted, no_tally}
 use Rattle.sd_model_serve.specs.Receiving.{Adds, asks, told_in, HasFiled, tally_of}
 use Rattle.sd_model_serve.proofs.ActsLemmas.{Adds-none}
 use Rattle.sd_model_stream.specs.Streams.{Cut, Line, Long, samples_in, pieces_of_line, bad_of_line, FilesLines, Cutting, CutsOn}
 use Rattle.sd_model_stream.proofs.CutLemmas.{CutsOn-none, CutsOn-next}
 use Rattle.sd_filing.specs.declared.filing.Filed.{Filed}
-use Rattle.sd_filing.specs.Filing.{FilesDatagram}
+use Rattle.sd_filing.specs.Filing.{ReadsDatagram, SubmitsWaiting}
 use Rattle.sd_filing.proofs.ToldLemmas.{told_in-none}
-use Rattle.sd_receive.specs.Streaming.{TakesBytes}
-use Rattle.sd_receive.proofs.FiledLemmas.{HasFiled-none, HasFiled-next, one_filed}
+use Rattle.sd_receive.specs.Streaming.{ReadsBytes, ReadsLines, TakesBytes}
+use Rattle.sd_receive.proofs.FiledLemmas.{HasFiled-none, HasFiled-next}
+
+-- no more pieces are bad than there are
+bad_few : (bytes : List ℕ) → bad_of bytes ≤ length (pieces bytes)
+bad_few bytes = count_by-le-length (λ piece. is_bad (reading piece)) (pieces bytes)
 
 module _ {shards : ℕ} where
+  -- the same samples and counts, written otherwise
+  HasFiled-as : (xs ys : List Sample) (l k b c : ℕ) (old new : ℕ → History) (t : Tally) (n : ℕ) → xs ≡ ys → l ≡ k → b ≡ c → HasFiled shards xs 0 l b old new t n → HasFiled shards ys 0 k c old new t n
+  HasFiled-as xs ys l k b c old new t n samples lines bad filed =
+      subst (λ j. HasFiled shards ys 0 k j old new t n) bad
+      (subst (λ j. HasFiled shards ys 0 j b old new t n) lines
+      (subst (λ zs. HasFiled shards zs 0 l b old new t n) samples filed))
+
   pub FilesLines-none : (own : ℕ → History) → FilesLines shards [] own own no_tally 0
   FilesLines-none own = HasFiled-none own
 
   -- lines behind lines
   pub FilesLines-next : (xs ys : List Cut) (old mid new : ℕ → History) (s t : Tally) (m n : ℕ) → FilesLines shards xs old mid s m → FilesLines shards ys mid new t n → FilesLines shards (xs ++ ys) old new (add_tally s t) (counted m n)
   FilesLines-next xs ys old mid new s t m n first second =
-      let both =
-      HasFiled-next (flat_map samples_in xs) (flat_map samples_in ys) 0 0 (sum_by pieces_of_line xs) (sum_by pieces_of_line ys) (sum_by bad_of_line xs) (sum_by bad_of_line ys) old mid new s t m n first second in
-      let lines = sum_by-append pieces_of_line xs ys in
-      let bad = sum_by-append bad_of_line xs ys in
+      HasFiled-as _ _ _ _ _ _ old new (add_tally s t) (counted m n) (sym (flat_map-append samples_in xs ys)) (sym (sum_by-append pieces_of_line xs ys)) (sym (sum_by-append bad_of_line xs ys))
+      (HasFiled-next (flat_map samples_in xs) (flat_map samples_in ys) 0 0 (sum_by pieces_of_line xs) (sum_by pieces_of_line ys) (sum_by bad_of_line xs) (sum_by bad_of_line ys) old mid new s t m n first second)
+
+  pub ReadsLines-none : (waiting : List Sample) (own : ℕ → History) → ReadsLines shards [] waiting waiting own own no_tally 0
+  ReadsLines-none waiting own = record { sent = []; split = append-nil waiting; filed = HasFiled-none own }
+
+  -- lines behind lines
+  pub ReadsLines-next : (xs ys : List Cut) (u v w : List Sample) (old mid new : ℕ → History) (s t : Tally) (m n : ℕ)
+      → ReadsLines shards xs u v old mid s m → ReadsLines shards ys v w mid new t n → ReadsLines shards (xs ++ ys) u w old new (add_tally s t) (counted m n)
+  ReadsLines-next xs ys u v w old mid new s t m n first second = record {
+    sent = first.sent ++ second.sent;
+    split =
+        ap (λ (l : List Sample). u ++ l) (flat_map-append samples_in xs ys)
+        ∙ sym (append_assoc u (flat_map samples_in xs) (flat_map samples_in ys))
+        ∙ ap (λ (l : List Sample). l ++ flat_map samples_in ys) first.split
+        ∙ append_assoc first.sent v (flat_map samples_in ys)
+        ∙ ap (λ (l : List Sample). first.sent ++ l) second.split
+        ∙ sym (append_assoc first.sent second.sent w);
+    filed =
+        HasFiled-as _ _ _ _ _ _ old new (add_tally s t) (counted m n) refl (sym (sum_by-append pieces_of_line xs ys)) (sym (sum_by-append bad_of_line xs ys))
+        (HasFiled-next first.sent second.sent 0 0 (sum_by pieces_of_line xs) (sum_by pieces_of_line ys) (sum_by bad_of_line xs) (sum_by bad_of_line ys) old mid new s t m n first.filed second.filed);
+  }
+
+  -- a line whose samples wait behind others
+  pub line_read : (bytes : List ℕ) (caller : ℕ) (old new : ℕ → History) (waiting waiting_now : List Sample) (filed : Filed)
+      → ReadsDatagram (λ acts. Adds shards acts old new) shards caller bytes waiting waiting_now filed
+      → ReadsLines shards (Line bytes ∷ []) waiting waiting_now old new (record { packets = 0; lines = filed.lines; bad = filed.bad; dropped = filed.dropped }) filed.taken
+  line_read bytes caller old new waiting waiting_now filed reads =
+      let lines : filed.lines ≡ min (sum_by pieces_of_line (Line bytes ∷ [])) last_counted =
+      omega (arith, reads.lines, reads.small, sum_by-cons pieces_of_line (Line bytes) []) in
+      let small : bad_of bytes ≤ length (pieces bytes) = bad_few bytes in
+      let bad : filed.bad ≡ min (sum_by bad_of_line (Line bytes ∷ [])) last_counted =
+      omega (arith, reads.bad, reads.lines, small, reads.small, sum_by-cons bad_of_line (Line bytes) []) in
+      let dropped : filed.dropped ≡ min (told_in dropped_in shards reads.acts) last_counted = omega (arith, reads.dropped, reads.few) in
       record {
-        acts = both.acts;
-        added = both.added;
-        asked = λ i. both.asked i ∙ ap (asks shards i) (sym (flat_map-append samples_in xs ys));
-        placed = both.placed;
-        tally_is = both.tally_is ∙ sym (λ i. tally_of 0 (lines i) (bad i) (told_in dropped_in shards both.acts));
-        taken_is = both.taken_is;
+        sent = reads.sent;
+        split = ap (λ (l : List Sample). waiting ++ l) (append-nil (samples_of bytes)) ∙ reads.split;
+        filed = record {
+          acts = reads.acts;
+          added = reads.added;
+          asked = reads.asked;
+          placed = reads.placed;
+          tally_is = λ i. record { packets = 0; lines = lines i; bad = bad i; dropped = dropped i };
+          taken_is = omega (arith, reads.taken, reads.few);
+        };
       }
 
-  -- the same without packets
-  no_packets : (samples : List Sample) (packets lines bad : ℕ) (old new : ℕ → History) (tally : Tally) (taken : ℕ) → HasFiled shards samples packets lines bad old new tally taken → HasFiled shards samples 0 lines bad old new (record tally { packets = 0 }) taken
-  no_packets samples packets lines bad old new tally taken h = record {
-    acts = h.acts;
-    added = h.added;
-    asked = h.asked;
-    placed = h.placed;
-    tally_is = ap (λ (t : Tally). record t { packets = 0 }) h.tally_is;
-    taken_is = h.taken_is;
-  }
-
-  -- a line that was filed as a datagram is
-  pub line_filed : (bytes : List ℕ) (caller : ℕ) (old new : ℕ → History) (filed : Filed)
-      → FilesDatagram (λ acts. Adds shards acts old new) shards caller bytes filed
-      → FilesLines shards (Line bytes ∷ []) old new (record { packets = 0; lines = filed.lines; bad = filed.bad; dropped = filed.dropped }) filed.taken
-  line_filed bytes caller old new filed files = no_packets _ _ _ _ old new _ filed.taken (one_filed bytes caller old new filed files)
-
   -- one that is too long
-  pub long_filed : (own : ℕ → History) → FilesLines shards (Long ∷ []) own own (record { packets = 0; lines = 1; bad = 1; dropped = 0 }) 0
-  long_filed own = record {
-    acts = λ i. [];
-    added = Adds-none shards own;
-    asked = λ i. refl;
-    placed = λ i. refl;
-    tally_is = ap (tally_of 0 1 1) (sym (told_in-none dropped_in shards));
-    taken_is = omega (arith, told_in-none taken_in shards);
+  pub long_read : (waiting : List Sample) (own : ℕ → History) → ReadsLines shards (Long ∷ []) waiting waiting own own (record { packets = 0; lines = 1; bad = 1; dropped = 0 }) 0
+  long_read waiting own = record {
+    sent = [];
+    split = append-nil waiting;
+    filed = record {
+      acts = λ i. [];
+      added = Adds-none shards own;
+      asked = λ i. refl;
+      placed = λ i. refl;
+      tally_is = ap (tally_of 0 1 1) (sym (told_in-none dropped_in shards));
+      taken_is = omega (arith, told_in-none taken_in shards);
+    };
   }
 
-  pub TakesBytes-none : (cutter : Cutting) (own : ℕ → History) → TakesBytes shards [] cutter cutter own own no_tally 0
-  TakesBytes-none cutter own = record { lines = []; cut = CutsOn-none cutter; filed = FilesLines-none own }
+  -- what waited was submitted
+  pub rest_filed : (caller : ℕ) (old new : ℕ → History) (waiting : List Sample) (filed : Filed)
+      → SubmitsWaiting (λ acts. Adds shards acts old new) shards caller waiting [] (record { lines = 0; bad = 0; dropped = 0; taken = 0 }) filed → filed.taken + filed.dropped ≤ last_counted
+      → HasFiled shards waiting 0 0 0 old new (record { packets = 0; lines = 0; bad = 0; dropped = filed.dropped }) filed.taken
+  rest_filed caller old new waiting filed submits few =
+      let sent : submits.sent ≡ waiting = sym (submits.split ∙ append-nil submits.sent) in
+      let dropped : filed.dropped ≡ min (told_in dropped_in shards submits.acts) last_counted = omega (arith, submits.dropped, few) in
+      record {
+        acts = submits.acts;
+        added = submits.added;
+        asked = λ i. submits.asked i ∙ ap (asks shards i) sent;
+        placed = submits.placed;
+        tally_is = λ i. record { packets = 0; lines = 0; bad = 0; dropped = dropped i };
+        taken_is = omega (arith, submits.taken, few);
+      }
 
-  pub TakesBytes-next : (before behind : List ℕ) (c d e : Cutting) (f g h : ℕ → History) (s t : Tally) (m n : ℕ)
-      → TakesBytes shards before c d f g s m → TakesBytes shards behind d e g h t n → TakesBytes shards (before ++ behind) c e f h (add_tally s t) (counted m n)
-  TakesBytes-next before behind c d e f g h s t m n first second = record {
+  pub ReadsBytes-none : (cutter : Cutting) (waiting : List Sample) (own : ℕ → History) → ReadsBytes shards [] cutter cutter waiting waiting own own no_tally 0
+  ReadsBytes-none cutter waiting own = record { lines = []; cut = CutsOn-none cutter; filed = ReadsLines-none waiting own }
+
+  pub ReadsBytes-next : (before behind : List ℕ) (c d e : Cutting) (u v w : List Sample) (f g h : ℕ → History) (s t : Tally) (m n : ℕ)
+      → ReadsBytes shards before c d u v f g s m → ReadsBytes shards behind d e v w g h t n → ReadsBytes shards (before ++ behind) c e u w f h (add_tally s t) (counted m n)
+  ReadsBytes-next before behind c d e u v w f g h s t m n first second = record {
     lines = first.lines ++ second.lines;
     cut = CutsOn-next first.lines second.lines before behind c d e first.cut second.cut;
-    filed = FilesLines-next first.lines second.lines f g h s t m n first.filed second.filed;
+    filed = ReadsLines-next first.lines second.lines u v w f g h s t m n first.filed second.filed;
   }
 
   -- bytes that end no line, or one that is ready then, and what became of that
-  pub TakesBytes-push : (bytes : List ℕ) (c d e : Cutting) (f g : ℕ → History) (t : Tally) (n : ℕ) → CutsOn [] bytes c d → TakesBytes shards [] d e f g t n → TakesBytes shards bytes c e f g t n
-  TakesBytes-push bytes c d e f g t n pushed ready = record {
+  pub ReadsBytes-push : (bytes : List ℕ) (c d e : Cutting) (v w : List Sample) (f g : ℕ → History) (t : Tally) (n : ℕ) → CutsOn [] bytes c d → ReadsBytes shards [] d e v w f g t n → ReadsBytes shards bytes c e v w f g t n
+  ReadsBytes-push bytes c d e v w f g t n pushed ready = record {
     lines = ready.lines;
     cut = subst (λ (bs : List ℕ). CutsOn ready.lines bs c e) (append-nil bytes) (CutsOn-next [] ready.lines bytes [] c d e pushed ready.cut);
     filed = ready.filed;
   }
 
-  pub TakesBytes-whole : (front bytes : List ℕ) (c d : Cutting) (f g : ℕ → History) (t : Tally) (n : ℕ) → bytes ≡ front → TakesBytes shards front c d f g t n → TakesBytes shards bytes c d f g t n
-  TakesBytes-whole front bytes c d f g t n is takes = subst (λ (bs : List ℕ). TakesBytes shards bs c d f g t n) (sym is) takes
+  -- none waited, and what waits at the end is submitted
+  pub TakesBytes-whole : (front bytes : List ℕ) (c d : Cutting) (v w : List Sample) (f g h : ℕ → History) (s t : Tally) (m n : ℕ) → bytes ≡ front → v ≡ []
+      → ReadsBytes shards front c d v w f g s m → HasFiled shards w 0 0 0 g h t n → TakesBytes shards bytes c d f h (add_tally s t) (counted m n)
+  TakesBytes-whole front bytes c d v w f g h s t m n is none takes rest =
+      let read = takes.filed in
+      let lines = takes.lines in
+      let all : read.sent ++ w ≡ flat_map samples_in lines = sym read.split ∙ ap (λ (l : List Sample). l ++ flat_map samples_in lines) none in
+      record {
+        lines = lines;
+        cut = subst (λ (bs : List ℕ). CutsOn lines bs c d) (sym is) takes.cut;
+        filed =
+            HasFiled-as (read.sent ++ w) (flat_map samples_in lines) _ _ _ _ f h (add_tally s t) (counted m n) all (omega arith) (omega arith)
+            (HasFiled-next read.sent w 0 0 (sum_by pieces_of_line lines) 0 (sum_by bad_of_line lines) 0 f g h s t m n read.filed rest);
+      }

@@ -1,10 +1,12 @@
 -- What the reading of a stream came to, and how it ended.
-use Rattle.std.specs.Prelude.{◌≡◌, ℕ, ◌<◌, List, length}
+use Rattle.std.specs.Prelude.{◌≡◌, ℕ, ◌<◌, List, ◌++◌, length, flat_map, sum_by}
+use Rattle.sd_model_text.specs.Lines.{Sample}
 use Rattle.sd_model_outside.specs.Outside.{Object, HasFailed, HasRead, IsAtEnd}
 use Rattle.sd_model_shard.specs.History.{History}
 use Rattle.sd_model_record.specs.Counts.{Part, HasCalled, HasCounted, of_tally}
 use Rattle.sd_model_record.specs.Record.{Tally}
-use Rattle.sd_model_stream.specs.Streams.{CountsReads, Cut, FilesLines, HasStreamed, Stream, Cutting, CutsOn}
+use Rattle.sd_model_serve.specs.Receiving.{HasFiled}
+use Rattle.sd_model_stream.specs.Streams.{CountsReads, Cut, FilesLines, HasStreamed, Stream, Cutting, CutsOn, samples_in, pieces_of_line, bad_of_line}
 use Rattle.sd_model_stream.specs.Streams as model
 use Rattle.sd_desk.specs.Tally.{tally_of}
 use Rattle.sd_receive.specs.declared.streamed.StreamEnd.{StreamEnd}
@@ -16,6 +18,19 @@ pub record TakesBytes (shards : ℕ) (bytes : List ℕ) (cutter cutter_now : Cut
   pub lines : List Cut
   pub cut : CutsOn lines bytes cutter cutter_now
   pub filed : FilesLines shards lines own own_now tally taken
+
+-- The good samples of lines wait behind those that waited, but for the first ones of all, which were submitted. What it counts for
+-- are the pieces of the lines, the bad ones, and the samples that were dropped.
+pub record ReadsLines (shards : ℕ) (lines : List Cut) (waiting waiting_now : List Sample) (own own_now : ℕ → History) (tally : Tally) (taken : ℕ) : Type 0 where
+  pub sent : List Sample
+  pub split : waiting ++ flat_map samples_in lines ≡ sent ++ waiting_now
+  pub filed : HasFiled shards sent 0 (sum_by pieces_of_line lines) (sum_by bad_of_line lines) own own_now tally taken
+
+-- Bytes were given to a cutter, and the lines that it gave were read so.
+pub record ReadsBytes (shards : ℕ) (bytes : List ℕ) (cutter cutter_now : Cutting) (waiting waiting_now : List Sample) (own own_now : ℕ → History) (tally : Tally) (taken : ℕ) : Type 0 where
+  pub lines : List Cut
+  pub cut : CutsOn lines bytes cutter cutter_now
+  pub filed : ReadsLines shards lines waiting waiting_now own own_now tally taken
 
 -- Bytes were read, at least one, and so taken, and what their lines count for was added at the desk.
 pub record TakesRead (says : ℕ → Type 0) (shards : ℕ) (source source_now : Object) (cutter cutter_now : Cutting) (own own_now : ℕ → History) (part part_now : Part) (tally : Tally) (taken : ℕ) : Type 0 where

@@ -62,8 +62,9 @@ fn take_read<A: Source, G: Gate, C: Clock, R: Wait + Log>(
     }
 }
 
-/// Reads a stream to its end, until it fails, or 2^62 reads were made. The good samples of its lines are submitted in order, and
-/// after each read what its lines count for is added at the desk. What follows the last newline is no line. It takes no memory.
+/// Reads a stream to its end, until it fails, or 2^62 reads were made. The good samples of the lines that a read ends are submitted,
+/// in order at each shard, by one turn of it for as many as the batch has room for, and then what these lines count for is added at
+/// the desk. What follows the last newline is no line. It takes no memory.
 pub fn stream<A: Source, G: Gate, C: Clock, R: Wait + Log>(
     rt: &R,
     shared: &Shared<'_, G, C>,

@@ -2,7 +2,7 @@
 use Rattle.std.proofs.Common.{◌≡◌, ◌∙◌, ℕ, ◌+◌, List, [], ◌∷◌, ◌++◌, codes, refl, sym, ap, arith}
 use Rattle.std.specs.Prelude.{sum_by}
 use Rattle.std.proofs.lemmas.List.Sums.{sum_by-append}
-use Rattle.sd_model_replay.specs.Totals.{Total, number_in}
+use Rattle.sd_model_record.specs.Totals.{Total, number_in}
 use Rattle.sd_model_proxy.specs.Batches.{sums_of_totals}
 use Rattle.sd_proxy.specs.Views.{totals_view}
 use Rattle.sd_proxy.specs.declared.totals.ProxyTotals.{ProxyTotals}

@@ -1,6 +1,6 @@
 -- What the receivers of posts counted, added up.
 use Rattle.std.specs.Prelude.{◌≡◌, ◌+◌, ◌≤◌, ◌^◌, List, [], ◌∷◌, codes, Option, Some, None}
-use Rattle.sd_model_replay.specs.Totals.{Total}
+use Rattle.sd_model_record.specs.Totals.{Total}
 use Rattle.sd_model_proxy.specs.Batches.{no_totals}
 use Rattle.sd_proxy.specs.Views.{totals_view}
 use Rattle.sd_proxy.specs.declared.proxied.Proxied.{Proxied}

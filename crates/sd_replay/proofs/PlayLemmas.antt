@@ -29,7 +29,8 @@ use Rattle.sd_model_replay.specs.Script.{Command, Packet, Flush, Admin, end_word
 use Rattle.sd_model_serve.specs.Rounds.{Round, round_text}
 use Rattle.sd_model_replay.specs.Replay.{Played, IsOutcome, no_marks, home_of, replies_to, states_after, packet_tally, moment_of, desk_after_line, Run, first_run, form_of, play, run_of, deliveries, sendings}
 use Rattle.sd_model_replay.specs.Asked.{output_in, output_of}
-use Rattle.sd_model_replay.specs.Totals.{Total, summed, totals_of, totals_after, totals_text}
+use Rattle.sd_model_record.specs.Totals.{Total, totals_of, totals_text}
+use Rattle.sd_model_replay.specs.Totals.{summed, totals_after}
 use Rattle.sd_model_replay.specs.AccountingTheorem.{Seen, Course, AccountingTheorem, seen_at}
 use Rattle.sd_model_replay.specs.Ends.{Complete, Faulted, ReadFailed, WriteFailed, WornOut, Replayed, text_length}
 use Rattle.sd_model_replay.proofs.AccountingLemmas.{are_accounted}
@@ -38,7 +39,7 @@ use Rattle.sd_model_outside.proofs.DeliveryLemmas.{AfterDeliveries-push}
 use Rattle.sd_model_record.proofs.WireLemmas.{AreRepeated-next, AreRepeated-none}
 use Rattle.sd_model_replay.proofs.ReplayLemmas.{run_before, run_of-push, output_of-push, deliveries-push, delivery_of, sendings-push, script_text-end, AllByRecursion-push}
 use Rattle.sd_shards.specs.Shards.{Group, AreAlike, group_bounds, numbers, state_at}
-use Rattle.sd_run.specs.Totals.{totals_of_group}
+use Rattle.sd_replay.specs.Totals.{totals_of_group}
 
 -- the records that were carried out
 abbrev commands_of : List Played → List Command

@@ -4,3 +4,4 @@ pub mod RoomInside
 pub mod Seen
 pub mod Sent
 pub mod Start
+pub mod Totals

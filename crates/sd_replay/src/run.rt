@@ -5,7 +5,7 @@ ghost use Rattle.sd_model_record.specs.Desk.{new_desk};
 ghost use Rattle.sd_model_replay.specs.Settings.{targets_of, is_used};
 ghost use Rattle.sd_model_replay.specs.Script.{Packet};
 ghost use Rattle.sd_model_replay.specs.Replay.{packet_tally, replies_to, states_after};
-ghost use Rattle.sd_model_replay.specs.Totals.{totals_text};
+ghost use Rattle.sd_model_record.specs.Totals.{totals_text};
 ghost use Rattle.sd_model_replay.specs.Ends.{Replayed};
 ghost use Rattle.sd_shards.specs.Shards.{AreAlike, group_bounds, state_at};
 ghost use Rattle.sd_replay.specs.Ends.{end_of};
@@ -13,7 +13,8 @@ ghost use Rattle.sd_replay.specs.Room.{sizing_of};
 ghost use Rattle.sd_replay.specs.Seen.{seen_of};
 ghost use Rattle.sd_replay.specs.Start.{start_in};
 ghost use Rattle.sd_replay.specs.Sent.{IsPlayed};
-ghost use Rattle.sd_run.specs.Totals.{totals_of_group, totals_view};
+ghost use Rattle.sd_replay.specs.Totals.{totals_of_group};
+ghost use Rattle.sd_totals.specs.Totals.{totals_view};
 ghost use Rattle.sd_model_record.specs.Backends.{Graphite, Console};
 
 use crate::fault::{ScriptFault, fault_at};
@@ -26,9 +27,10 @@ use sd_epoch::Who;
 use sd_outside::{Backend, Backs, Sink, Source, Wire, WriteFault};
 use sd_plan::Names;
 use sd_repeater::repeat;
-use sd_run::{Totals, targets_of, write_totals};
+use sd_run::targets_of;
 use sd_script::Item;
 use sd_shards::Shards;
+use sd_totals::{Totals, write_totals};
 
 /// How many records a replay carries out at most.
 const MOST_TURNS: u64 = 1 << 62;
@@ -52,7 +54,7 @@ pub enum ReplayEnd {
 fn totals_of(shards: &Shards, desk: &Desk) -> Totals
     ensures { totals_view result ≡ totals_of_group shards.now desk.now }
 {
-    Totals::new(&shards.book(), desk)
+    Totals::new(&shards.books(), &desk.facts())
 }
 
 /// Sends a datagram on each wire, files its samples, and counts it at its moment.

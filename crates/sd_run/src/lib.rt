@@ -1,10 +1,10 @@
-//! What all runs have: what they take from the settings, and the lines of their totals.
+//! What all runs take from the settings, and how long a flush's text is reckoned to be by these.
 //!
 //! `sd_replay` and `sd_top` use it, for replays, servers and proxies alike. It opens nothing, and takes no memory.
 #![tactic(auto)]
 
+mod full_texts;
 mod settings;
-mod totals;
 
+pub use full_texts::{full_console_text, full_graphite_text};
 pub use settings::{limits_of, names_backend, policy_of, targets_of};
-pub use totals::{Totals, push_total, totals_text, write_total, write_totals};

@@ -18,7 +18,8 @@ use Rattle.sd_model_record.specs.Desk.{Facts}
 use Rattle.sd_model_record.specs.Replies.{Reply, Rows, Gone, Finish, reply_text, admin_events, keys_told, names_replied, replies_by, replies_text, rows_told}
 use Rattle.sd_model_serve.specs.Sessions.{Broadcast, Broadcasts, AreReplied, IsCut, acts_in, all_replies, events_in, replies_at}
 use Rattle.sd_model_serve.proofs.ActsLemmas.{Adds-none, Adds-next}
-use Rattle.sd_command.proofs.CommandLemmas.{none_found, take-more, text-more}
+use Rattle.sd_totals.proofs.TakeLemmas.{take-more}
+use Rattle.sd_command.proofs.CommandLemmas.{none_found, text-more}
 use Rattle.sd_session.specs.Asking.{CarriesOut, DeletesNames}
 
 pub Broadcasts-none : (shards : ℕ) (own : ℕ → History) → Broadcasts shards [] own own
@@ -202,14 +203,14 @@ one_reply r events (Err fault) sink sink_now few ok failed fits = cut_behind [] 
   front (e ∷ []) few = refl
   front (e ∷ d ∷ es) few = absurd (omega (arith, few))
 
--- a dump, and its reply
-pub shown : {E : Type 0} (shards : ℕ) (kind : Kind) (b : Broadcast) (rows : List DumpRow) (result : Result ⊤ E) (sink sink_now : Object) → b.event ≡ Dump kind → rows ≡ rows_told (all_replies shards b)
-    → OnOk result (sink_now ≡ given (reply_text (Rows kind rows)) sink) → OnErr result (HasFailedBehind (reply_text (Rows kind rows)) sink sink_now) → FitsLastCount sink.told
-    → AreReplied (Rows kind (rows_told (all_replies shards b)) ∷ []) (Dump kind ∷ []) (events_in (b ∷ [])) result sink sink_now
-shown shards kind b rows result sink sink_now is told ok failed fits =
-    subst (λ (e : Event). AreReplied (Rows kind (rows_told (all_replies shards b)) ∷ []) (Dump kind ∷ []) (e ∷ []) result sink sink_now) (sym is)
-    (subst (λ (rs : List DumpRow). AreReplied (Rows kind rs ∷ []) (Dump kind ∷ []) (Dump kind ∷ []) result sink sink_now) told
-    (one_reply (Rows kind rows) (Dump kind ∷ []) result sink sink_now (omega arith) ok failed fits))
+-- one event of all shards, and the reply that tells what they answered
+pub replied_once : {E : Type 0} (event : Event) (b : Broadcast) (r told : Reply) (result : Result ⊤ E) (sink sink_now : Object) → b.event ≡ event → r ≡ told
+    → OnOk result (sink_now ≡ given (reply_text r) sink) → OnErr result (HasFailedBehind (reply_text r) sink sink_now) → FitsLastCount sink.told
+    → AreReplied (told ∷ []) (event ∷ []) (events_in (b ∷ [])) result sink sink_now
+replied_once event b r told result sink sink_now is same ok failed fits =
+    subst (λ (e : Event). AreReplied (told ∷ []) (event ∷ []) (e ∷ []) result sink sink_now) (sym is)
+    (subst (λ (t : Reply). AreReplied (t ∷ []) (event ∷ []) (event ∷ []) result sink sink_now) same
+    (one_reply r (event ∷ []) result sink sink_now (omega arith) ok failed fits))
 
 -- what a line was read as was carried out
 pub carries : {E : Type 0} (shards : ℕ) (settings : file.Settings) (facts : Facts) (now : ℕ) (line : List ℕ) (result : Result ⊤ E) (own own_now : ℕ → History) (sink sink_now : Object) (answer : Result Command AdminFault) (broadcasts : List Broadcast) → command line ≡ answer

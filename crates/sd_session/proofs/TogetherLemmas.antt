@@ -16,10 +16,10 @@ use Rattle.sd_model_text.specs.Names as names
 use Rattle.sd_model_shard.specs.Rows.{RowId, row_cmp}
 use Rattle.sd_model_shard.specs.Commands.{DumpRow, dump_of, in_key_order}
 use Rattle.sd_model_shard.specs.Shard as shard
-use Rattle.sd_model_shard.specs.Shard.{State, Event, empty_state, deletion_of}
+use Rattle.sd_model_shard.specs.Shard.{State, Event, Numbers, empty_state, deletion_of, numbers_of}
 use Rattle.sd_model_shard.specs.History.{History}
 use Rattle.sd_model_serve.specs.Receiving.{administrator}
-use Rattle.sd_model_record.specs.Replies.{keys_in, keys_told, rows_in, rows_told}
+use Rattle.sd_model_record.specs.Replies.{keys_in, keys_told, numbers_in, numbers_told, rows_in, rows_told}
 use Rattle.sd_model_record.proofs.OrderLemmas.{in_key_order_is, keys_in_order}
 use Rattle.sd_model_shards.specs.Shards.{AtHome}
 use Rattle.sd_model_shards.proofs.HomeLemmas.{all_keys_once, all_rows_once}
@@ -121,3 +121,15 @@ module _ (shards : ℕ) (kind : Kind) (found : List State) (home : AtHome shards
       let told = flat_map (λ i. tell (found_at found i)) (range_with_len 0 shards) in
       in_key_order_is (λ (row : DumpRow). row.key) told sorted (all_rows_once shards (found_at found) home kind) (subst (λ (ts : List DumpRow). IsPermutation ts sorted) (by_number tell found shards count) (moved (flat_map tell found) new sorted all sort)) up
       ∙ ap (in_key_order (λ (row : DumpRow). row.key)) (sym (flat_map-map rows_in (λ i. shard.Dumped (dump_of kind (found_at found i).live)) (range_with_len 0 shards)))
+
+-- the numbers that a reply tells, and others where it tells none
+abbrev pub looked : Numbers → shard.Reply → Numbers
+looked others (shard.Looked numbers) = numbers
+looked others reply = others
+
+-- the numbers of shards as they were found are those that all of them told
+pub numbers_are : (shards : ℕ) (found : List State) → length found ≡ shards
+    → flat_map (λ s. numbers_of s ∷ []) found ≡ numbers_told (all_replies shards (broadcast_of shards shard.Look (λ s. shard.Looked (numbers_of s)) found))
+numbers_are shards found count =
+    by_number (λ s. numbers_of s ∷ []) found shards count
+    ∙ sym (flat_map-map numbers_in (λ i. shard.Looked (numbers_of (found_at found i))) (range_with_len 0 shards))

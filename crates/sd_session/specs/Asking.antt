@@ -5,9 +5,9 @@ use Rattle.sd_model_outside.specs.Outside.{Object}
 use Rattle.sd_model_settings.specs.Settings as file
 use Rattle.sd_model_shard.specs.Commands.{DumpRow}
 use Rattle.sd_model_shard.specs.History.{History}
-use Rattle.sd_model_shard.specs.Shard.{Delete, Dump}
+use Rattle.sd_model_shard.specs.Shard.{Delete, Dump, Look, Numbers}
 use Rattle.sd_model_record.specs.Desk.{Facts}
-use Rattle.sd_model_record.specs.Replies.{Finish, keys_told, rows_told, names_replied}
+use Rattle.sd_model_record.specs.Replies.{Finish, keys_told, rows_told, numbers_told, names_replied}
 use Rattle.sd_model_serve.specs.Sessions.{Broadcast, Broadcasts, AreReplied, IsCarriedOut, all_replies, events_in, replies_at}
 
 module _ (shards : ℕ) where
@@ -24,6 +24,13 @@ module _ (shards : ℕ) where
     pub event : broadcast.event ≡ Dump kind
     pub asked : Broadcasts shards (broadcast ∷ []) own own_now
     pub told : rows ≡ rows_told (all_replies shards broadcast)
+
+  -- each of so many shards was asked for its numbers, and these are what they told
+  pub record Looks (own own_now : ℕ → History) (told_numbers : List Numbers) : Type 0 where
+    pub broadcast : Broadcast
+    pub event : broadcast.event ≡ Look
+    pub asked : Broadcasts shards (broadcast ∷ []) own own_now
+    pub told : told_numbers ≡ numbers_told (all_replies shards broadcast)
 
   -- Each of so many shards was asked for the deletions by names, one after another, and they were replied to: all of them, or
   -- up to the one whose reply was cut.

@@ -10,7 +10,7 @@ ghost use Rattle.sd_session.specs.Asking.{CarriesOut, DeletesNames};
 
 use crate::space::ReplyRoom;
 use crate::telling::tell_deleted;
-use crate::together::{delete_all, dump_all};
+use crate::together::{delete_all, dump_all, look_all};
 use log::Log;
 use sd_admin::{Command, HealthWord, Reply, write_reply};
 use sd_config::Settings;
@@ -103,6 +103,10 @@ pub(crate) fn carry_out<O: Sink, R: Wait + Log>(
         Command::Stats => {
             let (facts, now) = (basis.facts, basis.moment);
             write_reply(&Reply::Stats { facts, now }, output)
+        }
+        Command::Totals => {
+            let (facts, books) = (basis.facts, &look_all(rt, pool, seat));
+            write_reply(&Reply::Totals { facts, books }, output)
         }
         Command::Config => {
             let settings = basis.settings;

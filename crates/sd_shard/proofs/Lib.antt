@@ -1,3 +1,4 @@
+mod AbsentLemmas
 mod CommandLemmas
 mod DumpLemmas
 mod RoomLemmas

@@ -7,7 +7,7 @@ use Rattle.sd_model_text.specs.Names.{Kind, Counter, Timer, Gauge, Set, rank}
 use Rattle.sd_model_text.specs.Lines.{Sample}
 use Rattle.sd_model_shard.specs.Rows.{RowId, Summary, Kept, Rows}
 use Rattle.sd_model_shard.specs.Commands.{DumpRow}
-use Rattle.sd_model_shard.specs.Shard.{Limits, Policy, State, Cause, NoRow, NoEntry, NoSum, NoNumber, Placed, Taken, Dropped, Table, Event, Submit, Swap, Delete, Dump, Reply, Answered, Swapped, Deleted, Dumped}
+use Rattle.sd_model_shard.specs.Shard.{Limits, Policy, State, Cause, NoRow, NoEntry, NoSum, NoNumber, Placed, Taken, Dropped, Table, Event, Submit, Swap, Delete, Dump, Look, Reply, Answered, Swapped, Deleted, Dumped, Looked, Numbers}
 use Rattle.sd_model_shard.specs.History.{Act}
 
 -- the kind at a place
@@ -100,44 +100,57 @@ from_event (Submit s) = inl (inl s)
 from_event (Dump kind) = inl (inr kind)
 from_event (Delete kind pattern) = inr (inl (kind, pattern))
 from_event Swap = inr (inr 0)
+from_event Look = inr (inr 1)
 
 abbrev to_event : (Sample ⊎ Kind) ⊎ ((Kind × List ℕ) ⊎ ℕ) → Event
 to_event (inl (inl s)) = Submit s
 to_event (inl (inr kind)) = Dump kind
 to_event (inr (inl p)) = Delete p.0 p.1
-to_event (inr (inr n)) = Swap
+to_event (inr (inr zero)) = Swap
+to_event (inr (inr (suc n))) = Look
 
 pub event_back : (event : Event) → to_event (from_event event) ≡ event
 event_back (Submit s) = refl
 event_back (Dump kind) = refl
 event_back (Delete kind pattern) = refl
 event_back Swap = refl
+event_back Look = refl
 
 abbrev pub event_code : Coded Event
 event_code = code_by ((Sample ⊎ Kind) ⊎ ((Kind × List ℕ) ⊎ ℕ)) (coded⊎ (coded⊎ sample_code kind_code) (coded⊎ (coded× kind_code (coded_list coded_ℕ)) coded_ℕ)) from_event to_event event_back
 
-abbrev from_reply : Reply → (Placed ⊎ Table) ⊎ ((List (List ℕ) × (ℕ × ℕ)) ⊎ List DumpRow)
+abbrev pub numbers_code : Coded Numbers
+numbers_code =
+    code_by (ℕ × (ℕ × (ℕ × (ℕ × (ℕ × ℕ))))) (coded× coded_ℕ (coded× coded_ℕ (coded× coded_ℕ (coded× coded_ℕ (coded× coded_ℕ coded_ℕ)))))
+    (λ n. (n.rows, (n.held, (n.taken, (n.flushed, (n.deleted, n.dropped))))))
+    (λ p. record { rows = p.0; held = p.1.0; taken = p.1.1.0; flushed = p.1.1.1.0; deleted = p.1.1.1.1.0; dropped = p.1.1.1.1.1 }) (λ _. refl)
+
+abbrev from_reply : Reply → (Placed ⊎ Table) ⊎ ((List (List ℕ) × (ℕ × ℕ)) ⊎ (List DumpRow ⊎ Numbers))
 from_reply (Answered placed) = inl (inl placed)
 from_reply (Swapped table) = inl (inr table)
 from_reply (Deleted keys rows samples) = inr (inl (keys, (rows, samples)))
-from_reply (Dumped rows) = inr (inr rows)
+from_reply (Dumped rows) = inr (inr (inl rows))
+from_reply (Looked numbers) = inr (inr (inr numbers))
 
-abbrev to_reply : (Placed ⊎ Table) ⊎ ((List (List ℕ) × (ℕ × ℕ)) ⊎ List DumpRow) → Reply
+abbrev to_reply : (Placed ⊎ Table) ⊎ ((List (List ℕ) × (ℕ × ℕ)) ⊎ (List DumpRow ⊎ Numbers)) → Reply
 to_reply (inl (inl placed)) = Answered placed
 to_reply (inl (inr table)) = Swapped table
 to_reply (inr (inl p)) = Deleted p.0 p.1.0 p.1.1
-to_reply (inr (inr rows)) = Dumped rows
+to_reply (inr (inr (inl rows))) = Dumped rows
+to_reply (inr (inr (inr numbers))) = Looked numbers
 
 pub reply_back : (reply : Reply) → to_reply (from_reply reply) ≡ reply
 reply_back (Answered placed) = refl
 reply_back (Swapped table) = refl
 reply_back (Deleted keys rows samples) = refl
 reply_back (Dumped rows) = refl
+reply_back (Looked numbers) = refl
 
 abbrev pub reply_code : Coded Reply
 reply_code =
-    code_by ((Placed ⊎ Table) ⊎ ((List (List ℕ) × (ℕ × ℕ)) ⊎ List DumpRow))
-    (coded⊎ (coded⊎ placed_code table_code) (coded⊎ (coded× (coded_list (coded_list coded_ℕ)) (coded× coded_ℕ coded_ℕ)) (coded_list dump_row_code))) from_reply to_reply reply_back
+    code_by ((Placed ⊎ Table) ⊎ ((List (List ℕ) × (ℕ × ℕ)) ⊎ (List DumpRow ⊎ Numbers)))
+    (coded⊎ (coded⊎ placed_code table_code) (coded⊎ (coded× (coded_list (coded_list coded_ℕ)) (coded× coded_ℕ coded_ℕ)) (coded⊎ (coded_list dump_row_code) numbers_code)))
+    from_reply to_reply reply_back
 
 abbrev pub act_code : Coded Act
 act_code =

@@ -1,13 +1,25 @@
-ghost use Rattle.std.specs.Prelude.{◌≡◌, ◌+◌, ◌<◌, ◌≤◌, ◌++◌, filter, length, map, slice_get, IfSome};
+ghost use Rattle.std.specs.Prelude.{◌≡◌, ◌+◌, ◌<◌, ◌≤◌, ◌++◌, true, false, filter, length, map, slice_get, IfSome};
+ghost use Rattle.std.specs.FinMap.{contains_key};
 ghost use Rattle.sd_model_shard.specs.Commands.{is_hit, is_of_kind, dump_row};
+ghost use Rattle.sd_model_shard.specs.Rows.{RowId};
 ghost use Rattle.sd_key.specs.Kind.{kind_of};
-ghost use Rattle.sd_epoch.specs.Table.{AreApart};
+ghost use Rattle.sd_epoch.specs.Table.{live_of, AreApart};
 ghost use Rattle.sd_shard.specs.Dump.{dump_row_of, rows_of};
 
 use crate::dump::{Dump, DumpRow};
 use crate::keys::Keys;
 use sd_epoch::Table;
 use sd_key::{Kind, Pattern};
+
+/// Whether a pattern is a name of which a table has no row of a kind. The index tells that, and no row is looked at.
+pub(crate) fn names_no_row(table: &Table, kind: Kind, pattern: &Pattern) -> bool
+    ensures { result ≡ true → (id : RowId) → is_hit (kind_of kind) pattern.now id ≡ true → contains_key (live_of table.now) id ≡ false }
+{
+    match pattern.only_key() {
+        Some(key) => !table.has_row(kind, &key),
+        None => false,
+    }
+}
 
 /// Appends the keys of the rows of a kind that a pattern matches, and answers how many those are.
 pub(crate) fn push_keys(table: &Table, kind: Kind, pattern: &Pattern, out: &mut Keys) -> u32

@@ -17,4 +17,4 @@ pub use dump::{Dump, DumpRow};
 pub use keys::Keys;
 pub use listed::Listed;
 pub use policy::Policy;
-pub use shard::{Cause, Deleted, Placed, Shard, ShardBook};
+pub use shard::{Books, Cause, Deleted, Placed, Shard, ShardBook};

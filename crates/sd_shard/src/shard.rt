@@ -1,4 +1,5 @@
 ghost use Rattle.std.specs.Prelude.{◌≡◌, ◌+◌, ◌≤◌, nat_lt, not, is_some, length, option_map, IfOk, IfSome};
+ghost use Rattle.std.specs.FinMap.{len};
 ghost use Rattle.sd_model_shard.specs.Shard.{empty_state, is_full, full_cause, NoEntry, refusal, step, Answered, Submit, Swap, Swapped, Delete, Dump as DumpOf};
 ghost use Rattle.sd_model_shard.specs.Summaries.{is_listed};
 ghost use Rattle.sd_key.specs.Kind.{kind_of};
@@ -10,10 +11,11 @@ ghost use Rattle.sd_shard.specs.Shard.{state_of, cause_of, placed_of, IsDeletion
 ghost use Rattle.sd_shard.specs.Swap.{swap_steps};
 
 use crate::carry::carry;
-use crate::commands::{push_keys, push_rows};
+use crate::commands::{names_no_row, push_keys, push_rows};
 use crate::dump::Dump;
 use crate::keys::Keys;
 use crate::policy::Policy;
+use arrayvec::ArrayVec;
 use sd_epoch::{Limits, Table};
 use sd_key::{Kind, Pattern};
 use sd_line::Sample;
@@ -58,15 +60,19 @@ pub struct Deleted {
     pub samples: u64,
 }
 
-/// The numbers of a shard.
+/// The numbers of a shard: samples but for `rows`.
 #[derive(Clone, Copy, Debug, Default, PartialEq, Eq)]
 pub struct ShardBook {
+    pub rows: u32,
     pub taken: u64,
     pub flushed: u64,
     pub deleted: u64,
     pub dropped: u64,
     pub held: u64,
 }
+
+/// The numbers of shards, in their order.
+pub type Books = ArrayVec<ShardBook, 16>;
 
 /// Rows with what came to them, behind one turn. One event at a time changes it.
 #[derive(Debug, Drop)]
@@ -242,6 +248,12 @@ impl Shard {
         ensures limits { self.new.table.limits ≡ self.old.table.limits }
         ensures policy { self.new.policy ≡ self.old.policy }
     {
+        if names_no_row(&self.table, kind, pattern) {
+            return Deleted {
+                rows: 0,
+                samples: 0,
+            };
+        }
         let rows = push_keys(&self.table, kind, pattern, out);
         let samples = self.table.forget_rows(kind, pattern);
         self.deleted += samples;
@@ -271,6 +283,7 @@ impl Shard {
 
     /// The numbers as they stand.
     pub fn book(&self) -> ShardBook
+        ensures rows { result.rows ≡ len (state_of self.now).live }
         ensures taken { result.taken ≡ (state_of self.now).taken }
         ensures flushed { result.flushed ≡ (state_of self.now).flushed }
         ensures deleted { result.deleted ≡ (state_of self.now).deleted }
@@ -280,6 +293,7 @@ impl Shard {
         ensures range { IsInRange result }
     {
         ShardBook {
+            rows: self.table.rows(),
             taken: self.taken,
             flushed: self.flushed,
             deleted: self.deleted,

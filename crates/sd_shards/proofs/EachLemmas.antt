@@ -1,13 +1,11 @@
 -- What is made of each shard, by its number.
 use Rattle.std.proofs.Common.{◌≡◌, ℕ, List, [], ◌∷◌, length, map, get_or, refl, sym, ap, ◌∙◌}
-use Rattle.std.specs.Prelude.{flat_map, sum_by}
-use Rattle.std.specs.List.{range_with_len, sum}
+use Rattle.std.specs.Prelude.{flat_map}
+use Rattle.std.specs.List.{range_with_len}
 use Rattle.std.proofs.lemmas.List.{length-map, get_or-map}
 use Rattle.std.proofs.lemmas.List.Folds.{flat_map-map}
 use Rattle.std.proofs.lemmas.List.FromFn.{fill_by_all}
-use Rattle.std.proofs.lemmas.List.Sums.{sum-map}
 use Rattle.sd_model_shard.specs.Shard.{State, empty_state}
-use Rattle.sd_model_replay.specs.Totals.{summed}
 use Rattle.sd_shard.specs.Shard.{Standing, state_of}
 use Rattle.sd_shards.specs.Shards.{Group, numbers, state_at}
 use Rattle.sd_shards.specs.Standings.{state_in}
@@ -26,10 +24,6 @@ module _ (shards : List Standing) where
       ap (λ n. map (λ i. f (state_in shards i)) (range_with_len 0 n)) (sym (length-map shards state_of))
       ∙ map-each f empty_state (map state_of shards) ∙ map-map f state_of shards
 
-  pub sum_by-states : (f : State → ℕ) → sum_by (λ i. f (state_in shards i)) (range_with_len 0 (length shards)) ≡ sum_by (λ s. f (state_of s)) shards
-  sum_by-states f =
-      sym (sum-map (λ i. f (state_in shards i)) (range_with_len 0 (length shards))) ∙ ap sum (map-states f) ∙ sum-map (λ s. f (state_of s)) shards
-
   pub flat_map-states : {A : Type 0} (f : State → List A) → flat_map (λ i. f (state_in shards i)) (range_with_len 0 (length shards)) ≡ flat_map (λ s. f (state_of s)) shards
   flat_map-states f =
       sym (flat_map-map f (λ i. state_in shards i) (range_with_len 0 (length shards)))
@@ -42,8 +36,3 @@ module _ (group : Group) (shards : List Standing) (is : group.states ≡ map sta
   map-group f =
       ap (λ (states : List State). map (λ i. f (get_or states i empty_state)) (range_with_len 0 (length states))) is
       ∙ ap (λ n. map (λ i. f (state_in shards i)) (range_with_len 0 n)) (length-map shards state_of)
-
-  pub summed-group : (f : State → ℕ) → summed (length group.states) (state_at group) f ≡ sum_by (λ s. f (state_of s)) shards
-  summed-group f =
-      sym (sum-map (λ i. f (state_at group i)) (numbers group)) ∙ ap sum (map-group f)
-      ∙ sum-map (λ i. f (state_in shards i)) (range_with_len 0 (length shards)) ∙ sum_by-states shards f

@@ -3,22 +3,22 @@ ghost use Rattle.std.specs.List.Sorted.{IsSorted, IsSortedByKey};
 ghost use Rattle.std.specs.Ordering.{nat_cmp};
 ghost use Rattle.std.specs.Cmp.Lexicographic.{slice_cmp};
 ghost use Rattle.sd_model_text.specs.Lines.{pieces, bad_of};
-ghost use Rattle.sd_model_shard.specs.Shard.{Dumped, empty_state, after_swap, after_delete, deletion_of, table_of};
+ghost use Rattle.sd_model_shard.specs.Shard.{Dumped, empty_state, after_swap, after_delete, deletion_of, numbers_of, table_of};
 ghost use Rattle.sd_model_shard.specs.Commands.{dump_of};
 ghost use Rattle.sd_model_shard.specs.Whereabouts.{dropped_in};
 ghost use Rattle.sd_model_record.specs.Replies.{keys_told, rows_told};
 ghost use Rattle.sd_model_replay.specs.Script.{Packet};
 ghost use Rattle.sd_model_replay.specs.Replay.{replies_to, states_after};
-ghost use Rattle.sd_model_replay.specs.Totals.{summed};
 ghost use Rattle.sd_key.specs.Kind.{kind_of};
 ghost use Rattle.sd_epoch.specs.Limits.{limits_of, AreLimits};
 ghost use Rattle.sd_epoch.specs.Table.{table_of as table_seen};
 ghost use Rattle.sd_shard.specs.Dump.{rows_of};
 ghost use Rattle.sd_shard.specs.Policy.{policy_of};
+ghost use Rattle.sd_shard.specs.Shard.{numbers_in};
 ghost use Rattle.sd_record.specs.Rows.{AreDisjoint};
 ghost use Rattle.sd_shards.specs.Shards.{AreAlike, group_bounds, numbers, state_at};
 
-use crate::book::{ShardsBook, book_of};
+use crate::books::books_of;
 use crate::commands::{delete_all, dump_all};
 use crate::in_hand::InHand;
 use crate::open::open_shards;
@@ -27,7 +27,7 @@ use sd_batch::Batch;
 use sd_epoch::{Limits, Table, Who};
 use sd_filing::{Filed, file_datagram};
 use sd_key::{Kind, Pattern};
-use sd_shard::{Dump, Keys, Policy, Shard};
+use sd_shard::{Books, Dump, Keys, Policy, Shard};
 use sd_spares::Spares;
 use std::alloc::{AllocError, Global};
 use std::marker::Model;
@@ -167,15 +167,10 @@ impl Shards {
         dump.sort();
     }
 
-    /// The numbers of all shards together, as they stand.
-    pub fn book(&self) -> ShardsBook
-        ensures taken { result.taken ≡ summed (length self.now.states) (state_at self.now) (λ s. s.taken) }
-        ensures flushed { result.flushed ≡ summed (length self.now.states) (state_at self.now) (λ s. s.flushed) }
-        ensures deleted { result.deleted ≡ summed (length self.now.states) (state_at self.now) (λ s. s.deleted) }
-        ensures dropped { result.dropped ≡ summed (length self.now.states) (state_at self.now) (λ s. s.dropped) }
-        ensures held { result.held ≡ summed (length self.now.states) (state_at self.now) (λ s. s.held) }
-        ensures conserved { result.taken ≡ result.flushed + result.deleted + result.held }
+    /// The numbers of each shard, in order, as they stand.
+    pub fn books(&self) -> Books
+        ensures { map numbers_in result.items ≡ map (λ i. numbers_of (state_at self.now i)) (numbers self.now) }
     {
-        book_of(&self.shards)
+        books_of(&self.shards)
     }
 }

@@ -5,8 +5,9 @@ use Rattle.sd_model_outside.proofs.WriteLemmas.{behind-later, behind-longer, giv
 use Rattle.sd_model_settings.specs.Settings as file
 use Rattle.sd_model_settings.specs.Settings.{default_settings}
 use Rattle.sd_model_settings.proofs.OnLiterals.{settings_on_literals}
-use Rattle.sd_model_replay.specs.Totals.{Total, total_line, totals_after, totals_text}
-use Rattle.sd_model_replay.proofs.TotalLemmas.{totals_text-snoc}
+use Rattle.sd_model_record.specs.Totals.{Total, total_line, totals_text}
+use Rattle.sd_model_replay.specs.Totals.{totals_after}
+use Rattle.sd_model_record.proofs.TotalLemmas.{totals_text-snoc}
 use Rattle.sd_model_replay.specs.AccountingTheorem.{Seen}
 use Rattle.sd_model_replay.specs.Ends.{End, Complete, WriteFailed, Replayed}
 use Rattle.sd_model_call.specs.Words.{most_packets}
@@ -17,7 +18,7 @@ use Rattle.sd_replay.specs.Ends.{end_of}
 use Rattle.sd_replay.specs.declared.fault.ScriptFault.TheVariants.{Word, Length, Truncated}
 use Rattle.sd_replay.specs.declared.run.ReplayEnd.{ReplayEnd}
 use Rattle.sd_replay.specs.declared.run.ReplayEnd.TheVariants as code
-use Rattle.sd_run.specs.declared.totals.Totals.{Totals as CodeTotals}
+use Rattle.sd_totals.specs.declared.totals.Totals.{Totals as CodeTotals}
 use Rattle.sd_top.specs.Causes.{IsDrill}
 
 -- the settings of an empty file

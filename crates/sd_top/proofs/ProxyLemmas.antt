@@ -6,7 +6,7 @@ use Rattle.std.proofs.lemmas.Bool.Decides.{nat_tests}
 use Rattle.sd_model_outside.specs.Outside.{File, Object}
 use Rattle.sd_model_settings.specs.Settings as file
 use Rattle.sd_model_settings.specs.Settings.{OutOfRange, SettingsFlaw}
-use Rattle.sd_model_replay.specs.Totals.{totals_text}
+use Rattle.sd_model_record.specs.Totals.{totals_text}
 use Rattle.sd_model_call.specs.Opening.{IsAccepted, World, settled}
 use Rattle.sd_model_call.specs.Call.{Answer, StopsAmong, WritesTotals}
 use Rattle.sd_model_call.specs.Proxy.{ProxyAccounts, most_wires, proxy_answer, proxy_flaw, proxy_openings, relay_text}

@@ -1,19 +1,20 @@
 -- The end of a server.
 use Rattle.std.proofs.Common.{◌≡◌, ℕ, ◌+◌, ◌<◌, Bool, List, [], ◌∷◌, ◌++◌, length, map, get_or, refl, sym, ap, subst, ◌∙◌, arith}
-use Rattle.std.specs.Prelude.{◌||◌, codes, sum_by, if◌then◌else◌, Option, Some, None}
+use Rattle.std.specs.Prelude.{◌||◌, codes, if◌then◌else◌, Option, Some, None}
 use Rattle.std.proofs.Math.Bool.{or_assoc}
 use Rattle.std.proofs.lemmas.List.{length-map, get_or-map}
 use Rattle.std.proofs.lemmas.List.FromFn.{fill_by_all}
-use Rattle.std.proofs.lemmas.List.Sums.{sum-map}
-use Rattle.std.specs.List.{list_any, range_with_len, sum}
+use Rattle.std.specs.List.{list_any, range_with_len}
 use Rattle.sd_model_outside.specs.Outside.{File, Object}
 use Rattle.sd_model_settings.specs.Settings as file
-use Rattle.sd_model_shard.specs.Shard.{State}
+use Rattle.sd_model_shard.specs.Shard.{State, Numbers, numbers_of}
+use Rattle.sd_model_shard.proofs.OrderLemmas.{sum_by-map}
 use Rattle.sd_model_shard.specs.History.{state_after}
 use Rattle.sd_model_record.specs.Backends.{Graphite, Console}
 use Rattle.sd_model_record.specs.Desk.{Desk}
 use Rattle.sd_model_replay.specs.Settings.{limits_of, policy_of}
-use Rattle.sd_model_replay.specs.Totals.{Total, totals_text}
+use Rattle.sd_model_record.specs.Totals.{Total, added, totals_of, totals_text}
+use Rattle.sd_model_replay.specs.Totals.{summed}
 use Rattle.sd_model_serve.specs.Ends.{LoopEnd}
 use Rattle.sd_model_run.specs.Run.{Course, ServerTheorem}
 use Rattle.sd_model_call.specs.Call.{Answer, WritesTotals}
@@ -21,11 +22,11 @@ use Rattle.sd_model_call.specs.Opening.{IsAccepted, World, flags_of, settled}
 use Rattle.sd_model_call.specs.Server.{HasServed, begun, ends_answer, has_outlets, is_worn, objects_in, run_answer, run_totals, serves_by}
 use Rattle.sd_outside.specs.declared.datagrams.Ended.{Ended}
 use Rattle.sd_pool.specs.Books.{IsBookOf, no_book}
-use Rattle.sd_run.specs.Totals.{totals_by}
 use Rattle.sd_serve.specs.Serving.{HasServed as Ran, end_of}
 use Rattle.sd_serve.specs.Through.{AreCounted, has_counts}
 use Rattle.sd_serve.specs.declared.serving.Served.{Served}
 use Rattle.sd_serve.specs.declared.workers_out.OutCounts.{OutCounts}
+use Rattle.sd_shard.specs.Shard.{numbers_in}
 use Rattle.sd_shard.specs.declared.shard.ShardBook.{ShardBook}
 use Rattle.sd_top.specs.Serving.{ends_of, lines_in, skips_in, totals_in}
 
@@ -38,12 +39,15 @@ worn_among (e ∷ received) others = ap (λ b. is_worn (end_of e) || b) (worn_am
 abbrev skips_where : Bool → Course → List Total
 skips_where are c = if are then (codes "graphite_skipped", (c.outflows Graphite).skipped) ∷ (codes "console_skipped", (c.outflows Console).skipped) ∷ [] else []
 
--- a number of each book, summed, where it is that of a shard by its number
-summed_books : (f : ShardBook → ℕ) (g : ℕ → ℕ) (books : List ShardBook) (n : ℕ) → length books ≡ n → ((i : ℕ) → i < n → f (get_or books i no_book) ≡ g i) → sum_by f books ≡ sum_by g (range_with_len 0 n)
-summed_books f g books n count each =
-    let all : map f books ≡ map g (range_with_len 0 n) =
-    fill_by_all g (map f books) n (f no_book) (length-map books f ∙ count) (λ k h. get_or-map f books k no_book (f no_book) (omega (arith, h, count)) ∙ each k h) in
-    sym (sum-map f books) ∙ ap sum all ∙ sum-map g (range_with_len 0 n)
+-- the numbers of books, where each is that of a shard by its number
+numbers_of_books : (states : ℕ → State) (books : List ShardBook) (n : ℕ) → length books ≡ n → ((i : ℕ) → i < n → IsBookOf (get_or books i no_book) (states i))
+    → map numbers_in books ≡ map (λ i. numbers_of (states i)) (range_with_len 0 n)
+numbers_of_books states books n count are =
+    fill_by_all (λ i. numbers_of (states i)) (map numbers_in books) n (numbers_in no_book) (length-map books numbers_in ∙ count)
+    (λ k h. get_or-map numbers_in books k no_book (numbers_in no_book) (omega (arith, h, count)) ∙ same (get_or books k no_book) (states k) (are k h)) where
+      same : (book : ShardBook) (state : State) → IsBookOf book state → numbers_in book ≡ numbers_of state
+      same book state is =
+          λ i. record { rows = is.rows i; held = is.held i; taken = is.taken i; flushed = is.flushed i; deleted = is.deleted i; dropped = is.dropped i }
 
 -- the texts that outlets skipped are those of the run
 skips_are : (s : file.Settings) (c : Course) (outs : Option OutCounts) → has_counts outs ≡ has_outlets s → AreCounted outs c.outflows → skips_in outs ≡ skips_where (has_outlets s) c
@@ -57,13 +61,11 @@ pub totals_are : (s : file.Settings) (c : Course) (books : List ShardBook) (desk
     → totals_in books desk outs ++ skips_in outs ≡ run_totals s c
 totals_are s c books desk outs left has counts count are =
     let state : ℕ → State = λ i. state_after (limits_of s) (policy_of s) (c.histories i) in
-    let taken = summed_books (λ b. b.taken) (λ i. (state i).taken) books s.sizes.shards count (λ i h. (are i h).taken) in
-    let dropped = summed_books (λ b. b.dropped) (λ i. (state i).dropped) books s.sizes.shards count (λ i h. (are i h).dropped) in
-    let flushed = summed_books (λ b. b.flushed) (λ i. (state i).flushed) books s.sizes.shards count (λ i h. (are i h).flushed) in
-    let held = summed_books (λ b. b.held) (λ i. (state i).held) books s.sizes.shards count (λ i h. (are i h).held) in
-    let deleted = summed_books (λ b. b.deleted) (λ i. (state i).deleted) books s.sizes.shards count (λ i h. (are i h).deleted) in
+    let numbers = numbers_of_books state books s.sizes.shards count are in
     let skips = skips_are s c outs has counts in
-    λ i. totals_by (record { taken = taken i; flushed = flushed i; deleted = deleted i; dropped = dropped i; held = held i }) (record (left i).facts {
+    let sums : (number : Numbers → ℕ) → added (map numbers_in books) number ≡ summed s.sizes.shards state number =
+    λ number. ap (λ ns. added ns number) numbers ∙ sum_by-map number (λ i. numbers_of (state i)) (range_with_len 0 s.sizes.shards) in
+    λ i. totals_of (λ number. sums number i) (record (left i).facts {
       graphite_faults = (left i).facts.graphite_faults + counts.faults Graphite i;
       console_faults = (left i).facts.console_faults + counts.faults Console i;
     })

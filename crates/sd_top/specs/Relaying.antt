@@ -1,7 +1,7 @@
 -- What the proxy of a settings file did, and what it tells once its run has ended.
 use Rattle.std.specs.Prelude.{◌≡◌, ◌∷◌, ◌++◌, ℕ, List, [], codes, map}
 use Rattle.sd_model_settings.specs.Settings as file
-use Rattle.sd_model_replay.specs.Totals.{totals_text}
+use Rattle.sd_model_record.specs.Totals.{totals_text}
 use Rattle.sd_model_call.specs.Call.{Answer}
 use Rattle.sd_model_call.specs.Opening.{World}
 use Rattle.sd_model_call.specs.Proxy.{proxy_begun}

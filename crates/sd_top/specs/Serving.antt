@@ -1,17 +1,16 @@
 -- What a server of a settings file is opened for, and what it tells once its run has ended.
-use Rattle.std.specs.Prelude.{ℕ, ◌+◌, List, [], ◌∷◌, ◌++◌, codes, length, map, sum_by, Option, Some, None}
+use Rattle.std.specs.Prelude.{ℕ, ◌+◌, List, [], ◌∷◌, ◌++◌, codes, length, map, Option, Some, None}
 use Rattle.std.specs.Option.{option_to_list}
 use Rattle.sd_model_record.specs.Backends.{Graphite, Console}
 use Rattle.sd_model_record.specs.Desk.{Desk}
 use Rattle.sd_model_settings.specs.Settings as file
 use Rattle.sd_model_replay.specs.Settings.{limits_of, policy_of, targets_of}
-use Rattle.sd_model_replay.specs.Totals.{Total, totals_text}
+use Rattle.sd_model_record.specs.Totals.{Total, added, totals_of, totals_text}
 use Rattle.sd_model_call.specs.Call.{Answer}
 use Rattle.sd_model_call.specs.Server.{ends_answer, has_streams}
 use Rattle.sd_outside.specs.declared.datagrams.Ended.{Ended}
+use Rattle.sd_shard.specs.Shard.{numbers_in}
 use Rattle.sd_shard.specs.declared.shard.ShardBook.{ShardBook}
-use Rattle.sd_shards.specs.declared.book.ShardsBook.{ShardsBook}
-use Rattle.sd_run.specs.Totals.{totals_by}
 use Rattle.sd_serve.specs.Room.{Sizing}
 use Rattle.sd_serve.specs.Serving.{door_end_of, end_of}
 use Rattle.sd_serve.specs.Through.{faults_at}
@@ -26,21 +25,10 @@ sizing_by s = record { limits = limits_of s; policy = policy_of s; shards = s.si
 abbrev pub ends_of : List Ended → Ends → Answer
 ends_of received ends = ends_answer (map end_of received) (end_of ends.flusher.ended) (door_end_of ends.keeper ∷ map door_end_of (option_to_list ends.liner))
 
--- the numbers of all shards together
-abbrev pub sums_of : List ShardBook → ShardsBook
-sums_of books =
-    record {
-      taken = sum_by (λ (b : ShardBook). b.taken) books;
-      flushed = sum_by (λ (b : ShardBook). b.flushed) books;
-      deleted = sum_by (λ (b : ShardBook). b.deleted) books;
-      dropped = sum_by (λ (b : ShardBook). b.dropped) books;
-      held = sum_by (λ (b : ShardBook). b.held) books;
-    }
-
 -- the totals of shards with these numbers and a desk, with what outlets counted, if there were any
 abbrev pub totals_in : List ShardBook → Desk → Option OutCounts → List Total
 totals_in books desk outs =
-    totals_by (sums_of books) (record desk.facts {
+    totals_of (added (map numbers_in books)) (record desk.facts {
       graphite_faults = desk.facts.graphite_faults + faults_at outs Graphite;
       console_faults = desk.facts.console_faults + faults_at outs Console;
     })

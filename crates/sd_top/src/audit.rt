@@ -2,7 +2,7 @@
 ghost use Rattle.std.specs.Prelude.{◌≡◌, ℕ, ◌+◌, ◌<◌, codes, length, sum_by};
 ghost use Rattle.sd_model_settings.specs.Settings as file;
 ghost use Rattle.sd_model_shard.specs.Shard.{last_number};
-ghost use Rattle.sd_model_replay.specs.Totals.{number_in};
+ghost use Rattle.sd_model_record.specs.Totals.{number_in};
 ghost use Rattle.sd_model_run.specs.Run.{Course, Objects, ServerTheorem, brought_in};
 ghost use Rattle.sd_model_call.specs.Server.{run_totals, serves_by};
 

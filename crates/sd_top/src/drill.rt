@@ -8,7 +8,7 @@ use sd_config::Settings;
 use sd_drill::Drill;
 use sd_outside::{Backs, CountSink, Sink, WriteFault};
 use sd_replay::{ReplayEnd, ReplayRoom, replay};
-use sd_run::write_total;
+use sd_totals::write_total;
 use std::alloc::Global;
 
 /// Carries out the made script of so many packets by the settings of an empty file, and writes the totals and the number of

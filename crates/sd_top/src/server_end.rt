@@ -1,11 +1,11 @@
 //! What a server tells once its run has ended: the totals, and the status.
-ghost use Rattle.std.specs.Prelude.{◌≡◌, ◌≤◌, ◌++◌, ◌∷◌, length, map, sum_by};
+ghost use Rattle.std.specs.Prelude.{◌≡◌, ◌≤◌, ◌++◌, ◌∷◌, length, map};
 ghost use Rattle.std.specs.Option.{option_to_list};
 ghost use Rattle.std.specs.List.{list_any};
 ghost use Rattle.sd_model_call.specs.Call.{WritesTotals};
 ghost use Rattle.sd_model_call.specs.Server.{is_worn};
-ghost use Rattle.sd_model_replay.specs.Totals.{totals_text as text_of};
-ghost use Rattle.sd_run.specs.Totals.{totals_view};
+ghost use Rattle.sd_model_record.specs.Totals.{totals_text as text_of};
+ghost use Rattle.sd_totals.specs.Totals.{totals_view};
 ghost use Rattle.sd_serve.specs.Serving.{door_end_of, end_of};
 ghost use Rattle.sd_top.specs.Answers.{answer_of};
 ghost use Rattle.sd_top.specs.Serving.{ends_of, lines_in, skips_in, totals_in};
@@ -15,54 +15,20 @@ use crate::status::{Part, Status};
 use sd_decimal::Line;
 use sd_desk::Desk;
 use sd_outside::{DoorEnd, Ended, Failed, Sink, write_all};
-use sd_run::{Totals, push_total, totals_text};
 use sd_serve::{Ends, OutCounts, Served};
 use sd_shard::ShardBook;
-use sd_shards::ShardsBook;
-
-/// The numbers of all shards together.
-fn add_up(books: &[ShardBook]) -> ShardsBook
-    requires { length books.now ≤ 16 }
-    ensures taken { result.taken ≡ sum_by (λ b. b.taken) books.now }
-    ensures flushed { result.flushed ≡ sum_by (λ b. b.flushed) books.now }
-    ensures deleted { result.deleted ≡ sum_by (λ b. b.deleted) books.now }
-    ensures dropped { result.dropped ≡ sum_by (λ b. b.dropped) books.now }
-    ensures held { result.held ≡ sum_by (λ b. b.held) books.now }
-{
-    let mut sums = ShardsBook {
-        taken: 0,
-        flushed: 0,
-        deleted: 0,
-        dropped: 0,
-        held: 0,
-    };
-    for book in books {
-        let ShardBook {
-            taken,
-            flushed,
-            deleted,
-            dropped,
-            held,
-        } = *book;
-        sums.taken += u128::from(taken);
-        sums.flushed += u128::from(flushed);
-        sums.deleted += u128::from(deleted);
-        sums.dropped += u128::from(dropped);
-        sums.held += u128::from(held);
-    }
-    sums
-}
+use sd_totals::{Totals, push_total, totals_text};
 
 /// The totals of shards with these numbers and of a desk, with what outlets counted, if there were any.
 fn totals_of(books: &[ShardBook], desk: &Desk, outs: &Option<OutCounts>) -> Totals
     requires { length books.now ≤ 16 }
     ensures { totals_view result ≡ totals_in books.now desk.now outs.now }
 {
-    let totals = Totals::new(&add_up(books), desk);
+    let facts = desk.facts();
+    let totals = Totals::new(books, &facts);
     let Some(outs) = outs else {
         return totals;
     };
-    let facts = desk.facts();
     Totals {
         graphite_faults: u128::from(facts.graphite_faults) + u128::from(outs.graphite.faults),
         console_faults: u128::from(facts.console_faults) + u128::from(outs.console.faults),

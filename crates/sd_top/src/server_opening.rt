@@ -106,7 +106,7 @@ pub(crate) fn reads_streams(settings: &Settings) -> bool
     settings.tcp_port() > 0
 }
 
-/// Opens the admin door, and the door of streams, where it is used.
+/// Opens the door of streams, where it is used, and then the admin door: where that is open, all parts of the server are.
 ///
 /// # Errors
 ///
@@ -124,15 +124,15 @@ fn open_doors<K: Kinds>(settings: &Settings, world: &mut WorldOf<K>) -> Result<(
     ensures backs { (world.new).backs ≡ (world.old).backs }
     ensures rest { SameRest world.old world.new }
 {
-    let door = host_address(settings.mgmt_address(), settings.mgmt_port());
-    open(&mut world.door, &door, Part::Door)?;
     let streams = host_address(settings.address(), settings.tcp_port());
     open_where(
         reads_streams(settings),
         &mut world.streams,
         &streams,
         Part::Streams,
-    )
+    )?;
+    let door = host_address(settings.mgmt_address(), settings.mgmt_port());
+    open(&mut world.door, &door, Part::Door)
 }
 
 /// Opens all parts of a server by these settings, in their order.

@@ -5,11 +5,11 @@ use log::Log;
 use sd_config::{ConfigFault, Settings};
 use sd_decimal::{Line, write_whole};
 use sd_event::{
-    ProxyParts, ServerParts, SettingRefused, proxy_started, refused, refused_setting, refused_toml,
-    refused_with, server_started, stopped,
+    ProxyParts, ServerParts, SettingRefused, outlets_small, proxy_started, refused,
+    refused_setting, refused_toml, refused_with, server_started, stopped,
 };
 use sd_outside::{Address, Name};
-use sd_run::names_backend;
+use sd_run::{full_console_text, full_graphite_text, names_backend};
 use std::alloc::Global;
 use std::str;
 
@@ -234,7 +234,28 @@ fn backends_of(settings: &Settings) -> &'static str {
     }
 }
 
-/// Tells that a server has all open.
+/// Tells where a text of so many bytes is too long for the outlet of a backend.
+fn tell_outlet<L: Log>(log: &L, settings: &Settings, backend: &str, full: u64) {
+    let bytes = u64::from(settings.outlet_bytes());
+    if full > bytes {
+        outlets_small(log, backend, bytes, full);
+    }
+}
+
+/// Tells of which backends that are used the outlets hold no text of full tables, where they have outlets.
+fn tell_outlets<L: Log>(log: &L, settings: &Settings) {
+    if settings.outlets() == 0 {
+        return;
+    }
+    if names_backend(settings, b"graphite") {
+        tell_outlet(log, settings, "graphite", full_graphite_text(settings));
+    }
+    if names_backend(settings, b"console") {
+        tell_outlet(log, settings, "console", full_console_text(settings));
+    }
+}
+
+/// Tells that a server has all open, and whose outlets are small for it.
 pub(crate) fn tell_server<L: Log>(log: &L, settings: &Settings) {
     let tcp_port = settings.tcp_port();
     server_started(
@@ -253,6 +274,7 @@ pub(crate) fn tell_server<L: Log>(log: &L, settings: &Settings) {
             receivers: settings.receivers(),
         },
     );
+    tell_outlets(log, settings);
 }
 
 /// Tells that a proxy has all open.

@@ -1,4 +1,4 @@
-use Rattle.std.proofs.Common.{◌≡◌, sym, ap, subst, ◌∙◌, arith, Ok}
+use Rattle.std.proofs.Common.{◌≡◌, refl, sym, ap, subst, ◌∙◌, arith, Ok}
 use Rattle.std.specs.Prelude.{OnOk, OnErr}
 use Rattle.sd_model_outside.specs.Outside.{HasFailedBehind, given}
 use Rattle.sd_model_record.specs.Admin.{words, command}
@@ -6,7 +6,7 @@ use Rattle.sd_model_record.specs.Admin as model
 use Rattle.sd_key.specs.Kind.{kind_of}
 use Rattle.sd_shards.specs.Shards.{group_bounds, state_at}
 use Rattle.sd_admin.specs.Command.{answer_view}
-use Rattle.sd_command.proofs.CommandLemmas.{err_written, few_names, names_carried, names_told, ok_written, rows_shown, stats_told}
+use Rattle.sd_command.proofs.CommandLemmas.{err_written, few_names, names_carried, names_told, ok_written, rows_shown, stats_told, totals_told}
 use Rattle.sd_command.proofs.command.carry_out.Goals as goal
 
 pub delete-requires-clause-few : goal.delete-requires-clause-few
@@ -23,6 +23,18 @@ returns-in-Stats-clause-failed g c =
     let read : command c.args.line.now ≡ Ok model.Stats = sym c.read.ensures ∙ ap answer_view (c.in-Ok.is ∙ ap Ok c.in-Stats.is) in
     subst (λ text. OnErr c.write_reply-in-Stats.result (HasFailedBehind text (g.O.Faulty.seen c.args.output.now) (g.O.Faulty.seen c.write_reply-in-Stats.new.sink)))
     (stats_told c.args.settings.now (state_at c.args.shards.now) c.args.desk.now c.args.now c.args.line.now _ c.facts-facts.ensures.facts read) c.write_reply-in-Stats.ensures.failed
+
+pub returns-in-Totals-clause-written : goal.returns-in-Totals-clause-written
+returns-in-Totals-clause-written g c =
+    let read : command c.args.line.now ≡ Ok model.Totals = sym c.read.ensures ∙ ap answer_view (c.in-Ok.is ∙ ap Ok c.in-Totals.is) in
+    subst (λ text. OnOk c.write_reply-in-Totals.result (g.O.Faulty.seen c.write_reply-in-Totals.new.sink ≡ given text (g.O.Faulty.seen c.args.output.now)))
+    (totals_told c.args.settings.now (state_at c.args.shards.now) c.args.desk.now c.args.now c.args.line.now c.args.shards.now _ _ c.requires.count refl c.facts.ensures.facts c.books.ensures read) c.write_reply-in-Totals.ensures.ok
+
+pub returns-in-Totals-clause-failed : goal.returns-in-Totals-clause-failed
+returns-in-Totals-clause-failed g c =
+    let read : command c.args.line.now ≡ Ok model.Totals = sym c.read.ensures ∙ ap answer_view (c.in-Ok.is ∙ ap Ok c.in-Totals.is) in
+    subst (λ text. OnErr c.write_reply-in-Totals.result (HasFailedBehind text (g.O.Faulty.seen c.args.output.now) (g.O.Faulty.seen c.write_reply-in-Totals.new.sink)))
+    (totals_told c.args.settings.now (state_at c.args.shards.now) c.args.desk.now c.args.now c.args.line.now c.args.shards.now _ _ c.requires.count refl c.facts.ensures.facts c.books.ensures read) c.write_reply-in-Totals.ensures.failed
 
 pub returns-in-Show-clause-written : goal.returns-in-Show-clause-written
 returns-in-Show-clause-written g c =

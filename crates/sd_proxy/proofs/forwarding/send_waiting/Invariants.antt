@@ -1,6 +1,6 @@
 use Rattle.std.proofs.Common.{◌≡◌, ℕ, List, length, map}
 use Rattle.sd_model_outside.specs.Outside.{Object}
-use Rattle.sd_model_replay.specs.Totals.{Total}
+use Rattle.sd_model_record.specs.Totals.{Total}
 use Rattle.sd_model_settings.specs.Entries.{Node}
 use Rattle.sd_proxy.specs.Forwarding.{AreUnderWay, IsLeft, Stands, routes_by}
 use Rattle.sd_proxy.specs.Views.{totals_view}

@@ -1,7 +1,7 @@
 -- The totals that couldn't be written whole are those of the state.
 use Rattle.std.proofs.Common.{Result, Ok, Err, OnErr, subst}
 use Rattle.sd_model_outside.specs.Outside.{HasFailedBehind}
-use Rattle.sd_model_replay.specs.Totals.{totals_text}
+use Rattle.sd_model_record.specs.Totals.{totals_text}
 use Rattle.sd_replay.proofs.run.finish.Goals as goal
 
 whichever : {A E P : Type 0} (r : Result A E) → P → OnErr r P

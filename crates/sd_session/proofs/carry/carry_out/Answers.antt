@@ -1,4 +1,5 @@
 use Rattle.std.proofs.Common.{[], ◌∷◌, sym, ap, ◌∙◌, arith, refl, Ok, Err}
+use Rattle.sd_model_shard.specs.Shard.{Dump, Look}
 use Rattle.sd_model_record.specs.Admin.{words}
 use Rattle.sd_model_record.specs.Admin as model
 use Rattle.sd_model_record.specs.Replies as replies
@@ -8,7 +9,7 @@ use Rattle.sd_desk.specs.Facts.{facts_view}
 use Rattle.sd_admin.specs.Command.{answer_view, fault_view, health_word_view}
 use Rattle.sd_pool.specs.Pool.{own_at, shards_of}
 use Rattle.sd_command.proofs.CommandLemmas.{few_names}
-use Rattle.sd_session.proofs.CarryLemmas.{Broadcasts-none, carries, given-nil, one_reply, shown}
+use Rattle.sd_session.proofs.CarryLemmas.{Broadcasts-none, carries, given-nil, one_reply, replied_once}
 use Rattle.sd_session.proofs.carry.carry_out.Goals as goal
 
 pub delete-requires-clause-few : goal.delete-requires-clause-few
@@ -24,6 +25,12 @@ returns-in-Stats-clause-carried g c =
     carries _ _ _ _ _ _ _ _ _ _ (Ok model.Stats) [] (sym c.read.ensures ∙ ap answer_view (c.in-Ok.is ∙ ap Ok c.in-Stats.is)) (Broadcasts-none (shards_of c.args.pool.now) (own_at c.args.seat.now))
     (one_reply (replies.Stats (facts_view c.args.basis.now.facts.now) c.args.basis.now.moment) [] c.write_reply-in-Stats.result _ _ (omega arith) c.write_reply-in-Stats.ensures.ok c.write_reply-in-Stats.ensures.failed (g.met.O.Sink.number_fits c.args.output.now))
 
+pub returns-in-Totals-clause-carried : goal.returns-in-Totals-clause-carried
+returns-in-Totals-clause-carried g c =
+    let d = c.look_all.ensures.looks in
+    carries _ _ _ _ _ _ _ _ _ _ (Ok model.Totals) (d.broadcast ∷ []) (sym c.read.ensures ∙ ap answer_view (c.in-Ok.is ∙ ap Ok c.in-Totals.is)) d.asked
+    (replied_once Look d.broadcast _ _ c.write_reply-in-Totals.result _ _ d.event (ap (replies.Totals (facts_view c.args.basis.now.facts.now)) d.told) c.write_reply-in-Totals.ensures.ok c.write_reply-in-Totals.ensures.failed (g.met.O.Sink.number_fits c.args.output.now))
+
 pub returns-in-Config-clause-carried : goal.returns-in-Config-clause-carried
 returns-in-Config-clause-carried g c =
     carries _ _ _ _ _ _ _ _ _ _ (Ok model.Config) [] (sym c.read.ensures ∙ ap answer_view (c.in-Ok.is ∙ ap Ok c.in-Config.is)) (Broadcasts-none (shards_of c.args.pool.now) (own_at c.args.seat.now))
@@ -38,7 +45,7 @@ pub returns-in-Show-clause-carried : goal.returns-in-Show-clause-carried
 returns-in-Show-clause-carried g c =
     let d = c.dump_all.ensures.dumps in
     carries _ _ _ _ _ _ _ _ _ _ (Ok (model.Show (kind_of c.in-Show.kind))) (d.broadcast ∷ []) (sym c.read.ensures ∙ ap answer_view (c.in-Ok.is ∙ ap Ok c.in-Show.is)) d.asked
-    (shown _ (kind_of c.in-Show.kind) d.broadcast (rows_of c.dump_all.new.dump) c.write_reply-in-Show.result _ _ d.event d.told c.write_reply-in-Show.ensures.ok c.write_reply-in-Show.ensures.failed (g.met.O.Sink.number_fits c.args.output.now))
+    (replied_once (Dump (kind_of c.in-Show.kind)) d.broadcast _ _ c.write_reply-in-Show.result _ _ d.event (ap (replies.Rows (kind_of c.in-Show.kind)) d.told) c.write_reply-in-Show.ensures.ok c.write_reply-in-Show.ensures.failed (g.met.O.Sink.number_fits c.args.output.now))
 
 pub returns-in-Health-clause-carried : goal.returns-in-Health-clause-carried
 returns-in-Health-clause-carried g c =

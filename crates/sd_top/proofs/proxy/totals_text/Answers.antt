@@ -1,8 +1,8 @@
 -- The lines that were appended are those of the totals.
 use Rattle.std.proofs.Common.{◌≡◌, ◌∙◌, [], ◌∷◌, ◌++◌, rules}
 use Rattle.std.specs.Prelude.{codes, List}
-use Rattle.sd_model_replay.specs.Totals.{Total}
-use Rattle.sd_model_replay.proofs.TotalLemmas.{appended, appended-text}
+use Rattle.sd_model_record.specs.Totals.{Total}
+use Rattle.sd_model_record.proofs.TotalLemmas.{appended, appended-text}
 use Rattle.sd_relay.specs.Sums.{sums_view}
 use Rattle.sd_top.proofs.proxy.totals_text.Goals as goal
 

@@ -1,6 +1,6 @@
 use Rattle.std.proofs.Common.{◌≡◌, ◌++◌, inl, inr, ap, subst, ◌∙◌}
 use Rattle.sd_model_outside.specs.Outside.{HasFailedBehind, given}
-use Rattle.sd_model_replay.specs.Totals.{totals_text}
+use Rattle.sd_model_record.specs.Totals.{totals_text}
 use Rattle.sd_model_call.specs.Call.{cut_answer}
 use Rattle.sd_top.specs.Serving.{ends_of, lines_in, skips_in, totals_in}
 use Rattle.sd_top.proofs.server_end.finish.Goals as goal

@@ -1,6 +1,6 @@
 -- The lines that were appended are those of the totals.
 use Rattle.std.proofs.Common.{◌≡◌, ◌∙◌, [], rules}
-use Rattle.sd_model_replay.proofs.TotalLemmas.{appended, appended-text}
+use Rattle.sd_model_record.proofs.TotalLemmas.{appended, appended-text}
 use Rattle.sd_proxy.specs.Views.{totals_view}
 use Rattle.sd_proxy.proofs.totals.ProxyTotals.text.Goals as goal
 
