@@ -333,13 +333,13 @@ def serve(name, command=None, environment=None, streams=False, **settings):
 
 
 def relay(name, nodes, command=None, environment=None, receivers=2, **settings):
-    """A proxy before these nodes, whose receivers are all there, at a port that nobody had."""
+    """A proxy before these nodes, whose receivers are all there, at a port that nobody had, and whose admin port is open, where it has one."""
     for _ in range(TRIES):
         port = free_port()
         write_settings(name, {"port": port, "address": HERE, "receivers": receivers, **settings, "nodes": nodes})
         proxy = begin(name, "proxy", command, environment)
-        proxy.port = port
-        within(WAIT, lambda: proxy.has_ended() or len(sockets(port)) == receivers)
+        proxy.port, proxy.admin = port, settings.get("proxy_mgmt_port")
+        within(WAIT, lambda: proxy.has_ended() or len(sockets(port)) == receivers and (not proxy.admin or opens(proxy.admin)))
         if not proxy.has_ended() or "open fault packets 0" not in proxy.err():
             break
     return proxy

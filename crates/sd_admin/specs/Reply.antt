@@ -11,7 +11,7 @@ use Rattle.sd_admin.specs.declared.reply.Reply.TheVariants.{Stats, Totals, Rows,
 
 abbrev pub reply_view : Reply → model.Reply
 reply_view (Stats facts now) = model.Stats (facts_view facts.now) now
-reply_view (Totals facts books) = model.Totals (facts_view facts.now) (map numbers_in books.now.items)
+reply_view (Totals outlets facts books) = model.Totals outlets (facts_view facts.now) (map numbers_in books.now.items)
 reply_view (Rows kind dump) = model.Rows (kind_of kind) (rows_of dump.now)
 reply_view (Gone pattern keys) = model.Gone pattern.now keys.now.items
 reply_view Finish = model.Finish

@@ -131,8 +131,8 @@ fn deletion(kind: Kind, names: &[u8]) -> Result<Command<'_>, AdminFault>
     }
 }
 
-/// What the words behind `health` say.
-fn health_word(rest: &[u8]) -> HealthWord
+/// What the words behind `health` say: neither `up` nor `down` asks.
+pub fn health_word(rest: &[u8]) -> HealthWord
     ensures { health_word_view result ≡ health_word (words rest.now) }
 {
     match first_word(rest) {

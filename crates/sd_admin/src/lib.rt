@@ -1,6 +1,7 @@
 //! Admin commands: what a line asks for, and the replies.
 //!
-//! `sd_command` has a script's lines read and replied to by it, and `sd_session` those of a session. It carries out nothing: what
+//! `sd_command` has a script's lines read and replied to by it, `sd_session` those of a server's session, and `sd_port` those of a
+//! proxy's. It carries out nothing: what
 //! a reply tells, the caller lends. It takes no memory, and writes to any `Sink`.
 #![tactic(auto)]
 
@@ -10,6 +11,7 @@ mod reply;
 mod reply_lines;
 mod words;
 
-pub use command::{AdminFault, Command, HealthWord};
+pub use command::{AdminFault, Command, HealthWord, health_word};
 pub use names::NameList;
 pub use reply::{Reply, write_reply};
+pub use words::{Word, first_word};

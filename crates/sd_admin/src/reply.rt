@@ -13,7 +13,7 @@ use sd_desk::DeskFacts;
 use sd_key::{Kind, Pattern};
 use sd_outside::{Failed, Sink, WriteFault};
 use sd_shard::{Books, Dump, Keys};
-use sd_totals::TOTALS;
+use sd_totals::known_totals;
 
 /// What a reply tells. The reply to a deletion is `Gone` for each of its names, and `Finish`. Each other form is a whole reply.
 #[derive(Clone, Copy, Debug)]
@@ -23,8 +23,10 @@ pub enum Reply<'a> {
         facts: &'a DeskFacts,
         now: u64,
     },
-    /// To `totals`: what the desk tells of itself, and the numbers of all shards, in order.
+    /// To `totals`: what the desk tells of itself, and the numbers of all shards, in order. With outlets, the faults of backends are
+    /// only known at the end, and left out.
     Totals {
+        outlets: bool,
         facts: &'a DeskFacts,
         books: &'a Books,
     },
@@ -60,7 +62,11 @@ impl LineText for Reply<'_> {
     fn line_count(&self) -> usize {
         match self {
             Reply::Stats { facts: _, now: _ } => 5,
-            Reply::Totals { facts: _, books } => TOTALS + books.len() + 2,
+            Reply::Totals {
+                outlets,
+                facts: _,
+                books,
+            } => known_totals(*outlets) + books.len() + 2,
             Reply::Rows { kind: _, dump } => dump.len() + 2,
             Reply::Gone { pattern: _, keys } => keys.len().max(1),
             Reply::Finish => 2,
@@ -72,7 +78,11 @@ impl LineText for Reply<'_> {
     fn line(&self, place: usize) -> Option<ReplyLine> {
         match self {
             Reply::Stats { facts, now } => stats_line(facts, *now, place),
-            Reply::Totals { facts, books } => totals_line(facts, books, place),
+            Reply::Totals {
+                outlets,
+                facts,
+                books,
+            } => totals_line(*outlets, facts, books, place),
             Reply::Rows { kind, dump } => rows_line(*kind, dump, place),
             Reply::Gone { pattern, keys } => gone_line(pattern, keys, place),
             Reply::Finish => end_line(place),

@@ -3,7 +3,7 @@ ghost use Rattle.std.specs.Option.{option_map};
 ghost use Rattle.sd_model_settings.specs.ConfigText.{config_lines};
 ghost use Rattle.sd_model_record.specs.Replies.{end_lines, stats_lines, shard_line, totals_lines, row_value, row_line, gone_lines, health_line, fault_line};
 ghost use Rattle.sd_key.specs.Kind.{kind_of};
-ghost use Rattle.sd_model_record.specs.Totals.{total_line};
+ghost use Rattle.sd_model_record.specs.Totals.{known_before_end, total_line};
 ghost use Rattle.sd_shard.specs.Dump.{dump_row_of, rows_of};
 ghost use Rattle.sd_shard.specs.Shard.{numbers_in};
 ghost use Rattle.sd_totals.specs.Totals.{totals_view};
@@ -17,7 +17,7 @@ use sd_decimal::{Line, write, write_whole};
 use sd_desk::DeskFacts;
 use sd_key::{Kind, Pattern};
 use sd_shard::{Books, Dump, DumpRow, Keys, ShardBook};
-use sd_totals::{TOTALS, Totals, push_total};
+use sd_totals::{Totals, known_totals, push_total};
 
 /// The line of a text, which ends with a newline.
 fn text_line(text: &[u8]) -> ReplyLine
@@ -59,11 +59,11 @@ pub(crate) fn stats_line(facts: &DeskFacts, now: u64, place: usize) -> Option<Re
     }
 }
 
-/// The line of the totals at a place.
-fn total_line(totals: &Totals, place: usize) -> Option<ReplyLine>
-    ensures { option_map (λ l. l.items) result ≡ slice_get (map total_line (totals_view totals.now)) place }
+/// The line at a place of the totals that are known before the end.
+fn total_line(totals: &Totals, outlets: bool, place: usize) -> Option<ReplyLine>
+    ensures { option_map (λ l. l.items) result ≡ slice_get (map total_line (known_before_end outlets (totals_view totals.now))) place }
 {
-    let total = totals.at(place)?;
+    let total = totals.known_at(outlets, place)?;
     let mut line = Line::new();
     push_total(total.name, total.number, &mut line);
     Some(text_line(line.as_slice()))
@@ -92,13 +92,19 @@ fn shard_line(i: usize, book: &ShardBook) -> ReplyLine
 }
 
 /// The line of the reply to `totals` at a place.
-pub(crate) fn totals_line(facts: &DeskFacts, books: &Books, place: usize) -> Option<ReplyLine>
-    ensures { option_map (λ l. l.items) result ≡ slice_get (totals_lines (facts_view facts.now) (map numbers_in books.now.items) ++ end_lines) place }
+pub(crate) fn totals_line(
+    outlets: bool,
+    facts: &DeskFacts,
+    books: &Books,
+    place: usize,
+) -> Option<ReplyLine>
+    ensures { option_map (λ l. l.items) result ≡ slice_get (totals_lines outlets (facts_view facts.now) (map numbers_in books.now.items) ++ end_lines) place }
 {
-    if place < TOTALS {
-        return total_line(&Totals::new(books, facts), place);
+    let totals = known_totals(outlets);
+    if place < totals {
+        return total_line(&Totals::new(books, facts), outlets, place);
     }
-    let i = place - TOTALS;
+    let i = place - totals;
     match books.get(i) {
         Some(book) => Some(shard_line(i, book)),
         None => end_line(i - books.len()),

@@ -7,7 +7,7 @@ use sd_key::is_white_space;
 
 /// A word, and what stands behind it.
 #[derive(Clone, Copy, Debug)]
-pub(crate) struct Word<'a> {
+pub struct Word<'a> {
     pub text: &'a [u8],
     pub rest: &'a [u8],
 }
@@ -34,8 +34,8 @@ fn word_len(bytes: &[u8]) -> usize
         .unwrap_or(bytes.len())
 }
 
-/// The first word of a line, where it has one.
-pub(crate) fn first_word(line: &[u8]) -> Option<Word<'_>>
+/// The first word of a line, where it has one. Words are parted by runs of white space, the bytes 9 to 13 and 32.
+pub fn first_word(line: &[u8]) -> Option<Word<'_>>
     ensures words { MatchOption result (words line.now ≡ []) (λ w. words line.now ≡ w.text.now ∷ words w.rest.now) }
     ensures within { IfSome result (λ w. (length w.text.now ≤ length line.now) × (length w.rest.now ≤ length line.now)) }
 {

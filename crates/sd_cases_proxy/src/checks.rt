@@ -1,6 +1,7 @@
 //! Checks of nodes over a beat and a probe in memory.
 ghost use Rattle.std.specs.Prelude.{◌≡◌, ◌<◌, ◌≤◌, length};
 
+use crate::desks::open_desk;
 use crate::nodes::nodes_of;
 use crate::packing::{beat_of, probe_of};
 use crate::place_gate::PlaceGate;
@@ -9,7 +10,7 @@ use log::{LevelFilter, Logged};
 use sd_case::{Answer, Refusal, bytes_of};
 use sd_memory::{MemBeat, MemProbe};
 use sd_outside::Address;
-use sd_proxy::{CheckEnd, Checked, UpCell, check, says_up};
+use sd_proxy::{CheckEnd, Checked, ProxyHub, ProxyPass, UpCell, UpPasses, check, says_up};
 use std::alloc::Global;
 use std::sync::Wait;
 
@@ -40,20 +41,25 @@ pub fn check_nodes<R: Wait>(
     let mut beat = beat_of(alloc, steps)?;
     let mut probe = probe_of(alloc, steps)?;
     let gate = PlaceGate::new(PUBLISHED);
-    let (cell, mut passes) = UpCell::open(alloc, nodes.len() as u8, 1)?;
+    let (cell, passes) = UpCell::open(alloc, nodes.len() as u8, 1)?;
+    let UpPasses {
+        checker,
+        receivers: _,
+    } = passes;
+    let (desk, seat) = open_desk(alloc)?;
+    let hub = ProxyHub {
+        cell: &cell,
+        desk: &desk,
+    };
+    let mut own = ProxyPass {
+        pass: checker,
+        seat,
+    };
     let log = Logged::new(rt, LevelFilter::Off, Discard);
-    let got = check(
-        &log,
-        &cell,
-        &mut passes.checker,
-        &nodes,
-        &mut beat,
-        &mut probe,
-        &gate,
-    );
+    let got = check(&log, &hub, &mut own, &nodes, &mut beat, &mut probe, &gate);
     show_checked(got, out);
     out.count(", gate passed ", gate.passed());
-    out.count(", then up ", cell.look(rt, &mut passes.checker));
+    out.count(", then up ", cell.look(rt, &mut own.pass));
     show_beat(&beat, out);
     show_probe(&probe, out);
     Ok(())

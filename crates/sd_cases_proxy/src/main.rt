@@ -4,6 +4,7 @@
 #![tactic(auto)]
 
 mod checks;
+mod desks;
 mod looker;
 mod lookers;
 mod looks;

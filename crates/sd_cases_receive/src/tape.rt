@@ -62,6 +62,10 @@ impl Clock for Tape {
         self.note(TIME);
         1000
     }
+
+    fn last(&self) -> u64 {
+        self.now()
+    }
 }
 
 /// A wire that notes each send. It tells nothing, and can't be opened.

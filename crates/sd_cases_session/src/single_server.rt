@@ -148,6 +148,7 @@ impl Server {
         let mut books = Books::new();
         books.push(self.shard.book());
         let totals = Reply::Totals {
+            outlets: self.settings.outlets() > 0,
             facts: &facts,
             books: &books,
         };

@@ -1,9 +1,13 @@
 -- What a run of a checker did.
-use Rattle.std.specs.Prelude.{◌≡◌, ℕ, ◌^◌, min, List, length}
+use Rattle.std.specs.Prelude.{◌≡◌, ℕ, ◌^◌, min, List, ◌++◌, length, map}
 use Rattle.sd_model_settings.specs.Entries.{Node}
 use Rattle.sd_model_outside.specs.Outside.{Object}
 use Rattle.sd_model_serve.specs.Ends as ends
-use Rattle.sd_model_live.specs.Checks.{Check, failed_in, HasChecked}
+use Rattle.sd_model_live.specs.Checks.{Check, failed_in, failed_of, HasChecked}
+use Rattle.sd_model_live.specs.Desk.{CountsCheck, ProxyEvent}
+use Rattle.sd_live.specs.Live.{seen}
+use Rattle.sd_proxy_desk.specs.Shared.{events_of}
+use Rattle.sd_proxy_desk.specs.declared.hub.ProxyPass.{ProxyPass}
 use Rattle.sd_check.specs.declared.checked.CheckEnd.{CheckEnd}
 use Rattle.sd_check.specs.declared.checked.CheckEnd.TheVariants.{End, Failed, Worn}
 use Rattle.sd_check.specs.declared.checked.Checked.{Checked}
@@ -14,9 +18,21 @@ end_view End = ends.Spent
 end_view Failed = ends.Failed
 end_view (Worn turns) = ends.WornOut turns
 
--- A checker made checks, ended so, and counted them and the questions that failed, these up to 2^63.
-pub record Checks (nodes : List Node) (history history_now : List ℕ) (beat beat_now probe probe_now : Object) (result : Checked) : Type 0 where
+-- What is seen of a checker: the history of the sets, as its pass has last seen it; what it did at the desk; and its beat and its probe.
+pub record CheckSeen : Type 0 where
+  pub history : List ℕ
+  pub events : List ProxyEvent
+  pub beat : Object
+  pub probe : Object
+
+-- what is seen of a checker with this pass and seat
+abbrev pub check_seen : ProxyPass → (beat probe : Object) → CheckSeen
+check_seen own beat probe = record { history = seen own.pass; events = events_of own.seat; beat = beat; probe = probe }
+
+-- A checker made checks, counted each at the desk, ended so, and counted them and the questions that failed, these up to 2^63.
+pub record Checks (nodes : List Node) (old new : CheckSeen) (result : Checked) : Type 0 where
   pub made : List Check
-  pub checked : HasChecked nodes made (end_view result.ended) history history_now beat beat_now probe probe_now
+  pub checked : HasChecked nodes made (end_view result.ended) old.history new.history old.beat new.beat old.probe new.probe
+  pub events : new.events ≡ old.events ++ map (λ c. CountsCheck (failed_of c)) made
   pub count : result.checks ≡ length made
   pub faults : result.probe_faults ≡ min (failed_in made) (2 ^ 63)

@@ -2,15 +2,16 @@
 ghost use Rattle.std.specs.Prelude.{◌≡◌, ◌+◌, ◌≤◌, ◌^◌, length, map, min};
 ghost use Rattle.sd_plan.specs.Entries.{node_view};
 ghost use Rattle.sd_live.specs.Live.{nodes_of, seen, IsCheckerOf};
-ghost use Rattle.sd_check.specs.Checking.{Checks};
+ghost use Rattle.sd_proxy_desk.specs.Shared.{IsSeatOf, number_of_seat};
+ghost use Rattle.sd_check.specs.Checking.{Checks, check_seen};
 
 use crate::checked::{CheckEnd, Checked};
 use crate::questions::ask_all;
 use log::Log;
 use sd_decimal::Line;
-use sd_live::{UpCell, UpPass};
 use sd_outside::{Beat, Gate, Probe, Tick};
 use sd_plan::Node;
+use sd_proxy_desk::{ProxyHub, ProxyPass};
 use std::sync::Wait;
 
 /// How many ticks a run takes at most.
@@ -26,22 +27,24 @@ const MOST_FAULTS: u64 = 1 << 63;
 const PUBLISHED: u8 = 5;
 
 /// At each tick of a beat asks all nodes, in order, and publishes the set of those that say that they are up; a node whose question
-/// failed isn't. It ends once the beat has no tick left or fails, or as many came as may. It passes the gate's place 5 behind each
-/// publication, and takes no memory.
+/// failed isn't. Behind each publication it counts the check, and the questions that failed, at the desk, and then passes the gate's
+/// place 5. It ends once the beat has no tick left or fails, or as many came as may. It takes no memory.
 pub fn check<P: Beat, Q: Probe, G: Gate, R: Wait + Log>(
     rt: &R,
-    cell: &UpCell,
-    pass: &mut UpPass,
+    hub: &ProxyHub<'_>,
+    own: &mut ProxyPass,
     nodes: &[Node],
     beat: &mut P,
     probe: &mut Q,
     gate: &G,
 ) -> Checked
-    requires pass { IsCheckerOf cell.now pass.old }
-    requires fresh { length (seen pass.old) ≡ 1 }
-    requires nodes { length nodes.now ≡ nodes_of cell.now }
-    ensures pass { IsCheckerOf cell.now pass.new }
-    ensures checks { Checks (map node_view nodes.now) (seen pass.old) (seen pass.new) (P.seen beat.old) (P.seen beat.new) (Q.seen probe.old) (Q.seen probe.new) result }
+    requires pass { IsCheckerOf hub.now.cell.now own.old.pass }
+    requires seat { IsSeatOf hub.now.desk.now own.old.seat }
+    requires fresh { length (seen own.old.pass) ≡ 1 }
+    requires nodes { length nodes.now ≡ nodes_of hub.now.cell.now }
+    ensures pass { IsCheckerOf hub.now.cell.now own.new.pass }
+    ensures seat { IsSeatOf hub.now.desk.now own.new.seat × (number_of_seat own.new.seat ≡ number_of_seat own.old.seat) }
+    ensures checks { Checks (map node_view nodes.now) (check_seen own.old (P.seen beat.old) (Q.seen probe.old)) (check_seen own.new (P.seen beat.new) (Q.seen probe.new)) result }
 {
     let mut line = Line::new();
     let mut probe_faults = 0u64;
@@ -53,7 +56,8 @@ pub fn check<P: Beat, Q: Probe, G: Gate, R: Wait + Log>(
             Tick::Failed => return checked(CheckEnd::Failed, made, probe_faults),
         }
         let found = ask_all(rt, nodes, before, probe, &mut line);
-        cell.publish(rt, pass, found.up);
+        hub.cell.publish(rt, &mut own.pass, found.up);
+        hub.desk.count_check(rt, found.failed, &mut own.seat);
         before = found.up;
         gate.pass(PUBLISHED);
         probe_faults = risen(probe_faults, found.failed);

@@ -125,7 +125,7 @@ flat_map-alone f (x ∷ xs) = ap (λ ys. f x ∷ ys) (flat_map-alone f xs)
 -- the text of what is replied to a line, as it is written
 module _ (settings : Settings) (states : ℕ → State) (desk : Desk) (moment : ℕ) (line : List ℕ) where
   abbrev text_by : Result admin.Command AdminFault → List ℕ
-  text_by answer = replies_text (replies_by (replies_at settings.sizes.shards (broadcasts (bounds_of settings) states (admin_events answer))) desk.facts settings moment answer)
+  text_by answer = replies_text (replies_by false (replies_at settings.sizes.shards (broadcasts (bounds_of settings) states (admin_events answer))) desk.facts settings moment answer)
 
   abbrev told : List ℕ
   told = output_in settings (record { shards = states; desk = desk }) (Admin moment line)
@@ -135,15 +135,15 @@ module _ (settings : Settings) (states : ℕ → State) (desk : Desk) (moment : 
       ap (λ f. reply_text (Stats f moment)) same ∙ sym (append-nil (reply_text (Stats desk.facts moment))) ∙ sym (ap text_by read)
 
   pub totals_told : (group : Group) (facts : Facts) (numbers : List Numbers) → length group.states ≡ settings.sizes.shards → states ≡ state_at group → facts ≡ desk.facts
-      → numbers ≡ map (λ i. numbers_of (state_at group i)) (shards_of group) → admin.command line ≡ Ok admin.Totals → reply_text (Totals facts numbers) ≡ told
+      → numbers ≡ map (λ i. numbers_of (state_at group i)) (shards_of group) → admin.command line ≡ Ok admin.Totals → reply_text (Totals false facts numbers) ≡ told
   totals_told group facts numbers count are same tell read =
       let answers : (ℕ → State) → ℕ → List shard.Reply = λ at n. replies_at n (broadcasts (bounds_of settings) at (Look ∷ [])) 0 in
       let all : numbers ≡ numbers_told (answers states settings.sizes.shards) =
       tell ∙ sym (flat_map-alone (λ i. numbers_of (state_at group i)) (shards_of group))
       ∙ sym (flat_map-map numbers_in (λ i. shard.Looked (numbers_of (state_at group i))) (shards_of group))
       ∙ ap (λ n. numbers_told (answers (state_at group) n)) count ∙ ap (λ at. numbers_told (answers at settings.sizes.shards)) (sym are) in
-      (λ i. reply_text (Totals (same i) (all i)))
-      ∙ sym (append-nil (reply_text (Totals desk.facts (numbers_told (answers states settings.sizes.shards))))) ∙ sym (ap text_by read)
+      (λ i. reply_text (Totals false (same i) (all i)))
+      ∙ sym (append-nil (reply_text (Totals false desk.facts (numbers_told (answers states settings.sizes.shards))))) ∙ sym (ap text_by read)
 
   pub rows_shown : (bounds : Bounds) (kind : Kind) → bounds.shards ≡ settings.sizes.shards → admin.command line ≡ Ok (admin.Show kind)
       → reply_text (Rows kind (rows_told (replies_at bounds.shards (broadcasts bounds states (Dump kind ∷ [])) 0))) ≡ told

@@ -142,8 +142,12 @@ pub fn carry_out<O: Sink>(
             write_reply(&reply, output)
         }
         Command::Totals => {
-            let (facts, books) = (&desk.facts(), &shards.books());
-            write_reply(&Reply::Totals { facts, books }, output)
+            let reply = Reply::Totals {
+                outlets: false,
+                facts: &desk.facts(),
+                books: &shards.books(),
+            };
+            write_reply(&reply, output)
         }
         Command::Config => write_reply(&Reply::Config { settings }, output),
         Command::Quit => Ok(()),

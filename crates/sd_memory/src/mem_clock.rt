@@ -25,4 +25,8 @@ impl Clock for MemClock {
     fn now(&self) -> u64 {
         self.now
     }
+
+    fn last(&self) -> u64 {
+        self.now
+    }
 }

@@ -1,5 +1,5 @@
 -- The totals of a server's run, added up over its shards.
-use Rattle.std.proofs.Common.{◌≡◌, ℕ, ◌+◌, ◌<◌, List, [], ◌∷◌, length, refl, sym, subst, ◌∙◌, arith}
+use Rattle.std.proofs.Common.{◌≡◌, ℕ, ◌+◌, ◌<◌, List, [], ◌∷◌, length, refl, sym, subst, arith}
 use Rattle.std.specs.Prelude.{min, sum_by}
 use Rattle.std.specs.List.{range_with_len}
 use Rattle.std.proofs.lemmas.List.Sums.{sum_by-cons}
@@ -10,7 +10,6 @@ use Rattle.sd_model_shard.specs.Whereabouts.{dropped_in, taken_in, told_by}
 use Rattle.sd_model_shard.proofs.NumberLemmas.{sums_are_told}
 use Rattle.sd_model_replay.specs.Settings.{limits_of, policy_of}
 use Rattle.sd_model_serve.specs.Doors.{asked_by}
-use Rattle.sd_model_serve.specs.Receiving.{told_in}
 use Rattle.sd_model_serve.specs.Rounds.{AreCommands}
 use Rattle.sd_model_serve.proofs.CommandLemmas.{visits_commands}
 use Rattle.sd_model_serve.proofs.ServedLemmas.{events_of_acts}

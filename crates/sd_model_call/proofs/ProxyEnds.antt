@@ -3,28 +3,33 @@ use Rattle.std.proofs.Common.{◌≡◌, ◌⊎◌, ℕ, ◌+◌, List, [], ◌�
 use Rattle.std.specs.Prelude.{min}
 use Rattle.std.specs.List.{AllByRecursion, list_any}
 use Rattle.std.proofs.lemmas.List.{length-map}
-use Rattle.sd_model_outside.specs.Outside.{File, Datagrams, Object, Rose, last_count}
+use Rattle.sd_model_outside.specs.Outside.{File, Host, Datagrams, Object, Rose, last_count}
 use Rattle.sd_model_settings.specs.Entries.{Node}
 use Rattle.sd_model_settings.specs.Settings.{Settings, SettingsFlaw, settings}
 use Rattle.sd_model_serve.specs.Ends.{LoopEnd, Spent, Failed, Enough, WornOut, EndsFlusher, most_turns}
 use Rattle.sd_model_proxy.specs.Relays.{Relay, AreRelays}
 use Rattle.sd_model_live.specs.Checks.{EndsChecker}
+use Rattle.sd_model_live.specs.Port.{has_port}
 use Rattle.sd_model_call.specs.Words.{Form, Proxy, form}
-use Rattle.sd_model_call.specs.Opening.{World, Opening, OfSettings, OfScript, OfSource, OfBeat, OfWire, OfGraphite, OfConsole, OfDoor, OfStreams, IsAccepted, IsFlawed, numbered, repeated, settled, source_at}
+use Rattle.sd_model_call.specs.Opening.{World, Opening, Part, OfSettings, OfScript, OfSource, OfBeat, OfWire, OfGraphite, OfConsole, OfDoor, OfStreams, IsAccepted, IsFlawed, numbered, repeated, settled, source_at}
 use Rattle.sd_model_call.specs.Call.{Answer, Done, NoMemory, NoForm, Misset, BadScript, NotOpened, NotRead, NotWritten, Worn, WritesTotals}
 use Rattle.sd_model_call.specs.Completeness.{IsBlocked, IsWhole}
 use Rattle.sd_model_call.specs.Server.{is_worn, source_openings}
-use Rattle.sd_model_call.specs.ServerCompleteness.{AsksFor, SourceTookMost, AreRelaysSpent, IsOpenedToRelay, IsProxyCauseOf, IsRelayed, IsUnhinderedProxy, NoWireFailed, OneLoopTookMost}
-use Rattle.sd_model_call.specs.Proxy.{AnswersProxy, HasProxied, check_interval, IsUnfit, ProxyAccounts, node_place, proxy_answer, proxy_begun, proxy_flaw, proxy_openings, relay_text}
+use Rattle.sd_model_call.specs.ServerCompleteness.{AsksFor, HasFaultOf, SourceTookMost, AreRelaysSpent, IsBesideProxy, IsOpenedToRelay, IsProxyCauseOf, IsRelayed, IsUnhinderedProxy, NoneBesideFailed, OneLoopTookMost}
+use Rattle.sd_model_call.specs.Proxy.{AnswersProxy, HasProxied, check_interval, IsUnfit, ProxyAccounts, node_place, port_openings, proxy_answer, proxy_begun, proxy_flaw, proxy_openings, relay_openings, relay_text}
 use Rattle.sd_model_call.proofs.BegunLemmas.{Same, all_numbered, accepted_so, at_same, has_flaw, none_failed, not_begun, not_taken, same_start, uncut}
 use Rattle.sd_model_call.proofs.LoopEnds.{AreEnded, ComesFrom, OneSourceTookMost, all_done, beat_spent, comes_from, worn_one}
-use Rattle.sd_model_call.proofs.Openings.{all_append}
+use Rattle.sd_model_call.proofs.Openings.{all_append, all_where}
 
 all_relayed : (s : Settings) → AllByRecursion (λ (o : Opening). IsOpenedToRelay o.part) (proxy_openings s)
 all_relayed s =
-    all_append (λ (o : Opening). IsOpenedToRelay o.part) (source_openings s) (numbered OfWire 0 (repeated s.sizes.receivers (map node_place s.lists.nodes)))
+    let opened : Opening → Type 0 = λ o. IsOpenedToRelay o.part in
+    let door : Opening = record { part = OfDoor; place = Host s.addresses.mgmt_address s.transport.proxy_mgmt_port } in
+    all_append opened (relay_openings s) (port_openings s)
+    (all_append opened (source_openings s) (numbered OfWire 0 (repeated s.sizes.receivers (map node_place s.lists.nodes)))
     (all_numbered IsOpenedToRelay OfSource (λ i. tt) 0 (repeated s.sizes.receivers (Datagrams s.addresses.address s.server.port s.transport.receive_buffer ∷ [])))
-    (all_numbered IsOpenedToRelay OfWire (λ i. tt) 0 (repeated s.sizes.receivers (map node_place s.lists.nodes)))
+    (all_numbered IsOpenedToRelay OfWire (λ i. tt) 0 (repeated s.sizes.receivers (map node_place s.lists.nodes))))
+    (all_where opened (has_port s) door (λ on. tt))
 
 -- the loops of receivers over their sources
 looped : (most : ℕ) (nodes : List Node) (rs : List Relay) (ss ns ws wn : List Object) → AreRelays most nodes rs ss ns ws wn → AreEnded 0 0 (map (λ r. r.ended) rs) ss ns
@@ -154,10 +159,10 @@ module _ (words : List (List ℕ)) (bytes : List ℕ) (old new : World) (asks : 
       by_cause (NotOpened OfScript) h = absurd h.0
       by_cause (NotOpened (OfSource i)) h = absurd (steady.runs.sources i h.1)
       by_cause (NotOpened OfBeat) h = absurd h.0
-      by_cause (NotOpened (OfWire i)) h = inr (i, refl)
+      by_cause (NotOpened (OfWire i)) h = inr (OfWire i, tt, refl)
       by_cause (NotOpened OfGraphite) h = absurd h.0
       by_cause (NotOpened OfConsole) h = absurd h.0
-      by_cause (NotOpened OfDoor) h = absurd h.0
+      by_cause (NotOpened OfDoor) h = inr (OfDoor, tt, refl)
       by_cause (NotOpened OfStreams) h = absurd h.0
       by_cause (NotRead part) h = absurd (none_failed old new steady.runs part h.0 h.1)
       by_cause NotWritten h = absurd (steady.runs.output h)
@@ -169,10 +174,21 @@ module _ (words : List (List ℕ)) (bytes : List ℕ) (old new : World) (asks : 
       pub relays : (answer : Answer) → AnswersProxy (form words) answer old new → IsRelayed answer
       relays answer h = by_cause answer (caused answer h)
 
-      module _ (none : NoWireFailed old new) where
+      module _ (none : NoneBesideFailed old new) where
+        not_beside : (part : Part) → IsBesideProxy part → HasFaultOf part old new → ⊥
+        not_beside (OfWire i) beside rose = none.wires i rose
+        not_beside OfDoor beside rose = none.door rose
+        not_beside OfSettings beside rose = absurd beside
+        not_beside OfScript beside rose = absurd beside
+        not_beside (OfSource i) beside rose = absurd beside
+        not_beside OfBeat beside rose = absurd beside
+        not_beside OfGraphite beside rose = absurd beside
+        not_beside OfConsole beside rose = absurd beside
+        not_beside OfStreams beside rose = absurd beside
+
         is_whole : (answer : Answer) → IsProxyCauseOf asks.name answer old new → IsRelayed answer → IsWhole Done answer
         is_whole answer h (inl done) = done
-        is_whole answer h (inr (i, is)) = absurd (none i (subst (λ (a : Answer). IsProxyCauseOf asks.name a old new) is h).1)
+        is_whole answer h (inr (part, beside, is)) = absurd (not_beside part beside (subst (λ (a : Answer). IsProxyCauseOf asks.name a old new) is h).1)
 
         pub relays_whole : (answer : Answer) → AnswersProxy (form words) answer old new → IsWhole Done answer
         relays_whole answer h = is_whole answer (caused answer h) (relays answer h)

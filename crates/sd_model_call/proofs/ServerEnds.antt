@@ -19,7 +19,7 @@ use Rattle.sd_model_call.specs.Completeness.{IsWhole, IsBlocked}
 use Rattle.sd_model_record.specs.Totals.{totals_text}
 use Rattle.sd_model_call.specs.Server.{AnswersServer, HasServed, ServerAccounts, begun, door_openings, flush_interval, has_streams, is_worn, run_answer, run_totals, server_openings, source_openings}
 use Rattle.sd_model_call.specs.ServerCompleteness.{AStreamTookMost, AreAllSpent, AsksFor, HasFaultOf, IsCauseOf, IsOpenedToServe, IsOutermost, IsServed, IsUnhinderedServer, NoneFailed, OneTookMost, TookMost}
-use Rattle.sd_model_call.proofs.BegunLemmas.{Same, all_numbered, accepted_so, at_same, has_flaw, none_failed, not_begun, not_taken, same_all, same_start, uncut}
+use Rattle.sd_model_call.proofs.BegunLemmas.{Same, all_numbered, accepted_so, at_same, has_flaw, none_failed, not_begun, not_taken, same_start, uncut}
 use Rattle.sd_model_call.proofs.LoopEnds.{AllDone, AreEnded, ComesFrom, OneSourceTookMost, all_done, beat_spent, both_false, comes_from, whole_done, worn_one}
 use Rattle.sd_model_call.proofs.Openings.{all_append, all_where}
 use Rattle.sd_model_record.specs.Backends.{Graphite, Console}

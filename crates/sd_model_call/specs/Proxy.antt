@@ -7,9 +7,10 @@ use Rattle.sd_model_serve.specs.Ends.{LoopEnd}
 use Rattle.sd_model_record.specs.Totals.{totals_text}
 use Rattle.sd_model_proxy.specs.Relays.{Relay, relays_totals}
 use Rattle.sd_model_live.specs.Checks.{Check, failed_in}
-use Rattle.sd_model_live.specs.Proxy.{ProxyTheorem}
+use Rattle.sd_model_live.specs.Port.{has_port}
+use Rattle.sd_model_live.specs.Proxy.{ProxyObjects, ProxyTheorem}
 use Rattle.sd_model_call.specs.Words.{Form, Proxy}
-use Rattle.sd_model_call.specs.Opening.{Opening, OfWire, World, IsAccepted, OnlySettings, numbered, repeated, settled}
+use Rattle.sd_model_call.specs.Opening.{Opening, OfDoor, OfWire, World, IsAccepted, OnlySettings, numbered, opening_where, repeated, settled}
 use Rattle.sd_model_call.specs.Call.{Answer, Misset, NotBegun, NotTaken, WritesTotals}
 use Rattle.sd_model_call.specs.Server.{begun_with, ends_answer, source_openings}
 
@@ -17,10 +18,21 @@ use Rattle.sd_model_call.specs.Server.{begun_with, ends_answer, source_openings}
 abbrev pub node_place : Node → Place
 node_place n = Host n.host n.port
 
--- What the proxy opens once the settings are read, in this order: a source for each receiver, as a server does, and a run of wires for
--- each receiver, with a wire to each node.
+-- the door of the proxy's port, where it has one
+abbrev pub port_openings : Settings → List Opening
+port_openings s = opening_where (has_port s) (record { part = OfDoor; place = Host s.addresses.mgmt_address s.transport.proxy_mgmt_port })
+
+-- a source for each receiver, as a server has, and a run of wires for each receiver, with a wire to each node
+abbrev pub relay_openings : Settings → List Opening
+relay_openings s = source_openings s ++ numbered OfWire 0 (repeated s.sizes.receivers (map node_place s.lists.nodes))
+
+-- What the proxy opens once the settings are read, in this order: what its receivers use; and the door of its port, where it has one.
 abbrev pub proxy_openings : Settings → List Opening
-proxy_openings s = source_openings s ++ numbered OfWire 0 (repeated s.sizes.receivers (map node_place s.lists.nodes))
+proxy_openings s = relay_openings s ++ port_openings s
+
+-- what is seen of the objects that a proxy uses
+abbrev pub proxy_objects : World → ProxyObjects
+proxy_objects w = record { sources = w.served.sources; wires = w.seen.wires; beat = w.served.beat; probe = w.probe; door = w.served.door }
 
 -- how far the checks of a proxy are apart
 abbrev pub check_interval : Settings → Interval
@@ -73,11 +85,11 @@ pub record HasProxied (name : List ℕ) (answer : Answer) (old new : World) : Ty
   pub count : length relays ≡ values.sizes.receivers
   pub checks : List Check
   pub checker_ended : LoopEnd
-  pub theorem : (let start = proxy_begun values (settled values settings old) in ProxyTheorem values.transport.batch_bytes values.lists.nodes relays checks checker_ended start.served.sources new.served.sources start.seen.wires new.seen.wires start.served.beat new.served.beat old.probe new.probe)
+  pub theorem : ProxyTheorem values relays checks checker_ended (proxy_objects (proxy_begun values (settled values settings old))) (proxy_objects new)
   pub written : WritesTotals (relay_text values.lists.nodes relays checks) (proxy_answer relays checker_ended) answer old.seen.output new.seen.output
   pub others : new ≡ record (settled values settings old) {
     seen = record old.seen { wires = new.seen.wires; output = new.seen.output };
-    served = record old.served { sources = new.served.sources; beat = new.served.beat };
+    served = record old.served { sources = new.served.sources; beat = new.served.beat; door = new.served.door };
     probe = new.probe;
   }
 

@@ -142,19 +142,27 @@ pub record IsUnhinderedProxy (old new : World) : Type 0 where
   pub runs : RunsFreely old new
   pub beat_uncapped : new.served.beat.turns < last_count
 
--- no fault was counted of a wire
-abbrev pub NoWireFailed : World → World → Type 0
-NoWireFailed old new = (i : ℕ) → ¬ Rose (wire_at i old.seen.wires).faults (wire_at i new.seen.wires).faults
+-- the wire of a node or the door of the port, whose faults never end a proxy that has begun
+abbrev pub IsBesideProxy : Part → Type 0
+IsBesideProxy (OfWire i) = ⊤
+IsBesideProxy OfDoor = ⊤
+IsBesideProxy part = ⊥
 
--- all was done, or no memory was left, or the wire of a node couldn't be opened
+-- no fault was counted of one of them
+pub record NoneBesideFailed (old new : World) : Type 0 where
+  pub wires : (i : ℕ) → ¬ Rose (wire_at i old.seen.wires).faults (wire_at i new.seen.wires).faults
+  pub door : ¬ Rose old.served.door.faults new.served.door.faults
+
+-- all was done, or no memory was left, or one of them couldn't be opened
 abbrev pub IsRelayed : Answer → Type 0
-IsRelayed answer = IsWhole Done answer ⊎ ((i : ℕ) × (answer ≡ NotOpened (OfWire i)))
+IsRelayed answer = IsWhole Done answer ⊎ ((part : Part) × IsBesideProxy part × (answer ≡ NotOpened part))
 
 -- a part that is opened for the proxy
 abbrev pub IsOpenedToRelay : Part → Type 0
 IsOpenedToRelay OfSettings = ⊤
 IsOpenedToRelay (OfSource i) = ⊤
 IsOpenedToRelay (OfWire i) = ⊤
+IsOpenedToRelay OfDoor = ⊤
 IsOpenedToRelay part = ⊥
 
 -- Settings were accepted, and the source of each receiver that they ask for, and the beat, have nothing left, where they tell what

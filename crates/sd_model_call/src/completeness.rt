@@ -12,7 +12,7 @@ ghost use Rattle.sd_model_call.specs.Drill.{drill_text};
 ghost use Rattle.sd_model_call.specs.Call.{Accounts, Answer, BadScript, Done, IsScripted, Misset, OnlyOutput, Worn};
 ghost use Rattle.sd_model_call.specs.Completeness.{Asks, AsksPlainly, CarriedOut, CarriedOutWell, EndsSo, IsBlocked, IsCutOff, IsFull, IsLongest, IsTold, IsUnhindered, IsWhole, NoneMissed, refusal, start_of};
 ghost use Rattle.sd_model_call.specs.Proxy.{AnswersProxy, ProxyAccounts, proxy_flaw};
-ghost use Rattle.sd_model_call.specs.ServerCompleteness.{AsksFor, IsProxyCauseOf, IsRelayed, IsUnhinderedProxy, NoWireFailed};
+ghost use Rattle.sd_model_call.specs.ServerCompleteness.{AsksFor, IsProxyCauseOf, IsRelayed, IsUnhinderedProxy, NoneBesideFailed};
 
 /// A replay that nothing hinders comes to the word that ends the script. One whose script is cut off behind some records, by a
 /// flaw, stops at that place and tells which, and one of as many records as there may be carries these out, and then no more,
@@ -73,7 +73,7 @@ pub fn drills_complete()
         → form words ≡ Some (Drill n) → Accounts words old new answer → OnlyOutput old new }
 {}
 
-/// A proxy that nothing hinders sends on what its sources give, unless memory or the wire of a node is lacking; one whose settings
+/// A proxy that nothing hinders sends on what its sources give, unless memory, the wire of a node or its port is lacking; one whose settings
 /// have a flaw, or something that keeps it from them, says so. Each answer has its cause: where all was done, the sources and the
 /// beat have nothing left.
 pub fn unhindered_proxies_relay()
@@ -82,7 +82,7 @@ pub fn unhindered_proxies_relay()
         → AnswersProxy (form words) answer old new → IsRelayed answer }
     ensures whole { (words : List (List ℕ)) (values : Settings) (old new : World) (bytes : List ℕ) (answer : Answer)
         → AsksFor Proxy words old bytes → settings bytes ≡ Ok values → proxy_flaw values ≡ None → IsUnhinderedProxy old new
-        → NoWireFailed old new → AnswersProxy (form words) answer old new → IsWhole Done answer }
+        → NoneBesideFailed old new → AnswersProxy (form words) answer old new → IsWhole Done answer }
     ensures blocked { (words : List (List ℕ)) (flaw : SettingsFlaw) (old new : World) (bytes : List ℕ) (answer : Answer)
         → AsksFor Proxy words old bytes → settings bytes ≡ Err flaw → AnswersProxy (form words) answer old new → IsBlocked (Misset flaw) answer }
     ensures unfit { (words : List (List ℕ)) (values : Settings) (flaw : SettingsFlaw) (old new : World) (bytes : List ℕ) (answer : Answer)

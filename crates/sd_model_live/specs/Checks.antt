@@ -51,6 +51,10 @@ places_asked nodes checks = flat_map (λ c. map admin_place nodes) checks
 abbrev pub answers_of : List Check → List (Option (List ℕ))
 answers_of checks = flat_map (λ c. c.answers) checks
 
+-- how many of the questions of a check failed
+abbrev pub failed_of : Check → ℕ
+failed_of c = count_by is_failed c.answers
+
 -- how many of the questions of checks failed
 abbrev pub failed_in : List Check → ℕ
 failed_in checks = count_by is_failed (answers_of checks)

@@ -1,2 +1,4 @@
 pub mod Checks
+pub mod Desk
+pub mod Port
 pub mod Proxy

@@ -1,11 +1,15 @@
 -- The sets of nodes that are up, and what looks at them answer; and what a proxy does, whose receivers look while its checker
 -- publishes.
-use Rattle.std.specs.Prelude.{ℕ, List, [], ◌∷◌, length, map, ◌≡◌, ◌+◌, ◌-◌, ◌^◌, ◌≤◌, ◌==◌, ◌++◌, if◌then◌else◌, slice_get, Some, ⊤}
+use Rattle.std.specs.Prelude.{ℕ, List, [], ◌∷◌, length, map, ◌≡◌, ◌+◌, ◌-◌, ◌^◌, ◌<◌, ◌≤◌, ◌==◌, ◌++◌, if◌then◌else◌, slice_get, Some, ⊤}
+use Rattle.std.specs.List.{All}
 use Rattle.sd_model_settings.specs.Entries.{Node}
+use Rattle.sd_model_settings.specs.Settings.{Settings}
 use Rattle.sd_model_outside.specs.Outside.{Object}
 use Rattle.sd_model_serve.specs.Ends.{LoopEnd}
 use Rattle.sd_model_proxy.specs.Relays.{Relay, AreRelays}
-use Rattle.sd_model_live.specs.Checks.{Check, HasChecked}
+use Rattle.sd_model_live.specs.Checks.{Check, HasChecked, failed_of}
+use Rattle.sd_model_live.specs.Desk.{AreCounted, CountsCheck, IsProxyHistory, ProxyAct, done_by}
+use Rattle.sd_model_live.specs.Port.{HasPort, has_port}
 
 -- the set of all of so many nodes, with which a history begins
 abbrev pub all_of : ℕ → ℕ
@@ -68,13 +72,34 @@ abbrev pub AreTold : (from : ℕ) → List Relay → List SetStep → Type 0
 AreTold from [] steps = ⊤
 AreTold from (r ∷ relays) steps = (told_to from steps ≡ map (λ x. x.up) r.reads) × AreTold (from + 1) relays steps
 
--- The theorem of a proxy. The sets that its checker published and the looks of its receivers, one for each datagram, stand in one
--- order of steps, and each look tells the set that was published last before it, which is that of all nodes before the first; the
--- checker made these checks; and each receiver did what a receiver does, with its own source and its own run of wires, and with packets
--- of at most so many bytes.
-pub record ProxyTheorem (most : ℕ) (nodes : List Node) (relays : List Relay) (checks : List Check) (checker_ended : LoopEnd) (sources sources_now wires wires_now : List Object) (beat beat_now probe probe_now : Object) : Type 0 where
+-- What is seen of the objects that a proxy uses: the sources of its receivers, their wires, its beat, its probe, and the door of its
+-- port.
+pub record ProxyObjects : Type 0 where
+  pub sources : List Object
+  pub wires : List Object
+  pub beat : Object
+  pub probe : Object
+  pub door : Object
+
+-- The theorem of a proxy of these settings.
+--
+-- The sets that its checker published, the looks of its receivers, one for each datagram, and those of its port stand in one order of
+-- steps, and each look tells the set that was published last before it, which is that of all nodes before the first. The checker made
+-- these checks, and each receiver did what a receiver does, with its own source and its own run of wires, and with packets of at most so
+-- many bytes as the settings say.
+--
+-- What receivers, checker and port did at the desk stands in one history, in which who hears the facts hears what was counted before.
+-- The receivers have the first numbers there, the checker the next, and the port the last: each receiver counted each of its
+-- datagrams, and the checker each of its checks. The port's sessions were told what they heard.
+pub record ProxyTheorem (s : Settings) (relays : List Relay) (checks : List Check) (checker_ended : LoopEnd) (o o_now : ProxyObjects) : Type 0 where
   pub steps : List SetStep
-  pub current : AreCurrent (all_of (length nodes)) steps
+  pub current : AreCurrent (all_of (length s.lists.nodes)) steps
   pub told : AreTold 0 relays steps
-  pub checked : HasChecked nodes checks checker_ended (first_history nodes) (all_of (length nodes) ∷ published_in steps) beat beat_now probe probe_now
-  pub are : AreRelays most nodes relays sources sources_now wires wires_now
+  pub checked : HasChecked s.lists.nodes checks checker_ended (first_history s.lists.nodes) (all_of (length s.lists.nodes) ∷ published_in steps) o.beat o_now.beat o.probe o_now.probe
+  pub are : AreRelays s.transport.batch_bytes s.lists.nodes relays o.sources o_now.sources o.wires o_now.wires
+  pub history : List ProxyAct
+  pub legal : IsProxyHistory history
+  pub whose : All (λ a. a.who < length relays + 2) history
+  pub counted : AreCounted s.lists.nodes 0 relays history
+  pub checks_counted : done_by (length relays) history ≡ map (λ c. CountsCheck (failed_of c)) checks
+  pub port : HasPort (has_port s) s (done_by (length relays + 1) history) (told_to (length relays) steps) o.door o_now.door

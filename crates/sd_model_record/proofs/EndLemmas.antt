@@ -14,7 +14,7 @@ use Rattle.sd_model_shard.specs.Shard.{Numbers}
 use Rattle.sd_model_record.specs.Admin as admin
 use Rattle.sd_model_record.specs.Admin.{AdminFault, UnknownWord, MissingName, TooLong}
 use Rattle.sd_model_record.specs.Desk.{Facts}
-use Rattle.sd_model_record.specs.Totals.{added, total_line, totals_of}
+use Rattle.sd_model_record.specs.Totals.{added, known_before_end, total_line, totals_of}
 use Rattle.sd_model_record.specs.Replies.{Finish, end_lines, stats_lines, shard_line, shard_lines, totals_lines, row_line, row_value, gone_lines, health_line, fault_line, reply_lines, replies_by, names_replied, rows_told, keys_told, numbers_told, health_after}
 
 -- a line isn't `END`
@@ -131,8 +131,11 @@ others_of_shards : (i : ℕ) (shards : List Numbers) → AreOthers (shard_lines 
 others_of_shards i [] = tt
 others_of_shards i (n ∷ shards) = (by_byte 32 (shard_line i n) refl refl, others_of_shards (i + 1) shards)
 
-others_of_totals : (facts : Facts) (shards : List Numbers) → AreOthers (totals_lines facts shards)
-others_of_totals facts shards =
+others_of_totals : (outlets : Bool) (facts : Facts) (shards : List Numbers) → AreOthers (totals_lines outlets facts shards)
+others_of_totals true facts shards =
+    let totals = map total_line (known_before_end true (totals_of (added shards) facts)) in
+    others-append totals (shard_lines 0 shards) (with_bytes 32 refl totals refl) (others_of_shards 0 shards)
+others_of_totals false facts shards =
     let totals = map total_line (totals_of (added shards) facts) in
     others-append totals (shard_lines 0 shards) (with_bytes 32 refl totals refl) (others_of_shards 0 shards)
 
@@ -151,13 +154,13 @@ others_of_fault : (fault : AdminFault) → IsOther (fault_line fault)
 others_of_fault fault = by_byte 82 (fault_line fault) refl refl
 
 -- behind `END` the empty line stands alone, whatever is replied to a line
-pub ends-last : (answers : ℕ → List shard.Reply) (facts : Facts) (settings : file.Settings) (now : ℕ) (asked : Result admin.Command AdminFault) → StandsLast (flat_map reply_lines (replies_by answers facts settings now asked))
-ends-last answers facts settings now (Ok admin.Stats) = with_end (stats_lines facts now) (others_of_stats facts now)
-ends-last answers facts settings now (Ok admin.Totals) = with_end (totals_lines facts (numbers_told (answers 0))) (others_of_totals facts (numbers_told (answers 0)))
-ends-last answers facts settings now (Ok admin.Config) = with_end (config_lines settings) (others_of_config settings)
-ends-last answers facts settings now (Ok admin.Quit) = λ front back same. absurd (stands_nowhere [] front back tt same)
-ends-last answers facts settings now (Ok (admin.Show kind)) =
+pub ends-last : (outlets : Bool) (answers : ℕ → List shard.Reply) (facts : Facts) (settings : file.Settings) (now : ℕ) (asked : Result admin.Command AdminFault) → StandsLast (flat_map reply_lines (replies_by outlets answers facts settings now asked))
+ends-last outlets answers facts settings now (Ok admin.Stats) = with_end (stats_lines facts now) (others_of_stats facts now)
+ends-last outlets answers facts settings now (Ok admin.Totals) = with_end (totals_lines outlets facts (numbers_told (answers 0))) (others_of_totals outlets facts (numbers_told (answers 0)))
+ends-last outlets answers facts settings now (Ok admin.Config) = with_end (config_lines settings) (others_of_config settings)
+ends-last outlets answers facts settings now (Ok admin.Quit) = λ front back same. absurd (stands_nowhere [] front back tt same)
+ends-last outlets answers facts settings now (Ok (admin.Show kind)) =
     with_end (map (row_line kind) (rows_told (answers 0))) (others-map (row_line kind) (others_of_row kind) (rows_told (answers 0)))
-ends-last answers facts settings now (Ok (admin.Delete kind names)) = of_names answers names
-ends-last answers facts settings now (Ok (admin.Health word)) = without_end (health_line (health_after word facts.up)) (of_line (codes "health") (if health_after word facts.up then codes "up" else codes "down"))
-ends-last answers facts settings now (Err fault) = without_end (fault_line fault) (others_of_fault fault)
+ends-last outlets answers facts settings now (Ok (admin.Delete kind names)) = of_names answers names
+ends-last outlets answers facts settings now (Ok (admin.Health word)) = without_end (health_line (health_after word facts.up)) (of_line (codes "health") (if health_after word facts.up then codes "up" else codes "down"))
+ends-last outlets answers facts settings now (Err fault) = without_end (fault_line fault) (others_of_fault fault)

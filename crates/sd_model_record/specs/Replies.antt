@@ -11,16 +11,17 @@ use Rattle.sd_model_settings.specs.ConfigText.{line, config_lines}
 use Rattle.sd_model_shard.specs.Commands.{DumpRow, in_key_order}
 use Rattle.sd_model_record.specs.Desk.{Facts}
 use Rattle.sd_model_record.specs.Admin.{AdminFault, UnknownWord, MissingName, TooLong, HealthWord, Up, Down, Ask}
-use Rattle.sd_model_record.specs.Totals.{added, total_line, totals_of}
+use Rattle.sd_model_record.specs.Totals.{added, known_before_end, total_line, totals_of}
 use Rattle.sd_model_shard.specs.Shard as shard
 use Rattle.sd_model_shard.specs.Shard.{Numbers}
 use Rattle.sd_model_record.specs.Admin as admin
 
--- What a reply tells: the facts of the desk at a moment; these with the numbers of each shard, in order; the rows of a kind; the keys
--- that a name of a deletion deleted; that a deletion has no further name; the health; the settings; why a line is no command.
+-- What a reply tells: the facts of the desk at a moment; these with the numbers of each shard, in order, where backends have outlets
+-- or none; the rows of a kind; the keys that a name of a deletion deleted; that a deletion has no further name; the health; the
+-- settings; why a line is no command.
 pub data Reply : Type 0 where
   Stats : (facts : Facts) (now : ℕ) → Reply
-  Totals : (facts : Facts) (shards : List Numbers) → Reply
+  Totals : (outlets : Bool) (facts : Facts) (shards : List Numbers) → Reply
   Rows : (kind : Kind) (rows : List DumpRow) → Reply
   Gone : (name : List ℕ) (keys : List (List ℕ)) → Reply
   Finish : Reply
@@ -53,9 +54,9 @@ abbrev pub shard_lines : ℕ → List Numbers → List (List ℕ)
 shard_lines i [] = []
 shard_lines i (n ∷ shards) = shard_line i n ∷ shard_lines (i + 1) shards
 
--- the totals so far, and a line for each shard
-abbrev pub totals_lines : Facts → List Numbers → List (List ℕ)
-totals_lines facts shards = map total_line (totals_of (added shards) facts) ++ shard_lines 0 shards
+-- the totals so far that are known before the end, and a line for each shard
+abbrev pub totals_lines : (outlets : Bool) → Facts → List Numbers → List (List ℕ)
+totals_lines outlets facts shards = map total_line (known_before_end outlets (totals_of (added shards) facts)) ++ shard_lines 0 shards
 
 -- what stands behind a row's key: what its samples come to, and of a timer their number before it
 abbrev pub row_value : Kind → DumpRow → List ℕ
@@ -88,7 +89,7 @@ fault_line fault = codes "ERROR " ++ fault_text fault ++ 10 ∷ []
 -- the lines of a reply; health and faults have one line and no end
 abbrev pub reply_lines : Reply → List (List ℕ)
 reply_lines (Stats facts now) = stats_lines facts now ++ end_lines
-reply_lines (Totals facts shards) = totals_lines facts shards ++ end_lines
+reply_lines (Totals outlets facts shards) = totals_lines outlets facts shards ++ end_lines
 reply_lines (Rows kind rows) = map (row_line kind) rows ++ end_lines
 reply_lines (Gone name keys) = gone_lines name keys
 reply_lines Finish = end_lines
@@ -152,18 +153,19 @@ health_after Up up = true
 health_after Down up = false
 health_after Ask up = up
 
--- What is replied to an admin line that came now, by its command or its fault, from what all shards answer to each event
--- that it asks for, by the event's number from 0: the facts of the desk; these with the numbers of each shard; the settings in
--- force; nothing to `quit`; the rows of a dump; what each name deleted, and the end; the health, as the line leaves it; the fault.
-abbrev pub replies_by : (ℕ → List shard.Reply) → Facts → file.Settings → ℕ → Result admin.Command AdminFault → List Reply
-replies_by answers facts settings now (Ok admin.Stats) = Stats facts now ∷ []
-replies_by answers facts settings now (Ok admin.Totals) = Totals facts (numbers_told (answers 0)) ∷ []
-replies_by answers facts settings now (Ok admin.Config) = Config settings ∷ []
-replies_by answers facts settings now (Ok admin.Quit) = []
-replies_by answers facts settings now (Ok (admin.Show kind)) = Rows kind (rows_told (answers 0)) ∷ []
-replies_by answers facts settings now (Ok (admin.Delete kind names)) = names_replied answers names ++ Finish ∷ []
-replies_by answers facts settings now (Ok (admin.Health word)) = Health (health_after word facts.up) ∷ []
-replies_by answers facts settings now (Err fault) = Fault fault ∷ []
+-- What is replied to an admin line that came now, by its command or its fault, where backends have outlets or none, from what all
+-- shards answer to each event that it asks for, by the event's number from 0: the facts of the desk; these with the numbers of each
+-- shard; the settings in force; nothing to `quit`; the rows of a dump; what each name deleted, and the end; the health, as the line
+-- leaves it; the fault.
+abbrev pub replies_by : (outlets : Bool) → (ℕ → List shard.Reply) → Facts → file.Settings → ℕ → Result admin.Command AdminFault → List Reply
+replies_by outlets answers facts settings now (Ok admin.Stats) = Stats facts now ∷ []
+replies_by outlets answers facts settings now (Ok admin.Totals) = Totals outlets facts (numbers_told (answers 0)) ∷ []
+replies_by outlets answers facts settings now (Ok admin.Config) = Config settings ∷ []
+replies_by outlets answers facts settings now (Ok admin.Quit) = []
+replies_by outlets answers facts settings now (Ok (admin.Show kind)) = Rows kind (rows_told (answers 0)) ∷ []
+replies_by outlets answers facts settings now (Ok (admin.Delete kind names)) = names_replied answers names ++ Finish ∷ []
+replies_by outlets answers facts settings now (Ok (admin.Health word)) = Health (health_after word facts.up) ∷ []
+replies_by outlets answers facts settings now (Err fault) = Fault fault ∷ []
 
 -- the text of replies, one after another
 abbrev pub replies_text : List Reply → List ℕ

@@ -1,5 +1,5 @@
 -- Totals: what was counted, by name, and the text of that.
-use Rattle.std.specs.Prelude.{ℕ, if◌then◌else◌, List, [], ◌∷◌, ◌++◌, codes, decimal, flat_map, sum_by}
+use Rattle.std.specs.Prelude.{ℕ, Bool, not, ◌||◌, if◌then◌else◌, List, [], ◌∷◌, ◌++◌, codes, decimal, filter, flat_map, sum_by}
 use Rattle.std.specs.Str.{bytes_eq}
 use Rattle.sd_model_shard.specs.Shard.{Numbers}
 use Rattle.sd_model_record.specs.Desk.{Facts}
@@ -42,3 +42,11 @@ totals_of all facts =
     ∷ (codes "repeater_faults", facts.repeater_faults)
     ∷ (codes "admin_faults", facts.admin_faults)
     ∷ []
+
+-- whether a total is known at the end alone, where backends have outlets: their workers tell then what failed
+abbrev pub is_late : Total → Bool
+is_late t = bytes_eq t.0 (codes "graphite_faults") || bytes_eq t.0 (codes "console_faults")
+
+-- those of totals that are known before the end, where backends have outlets and where they have none
+abbrev pub known_before_end : (outlets : Bool) → List Total → List Total
+known_before_end outlets totals = if outlets then filter (λ t. not (is_late t)) totals else totals

@@ -1,4 +1,4 @@
-ghost use Rattle.std.specs.Prelude.{◌≡◌, ◌≢◌, ℕ, ◌<◌, ◌≤◌, true, List, [], ◌∷◌, ◌++◌, length, flat_map, All, Result, Ok, codes};
+ghost use Rattle.std.specs.Prelude.{◌≡◌, ◌≢◌, ℕ, Bool, ◌<◌, ◌≤◌, true, List, [], ◌∷◌, ◌++◌, length, flat_map, All, Result, Ok, codes};
 ghost use Rattle.std.specs.List.{join_with_byte};
 ghost use Rattle.sd_model_text.specs.Lists.{is_white_space, trim_end};
 ghost use Rattle.sd_model_text.specs.Names.{Kind, Set};
@@ -33,7 +33,7 @@ pub fn sets_are_not_shown()
 /// Among the lines of what is replied to an admin line, behind `END` stands the empty line alone. So who reads a reply knows
 /// its end, and it has one end at most.
 pub fn ends_stand_last()
-    ensures { (answers : ℕ → List Reply) (facts : Facts) (settings : Settings) (now : ℕ) (asked : Result Command AdminFault) (front back : List (List ℕ))
-        → flat_map reply_lines (replies_by answers facts settings now asked) ≡ front ++ codes "END\n" ∷ back
+    ensures { (outlets : Bool) (answers : ℕ → List Reply) (facts : Facts) (settings : Settings) (now : ℕ) (asked : Result Command AdminFault) (front back : List (List ℕ))
+        → flat_map reply_lines (replies_by outlets answers facts settings now asked) ≡ front ++ codes "END\n" ∷ back
         → back ≡ codes "\n" ∷ [] }
 {}

@@ -20,7 +20,8 @@ use Rattle.sd_model_settings.specs.Settings as file
 use Rattle.sd_model_shard.specs.Shard.{Limits, Policy}
 use Rattle.sd_model_shard.specs.History.{History}
 use Rattle.sd_model_shard.specs.Whereabouts.{dropped_in}
-use Rattle.sd_model_serve.specs.Sessions.{Dialogue}
+use Rattle.sd_model_serve.specs.Talks.{Dialogue}
+use Rattle.sd_model_serve.specs.Sessions.{Exchange}
 
 -- What a server goes by: the limits and the policy of each shard; how many shards there are, and how records are made and
 -- written; which backends are used, and the room of the outlets before them, if there are any; the settings that sessions tell; how many receivers
@@ -49,7 +50,7 @@ pub record Course : Type 0 where
   pub last : Round
   pub outflows : Backend → Outflow
   pub visits : List Visit
-  pub dialogues : List Dialogue
+  pub dialogues : List (Dialogue Exchange)
   pub failures : ℕ
   pub flusher_ended : LoopEnd
   pub keeper_ended : LoopEnd

@@ -8,8 +8,9 @@ use Rattle.sd_model_shard.specs.Shard.{Event}
 use Rattle.sd_model_record.specs.Admin.{command}
 use Rattle.sd_model_record.specs.Replies.{admin_events}
 use Rattle.sd_model_serve.specs.Doors.{Visit, AreVisitsOf, asked_by}
-use Rattle.sd_model_serve.specs.Sessions as model
-use Rattle.sd_model_serve.specs.Sessions.{Broadcast, Dialogue, EndsSession, Exchange, GoesOn, HasTalked, SessionEnd, asked_in, events_in, lines_in}
+use Rattle.sd_model_serve.specs.Talks as model
+use Rattle.sd_model_serve.specs.Talks.{Dialogue, EndsSession, HasTalked, SessionEnd, lines_in}
+use Rattle.sd_model_serve.specs.Sessions.{Broadcast, Exchange, admin_talk, GoesOn, asked_in, events_in}
 use Rattle.sd_model_serve.specs.Rounds.{AreCommands, IsCommand}
 use Rattle.sd_model_serve.proofs.ServedLemmas.{line_commands}
 
@@ -37,8 +38,8 @@ exchanges_commands says (e ∷ es) more all rest = joined e.asked (asked_in (es 
 one_commands : (e : Exchange) → Asked e.asked → Asked (asked_in (e ∷ []))
 one_commands e h = joined e.asked [] h tt
 
-last_commands : (shards : ℕ) (settings : file.Settings) (says : ℕ → Type 0) (ended : SessionEnd) (last : List Exchange) (rest : List ℕ) (faults : ℕ) (source_now sink sink_now : Object) → EndsSession shards settings says ended last rest faults source_now sink sink_now → Asked (asked_in last)
-last_commands shards settings says model.Quit last rest faults source_now sink sink_now h = subst (λ (es : List Exchange). Asked (asked_in es)) (sym h.1) (one_commands h.0 (subst Asked (sym h.3) tt))
+last_commands : (shards : ℕ) (settings : file.Settings) (says : ℕ → Type 0) (ended : SessionEnd) (last : List Exchange) (rest : List ℕ) (faults : ℕ) (source_now sink sink_now : Object) → EndsSession (admin_talk shards settings says) ended last rest faults source_now sink sink_now → Asked (asked_in last)
+last_commands shards settings says model.Quit last rest faults source_now sink sink_now h = subst (λ (es : List Exchange). Asked (asked_in es)) (sym h.1) (one_commands h.0 (subst Asked (sym h.2.1) tt))
 last_commands shards settings says model.AtEnd last rest faults source_now sink sink_now h = subst (λ (es : List Exchange). Asked (asked_in es)) (sym h.0) tt
 last_commands shards settings says model.ReadFault last rest faults source_now sink sink_now h = subst (λ (es : List Exchange). Asked (asked_in es)) (sym h.0) tt
 last_commands shards settings says model.WriteFault [] rest faults source_now sink sink_now h = tt
@@ -47,11 +48,11 @@ last_commands shards settings says model.WriteFault (e ∷ []) rest faults sourc
 last_commands shards settings says model.WriteFault (e ∷ d ∷ es) rest faults source_now sink sink_now h = absurd (h.1)
 last_commands shards settings says model.LineTooLong last rest faults source_now sink sink_now h = subst (λ (es : List Exchange). Asked (asked_in es)) (sym h.0) tt
 
-pub talked_commands : (shards : ℕ) (settings : file.Settings) (says : ℕ → Type 0) (d : Dialogue) (source source_now sink sink_now : Object) → HasTalked shards settings says d source source_now sink sink_now → Asked (asked_in (lines_in d))
+pub talked_commands : (shards : ℕ) (settings : file.Settings) (says : ℕ → Type 0) (d : Dialogue Exchange) (source source_now sink sink_now : Object) → HasTalked (admin_talk shards settings says) d source source_now sink sink_now → Asked (asked_in (lines_in d))
 talked_commands shards settings says d source source_now sink sink_now h =
     exchanges_commands says d.exchanges d.last h.lines (last_commands shards settings says d.ended d.last d.rest source.faults source_now _ sink_now h.ends)
 
-pub visits_commands : (shards : ℕ) (settings : file.Settings) (says : ℕ → Type 0) (visits : List Visit) (dialogues : List Dialogue) → AreVisitsOf shards settings says visits dialogues → Asked (asked_by dialogues)
+pub visits_commands : (shards : ℕ) (settings : file.Settings) (says : ℕ → Type 0) (visits : List Visit) (dialogues : List (Dialogue Exchange)) → AreVisitsOf shards settings says visits dialogues → Asked (asked_by dialogues)
 visits_commands shards settings says [] [] all = tt
 visits_commands shards settings says [] (d ∷ dialogues) all = absurd (all)
 visits_commands shards settings says (v ∷ visits) [] all = absurd (all)

@@ -8,7 +8,8 @@ use Rattle.sd_model_record.specs.DeskHistory.{DeskCall, SetHealth, Look, Done, T
 use Rattle.sd_model_record.specs.Counts.{Among, IsKeeping, Part, HasCalled, HasCounted, of_sessions}
 use Rattle.sd_model_settings.specs.Settings as file
 use Rattle.sd_model_shard.specs.History.{History}
-use Rattle.sd_model_serve.specs.Sessions.{Broadcast, Broadcasts, Dialogue, Exchange, HasTalked, is_quit, SessionEnd, ReadFault, WriteFault, asked_in, events_in, lines_in}
+use Rattle.sd_model_serve.specs.Talks.{Dialogue, HasTalked, SessionEnd, ReadFault, WriteFault, lines_in}
+use Rattle.sd_model_serve.specs.Sessions.{Broadcast, Broadcasts, Exchange, admin_talk, is_quit, asked_in, events_in}
 use Rattle.sd_model_serve.specs.Rounds.{AreCommands}
 
 -- A session that was served: what was seen of its ends, that which asks and that which is told, before and after; and
@@ -59,16 +60,16 @@ ends_by_fault ended = false
 
 module _ (shards : ℕ) (settings : file.Settings) (says : ℕ → Type 0) where
   -- a visit of a door's session went so, and is a fault just where the session ended by one
-  pub record IsVisitOf (v : Visit) (d : Dialogue) : Type 0 where
-    pub talked : HasTalked shards settings says d v.asking v.asking_now v.told v.told_now
+  pub record IsVisitOf (v : Visit) (d : Dialogue Exchange) : Type 0 where
+    pub talked : HasTalked (admin_talk shards settings says) d v.asking v.asking_now v.told v.told_now
     pub fault : v.is_fault ≡ ends_by_fault d.ended
 
   -- each of visits went as the dialogue at its place
-  abbrev pub AreVisitsOf : List Visit → List Dialogue → Type 0
+  abbrev pub AreVisitsOf : List Visit → List (Dialogue Exchange) → Type 0
   AreVisitsOf = AllZip IsVisitOf
 
 -- what sessions asked of all shards, one after another
-abbrev pub asked_by : List Dialogue → List Broadcast
+abbrev pub asked_by : List (Dialogue Exchange) → List Broadcast
 asked_by dialogues = flat_map (λ d. asked_in (lines_in d)) dialogues
 
 -- what a command calls of the desk besides: it sets the health, where it says so
@@ -83,7 +84,7 @@ abbrev pub line_calls : Exchange → List DeskCall
 line_calls e = if is_quit (command e.line) then [] else (record { event = Look; answer = Told e.facts } ∷ health_calls (command e.line))
 
 -- the calls of sessions, in order
-abbrev pub called_in : List Dialogue → List DeskCall
+abbrev pub called_in : List (Dialogue Exchange) → List DeskCall
 called_in dialogues = flat_map (λ d. flat_map line_calls (lines_in d)) dialogues
 
 -- The sessions of a door were served one after another over so many shards: what their lines ask for was asked of each shard,
@@ -91,7 +92,7 @@ called_in dialogues = flat_map (λ d. flat_map line_calls (lines_in d)) dialogue
 pub record ServesSessions (shards : ℕ) (settings : file.Settings) (says : ℕ → Type 0) (own own_now : ℕ → History) (door door_now : Object) (part part_now : Part) : Type 0 where
   pub visits : List Visit
   pub failures : ℕ
-  pub dialogues : List Dialogue
+  pub dialogues : List (Dialogue Exchange)
   pub keeps : KeepsDoor visits failures door door_now part part_now
   pub went : AreVisitsOf shards settings says visits dialogues
   pub asked : Broadcasts shards (asked_by dialogues) own own_now

@@ -198,7 +198,7 @@ module _ (settings : Settings) (n m : ℕ) (some_n : 1 ≤ n) (some_m : 1 ≤ m)
   names_told (name ∷ names) answers others same = λ k. Gone name (same 0 k) ∷ names_told names (λ j. answers (j + 1)) (λ j. others (j + 1)) (λ j. same (j + 1)) k
 
   abbrev line_replied : Settings → Run → ℕ → List ℕ → Result admin.Command AdminFault → List Reply
-  line_replied s run moment line answer = replies_by (answers_at (bounds_of s) run.shards (admin_events (admin.command line))) run.desk.facts s moment answer
+  line_replied s run moment line answer = replies_by false (answers_at (bounds_of s) run.shards (admin_events (admin.command line))) run.desk.facts s moment answer
 
   line_alike : (one another : Run) (seen : RowId → View) (moment : ℕ) (line : List ℕ) (answer : Result admin.Command AdminFault) → admin.command line ≡ answer → ShowsNoShards answer → AreAlike n m one another seen
       → line_replied S one moment line answer ≡ line_replied T another moment line answer

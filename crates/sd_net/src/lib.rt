@@ -40,7 +40,6 @@ mod turns;
 mod udp_receiver;
 mod udp_wire;
 mod waiting;
-mod watched_door;
 
 pub use door_sizes::{DoorSizes, Share};
 pub use graphite_link::GraphiteLink;
@@ -60,4 +59,3 @@ pub use tcp_probe::TcpProbe;
 pub use tick_beat::TickBeat;
 pub use udp_receiver::UdpReceiver;
 pub use udp_wire::UdpWire;
-pub use watched_door::WatchedDoor;

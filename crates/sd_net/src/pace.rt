@@ -1,15 +1,14 @@
 use sd_edge::delivery_limit;
-use std::sync::OnceLock;
-use std::sync::atomic::{AtomicBool, AtomicU64, Ordering};
+use std::sync::atomic::{AtomicU64, Ordering};
 
-/// What the parts of a run share of its flushes: how far they are apart, once its beat was started, and which second the last one
-/// has, once its beat has ended.
+/// What the parts of a run share of its flushes: how far they are apart, once its beat was started, and which second the last one has
+/// that no tick makes, once there was a tick or the beat has ended.
 #[derive(Drop)]
 pub struct Pace {
     // in milliseconds, and 0 before the start
     interval: AtomicU64,
-    last_second: OnceLock<u64>,
-    asks_no_more: AtomicBool,
+    // 0 where none was told
+    last_second: AtomicU64,
 }
 
 impl Pace {
@@ -17,8 +16,7 @@ impl Pace {
     pub fn new() -> Pace {
         Pace {
             interval: AtomicU64::new(0),
-            last_second: OnceLock::new(),
-            asks_no_more: AtomicBool::new(false),
+            last_second: AtomicU64::new(0),
         }
     }
 
@@ -41,23 +39,16 @@ impl Pace {
         delivery_limit(self.interval().unwrap_or(0))
     }
 
-    /// The beat has ended, and the last flush has this second.
-    pub(crate) fn end(&self, last_second: u64) {
-        // a beat that ends once more says the same
-        let _ = self.last_second.try_set(last_second);
+    /// The last flush has this second where no tick comes any more.
+    pub(crate) fn expect_last(&self, second: u64) {
+        self.last_second.store(second, Ordering::SeqCst);
     }
 
-    /// From now on nobody is told the time of the clock, or how long something took.
-    pub(crate) fn ask_no_more(&self) {
-        self.asks_no_more.store(true, Ordering::SeqCst);
-    }
-
-    /// The second of the last flush, once the beat has ended and the clock is asked for nothing else.
+    /// The second of the last flush, where one was told.
     pub(crate) fn last_second(&self) -> Option<u64> {
-        if self.asks_no_more.load(Ordering::SeqCst) {
-            self.last_second.get().copied()
-        } else {
-            None
+        match self.last_second.load(Ordering::SeqCst) {
+            0 => None,
+            second => Some(second),
         }
     }
 }

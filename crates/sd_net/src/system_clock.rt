@@ -8,8 +8,8 @@ use std::time::{self, Duration};
 const NANOS: u64 = 1_000_000_000;
 
 /// The clock of the system as it was when it was first asked, and from then on by the clock that is never set: what lies between two of
-/// its seconds has passed. Once a run's beat has ended and no client can ask for times any more, only the last flush asks it, and is
-/// told the second at which the next one would have been made: the flush before may have the second that it is now.
+/// its seconds has passed. The last flush is told the second at which the next one would have been made: the flush before may have the
+/// second that it is now.
 #[derive(Drop)]
 pub struct SystemClock<'a, R> {
     host: &'a R,
@@ -68,9 +68,13 @@ impl<'a, R: time::Clock> Clock for SystemClock<'a, R> {
 
     /// 0 where the system doesn't tell the time.
     fn now(&self) -> u64 {
-        if let Some(second) = self.pace.last_second() {
-            return second;
-        }
         self.second().unwrap_or(0)
+    }
+
+    fn last(&self) -> u64 {
+        match self.pace.last_second() {
+            Some(second) => second,
+            None => self.now(),
+        }
     }
 }

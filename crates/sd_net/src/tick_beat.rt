@@ -158,7 +158,7 @@ impl<'a, R: Clock + Files> TickBeat<'a, R> {
         self.log.end_interval();
     }
 
-    /// Tells the second of the last flush: that at which the next tick would have come.
+    /// Tells the second of the last flush, where no tick comes any more: that at which the next one would have come.
     fn tell_last(&self) {
         let Some(times) = self.times else {
             return;
@@ -168,7 +168,7 @@ impl<'a, R: Clock + Files> TickBeat<'a, R> {
         };
         let left = TimeLimit { end: times.due }.left(moment).unwrap_or(0);
         let tick = clock.saturating_add(Duration::from_millis(left)).as_secs();
-        self.pace.end(self.seconds.last(tick));
+        self.pace.expect_last(self.seconds.last(tick));
     }
 }
 
@@ -207,7 +207,9 @@ impl<'a, R: Clock + Files> Beat for TickBeat<'a, R> {
                 self.tell_tick(&due);
                 self.times = Some(due.times);
                 take_turn(&mut self.turns);
-                Tick::At(self.seconds.next(due.second))
+                let second = self.seconds.next(due.second);
+                self.tell_last();
+                Tick::At(second)
             }
             Ok(None) => {
                 self.tell_stop();

@@ -1,6 +1,6 @@
 -- The lines of one datagram: those that were sent, those that wait, and what was counted.
 use Rattle.std.proofs.Common.{◌≡◌, ◌≢◌, ◌∙◌, ℕ, ◌+◌, ◌<◌, Bool, true, false, cond, List, [], ◌∷◌, ◌++◌, codes, length, length-append, map, set, get_or, append-nil, append_assoc, refl, sym, ap, subst, arith, eq-eqb, ne_eqb, inl, inr, sum_by}
-use Rattle.std.specs.Prelude.{◌==◌}
+use Rattle.std.specs.Prelude.{◌==◌, count_by}
 use Rattle.std.specs.List.{range_with_len}
 use Rattle.std.proofs.lemmas.Bool.{cases_eq, cases_lt}
 use Rattle.std.proofs.lemmas.List.{map-append, map-set, length-map, length-set, get_or-map, get_or-set_same, get_or-set_other}
@@ -12,15 +12,15 @@ use Rattle.sd_model_record.specs.Desk.{counted}
 use Rattle.sd_model_settings.specs.Entries.{Node}
 use Rattle.sd_model_text.specs.Lines.{lines}
 use Rattle.sd_model_proxy.specs.Batches.{AreForwarded, Batch, Batched, add_totals, batches, lines_not_sent, lines_sent, no_totals, over_nodes, totals_by, totals_of}
-use Rattle.sd_model_proxy.specs.Routes.{Bad, Read, Route, To, Unowned, goes_to, lines_to, route, routes_of}
+use Rattle.sd_model_proxy.specs.Routes.{Bad, Read, Route, To, Unowned, goes_to, is_bad, is_unowned, lines_to, route, routes_of}
 use Rattle.sd_model_proxy.proofs.SendLemmas.{AreForwarded-next, AreForwarded-none, AreForwarded-only, behind, only, only-elsewhere, only-here}
 use Rattle.sd_model_proxy.proofs.TotalLemmas.{add_totals-next, over-only}
 use Rattle.sd_model_record.specs.Totals.{Total}
 use Rattle.sd_proxy.specs.Forwarding.{AreSent, AreUnderWay, Forwards, IsLeft, IsUnderWay, NoneWaits, Stands, lines_for, routes_by}
-use Rattle.sd_proxy.specs.Views.{totals_of_route, totals_view}
+use Rattle.sd_proxy_desk.specs.Views.{totals_of_route, totals_view}
 use Rattle.sd_proxy.specs.Sending.{Sends, totals_of_batches}
 use Rattle.sd_proxy.specs.Waiting.{Holds, batches_behind, under_way}
-use Rattle.sd_proxy.specs.declared.totals.ProxyTotals.{ProxyTotals}
+use Rattle.sd_proxy_desk.specs.declared.totals.ProxyTotals.{ProxyTotals}
 use Rattle.sd_proxy.specs.declared.waiting.Waiting.{Waiting}
 
 -- no packet to any node
@@ -256,4 +256,24 @@ Forwards-next most nodes xs ys a b c s t u first second = record {
   counted = second.counted ∙ ap (λ (x : List Total). add_totals x (totals_of nodes ys second.batched)) first.counted
       ∙ add_totals-next nodes (length xs) (length ys) (routes_of nodes xs) (routes_of nodes ys) first.batched second.batched s
       ∙ (λ i. add_totals s (totals_by nodes (sym (length-append xs ys) i) (sym (flat_map-append (λ (r : Read). routes_by nodes r.up (lines r.datagram)) xs ys) i) (behind first.batched second.batched)));
+}
+
+-- totals that were counted by themselves, from nothing on, add as much as what they count
+added_once : (p : ProxyTotals) (nodes : List Node) (packets : ℕ) (routes : List Route) (batched : Batched)
+    → add_totals (totals_view p) (add_totals no_totals (totals_by nodes packets routes batched)) ≡ add_totals (totals_view p) (totals_by nodes packets routes batched)
+added_once p nodes packets routes batched = λ i.
+    (codes "packets", once p.packets packets i) ∷ (codes "lines", once p.lines (length routes) i) ∷ (codes "bad", once p.bad (count_by is_bad routes) i)
+    ∷ (codes "sent", once p.sent (over_nodes nodes batched lines_sent) i) ∷ (codes "unowned", once p.unowned (count_by is_unowned routes) i) ∷ (codes "send_faults", once p.send_faults (over_nodes nodes batched lines_not_sent) i) ∷ []
+  where
+    once : (count more : ℕ) → counted count (counted 0 more) ≡ counted count more
+    once count more = omega arith
+
+-- datagrams that were counted by themselves, behind totals of others
+pub Forwards-apart : (most : ℕ) (nodes : List Node) (reads : List Read) (wires wires_now : List Object) (p : ProxyTotals) (none came_to now : List Total) → none ≡ no_totals → now ≡ add_totals (totals_view p) came_to
+    → Forwards most nodes reads wires wires_now none came_to → Forwards most nodes reads wires wires_now (totals_view p) now
+Forwards-apart most nodes reads wires wires_now p none came_to now nothing both f = record {
+  batched = f.batched;
+  packets = f.packets;
+  sends = f.sends;
+  counted = both ∙ ap (add_totals (totals_view p)) (f.counted ∙ ap (λ (t : List Total). add_totals t (totals_of nodes reads f.batched)) nothing) ∙ added_once p nodes (length reads) (routes_of nodes reads) f.batched;
 }

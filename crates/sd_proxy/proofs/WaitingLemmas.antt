@@ -14,10 +14,10 @@ use Rattle.sd_model_record.specs.WireSends.{AfterSends, WireSend}
 use Rattle.sd_model_record.specs.Totals.{Total, number_in}
 use Rattle.sd_model_proxy.specs.Batches.{Batch, add_totals, batches, batches_from, fits, joined, lines_not_sent, lines_sent, send_of}
 use Rattle.sd_model_proxy.proofs.TotalLemmas.{add-twice}
-use Rattle.sd_proxy.specs.Views.{totals_view}
+use Rattle.sd_proxy_desk.specs.Views.{totals_view}
 use Rattle.sd_proxy.specs.Sending.{Sends, totals_of_batches}
 use Rattle.sd_proxy.specs.Waiting.{Holds, batches_behind, closed, under_way}
-use Rattle.sd_proxy.specs.declared.totals.ProxyTotals.{ProxyTotals}
+use Rattle.sd_proxy_desk.specs.declared.totals.ProxyTotals.{ProxyTotals}
 use Rattle.sd_proxy.specs.declared.waiting.Waiting.{Waiting}
 
 -- lines, and one more

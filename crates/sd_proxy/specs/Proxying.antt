@@ -4,8 +4,13 @@ use Rattle.sd_model_outside.specs.Outside.{Object}
 use Rattle.sd_model_settings.specs.Entries.{Node}
 use Rattle.sd_model_proxy.specs.Relays.{IsRelay, Relay, relay_totals}
 use Rattle.sd_model_proxy.specs.Routes.{Read}
+use Rattle.sd_model_live.specs.Desk.{CountsEach, ProxyEvent}
 use Rattle.sd_model_live.specs.Proxy.{HaveAnswered}
-use Rattle.sd_proxy.specs.Views.{end_view, totals_view}
+use Rattle.sd_live.specs.Live.{looks_of, seen}
+use Rattle.sd_proxy_desk.specs.Shared.{events_of}
+use Rattle.sd_proxy_desk.specs.declared.hub.ProxyPass.{ProxyPass}
+use Rattle.sd_proxy.specs.Views.{end_view}
+use Rattle.sd_proxy_desk.specs.Views.{totals_view}
 use Rattle.sd_proxy.specs.declared.proxied.Proxied.{Proxied}
 
 -- A receiver sent the lines of its datagrams on the wires of their owners, with the same nodes up for each datagram, and left what
@@ -24,12 +29,27 @@ pub record LooksForEach (history : List ℕ) (looks looks_now : List ℕ) (reads
   pub made : looks_now ≡ looks ++ places
   pub told : map (λ p. slice_get history p) places ≡ map (λ r. Some r.up) reads
 
+-- What is seen of a receiver: the history of the sets, as its pass has last seen it; the places that its looks were told; what it did at
+-- the desk; and its source and its wires.
+pub record RelaySeen : Type 0 where
+  pub history : List ℕ
+  pub looks : List ℕ
+  pub events : List ProxyEvent
+  pub source : Object
+  pub wires : List Object
+
+-- what is seen of a receiver with this pass and seat
+abbrev pub relay_seen : ProxyPass → (source : Object) → (wires : List Object) → RelaySeen
+relay_seen own source wires = record { history = seen own.pass; looks = looks_of own.pass; events = events_of own.seat; source = source; wires = wires }
+
 -- A receiver sent the lines of its datagrams on the wires of their owners, with the nodes up for each datagram that one look
--- answered at the history of the sets, which went on meanwhile; and it left what it counted, and how it ended.
-pub record ProxiesByLooks (most : ℕ) (nodes : List Node) (history history_now looks_before looks_now : List ℕ) (source source_now : Object) (wires wires_now : List Object) (p : Proxied) : Type 0 where
+-- answered at the history of the sets, which went on meanwhile; it counted each datagram at the desk; and it left what it counted, and
+-- how it ended.
+pub record ProxiesByLooks (most : ℕ) (nodes : List Node) (old new : RelaySeen) (p : Proxied) : Type 0 where
   pub relay : Relay
-  pub each : LooksForEach history_now looks_before looks_now relay.reads
-  pub looks : HaveAnswered history history_now (map (λ r. r.up) relay.reads)
-  pub relays : IsRelay most nodes relay source source_now wires wires_now
+  pub each : LooksForEach new.history old.looks new.looks relay.reads
+  pub looks : HaveAnswered old.history new.history (map (λ r. r.up) relay.reads)
+  pub relays : IsRelay most nodes relay old.source new.source old.wires new.wires
+  pub counts : (events : List ProxyEvent) × (new.events ≡ old.events ++ events) × CountsEach nodes relay events
   pub totals : totals_view p.totals ≡ relay_totals nodes relay
   pub ended : end_view p.ended ≡ relay.ended

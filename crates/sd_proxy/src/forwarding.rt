@@ -4,14 +4,13 @@ ghost use Rattle.sd_model_outside.specs.Outside.{Object};
 ghost use Rattle.sd_model_record.specs.Totals.{Total};
 ghost use Rattle.sd_model_settings.specs.Entries.{Node};
 ghost use Rattle.sd_proxy.specs.Forwarding.{AreSent, AreUnderWay, Forwards, NoneWaits};
-ghost use Rattle.sd_proxy.specs.Views.{totals_view};
+ghost use Rattle.sd_proxy_desk.specs.Views.{totals_view};
 
-use crate::destination::Route;
 use crate::routing::route;
-use crate::totals::ProxyTotals;
 use crate::waiting::Waiting;
 use sd_line::Parts;
 use sd_outside::Wire;
+use sd_proxy_desk::{ProxyTotals, Route};
 use sd_ring::Ring;
 
 /// Counts a line, and has it wait for its owner, if it has one, or sends it there behind those that wait, where they leave it no room.

@@ -2,28 +2,27 @@
 //!
 //! `route` says where a line goes; `proxy` takes the datagrams of a source and sends each line on the wire of its owner, those of one
 //! datagram together as far as `Waiting::for_nodes` took room for them. `proxy_part` does the same among the nodes that were last
-//! found up: `check` asks the nodes how they are, and publishes the set of those that are up in an `UpCell`, where each receiver looks
-//! at it. `sd_relay` runs both side by side. Whether the pieces of a line are good isn't asked, and nothing is sent twice. No memory is
-//! taken but when a cell or the room of waiting lines is opened, and what the ring's cache asks for, where a refusal changes nothing
-//! else.
+//! found up, and counts each datagram at the proxy's desk: `check` asks the nodes how they are, and publishes the set of those that are
+//! up in an `UpCell`, where each receiver looks at it. `sd_relay` runs both side by side. Whether the pieces of a line are good isn't
+//! asked, and nothing is sent twice. No memory is taken but when a cell, a desk or the room of waiting lines is opened, and what the
+//! ring's cache asks for, where a refusal changes nothing else.
 #![tactic(auto)]
 
-mod destination;
 mod forwarding;
 mod looking;
 mod proxied;
 mod proxying;
 mod routing;
 mod sending;
-mod totals;
 mod waiting;
 
-pub use destination::Route;
 pub use looking::proxy_part;
 pub use proxied::Proxied;
 pub use proxying::proxy;
 pub use routing::route;
 pub use sd_check::{CheckEnd, Checked, check, says_up};
 pub use sd_live::{UpCell, UpPass, UpPasses};
-pub use totals::ProxyTotals;
+pub use sd_proxy_desk::{
+    ProxyDesk, ProxyFacts, ProxyHub, ProxyPass, ProxySeat, ProxyTotals, Route,
+};
 pub use waiting::Waiting;

@@ -5,9 +5,9 @@ ghost use Rattle.sd_proxy.specs.Proxying.{Proxies};
 
 use crate::forwarding::forward_datagram;
 use crate::proxied::Proxied;
-use crate::totals::ProxyTotals;
 use crate::waiting::Waiting;
 use sd_outside::{Datagrams, Ended, Next, Wire};
+use sd_proxy_desk::ProxyTotals;
 use sd_ring::Ring;
 
 /// The most turns of a source.

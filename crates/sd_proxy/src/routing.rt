@@ -1,10 +1,11 @@
 ghost use Rattle.std.specs.Prelude.{◌≡◌};
 ghost use Rattle.sd_model_proxy.specs.Routes.{key_of_line, route as route_of};
-ghost use Rattle.sd_proxy.specs.Views.{IsInside, route_view};
+ghost use Rattle.sd_proxy.specs.Views.{IsInside};
+ghost use Rattle.sd_proxy_desk.specs.Views.{route_view};
 
-use crate::destination::Route;
 use sd_key::{Key, clean};
 use sd_line::name_before_colon;
+use sd_proxy_desk::Route;
 use sd_ring::Ring;
 
 /// The key of a line, where it has one.

@@ -1,10 +1,10 @@
 ghost use Rattle.std.specs.Prelude.{◌≡◌, ◌∷◌, ℕ, List, [], length};
 ghost use Rattle.sd_model_proxy.specs.Batches.{joined};
 ghost use Rattle.sd_proxy.specs.Sending.{Sends};
-ghost use Rattle.sd_proxy.specs.Views.{totals_view};
+ghost use Rattle.sd_proxy_desk.specs.Views.{totals_view};
 
-use crate::totals::ProxyTotals;
 use sd_outside::Wire;
+use sd_proxy_desk::ProxyTotals;
 
 /// Sends a packet of so many lines, and counts these.
 pub(crate) fn send_packet<L: Wire>(

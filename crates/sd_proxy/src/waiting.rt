@@ -2,8 +2,8 @@
 ghost use Rattle.std.specs.Prelude.{◌≡◌, ◌+◌, ◌<◌, ◌≤◌, ◌∷◌, ◌++◌, ℕ, List, [], All, IfOk, length, take, true};
 
 use crate::sending::send_packet;
-use crate::totals::ProxyTotals;
 use sd_outside::Wire;
+use sd_proxy_desk::ProxyTotals;
 use std::alloc::{AllocError, Global};
 
 /// The lines of one datagram that wait to go to one node in one packet, in room that was taken before.
@@ -31,7 +31,7 @@ fn put_line(room: &mut [u8], at: usize, line: &[u8])
 
 impl Waiting {
     ghost use Rattle.sd_model_proxy.specs.Batches.{fits};
-    ghost use Rattle.sd_proxy.specs.Views.{totals_view};
+    ghost use Rattle.sd_proxy_desk.specs.Views.{totals_view};
     ghost use Rattle.sd_proxy.specs.Waiting.{Holds, TakesLine, under_way};
     ghost use Rattle.sd_proxy.specs.Sending.{Sends};
 

@@ -1,2 +1,4 @@
+pub mod LookLemmas
+pub mod OwnLemmas
 pub mod PostLemmas
 pub mod SumLemmas

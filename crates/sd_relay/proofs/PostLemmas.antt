@@ -1,21 +1,26 @@
 -- Posts that were run: what their receivers did together.
-use Rattle.std.proofs.Common.{◌≡◌, ℕ, zero, suc, ◌<◌, List, [], ◌∷◌, ◌++◌, length, map, flat_map, take, drop, All, refl, sym, ap, subst, ◌∙◌, arith, append_assoc, length-append}
+use Rattle.std.proofs.Common.{◌≡◌, ℕ, zero, suc, ◌+◌, ◌<◌, List, [], ◌∷◌, ◌++◌, length, map, flat_map, take, drop, All, refl, sym, ap, subst, ◌∙◌, arith, append_assoc, length-append}
 use Rattle.std.specs.Prelude.{slice_index_or, ⊤}
 use Rattle.std.specs.List.{AllByRecursion}
 use Rattle.std.proofs.lemmas.List.Elements.{All-nil, All-cons, All-head, All-tail}
 use Rattle.sd_model_outside.specs.Outside.{Object}
 use Rattle.sd_model_settings.specs.Entries.{Node}
 use Rattle.sd_model_proxy.specs.Relays.{IsRelay, Relay, AreRelays, relay_totals}
-use Rattle.sd_model_live.specs.Proxy.{Begins, HaveAnswered, all_of, LookedIn, first_history}
+use Rattle.sd_model_live.specs.Desk.{AreCounted, CountsEach, ProxyAct, ProxyEvent, done_by}
+use Rattle.sd_model_live.specs.Proxy.{Begins, HaveAnswered, LookedIn, first_history}
 use Rattle.sd_model_live.proofs.LookLemmas.{answered_on}
-use Rattle.sd_live.specs.Live.{IsPassOf, IsReceiverOf, seen as history_in}
+use Rattle.sd_turn.specs.Lists.{span}
+use Rattle.sd_live.specs.Live.{IsPassOf, seen as history_in}
 use Rattle.sd_live.specs.declared.pass.UpPass.{UpPass}
 use Rattle.sd_live.specs.declared.up_cell.UpCell.{UpCell}
+use Rattle.sd_proxy_desk.specs.Shared.{IsSeatOf, OwnSeat, events_of, number_of_seat}
+use Rattle.sd_proxy_desk.specs.declared.desk.ProxyDesk.{ProxyDesk}
+use Rattle.sd_proxy_desk.specs.declared.hub.ProxyPass.{ProxyPass}
 use Rattle.sd_proxy.specs.Views.{end_view}
-use Rattle.sd_relay.specs.Parts.{IsFitted, NoLineWaits, pass_in, source_in, wires_in}
+use Rattle.sd_relay.specs.Owns.{IsFreshOwn, number_of, pass_of, seat_of}
+use Rattle.sd_relay.specs.Parts.{IsFitted, NoLineWaits, own_in, source_in, wires_in}
 use Rattle.sd_relay.specs.Posts.{HasRun, IsReady}
 use Rattle.sd_relay.specs.Relaying.{ended_by, ended_in}
-use Rattle.sd_relay.specs.Room.{IsFreshPass}
 use Rattle.sd_relay.specs.Sums.{WasRun, totals_by, totals_in}
 use Rattle.sd_relay.specs.declared.post.Post.{Post}
 
@@ -37,34 +42,26 @@ pub by_recursion : {X : Type 0} (P : X → Type 0) (xs : List X) → All P xs �
 by_recursion P [] all = tt
 by_recursion P (x ∷ xs) all = (All-head P x xs all, by_recursion P xs (All-tail P x xs all))
 
--- the passes of receivers of a new cell
-pub fresh_passes : (cell : UpCell) (nodes : List Node) (n : ℕ) (passes : List UpPass) → n ≡ length nodes → All (λ p. IsReceiverOf cell p × (history_in p ≡ all_of n ∷ [])) passes → All (IsFreshPass cell nodes) passes
-fresh_passes cell nodes n [] count all = All-nil (IsFreshPass cell nodes)
-fresh_passes cell nodes n (p ∷ passes) count all =
-    let P : UpPass → Type 0 = λ p. IsReceiverOf cell p × (history_in p ≡ all_of n ∷ []) in
-    let mine = All-head P p passes all in
-    All-cons (IsFreshPass cell nodes) p passes (mine.0.0, mine.1 ∙ ap (λ m. all_of m ∷ []) count) (fresh_passes cell nodes n passes count (All-tail P p passes all))
-
-module _ {D L : Type 0} (cell : UpCell) (nodes : List Node) where
-  -- posts of fresh passes
+module _ {D L : Type 0} (cell : UpCell) (desk : ProxyDesk) (history : List ℕ) where
+  -- posts whose receivers have done nothing
   abbrev pub AreFresh : List (Post D L) → Type 0
-  AreFresh posts = AllByRecursion (λ p. IsFreshPass cell nodes p.pass) posts
+  AreFresh posts = AllByRecursion (λ p. IsFreshOwn cell desk history p.own) posts
 
-  pub fresh_posts : (xs : List (Post D L)) (more : List UpPass) → AllByRecursion (IsFreshPass cell nodes) (map pass_in xs ++ more) → AreFresh xs
+  pub fresh_posts : (xs : List (Post D L)) (more : List ProxyPass) → AllByRecursion (IsFreshOwn cell desk history) (map own_in xs ++ more) → AreFresh xs
   fresh_posts [] more all = tt
   fresh_posts (x ∷ xs) more all = (all.0, fresh_posts xs more all.1)
 
-  pub ready_posts : (xs : List (Post D L)) → AreFresh xs → AllByRecursion (IsFitted nodes) xs → All (IsReady cell) xs
-  ready_posts [] fresh fitted = All-nil (IsReady cell)
-  ready_posts (x ∷ xs) fresh fitted =
-      All-cons (IsReady cell) x xs
-      (record { pass = fresh.0.0; wires = x.wires.ok.0 ∙ fitted.0.1 ∙ sym (ap length fitted.0.0); waiting = x.waiting.ok.0 ∙ fitted.0.3 ∙ sym (ap length fitted.0.0); room = let big = fitted.0.2 in omega (arith, big, x.buf.ok.0) })
-      (ready_posts xs fresh.1 fitted.1)
+  pub ready_posts : (nodes : List Node) (xs : List (Post D L)) → AreFresh xs → AllByRecursion (IsFitted nodes) xs → All (IsReady cell desk) xs
+  ready_posts nodes [] fresh fitted = All-nil (IsReady cell desk)
+  ready_posts nodes (x ∷ xs) fresh fitted =
+      All-cons (IsReady cell desk) x xs
+      (record { pass = fresh.0.pass; seat = fresh.0.seat; wires = x.wires.ok.0 ∙ fitted.0.1 ∙ sym (ap length fitted.0.0); waiting = x.waiting.ok.0 ∙ fitted.0.3 ∙ sym (ap length fitted.0.0); room = let big = fitted.0.2 in omega (arith, big, x.buf.ok.0) })
+      (ready_posts nodes xs fresh.1 fitted.1)
 
-module _ {D L : Type 0} (seen : D → Object) (wire_seen : L → Object) (cell : UpCell) where
+module _ {D L : Type 0} (seen : D → Object) (wire_seen : L → Object) (cell : UpCell) (desk : ProxyDesk) where
   -- a post was run
   abbrev pub Ran : Post D L → Post D L → Type 0
-  Ran x y = HasRun seen wire_seen cell x y
+  Ran x y = HasRun seen wire_seen cell desk x y
 
   -- each was
   abbrev pub AllRan : List (Post D L) → List (Post D L) → Type 0
@@ -78,11 +75,19 @@ module _ {D L : Type 0} (seen : D → Object) (wire_seen : L → Object) (cell :
   all_ran (x ∷ xs) [] same each = absurd (omega (arith, same))
   all_ran (x ∷ xs) (y ∷ ys) same each = (each 0 x (omega arith), all_ran xs ys (omega (arith, same)) (λ i d below. each (suc i) d (omega (arith, below))))
 
-  pub ran_passes : (xs ys : List (Post D L)) → AllRan xs ys → All (IsPassOf cell) (map pass_in ys)
-  ran_passes [] [] all = All-nil (IsPassOf cell)
-  ran_passes [] (y ∷ ys) all = absurd all
-  ran_passes (x ∷ xs) [] all = absurd all
-  ran_passes (x ∷ xs) (y ∷ ys) all = All-cons (IsPassOf cell) y.pass (map pass_in ys) all.0.pass (ran_passes xs ys all.1)
+  -- their passes are the cell's, before others of the cell
+  pub ran_passes : (more : List UpPass) → All (IsPassOf cell) more → (xs ys : List (Post D L)) → AllRan xs ys → All (IsPassOf cell) (map pass_of (map own_in ys) ++ more)
+  ran_passes more others [] [] all = others
+  ran_passes more others [] (y ∷ ys) all = absurd all
+  ran_passes more others (x ∷ xs) [] all = absurd all
+  ran_passes more others (x ∷ xs) (y ∷ ys) all = All-cons (IsPassOf cell) y.own.pass (map pass_of (map own_in ys) ++ more) all.0.pass (ran_passes more others xs ys all.1)
+
+  -- their seats are the desk's, before others of the desk
+  pub ran_seats : (more : List OwnSeat) → All (IsSeatOf desk) more → (xs ys : List (Post D L)) → AllRan xs ys → All (IsSeatOf desk) (map seat_of (map own_in ys) ++ more)
+  ran_seats more others [] [] all = others
+  ran_seats more others [] (y ∷ ys) all = absurd all
+  ran_seats more others (x ∷ xs) [] all = absurd all
+  ran_seats more others (x ∷ xs) (y ∷ ys) all = All-cons (IsSeatOf desk) y.own.seat (map seat_of (map own_in ys) ++ more) all.0.seat (ran_seats more others xs ys all.1)
 
   pub ran_wires : (xs ys : List (Post D L)) → AllRan xs ys → length (flat_map wires_in ys) ≡ length (flat_map wires_in xs)
   ran_wires [] [] all = refl
@@ -131,17 +136,31 @@ module _ {D L : Type 0} (seen : D → Object) (wire_seen : L → Object) (cell :
       (ap totals_by all.0.got_is ∙ (all.0.proxies most clear.0).totals ∙ ap (λ ns. relay_totals ns (all.0.proxies most clear.0).relay) fitted.0.0) i ∷ relays_counted most nodes xs ys all.1 clear.1 fitted.1 i
 
   -- what each saw is a beginning of the history of all sets
-  pub relays_looked : (most : ℕ) (nodes : List Node) (history : List ℕ) (xs ys : List (Post D L)) (all : AllRan xs ys) (clear : AreClear most xs) → AreFresh cell nodes xs → All (λ p. Begins (history_in p) history) (map pass_in ys) → AllByRecursion (LookedIn nodes history) (relays_of most xs ys all clear)
-  relays_looked most nodes history [] [] all clear fresh begins = tt
-  relays_looked most nodes history [] (y ∷ ys) all clear fresh begins = absurd all
-  relays_looked most nodes history (x ∷ xs) [] all clear fresh begins = absurd all
-  relays_looked most nodes history (x ∷ xs) (y ∷ ys) all clear fresh begins =
-      let P : UpPass → Type 0 = λ p. Begins (history_in p) history in
-      let ups = map (λ x. x.up) (all.0.proxies most clear.0).relay.reads in (
-        answered_on (first_history nodes) (history_in y.pass) history ups (All-head P y.pass (map pass_in ys) begins)
-            (subst (λ h. HaveAnswered h (history_in y.pass) ups) fresh.0.1 (all.0.proxies most clear.0).looks),
-        relays_looked most nodes history xs ys all.1 clear.1 fresh.1 (All-tail P y.pass (map pass_in ys) begins),
-      )
+  pub relays_looked : (most : ℕ) (nodes : List Node) (history : List ℕ) (more : List UpPass) (xs ys : List (Post D L)) (all : AllRan xs ys) (clear : AreClear most xs) → AreFresh cell desk (first_history nodes) xs
+      → AllByRecursion (λ p. Begins (history_in p) history) (map pass_of (map own_in ys) ++ more) → AllByRecursion (LookedIn nodes history) (relays_of most xs ys all clear)
+  relays_looked most nodes history more [] [] all clear fresh begins = tt
+  relays_looked most nodes history more [] (y ∷ ys) all clear fresh begins = absurd all
+  relays_looked most nodes history more (x ∷ xs) [] all clear fresh begins = absurd all
+  relays_looked most nodes history more (x ∷ xs) (y ∷ ys) all clear fresh begins =
+      let ups = map (λ x. x.up) (all.0.proxies most clear.0).relay.reads in
+      let looks = subst (λ h. HaveAnswered h (history_in y.own.pass) ups) fresh.0.seen (all.0.proxies most clear.0).looks in
+      (answered_on (first_history nodes) (history_in y.own.pass) history ups begins.0 looks, relays_looked most nodes history more xs ys all.1 clear.1 fresh.1 begins.1)
+
+  -- each receiver, numbered from this number on, counted each of its datagrams in the history of the desk
+  pub relays_acted : (most : ℕ) (nodes : List Node) (seen_first : List ℕ) (log : List ProxyAct) (more : List OwnSeat) (from : ℕ) (xs ys : List (Post D L)) (all : AllRan xs ys) (clear : AreClear most xs)
+      → AreFresh cell desk seen_first xs → AllByRecursion (IsFitted nodes) xs → map number_of (map own_in xs) ≡ span from (length xs)
+      → AllByRecursion (λ s. events_of s ≡ done_by (number_of_seat s) log) (map seat_of (map own_in ys) ++ more) → AreCounted nodes from (relays_of most xs ys all clear) log
+  relays_acted most nodes seen_first log more from [] [] all clear fresh fitted numbers own = tt
+  relays_acted most nodes seen_first log more from [] (y ∷ ys) all clear fresh fitted numbers own = absurd all
+  relays_acted most nodes seen_first log more from (x ∷ xs) [] all clear fresh fitted numbers own = absurd all
+  relays_acted most nodes seen_first log more from (x ∷ xs) (y ∷ ys) all clear fresh fitted numbers own =
+      let did = (all.0.proxies most clear.0).counts in
+      let relay : Relay = (all.0.proxies most clear.0).relay in
+      let events : List ProxyEvent = did.0 in
+      let number : number_of_seat x.own.seat ≡ from = cc in
+      let rest : map number_of (map own_in xs) ≡ span (from + 1) (length xs) = cc in
+      let is : events ≡ done_by from log = sym (did.1 ∙ ap (λ (l : List ProxyEvent). l ++ events) fresh.0.events) ∙ own.0 ∙ ap (λ n. done_by n log) (all.0.number ∙ number) in
+      (subst (λ l. CountsEach nodes relay l) is (subst (λ ns. CountsEach ns relay events) fitted.0.0 did.2), relays_acted most nodes seen_first log more (from + 1) xs ys all.1 clear.1 fresh.1 fitted.1 rest own.1)
 
   one_relay : (most : ℕ) (nodes : List Node) (x y : Post D L) (ran : Ran x y) (clear : NoLineWaits most x) → x.ring ≡ nodes → IsRelay most nodes (ran.proxies most clear).relay (seen x.packets) (seen y.packets) (map wire_seen x.wires.items) (map wire_seen y.wires.items)
   one_relay most nodes x y ran clear ring = subst (λ ns. IsRelay most ns (ran.proxies most clear).relay (seen x.packets) (seen y.packets) (map wire_seen x.wires.items) (map wire_seen y.wires.items)) ring (ran.proxies most clear).relays

@@ -1,5 +1,8 @@
+pub mod Owns
 pub mod Posts
 pub mod Checking
+pub mod Port
+pub mod Objects
 pub mod Sums
 pub mod Parts
 pub mod Room

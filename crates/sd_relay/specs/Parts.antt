@@ -2,7 +2,7 @@
 use Rattle.std.specs.Prelude.{◌≡◌, ◌≤◌, ℕ, List, [], length, vec_capacity}
 use Rattle.sd_model_outside.specs.Turns.{most_datagram}
 use Rattle.sd_model_settings.specs.Entries.{Node}
-use Rattle.sd_live.specs.declared.pass.UpPass.{UpPass}
+use Rattle.sd_proxy_desk.specs.declared.hub.ProxyPass.{ProxyPass}
 use Rattle.sd_proxy.specs.Forwarding.{NoneWaits}
 use Rattle.sd_relay.specs.declared.parts.PostRoom.{PostRoom}
 use Rattle.sd_relay.specs.declared.post.Post.{Post}
@@ -16,9 +16,9 @@ module _ {D L : Type 0} where
   abbrev pub wires_in : Post D L → List L
   wires_in post = post.wires.items
 
-  -- its pass
-  abbrev pub pass_in : Post D L → UpPass
-  pass_in post = post.pass
+  -- its pass and its seat
+  abbrev pub own_in : Post D L → ProxyPass
+  own_in post = post.own
 
   -- its ring is one of these nodes, each of them has a wire and room for lines that wait, and there is room for a datagram
   abbrev pub IsFitted : List Node → Post D L → Type 0

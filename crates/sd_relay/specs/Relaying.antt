@@ -1,10 +1,9 @@
 -- What a run of a proxy leaves.
 use Rattle.std.specs.Prelude.{◌≡◌, ℕ, ◌^◌, min, List, length, map, Option, Some, None}
-use Rattle.sd_model_outside.specs.Outside.{Object}
-use Rattle.sd_model_settings.specs.Entries.{Node}
+use Rattle.sd_model_settings.specs.Settings.{Settings}
 use Rattle.sd_model_proxy.specs.Relays.{Relay, relays_totals}
 use Rattle.sd_model_live.specs.Checks.{Check, failed_in}
-use Rattle.sd_model_live.specs.Proxy.{ProxyTheorem}
+use Rattle.sd_model_live.specs.Proxy.{ProxyObjects, ProxyTheorem}
 use Rattle.sd_outside.specs.declared.datagrams.Ended.{Ended}
 use Rattle.sd_outside.specs.declared.datagrams.Ended.TheVariants.{End}
 use Rattle.sd_check.specs.Checking as checking
@@ -29,14 +28,14 @@ module _ {D L : Type 0} where
   abbrev pub receivers_in : RelayRoom D L → ℕ
   receivers_in room = length room.rooms.items
 
--- A proxy was run, its theorem holds of what was done, and it left how its receivers and its checker ended, what these counted, the
+-- A proxy of these settings was run, its theorem holds of what was done, and it left how its receivers and its checker ended, what these counted, the
 -- receivers added up, and how many checks were made.
-pub record HasRelayed (most : ℕ) (nodes : List Node) (receivers : ℕ) (sources sources_now wires wires_now : List Object) (beat beat_now probe probe_now : Object) (r : Relayed) : Type 0 where
+pub record HasRelayed (s : Settings) (receivers : ℕ) (o o_now : ProxyObjects) (r : Relayed) : Type 0 where
   pub relays : List Relay
   pub checks : List Check
-  pub theorem : ProxyTheorem most nodes relays checks (checking.end_view r.checked.ended) sources sources_now wires wires_now beat beat_now probe probe_now
+  pub theorem : ProxyTheorem s relays checks (checking.end_view r.checked.ended) o o_now
   pub count : length relays ≡ receivers
   pub received : map end_view r.received.items ≡ map (λ x. x.ended) relays
-  pub sums : sums_view r.sums ≡ relays_totals nodes relays
+  pub sums : sums_view r.sums ≡ relays_totals s.lists.nodes relays
   pub checked : r.checked.checks ≡ length checks
   pub faults : r.checked.probe_faults ≡ min (failed_in checks) (2 ^ 63)

@@ -2,24 +2,14 @@
 use Rattle.std.specs.Prelude.{◌≡◌, ℕ, ◌<◌, ◌≤◌, ◌^◌, List, [], All, length, vec_capacity}
 use Rattle.sd_model_settings.specs.Entries.{Node}
 use Rattle.sd_model_live.specs.Proxy.{first_history}
-use Rattle.sd_live.specs.Live.{IsCheckerOf, IsPassOf, nodes_of, seen}
-use Rattle.sd_live.specs.declared.pass.UpPass.{UpPass}
-use Rattle.sd_live.specs.declared.up_cell.UpCell.{UpCell}
+use Rattle.sd_relay.specs.Owns.{IsHubFor}
 use Rattle.sd_relay.specs.Parts.{HasPlace, IsClear}
 use Rattle.sd_relay.specs.declared.room.RelayRoom.{RelayRoom}
 
--- a receiver's pass of a cell of these nodes, which has seen nothing published
-abbrev pub IsFreshPass : UpCell → List Node → UpPass → Type 0
-IsFreshPass cell nodes p = IsPassOf cell p × (seen p ≡ first_history nodes)
-
--- The room is that of a proxy of these nodes with so many receivers, which has done nothing: it has a cell and its passes, and the
--- room of each receiver.
+-- The room is that of a proxy of these nodes with so many receivers, which has done nothing: it has a cell and a desk, with what each
+-- thread has of them, and the room of each receiver.
 pub record IsRoomFor {D L : Type 0} (nodes : List Node) (receivers : ℕ) (room : RelayRoom D L) : Type 0 where
-  pub cell : nodes_of room.cell ≡ length nodes
-  pub checker : IsCheckerOf room.cell room.passes.checker
-  pub first : seen room.passes.checker ≡ first_history nodes
-  pub passes : All (IsFreshPass room.cell nodes) room.passes.receivers.items
-  pub pass_count : length room.passes.receivers.items ≡ receivers
+  pub hub : IsHubFor (first_history nodes) (length nodes) receivers room.hub
   pub few : receivers < 2 ^ 16
   pub places : length room.rooms.items ≡ receivers
   pub place_each : All (HasPlace nodes) room.rooms.items

@@ -2,9 +2,9 @@
 use Rattle.std.specs.Prelude.{◌≡◌, ◌+◌, ◌≤◌, ◌^◌, List, [], ◌∷◌, codes, Option, Some, None}
 use Rattle.sd_model_record.specs.Totals.{Total}
 use Rattle.sd_model_proxy.specs.Batches.{no_totals}
-use Rattle.sd_proxy.specs.Views.{totals_view}
+use Rattle.sd_proxy_desk.specs.Views.{totals_view}
 use Rattle.sd_proxy.specs.declared.proxied.Proxied.{Proxied}
-use Rattle.sd_proxy.specs.declared.totals.ProxyTotals.{ProxyTotals}
+use Rattle.sd_proxy_desk.specs.declared.totals.ProxyTotals.{ProxyTotals}
 use Rattle.sd_relay.specs.declared.post.Post.{Post}
 use Rattle.sd_relay.specs.declared.sums.ProxySums.{ProxySums}
 

@@ -2,14 +2,14 @@ use crate::live::Live;
 use log::Log;
 use sd_outside::{Beat, Gate, Probe};
 use sd_plan::Node;
-use sd_proxy::{Checked, UpPass, check};
+use sd_proxy::{Checked, ProxyPass, check};
 use sd_workers::Worker;
 use std::sync::Wait;
 
 /// The checker's work over what is lent to it, and what it did, once it was run.
 #[derive(Drop)]
 pub(crate) struct Checking<'p, 'n, 'b, 'q, P, Q> {
-    pub pass: &'p mut UpPass,
+    pub own: &'p mut ProxyPass,
     pub nodes: &'n [Node],
     pub beat: &'b mut P,
     pub probe: &'q mut Q,
@@ -19,13 +19,13 @@ pub(crate) struct Checking<'p, 'n, 'b, 'q, P, Q> {
 impl<'a, P: Beat, Q: Probe, G: Gate> Worker<Live<'a, G>> for Checking<'_, '_, '_, '_, P, Q> {
     ghost use Rattle.sd_relay.specs.Checking.{CanCheck, HasChecked};
 
-    ghost can_run = { λ live checking. CanCheck live.cell.now checking };
+    ghost can_run = { λ live checking. CanCheck live.hub.cell.now live.hub.desk.now checking };
 
-    ghost has_run = { λ live old new. HasChecked P.seen Q.seen live.cell.now old new };
+    ghost has_run = { λ live old new. HasChecked P.seen Q.seen live.hub.cell.now live.hub.desk.now old new };
 
     fn run<R: Wait + Log>(&mut self, rt: &R, live: &Live<'a, G>) {
         self.got = check(
-            rt, live.cell, self.pass, self.nodes, self.beat, self.probe, live.gate,
+            rt, &live.hub, self.own, self.nodes, self.beat, self.probe, live.gate,
         );
     }
 }

@@ -1,14 +1,18 @@
-//! The receivers of a proxy beside its checker, each in a thread of its own: the checker asks the nodes how they are, and each
-//! receiver sends the lines of its datagrams to the nodes that it finds up. What all receivers counted is added up in 128 bits.
+//! The receivers of a proxy beside its checker and the keeper of its port, each in a thread of its own: the checker asks the nodes how
+//! they are, each receiver sends the lines of its datagrams to the nodes that it finds up, and the port's sessions are answered, where
+//! the settings have a port. All count at one desk, and ask there. What all receivers counted is added up in 128 bits.
 //!
 //! `sd_top` takes the room, opens all objects, and calls `relay`. All memory is taken in `RelayRoom::open`, but for what the
-//! rings' caches ask for. It opens no object and writes no totals. That the receivers come to their end, no clause says.
+//! rings' caches ask for. It opens no object, and writes no totals but to sessions that ask for them. That the threads come to their
+//! end, no clause says.
 #![tactic(auto)]
 
 mod checking;
 mod live;
-mod nobody;
+mod objects;
+mod own_parts;
 mod parts;
+mod port;
 mod post;
 mod relaying;
 mod room;
@@ -16,8 +20,8 @@ mod sums;
 mod workers;
 
 pub use live::Live;
+pub use objects::ProxyParts;
 pub use post::Post;
 pub use relaying::{Relayed, relay};
 pub use room::RelayRoom;
 pub use sums::{ProxySums, add_up};
-pub use workers::run_relays;

@@ -1,8 +1,10 @@
-use sd_proxy::UpCell;
+use sd_config::Settings;
+use sd_proxy::ProxyHub;
 
-/// What the workers of a proxy share: the nodes that are up, and a gate that the checker passes.
+/// What the workers of a proxy share: the nodes that are up and the desk, the settings in force, and a gate that the checker passes.
 #[derive(Drop)]
 pub struct Live<'a, G> {
-    pub cell: &'a UpCell,
+    pub hub: ProxyHub<'a>,
+    pub settings: &'a Settings,
     pub gate: &'a G,
 }

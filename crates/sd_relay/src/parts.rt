@@ -1,12 +1,12 @@
 //! The parts of receivers are moved into posts, and back to where they stood.
 ghost use Rattle.std.specs.Prelude.{◌≡◌, ◌+◌, ◌*◌, ◌<◌, ◌≤◌, [], ◌∷◌, ◌++◌, ℕ, All, IfOk, flat_map, length, map, vec_capacity, vec_len};
 ghost use Rattle.sd_plan.specs.Entries.{node_view};
-ghost use Rattle.sd_relay.specs.Parts.{HasPlace, IsClear, IsFitted, NoLineWaits, pass_in, source_in, wires_in};
+ghost use Rattle.sd_relay.specs.Parts.{HasPlace, IsClear, IsFitted, NoLineWaits, own_in, source_in, wires_in};
 
 use crate::post::Post;
 use sd_outside::{Datagrams, Wire};
 use sd_plan::Node;
-use sd_proxy::{UpPass, Waiting};
+use sd_proxy::{ProxyPass, Waiting};
 use sd_ring::Ring;
 use sd_workers::{datagram_room, put_first, put_run, take_first, take_run};
 use std::alloc::{AllocError, Global};
@@ -51,13 +51,13 @@ pub(crate) fn open_rooms<L: Drop>(
     Ok(rooms)
 }
 
-/// Moves the first of the sources, each with a run of wires, one for each of so many nodes, and the first of the passes into posts:
+/// Moves the first of the sources, each with a run of wires, one for each of so many nodes, and the first of what threads have of cell and desk into posts:
 /// one for each room.
 pub(crate) fn gather<D: Datagrams + Drop, L: Wire + Drop>(
     packets: &mut Vec<D>,
     wires: &mut Vec<L>,
     nodes: &[Node],
-    passes: &mut Vec<UpPass>,
+    owns: &mut Vec<ProxyPass>,
     mut rooms: Vec<PostRoom<L>>,
     posts: &mut Vec<Post<D, L>>,
 )
@@ -66,16 +66,16 @@ pub(crate) fn gather<D: Datagrams + Drop, L: Wire + Drop>(
     requires rooms { All (HasPlace (map node_view nodes.now)) rooms.items }
     requires packets { length rooms.items ≤ length packets.old.items }
     requires wires { length rooms.items * length nodes.now ≤ length wires.old.items }
-    requires passes { length rooms.items ≤ length passes.old.items }
+    requires owns { length rooms.items ≤ length owns.old.items }
     ensures len { length posts.new.items ≡ length rooms.items }
     ensures fitted { All (IsFitted (map node_view nodes.now)) posts.new.items }
     ensures clear { (most : ℕ) → All (IsClear most) rooms.items → All (NoLineWaits most) posts.new.items }
     ensures packets { packets.old.items ≡ map source_in posts.new.items ++ packets.new.items }
     ensures wires { wires.old.items ≡ flat_map wires_in posts.new.items ++ wires.new.items }
-    ensures passes { passes.old.items ≡ map pass_in posts.new.items ++ passes.new.items }
+    ensures owns { owns.old.items ≡ map own_in posts.new.items ++ owns.new.items }
     ensures packets_room { vec_capacity packets.new ≡ vec_capacity packets.old }
     ensures wires_room { vec_capacity wires.new ≡ vec_capacity wires.old }
-    ensures passes_room { vec_capacity passes.new ≡ vec_capacity passes.old }
+    ensures owns_room { vec_capacity owns.new ≡ vec_capacity owns.old }
 {
     while let Some(room) = rooms.pop() {
         posts.push_reserved(Post {
@@ -83,7 +83,7 @@ pub(crate) fn gather<D: Datagrams + Drop, L: Wire + Drop>(
             buf: room.buf,
             waiting: room.waiting,
             got: None,
-            pass: take_first(passes),
+            own: take_first(owns),
             packets: take_first(packets),
             wires: take_run(wires, room.wires, nodes.len()),
         });
@@ -95,21 +95,21 @@ pub(crate) fn give_back<D: Datagrams + Drop, L: Wire + Drop>(
     mut posts: Vec<Post<D, L>>,
     packets: &mut Vec<D>,
     wires: &mut Vec<L>,
-    passes: &mut Vec<UpPass>,
+    owns: &mut Vec<ProxyPass>,
 )
     requires packets { length posts.items + length packets.old.items ≤ vec_capacity packets.old }
     requires wires { length (flat_map wires_in posts.items) + length wires.old.items ≤ vec_capacity wires.old }
-    requires passes { length posts.items + length passes.old.items ≤ vec_capacity passes.old }
+    requires owns { length posts.items + length owns.old.items ≤ vec_capacity owns.old }
     ensures packets { packets.new.items ≡ map source_in posts.items ++ packets.old.items }
     ensures wires { wires.new.items ≡ flat_map wires_in posts.items ++ wires.old.items }
-    ensures passes { passes.new.items ≡ map pass_in posts.items ++ passes.old.items }
+    ensures owns { owns.new.items ≡ map own_in posts.items ++ owns.old.items }
     ensures packets_room { vec_capacity packets.new ≡ vec_capacity packets.old }
     ensures wires_room { vec_capacity wires.new ≡ vec_capacity wires.old }
-    ensures passes_room { vec_capacity passes.new ≡ vec_capacity passes.old }
+    ensures owns_room { vec_capacity owns.new ≡ vec_capacity owns.old }
 {
     while let Some(post) = posts.pop() {
         put_first(packets, post.packets);
         put_run(wires, post.wires);
-        put_first(passes, post.pass);
+        put_first(owns, post.own);
     }
 }

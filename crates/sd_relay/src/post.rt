@@ -1,7 +1,7 @@
 use crate::live::Live;
 use log::Log;
 use sd_outside::{Datagrams, Ended, Wire};
-use sd_proxy::{Proxied, UpCell, UpPass, Waiting, proxy_part};
+use sd_proxy::{Proxied, ProxyHub, ProxyPass, Waiting, proxy_part};
 use sd_ring::Ring;
 use sd_workers::{Reports, Worker};
 use std::sync::Wait;
@@ -10,7 +10,7 @@ use std::sync::Wait;
 #[derive(Drop)]
 pub struct Post<D, L> {
     pub ring: Ring,
-    pub pass: UpPass,
+    pub own: ProxyPass,
     pub packets: D,
     pub wires: Vec<L>,
     pub waiting: Vec<Waiting>,
@@ -21,17 +21,17 @@ pub struct Post<D, L> {
 impl<D: Datagrams, L: Wire> Post<D, L> {
     ghost use Rattle.sd_relay.specs.Posts.{IsReady, HasRun};
 
-    /// Takes the datagrams of the post's source, each under the set that a look answers, and keeps what that did. It takes no
-    /// memory but what the ring's cache asks for.
-    pub fn run<R: Wait>(&mut self, rt: &R, cell: &UpCell)
-        requires { IsReady cell.now self.old }
-        ensures { HasRun D.seen L.seen cell.now self.old self.new }
+    /// Takes the datagrams of the post's source, each under the set that a look answers, counts each at the desk, and keeps what
+    /// that did. It takes no memory but what the ring's cache asks for.
+    pub fn run<R: Wait>(&mut self, rt: &R, hub: &ProxyHub<'_>)
+        requires { IsReady hub.now.cell.now hub.now.desk.now self.old }
+        ensures { HasRun D.seen L.seen hub.now.cell.now hub.now.desk.now self.old self.new }
     {
         let got = proxy_part(
             rt,
+            hub,
+            &mut self.own,
             &mut self.ring,
-            cell,
-            &mut self.pass,
             &mut self.packets,
             self.wires.as_mut_slice(),
             self.waiting.as_mut_slice(),
@@ -44,12 +44,12 @@ impl<D: Datagrams, L: Wire> Post<D, L> {
 impl<'a, D: Datagrams, L: Wire, G> Worker<Live<'a, G>> for Post<D, L> {
     ghost use Rattle.sd_relay.specs.Posts.{IsReady, HasRun};
 
-    ghost can_run = { λ live post. IsReady live.cell.now post };
+    ghost can_run = { λ live post. IsReady live.hub.cell.now live.hub.desk.now post };
 
-    ghost has_run = { λ live old new. HasRun D.seen L.seen live.cell.now old new };
+    ghost has_run = { λ live old new. HasRun D.seen L.seen live.hub.cell.now live.hub.desk.now old new };
 
     fn run<R: Wait + Log>(&mut self, rt: &R, live: &Live<'a, G>) {
-        self.run(rt, live.cell);
+        self.run(rt, &live.hub);
     }
 }
 

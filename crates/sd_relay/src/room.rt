@@ -1,18 +1,17 @@
 ghost use Rattle.std.specs.Prelude.{◌<◌, ◌≤◌, IfOk, length, map};
 ghost use Rattle.sd_plan.specs.Entries.{node_view};
 
+use crate::own_parts::{HubRoom, open_hub};
 use crate::parts::{PostRoom, open_rooms};
 use crate::post::Post;
 use sd_outside::Ended;
 use sd_plan::Node;
-use sd_proxy::{UpCell, UpPasses};
 use std::alloc::{AllocError, Global};
 
 /// All that a proxy works on, in room that is taken before its workers start. Nothing was done yet.
 #[derive(Drop)]
 pub struct RelayRoom<D, L> {
-    pub(crate) cell: UpCell,
-    pub(crate) passes: UpPasses,
+    pub(crate) hub: HubRoom,
     pub(crate) rooms: Vec<PostRoom<L>>,
     pub(crate) posts: Vec<Post<D, L>>,
     pub(crate) ends: Vec<Ended>,
@@ -22,11 +21,11 @@ impl<D: Drop, L: Drop> RelayRoom<D, L> {
     ghost use Rattle.sd_relay.specs.Room.{IsClearRoom, IsRoomFor};
 
     /// Takes the room of a proxy of these nodes with so many receivers, each with a ring that remembers so many keys, and with room
-    /// for a packet of so many bytes to each node.
+    /// for a packet of so many bytes to each node; of its checker; and of the keeper of its port.
     ///
     /// # Errors
     ///
-    /// Where no memory is left for it.
+    /// Where no memory is left for it, or there are more than 65,533 receivers.
     pub fn open(
         alloc: Global,
         nodes: &[Node],
@@ -41,10 +40,8 @@ impl<D: Drop, L: Drop> RelayRoom<D, L> {
         ensures clear { IfOk result (IsClearRoom batch) }
     {
         let count = usize::from(receivers);
-        let (cell, passes) = UpCell::open(alloc, nodes.len() as u8, receivers)?;
         Ok(RelayRoom {
-            cell,
-            passes,
+            hub: open_hub(alloc, nodes.len() as u8, receivers)?,
             rooms: open_rooms(alloc, nodes, count, cache, batch)?,
             posts: Vec::with_capacity(alloc, count)?,
             ends: Vec::with_capacity(alloc, count)?,

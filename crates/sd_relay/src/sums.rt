@@ -2,7 +2,7 @@
 ghost use Rattle.std.specs.Prelude.{◌≡◌, ◌≤◌, ◌<◌, ◌^◌, All, length, map};
 ghost use Rattle.sd_model_proxy.specs.Batches.{sums_of_totals};
 ghost use Rattle.sd_relay.specs.Sums.{AddsTotals, GrowsLittle, HasRoom, WasRun, sums_view, totals_in};
-ghost use Rattle.sd_proxy.specs.Views.{totals_view};
+ghost use Rattle.sd_proxy_desk.specs.Views.{totals_view};
 
 use crate::post::Post;
 use sd_proxy::ProxyTotals;

@@ -196,7 +196,7 @@ pub fn serve<K: Kinds, R: Threads + Wait + Log + Sync>(
         &mut services.flusher.seat,
         &mut services.flusher.tables,
         &terms.form,
-        last_round_at(terms.clock.now(), ends.flusher.last),
+        last_round_at(terms.clock.last(), ends.flusher.last),
         objects.backs,
     );
     let received = ends_in(&posts, postings.ends);

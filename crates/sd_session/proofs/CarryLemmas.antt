@@ -1,6 +1,6 @@
 -- The names of a deletion, one after another, over all shards, and a whole line.
 use Rattle.std.proofs.Common.{◌≡◌, ℕ, suc, ◌+◌, ◌≤◌, take, drop, length, List, [], ◌∷◌, ◌++◌, map, get_or, refl, ap, subst, ◌∙◌, arith, append-nil, append_assoc, sym}
-use Rattle.std.specs.Prelude.{slice_get, Some, None, Result, Ok, Err, OnOk, OnErr, ⊤}
+use Rattle.std.specs.Prelude.{nat_lt, slice_get, Some, None, Result, Ok, Err, OnOk, OnErr, ⊤}
 use Rattle.std.proofs.Math.Seq.{split_at}
 use Rattle.std.proofs.lemmas.List.{take_at, take-map, length-map, length-take-le, map-append}
 use Rattle.std.proofs.lemmas.Option.{get_or_from_slice_get, slice_get_within}
@@ -9,13 +9,12 @@ use Rattle.sd_model_outside.specs.Outside.{Object, Told, HasFailedBehind, FitsLa
 use Rattle.sd_model_outside.proofs.OutsideLemmas.{appended-nil}
 use Rattle.sd_model_outside.proofs.WriteLemmas.{given-given}
 use Rattle.sd_model_settings.specs.Settings as file
-use Rattle.sd_model_shard.specs.Commands.{DumpRow}
 use Rattle.sd_model_shard.specs.Shard as shard
 use Rattle.sd_model_shard.specs.Shard.{Event, Delete, Dump}
 use Rattle.sd_model_shard.specs.History.{History}
 use Rattle.sd_model_record.specs.Admin.{AdminFault, Command, command}
 use Rattle.sd_model_record.specs.Desk.{Facts}
-use Rattle.sd_model_record.specs.Replies.{Reply, Rows, Gone, Finish, reply_text, admin_events, keys_told, names_replied, replies_by, replies_text, rows_told}
+use Rattle.sd_model_record.specs.Replies.{Reply, Gone, Finish, reply_text, admin_events, keys_told, names_replied, replies_by, replies_text}
 use Rattle.sd_model_serve.specs.Sessions.{Broadcast, Broadcasts, AreReplied, IsCut, acts_in, all_replies, events_in, replies_at}
 use Rattle.sd_model_serve.proofs.ActsLemmas.{Adds-none, Adds-next}
 use Rattle.sd_totals.proofs.TakeLemmas.{take-more}
@@ -214,10 +213,10 @@ replied_once event b r told result sink sink_now is same ok failed fits =
 
 -- what a line was read as was carried out
 pub carries : {E : Type 0} (shards : ℕ) (settings : file.Settings) (facts : Facts) (now : ℕ) (line : List ℕ) (result : Result ⊤ E) (own own_now : ℕ → History) (sink sink_now : Object) (answer : Result Command AdminFault) (broadcasts : List Broadcast) → command line ≡ answer
-    → Broadcasts shards broadcasts own own_now → AreReplied (replies_by (replies_at shards broadcasts) facts settings now answer) (admin_events answer) (events_in broadcasts) result sink sink_now
+    → Broadcasts shards broadcasts own own_now → AreReplied (replies_by (nat_lt 0 settings.transport.outlets) (replies_at shards broadcasts) facts settings now answer) (admin_events answer) (events_in broadcasts) result sink sink_now
     → CarriesOut shards settings facts now line result own own_now sink sink_now
 carries shards settings facts now line result own own_now sink sink_now answer broadcasts read asked replied = record {
   broadcasts = broadcasts;
   asked = asked;
-  carried = subst (λ a. AreReplied (replies_by (replies_at shards broadcasts) facts settings now a) (admin_events a) (events_in broadcasts) result sink sink_now) (sym read) replied;
+  carried = subst (λ a. AreReplied (replies_by (nat_lt 0 settings.transport.outlets) (replies_at shards broadcasts) facts settings now a) (admin_events a) (events_in broadcasts) result sink sink_now) (sym read) replied;
 }

@@ -14,8 +14,9 @@ use Rattle.sd_model_record.specs.Desk.{Facts, no_tally}
 use Rattle.sd_model_record.specs.DeskHistory.{DeskCall, Look, Told as ToldOf}
 use Rattle.sd_model_serve.specs.Doors.{health_calls, line_calls}
 use Rattle.sd_model_record.specs.Replies.{replies_text}
-use Rattle.sd_model_serve.specs.Sessions as model
-use Rattle.sd_model_serve.specs.Sessions.{Broadcasts, Dialogue, EndsSession, Exchange, FitsLine, GoesOn, HasNoNewline, HasTalked, asked_in, bytes_of, replied, replies_of, too_many, is_quit, lines_in}
+use Rattle.sd_model_serve.specs.Talks as model
+use Rattle.sd_model_serve.specs.Talks.{Talk, Dialogue, EndsSession, FitsLine, HasNoNewline, HasTalked, bytes_of, replied, too_many, lines_in}
+use Rattle.sd_model_serve.specs.Sessions.{Broadcasts, Exchange, GoesOn, admin_talk, asked_in, replies_of, is_quit}
 use Rattle.sd_outside.proofs.ReadLemmas.{reads_on}
 use Rattle.sd_pool.proofs.AlongLemmas.{AllByRecursion-append}
 use Rattle.sd_session.specs.Lines.{TellsLine}
@@ -30,8 +31,8 @@ use Rattle.sd_model_serve.proofs.CommandLemmas.{talked_commands}
 HasRead-nil : (o : Object) → HasRead [] o o
 HasRead-nil o = ap (λ (t : Told). telling t o) (Reads-nil o.told)
 
-bytes-append : (xs ys : List Exchange) → bytes_of (xs ++ ys) ≡ bytes_of xs ++ bytes_of ys
-bytes-append xs ys = flat_map-append (λ (e : Exchange). e.line ++ 10 ∷ []) xs ys
+bytes-append : (t : Talk Exchange) (xs ys : List Exchange) → bytes_of t (xs ++ ys) ≡ bytes_of t xs ++ bytes_of t ys
+bytes-append t xs ys = flat_map-append (λ (e : Exchange). t.line e ++ 10 ∷ []) xs ys
 
 asked-append : (xs ys : List Exchange) → asked_in (xs ++ ys) ≡ asked_in xs ++ asked_in ys
 asked-append xs ys = flat_map-append (λ (e : Exchange). e.asked) xs ys
@@ -45,9 +46,9 @@ abbrev Fits : Exchange → Type 0
 Fits e = FitsLine e.line
 
 -- a line and what stands behind it, as the bytes of one exchange
-first_line : (e : Exchange) (line bytes behind : List ℕ) → e.line ≡ line → bytes ≡ line ++ 10 ∷ behind → bytes ≡ bytes_of (e ∷ []) ++ behind
-first_line e line bytes behind is cut =
-    cut ∙ ap (λ (l : List ℕ). l ++ 10 ∷ behind) (sym is) ∙ sym (append_assoc e.line (10 ∷ []) behind) ∙ ap (λ (bs : List ℕ). bs ++ behind) (sym (append-nil (e.line ++ 10 ∷ [])))
+first_line : (t : Talk Exchange) (e : Exchange) (line bytes behind : List ℕ) → t.line e ≡ line → bytes ≡ line ++ 10 ∷ behind → bytes ≡ bytes_of t (e ∷ []) ++ behind
+first_line t e line bytes behind is cut =
+    cut ∙ ap (λ (l : List ℕ). l ++ 10 ∷ behind) (sym is) ∙ sym (append_assoc (t.line e) (10 ∷ []) behind) ∙ ap (λ (bs : List ℕ). bs ++ behind) (sym (append-nil (t.line e ++ 10 ∷ [])))
 
 -- what stands before the first newline fits a line
 pub fits_line : (bytes : List ℕ) (n end : ℕ) → n ≤ too_many → end < length (take n bytes) → HasNoNewline (take end (take n bytes)) → FitsLine (take end (take n bytes))
@@ -88,6 +89,9 @@ called_behind xs ys part mid now first second =
     ∙ ap (λ (l : List DeskCall). part.own ++ l) (sym (flat_map-append line_calls xs ys))
 
 module _ (shards : ℕ) (settings : file.Settings) (says : ℕ → Type 0) where
+  abbrev talk : Talk Exchange
+  talk = admin_talk shards settings says
+
   -- what a single line asks for
   asked_one : (e : Exchange) (own own_now : ℕ → History) → Broadcasts shards e.asked own own_now → Broadcasts shards (asked_in (e ∷ [])) own own_now
   asked_one e own own_now asked = subst (λ bs. Broadcasts shards bs own own_now) (sym (append-nil e.asked)) asked
@@ -130,7 +134,7 @@ module _ (shards : ℕ) (settings : file.Settings) (says : ℕ → Type 0) where
         lines = (h.came.0, tt);
         each = (subst FitsLine (sym h.line_is) fits, tt);
         read = HasRead-nil source;
-        cut = append-nil rest ∙ first_line e line rest rest_now h.line_is cut;
+        cut = append-nil rest ∙ first_line talk e line rest rest_now h.line_is cut;
         asked = asked_one e own own_now h.asked;
         called = one_called e part part_now h.called;
         written = h.came.1 ∙ ap (λ (text : List ℕ). given text sink) (sym (append-nil (replies_text (replies_of shards settings e))));
@@ -145,13 +149,13 @@ module _ (shards : ℕ) (settings : file.Settings) (says : ℕ → Type 0) where
     each = AllByRecursion-append Fits a.exchanges b.exchanges a.each b.each;
     read = reads_on a.bytes b.bytes source source_mid source_now a.read b.read;
     cut =
-        sym (append_assoc rest a.bytes b.bytes) ∙ ap (λ (bs : List ℕ). bs ++ b.bytes) a.cut ∙ append_assoc (bytes_of a.exchanges) rest_mid b.bytes
-        ∙ ap (λ (bs : List ℕ). bytes_of a.exchanges ++ bs) b.cut ∙ sym (append_assoc (bytes_of a.exchanges) (bytes_of b.exchanges) rest_now)
-        ∙ ap (λ (bs : List ℕ). bs ++ rest_now) (sym (bytes-append a.exchanges b.exchanges));
+        sym (append_assoc rest a.bytes b.bytes) ∙ ap (λ (bs : List ℕ). bs ++ b.bytes) a.cut ∙ append_assoc (bytes_of talk a.exchanges) rest_mid b.bytes
+        ∙ ap (λ (bs : List ℕ). bytes_of talk a.exchanges ++ bs) b.cut ∙ sym (append_assoc (bytes_of talk a.exchanges) (bytes_of talk b.exchanges) rest_now)
+        ∙ ap (λ (bs : List ℕ). bs ++ rest_now) (sym (bytes-append talk a.exchanges b.exchanges));
     asked = asked_next shards a.exchanges b.exchanges own mid own_now a.asked b.asked;
     called = called_behind a.exchanges b.exchanges part part_mid part_now a.called b.called;
     written =
-        b.written ∙ ap (given (replied shards settings b.exchanges)) a.written ∙ given-given (replied shards settings a.exchanges) (replied shards settings b.exchanges) sink
+        b.written ∙ ap (given (replied talk b.exchanges)) a.written ∙ given-given (replied talk a.exchanges) (replied talk b.exchanges) sink
         ∙ ap (λ (text : List ℕ). given text sink) (sym (flat_map-append (λ (e : Exchange). replies_text (replies_of shards settings e)) a.exchanges b.exchanges));
   }
 
@@ -166,24 +170,24 @@ module _ (shards : ℕ) (settings : file.Settings) (says : ℕ → Type 0) where
     called = called_behind a.exchanges b.last part part_mid part_now a.called b.called;
     commands = talked_commands shards settings says dialogue source source_now sink sink_now talked;
   } where
-    dialogue : Dialogue
+    dialogue : Dialogue Exchange
     dialogue = record { exchanges = a.exchanges; last = b.last; rest = b.behind; ended = end_of ended }
 
-    all : a.bytes ≡ bytes_of (a.exchanges ++ b.last) ++ b.behind
+    all : a.bytes ≡ bytes_of talk (a.exchanges ++ b.last) ++ b.behind
     all =
-        a.cut ∙ ap (λ (bs : List ℕ). bytes_of a.exchanges ++ bs) b.cut ∙ sym (append_assoc (bytes_of a.exchanges) (bytes_of b.last) b.behind)
-        ∙ ap (λ (bs : List ℕ). bs ++ b.behind) (sym (bytes-append a.exchanges b.last))
+        a.cut ∙ ap (λ (bs : List ℕ). bytes_of talk a.exchanges ++ bs) b.cut ∙ sym (append_assoc (bytes_of talk a.exchanges) (bytes_of talk b.last) b.behind)
+        ∙ ap (λ (bs : List ℕ). bs ++ b.behind) (sym (bytes-append talk a.exchanges b.last))
 
-    talked : HasTalked shards settings says dialogue source source_now sink sink_now
+    talked : HasTalked talk dialogue source source_now sink sink_now
     talked = record {
       lines = a.lines;
       each = AllByRecursion-append Fits a.exchanges b.last a.each b.each;
-      read = ap (λ (o : Object). o.told) a.read ∙ ap (λ (bs : List ℕ). put_back bs source_mid.told) all ∙ ap (put_back (bytes_of (a.exchanges ++ b.last) ++ b.behind)) (sym b.told);
+      read = ap (λ (o : Object). o.told) a.read ∙ ap (λ (bs : List ℕ). put_back bs source_mid.told) all ∙ ap (put_back (bytes_of talk (a.exchanges ++ b.last) ++ b.behind)) (sym b.told);
       source_place = b.source_place ∙ sym (ap (λ (o : Object). o.opened_at) a.read);
       sink_place = b.sink_place ∙ ap (λ (o : Object). o.opened_at) a.written;
       ends =
-          subst (λ n. EndsSession shards settings says (end_of ended) b.last b.behind n source_now (given (replied shards settings a.exchanges) sink) sink_now) (sym (ap (λ (o : Object). o.faults) a.read))
-          (subst (λ (o : Object). EndsSession shards settings says (end_of ended) b.last b.behind source_mid.faults source_now o sink_now) a.written b.ends);
+          subst (λ n. EndsSession talk (end_of ended) b.last b.behind n source_now (given (replied talk a.exchanges) sink) sink_now) (sym (ap (λ (o : Object). o.faults) a.read))
+          (subst (λ (o : Object). EndsSession talk (end_of ended) b.last b.behind source_mid.faults source_now o sink_now) a.written b.ends);
     }
 
   -- the first line that was left asks for the end
@@ -194,13 +198,13 @@ module _ (shards : ℕ) (settings : file.Settings) (says : ℕ → Type 0) where
         last = e ∷ [];
         each = (subst FitsLine (sym h.line_is) fits, tt);
         behind = behind;
-        cut = first_line e line rest behind h.line_is cut;
+        cut = first_line talk e line rest behind h.line_is cut;
         told = refl;
         source_place = refl;
         sink_place = ap (λ (o : Object). o.opened_at) h.came.2;
         asked = asked_one e own own_now h.asked;
         called = one_called e part part_now h.called;
-        ends = (e, refl, h.came.0, h.came.1, refl, h.came.2);
+        ends = (e, refl, (h.came.0, h.came.1), refl, h.came.2);
       }
 
   -- the reply to it was cut
@@ -211,7 +215,7 @@ module _ (shards : ℕ) (settings : file.Settings) (says : ℕ → Type 0) where
         last = e ∷ [];
         each = (subst FitsLine (sym h.line_is) fits, tt);
         behind = behind;
-        cut = first_line e line rest behind h.line_is cut;
+        cut = first_line talk e line rest behind h.line_is cut;
         told = refl;
         source_place = refl;
         sink_place = h.came.0.written.used.opened_at;

@@ -4,7 +4,8 @@ use Rattle.sd_model_settings.specs.Settings as file
 use Rattle.sd_model_record.specs.Counts.{Amounts, Count, HasCounted, Part, nothing, plus}
 use Rattle.sd_model_record.specs.DeskHistory.{DeskCall}
 use Rattle.sd_model_serve.specs.Doors.{Visit, AreVisitsOf, asked_by, called_in, line_calls}
-use Rattle.sd_model_serve.specs.Sessions.{Broadcasts, Dialogue, asked_in, lines_in}
+use Rattle.sd_model_serve.specs.Talks.{Dialogue, lines_in}
+use Rattle.sd_model_serve.specs.Sessions.{Broadcasts, Exchange, asked_in}
 use Rattle.sd_pool.specs.Pool.{own_at, shards_of}
 use Rattle.sd_pool.specs.declared.pool.Pool.{Pool}
 use Rattle.sd_door.specs.Keeping.{Visited}
@@ -19,7 +20,7 @@ none_and_none a b first second = (λ i. plus (first i) (second i)) ∙ (λ i c. 
   same c = omega arith
 
 -- the lines of sessions, one session after another
-calls_of_one : (d : Dialogue) (dialogues : List Dialogue) (first rest calls : List DeskCall) → first ≡ flat_map line_calls (lines_in d) → rest ≡ called_in dialogues → calls ≡ first ++ rest → calls ≡ called_in (d ∷ dialogues)
+calls_of_one : (d : Dialogue Exchange) (dialogues : List (Dialogue Exchange)) (first rest calls : List DeskCall) → first ≡ flat_map line_calls (lines_in d) → rest ≡ called_in dialogues → calls ≡ first ++ rest → calls ≡ called_in (d ∷ dialogues)
 calls_of_one d dialogues first rest calls a b both = both ∙ ap (λ (l : List DeskCall). l ++ rest) a ∙ ap (λ (l : List DeskCall). flat_map line_calls (lines_in d) ++ l) b
 
 module _ (says : ℕ → Type 0) (pool : Pool) where
@@ -27,7 +28,7 @@ module _ (says : ℕ → Type 0) (pool : Pool) where
   pub record HasVisitedAll (visits : List Visit) (old new : AdminVisitor) (amounts : Amounts) (calls : List DeskCall) : Type 0 where
     pub works : WorksOn old new
     pub none : amounts ≡ nothing
-    pub dialogues : List Dialogue
+    pub dialogues : List (Dialogue Exchange)
     pub called : calls ≡ called_in dialogues
     pub went : AreVisitsOf (shards_of pool) old.settings.now says visits dialogues
     pub asked : Broadcasts (shards_of pool) (asked_by dialogues) (own_at old.seat.now) (own_at new.seat.now)

@@ -5,8 +5,9 @@ use Rattle.sd_model_settings.specs.Settings as file
 use Rattle.sd_model_shard.specs.History.{History}
 use Rattle.sd_model_record.specs.Counts.{Part}
 use Rattle.sd_model_serve.specs.Doors.{line_calls}
-use Rattle.sd_model_serve.specs.Sessions as model
-use Rattle.sd_model_serve.specs.Sessions.{Broadcasts, Dialogue, HasTalked, asked_in, events_in, lines_in}
+use Rattle.sd_model_serve.specs.Talks as model
+use Rattle.sd_model_serve.specs.Talks.{Dialogue, HasTalked, lines_in}
+use Rattle.sd_model_serve.specs.Sessions.{Broadcasts, Exchange, admin_talk, asked_in, events_in}
 use Rattle.sd_model_serve.specs.Rounds.{AreCommands}
 use Rattle.sd_session.specs.declared.sessions.SessionEnd.{SessionEnd}
 use Rattle.sd_session.specs.declared.sessions.SessionEnd.TheVariants.{Quit, End, ReadFault, WriteFault, LineTooLong}
@@ -21,9 +22,9 @@ end_of LineTooLong = model.LineTooLong
 
 -- A session was held over so many shards: what its lines ask for was asked of each shard, in order, and nothing else.
 pub record HoldsSession (shards : ℕ) (settings : file.Settings) (says : ℕ → Type 0) (ended : SessionEnd) (own own_now : ℕ → History) (part part_now : Part) (source source_now sink sink_now : Object) : Type 0 where
-  pub dialogue : Dialogue
+  pub dialogue : Dialogue Exchange
   pub ended_is : dialogue.ended ≡ end_of ended
-  pub talked : HasTalked shards settings says dialogue source source_now sink sink_now
+  pub talked : HasTalked (admin_talk shards settings says) dialogue source source_now sink sink_now
   pub asked : Broadcasts shards (asked_in (lines_in dialogue)) own own_now
   pub called : part_now.own ≡ part.own ++ flat_map line_calls (lines_in dialogue)
   pub commands : AreCommands (events_in (asked_in (lines_in dialogue)))

@@ -1,7 +1,7 @@
 -- The room that sessions work in.
 use Rattle.std.specs.Prelude.{◌≡◌, ℕ, ◌*◌, ◌≤◌, length}
 use Rattle.sd_model_shard.specs.Shard.{Limits}
-use Rattle.sd_model_serve.specs.Sessions.{too_many}
+use Rattle.sd_model_serve.specs.Talks.{too_many}
 use Rattle.sd_session.specs.declared.space.AdminSpace.{AdminSpace}
 
 -- there is room for the rows of so many shards of these limits, and for a line

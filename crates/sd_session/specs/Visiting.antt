@@ -4,7 +4,8 @@ use Rattle.sd_model_serve.specs.Receiving.{administrator}
 use Rattle.sd_model_record.specs.Counts.{Amounts, nothing}
 use Rattle.sd_model_record.specs.DeskHistory.{DeskCall}
 use Rattle.sd_model_serve.specs.Doors.{Visit, IsVisitOf, line_calls}
-use Rattle.sd_model_serve.specs.Sessions.{Dialogue, Broadcasts, asked_in, lines_in}
+use Rattle.sd_model_serve.specs.Talks.{Dialogue, lines_in}
+use Rattle.sd_model_serve.specs.Sessions.{Broadcasts, Exchange, asked_in}
 use Rattle.sd_pool.specs.Pool.{IsSeatOf, limits_of, own_at, shards_of, who_is}
 use Rattle.sd_pool.specs.declared.pool.Pool.{Pool}
 use Rattle.sd_session.specs.Space.{IsSpaceFor}
@@ -26,7 +27,7 @@ pub record WorksOn (old new : AdminVisitor) : Type 0 where
 pub record HasVisited (says : ℕ → Type 0) (pool : Pool) (old new : AdminVisitor) (v : Visit) (amounts : Amounts) (calls : List DeskCall) : Type 0 where
   pub works : WorksOn old new
   pub none : amounts ≡ nothing
-  pub dialogue : Dialogue
+  pub dialogue : Dialogue Exchange
   pub called : calls ≡ flat_map line_calls (lines_in dialogue)
   pub went : IsVisitOf (shards_of pool) old.settings.now says v dialogue
   pub asked : Broadcasts (shards_of pool) (asked_in (lines_in dialogue)) (own_at old.seat.now) (own_at new.seat.now)

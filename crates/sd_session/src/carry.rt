@@ -105,8 +105,12 @@ pub(crate) fn carry_out<O: Sink, R: Wait + Log>(
             write_reply(&Reply::Stats { facts, now }, output)
         }
         Command::Totals => {
-            let (facts, books) = (basis.facts, &look_all(rt, pool, seat));
-            write_reply(&Reply::Totals { facts, books }, output)
+            let reply = Reply::Totals {
+                outlets: basis.settings.outlets() > 0,
+                facts: basis.facts,
+                books: &look_all(rt, pool, seat),
+            };
+            write_reply(&reply, output)
         }
         Command::Config => {
             let settings = basis.settings;

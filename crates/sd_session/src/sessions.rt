@@ -2,7 +2,7 @@ ghost use Rattle.std.specs.Prelude.{◌≡◌, ℕ, ◌+◌, ◌<◌, ◌≤◌,
 ghost use Rattle.sd_model_outside.specs.Outside.{HasRead};
 ghost use Rattle.sd_model_serve.specs.Receiving.{administrator};
 ghost use Rattle.sd_model_record.specs.Counts.{HasCounted, nothing};
-ghost use Rattle.sd_model_serve.specs.Sessions.{HasNoNewline, too_many};
+ghost use Rattle.sd_model_serve.specs.Talks.{HasNoNewline, too_many};
 ghost use Rattle.sd_pool.specs.Pool.{IsSeatOf, limits_of, own_at, shards_of, who_is};
 ghost use Rattle.sd_shared_desk.specs.Shared.{IsSeatOf as IsDeskSeatOf, number_of_seat, part_of};
 ghost use Rattle.sd_session.specs.Reading.{CannotRead, Listens, RepliesTooLong, Stops};

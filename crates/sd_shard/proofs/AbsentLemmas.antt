@@ -1,17 +1,30 @@
 -- A deletion that hits no row.
-use Rattle.std.proofs.Common.{◌≡◌, ℕ, ◌+◌, ◌-◌, Bool, true, false, cond, not, List, [], map, refl, sym, ap, ◌∙◌, Option, Some, None, is_some, sum_by, arith}
+use Rattle.std.proofs.Common.{◌≡◌, ℕ, ◌+◌, ◌-◌, Bool, true, false, cond, not, List, [], length, filter, map, refl, sym, ap, ◌∙◌, Option, Some, None, is_some, sum_by, arith}
 use Rattle.std.proofs.lemmas.List.{nil_from_length}
-use Rattle.std.specs.FinMap.{contains_key, empty, entries, get, get-empty, get-retain_keys, len-empty, len-entries, same_map}
+use Rattle.std.specs.FinMap.{contains_key, empty, entries, from_entries, get, get-empty, get-retain_keys, len-empty, len-entries, same_map}
 use Rattle.sd_model_text.specs.Names.{Kind}
-use Rattle.sd_model_shard.specs.Rows.{RowId, Kept, row_cmp}
+use Rattle.sd_model_shard.specs.Rows.{RowId, Kept, Rows, row_cmp}
 use Rattle.sd_model_shard.specs.Commands.{is_hit, keys_of, rows_taken_out, rows_left}
 use Rattle.sd_model_shard.specs.Shard.{State, after_delete}
 use Rattle.sd_model_shard.specs.Summaries.{samples_in, listed_in, is_listed}
+use Rattle.sd_model_shard.proofs.ListedLemmas.{retained}
 use Rattle.sd_model_shard.proofs.RowLemmas.{rows_exact, rows_total}
 
 absent : (o : Option Kept) → is_some o ≡ false → o ≡ None
 absent None h = refl
 absent (Some kept) h = absurd (cc)
+
+-- where none of the rows that are listed is hit, none is there that would be
+pub none_hit : (kind : Kind) (pattern : List ℕ) (es : List (RowId × Kept)) → length (filter (λ (e : RowId × Kept). is_hit kind pattern e.0) es) ≡ 0 → (id : RowId) → is_hit kind pattern id ≡ true → contains_key (from_entries {R = row_cmp} es) id ≡ false
+none_hit kind pattern es none id hit =
+    let live = from_entries {R = row_cmp} es in
+    let hits = filter (λ (e : RowId × Kept). is_hit kind pattern e.0) es in
+    ap is_some (
+    ap (λ b. cond b (get live id) None) (sym hit)
+    ∙ sym (get-retain_keys live (is_hit kind pattern) id (λ x tie. ap (is_hit kind pattern) (sym (rows_exact id x tie))))
+    ∙ ap (λ (rows : Rows). get rows id) (retained (is_hit kind pattern) es ∙ ap (from_entries {R = row_cmp}) (nil_from_length hits none))
+    ∙ get-empty row_cmp id
+    )
 
 nothing : entries (empty {X = Kept} {R = row_cmp}) ≡ []
 nothing = nil_from_length (entries (empty {X = Kept} {R = row_cmp})) (sym (len-entries (empty {X = Kept} {R = row_cmp})) ∙ len-empty row_cmp Kept)

@@ -248,13 +248,17 @@ impl Shard {
         ensures limits { self.new.table.limits ≡ self.old.table.limits }
         ensures policy { self.new.policy ≡ self.old.policy }
     {
+        let nothing = Deleted {
+            rows: 0,
+            samples: 0,
+        };
         if names_no_row(&self.table, kind, pattern) {
-            return Deleted {
-                rows: 0,
-                samples: 0,
-            };
+            return nothing;
         }
         let rows = push_keys(&self.table, kind, pattern, out);
+        if rows == 0 {
+            return nothing;
+        }
         let samples = self.table.forget_rows(kind, pattern);
         self.deleted += samples;
         Deleted { rows, samples }

@@ -1,5 +1,6 @@
 -- Parts that are opened in their order, of which one stops it.
 use Rattle.std.proofs.Common.{◌≡◌, ℕ, zero, suc, ◌+◌, ◌-◌, ◌*◌, ◌<◌, ◌≤◌, Bool, true, false, List, [], ◌∷◌, ◌++◌, length, get_or, set, inl, inr, refl, sym, ap, subst, ◌∙◌, arith, append-nil, append_assoc, length-append}
+use Rattle.std.specs.Prelude.{if◌then◌else◌}
 use Rattle.std.proofs.Math.Nat.{suc-mul, zero-mul}
 use Rattle.sd_model_outside.specs.Outside.{Object, Place, File, HasFailed, Untold, fresh, opened}
 use Rattle.sd_model_call.specs.Call.{Answer, StopsAmong}
@@ -235,3 +236,8 @@ module _ (place at : Place) (is_place : at ≡ place) (asked : Flags) (w : World
 
   pub backs_stop_at : (answer : Answer) → BackStops w.flags at answer w.seen.graphite w.seen.console g c → StopsAmong (back_openings place asked) answer w (with_backs w flags g c)
   backs_stop_at answer h = subst (λ os. StopsAmong os answer w (with_backs w flags g c)) (λ i. back_openings (is_place i) (by i)) (backs_stop at w answer flags g c kept h)
+
+-- an object that is opened where it is used has the turns of before, and is out where it was
+pub where_kept : (used : Bool) (place : Place) (o n : Object) → n ≡ (if used then opened place o else o) → (n.is_out ≡ o.is_out) × (n.turns ≡ o.turns)
+where_kept true place o n is = (ap (λ (x : Object). x.is_out) is, ap (λ (x : Object). x.turns) is)
+where_kept false place o n is = (ap (λ (x : Object). x.is_out) is, ap (λ (x : Object). x.turns) is)

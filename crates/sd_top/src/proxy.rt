@@ -1,10 +1,12 @@
 //! The proxy, from its settings to its answer.
-ghost use Rattle.std.specs.Prelude.{◌≡◌, ◌++◌, ◌≤◌, ◌∷◌, [], codes, length, map, None, Some, OnOk, IfOk, IfErr};
+ghost use Rattle.std.specs.Prelude.{◌≡◌, ◌++◌, ◌<◌, ◌≤◌, ◌^◌, ◌∷◌, [], codes, false, if◌then◌else◌, length, map, None, Some, OnOk, IfOk, IfErr};
 ghost use Rattle.std.specs.List.{list_any};
+ghost use Rattle.sd_model_live.specs.Port.{has_port};
+ghost use Rattle.sd_model_outside.specs.Outside.{Host, opened};
 ghost use Rattle.sd_model_settings.specs.Settings.{OutOfRange, SettingsFlaw};
 ghost use Rattle.sd_model_call.specs.Call.{Misset, StopsAmong, WritesTotals};
 ghost use Rattle.sd_model_call.specs.Opening.{opened_all};
-ghost use Rattle.sd_model_call.specs.Proxy.{ProxyAccounts, proxy_flaw, proxy_openings};
+ghost use Rattle.sd_model_call.specs.Proxy.{ProxyAccounts, port_openings, proxy_flaw, proxy_openings, relay_openings};
 ghost use Rattle.sd_model_call.specs.Server.{is_worn};
 ghost use Rattle.sd_check.specs.Checking.{end_view};
 ghost use Rattle.sd_serve.specs.Serving.{end_of};
@@ -14,8 +16,8 @@ ghost use Rattle.sd_top.specs.World.{SameRest, world_of};
 
 use crate::call::WorldOf;
 use crate::ends::{any_worn, by_receivers, by_turns, cut};
-use crate::opening::open_peers;
-use crate::server_opening::open_packets;
+use crate::opening::{open_peers, open_where};
+use crate::server_opening::{host_address, open_packets};
 use crate::settings::read_settings;
 use crate::status::{Part, Status};
 use crate::telling::{tell_end, tell_fault, tell_proxy, tell_unopened, tell_unread};
@@ -26,7 +28,7 @@ use sd_decimal::Line;
 use sd_outside::{Address, Beat, Ended, Failed, Interval, Name, Sink, write_all};
 use sd_plan::Node;
 use sd_proxy::{CheckEnd, Checked};
-use sd_relay::{ProxySums, RelayRoom, Relayed, relay};
+use sd_relay::{ProxyParts, ProxySums, RelayRoom, Relayed, relay};
 use sd_run::names_backend;
 use sd_serve::Kinds;
 use sd_totals::push_total;
@@ -79,13 +81,13 @@ fn tell_unfit<L: Log>(log: &L, alloc: Global, at: &Address, status: &Status) {
 /// # Errors
 ///
 /// `OpenFault` where one failed, and `OutOfMemory`.
-fn open_proxy<K: Kinds>(settings: &Settings, world: &mut WorldOf<K>) -> Result<(), Status>
+fn open_relays<K: Kinds>(settings: &Settings, world: &mut WorldOf<K>) -> Result<(), Status>
     requires fits { proxy_flaw settings.now ≡ None }
     requires packets { 16 ≤ length (world.old).packets.items }
     requires wires { 256 ≤ length (world.old).wires.items }
     ensures opened { OnOk result (world_of K.R.seen K.O.seen K.B.seen K.D.seen K.L.seen K.E.seen K.P.seen K.Q.seen K.S.seen world.new
-        ≡ opened_all (world_of K.R.seen K.O.seen K.B.seen K.D.seen K.L.seen K.E.seen K.P.seen K.Q.seen K.S.seen world.old) (proxy_openings settings.now)) }
-    ensures refused { IfErr result (λ status. StopsAmong (proxy_openings settings.now) (answer_of status)
+        ≡ opened_all (world_of K.R.seen K.O.seen K.B.seen K.D.seen K.L.seen K.E.seen K.P.seen K.Q.seen K.S.seen world.old) (relay_openings settings.now)) }
+    ensures refused { IfErr result (λ status. StopsAmong (relay_openings settings.now) (answer_of status)
         (world_of K.R.seen K.O.seen K.B.seen K.D.seen K.L.seen K.E.seen K.P.seen K.Q.seen K.S.seen world.old)
         (world_of K.R.seen K.O.seen K.B.seen K.D.seen K.L.seen K.E.seen K.P.seen K.Q.seen K.S.seen world.new)) }
     ensures packets { length (world.new).packets.items ≡ length (world.old).packets.items }
@@ -100,8 +102,62 @@ fn open_proxy<K: Kinds>(settings: &Settings, world: &mut WorldOf<K>) -> Result<(
     open_peers::<Node, K>(receivers, settings.nodes(), world)
 }
 
-/// Takes the room of the proxy by these settings, opens its parts, starts the beat, and runs the proxy until its receivers and its
-/// checker have ended.
+/// Whether a proxy by these settings has a port.
+pub(crate) fn has_port(settings: &Settings) -> bool
+    ensures { result ≡ has_port settings.now }
+{
+    settings.proxy_mgmt_port() > 0
+}
+
+/// Opens the door of the proxy's port, where it has one.
+///
+/// # Errors
+///
+/// `OpenFault` where it failed, and `OutOfMemory`.
+fn open_port<K: Kinds>(settings: &Settings, world: &mut WorldOf<K>) -> Result<(), Status>
+    ensures opened { OnOk result (world_of K.R.seen K.O.seen K.B.seen K.D.seen K.L.seen K.E.seen K.P.seen K.Q.seen K.S.seen world.new
+        ≡ opened_all (world_of K.R.seen K.O.seen K.B.seen K.D.seen K.L.seen K.E.seen K.P.seen K.Q.seen K.S.seen world.old) (port_openings settings.now)) }
+    ensures refused { IfErr result (λ status. StopsAmong (port_openings settings.now) (answer_of status)
+        (world_of K.R.seen K.O.seen K.B.seen K.D.seen K.L.seen K.E.seen K.P.seen K.Q.seen K.S.seen world.old)
+        (world_of K.R.seen K.O.seen K.B.seen K.D.seen K.L.seen K.E.seen K.P.seen K.Q.seen K.S.seen world.new)) }
+    ensures door { OnOk result (K.E.seen (world.new).door ≡ (if has_port settings.now then opened (Host (settings.now).addresses.mgmt_address (settings.now).transport.proxy_mgmt_port) (K.E.seen (world.old).door) else K.E.seen (world.old).door)) }
+    ensures packets { (world.new).packets ≡ (world.old).packets }
+    ensures wires { (world.new).wires ≡ (world.old).wires }
+    ensures streams { (world.new).streams ≡ (world.old).streams }
+    ensures backs { (world.new).backs ≡ (world.old).backs }
+    ensures rest { SameRest world.old world.new }
+{
+    let door = host_address(settings.mgmt_address(), settings.proxy_mgmt_port());
+    open_where(has_port(settings), &mut world.door, &door, Part::Door)
+}
+
+/// Opens all parts of the proxy, in their order: what its receivers use, and then the door of its port.
+///
+/// # Errors
+///
+/// `OpenFault` where one failed, and `OutOfMemory`.
+fn open_proxy<K: Kinds>(settings: &Settings, world: &mut WorldOf<K>) -> Result<(), Status>
+    requires fits { proxy_flaw settings.now ≡ None }
+    requires packets { 16 ≤ length (world.old).packets.items }
+    requires wires { 256 ≤ length (world.old).wires.items }
+    ensures opened { OnOk result (world_of K.R.seen K.O.seen K.B.seen K.D.seen K.L.seen K.E.seen K.P.seen K.Q.seen K.S.seen world.new
+        ≡ opened_all (world_of K.R.seen K.O.seen K.B.seen K.D.seen K.L.seen K.E.seen K.P.seen K.Q.seen K.S.seen world.old) (proxy_openings settings.now)) }
+    ensures refused { IfErr result (λ status. StopsAmong (proxy_openings settings.now) (answer_of status)
+        (world_of K.R.seen K.O.seen K.B.seen K.D.seen K.L.seen K.E.seen K.P.seen K.Q.seen K.S.seen world.old)
+        (world_of K.R.seen K.O.seen K.B.seen K.D.seen K.L.seen K.E.seen K.P.seen K.Q.seen K.S.seen world.new)) }
+    ensures packets { length (world.new).packets.items ≡ length (world.old).packets.items }
+    ensures wires { length (world.new).wires.items ≡ length (world.old).wires.items }
+    ensures door { OnOk result (K.E.seen (world.new).door ≡ (if has_port settings.now then opened (Host (settings.now).addresses.mgmt_address (settings.now).transport.proxy_mgmt_port) (K.E.seen (world.old).door) else K.E.seen (world.old).door)) }
+    ensures streams { (world.new).streams ≡ (world.old).streams }
+    ensures rest { SameRest world.old world.new }
+    ensures backs { (world.new).backs ≡ (world.old).backs }
+{
+    open_relays::<K>(settings, world)?;
+    open_port::<K>(settings, world)
+}
+
+/// Takes the room of the proxy by these settings, opens its parts, starts the beat, and runs the proxy until its receivers, its checker
+/// and its port have ended.
 ///
 /// # Errors
 ///
@@ -115,6 +171,7 @@ fn run_proxy<K: Kinds, X: Threads + Wait + time::Clock + Sync>(
     requires fits { proxy_flaw settings.now ≡ None }
     requires packets { 16 ≤ length (world.old).packets.items }
     requires wires { 256 ≤ length (world.old).wires.items }
+    requires door { ((K.E.seen (world.old).door).is_out ≡ false) × ((K.E.seen (world.old).door).turns < 2 ^ 62) }
     ensures relayed { IfOk result (HasRelayed settings.now
         (world_of K.R.seen K.O.seen K.B.seen K.D.seen K.L.seen K.E.seen K.P.seen K.Q.seen K.S.seen world.old)
         (world_of K.R.seen K.O.seen K.B.seen K.D.seen K.L.seen K.E.seen K.P.seen K.Q.seen K.S.seen world.new)) }
@@ -124,10 +181,9 @@ fn run_proxy<K: Kinds, X: Threads + Wait + time::Clock + Sync>(
         (world_of K.R.seen K.O.seen K.B.seen K.D.seen K.L.seen K.E.seen K.P.seen K.Q.seen K.S.seen world.new)) }
 {
     let receivers = u16::try_from(settings.receivers()).unwrap();
-    let nodes = settings.nodes();
     let Ok(room) = RelayRoom::open(
         alloc,
-        nodes,
+        settings.nodes(),
         receivers,
         settings.cache_size(),
         settings.batch_bytes(),
@@ -141,16 +197,14 @@ fn run_proxy<K: Kinds, X: Threads + Wait + time::Clock + Sync>(
     });
     tell_proxy(&world.log, settings);
     let rt = Logged::new(rt, LevelFilter::Trace, &world.log);
-    Ok(relay(
-        &rt,
-        room,
-        nodes,
-        &mut world.packets,
-        &mut world.wires,
-        &mut world.beat,
-        &mut world.probe,
-        &world.gate,
-    ))
+    let mut parts = ProxyParts {
+        packets: &mut world.packets,
+        wires: &mut world.wires,
+        beat: &mut world.beat,
+        probe: &mut world.probe,
+        door: &mut world.door,
+    };
+    Ok(relay(&rt, room, settings, &mut parts, &world.gate))
 }
 
 /// Whether a checker ended since it took the most turns.
@@ -220,6 +274,7 @@ pub(crate) fn proxy_files<K: Kinds, X: Threads + Wait + time::Clock + Sync>(
 ) -> Status
     requires packets { 16 ≤ length (world.old).packets.items }
     requires wires { 256 ≤ length (world.old).wires.items }
+    requires door { ((K.E.seen (world.old).door).is_out ≡ false) × ((K.E.seen (world.old).door).turns < 2 ^ 62) }
     ensures { ProxyAccounts settings.items (answer_of result)
         (world_of K.R.seen K.O.seen K.B.seen K.D.seen K.L.seen K.E.seen K.P.seen K.Q.seen K.S.seen world.old)
         (world_of K.R.seen K.O.seen K.B.seen K.D.seen K.L.seen K.E.seen K.P.seen K.Q.seen K.S.seen world.new) }

@@ -1,6 +1,7 @@
 //! Threads that the system refuses are noticed before anything is opened.
 ghost use Rattle.std.specs.Prelude.{◌≤◌};
 
+use crate::proxy::has_port;
 use crate::telling::tell_too_few;
 use log::Log;
 use sd_config::Settings;
@@ -72,7 +73,7 @@ pub(crate) fn threads_of_server(settings: &Settings) -> usize {
 
 /// How many threads a proxy by these settings works with.
 pub(crate) fn threads_of_proxy(settings: &Settings) -> usize {
-    1 + settings.receivers() as usize
+    1 + usize::from(has_port(settings)) + settings.receivers() as usize
 }
 
 /// Whether the system gives so many threads, which is told where it doesn't.

@@ -6,4 +6,6 @@
 mod sums;
 mod totals;
 
-pub use totals::{TOTALS, Total, Totals, push_total, totals_text, write_total, write_totals};
+pub use totals::{
+    TOTALS, Total, Totals, known_totals, push_total, totals_text, write_total, write_totals,
+};

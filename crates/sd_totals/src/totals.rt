@@ -1,6 +1,8 @@
-ghost use Rattle.std.specs.Prelude.{◌≡◌, ◌+◌, ◌≤◌, ◌++◌, length, map, option_map, slice_get, IfSome, OnOk, OnErr};
+ghost use Rattle.std.specs.Prelude.{◌≡◌, ℕ, ◌+◌, ◌≤◌, ◌++◌, length, map, option_map, slice_get, IfSome, OnOk, OnErr};
 ghost use Rattle.sd_model_outside.specs.Outside.{HasFailedBehind, given};
-ghost use Rattle.sd_model_record.specs.Totals.{added, total_line, totals_of, totals_text as lines_of};
+ghost use Rattle.sd_model_shard.specs.Shard.{Numbers};
+ghost use Rattle.sd_model_record.specs.Desk.{Facts};
+ghost use Rattle.sd_model_record.specs.Totals.{added, known_before_end, total_line, totals_of, totals_text as lines_of};
 ghost use Rattle.sd_desk.specs.Facts.{facts_view};
 ghost use Rattle.sd_shard.specs.Shard.{numbers_in};
 ghost use Rattle.sd_totals.specs.Totals.{total_seen, totals_by, totals_view};
@@ -13,6 +15,14 @@ use sd_shard::ShardBook;
 
 /// How many totals there are.
 pub const TOTALS: usize = 13;
+
+/// How many totals are known before the end, where backends have outlets and where they have none.
+pub fn known_totals(outlets: bool) -> usize
+    ensures few { result ≤ 13 }
+    ensures count { (all : (Numbers → ℕ) → ℕ) (facts : Facts) → result ≡ length (known_before_end outlets (totals_of all facts)) }
+{
+    if outlets { TOTALS - 2 } else { TOTALS }
+}
 
 /// A name, and the number that was counted under it.
 #[derive(Clone, Copy, Debug, PartialEq, Eq)]
@@ -73,6 +83,22 @@ impl Totals {
             console_faults: u128::from(facts.console_faults),
             repeater_faults: u128::from(facts.repeater_faults),
             admin_faults: u128::from(facts.admin_faults),
+        }
+    }
+
+    /// The total at a place among those that are known before the end, counted from 0, or none behind the last.
+    pub fn known_at(&self, outlets: bool, place: usize) -> Option<Total>
+        ensures total { option_map total_seen result ≡ slice_get (known_before_end outlets (totals_view self.now)) place }
+        ensures short { IfSome result (λ t. length t.name.now ≤ 15) }
+    {
+        if !outlets {
+            return self.at(place);
+        }
+        match place {
+            0..=8 => self.at(place),
+            9 => self.at(11),
+            10 => self.at(12),
+            _ => None,
         }
     }
 

@@ -22,9 +22,8 @@ use file_source::FileSource;
 use sd_decimal::Line;
 use sd_net::{
     DoorSizes, LongLines, Share, SystemClock, TcpDoor, TcpProbe, TickBeat, UdpReceiver, UdpWire,
-    WatchedDoor,
 };
-use sd_outside::{Backs, Faulty, NoGate};
+use sd_outside::{Backs, NoGate};
 use sd_top::{Status, World, explain, statsd};
 use shared::{Shared, no_memory};
 use standard_out::StandardOut;
@@ -127,24 +126,6 @@ fn wires<'a, X>(
     Ok(wires)
 }
 
-/// The admin port, which is opened later.
-fn admin_door<'a>(
-    rt: &'a HostRuntime,
-    shared: &'a Shared<'a>,
-) -> WatchedDoor<'a, TcpDoor<'a, HostRuntime>>
-    ensures { ⟦<WatchedDoor<'a, TcpDoor<'a, HostRuntime>> as Faulty>⟧.seen result ≡ fresh Untold }
-{
-    let door = TcpDoor::new(
-        rt,
-        rt.alloc(),
-        &shared.sockets,
-        &shared.stop,
-        ADMIN_SIZES,
-        &shared.log,
-    );
-    WatchedDoor::of(door, &shared.pace)
-}
-
 /// Carries out what the words ask for.
 fn run<'a>(
     threads: &'a (impl Threads + Wait + RandomSource + time::Clock + Sync),
@@ -174,7 +155,14 @@ fn run<'a>(
         },
         packets,
         wires,
-        door: admin_door(rt, shared),
+        door: TcpDoor::new(
+            rt,
+            alloc,
+            &shared.sockets,
+            &shared.stop,
+            ADMIN_SIZES,
+            &shared.log,
+        ),
         beat: TickBeat::new(rt, &shared.stop, &shared.pace, &shared.log),
         gate: NoGate,
         clock: SystemClock::new(rt, &shared.pace),

@@ -1,4 +1,4 @@
-use Rattle.std.proofs.Common.{◌≡◌, ◌∙◌, ◌≤◌, All, Some, ap, arith, length}
+use Rattle.std.proofs.Common.{◌≡◌, ◌∙◌, All, Some, ap, arith, length}
 use Rattle.std.proofs.lemmas.List.{length-map}
 use Rattle.std.proofs.lemmas.List.Elements.{All-pop}
 use Rattle.sd_live.specs.Live.{IsPassOf}
@@ -14,6 +14,7 @@ loop-word-init g c =
       checker = opened.checker.0;
       count = ap length opened.checker.1;
       pass = (All-pop (IsPassOf c.in_ok-cell.cell) _ _ (Some c.in-Some.pass) c.in-Some.ensures.items passes).1;
+      seat = c.in_ok-desk.ensures;
       wires = omega (arith, c.in_ok-wires_of.ensures, c.in_ok-wires_of.field-0.ok.0, c.len-3.ensures, c.in_ok-nodes.nodes.ok.0, ring);
       waiting = omega (arith, c.in_ok-for_nodes.ensures.count, c.len-4.ensures, c.in_ok-nodes.nodes.ok.0, ring);
       room = omega (arith, c.in_ok-from_elem.ensures.len, c.in_ok-from_elem.field-0.ok.0);

@@ -2,7 +2,7 @@ use Rattle.std.proofs.Common.{◌≡◌, ◌∙◌, ℕ, List, [], ◌∷◌, �
 use Rattle.sd_model_settings.specs.Entries.{Node}
 use Rattle.sd_model_text.specs.Lines.{lines}
 use Rattle.sd_proxy.specs.Forwarding.{AreUnderWay}
-use Rattle.sd_proxy.specs.Views.{totals_view}
+use Rattle.sd_proxy_desk.specs.Views.{totals_view}
 use Rattle.sd_proxy.proofs.ForwardLemmas.{datagram_sent, sent_none, under_way_first}
 use Rattle.sd_proxy.proofs.forwarding.forward_datagram.Goals as goal
 

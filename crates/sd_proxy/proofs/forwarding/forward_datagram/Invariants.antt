@@ -1,5 +1,5 @@
 use Rattle.std.proofs.Common.{◌≡◌, length, map}
-use Rattle.sd_proxy.specs.Views.{totals_view}
+use Rattle.sd_proxy_desk.specs.Views.{totals_view}
 use Rattle.sd_proxy.proofs.ForwardLemmas.{Going}
 use Rattle.sd_proxy.proofs.forwarding.forward_datagram.Given as goal
 

@@ -3,9 +3,9 @@ use Rattle.std.proofs.lemmas.List.{map-append}
 use Rattle.sd_model_proxy.specs.Batches.{Batch, add_totals}
 use Rattle.sd_model_proxy.specs.Routes as model
 use Rattle.sd_proxy.specs.Forwarding.{IsUnderWay, Stands, routes_by}
-use Rattle.sd_proxy.specs.Views.{route_view, totals_of_route, totals_view}
-use Rattle.sd_proxy.specs.declared.destination.Route.{Route}
-use Rattle.sd_proxy.specs.declared.destination.Route.TheVariants.{Bad, Unowned, Node}
+use Rattle.sd_proxy_desk.specs.Views.{route_view, totals_of_route, totals_view}
+use Rattle.sd_proxy_desk.specs.declared.route.Route.{Route}
+use Rattle.sd_proxy_desk.specs.declared.route.Route.TheVariants.{Bad, Unowned, Node}
 use Rattle.sd_proxy.proofs.ForwardLemmas.{count_line, line_elsewhere, line_taken, put, said}
 use Rattle.sd_proxy.proofs.forwarding.forward_line.Goals as goal
 

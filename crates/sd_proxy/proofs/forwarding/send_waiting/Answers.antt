@@ -2,7 +2,7 @@ use Rattle.std.proofs.Common.{◌∙◌, ◌<◌, ◌+◌, [], length, map, refl
 use Rattle.std.proofs.lemmas.List.{length-set}
 use Rattle.sd_model_proxy.specs.Batches.{Batch}
 use Rattle.sd_proxy.specs.Forwarding.{IsLeft, routes_by}
-use Rattle.sd_proxy.specs.Views.{totals_view}
+use Rattle.sd_proxy_desk.specs.Views.{totals_view}
 use Rattle.sd_proxy.specs.Waiting.{under_way}
 use Rattle.sd_proxy.proofs.ForwardLemmas.{flush_first, left_elsewhere, left_here, put}
 use Rattle.sd_proxy.proofs.forwarding.send_waiting.Goals as goal

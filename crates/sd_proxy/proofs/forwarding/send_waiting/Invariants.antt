@@ -3,7 +3,7 @@ use Rattle.sd_model_outside.specs.Outside.{Object}
 use Rattle.sd_model_record.specs.Totals.{Total}
 use Rattle.sd_model_settings.specs.Entries.{Node}
 use Rattle.sd_proxy.specs.Forwarding.{AreUnderWay, IsLeft, Stands, routes_by}
-use Rattle.sd_proxy.specs.Views.{totals_view}
+use Rattle.sd_proxy_desk.specs.Views.{totals_view}
 use Rattle.sd_proxy.proofs.forwarding.send_waiting.Given as goal
 
 abbrev pub invariant-loop-place : goal.invariant-loop-place

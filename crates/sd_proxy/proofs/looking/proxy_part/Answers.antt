@@ -2,74 +2,88 @@ use Rattle.std.proofs.Common.{◌∙◌, ◌^◌, ℕ, List, [], ◌∷◌, map,
 use Rattle.std.proofs.lemmas.List.{length-map}
 use Rattle.sd_model_settings.specs.Entries.{Node}
 use Rattle.sd_outside.specs.declared.datagrams.Ended.TheVariants.{End, Failed, Worn}
-use Rattle.sd_live.specs.Live.{looks_of, seen}
+use Rattle.sd_proxy_desk.specs.Views.{totals_view}
 use Rattle.sd_proxy.specs.Forwarding.{Forwards, NoneWaits}
-use Rattle.sd_proxy.specs.Views.{totals_view}
-use Rattle.sd_proxy.proofs.RelayLemmas.{Looked, looked-next, looked-none, read_of, ran_first, ran_idle, ran_read, ran_out, out_looked, ends_failed, ends_spent, same_faults}
+use Rattle.sd_proxy.proofs.ForwardLemmas.{Forwards-apart}
+use Rattle.sd_proxy.proofs.RelayLemmas.{Looked, One, looked-next, looked-none, pass_seen, read_of, ran_first, ran_idle, ran_read, ran_out, out_looked, ends_failed, ends_spent, same_faults}
 use Rattle.sd_proxy.proofs.looking.proxy_part.Goals as goal
 
 pub loop-turn-init : goal.loop-turn-init
 loop-turn-init g c =
-    let history = seen c.args.pass.now in
-    let looks = looks_of c.args.pass.now in
+    let nodes = c.args.ring.now in
+    let own = pass_seen c.args.own.now in
     record {
       ring = refl;
       pass = (c.requires.pass, refl);
+      seat = (c.requires.seat, refl);
       wires = refl;
       waiting = refl;
       none = λ most none. none;
       room = refl;
-      ran = λ most none. ran_first most _ (Looked history history looks looks) _ _ _ (looked-none history looks) (g.met.D.Datagrams.turns_fit c.args.packets.now) c.none-totals.ensures;
+      ran = λ most none. ran_first most _ (Looked nodes own own) _ _ _ (looked-none nodes own _ c.none-totals.ensures) (g.met.D.Datagrams.turns_fit c.args.packets.now) c.none-totals.ensures;
     }
 
 pub loop-turn-preserved : goal.loop-turn-preserved
 loop-turn-preserved g c =
     let wire = g.L.Faulty.seen in
+    let nodes = c.args.ring.now in
     let loop = c.loop-turn.invariant in
     let look = c.look-up.ensures in
     let up = c.look-up.result in
-    let history = seen c.args.pass.now in
-    let before = seen c.loop-turn.pass in
-    let after = seen c.look-up.new.pass in
-    let looks = looks_of c.args.pass.now in
-    let looks_before = looks_of c.loop-turn.pass in
-    let looks_after = looks_of c.look-up.new.pass in
+    let old = pass_seen c.args.own.now in
+    let before = pass_seen c.loop-turn.own in
+    let after = pass_seen (record c.loop-turn.own { pass = c.look-up.new.pass; seat = c.count.new.own }) in
     let forward = c.forward_datagram.ensures in
     let datagram = take c.in-Packet.len c.next.new.buf in
+    let none_yet = totals_view c.none-came_to.result in
+    let came_to = totals_view c.forward_datagram.new.totals in
+    let both = c.and-totals.ensures in
+    let wires_before = map wire c.loop-turn.wires in
+    let wires_after = map wire c.forward_datagram.new.wires in
     let forwards = λ (most : ℕ) (none : NoneWaits most c.args.waiting.now).
-    subst (λ (ns : List Node). Forwards most ns (read_of datagram up ∷ []) (map wire c.loop-turn.wires) (map wire c.forward_datagram.new.wires) (totals_view c.loop-turn.totals) (totals_view c.forward_datagram.new.totals))
-    loop.ring (forward.forwards most (loop.none most none)) in
+    subst (λ (ns : List Node). Forwards most ns (read_of datagram up ∷ []) wires_before wires_after none_yet came_to) loop.ring (forward.forwards most (loop.none most none)) in
+    let one : (most : ℕ) → NoneWaits most c.args.waiting.now → One most nodes before after up datagram wires_before wires_after none_yet came_to = λ most none. record {
+      goes_on = look.seen;
+      last = look.answer;
+      looks = look.looks;
+      did = c.count.ensures.did;
+      nothing = c.none-came_to.ensures;
+      forwards = forwards most none;
+    } in
     record {
       ring = forward.ring ∙ loop.ring;
       pass = (look.pass.0, look.pass.1 ∙ loop.pass.1);
+      seat = (c.count.ensures.seat.0, c.count.ensures.seat.1 ∙ loop.seat.1);
       wires = forward.wires ∙ loop.wires;
       waiting = forward.waiting ∙ loop.waiting;
       none = λ most none. forward.none most (loop.none most none);
       room = c.next.auto.buf ∙ loop.room;
-      ran = λ most none. ran_read most _ (Looked history before looks looks_before) _ _ _ _ (Looked history after looks looks_after) datagram up _ _ _ _ _ (looked-next history before after looks looks_before looks_after up datagram look.seen look.answer look.looks) (loop.ran most none) c.in-Packet.ensures.1 (forwards most none);
+      ran = λ most none. ran_read most _ (Looked nodes old before) _ _ _ _ (Looked nodes old after) datagram up _ _ _ _ _ (looked-next most nodes old before after up datagram wires_before wires_after none_yet came_to _ _ (one most none) both)
+          (loop.ran most none) c.in-Packet.ensures.1
+          (Forwards-apart most nodes (read_of datagram up ∷ []) wires_before wires_after c.loop-turn.totals none_yet came_to _ c.none-came_to.ensures both (forwards most none));
     }
 
 pub returns-in-End-clause-proxies : goal.returns-in-End-clause-proxies
 returns-in-End-clause-proxies g c most none =
     let loop = c.loop-turn.invariant in
-    let known = Looked (seen c.args.pass.now) (seen c.loop-turn.pass) (looks_of c.args.pass.now) (looks_of c.loop-turn.pass) in
-    out_looked most _ _ _ _ _ _ _ _ _ _
+    let known = Looked c.args.ring.now (pass_seen c.args.own.now) (pass_seen c.loop-turn.own) in
+    out_looked most _ _ _ _
     (ran_out most _ known _ _ _ _ _ _ End c.loop-turn.totals c.proxied.result c.proxied.ensures.ended c.proxied.ensures.totals (loop.ran most none) (length-map _ _ ∙ c.requires.wires) (same_faults _ _ c.in-End.ensures.0)
     (ends_spent most _ known _ _ _ _ _ _ _ (loop.ran most none) c.in-End.ensures.0 c.in-End.ensures.1 (omega arith)))
 
 pub returns-in-Failed-clause-proxies : goal.returns-in-Failed-clause-proxies
 returns-in-Failed-clause-proxies g c most none =
     let loop = c.loop-turn.invariant in
-    let known = Looked (seen c.args.pass.now) (seen c.loop-turn.pass) (looks_of c.args.pass.now) (looks_of c.loop-turn.pass) in
-    out_looked most _ _ _ _ _ _ _ _ _ _
+    let known = Looked c.args.ring.now (pass_seen c.args.own.now) (pass_seen c.loop-turn.own) in
+    out_looked most _ _ _ _
     (ran_out most _ known _ _ _ _ _ _ Failed c.loop-turn.totals c.proxied-in-Failed.result c.proxied-in-Failed.ensures.ended c.proxied-in-Failed.ensures.totals (loop.ran most none) (length-map _ _ ∙ c.requires.wires) c.in-Failed.ensures.same
     (ends_failed most _ known _ _ _ _ _ _ _ (loop.ran most none) c.in-Failed.ensures (omega arith)))
 
 pub returns-clause-proxies : goal.returns-clause-proxies
 returns-clause-proxies g c most none =
     let loop = c.loop-turn.invariant in
-    let known = Looked (seen c.args.pass.now) (seen c.loop-turn.pass) (looks_of c.args.pass.now) (looks_of c.loop-turn.pass) in
-    out_looked most _ _ _ _ _ _ _ _ _ _
+    let known = Looked c.args.ring.now (pass_seen c.args.own.now) (pass_seen c.loop-turn.own) in
+    out_looked most _ _ _ _
     (ran_out most _ known _ _ _ _ _ _ (Worn (2 ^ 62)) c.loop-turn.totals c.proxied-2.result c.proxied-2.ensures.ended c.proxied-2.ensures.totals (loop.ran most none) (length-map _ _ ∙ c.requires.wires) refl
     (refl, omega arith, (loop.ran most none).faults))
 
@@ -79,9 +93,10 @@ loop-turn-preserved-in-Idle g c =
     record {
       ring = loop.ring;
       pass = loop.pass;
+      seat = loop.seat;
       wires = loop.wires;
       waiting = loop.waiting;
       none = loop.none;
       room = c.next.auto.buf ∙ loop.room;
-      ran = λ most none. ran_idle most _ (Looked (seen c.args.pass.now) (seen c.loop-turn.pass) (looks_of c.args.pass.now) (looks_of c.loop-turn.pass)) _ _ _ _ _ _ _ (loop.ran most none) c.in-Idle.ensures;
+      ran = λ most none. ran_idle most _ (Looked c.args.ring.now (pass_seen c.args.own.now) (pass_seen c.loop-turn.own)) _ _ _ _ _ _ _ (loop.ran most none) c.in-Idle.ensures;
     }

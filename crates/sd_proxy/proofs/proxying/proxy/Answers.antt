@@ -5,7 +5,7 @@ use Rattle.sd_model_settings.specs.Entries.{Node}
 use Rattle.sd_model_proxy.specs.Routes.{Read}
 use Rattle.sd_outside.specs.declared.datagrams.Ended.TheVariants.{End, Failed, Worn}
 use Rattle.sd_proxy.specs.Forwarding.{Forwards, NoneWaits}
-use Rattle.sd_proxy.specs.Views.{totals_view}
+use Rattle.sd_proxy_desk.specs.Views.{totals_view}
 use Rattle.sd_proxy.proofs.RelayLemmas.{under, under-next, read_of, ran_first, ran_idle, ran_read, ran_out, out_under, ends_failed, ends_spent, same_faults}
 use Rattle.sd_proxy.proofs.proxying.proxy.Goals as goal
 

@@ -1,6 +1,6 @@
 use Rattle.std.proofs.Common.{◌≡◌, ℕ, length, map}
 use Rattle.sd_proxy.specs.Forwarding.{NoneWaits}
-use Rattle.sd_proxy.specs.Views.{totals_view}
+use Rattle.sd_proxy_desk.specs.Views.{totals_view}
 use Rattle.sd_proxy.proofs.RelayLemmas.{Ran, under}
 use Rattle.sd_proxy.proofs.proxying.proxy.Given as goal
 

@@ -1,7 +1,7 @@
 use Rattle.std.proofs.Common.{◌∙◌, List, ℕ, [], ◌∷◌, ap, codes, true, false}
 use Rattle.sd_model_outside.specs.Outside.{sent}
 use Rattle.sd_model_proxy.specs.Batches.{add_totals}
-use Rattle.sd_proxy.specs.Views.{totals_view}
+use Rattle.sd_proxy_desk.specs.Views.{totals_view}
 use Rattle.sd_proxy.proofs.WaitingLemmas.{Sends-one}
 use Rattle.sd_proxy.proofs.sending.send_packet.Goals as goal
 

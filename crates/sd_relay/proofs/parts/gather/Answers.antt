@@ -3,7 +3,7 @@ use Rattle.std.proofs.lemmas.List.{length_push, length-map}
 use Rattle.std.proofs.Math.Nat.{suc-mul}
 use Rattle.std.proofs.lemmas.List.Elements.{All-pop, All-push, All-same}
 use Rattle.sd_plan.specs.Entries.{node_view}
-use Rattle.sd_relay.specs.Parts.{HasPlace, IsClear, IsFitted, NoLineWaits, pass_in, source_in, wires_in}
+use Rattle.sd_relay.specs.Parts.{HasPlace, IsClear, IsFitted, NoLineWaits, own_in, source_in, wires_in}
 use Rattle.sd_workers.proofs.MovingLemmas.{part-moved, run-moved}
 use Rattle.sd_relay.proofs.parts.gather.Goals as goal
 
@@ -13,7 +13,7 @@ loop-room-preserved g c =
     let nodes = map node_view c.args.nodes.now in
     let popped = c.in-Some.ensures in
     let taken = All-pop (HasPlace nodes) _ _ (Some c.in-Some.room) popped.items loop.rooms in
-    let pass = c.take_first.ensures in
+    let own = c.take_first.ensures in
     let source = c.take_first-in-Some.ensures in
     let wires = c.take_run.ensures in
     let push = c.push_reserved.ensures in
@@ -29,13 +29,13 @@ loop-room-preserved g c =
           (popped_clear.0, All-same (NoLineWaits most) _ _ push.items (All-push (NoLineWaits most) _ _ both.1 popped_clear.1));
       packets = part-moved source_in _ _ _ _ _ _ loop.packets source.items push.items;
       wires = run-moved wires_in _ _ _ _ _ _ loop.wires wires.items push.items;
-      passes = part-moved pass_in _ _ _ _ _ _ loop.passes pass.items push.items;
+      owns = part-moved own_in _ _ _ _ _ _ loop.owns own.items push.items;
       sources = let a = loop.sources in let b = ap length source.items in omega arith;
       runs = let a = subst (λ n. n * length c.args.nodes.now ≤ length c.loop-room.wires.items) less loop.runs in let b = ap length wires.items ∙ length-append c.take_run.result.items c.take_run.new.items.items in let d = wires.len in let e = suc-mul (length c.pop.new.self.items) (length c.args.nodes.now) in omega arith;
-      passes_left = let a = loop.passes_left in let b = ap length pass.items in omega arith;
+      owns_left = let a = loop.owns_left in let b = ap length own.items in omega arith;
       packets_room = source.capacity ∙ loop.packets_room;
       wires_room = wires.capacity ∙ loop.wires_room;
-      passes_room = pass.capacity ∙ loop.passes_room;
+      owns_room = own.capacity ∙ loop.owns_room;
     }
 
 pub returns-clause-clear : goal.returns-clause-clear

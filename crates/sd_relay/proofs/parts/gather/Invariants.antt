@@ -1,6 +1,6 @@
 use Rattle.std.proofs.Common.{◌≡◌, ◌+◌, ◌*◌, ◌≤◌, ◌++◌, ℕ, All, flat_map, length, map, vec_capacity}
 use Rattle.sd_plan.specs.Entries.{node_view}
-use Rattle.sd_relay.specs.Parts.{HasPlace, IsClear, IsFitted, NoLineWaits, pass_in, source_in, wires_in}
+use Rattle.sd_relay.specs.Parts.{HasPlace, IsClear, IsFitted, NoLineWaits, own_in, source_in, wires_in}
 use Rattle.sd_relay.proofs.parts.gather.Given as goal
 
 abbrev pub invariant-loop-room : goal.invariant-loop-room
@@ -12,13 +12,13 @@ invariant-loop-room g l = record {
   clear : (most : ℕ) → All (IsClear most) l.initial.rooms.items → All (IsClear most) l.rooms.items × All (NoLineWaits most) l.posts.items;
   packets : l.initial.packets.items ≡ map source_in l.posts.items ++ l.packets.items;
   wires : l.initial.wires.items ≡ flat_map wires_in l.posts.items ++ l.wires.items;
-  passes : l.initial.passes.items ≡ map pass_in l.posts.items ++ l.passes.items;
+  owns : l.initial.owns.items ≡ map own_in l.posts.items ++ l.owns.items;
   sources : length l.rooms.items ≤ length l.packets.items;
   runs : length l.rooms.items * length l.nodes ≤ length l.wires.items;
-  passes_left : length l.rooms.items ≤ length l.passes.items;
+  owns_left : length l.rooms.items ≤ length l.owns.items;
   packets_room : vec_capacity l.packets ≡ vec_capacity l.initial.packets;
   wires_room : vec_capacity l.wires ≡ vec_capacity l.initial.wires;
-  passes_room : vec_capacity l.passes ≡ vec_capacity l.initial.passes;
+  owns_room : vec_capacity l.owns ≡ vec_capacity l.initial.owns;
 }
 
 abbrev pub decreases-loop-room : goal.decreases-loop-room

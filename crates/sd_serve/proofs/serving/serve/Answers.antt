@@ -326,7 +326,7 @@ returns-clause-served g c =
       waiting = waiting_in c.round.new.tables;
       last = subst (λ used. MakesRoundAt (form_of room.pool c.args.terms.now.form.plan.now c.args.terms.now.form.names.now) used c.last_round_at.result (marks_of c.round.result) (own_at ran.new.services.flusher.seat) (own_at c.round.new.seat) (part_of ran.new.services.flusher.own) (part_of c.round.new.own)
           (back_of g.K.B.Faulty.seen ran.new.objects.backs.now) (back_of g.K.B.Faulty.seen c.round.new.backs) (waiting_in c.round.new.tables)) flags c.round.ensures.round;
-      told_so = (c.now.result, c.now.ensures, c.last_round_at.ensures);
+      told_so = (c.last.result, c.last.ensures, c.last_round_at.ensures);
       commanded = own_at room.seats.admin;
       no_command = others.1.0.own;
       admin_part = part_of c.take_first-admin_own.result;

@@ -1,10 +1,10 @@
 use Rattle.std.proofs.Common.{[], ◌∷◌, sym, ap, ◌∙◌, arith, refl, Ok, Err}
+use Rattle.std.specs.Prelude.{nat_lt}
 use Rattle.sd_model_shard.specs.Shard.{Dump, Look}
 use Rattle.sd_model_record.specs.Admin.{words}
 use Rattle.sd_model_record.specs.Admin as model
 use Rattle.sd_model_record.specs.Replies as replies
 use Rattle.sd_key.specs.Kind.{kind_of}
-use Rattle.sd_shard.specs.Dump.{rows_of}
 use Rattle.sd_desk.specs.Facts.{facts_view}
 use Rattle.sd_admin.specs.Command.{answer_view, fault_view, health_word_view}
 use Rattle.sd_pool.specs.Pool.{own_at, shards_of}
@@ -29,7 +29,7 @@ pub returns-in-Totals-clause-carried : goal.returns-in-Totals-clause-carried
 returns-in-Totals-clause-carried g c =
     let d = c.look_all.ensures.looks in
     carries _ _ _ _ _ _ _ _ _ _ (Ok model.Totals) (d.broadcast ∷ []) (sym c.read.ensures ∙ ap answer_view (c.in-Ok.is ∙ ap Ok c.in-Totals.is)) d.asked
-    (replied_once Look d.broadcast _ _ c.write_reply-in-Totals.result _ _ d.event (ap (replies.Totals (facts_view c.args.basis.now.facts.now)) d.told) c.write_reply-in-Totals.ensures.ok c.write_reply-in-Totals.ensures.failed (g.met.O.Sink.number_fits c.args.output.now))
+    (replied_once Look d.broadcast _ _ c.write_reply-in-Totals.result _ _ d.event (λ i. replies.Totals (nat_lt 0 (c.outlets.ensures.value i)) (facts_view c.args.basis.now.facts.now) (d.told i)) c.write_reply-in-Totals.ensures.ok c.write_reply-in-Totals.ensures.failed (g.met.O.Sink.number_fits c.args.output.now))
 
 pub returns-in-Config-clause-carried : goal.returns-in-Config-clause-carried
 returns-in-Config-clause-carried g c =

@@ -1,7 +1,7 @@
 use Rattle.std.proofs.Common.{◌≡◌, ◌≤◌, [], take}
 use Rattle.sd_model_serve.specs.Receiving.{administrator}
 use Rattle.sd_model_record.specs.Counts.{HasCounted, nothing}
-use Rattle.sd_model_serve.specs.Sessions.{too_many}
+use Rattle.sd_model_serve.specs.Talks.{too_many}
 use Rattle.sd_pool.specs.Pool.{IsSeatOf, limits_of, own_at, shards_of, who_is}
 use Rattle.sd_shared_desk.specs.Shared as desk
 use Rattle.sd_shared_desk.specs.Shared.{number_of_seat, part_of}

@@ -1,11 +1,8 @@
-use Rattle.std.proofs.Common.{rules, ◌≡◌, ◌<◌, ℕ, [], ◌∷◌, ◌++◌, List, length, map, refl, sym, ap, subst, ◌∙◌, arith}
-use Rattle.std.specs.Prelude.{flat_map}
+use Rattle.std.proofs.Common.{rules, ◌≡◌, [], ◌∷◌, ◌++◌, length, map, refl, sym, ap, subst, ◌∙◌, arith}
 use Rattle.std.proofs.lemmas.Grind.{flat_map-append}
 use Rattle.std.proofs.lemmas.List.{map-append}
-use Rattle.sd_model_shard.specs.Shard as shard
-use Rattle.sd_model_shard.specs.Shard.{State, Numbers, Look, Looked, numbers_of}
+use Rattle.sd_model_shard.specs.Shard.{State, Look, Looked, numbers_of}
 use Rattle.sd_shard.specs.Shard.{numbers_in}
-use Rattle.sd_shard.specs.declared.shard.ShardBook.{ShardBook}
 use Rattle.sd_pool.specs.Pool.{act_by, own_at, shards_of}
 use Rattle.sd_session.proofs.FoundLemmas.{found_by}
 use Rattle.sd_session.proofs.TogetherLemmas.{Asked, Asked-none, Asked-next, asked_all, broadcast_of, looked, numbers_are}

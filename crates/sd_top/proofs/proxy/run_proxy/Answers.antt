@@ -1,21 +1,33 @@
-use Rattle.std.proofs.Common.{◌≡◌, false, [], arith, length, map, inl, refl, sym, ap, subst, ◌∙◌, rules}
+use Rattle.std.proofs.Common.{◌≡◌, ◌<◌, false, [], arith, length, map, inl, refl, sym, ap, subst, ◌∙◌, rules}
 use Rattle.std.proofs.lemmas.List.{length-map}
+use Rattle.sd_model_outside.specs.Outside.{Host, Object}
 use Rattle.sd_model_outside.specs.Turns.{with_interval}
+use Rattle.sd_model_live.specs.Port.{has_port}
+use Rattle.sd_model_live.specs.Proxy.{ProxyObjects}
 use Rattle.sd_model_call.specs.Opening.{World}
-use Rattle.sd_model_call.specs.Proxy.{check_interval, proxy_begun, proxy_openings}
+use Rattle.sd_model_call.specs.Proxy.{check_interval, proxy_begun, proxy_objects, proxy_openings}
 use Rattle.sd_plan.specs.Entries.{node_view}
 use Rattle.sd_proxy.specs.Views.{end_view}
 use Rattle.sd_relay.specs.Relaying as relaying
 use Rattle.sd_relay.specs.Relaying.{receivers_in}
-use Rattle.sd_relay.specs.Room.{IsRoomFor}
+use Rattle.sd_relay.specs.Room.{IsClearRoom, IsRoomFor}
 use Rattle.sd_top.specs.World.{world_of}
+use Rattle.sd_top.proofs.OpeningLemmas.{where_kept}
 use Rattle.sd_top.proofs.proxy.run_proxy.Goals as goal
 
 pub returns-in_default-clause-refused : goal.returns-in_default-clause-refused
 returns-in_default-clause-refused g c = inl (refl, record { before = []; behind = proxy_openings c.args.settings.now; order = refl; opened = refl })
 
 pub relay-requires-clause-room : goal.relay-requires-clause-room
-relay-requires-clause-room g c κs within = subst (λ n. IsRoomFor (map node_view c.nodes-nodes.result.now) n c.in-Ok.room) (sym c.in-Ok.ensures.room.places) c.in-Ok.ensures.room
+relay-requires-clause-room g c κs within =
+    subst (λ ns. IsRoomFor ns (receivers_in c.in-Ok.room) c.in-Ok.room) c.nodes.ensures.value
+    (subst (λ n. IsRoomFor (map node_view c.nodes.result.now) n c.in-Ok.room) (sym c.in-Ok.ensures.room.places) c.in-Ok.ensures.room)
+
+pub relay-requires-clause-door : goal.relay-requires-clause-door
+relay-requires-clause-door g c κs within =
+    let s = c.args.settings.now in
+    let kept = where_kept (has_port s) (Host s.addresses.mgmt_address s.transport.proxy_mgmt_port) (g.K.E.Faulty.seen c.args.world.now.door) (g.K.E.Faulty.seen c.open_proxy.new.world.door) c.in_ok-open_proxy.ensures.door in
+    (kept.0 ∙ c.requires.door.0, let turns = kept.1 in let few = c.requires.door.1 in omega (arith, turns, few))
 
 pub returns-clause-relayed : goal.returns-clause-relayed
 returns-clause-relayed g c =
@@ -29,16 +41,16 @@ returns-clause-relayed g c =
     let begun_is : record seen_mid { served = record seen_mid.served { beat = with_interval (check_interval s) seen_mid.served.beat } } ≡ proxy_begun s old =
     (λ i. record (opened i) { served = record (opened i).served { beat = with_interval (check_interval s) (opened i).served.beat } }) in
     let beat = c.start.ensures ∙ (λ i. with_interval (record { ms = c.check_interval.ensures.value i; is_aligned = false }) (g.K.P.Faulty.seen mid.beat)) in
-    let new = world_of g.K.R.Faulty.seen g.K.O.Faulty.seen g.K.B.Faulty.seen g.K.D.Faulty.seen g.K.L.Faulty.seen g.K.E.Faulty.seen g.K.P.Faulty.seen g.K.Q.Faulty.seen g.K.S.Faulty.seen (record mid { packets = c.relay.new.packets; wires = c.relay.new.wires; beat = c.relay.new.beat; probe = c.relay.new.probe }) in
+    let parts = c.relay.new.parts in
+    let new = world_of g.K.R.Faulty.seen g.K.O.Faulty.seen g.K.B.Faulty.seen g.K.D.Faulty.seen g.K.L.Faulty.seen g.K.E.Faulty.seen g.K.P.Faulty.seen g.K.Q.Faulty.seen g.K.S.Faulty.seen (record mid { packets = parts.packets.now; wires = parts.wires.now; beat = parts.beat.now; probe = parts.probe.now; door = parts.door.now }) in
     let r = c.relay.result in
+    let first : ProxyObjects = record { sources = map g.K.D.Faulty.seen mid.packets.items; wires = map g.K.L.Faulty.seen mid.wires.items; beat = g.K.P.Faulty.seen c.start.new.self; probe = g.K.Q.Faulty.seen mid.probe; door = g.K.E.Faulty.seen mid.door } in
+    let before : first ≡ proxy_objects (proxy_begun s old) =
+    (λ i. record { sources = map g.K.D.Faulty.seen mid.packets.items; wires = map g.K.L.Faulty.seen mid.wires.items; beat = beat i; probe = g.K.Q.Faulty.seen mid.probe; door = g.K.E.Faulty.seen mid.door }) ∙ ap proxy_objects begun_is in
+    let clear : IsClearRoom s.transport.batch_bytes c.in-Ok.room = subst (λ m. IsClearRoom m c.in-Ok.room) c.batch_bytes.ensures.value c.in-Ok.ensures.clear in
     record {
-      relayed = subst (λ o. relaying.HasRelayed s.transport.batch_bytes s.lists.nodes s.sizes.receivers (proxy_begun s old).served.sources new.served.sources (proxy_begun s old).seen.wires new.seen.wires (proxy_begun s old).served.beat new.served.beat o new.probe r) (ap g.K.Q.Faulty.seen e.rest.probe)
-          (subst (λ (w : World). relaying.HasRelayed s.transport.batch_bytes s.lists.nodes s.sizes.receivers w.served.sources new.served.sources w.seen.wires new.seen.wires w.served.beat new.served.beat seen_mid.probe new.probe r) begun_is
-          (subst (λ o. relaying.HasRelayed s.transport.batch_bytes s.lists.nodes s.sizes.receivers seen_mid.served.sources new.served.sources seen_mid.seen.wires new.seen.wires o new.served.beat seen_mid.probe new.probe r) beat
-          (subst (λ ns. relaying.HasRelayed s.transport.batch_bytes ns s.sizes.receivers seen_mid.served.sources new.served.sources seen_mid.seen.wires new.seen.wires (g.K.P.Faulty.seen c.start.new.self) new.served.beat seen_mid.probe new.probe r) c.nodes-nodes.ensures.value
-          (subst (λ n. relaying.HasRelayed s.transport.batch_bytes (map node_view c.nodes-nodes.result.now) n seen_mid.served.sources new.served.sources seen_mid.seen.wires new.seen.wires (g.K.P.Faulty.seen c.start.new.self) new.served.beat seen_mid.probe new.probe r) (c.in-Ok.ensures.room.places ∙ receivers)
-          (subst (λ m. relaying.HasRelayed m (map node_view c.nodes-nodes.result.now) (receivers_in c.in-Ok.room) seen_mid.served.sources new.served.sources seen_mid.seen.wires new.seen.wires (g.K.P.Faulty.seen c.start.new.self) new.served.beat seen_mid.probe new.probe r) c.batch_bytes.ensures.value
-          (c.relay.ensures c.batch_bytes.result c.in-Ok.ensures.clear))))));
+      relayed = subst (λ (o : ProxyObjects). relaying.HasRelayed s s.sizes.receivers o (proxy_objects new) r) before
+          (subst (λ n. relaying.HasRelayed s n first (proxy_objects new) r) (c.in-Ok.ensures.room.places ∙ receivers) (c.relay.ensures.relayed clear));
       others = (λ i. record {
         settings = g.K.R.Faulty.seen (e.rest.settings i);
         seen = record {
@@ -46,20 +58,22 @@ returns-clause-relayed g c =
           output = g.K.O.Faulty.seen (e.rest.output i);
           graphite = g.K.B.Faulty.seen (e.backs i).graphite;
           console = g.K.B.Faulty.seen (e.backs i).console;
-          wires = map g.K.L.Faulty.seen c.relay.new.wires.items;
+          wires = map g.K.L.Faulty.seen parts.wires.now.items;
         };
-        served = record { sources = map g.K.D.Faulty.seen c.relay.new.packets.items; beat = g.K.P.Faulty.seen c.relay.new.beat; door = g.K.E.Faulty.seen (e.door i); streams = g.K.S.Faulty.seen (e.streams i) };
-        probe = g.K.Q.Faulty.seen c.relay.new.probe;
+        served = record { sources = map g.K.D.Faulty.seen parts.packets.now.items; beat = g.K.P.Faulty.seen parts.beat.now; door = g.K.E.Faulty.seen parts.door.now; streams = g.K.S.Faulty.seen (e.streams i) };
+        probe = g.K.Q.Faulty.seen parts.probe.now;
         flags = record { graphite = (e.backs i).graphite_used; console = (e.backs i).console_used };
       });
     }
 
 pub returns-clause-few : goal.returns-clause-few
 returns-clause-few g c =
-    let h = c.relay.ensures c.batch_bytes.result c.in-Ok.ensures.clear in
+    let s = c.args.settings.now in
+    let clear : IsClearRoom s.transport.batch_bytes c.in-Ok.room = subst (λ m. IsClearRoom m c.in-Ok.room) c.batch_bytes.ensures.value c.in-Ok.ensures.clear in
+    let h = c.relay.ensures.relayed clear in
     let ends = length-map c.relay.result.received.items end_view in
     let relays = length-map h.relays (λ x. x.ended) in
     let same = ap length h.received in
     let places = c.in-Ok.ensures.room.places in
-    let unwrapped : c.unwrap-receivers.result ≡ c.args.settings.now.sizes.receivers = search rules in
+    let unwrapped : c.unwrap-receivers.result ≡ s.sizes.receivers = search rules in
     omega (arith, ends, relays, same, h.count, places, unwrapped, c.receivers.ensures.range.1, c.receivers.ensures.value)

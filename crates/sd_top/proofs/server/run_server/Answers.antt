@@ -1,7 +1,6 @@
-use Rattle.std.proofs.Common.{◌≡◌, Bool, true, false, [], length, map, refl, sym, ap, subst, ◌∙◌, arith, inl}
+use Rattle.std.proofs.Common.{◌≡◌, [], length, map, refl, sym, ap, subst, ◌∙◌, arith, inl}
 use Rattle.std.proofs.lemmas.List.{length-map}
-use Rattle.std.specs.Prelude.{if◌then◌else◌}
-use Rattle.sd_model_outside.specs.Outside.{Host, Object, Place, opened}
+use Rattle.sd_model_outside.specs.Outside.{Host, Object}
 use Rattle.sd_model_outside.specs.Turns.{with_interval}
 use Rattle.sd_model_replay.specs.Settings.{is_used}
 use Rattle.sd_model_record.specs.Backends.{Backend, Graphite, Console}
@@ -13,6 +12,7 @@ use Rattle.sd_outside.specs.declared.backend.Backs.{Backs}
 use Rattle.sd_serve.specs.Room.{outlets_of, sizing_in, start_in}
 use Rattle.sd_serve.specs.Serving.{HasServed, end_of, objects_of, terms_of}
 use Rattle.sd_top.specs.World.{world_of}
+use Rattle.sd_top.proofs.OpeningLemmas.{where_kept}
 use Rattle.sd_top.proofs.server.run_server.Goals as goal
 
 pub returns-in_default-clause-refused : goal.returns-in_default-clause-refused
@@ -28,11 +28,6 @@ serve-requires-clause-beat g c =
     let started = ap (λ (o : Object). o.turns) c.start.ensures in
     let same = ap (λ b. (g.K.P.Faulty.seen b).turns) c.open_server.ensures.rest.beat in
     omega (arith, started, same, c.requires.beat)
-
--- an object that is opened where it is used has the turns of before, and is out where it was
-where_kept : (used : Bool) (place : Place) (o n : Object) → n ≡ (if used then opened place o else o) → (n.is_out ≡ o.is_out) × (n.turns ≡ o.turns)
-where_kept true place o n is = (ap (λ (x : Object). x.is_out) is, ap (λ (x : Object). x.turns) is)
-where_kept false place o n is = (ap (λ (x : Object). x.is_out) is, ap (λ (x : Object). x.turns) is)
 
 pub serve-requires-clause-streams : goal.serve-requires-clause-streams
 serve-requires-clause-streams g c κs within =

@@ -1,6 +1,6 @@
 use Rattle.std.proofs.Common.{◌∙◌, ℕ, ◌-◌, List, [], ◌∷◌, take, ap}
 use Rattle.sd_proxy.specs.Sending.{Sends}
-use Rattle.sd_proxy.specs.Views.{totals_view}
+use Rattle.sd_proxy_desk.specs.Views.{totals_view}
 use Rattle.sd_proxy.specs.Waiting.{Holds, under_way}
 use Rattle.sd_proxy.proofs.WaitingLemmas.{text_joined}
 use Rattle.sd_proxy.proofs.waiting.Waiting.send.Goals as goal

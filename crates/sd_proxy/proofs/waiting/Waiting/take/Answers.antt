@@ -1,6 +1,6 @@
 use Rattle.std.proofs.Common.{◌≡◌, ◌∙◌, [], ◌∷◌, ◌++◌, refl, sym, false}
 use Rattle.sd_model_proxy.specs.Batches.{fits}
-use Rattle.sd_proxy.specs.Views.{totals_view}
+use Rattle.sd_proxy_desk.specs.Views.{totals_view}
 use Rattle.sd_proxy.specs.Waiting.{under_way}
 use Rattle.sd_proxy.proofs.WaitingLemmas.{Sends-next, Sends-none, cut-long, cut-new, cut-room}
 use Rattle.sd_proxy.proofs.waiting.Waiting.take.Goals as goal

@@ -1,25 +1,21 @@
-use Rattle.std.proofs.Common.{◌≡◌, ◌∙◌, [], ◌∷◌, length, map, sym, ap, arith}
+use Rattle.std.proofs.Common.{◌≡◌, ◌∙◌, [], ◌∷◌, length, map, sym, subst, arith}
 use Rattle.std.proofs.lemmas.List.{length-map}
 use Rattle.sd_model_live.specs.Proxy.{all_of}
 use Rattle.sd_plan.specs.Entries.{node_view}
 use Rattle.sd_live.specs.Live.{nodes_of}
-use Rattle.sd_relay.proofs.PostLemmas.{fresh_passes}
+use Rattle.sd_relay.specs.Owns.{IsHubFor}
 use Rattle.sd_relay.proofs.room.RelayRoom.open.Goals as goal
 
 pub returns-clause-room : goal.returns-clause-room
 returns-clause-room g c =
-    let cell = c.in_ok-cell.ensures in
+    let room = c.in_ok-open_hub.field-0 in
+    let hub = c.in_ok-open_hub.ensures in
     let rooms = c.in_ok-open_rooms.ensures in
     let posts = c.in_ok-with_capacity.ensures in
     let ends = c.in_ok-with_capacity-2.ensures in
-    let opened : nodes_of c.in_ok-cell.cell ≡ length (map node_view c.args.nodes.now) = omega (arith, cell.nodes, length-map c.args.nodes.now node_view, c.requires.nodes.1) in
-    let count = sym cell.nodes ∙ opened in
+    let opened : nodes_of room.cell ≡ length (map node_view c.args.nodes.now) = omega (arith, hub.cell, length-map c.args.nodes.now node_view, c.requires.nodes.1) in
     record {
-      cell = opened;
-      checker = cell.checker.0;
-      first = cell.checker.1 ∙ ap (λ n. all_of n ∷ []) count;
-      passes = fresh_passes c.in_ok-cell.cell (map node_view c.args.nodes.now) _ c.in_ok-cell.passes.receivers.items count cell.receivers;
-      pass_count = cell.count;
+      hub = subst (λ n. IsHubFor (all_of n ∷ []) n c.args.receivers room) (sym hub.cell ∙ opened) hub;
       few = omega arith;
       places = rooms.count ∙ c.from-count.ensures;
       place_each = rooms.each;

@@ -1,0 +1,5 @@
+pub mod NodeLines
+pub mod LookSteps
+pub mod DoneSteps
+pub mod PortLemmas
+pub mod AnswerSteps

@@ -1,0 +1,4 @@
+pub mod Commands
+pub mod Doing
+pub mod Answering
+pub mod Keeping

@@ -1,0 +1,5 @@
+pub mod Views
+pub mod Asks
+pub mod Behind
+pub mod BehindInside
+pub mod Shared

@@ -1,0 +1,5 @@
+mod AlongLemmas
+mod DoorLemmas
+mod ServeLemmas
+mod SessionLemmas
+mod TurnLemmas

@@ -1,0 +1,50 @@
+//! What lines come to.
+ghost use Rattle.std.specs.Prelude.{◌≡◌, ◌<◌};
+ghost use Rattle.sd_model_serve.specs.Talks.{FitsLine, Talk};
+ghost use Rattle.sd_talk.specs.Answers.{Answers};
+ghost use Rattle.sd_talk.specs.declared.answerer.Told.TheVariants.{Cut};
+
+use log::Log;
+use sd_outside::Sink;
+use std::sync::Wait;
+
+/// What a line came to.
+#[derive(Clone, Copy, Debug, PartialEq, Eq)]
+pub enum Told {
+    /// It was carried out, and replied to whole.
+    Whole,
+    /// It asks for the end of the session.
+    Quit,
+    /// Its reply was cut, since the output failed.
+    Cut,
+}
+
+/// What answers the lines of sessions, over what is shared.
+pub trait Answerer<S> {
+    /// What is known of a line that was carried out. No value of it is made.
+    type Exchange;
+
+    /// What its sessions are about.
+    ghost talk: { S → Talk Self.Exchange };
+
+    /// It may answer a line.
+    ghost can_answer: { S → Self → Type 0 };
+
+    /// By what it was and what it is, it has carried out a line so.
+    ghost has_answered: { S → Self.Exchange → Self → Self → Type 0 };
+
+    /// Carries out a line, which comes without its newline, and replies to it. Its reply is cut only where the output failed.
+    fn answer<O: Sink, R: Wait + Log>(
+        &mut self,
+        rt: &R,
+        shared: &S,
+        line: &[u8],
+        sink: &mut O,
+    ) -> Told
+        requires ready { can_answer shared.now self.old }
+        requires line { FitsLine line.now }
+        ensures ready { can_answer shared.now self.new }
+        ensures answered { (e : Self.Exchange) × Answers (talk shared.now) e line.now result (O.seen sink.old) (O.seen sink.new) × has_answered shared.now e self.old self.new }
+        ensures place { (O.seen sink.new).opened_at ≡ (O.seen sink.old).opened_at }
+        ensures cause { result ≡ Cut → 0 < (O.seen sink.new).faults };
+}
