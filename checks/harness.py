@@ -333,13 +333,14 @@ def serve(name, command=None, environment=None, streams=False, **settings):
 
 
 def relay(name, nodes, command=None, environment=None, receivers=2, **settings):
-    """A proxy before these nodes, whose receivers are all there, at a port that nobody had, and whose admin port is open, where it has one."""
+    """A proxy before these nodes, whose receivers are all there, at a port that nobody had, and whose other ports are open, where it has some."""
     for _ in range(TRIES):
         port = free_port()
         write_settings(name, {"port": port, "address": HERE, "receivers": receivers, **settings, "nodes": nodes})
         proxy = begin(name, "proxy", command, environment)
-        proxy.port, proxy.admin = port, settings.get("proxy_mgmt_port")
-        within(WAIT, lambda: proxy.has_ended() or len(sockets(port)) == receivers and (not proxy.admin or opens(proxy.admin)))
+        proxy.port, proxy.admin, proxy.lines = port, settings.get("proxy_mgmt_port"), settings.get("tcp_port")
+        doors = [it for it in (proxy.lines, proxy.admin) if it]
+        within(WAIT, lambda: proxy.has_ended() or len(sockets(port)) == receivers and all(opens(it) for it in doors))
         if not proxy.has_ended() or "open fault packets 0" not in proxy.err():
             break
     return proxy

@@ -1,5 +1,6 @@
 ghost use Rattle.std.specs.Prelude.{◌≡◌, ◌≤◌, length};
 ghost use Rattle.sd_model_record.specs.Admin.{words, deletion, health_word, command_named};
+ghost use Rattle.sd_model_record.specs.Replies.{health_after};
 ghost use Rattle.sd_key.specs.Kind.{kind_of};
 ghost use Rattle.sd_admin.specs.Command.{health_word_view, answer_view};
 
@@ -19,6 +20,19 @@ pub enum HealthWord {
     Down,
     /// Whether it is.
     Ask,
+}
+
+impl HealthWord {
+    /// How the health is after the word, where it was so before.
+    pub fn health_after(self, up: bool) -> bool
+        ensures { result ≡ health_after (health_word_view self) up }
+    {
+        match self {
+            HealthWord::Up => true,
+            HealthWord::Down => false,
+            HealthWord::Ask => up,
+        }
+    }
 }
 
 /// What a line asks for.

@@ -14,4 +14,5 @@ mod words;
 pub use command::{AdminFault, Command, HealthWord, health_word};
 pub use names::NameList;
 pub use reply::{Reply, write_reply};
+pub use reply_lines::end_line;
 pub use words::{Word, first_word};

@@ -37,7 +37,7 @@ fn alone(line: ReplyLine, place: usize) -> Option<ReplyLine>
 }
 
 /// The line of the end of a reply at a place.
-pub(crate) fn end_line(place: usize) -> Option<ReplyLine>
+pub fn end_line(place: usize) -> Option<ReplyLine>
     ensures { option_map (λ l. l.items) result ≡ slice_get end_lines place }
 {
     match place {

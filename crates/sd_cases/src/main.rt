@@ -14,6 +14,7 @@ mod tables;
 mod timers;
 mod values;
 
+use crate::rings::Asked;
 use sd_case::{Answer, Refusal, answer_cases};
 use std::alloc::Global;
 use std::io;
@@ -23,7 +24,10 @@ fn call(alloc: Global, words: &[&str], out: &mut Answer) -> Result<(), Refusal> 
     match words {
         ["nodes", nodes] => rings::nodes(alloc, nodes, out),
         ["owners", nodes, cache, ups, keys @ ..] => {
-            rings::owners(alloc, nodes, cache, ups, keys, out)
+            rings::owners(alloc, nodes, cache, ups, Asked::Keys, keys, out)
+        }
+        ["name_owners", nodes, cache, ups, names @ ..] => {
+            rings::owners(alloc, nodes, cache, ups, Asked::Names, names, out)
         }
         [places, calls @ ..] if let Ok(places) = places.parse::<u32>() => {
             tables::calls_of(alloc, places, calls, out)

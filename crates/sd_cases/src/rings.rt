@@ -1,8 +1,16 @@
 use sd_case::{Answer, Refusal, bytes_of, key_of, number};
+use sd_key::KeyFault;
 use sd_outside::Name;
 use sd_plan::Node;
 use sd_ring::Ring;
 use std::alloc::Global;
+
+/// What a ring is asked for the owners of.
+#[derive(Clone, Copy)]
+pub enum Asked {
+    Keys,
+    Names,
+}
 
 /// `nodes NODES`: the nodes of a ring.
 pub fn nodes(alloc: Global, nodes: &str, out: &mut Answer) -> Result<(), Refusal> {
@@ -11,17 +19,19 @@ pub fn nodes(alloc: Global, nodes: &str, out: &mut Answer) -> Result<(), Refusal
     Ok(())
 }
 
-/// `owners NODES CACHE UPS KEY..`: under each set of nodes that are up, the owner of each key.
+/// `owners NODES CACHE UPS KEY..`, and `name_owners NODES CACHE UPS NAME..`: under each set of nodes that are up, the owner of each
+/// key, or of each name's key.
 pub fn owners(
     alloc: Global,
     nodes: &str,
     cache: &str,
     ups: &str,
-    keys: &[&str],
+    asked: Asked,
+    words: &[&str],
     out: &mut Answer,
 ) -> Result<(), Refusal> {
     let mut ring = ring_of(alloc, nodes, cache)?;
-    show_owners(alloc, &mut ring, ups, keys, out)
+    show_owners(alloc, &mut ring, ups, asked, words, out)
 }
 
 /// The ring of nodes that a word writes, with a cache of so many keys.
@@ -72,37 +82,51 @@ fn show_nodes(nodes: &[Node], out: &mut Answer) {
     }
 }
 
-/// Appends a line for each set of nodes that are up, with the owner of each key under it.
+/// Appends a line for each set of nodes that are up, with the owner of each key or name under it.
 fn show_owners(
     alloc: Global,
     ring: &mut Ring,
     ups: &str,
-    keys: &[&str],
+    asked: Asked,
+    words: &[&str],
     out: &mut Answer,
 ) -> Result<(), Refusal> {
     for up in ups.split(',') {
         out.step(up);
-        show_line(alloc, ring, number::<u64>(up)?, keys, out)?;
+        show_line(alloc, ring, number::<u64>(up)?, asked, words, out)?;
     }
     Ok(())
 }
 
-/// Appends the owner of each key.
+/// Appends the owner of each key or name.
 fn show_line(
     alloc: Global,
     ring: &mut Ring,
     up: u64,
-    keys: &[&str],
+    asked: Asked,
+    words: &[&str],
     out: &mut Answer,
 ) -> Result<(), Refusal> {
-    for (place, word) in keys.iter().enumerate() {
+    for (place, word) in words.iter().enumerate() {
         if place > 0 {
             out.text(" ");
         }
-        match ring.owner(&key_of(alloc, word)?, up) {
-            Some(node) => out.number(i128::from(node)),
-            None => out.text("-"),
+        match asked {
+            Asked::Keys => show_owner(ring.owner(&key_of(alloc, word)?, up), out),
+            Asked::Names => match ring.owner_of_name(&bytes_of(alloc, word)?, up) {
+                Ok(owner) => show_owner(owner, out),
+                Err(KeyFault::Empty) => out.text("empty"),
+                Err(KeyFault::Long { len }) => out.count("long:", len as u64),
+            },
         }
     }
     Ok(())
+}
+
+/// Appends the owner of a key, where it has one.
+fn show_owner(owner: Option<u8>, out: &mut Answer) {
+    match owner {
+        Some(node) => out.number(i128::from(node)),
+        None => out.text("-"),
+    }
 }

@@ -1,6 +1,6 @@
 //! Cases of the proxy: where lines go, what a run over objects in memory sends and counts, and what is done with the set of nodes
 //! that are up, by one thread or by several side by side. Each line is printed with what comes of it, which is the same whatever
-//! the order of the threads. It reads `route`, `proxy`, `cell`, `looks`, `says`, `check` or `part`, with arguments.
+//! the order of the threads. It reads `route`, `proxy`, `lines`, `cell`, `looks`, `says`, `check` or `part`, with arguments.
 #![tactic(auto)]
 
 mod checks;
@@ -16,6 +16,7 @@ mod rings;
 mod routes;
 mod runs;
 mod steps;
+mod streams;
 
 use sd_case::{Answer, Refusal, answer_cases};
 use std::alloc::Global;
@@ -32,6 +33,9 @@ where
             routes::routes(alloc, nodes, cache, ups, lines, out)
         }
         ["proxy", nodes, cache, up, steps @ ..] => runs::run(alloc, nodes, cache, up, steps, out),
+        ["lines", nodes, cache, up, steps @ ..] => {
+            streams::lines(rt, alloc, nodes, cache, up, steps, out)
+        }
         ["cell", nodes, receivers, steps @ ..] => {
             steps::steps_on_cell(rt, alloc, nodes, receivers, steps, out)
         }

@@ -1,8 +1,11 @@
-//! The objects of a case by its steps: the source, the wires and the output of a run, the beat and the probe of a check.
-ghost use Rattle.std.specs.Prelude.{◌≡◌, ◌≤◌, All, IfOk, vec_len};
+//! The objects of a case by its steps: the source, the wires and the output of a run, the door of lines, the beat and the probe of a
+//! check.
+ghost use Rattle.std.specs.Prelude.{◌≡◌, ◌<◌, ◌≤◌, All, IfOk, false, vec_len};
+ghost use Rattle.sd_memory.specs.MemDoor.{seen_of as door_seen};
+ghost use Rattle.sd_memory.specs.MemSessions.{HasNoFaults};
 
 use sd_case::{Refusal, bytes_of, number};
-use sd_memory::{MemBeat, MemDatagrams, MemProbe, MemSink, MemWire};
+use sd_memory::{MemBeat, MemDatagrams, MemDoor, MemProbe, MemSink, MemSource, MemWire};
 use sd_proxy::Waiting;
 use std::alloc::Global;
 
@@ -102,6 +105,52 @@ pub fn waiting_of(alloc: Global, nodes: usize, steps: &[&str]) -> Result<Vec<Wai
         None => 0,
     };
     Ok(Waiting::for_nodes(alloc, nodes, batch)?)
+}
+
+/// How many bytes a read of a session gives at most, as the step `read=BYTES` says, where there is one. It isn't 0.
+fn most_read(steps: &[&str]) -> Result<usize, Refusal>
+    ensures { IfOk result (λ most. 0 < most) }
+{
+    match last_value(steps, "read") {
+        Some(value) => match number(value)? {
+            0 => Err(Refusal::Condition),
+            most => Ok(most),
+        },
+        None => Ok(MOST_BYTES),
+    }
+}
+
+/// The session of a text. Its reads of the numbers of `fail_read=NUMBER` fail.
+fn session_of(alloc: Global, text: &str, steps: &[&str]) -> Result<(MemSource, MemSink), Refusal>
+    ensures { IfOk result HasNoFaults }
+{
+    let mut source = MemSource::of(bytes_of(alloc, text)?);
+    source.most = most_read(steps)?;
+    source.fail_call = numbers_in(alloc, steps, "fail_read")?;
+    Ok((source, MemSink::open(alloc, 0)?))
+}
+
+fn sessions_of(alloc: Global, steps: &[&str]) -> Result<Vec<(MemSource, MemSink)>, Refusal>
+    ensures { IfOk result (λ sessions. All HasNoFaults sessions.items) }
+{
+    let mut sessions = Vec::new(alloc);
+    for step in steps {
+        let Some(text) = value_in(step, "session") else {
+            continue;
+        };
+        sessions.push(session_of(alloc, text, steps)?)?;
+    }
+    Ok(sessions)
+}
+
+/// The door of the sessions `session=TEXT`, whose calls of the numbers of `fail_next=NUMBER` fail.
+pub fn door_of(alloc: Global, steps: &[&str]) -> Result<MemDoor, Refusal>
+    ensures none_out { IfOk result (λ door. (door_seen door).is_out ≡ false) }
+    ensures turns { IfOk result (λ door. (door_seen door).turns ≡ 0) }
+{
+    let mut door = MemDoor::open(sessions_of(alloc, steps)?)?;
+    door.fail_call = numbers_in(alloc, steps, "fail_next")?;
+    Ok(door)
 }
 
 /// The beat of the ticks `tick=SECOND`, whose calls of the numbers `fail_tick=NUMBER` fail.

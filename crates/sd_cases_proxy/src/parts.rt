@@ -182,7 +182,8 @@ pub fn part<R: Wait>(
     Ok(())
 }
 
-fn show_totals(totals: ProxyTotals, out: &mut Answer) {
+/// Appends totals.
+pub fn show_totals(totals: ProxyTotals, out: &mut Answer) {
     out.count("packets ", totals.packets);
     out.count(", lines ", totals.lines);
     out.count(", bad ", totals.bad);
@@ -203,7 +204,7 @@ fn show_facts(facts: ProxyFacts, out: &mut Answer) {
 }
 
 /// Appends what a wire has, unless it has no packet.
-fn show_wire(place: usize, wire: &MemWire, out: &mut Answer) {
+pub fn show_wire(place: usize, wire: &MemWire, out: &mut Answer) {
     if wire.packets() == 0 {
         return;
     }

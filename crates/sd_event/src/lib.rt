@@ -16,7 +16,7 @@ pub use links::{
 };
 pub use parts::{client_let_go, deleted, flush_is_late, health_set};
 pub use runs::{
-    ProxyParts, ServerParts, SettingRefused, proxy_started, refused, refused_setting, refused_toml,
-    refused_with, server_started, stopped,
+    Places, ProxyParts, ServerParts, SettingRefused, proxy_started, refused, refused_setting,
+    refused_toml, refused_with, server_started, stopped,
 };
 pub use samples::{Full, bad_line, samples_dropped};

@@ -65,15 +65,36 @@ fn visit_number<V: VisitSource>(visitor: &mut V, key: &str, number: u32) -> Resu
     visitor.visit_pair(key, value)
 }
 
-/// What a server has open, and how large it is: shards, and rows and entries of each.
+/// Where a server or a proxy listens: for datagrams and lines over TCP at one address, and for admin sessions at another.
 #[derive(Clone, Copy, Debug)]
-pub struct ServerParts<'a> {
-    pub version: &'a str,
+pub struct Places<'a> {
     pub address: &'a [u8],
     pub port: u32,
     pub tcp_port: Option<u32>,
     pub mgmt_address: &'a [u8],
-    pub mgmt_port: u32,
+    pub mgmt_port: Option<u32>,
+}
+
+impl Source for Places<'_> {
+    fn visit<V: VisitSource>(&self, visitor: &mut V) -> Result<(), Error> {
+        visit_bytes(visitor, "address", self.address)?;
+        visit_number(visitor, "port", self.port)?;
+        if let Some(port) = self.tcp_port {
+            visit_number(visitor, "tcp_port", port)?;
+        }
+        if let Some(port) = self.mgmt_port {
+            visit_bytes(visitor, "mgmt_address", self.mgmt_address)?;
+            visit_number(visitor, "mgmt_port", port)?;
+        }
+        Ok(())
+    }
+}
+
+/// What a server has open, and how large it is: shards, and rows and entries of each.
+#[derive(Clone, Copy, Debug)]
+pub struct ServerParts<'a> {
+    pub version: &'a str,
+    pub places: Places<'a>,
     pub backends: &'a str,
     pub shards: u32,
     pub rows: u32,
@@ -82,16 +103,6 @@ pub struct ServerParts<'a> {
 }
 
 impl ServerParts<'_> {
-    fn visit_places<V: VisitSource>(&self, visitor: &mut V) -> Result<(), Error> {
-        visit_bytes(visitor, "address", self.address)?;
-        visit_number(visitor, "port", self.port)?;
-        if let Some(port) = self.tcp_port {
-            visit_number(visitor, "tcp_port", port)?;
-        }
-        visit_bytes(visitor, "mgmt_address", self.mgmt_address)?;
-        visit_number(visitor, "mgmt_port", self.mgmt_port)
-    }
-
     fn visit_sizes<V: VisitSource>(&self, visitor: &mut V) -> Result<(), Error> {
         visit_number(visitor, "shards", self.shards)?;
         visit_number(visitor, "rows", self.rows)?;
@@ -104,7 +115,7 @@ impl Source for ServerParts<'_> {
     fn visit<V: VisitSource>(&self, visitor: &mut V) -> Result<(), Error> {
         visit_text(visitor, "form", "serve")?;
         visit_text(visitor, "version", self.version)?;
-        self.visit_places(visitor)?;
+        self.places.visit(visitor)?;
         visit_text(visitor, "backends", self.backends)?;
         self.visit_sizes(visitor)
     }
@@ -119,8 +130,7 @@ pub fn server_started<L: Log>(log: &L, parts: &ServerParts<'_>) {
 #[derive(Clone, Copy, Debug)]
 pub struct ProxyParts<'a> {
     pub version: &'a str,
-    pub address: &'a [u8],
-    pub port: u32,
+    pub places: Places<'a>,
     pub nodes: u32,
     pub receivers: u32,
 }
@@ -129,8 +139,7 @@ impl Source for ProxyParts<'_> {
     fn visit<V: VisitSource>(&self, visitor: &mut V) -> Result<(), Error> {
         visit_text(visitor, "form", "proxy")?;
         visit_text(visitor, "version", self.version)?;
-        visit_bytes(visitor, "address", self.address)?;
-        visit_number(visitor, "port", self.port)?;
+        self.places.visit(visitor)?;
         visit_number(visitor, "nodes", self.nodes)?;
         visit_number(visitor, "receivers", self.receivers)
     }

@@ -1,5 +1,5 @@
 -- How a call answers that is asked for the proxy, where nothing hinders it, and what its answers say of its objects.
-use Rattle.std.proofs.Common.{◌≡◌, ◌⊎◌, ℕ, ◌+◌, List, [], ◌∷◌, length, map, drop, refl, sym, ap, subst, ◌∙◌, Option, Some, None, Ok, Err, inl, inr, true, arith}
+use Rattle.std.proofs.Common.{◌≡◌, ◌⊎◌, ℕ, ◌+◌, ◌*◌, List, [], ◌∷◌, ◌++◌, length, map, take, drop, refl, sym, ap, subst, ◌∙◌, Option, Some, None, Ok, Err, inl, inr, true, arith}
 use Rattle.std.specs.Prelude.{min}
 use Rattle.std.specs.List.{AllByRecursion, list_any}
 use Rattle.std.proofs.lemmas.List.{length-map}
@@ -14,9 +14,9 @@ use Rattle.sd_model_call.specs.Words.{Form, Proxy, form}
 use Rattle.sd_model_call.specs.Opening.{World, Opening, Part, OfSettings, OfScript, OfSource, OfBeat, OfWire, OfGraphite, OfConsole, OfDoor, OfStreams, IsAccepted, IsFlawed, numbered, repeated, settled, source_at}
 use Rattle.sd_model_call.specs.Call.{Answer, Done, NoMemory, NoForm, Misset, BadScript, NotOpened, NotRead, NotWritten, Worn, WritesTotals}
 use Rattle.sd_model_call.specs.Completeness.{IsBlocked, IsWhole}
-use Rattle.sd_model_call.specs.Server.{is_worn, source_openings}
+use Rattle.sd_model_call.specs.Server.{has_streams, is_worn, source_openings, stream_openings}
 use Rattle.sd_model_call.specs.ServerCompleteness.{AsksFor, HasFaultOf, SourceTookMost, AreRelaysSpent, IsBesideProxy, IsOpenedToRelay, IsProxyCauseOf, IsRelayed, IsUnhinderedProxy, NoneBesideFailed, OneLoopTookMost}
-use Rattle.sd_model_call.specs.Proxy.{AnswersProxy, HasProxied, check_interval, IsUnfit, ProxyAccounts, node_place, port_openings, proxy_answer, proxy_begun, proxy_flaw, proxy_openings, relay_openings, relay_text}
+use Rattle.sd_model_call.specs.Proxy.{AnswersProxy, HasProxied, check_interval, IsUnfit, ProxyAccounts, line_readers, node_place, port_openings, proxy_answer, proxy_begun, proxy_flaw, proxy_openings, relay_openings, relay_text}
 use Rattle.sd_model_call.proofs.BegunLemmas.{Same, all_numbered, accepted_so, at_same, has_flaw, none_failed, not_begun, not_taken, same_start, uncut}
 use Rattle.sd_model_call.proofs.LoopEnds.{AreEnded, ComesFrom, OneSourceTookMost, all_done, beat_spent, comes_from, worn_one}
 use Rattle.sd_model_call.proofs.Openings.{all_append, all_where}
@@ -24,12 +24,14 @@ use Rattle.sd_model_call.proofs.Openings.{all_append, all_where}
 all_relayed : (s : Settings) → AllByRecursion (λ (o : Opening). IsOpenedToRelay o.part) (proxy_openings s)
 all_relayed s =
     let opened : Opening → Type 0 = λ o. IsOpenedToRelay o.part in
+    let lines : Opening = record { part = OfStreams; place = Host s.addresses.address s.transport.tcp_port } in
     let door : Opening = record { part = OfDoor; place = Host s.addresses.mgmt_address s.transport.proxy_mgmt_port } in
-    all_append opened (relay_openings s) (port_openings s)
-    (all_append opened (source_openings s) (numbered OfWire 0 (repeated s.sizes.receivers (map node_place s.lists.nodes)))
+    let wires = repeated (s.sizes.receivers + line_readers s) (map node_place s.lists.nodes) in
+    all_append opened (relay_openings s) (stream_openings s ++ port_openings s)
+    (all_append opened (source_openings s) (numbered OfWire 0 wires)
     (all_numbered IsOpenedToRelay OfSource (λ i. tt) 0 (repeated s.sizes.receivers (Datagrams s.addresses.address s.server.port s.transport.receive_buffer ∷ [])))
-    (all_numbered IsOpenedToRelay OfWire (λ i. tt) 0 (repeated s.sizes.receivers (map node_place s.lists.nodes))))
-    (all_where opened (has_port s) door (λ on. tt))
+    (all_numbered IsOpenedToRelay OfWire (λ i. tt) 0 wires))
+    (all_append opened (stream_openings s) (port_openings s) (all_where opened (has_streams s) lines (λ on. tt)) (all_where opened (has_port s) door (λ on. tt)))
 
 -- the loops of receivers over their sources
 looped : (most : ℕ) (nodes : List Node) (rs : List Relay) (ss ns ws wn : List Object) → AreRelays most nodes rs ss ns ws wn → AreEnded 0 0 (map (λ r. r.ended) rs) ss ns
@@ -69,7 +71,9 @@ module _ (name : List ℕ) (answer : Answer) (old new : World) (h : HasProxied n
   turns = same_start (λ o. o.turns) (λ place o. refl) (λ told o. refl) (λ interval o. refl) (proxy_openings h.values) (check_interval h.values) h.values h.settings name old h.taken
 
   loops : AreEnded 0 0 received start.served.sources new.served.sources
-  loops = looped h.values.transport.batch_bytes h.values.lists.nodes h.relays start.served.sources new.served.sources start.seen.wires new.seen.wires h.theorem.are
+  loops =
+      let run = length h.relays * length h.values.lists.nodes in
+      looped h.values.transport.batch_bytes h.values.lists.nodes h.relays start.served.sources new.served.sources (take run start.seen.wires) (take run new.seen.wires) h.theorem.are
 
   ticked : EndsFlusher 0 h.checker_ended start.served.beat new.served.beat (length h.checks)
   ticked = as_flusher (length h.checks) h.checker_ended start.served.beat new.served.beat h.theorem.checked.ends
@@ -112,7 +116,7 @@ module _ (name : List ℕ) (answer : Answer) (old new : World) (h : HasProxied n
     by_uncut rose (inl is) = subst (λ (a : Answer). IsProxyCauseOf name a old new) (sym is) rose
     by_uncut rose (inr is) = ended is
 
-    by_written : WritesTotals (relay_text h.values.lists.nodes h.relays h.checks) (proxy_answer h.relays h.checker_ended) answer old.seen.output new.seen.output → IsProxyCauseOf name answer old new
+    by_written : WritesTotals (relay_text h.values.lists.nodes (h.relays ++ h.lined) h.checks) (proxy_answer h.relays h.checker_ended) answer old.seen.output new.seen.output → IsProxyCauseOf name answer old new
     by_written (inl (is, text)) = ended (sym is)
     by_written (inr (is, failed)) = by_uncut failed.rose (uncut (proxy_answer h.relays h.checker_ended) answer is)
 
@@ -163,7 +167,7 @@ module _ (words : List (List ℕ)) (bytes : List ℕ) (old new : World) (asks : 
       by_cause (NotOpened OfGraphite) h = absurd h.0
       by_cause (NotOpened OfConsole) h = absurd h.0
       by_cause (NotOpened OfDoor) h = inr (OfDoor, tt, refl)
-      by_cause (NotOpened OfStreams) h = absurd h.0
+      by_cause (NotOpened OfStreams) h = inr (OfStreams, tt, refl)
       by_cause (NotRead part) h = absurd (none_failed old new steady.runs part h.0 h.1)
       by_cause NotWritten h = absurd (steady.runs.output h)
       by_cause (Worn turns) h = by_loop h.1 where
@@ -178,13 +182,13 @@ module _ (words : List (List ℕ)) (bytes : List ℕ) (old new : World) (asks : 
         not_beside : (part : Part) → IsBesideProxy part → HasFaultOf part old new → ⊥
         not_beside (OfWire i) beside rose = none.wires i rose
         not_beside OfDoor beside rose = none.door rose
+        not_beside OfStreams beside rose = none.streams rose
         not_beside OfSettings beside rose = absurd beside
         not_beside OfScript beside rose = absurd beside
         not_beside (OfSource i) beside rose = absurd beside
         not_beside OfBeat beside rose = absurd beside
         not_beside OfGraphite beside rose = absurd beside
         not_beside OfConsole beside rose = absurd beside
-        not_beside OfStreams beside rose = absurd beside
 
         is_whole : (answer : Answer) → IsProxyCauseOf asks.name answer old new → IsRelayed answer → IsWhole Done answer
         is_whole answer h (inl done) = done

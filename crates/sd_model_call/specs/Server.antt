@@ -28,10 +28,14 @@ has_streams s = nat_lt 0 s.transport.tcp_port
 abbrev pub has_outlets : Settings → Bool
 has_outlets s = nat_lt 0 s.transport.outlets
 
+-- the door of streams, where it is used
+abbrev pub stream_openings : Settings → List Opening
+stream_openings s = opening_where (has_streams s) (record { part = OfStreams; place = Host s.addresses.address s.transport.tcp_port })
+
 -- the door of streams, where it is used, and the admin door, which comes last: where it is open, all parts of the server are
 abbrev pub door_openings : Settings → List Opening
 door_openings s =
-    opening_where (has_streams s) (record { part = OfStreams; place = Host s.addresses.address s.transport.tcp_port })
+    stream_openings s
     ++ record { part = OfDoor; place = Host s.addresses.mgmt_address s.server.mgmt_port }
     ∷ []
 

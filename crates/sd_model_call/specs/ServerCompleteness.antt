@@ -142,16 +142,18 @@ pub record IsUnhinderedProxy (old new : World) : Type 0 where
   pub runs : RunsFreely old new
   pub beat_uncapped : new.served.beat.turns < last_count
 
--- the wire of a node or the door of the port, whose faults never end a proxy that has begun
+-- the wire of a node, or a door, whose faults never end a proxy that has begun
 abbrev pub IsBesideProxy : Part → Type 0
 IsBesideProxy (OfWire i) = ⊤
 IsBesideProxy OfDoor = ⊤
+IsBesideProxy OfStreams = ⊤
 IsBesideProxy part = ⊥
 
 -- no fault was counted of one of them
 pub record NoneBesideFailed (old new : World) : Type 0 where
   pub wires : (i : ℕ) → ¬ Rose (wire_at i old.seen.wires).faults (wire_at i new.seen.wires).faults
   pub door : ¬ Rose old.served.door.faults new.served.door.faults
+  pub streams : ¬ Rose old.served.streams.faults new.served.streams.faults
 
 -- all was done, or no memory was left, or one of them couldn't be opened
 abbrev pub IsRelayed : Answer → Type 0
@@ -163,6 +165,7 @@ IsOpenedToRelay OfSettings = ⊤
 IsOpenedToRelay (OfSource i) = ⊤
 IsOpenedToRelay (OfWire i) = ⊤
 IsOpenedToRelay OfDoor = ⊤
+IsOpenedToRelay OfStreams = ⊤
 IsOpenedToRelay part = ⊥
 
 -- Settings were accepted, and the source of each receiver that they ask for, and the beat, have nothing left, where they tell what

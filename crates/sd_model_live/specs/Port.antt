@@ -6,11 +6,13 @@ use Rattle.sd_model_settings.specs.Entries.{Node}
 use Rattle.sd_model_settings.specs.Settings.{Settings}
 use Rattle.sd_model_ring.specs.Ring.{is_up}
 use Rattle.sd_model_outside.specs.Outside.{Object, HasFailedBehind}
-use Rattle.sd_model_record.specs.Admin.{HealthWord, Up, Down, Ask, UnknownWord, health_word, words}
+use Rattle.sd_model_record.specs.Admin.{HealthWord, Up, Down, UnknownWord, health_word, words}
 use Rattle.sd_model_record.specs.Replies.{Config, Fault, Health, end_lines, health_after, reply_text}
 use Rattle.sd_model_record.specs.Totals.{Total, totals_text}
 use Rattle.sd_model_serve.specs.Doors.{ServesDoor, Visit, ends_by_fault}
 use Rattle.sd_model_serve.specs.Talks.{Dialogue, HasTalked, Talk, lines_in}
+use Rattle.sd_model_serve.specs.Ends.{LoopEnd}
+use Rattle.sd_model_proxy.specs.LineRelays.{EndsServing}
 use Rattle.sd_model_live.specs.Desk.{HearsFacts, ProxyEvent, ProxyFacts, SaysHealth}
 
 -- A command: it is about the health; asks for the totals so far, for the nodes, or for the settings; or ends the session.
@@ -113,7 +115,8 @@ pub record IsPortVisit (s : Settings) (v : Visit) (d : Dialogue PortExchange) : 
   pub talked : HasTalked (port_talk s) d v.asking v.asking_now v.told v.told_now
   pub fault : v.is_fault ≡ ends_by_fault d.ended
 
--- The sessions of a proxy's port were served one after another, did this at its desk, and their looks at the nodes told these sets.
+-- The sessions of a proxy's port were served one after another until that ended so, did this at its desk, and their looks at the nodes
+-- told these sets.
 pub record ServesPort (s : Settings) (events : List ProxyEvent) (ups : List ℕ) (door door_now : Object) : Type 0 where
   pub visits : List Visit
   pub failures : ℕ
@@ -122,6 +125,8 @@ pub record ServesPort (s : Settings) (events : List ProxyEvent) (ups : List ℕ)
   pub went : AllZip (IsPortVisit s) visits dialogues
   pub did : events ≡ flat_map (λ d. flat_map line_events (lines_in d)) dialogues
   pub looked : ups ≡ flat_map (λ d. flat_map line_looks (lines_in d)) dialogues
+  pub ended : LoopEnd
+  pub ends : EndsServing ended door door_now
 
 -- whether a proxy has a port
 abbrev pub has_port : Settings → Bool

@@ -7,11 +7,10 @@ use Rattle.std.proofs.lemmas.List.{length-map}
 use Rattle.std.proofs.lemmas.List.Concat.{length-flat_map}
 use Rattle.std.proofs.lemmas.List.Sums.{length-filter, sum_by-append, sum_by-cons}
 use Rattle.sd_model_settings.specs.Entries.{Node}
-use Rattle.sd_model_text.specs.Lines.{lines}
 use Rattle.sd_model_record.specs.Desk.{counted, last_counted}
 use Rattle.sd_model_record.specs.WireSends.{WireSend, failed_among, packets_of}
 use Rattle.sd_model_record.specs.Totals.{Total, number_in}
-use Rattle.sd_model_proxy.specs.Batches.{AreBatched, Batch, Batched, add_totals, batches, lines_not_sent, lines_sent, no_totals, over_nodes, send_of, sums_of_totals, totals_by}
+use Rattle.sd_model_proxy.specs.Batches.{AreBatched, Batch, Batched, add_totals, batches, lines_not_sent, lines_sent, long_in, no_totals, over_nodes, send_of, sums_of_totals, totals_by}
 use Rattle.sd_model_proxy.specs.Routes.{Bad, Read, Route, To, Unowned, goes_to, is_bad, is_unowned, lines_to, route, routes_of}
 use Rattle.sd_model_proxy.proofs.BatchLemmas.{each-alone, packets-lines}
 use Rattle.sd_model_proxy.proofs.RouteLemmas.{goes-node}
@@ -89,7 +88,7 @@ routes_in nodes up = map (λ line. route line nodes up)
 
 all_inside : (nodes : List Node) (reads : List Read) → AllByRecursion (IsInside (length nodes)) (routes_of nodes reads)
 all_inside nodes [] = tt
-all_inside nodes (r ∷ reads) = before (lines r.datagram) (routes_of nodes reads) (all_inside nodes reads) where
+all_inside nodes (r ∷ reads) = before r.lines (routes_of nodes reads) (all_inside nodes reads) where
   before : (ls : List (List ℕ)) (routes : List Route) → AllByRecursion (IsInside (length nodes)) routes → AllByRecursion (IsInside (length nodes)) (routes_in nodes r.up ls ++ routes)
   before [] routes all = all
   before (l ∷ ls) routes all = (goes-node l nodes r.up, before ls routes all)
@@ -104,8 +103,8 @@ many-to : (nodes : List Node) (place : ℕ) (reads : List Read) → length (flat
 many-to nodes place [] = refl
 many-to nodes place (r ∷ reads) =
     length-append (lines_to nodes place r) (flat_map (lines_to nodes place) reads)
-    ∙ (λ i. (length-filter (λ l. goes_to place (route l nodes r.up)) (lines r.datagram) ∙ sym (count-map (goes_to place) (λ l. route l nodes r.up) (lines r.datagram))) i + many-to nodes place reads i)
-    ∙ sym (sum_by-append (λ x. cond (goes_to place x) 1 0) (routes_in nodes r.up (lines r.datagram)) (routes_of nodes reads))
+    ∙ (λ i. (length-filter (λ l. goes_to place (route l nodes r.up)) r.lines ∙ sym (count-map (goes_to place) (λ l. route l nodes r.up) r.lines)) i + many-to nodes place reads i)
+    ∙ sym (sum_by-append (λ x. cond (goes_to place x) 1 0) (routes_in nodes r.up r.lines) (routes_of nodes reads))
 
 -- each packet was sent or not, whole
 sent_or_not : (bs : List Batch) → length (flat_map (λ b. b.lines) bs) ≡ lines_sent bs + lines_not_sent bs
@@ -124,7 +123,7 @@ all_packed most nodes reads batched are =
     (λ place. sym (many-to nodes place reads) ∙ ap length (sym (packets-lines most nodes reads batched are place)) ∙ sent_or_not (batched place)) places
 
 pub all_fates : (most : ℕ) (nodes : List Node) (reads : List Read) (batched : Batched) → AreBatched most nodes reads batched
-    → length (routes_of nodes reads) ≡ count_by is_bad (routes_of nodes reads) + over_nodes nodes batched lines_sent + count_by is_unowned (routes_of nodes reads) + over_nodes nodes batched lines_not_sent
+    → length (routes_of nodes reads) + long_in reads ≡ (count_by is_bad (routes_of nodes reads) + long_in reads) + over_nodes nodes batched lines_sent + count_by is_unowned (routes_of nodes reads) + over_nodes nodes batched lines_not_sent
 all_fates most nodes reads batched are = omega (arith, all_ends (routes_of nodes reads), all_packed most nodes reads batched are)
 
 -- a number of lines that hasn't reached the last count is the sum of its parts
@@ -136,12 +135,12 @@ over-behind : (number : List Batch → ℕ) → ((xs ys : List Batch) → number
 over-behind number adds nodes first second = both_sums (λ place. number (first place)) (λ place. number (second place)) (λ place. number (first place ++ second place)) (λ place. adds (first place) (second place)) (range_with_len 0 (length nodes))
 
 -- what lines and packets count for under a name, and what others behind them do
-number_in-lines : (nodes : List Node) (m n : ℕ) (xs ys : List Route) (first second : Batched) (name : List ℕ)
-    → number_in (totals_by nodes (m + n) (xs ++ ys) (behind first second)) name ≡ number_in (totals_by nodes m xs first) name + number_in (totals_by nodes n ys second) name
-number_in-lines nodes m n xs ys first second name =
+number_in-lines : (nodes : List Node) (m n j k : ℕ) (xs ys : List Route) (first second : Batched) (name : List ℕ)
+    → number_in (totals_by nodes (m + n) (j + k) (xs ++ ys) (behind first second)) name ≡ number_in (totals_by nodes m j xs first) name + number_in (totals_by nodes n k ys second) name
+number_in-lines nodes m n j k xs ys first second name =
     both _ _ _ _ _ _ (bytes_eq (codes "packets") name) refl
-    (both _ _ _ _ _ _ (bytes_eq (codes "lines") name) (length-append xs ys)
-    (both _ _ _ _ _ _ (bytes_eq (codes "bad") name) (sum_by-append (λ x. cond (is_bad x) 1 0) xs ys)
+    (both _ _ _ _ _ _ (bytes_eq (codes "lines") name) (omega (arith, length-append xs ys))
+    (both _ _ _ _ _ _ (bytes_eq (codes "bad") name) (omega (arith, sum_by-append (λ x. cond (is_bad x) 1 0) xs ys))
     (both _ _ _ _ _ _ (bytes_eq (codes "sent") name) (over-behind lines_sent (sum_by-append (λ (b : Batch). cond b.is_failed 0 (length b.lines))) nodes first second)
     (both _ _ _ _ _ _ (bytes_eq (codes "unowned") name) (sum_by-append (λ x. cond (is_unowned x) 1 0) xs ys)
     (both _ _ _ _ _ _ (bytes_eq (codes "send_faults") name) (over-behind lines_not_sent (sum_by-append (λ (b : Batch). cond b.is_failed (length b.lines) 0)) nodes first second) refl)))))
@@ -159,9 +158,10 @@ add-twice one other all sum (t ∷ ts) = λ i. (t.0, next (number_in one t.0) (n
     next a b c is = omega (arith, is)
 
 -- totals of lines and packets behind totals of others
-pub add_totals-next : (nodes : List Node) (m n : ℕ) (xs ys : List Route) (first second : Batched) (t : List Total)
-    → add_totals (add_totals t (totals_by nodes m xs first)) (totals_by nodes n ys second) ≡ add_totals t (totals_by nodes (m + n) (xs ++ ys) (behind first second))
-add_totals-next nodes m n xs ys first second = add-twice (totals_by nodes m xs first) (totals_by nodes n ys second) (totals_by nodes (m + n) (xs ++ ys) (behind first second)) (number_in-lines nodes m n xs ys first second)
+pub add_totals-next : (nodes : List Node) (m n j k : ℕ) (xs ys : List Route) (first second : Batched) (t : List Total)
+    → add_totals (add_totals t (totals_by nodes m j xs first)) (totals_by nodes n k ys second) ≡ add_totals t (totals_by nodes (m + n) (j + k) (xs ++ ys) (behind first second))
+add_totals-next nodes m n j k xs ys first second =
+    add-twice (totals_by nodes m j xs first) (totals_by nodes n k ys second) (totals_by nodes (m + n) (j + k) (xs ++ ys) (behind first second)) (number_in-lines nodes m n j k xs ys first second)
 
 -- a number of the packets to one node
 pub over-only : (number : List Batch → ℕ) → number [] ≡ 0 → (nodes : List Node) (place : ℕ) (bs : List Batch) → place < length nodes → over_nodes nodes (only place bs) number ≡ number bs

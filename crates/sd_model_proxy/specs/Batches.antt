@@ -1,6 +1,6 @@
 -- Which lines go together in one packet to the node in a place, which sends that makes on the wires of the nodes, and what lines
 -- count for.
-use Rattle.std.specs.Prelude.{◌≡◌, ℕ, Bool, nat_le, if◌then◌else◌, List, [], ◌∷◌, ◌++◌, length, map, flat_map, codes, count_by, sum_by}
+use Rattle.std.specs.Prelude.{◌≡◌, ℕ, ◌+◌, Bool, nat_le, if◌then◌else◌, List, [], ◌∷◌, ◌++◌, length, map, flat_map, codes, count_by, sum_by}
 use Rattle.std.specs.List.{join_with_byte, range_with_len}
 use Rattle.sd_model_settings.specs.Entries.{Node}
 use Rattle.sd_model_outside.specs.Outside.{Object}
@@ -38,7 +38,7 @@ pub record Batch : Type 0 where
 abbrev pub Batched : Type 0
 Batched = ℕ → List Batch
 
--- the packets to each node are those of the lines of each datagram that go there, in order
+-- the packets to each node are those of the lines that go there, of each read, in order
 abbrev pub AreBatched : (most : ℕ) → List Node → List Read → Batched → Type 0
 AreBatched most nodes reads batched =
     (place : ℕ) → map (λ b. b.lines) (batched place) ≡ flat_map (λ r. batches most (lines_to nodes place r)) reads
@@ -63,24 +63,28 @@ lines_not_sent batches = sum_by (λ b. if b.is_failed then length b.lines else 0
 abbrev pub over_nodes : List Node → Batched → (List Batch → ℕ) → ℕ
 over_nodes nodes batched number = sum_by (λ place. number (batched place)) (range_with_len 0 (length nodes))
 
--- what so many datagrams, lines that went so, and packets count for
-abbrev pub totals_by : List Node → (packets : ℕ) → List Route → Batched → List Total
-totals_by nodes packets routes batched =
+-- what so many datagrams, so many lines that were too long, lines that went so, and packets count for
+abbrev pub totals_by : List Node → (packets long : ℕ) → List Route → Batched → List Total
+totals_by nodes packets long routes batched =
     (codes "packets", packets)
-    ∷ (codes "lines", length routes)
-    ∷ (codes "bad", count_by is_bad routes)
+    ∷ (codes "lines", length routes + long)
+    ∷ (codes "bad", count_by is_bad routes + long)
     ∷ (codes "sent", over_nodes nodes batched lines_sent)
     ∷ (codes "unowned", count_by is_unowned routes)
     ∷ (codes "send_faults", over_nodes nodes batched lines_not_sent)
     ∷ []
 
--- what datagrams and the packets of their lines count for
-abbrev pub totals_of : List Node → List Read → Batched → List Total
-totals_of nodes reads batched = totals_by nodes (length reads) (routes_of nodes reads) batched
+-- how many lines were too long
+abbrev pub long_in : List Read → ℕ
+long_in reads = sum_by (λ r. r.long) reads
+
+-- what so many datagrams, and reads with the packets of their lines, count for
+abbrev pub totals_of : List Node → (packets : ℕ) → List Read → Batched → List Total
+totals_of nodes packets reads batched = totals_by nodes packets (long_in reads) (routes_of nodes reads) batched
 
 -- nothing was counted
 abbrev pub no_totals : List Total
-no_totals = totals_by [] 0 [] (λ place. [])
+no_totals = totals_by [] 0 0 [] (λ place. [])
 
 -- totals with others added, name by name, each number up to the last count
 abbrev pub add_totals : List Total → List Total → List Total

@@ -1,3 +1,4 @@
 pub mod Routes
 pub mod Batches
 pub mod Relays
+pub mod LineRelays

@@ -1,8 +1,8 @@
--- Where a line goes among the nodes that are up, and the datagrams that were read, each with the nodes that were up for its lines.
+-- Where a line goes among the nodes that are up, and the lines that were read together, with the nodes that were up for them.
 use Rattle.std.specs.Prelude.{◌≡◌, ℕ, ◌<◌, ◌==◌, Bool, true, false, List, length, map, flat_map, filter, Option, Some, None}
 use Rattle.std.specs.Option.{option_and_then}
 use Rattle.std.specs.Result.{result_ok}
-use Rattle.sd_model_text.specs.Lines.{lines, name_in_line}
+use Rattle.sd_model_text.specs.Lines.{name_in_line}
 use Rattle.sd_model_text.specs.Names.{clean}
 use Rattle.sd_model_settings.specs.Entries.{Node}
 use Rattle.sd_model_ring.specs.Ring.{is_up, owner}
@@ -46,18 +46,20 @@ abbrev pub is_unowned : Route → Bool
 is_unowned Unowned = true
 is_unowned goes = false
 
--- A datagram that was read, and the set of nodes that were up for all of its lines.
+-- Lines that were read together: those of a datagram, or those that one read of a stream ended; how many lines were too long besides;
+-- and the set of nodes that were up for all of them.
 pub record Read : Type 0 where
-  pub datagram : List ℕ
+  pub lines : List (List ℕ)
+  pub long : ℕ
   pub up : ℕ
 
--- where the lines of datagrams went, in order
+-- where the lines that were read went, in order
 abbrev pub routes_of : List Node → List Read → List Route
-routes_of nodes reads = flat_map (λ r. map (λ line. route line nodes r.up) (lines r.datagram)) reads
+routes_of nodes reads = flat_map (λ r. map (λ line. route line nodes r.up) r.lines) reads
 
--- the lines of a datagram that go to the node in a place, in order
+-- the lines read together that go to the node in a place, in order
 abbrev pub lines_to : List Node → ℕ → Read → List (List ℕ)
-lines_to nodes place r = filter (λ line. goes_to place (route line nodes r.up)) (lines r.datagram)
+lines_to nodes place r = filter (λ line. goes_to place (route line nodes r.up)) r.lines
 
 -- each of the nodes is up
 abbrev pub AreAllUp : List Node → ℕ → Type 0

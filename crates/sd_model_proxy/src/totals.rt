@@ -10,8 +10,8 @@ ghost use Rattle.sd_model_proxy.specs.Routes.{Read};
 /// Each line was bad, was sent, had no owner, or its packet's send failed. So the number of lines is the sum of these, in a
 /// receiver's totals too, where it hasn't reached the last count.
 pub fn lines_have_one_fate()
-    ensures lines { (most : ℕ) (nodes : List Node) (reads : List Read) (batched : Batched) → AreBatched most nodes reads batched
-        → (let n : List ℕ → ℕ = number_in (totals_of nodes reads batched) in
+    ensures lines { (most : ℕ) (nodes : List Node) (packets : ℕ) (reads : List Read) (batched : Batched) → AreBatched most nodes reads batched
+        → (let n : List ℕ → ℕ = number_in (totals_of nodes packets reads batched) in
         n (codes "lines") ≡ n (codes "bad") + n (codes "sent") + n (codes "unowned") + n (codes "send_faults")) }
     ensures totals { (most : ℕ) (nodes : List Node) (r : Relay) → AreBatched most nodes r.reads r.batched
         → (let n : List ℕ → ℕ = number_in (relay_totals nodes r) in

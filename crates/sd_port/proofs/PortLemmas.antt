@@ -8,7 +8,11 @@ use Rattle.sd_model_settings.specs.Settings.{Settings}
 use Rattle.sd_model_serve.specs.Doors.{Visit}
 use Rattle.sd_model_serve.specs.Talks.{Dialogue, lines_in}
 use Rattle.sd_model_live.specs.Port.{IsPortVisit, PortExchange, line_events, line_looks, port_talk}
-use Rattle.sd_talk.specs.Serving.{IsTalkOf, ServesTalks}
+use Rattle.sd_model_proxy.specs.LineRelays as model
+use Rattle.sd_outside.specs.declared.door.DoorEnd.{DoorEnd}
+use Rattle.sd_outside.specs.declared.door.DoorEnd.TheVariants.{End, Stopped, Worn}
+use Rattle.sd_proxy_desk.specs.Ends.{door_end_view}
+use Rattle.sd_talk.specs.Serving.{EndsServing, IsTalkOf, ServesTalks}
 use Rattle.sd_port.specs.Answering.{HasAnswered}
 use Rattle.sd_port.specs.Keeping.{KeepsPort}
 use Rattle.sd_port.specs.declared.answerer.PortAnswerer.{PortAnswerer}
@@ -26,6 +30,13 @@ port_visits s [] (d ∷ ds) all = absurd all
 port_visits s (v ∷ visits) [] all = absurd all
 port_visits s (v ∷ visits) (d ∷ ds) all = (record { talked = all.0.talked; fault = all.0.fault }, port_visits s visits ds all.1)
 
+-- how the serving of a talk's door ended is how that of a port's did
+ends_so : (ended : DoorEnd) (door door_now : Object) → EndsServing ended door door_now
+    → model.EndsServing (door_end_view ended) door door_now
+ends_so End door door_now ends = ends
+ends_so (Stopped rounds) door door_now ends = ends
+ends_so (Worn turns) door door_now ends = ends
+
 module _ (s : Settings) (old new : PortAnswerer) (door door_now : Object) (served : ServesTalks (port_talk s) HasAnswered old new door door_now) where
   all_lines : HasAnsweredAll (flat_map lines_in served.dialogues) old new
   all_lines = answered_all (flat_map lines_in served.dialogues) old new served.did
@@ -35,8 +46,8 @@ module _ (s : Settings) (old new : PortAnswerer) (door door_now : Object) (serve
   works_on = all_lines.works
 
   -- a port was kept
-  pub keeps : KeepsPort s old.own.now new.own.now door door_now
-  keeps = record {
+  pub keeps : (ended : DoorEnd) → EndsServing ended door door_now → KeepsPort s old.own.now new.own.now door door_now
+  keeps ended ends = record {
     events = flat_map line_events (flat_map lines_in served.dialogues);
     ups = flat_map line_looks (flat_map lines_in served.dialogues);
     served = record {
@@ -47,6 +58,8 @@ module _ (s : Settings) (old new : PortAnswerer) (door door_now : Object) (serve
       went = port_visits s served.visits served.dialogues served.went;
       did = by_dialogue line_events served.dialogues;
       looked = by_dialogue line_looks served.dialogues;
+      ended = door_end_view ended;
+      ends = ends_so ended door door_now ends;
     };
     done = all_lines.done;
   }

@@ -1,5 +1,4 @@
 //! What answers the lines of a port's sessions.
-use crate::exchange::PortExchange;
 use crate::line::answer_line;
 use crate::shared::PortShared;
 use log::Log;
@@ -15,11 +14,11 @@ pub struct PortAnswerer<'p> {
 }
 
 impl Answerer<PortShared<'_>> for PortAnswerer<'_> {
-    type Exchange = PortExchange;
-
-    ghost use Rattle.sd_model_live.specs.Port.{port_talk};
+    ghost use Rattle.sd_model_live.specs.Port.{PortExchange, port_talk};
     ghost use Rattle.sd_port.specs.Doing.{IsOwnOf};
     ghost use Rattle.sd_port.specs.Answering.{HasAnswered};
+
+    ghost Exchange = { PortExchange };
 
     ghost talk = { λ shared. port_talk shared.settings.now };
 

@@ -6,7 +6,6 @@
 
 mod answerer;
 mod command;
-mod exchange;
 mod keeping;
 mod line;
 mod node_lines;
@@ -15,6 +14,5 @@ mod shared;
 
 pub use answerer::PortAnswerer;
 pub use command::PortCommand;
-pub use exchange::PortExchange;
 pub use keeping::keep_port;
 pub use shared::PortShared;

@@ -1,10 +1,10 @@
-ghost use Rattle.std.specs.Prelude.{◌≡◌, ◌+◌, ◌≤◌, ◌++◌, ◌∷◌, length, map, slice_get, decimal};
-ghost use Rattle.std.specs.Option.{option_map};
+ghost use Rattle.std.specs.Prelude.{◌≡◌, ◌+◌, ◌≤◌, ◌++◌, ◌∷◌, length, map, decimal};
 ghost use Rattle.sd_model_ring.specs.Ring.{is_up};
 ghost use Rattle.sd_model_record.specs.Replies.{end_lines};
 ghost use Rattle.sd_model_live.specs.Port.{node_health_line, node_health_lines};
 ghost use Rattle.sd_plan.specs.Entries.{node_view};
 
+use sd_admin::end_line;
 use sd_config_text::{LineText, ReplyLine, push_text};
 use sd_decimal::{Line, write_whole};
 use sd_plan::Node;
@@ -49,19 +49,6 @@ fn node_line(up: u64, place: usize, node: &Node) -> ReplyLine
         push_text(b" down\n", &mut line);
     }
     line
-}
-
-/// The line of the end of a reply at a place.
-fn end_line(place: usize) -> Option<ReplyLine>
-    ensures { option_map (λ l. l.items) result ≡ slice_get end_lines place }
-{
-    let mut line = ReplyLine::new();
-    match place {
-        0 => push_text(b"END\n", &mut line),
-        1 => push_text(b"\n", &mut line),
-        _ => return None,
-    }
-    Some(line)
 }
 
 impl LineText for NodesReply<'_> {

@@ -2,16 +2,15 @@
 ghost use Rattle.std.specs.Prelude.{◌≡◌, ◌++◌, OnOk, OnErr};
 ghost use Rattle.std.specs.List.{concat};
 ghost use Rattle.sd_model_outside.specs.Outside.{HasFailedBehind, given};
-ghost use Rattle.sd_model_record.specs.Replies.{end_lines, health_after as health_left};
+ghost use Rattle.sd_model_record.specs.Replies.{end_lines};
 ghost use Rattle.sd_model_record.specs.Totals.{totals_text};
 ghost use Rattle.sd_model_live.specs.Port.{port_reply, totals_so_far};
-ghost use Rattle.sd_admin.specs.Command.{health_word_view};
 ghost use Rattle.sd_proxy_desk.specs.Views.{facts_view};
 ghost use Rattle.sd_port.specs.Commands.{answer_view};
 
 use crate::command::PortCommand;
 use crate::node_lines::NodesReply;
-use sd_admin::{AdminFault, HealthWord, Reply};
+use sd_admin::{AdminFault, Reply};
 use sd_config::Settings;
 use sd_config_text::write_lines;
 use sd_decimal::Line;
@@ -35,17 +34,6 @@ fn totals_reply(facts: &ProxyFacts) -> Line
     push_total(b"probe_faults", u128::from(facts.probe_faults), &mut text);
     text.try_extend_from_slice(b"END\n\n").unwrap();
     text
-}
-
-/// How the health is after a word, where it was so before.
-fn health_after(word: HealthWord, up: bool) -> bool
-    ensures { result ≡ health_left (health_word_view word) up }
-{
-    match word {
-        HealthWord::Up => true,
-        HealthWord::Down => false,
-        HealthWord::Ask => up,
-    }
 }
 
 /// What a line is answered from: the settings, what the desk told of the proxy before the line, and the set of the nodes that are up,
@@ -77,7 +65,7 @@ pub(crate) fn write_port_reply<O: Sink>(
     };
     match command {
         PortCommand::Health(word) => {
-            let up = health_after(word, basis.facts.up);
+            let up = word.health_after(basis.facts.up);
             write_lines(&Reply::Health { up }, output)
         }
         PortCommand::Totals => write_all(output, totals_reply(basis.facts).as_slice()),

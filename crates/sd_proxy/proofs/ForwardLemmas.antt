@@ -1,27 +1,34 @@
--- The lines of one datagram: those that were sent, those that wait, and what was counted.
-use Rattle.std.proofs.Common.{◌≡◌, ◌≢◌, ◌∙◌, ℕ, ◌+◌, ◌<◌, Bool, true, false, cond, List, [], ◌∷◌, ◌++◌, codes, length, length-append, map, set, get_or, append-nil, append_assoc, refl, sym, ap, subst, arith, eq-eqb, ne_eqb, inl, inr, sum_by}
+-- The lines of one read: those that were sent, those that wait, and what was counted.
+use Rattle.std.proofs.Common.{◌≡◌, ◌≢◌, ◌∙◌, ℕ, ◌+◌, ◌<◌, Bool, true, false, cond, List, [], ◌∷◌, ◌++◌, codes, length, map, set, get_or, append-nil, append_assoc, refl, sym, ap, subst, arith, eq-eqb, ne_eqb, inl, inr, sum_by}
 use Rattle.std.specs.Prelude.{◌==◌, count_by}
 use Rattle.std.specs.List.{range_with_len}
 use Rattle.std.proofs.lemmas.Bool.{cases_eq, cases_lt}
 use Rattle.std.proofs.lemmas.List.{map-append, map-set, length-map, length-set, get_or-map, get_or-set_same, get_or-set_other}
 use Rattle.std.proofs.lemmas.List.Concat.{flat_map-append}
 use Rattle.std.proofs.lemmas.List.Elements.{filter-append}
-use Rattle.std.proofs.lemmas.List.Sums.{sum_by-cons}
+use Rattle.std.proofs.lemmas.List.Sums.{sum_by-append, sum_by-cons}
 use Rattle.sd_model_outside.specs.Outside.{Object}
 use Rattle.sd_model_record.specs.Desk.{counted}
 use Rattle.sd_model_settings.specs.Entries.{Node}
-use Rattle.sd_model_text.specs.Lines.{lines}
-use Rattle.sd_model_proxy.specs.Batches.{AreForwarded, Batch, Batched, add_totals, batches, lines_not_sent, lines_sent, no_totals, over_nodes, totals_by, totals_of}
+use Rattle.sd_model_proxy.specs.Batches.{AreForwarded, Batch, Batched, add_totals, batches, lines_not_sent, lines_sent, long_in, no_totals, over_nodes, totals_by, totals_of}
 use Rattle.sd_model_proxy.specs.Routes.{Bad, Read, Route, To, Unowned, goes_to, is_bad, is_unowned, lines_to, route, routes_of}
 use Rattle.sd_model_proxy.proofs.SendLemmas.{AreForwarded-next, AreForwarded-none, AreForwarded-only, behind, only, only-elsewhere, only-here}
 use Rattle.sd_model_proxy.proofs.TotalLemmas.{add_totals-next, over-only}
 use Rattle.sd_model_record.specs.Totals.{Total}
-use Rattle.sd_proxy.specs.Forwarding.{AreSent, AreUnderWay, Forwards, IsLeft, IsUnderWay, NoneWaits, Stands, lines_for, routes_by}
+use Rattle.sd_proxy.specs.Forwarding.{AreSent, AreUnderWay, Forwards, IsLeft, IsUnderWay, NoneWaits, Stands, TakesLines, lines_for, routes_by}
 use Rattle.sd_proxy_desk.specs.Views.{totals_of_route, totals_view}
 use Rattle.sd_proxy.specs.Sending.{Sends, totals_of_batches}
 use Rattle.sd_proxy.specs.Waiting.{Holds, batches_behind, under_way}
 use Rattle.sd_proxy_desk.specs.declared.totals.ProxyTotals.{ProxyTotals}
+use Rattle.sd_proxy.proofs.WaitingLemmas.{steady}
 use Rattle.sd_proxy.specs.declared.waiting.Waiting.{Waiting}
+
+-- a number with none more
+and_none : (n : ℕ) → n + 0 ≡ n
+and_none n = omega arith
+
+plus_assoc : (a b c : ℕ) → (a + b) + c ≡ a + (b + c)
+plus_assoc a b c = omega arith
 
 -- no packet to any node
 abbrev no_packets : Batched
@@ -37,7 +44,8 @@ behind-none : (first : Batched) → behind first no_packets ≡ first
 behind-none first = λ i place. append-nil (first place) i
 
 -- a line's totals, by where it goes
-one_total : (nodes : List Node) (r : Route) (t : ProxyTotals) → add_totals (totals_view t) (totals_of_route r) ≡ add_totals (totals_view t) (totals_by nodes 0 (r ∷ []) no_packets)
+one_total : (nodes : List Node) (r : Route) (t : ProxyTotals)
+    → add_totals (totals_view t) (totals_of_route r) ≡ add_totals (totals_view t) (totals_by nodes 0 0 (r ∷ []) no_packets)
 one_total nodes r t = by r
   where
     sent : 0 ≡ over_nodes nodes no_packets lines_sent
@@ -61,25 +69,40 @@ one_total nodes r t = by r
         (codes "packets", counted t.packets 0) ∷ (codes "lines", counted t.lines 1) ∷ (codes "bad", counted t.bad bad) ∷ (codes "sent", counted t.sent (sent i)) ∷ (codes "unowned", counted t.unowned unowned)
         ∷ (codes "send_faults", counted t.send_faults (failed i)) ∷ []
 
-    by : (r : Route) → add_totals (totals_view t) (totals_of_route r) ≡ add_totals (totals_view t) (totals_by nodes 0 (r ∷ []) no_packets)
+    by : (r : Route) → add_totals (totals_view t) (totals_of_route r) ≡ add_totals (totals_view t) (totals_by nodes 0 0 (r ∷ []) no_packets)
     by Bad = same 1 0
     by Unowned = same 0 1
     by (To place) = same 0 0
 
--- the totals of a datagram of which no line was taken
-first_total : (nodes : List Node) (t : ProxyTotals) → add_totals (totals_view t) (totals_by [] 1 [] no_packets) ≡ add_totals (totals_view t) (totals_by nodes 1 [] no_packets)
-first_total nodes t = λ i.
-    (codes "packets", counted t.packets 1) ∷ (codes "lines", counted t.lines 0) ∷ (codes "bad", counted t.bad 0) ∷ (codes "sent", counted t.sent (sym (over-none nodes lines_sent refl) i)) ∷ (codes "unowned", counted t.unowned 0)
-    ∷ (codes "send_faults", counted t.send_faults (sym (over-none nodes lines_not_sent refl) i)) ∷ []
+-- so many datagrams, and so many lines that were too long, count for the same whichever nodes there are
+plain_total : (nodes : List Node) (packets long : ℕ) (t : ProxyTotals)
+    → add_totals (totals_view t) (totals_by [] packets long [] no_packets)
+    ≡ add_totals (totals_view t) (totals_by nodes packets long [] no_packets)
+plain_total nodes packets long t = λ i.
+    (codes "packets", counted t.packets packets) ∷ (codes "lines", counted t.lines (0 + long)) ∷ (codes "bad", counted t.bad (0 + long))
+    ∷ (codes "sent", counted t.sent (sym (over-none nodes lines_sent refl) i))
+    ∷ (codes "unowned", counted t.unowned 0) ∷ (codes "send_faults", counted t.send_faults (sym (over-none nodes lines_not_sent refl) i))
+    ∷ []
+
+-- where nothing was taken, nothing was counted
+still_total : (nodes : List Node) (t : ProxyTotals) → totals_view t ≡ add_totals (totals_view t) (totals_by nodes 0 0 [] no_packets)
+still_total nodes t = same ∙ plain_total nodes 0 0 t
+  where
+    same : totals_view t ≡ add_totals (totals_view t) (totals_by [] 0 0 [] no_packets)
+    same = λ i.
+        (codes "packets", steady t.packets t.few_packets i) ∷ (codes "lines", steady t.lines t.few_lines i)
+        ∷ (codes "bad", steady t.bad t.few_bad i) ∷ (codes "sent", steady t.sent t.few_sent i)
+        ∷ (codes "unowned", steady t.unowned t.few_unowned i) ∷ (codes "send_faults", steady t.send_faults t.few_send_faults i) ∷ []
 
 -- nothing counts for nothing
-pub nothing_more : (nodes : List Node) → no_totals ≡ add_totals no_totals (totals_by nodes 0 [] no_packets)
+pub nothing_more : (nodes : List Node) → no_totals ≡ add_totals no_totals (totals_by nodes 0 0 [] no_packets)
 nothing_more nodes = λ i.
     (codes "packets", 0) ∷ (codes "lines", 0) ∷ (codes "bad", 0) ∷ (codes "sent", counted 0 (sym (over-none nodes lines_sent refl) i)) ∷ (codes "unowned", 0)
     ∷ (codes "send_faults", counted 0 (sym (over-none nodes lines_not_sent refl) i)) ∷ []
 
 -- the totals of packets to one node
-place_total : (nodes : List Node) (place : ℕ) (bs : List Batch) → place < length nodes → totals_of_batches bs ≡ totals_by nodes 0 [] (only place bs)
+place_total : (nodes : List Node) (place : ℕ) (bs : List Batch) → place < length nodes
+    → totals_of_batches bs ≡ totals_by nodes 0 0 [] (only place bs)
 place_total nodes place bs inside = λ i.
     (codes "packets", 0) ∷ (codes "lines", 0) ∷ (codes "bad", 0) ∷ (codes "sent", sym (over-only lines_sent refl nodes place bs inside) i) ∷ (codes "unowned", 0)
     ∷ (codes "send_faults", sym (over-only lines_not_sent refl nodes place bs inside) i) ∷ []
@@ -135,19 +158,23 @@ module _ (most : ℕ) (nodes : List Node) (up : ℕ) (done : List (List ℕ)) wh
   pub waits_not : (place : ℕ) (packets : List (List (List ℕ))) (begun : List (List ℕ)) → IsLeft most nodes up done (length nodes) place packets begun → begun ≡ []
   waits_not place packets begun left = elim (cases_lt place (length nodes)) [ inl below ↦ left.before below | inr beyond ↦ left.past beyond ]
 
-module _ (says says_now : ℕ → List (List (List ℕ)) → List (List ℕ) → Type 0) (most : ℕ) (nodes : List Node) (routes : List Route) (waiting : List Waiting) (first : List Object) (t : List Total) where
+module _ (says says_now : ℕ → List (List (List ℕ)) → List (List ℕ) → Type 0) (most : ℕ) (nodes : List Node) (packets long : ℕ)
+    (routes : List Route) (waiting : List Waiting) (first : List Object) (t : List Total) where
   -- what is said is said otherwise
   pub said : (wires : List Object) (t_now : List Total) → ((place : ℕ) (packets : List (List (List ℕ))) (begun : List (List ℕ)) → says place packets begun → says_now place packets begun)
-      → Stands says most nodes routes waiting first wires t t_now → Stands says_now most nodes routes waiting first wires t t_now
+      → Stands says most nodes packets long routes waiting first wires t t_now
+      → Stands says_now most nodes packets long routes waiting first wires t t_now
   said wires t_now so s = record { sent = s.sent; begun = s.begun; are = λ place. so place (map (λ (b : Batch). b.lines) (s.sent place)) (s.begun place) (s.are place); holds = s.holds; sends = s.sends; counted = s.counted }
 
   -- packets were sent on the wire to one node, for which other lines wait now
-  pub put : {L : Type 0} (seen : L → Object) (wires : List L) (t_mid t_now : List Total) (place : ℕ) (old new : L) (w : Waiting) (packets : List (List (List ℕ))) (left : List (List ℕ))
-      → (s : Stands says most nodes routes waiting first (map seen wires) t t_mid) → place < length wires → place < length nodes → old ≡ get_or wires place old
-      → Sends packets (seen old) (seen new) t_mid t_now → Holds most left w → says_now place (map (λ b. b.lines) (s.sent place) ++ packets) left
+  pub put : {L : Type 0} (seen : L → Object) (wires : List L) (t_mid t_now : List Total) (place : ℕ) (old new : L) (w : Waiting)
+      (more : List (List (List ℕ))) (left : List (List ℕ))
+      → (s : Stands says most nodes packets long routes waiting first (map seen wires) t t_mid) → place < length wires
+      → place < length nodes → old ≡ get_or wires place old
+      → Sends more (seen old) (seen new) t_mid t_now → Holds most left w → says_now place (map (λ b. b.lines) (s.sent place) ++ more) left
       → ((at : ℕ) (ps : List (List (List ℕ))) (begun : List (List ℕ)) → at ≢ place → says at ps begun → says_now at ps begun)
-      → Stands says_now most nodes routes (set waiting place w) first (map seen (set wires place new)) t t_now
-  put seen wires t_mid t_now place old new w packets left s inside owned is one holds here elsewhere =
+      → Stands says_now most nodes packets long routes (set waiting place w) first (map seen (set wires place new)) t t_now
+  put seen wires t_mid t_now place old new w more left s inside owned is one holds here elsewhere =
       let bs : List Batch = one.sent in
       let lines_in : List Batch → List (List (List ℕ)) = map (λ (b : Batch). b.lines) in
       let within : place < length (map seen wires) = omega (arith, inside, length-map wires seen) in
@@ -179,101 +206,193 @@ module _ (says says_now : ℕ → List (List (List ℕ)) → List (List ℕ) →
         ];
         sends = subst (λ (ws : List Object). AreForwarded (behind s.sent (only place bs)) first ws) (sym (map-set seen wires place new))
             (AreForwarded-next s.sent (only place bs) first (map seen wires) (set (map seen wires) place (seen new)) s.sends (AreForwarded-only place bs (map seen wires) (seen old) (seen new) within there one.sends));
-        counted = one.counted ∙ ap (add_totals t_mid) (place_total nodes place bs owned) ∙ ap (λ (x : List Total). add_totals x (totals_by nodes 0 [] (only place bs))) s.counted
-            ∙ add_totals-next nodes 1 0 routes [] s.sent (only place bs) t ∙ ap (λ (rs : List Route). add_totals t (totals_by nodes 1 rs (behind s.sent (only place bs)))) (append-nil routes);
+        counted = one.counted ∙ ap (add_totals t_mid) (place_total nodes place bs owned)
+            ∙ ap (λ (x : List Total). add_totals x (totals_by nodes 0 0 [] (only place bs))) s.counted
+            ∙ add_totals-next nodes packets 0 long 0 routes [] s.sent (only place bs) t
+            ∙ (λ i. add_totals t (totals_by nodes (and_none packets i) (and_none long i) (append-nil routes i)
+            (behind s.sent (only place bs))));
       }
 
   -- a line was counted
-  pub count_line : (wires : List Object) (p : ProxyTotals) (t_now : List Total) (r : Route) → t_now ≡ add_totals (totals_view p) (totals_of_route r) → Stands says most nodes routes waiting first wires t (totals_view p)
-      → Stands says most nodes (routes ++ r ∷ []) waiting first wires t t_now
+  pub count_line : (wires : List Object) (p : ProxyTotals) (t_now : List Total) (r : Route)
+      → t_now ≡ add_totals (totals_view p) (totals_of_route r)
+      → Stands says most nodes packets long routes waiting first wires t (totals_view p)
+      → Stands says most nodes packets long (routes ++ r ∷ []) waiting first wires t t_now
   count_line wires p t_now r counts s = record {
     sent = s.sent;
     begun = s.begun;
     are = s.are;
     holds = s.holds;
     sends = s.sends;
-    counted = counts ∙ one_total nodes r p ∙ ap (λ (x : List Total). add_totals x (totals_by nodes 0 (r ∷ []) no_packets)) s.counted ∙ add_totals-next nodes 1 0 routes (r ∷ []) s.sent no_packets t
-        ∙ ap (λ (sent : Batched). add_totals t (totals_by nodes 1 (routes ++ r ∷ []) sent)) (behind-none s.sent);
+    counted = counts ∙ one_total nodes r p ∙ ap (λ (x : List Total). add_totals x (totals_by nodes 0 0 (r ∷ []) no_packets)) s.counted
+        ∙ add_totals-next nodes packets 0 long 0 routes (r ∷ []) s.sent no_packets t
+        ∙ (λ i. add_totals t (totals_by nodes (and_none packets i) (and_none long i) (routes ++ r ∷ []) (behind-none s.sent i)));
   }
 
--- a datagram of which no line was taken
-pub under_way_first : (most : ℕ) (nodes : List Node) (up : ℕ) (waiting : List Waiting) (wires : List Object) (t : ProxyTotals) (t_now : List Total) → NoneWaits most waiting → t_now ≡ add_totals (totals_view t) (totals_by [] 1 [] no_packets)
-    → AreUnderWay most nodes up [] waiting wires wires (totals_view t) t_now
-under_way_first most nodes up waiting wires t t_now none counts = record {
+  -- a line that is too long was counted
+  pub count_long : (wires : List Object) (p : ProxyTotals) (t_now : List Total)
+      → t_now ≡ add_totals (totals_view p) (totals_by [] 0 1 [] no_packets)
+      → Stands says most nodes packets long routes waiting first wires t (totals_view p)
+      → Stands says most nodes packets (long + 1) routes waiting first wires t t_now
+  count_long wires p t_now counts s = record {
+    sent = s.sent;
+    begun = s.begun;
+    are = s.are;
+    holds = s.holds;
+    sends = s.sends;
+    counted = counts ∙ plain_total nodes 0 1 p ∙ ap (λ (x : List Total). add_totals x (totals_by nodes 0 1 [] no_packets)) s.counted
+        ∙ add_totals-next nodes packets 0 long 1 routes [] s.sent no_packets t
+        ∙ (λ i. add_totals t (totals_by nodes (and_none packets i) (long + 1) (append-nil routes i) (behind-none s.sent i)));
+  }
+
+-- a read of which no line was taken
+under_way_first : (most : ℕ) (nodes : List Node) (up packets : ℕ) (waiting : List Waiting) (wires : List Object) (t t_now : List Total)
+    → NoneWaits most waiting → t_now ≡ add_totals t (totals_by nodes packets 0 [] no_packets)
+    → AreUnderWay most nodes up packets 0 [] waiting wires wires t t_now
+under_way_first most nodes up packets waiting wires t t_now none counts = record {
   sent = no_packets;
   begun = λ place. [];
   are = λ place. record { past = λ beyond. refl; cut = λ ls. refl };
   holds = none;
   sends = AreForwarded-none wires;
-  counted = counts ∙ first_total nodes t;
+  counted = counts;
 }
 
--- the lines of a datagram were taken, and are sent
-pub flush_first : (most : ℕ) (nodes : List Node) (up : ℕ) (done : List (List ℕ)) (waiting : List Waiting) (first wires : List Object) (t t_now : List Total) → AreUnderWay most nodes up done waiting first wires t t_now
-    → Stands (IsLeft most nodes up done 0) most nodes (routes_by nodes up done) waiting first wires t t_now
-flush_first most nodes up done waiting first wires t t_now s =
-    said (IsUnderWay most nodes up done) (IsLeft most nodes up done 0) most nodes (routes_by nodes up done) waiting first t wires t_now (left_first most nodes up done) s
+-- a datagram of which no line was taken
+pub datagram_first : (most : ℕ) (nodes : List Node) (up : ℕ) (waiting : List Waiting) (wires : List Object) (t : ProxyTotals)
+    (t_now : List Total) → NoneWaits most waiting → t_now ≡ add_totals (totals_view t) (totals_by [] 1 0 [] no_packets)
+    → AreUnderWay most nodes up 1 0 [] waiting wires wires (totals_view t) t_now
+datagram_first most nodes up waiting wires t t_now none counts = under_way_first most nodes up 1 waiting wires (totals_view t) t_now none
+    (counts ∙ plain_total nodes 1 0 t)
 
--- no line waits then
-pub sent_none : (most : ℕ) (nodes : List Node) (up : ℕ) (done : List (List ℕ)) (waiting : List Waiting) (first wires : List Object) (t t_now : List Total) → AreSent most nodes up done waiting first wires t t_now → NoneWaits most waiting
-sent_none most nodes up done waiting first wires t t_now s place d below =
-    subst (λ (b : List (List ℕ)). Holds most b (get_or waiting place d)) (waits_not most nodes up done place (map (λ (b : Batch). b.lines) (s.sent place)) (s.begun place) (s.are place)) (s.holds place d below)
+-- a read of a stream of which no line was taken
+pub stream_first : (most : ℕ) (nodes : List Node) (up : ℕ) (waiting : List Waiting) (wires : List Object) (t : ProxyTotals)
+    → NoneWaits most waiting → AreUnderWay most nodes up 0 0 [] waiting wires wires (totals_view t) (totals_view t)
+stream_first most nodes up waiting wires t none = under_way_first most nodes up 0 waiting wires (totals_view t) (totals_view t) none
+    (still_total nodes t)
 
--- a datagram whose lines were sent
-pub datagram_sent : (most : ℕ) (nodes : List Node) (up : ℕ) (datagram : List ℕ) (done : List (List ℕ)) (waiting : List Waiting) (first wires : List Object) (t t_now : List Total) → done ≡ lines datagram → AreSent most nodes up done waiting first wires t t_now
-    → Forwards most nodes (record { datagram = datagram; up = up } ∷ []) first wires t t_now
-datagram_sent most nodes up datagram done waiting first wires t t_now all s =
-    let lines_in : List Batch → List (List (List ℕ)) = map (λ (b : Batch). b.lines) in
-    record {
-      batched = s.sent;
-      packets = λ place.
-          let none = waits_not most nodes up done place (lines_in (s.sent place)) (s.begun place) (s.are place) in
-          sym (append-nil (lines_in (s.sent place))) ∙ ap (λ (b : List (List ℕ)). lines_in (s.sent place) ++ under_way b) (sym none) ∙ sym ((s.are place).cut)
-          ∙ ap (λ (ls : List (List ℕ)). batches most (lines_for nodes up place ls)) all ∙ sym (append-nil (batches most (lines_for nodes up place (lines datagram))));
-      sends = s.sends;
-      counted = s.counted ∙ ap (λ (ls : List (List ℕ)). add_totals t (totals_by nodes 1 (routes_by nodes up ls) s.sent)) all
-          ∙ ap (λ (rs : List Route). add_totals t (totals_by nodes 1 rs s.sent)) (sym (append-nil (routes_by nodes up (lines datagram))));
-    }
+module _ (nodes : List Node) (up : ℕ) where
+  -- no line was taken
+  pub TakesLines-none : (waiting : List Waiting) (wires : List Object) (totals : List Total)
+      → TakesLines nodes up [] 0 waiting waiting wires wires totals totals
+  TakesLines-none waiting wires totals = record {
+    on = λ most packets long done first t under.
+        subst (λ (x : ℕ × List (List ℕ)). AreUnderWay most nodes up packets x.0 x.1 waiting first wires t totals)
+        (λ i. (sym (and_none long) i, sym (append-nil done) i)) under;
+  }
 
--- what stands once some lines of a datagram were taken, and these are left
-pub record Going (nodes : List Node) (up : ℕ) (datagram : List ℕ) (left : List (List ℕ)) (waiting_first waiting : List Waiting) (first wires : List Object) (t t_now : List Total) : Type 0 where
-  pub done : List (List ℕ)
-  pub all : done ++ left ≡ lines datagram
-  pub under : (most : ℕ) → NoneWaits most waiting_first → AreUnderWay most nodes up done waiting first wires t t_now
+  -- lines were taken, none of which is too long
+  pub TakesLines-short : (xs : List (List ℕ)) (a b : List Waiting) (u v : List Object) (p q : List Total)
+      → ((most packets long : ℕ) (done : List (List ℕ)) (first : List Object) (t : List Total)
+      → AreUnderWay most nodes up packets long done a first u t p → AreUnderWay most nodes up packets long (done ++ xs) b first v t q)
+      → TakesLines nodes up xs 0 a b u v p q
+  TakesLines-short xs a b u v p q so = record {
+    on = λ most packets long done first t under.
+        subst (λ (n : ℕ). AreUnderWay most nodes up packets n (done ++ xs) b first v t q) (sym (and_none long))
+        (so most packets long done first t under);
+  }
 
--- no datagram
-pub Forwards-none : (most : ℕ) (nodes : List Node) (wires : List Object) (t t_now : List Total) → t_now ≡ add_totals t (totals_by nodes 0 [] no_packets) → Forwards most nodes [] wires wires t t_now
-Forwards-none most nodes wires t t_now counts = record { batched = no_packets; packets = λ place. refl; sends = AreForwarded-none wires; counted = counts }
+  -- lines were taken behind lines
+  pub TakesLines-next : (xs ys : List (List ℕ)) (m n : ℕ) (a b c : List Waiting) (u v w : List Object) (p q r : List Total)
+      → TakesLines nodes up xs m a b u v p q → TakesLines nodes up ys n b c v w q r → TakesLines nodes up (xs ++ ys) (m + n) a c u w p r
+  TakesLines-next xs ys m n a b c u v w p q r first second = record {
+    on = λ most packets long done begin t under.
+        subst (λ (x : ℕ × List (List ℕ)). AreUnderWay most nodes up packets x.0 x.1 c begin w t r)
+        (λ i. (plus_assoc long m n i, append_assoc done xs ys i))
+        (second.on most packets (long + m) (done ++ xs) begin t (first.on most packets long done begin t under));
+  }
 
--- datagrams behind datagrams
-pub Forwards-next : (most : ℕ) (nodes : List Node) (xs ys : List Read) (a b c : List Object) (s t u : List Total) → Forwards most nodes xs a b s t → Forwards most nodes ys b c t u → Forwards most nodes (xs ++ ys) a c s u
-Forwards-next most nodes xs ys a b c s t u first second = record {
+  -- a line that is too long was taken
+  pub TakesLines-long : (waiting : List Waiting) (wires : List Object) (p : ProxyTotals) (t_now : List Total)
+      → t_now ≡ add_totals (totals_view p) (totals_by [] 0 1 [] no_packets)
+      → TakesLines nodes up [] 1 waiting waiting wires wires (totals_view p) t_now
+  TakesLines-long waiting wires p t_now counts = record {
+    on = λ most packets long done first t under.
+        subst (λ (ds : List (List ℕ)). AreUnderWay most nodes up packets (long + 1) ds waiting first wires t t_now) (sym (append-nil done))
+        (count_long (IsUnderWay most nodes up done) (IsUnderWay most nodes up done) most nodes packets long
+        (routes_by nodes up done) waiting first t wires p t_now counts under);
+  }
+
+module _ (most : ℕ) (nodes : List Node) (up packets long : ℕ) (done : List (List ℕ)) (waiting : List Waiting) (first wires : List Object)
+    (t t_now : List Total) where
+  -- the lines of a read were taken, and are sent
+  pub flush_first : AreUnderWay most nodes up packets long done waiting first wires t t_now
+      → Stands (IsLeft most nodes up done 0) most nodes packets long (routes_by nodes up done) waiting first wires t t_now
+  flush_first s = said (IsUnderWay most nodes up done) (IsLeft most nodes up done 0) most nodes packets long
+      (routes_by nodes up done) waiting first t wires t_now (left_first most nodes up done) s
+
+  -- no line waits then
+  pub sent_none : AreSent most nodes up packets long done waiting first wires t t_now → NoneWaits most waiting
+  sent_none s place d below =
+      subst (λ (b : List (List ℕ)). Holds most b (get_or waiting place d))
+      (waits_not most nodes up done place (map (λ (b : Batch). b.lines) (s.sent place)) (s.begun place) (s.are place))
+      (s.holds place d below)
+
+  -- a read whose lines were sent
+  pub read_sent : AreSent most nodes up packets long done waiting first wires t t_now
+      → Forwards most nodes packets (record { lines = done; long = long; up = up } ∷ []) first wires t t_now
+  read_sent s =
+      let lines_in : List Batch → List (List (List ℕ)) = map (λ (b : Batch). b.lines) in
+      let read : Read = record { lines = done; long = long; up = up } in
+      let once : long_in (read ∷ []) ≡ long = sum_by-cons (λ (r : Read). r.long) read [] ∙ omega arith in
+      record {
+        batched = s.sent;
+        are = λ place.
+            let none = waits_not most nodes up done place (lines_in (s.sent place)) (s.begun place) (s.are place) in
+            sym (append-nil (lines_in (s.sent place))) ∙ ap (λ (b : List (List ℕ)). lines_in (s.sent place) ++ under_way b) (sym none)
+            ∙ sym ((s.are place).cut)
+            ∙ sym (append-nil (batches most (lines_for nodes up place done)));
+        sends = s.sends;
+        counted = s.counted ∙ (λ i. add_totals t (totals_by nodes packets (sym once i)
+            (sym (append-nil (routes_by nodes up done)) i) s.sent));
+      }
+
+-- no read
+pub Forwards-none : (most : ℕ) (nodes : List Node) (wires : List Object) (t t_now : List Total)
+    → t_now ≡ add_totals t (totals_by nodes 0 0 [] no_packets) → Forwards most nodes 0 [] wires wires t t_now
+Forwards-none most nodes wires t t_now counts = record {
+  batched = no_packets;
+  are = λ place. refl;
+  sends = AreForwarded-none wires;
+  counted = counts;
+}
+
+-- reads behind reads
+pub Forwards-next : (most : ℕ) (nodes : List Node) (m n : ℕ) (xs ys : List Read) (a b c : List Object) (s t u : List Total)
+    → Forwards most nodes m xs a b s t → Forwards most nodes n ys b c t u → Forwards most nodes (m + n) (xs ++ ys) a c s u
+Forwards-next most nodes m n xs ys a b c s t u first second = record {
   batched = behind first.batched second.batched;
-  packets = λ place.
-      map-append (λ (b : Batch). b.lines) (first.batched place) (second.batched place) ∙ (λ i. first.packets place i ++ second.packets place i)
+  are = λ place.
+      map-append (λ (b : Batch). b.lines) (first.batched place) (second.batched place) ∙ (λ i. first.are place i ++ second.are place i)
       ∙ sym (flat_map-append (λ (r : Read). batches most (lines_to nodes place r)) xs ys);
   sends = AreForwarded-next first.batched second.batched a b c first.sends second.sends;
-  counted = second.counted ∙ ap (λ (x : List Total). add_totals x (totals_of nodes ys second.batched)) first.counted
-      ∙ add_totals-next nodes (length xs) (length ys) (routes_of nodes xs) (routes_of nodes ys) first.batched second.batched s
-      ∙ (λ i. add_totals s (totals_by nodes (sym (length-append xs ys) i) (sym (flat_map-append (λ (r : Read). routes_by nodes r.up (lines r.datagram)) xs ys) i) (behind first.batched second.batched)));
+  counted = second.counted ∙ ap (λ (x : List Total). add_totals x (totals_of nodes n ys second.batched)) first.counted
+      ∙ add_totals-next nodes m n (long_in xs) (long_in ys) (routes_of nodes xs) (routes_of nodes ys) first.batched second.batched s
+      ∙ (λ i. add_totals s (totals_by nodes (m + n) (sym (sum_by-append (λ (r : Read). r.long) xs ys) i)
+      (sym (flat_map-append (λ (r : Read). routes_by nodes r.up r.lines) xs ys) i) (behind first.batched second.batched)));
 }
 
 -- totals that were counted by themselves, from nothing on, add as much as what they count
-added_once : (p : ProxyTotals) (nodes : List Node) (packets : ℕ) (routes : List Route) (batched : Batched)
-    → add_totals (totals_view p) (add_totals no_totals (totals_by nodes packets routes batched)) ≡ add_totals (totals_view p) (totals_by nodes packets routes batched)
-added_once p nodes packets routes batched = λ i.
-    (codes "packets", once p.packets packets i) ∷ (codes "lines", once p.lines (length routes) i) ∷ (codes "bad", once p.bad (count_by is_bad routes) i)
+added_once : (p : ProxyTotals) (nodes : List Node) (packets long : ℕ) (routes : List Route) (batched : Batched)
+    → add_totals (totals_view p) (add_totals no_totals (totals_by nodes packets long routes batched))
+    ≡ add_totals (totals_view p) (totals_by nodes packets long routes batched)
+added_once p nodes packets long routes batched = λ i.
+    (codes "packets", once p.packets packets i) ∷ (codes "lines", once p.lines (length routes + long) i)
+    ∷ (codes "bad", once p.bad (count_by is_bad routes + long) i)
     ∷ (codes "sent", once p.sent (over_nodes nodes batched lines_sent) i) ∷ (codes "unowned", once p.unowned (count_by is_unowned routes) i) ∷ (codes "send_faults", once p.send_faults (over_nodes nodes batched lines_not_sent) i) ∷ []
   where
     once : (count more : ℕ) → counted count (counted 0 more) ≡ counted count more
     once count more = omega arith
 
--- datagrams that were counted by themselves, behind totals of others
-pub Forwards-apart : (most : ℕ) (nodes : List Node) (reads : List Read) (wires wires_now : List Object) (p : ProxyTotals) (none came_to now : List Total) → none ≡ no_totals → now ≡ add_totals (totals_view p) came_to
-    → Forwards most nodes reads wires wires_now none came_to → Forwards most nodes reads wires wires_now (totals_view p) now
-Forwards-apart most nodes reads wires wires_now p none came_to now nothing both f = record {
+-- reads that were counted by themselves, behind totals of others
+pub Forwards-apart : (most : ℕ) (nodes : List Node) (packets : ℕ) (reads : List Read) (wires wires_now : List Object) (p : ProxyTotals)
+    (none came_to now : List Total) → none ≡ no_totals → now ≡ add_totals (totals_view p) came_to
+    → Forwards most nodes packets reads wires wires_now none came_to → Forwards most nodes packets reads wires wires_now (totals_view p) now
+Forwards-apart most nodes packets reads wires wires_now p none came_to now nothing both f = record {
   batched = f.batched;
-  packets = f.packets;
+  are = f.are;
   sends = f.sends;
-  counted = both ∙ ap (add_totals (totals_view p)) (f.counted ∙ ap (λ (t : List Total). add_totals t (totals_of nodes reads f.batched)) nothing) ∙ added_once p nodes (length reads) (routes_of nodes reads) f.batched;
+  counted = both ∙ ap (add_totals (totals_view p)) (f.counted
+      ∙ ap (λ (t : List Total). add_totals t (totals_of nodes packets reads f.batched)) nothing)
+      ∙ added_once p nodes packets (long_in reads) (routes_of nodes reads) f.batched;
 }

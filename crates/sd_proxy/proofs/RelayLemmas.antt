@@ -1,6 +1,6 @@
 -- What a receiver of a proxy did, one turn of its source after another.
 use Rattle.std.proofs.Common.{◌≡◌, ◌∙◌, ℕ, ◌+◌, ◌<◌, ◌≤◌, min, List, [], ◌∷◌, ◌++◌, length, length-append, append-nil, append_assoc, map, refl, sym, ap, subst, arith}
-use Rattle.std.specs.Prelude.{All, None, Some, fold, slice_get}
+use Rattle.std.specs.Prelude.{All, None, Some, slice_get}
 use Rattle.std.specs.List.{AllZip, last_or}
 use Rattle.std.proofs.lemmas.List.{map-append}
 use Rattle.std.proofs.lemmas.List.Elements.{All-nil, All-cons, All-append}
@@ -12,18 +12,16 @@ use Rattle.sd_model_settings.specs.Entries.{Node}
 use Rattle.sd_model_serve.specs.Ends.{EndsReceiver, most_turns}
 use Rattle.sd_model_proxy.specs.Routes.{Read}
 use Rattle.sd_model_proxy.specs.Batches.{add_totals, no_totals, totals_of}
-use Rattle.sd_model_proxy.specs.Relays.{IsRelay, Relay, relay_totals}
+use Rattle.sd_model_proxy.specs.Relays.{IsReadOf, IsRelay, Relay, relay_totals}
 use Rattle.sd_model_record.specs.Totals.{Total}
-use Rattle.sd_model_live.specs.Desk.{CountsDatagram, CountsFor, ProxyEvent}
+use Rattle.sd_model_live.specs.Desk.{CountsFor, CountsRead, ProxyEvent}
 use Rattle.sd_model_live.specs.Proxy.{Begins, HaveAnswered, last_place}
 use Rattle.sd_model_live.proofs.LookLemmas.{answered_more, begun, last_at, none_answered, one_answered}
-use Rattle.sd_proxy.specs.Forwarding.{Forwards}
-use Rattle.sd_proxy.specs.Proxying.{LooksForEach, Proxies, ProxiesByLooks, RelaySeen}
+use Rattle.sd_proxy.specs.Forwarding.{Forwards, datagram_read}
+use Rattle.sd_proxy.specs.Looking.{Counted, Looked, PassSeen}
+use Rattle.sd_proxy.specs.Proxying.{Proxies, ProxiesByLooks, RelaySeen}
 use Rattle.sd_proxy.specs.Views.{end_view}
-use Rattle.sd_live.specs.Live.{looks_of, seen}
-use Rattle.sd_proxy_desk.specs.Shared.{events_of}
 use Rattle.sd_proxy_desk.specs.Views.{totals_view}
-use Rattle.sd_proxy_desk.specs.declared.hub.ProxyPass.{ProxyPass}
 use Rattle.sd_outside.specs.declared.datagrams.Ended.{Ended}
 use Rattle.sd_proxy.specs.declared.proxied.Proxied.{Proxied}
 use Rattle.sd_proxy_desk.specs.declared.totals.ProxyTotals as code
@@ -34,46 +32,23 @@ with_datagrams-nil : (told : Told) → told ≡ with_datagrams [] told
 with_datagrams-nil (Datagrams left) = refl
 with_datagrams-nil told = refl
 
--- a datagram, with the nodes that were up
-abbrev pub read_of : List ℕ → ℕ → Read
-read_of datagram up = record { datagram = datagram; up = up }
-
--- the same nodes were up for each datagram
+-- the same nodes were up for each read
 abbrev pub under : ℕ → List Read → List Total → Type 0
 under up reads totals = All (λ (r : Read). r.up ≡ up) reads
 
--- What is seen of a receiver's pass and seat.
-pub record PassSeen : Type 0 where
-  pub history : List ℕ
-  pub looks : List ℕ
-  pub events : List ProxyEvent
-
-abbrev pub pass_seen : ProxyPass → PassSeen
-pass_seen own = record { history = seen own.pass; looks = looks_of own.pass; events = events_of own.seat }
-
--- Datagrams were counted one by one, and added up.
-pub record Counted (nodes : List Node) (old now : List ProxyEvent) (reads : List Read) (totals : List Total) : Type 0 where
-  pub counts : List (List Total)
-  pub are : now ≡ old ++ map CountsDatagram counts
-  pub each : AllZip (CountsFor nodes) reads counts
-  pub sum : totals ≡ fold add_totals no_totals counts
-
--- The nodes that were up for datagrams are what looks answered, one each, and each datagram was counted.
-pub record Looked (nodes : List Node) (old now : PassSeen) (reads : List Read) (totals : List Total) : Type 0 where
-  pub each : LooksForEach now.history old.looks now.looks reads
-  pub answered : HaveAnswered old.history now.history (map (λ (r : Read). r.up) reads)
-  pub counts : Counted nodes old.events now.events reads totals
-
--- no datagram, and no look
-pub looked-none : (nodes : List Node) (old : PassSeen) (totals : List Total) → totals ≡ no_totals → Looked nodes old old [] totals
-looked-none nodes old totals none = record {
+-- no read, and no look
+pub looked-none : (packets most : ℕ) (nodes : List Node) (old : PassSeen) (totals : List Total) → totals ≡ no_totals
+    → Looked packets most nodes old old [] totals
+looked-none packets most nodes old totals none = record {
   each = record { places = []; made = sym (append-nil old.looks); told = refl };
   answered = none_answered old.history;
   counts = record { counts = []; are = sym (append-nil old.events); each = tt; sum = none };
 }
 
 -- what looks were told stands where the history went on
-told_on : (mid now : List ℕ) → Begins mid now → (places : List ℕ) (reads : List Read) → map (λ p. slice_get mid p) places ≡ map (λ (r : Read). Some r.up) reads → map (λ p. slice_get now p) places ≡ map (λ (r : Read). Some r.up) reads
+pub told_on : (mid now : List ℕ) → Begins mid now → (places : List ℕ) (reads : List Read)
+    → map (λ p. slice_get mid p) places ≡ map (λ (r : Read). Some r.up) reads
+    → map (λ p. slice_get now p) places ≡ map (λ (r : Read). Some r.up) reads
 told_on mid now goes_on [] [] told = refl
 told_on mid now goes_on [] (r ∷ reads) told = absurd (cc)
 told_on mid now goes_on (p ∷ places) [] told = absurd (cc)
@@ -83,65 +58,84 @@ told_on mid now goes_on (p ∷ places) (r ∷ reads) told =
     λ i. begun mid now goes_on p r.up first i ∷ told_on mid now goes_on places reads rest i
 
 -- one datagram more
-pub under-next : (up : ℕ) (datagram : List ℕ) (reads : List Read) → All (λ (r : Read). r.up ≡ up) reads → All (λ (r : Read). r.up ≡ up) (reads ++ read_of datagram up ∷ [])
+pub under-next : (up : ℕ) (datagram : List ℕ) (reads : List Read) → All (λ (r : Read). r.up ≡ up) reads
+    → All (λ (r : Read). r.up ≡ up) (reads ++ datagram_read datagram up ∷ [])
 under-next up datagram reads all =
     let P : Read → Type 0 = λ r. r.up ≡ up in
-    All-append P reads (read_of datagram up ∷ []) all (All-cons P (read_of datagram up) [] refl (All-nil P))
+    All-append P reads (datagram_read datagram up ∷ []) all (All-cons P (datagram_read datagram up) [] refl (All-nil P))
 
 -- two lists that agree place by place, with one more each
-zip_push : {A B : Type 0} (R : A → B → Type 0) (xs : List A) (ys : List B) (x : A) (y : B) → AllZip R xs ys → R x y → AllZip R (xs ++ x ∷ []) (ys ++ y ∷ [])
+pub zip_push : {A B : Type 0} (R : A → B → Type 0) (xs : List A) (ys : List B) (x : A) (y : B) → AllZip R xs ys → R x y
+    → AllZip R (xs ++ x ∷ []) (ys ++ y ∷ [])
 zip_push R [] [] x y all one = (one, tt)
 zip_push R [] (b ∷ ys) x y all one = absurd all
 zip_push R (a ∷ xs) [] x y all one = absurd all
 zip_push R (a ∷ xs) (b ∷ ys) x y all one = (all.0, zip_push R xs ys x y all.1 one)
 
--- one datagram more, and its count
-counted-next : (nodes : List Node) (old mid now : List ProxyEvent) (read : Read) (came_to totals totals_now : List Total) → now ≡ mid ++ CountsDatagram came_to ∷ [] → CountsFor nodes read came_to → totals_now ≡ add_totals totals came_to → (reads : List Read)
-    → Counted nodes old mid reads totals → Counted nodes old now (reads ++ read ∷ []) totals_now
-counted-next nodes old mid now read came_to totals totals_now did counts both reads h = record {
+-- one read more, and its count
+counted-next : (packets most : ℕ) (nodes : List Node) (old mid now : List ProxyEvent) (read : Read)
+    (came_to totals totals_now : List Total) → now ≡ mid ++ CountsRead came_to ∷ [] → CountsFor packets most nodes read came_to
+    → totals_now ≡ add_totals totals came_to → (reads : List Read) → Counted packets most nodes old mid reads totals
+    → Counted packets most nodes old now (reads ++ read ∷ []) totals_now
+counted-next packets most nodes old mid now read came_to totals totals_now did counts both reads h = record {
   counts = h.counts ++ came_to ∷ [];
-  are = did ∙ ap (λ (l : List ProxyEvent). l ++ CountsDatagram came_to ∷ []) h.are ∙ append_assoc old (map CountsDatagram h.counts) (CountsDatagram came_to ∷ [])
-      ∙ ap (λ (l : List ProxyEvent). old ++ l) (sym (map-append CountsDatagram h.counts (came_to ∷ [])));
-  each = zip_push (CountsFor nodes) reads h.counts read came_to h.each counts;
+  are = did ∙ ap (λ (l : List ProxyEvent). l ++ CountsRead came_to ∷ []) h.are
+      ∙ append_assoc old (map CountsRead h.counts) (CountsRead came_to ∷ [])
+      ∙ ap (λ (l : List ProxyEvent). old ++ l) (sym (map-append CountsRead h.counts (came_to ∷ [])));
+  each = zip_push (CountsFor packets most nodes) reads h.counts read came_to h.each counts;
   sum = both ∙ ap (λ (t : List Total). add_totals t came_to) h.sum ∙ sym (fold_push add_totals no_totals h.counts came_to);
 }
 
--- what a datagram that was counted by itself counts for
-counts_for : (most : ℕ) (nodes : List Node) (read : Read) (wires wires_now : List Object) (none came_to : List Total) → none ≡ no_totals → Forwards most nodes (read ∷ []) wires wires_now none came_to → CountsFor nodes read came_to
-counts_for most nodes read wires wires_now none came_to nothing f = (f.batched, f.counted ∙ ap (λ (t : List Total). add_totals t (totals_of nodes (read ∷ []) f.batched)) nothing)
+-- what a read that was counted by itself counts for
+counts_for : (packets most : ℕ) (nodes : List Node) (read : Read) (wires wires_now : List Object) (none came_to : List Total)
+    → none ≡ no_totals → Forwards most nodes packets (read ∷ []) wires wires_now none came_to → CountsFor packets most nodes read came_to
+counts_for packets most nodes read wires wires_now none came_to nothing f = (
+  f.batched,
+  f.are,
+  f.counted ∙ ap (λ (t : List Total). add_totals t (totals_of nodes packets (read ∷ []) f.batched)) nothing,
+)
 
--- A datagram's lines were sent under the set that a look answered, and counted at the desk.
-pub record One (most : ℕ) (nodes : List Node) (old now : PassSeen) (up : ℕ) (datagram : List ℕ) (wires wires_now : List Object) (none came_to : List Total) : Type 0 where
+-- A read's lines were sent under the set that a look answered, and counted at the desk.
+pub record One (packets most : ℕ) (nodes : List Node) (old now : PassSeen) (read : Read) (wires wires_now : List Object)
+    (none came_to : List Total) : Type 0 where
   pub goes_on : Begins old.history now.history
-  pub last : last_or None now.history ≡ Some up
+  pub last : last_or None now.history ≡ Some read.up
   pub looks : now.looks ≡ old.looks ++ last_place now.history ∷ []
-  pub did : now.events ≡ old.events ++ CountsDatagram came_to ∷ []
+  pub did : now.events ≡ old.events ++ CountsRead came_to ∷ []
   pub nothing : none ≡ no_totals
-  pub forwards : Forwards most nodes (read_of datagram up ∷ []) wires wires_now none came_to
+  pub forwards : Forwards most nodes packets (read ∷ []) wires wires_now none came_to
 
--- one datagram more, its look and its count
-pub looked-next : (most : ℕ) (nodes : List Node) (old mid now : PassSeen) (up : ℕ) (datagram : List ℕ) (wires wires_now : List Object) (none came_to totals totals_now : List Total) → One most nodes mid now up datagram wires wires_now none came_to
-    → totals_now ≡ add_totals totals came_to → (reads : List Read) → Looked nodes old mid reads totals → Looked nodes old now (reads ++ read_of datagram up ∷ []) totals_now
-looked-next most nodes old mid now up datagram wires wires_now none came_to totals totals_now one both reads h =
+-- one read more, its look and its count
+pub looked-next : (packets most : ℕ) (nodes : List Node) (old mid now : PassSeen) (read : Read) (wires wires_now : List Object)
+    (none came_to totals totals_now : List Total) → One packets most nodes mid now read wires wires_now none came_to
+    → totals_now ≡ add_totals totals came_to → (reads : List Read) → Looked packets most nodes old mid reads totals
+    → Looked packets most nodes old now (reads ++ read ∷ []) totals_now
+looked-next packets most nodes old mid now read wires wires_now none came_to totals totals_now one both reads h =
     let place = last_place now.history in
-    let read : Read = read_of datagram up in
     record {
       each = record {
         places = h.each.places ++ place ∷ [];
         made = one.looks ∙ ap (λ (l : List ℕ). l ++ place ∷ []) h.each.made ∙ append_assoc old.looks h.each.places (place ∷ []);
-        told = map-append (λ p. slice_get now.history p) h.each.places (place ∷ []) ∙ (λ i. told_on mid.history now.history one.goes_on h.each.places reads h.each.told i ++ last_at up now.history one.last i ∷ []) ∙ sym (map-append (λ (r : Read). Some r.up) reads (read ∷ []));
+        told = map-append (λ p. slice_get now.history p) h.each.places (place ∷ [])
+            ∙ (λ i. told_on mid.history now.history one.goes_on h.each.places reads h.each.told i
+            ++ last_at read.up now.history one.last i ∷ [])
+            ∙ sym (map-append (λ (r : Read). Some r.up) reads (read ∷ []));
       };
       answered = subst (HaveAnswered old.history now.history) (sym (map-append (λ (r : Read). r.up) reads (read ∷ [])))
-          (answered_more old.history mid.history now.history (map (λ (r : Read). r.up) reads) (up ∷ []) h.answered (one_answered mid.history now.history up one.goes_on one.last));
-      counts = counted-next nodes old.events mid.events now.events read came_to totals totals_now one.did (counts_for most nodes read wires wires_now none came_to one.nothing one.forwards) both reads h.counts;
+          (answered_more old.history mid.history now.history (map (λ (r : Read). r.up) reads) (read.up ∷ []) h.answered
+          (one_answered mid.history now.history read.up one.goes_on one.last));
+      counts = counted-next packets most nodes old.events mid.events now.events read came_to totals totals_now one.did
+          (counts_for packets most nodes read wires wires_now none came_to one.nothing one.forwards) both reads h.counts;
     }
 
 -- What a receiver did in so many turns of its source, in which the source didn't fail, and what is known of its datagrams.
 pub record Ran (most : ℕ) (nodes : List Node) (known : List Read → List Total → Type 0) (source source_now : Object) (took : ℕ) (wires wires_now : List Object) (totals : List Total) : Type 0 where
+  pub datagrams : List (List ℕ)
   pub reads : List Read
   pub are : known reads totals
-  pub forwards : Forwards most nodes reads wires wires_now no_totals totals
-  pub given : source.told ≡ with_datagrams (map (λ x. x.datagram) reads) source_now.told
+  pub read : AllZip IsReadOf datagrams reads
+  pub forwards : Forwards most nodes (length datagrams) reads wires wires_now no_totals totals
+  pub given : source.told ≡ with_datagrams datagrams source_now.told
   pub turns : source_now.turns ≡ min (source.turns + took) last_count
   pub many : length reads ≤ took
   pub faults : source_now.faults ≡ source.faults
@@ -149,8 +143,10 @@ pub record Ran (most : ℕ) (nodes : List Node) (known : List Read → List Tota
 
 pub ran_first : (most : ℕ) (nodes : List Node) (known : List Read → List Total → Type 0) (source : Object) (wires : List Object) (t : List Total) → known [] t → source.turns ≤ last_count → t ≡ no_totals → Ran most nodes known source source 0 wires wires t
 ran_first most nodes known source wires t are fits none = record {
+  datagrams = [];
   reads = [];
   are = are;
+  read = tt;
   forwards = Forwards-none most nodes wires no_totals t (none ∙ nothing_more nodes);
   given = with_datagrams-nil source.told;
   turns = omega (arith, fits);
@@ -183,21 +179,26 @@ module _ (most : ℕ) (nodes : List Node) (known : List Read → List Total → 
   same_given datagram gives = ap (λ (o : Object). record o { told = now.told; faults = now.faults; turns = now.turns }) (sym gives)
 
   -- a turn that gave a datagram, whose lines were sent
-  pub ran_read : (known_now : List Read → List Total → Type 0) (datagram : List ℕ) (up : ℕ) (wires wires_mid wires_now : List Object) (t t_now : List Total) → ((reads : List Read) → known reads t → known_now (reads ++ read_of datagram up ∷ []) t_now)
+  pub ran_read : (known_now : List Read → List Total → Type 0) (datagram : List ℕ) (up : ℕ) (wires wires_mid wires_now : List Object)
+      (t t_now : List Total) → ((reads : List Read) → known reads t → known_now (reads ++ datagram_read datagram up ∷ []) t_now)
       → Ran most nodes known source mid took wires wires_mid t → GivesDatagram datagram mid now
-      → Forwards most nodes (read_of datagram up ∷ []) wires_mid wires_now t t_now → Ran most nodes known_now source now (took + 1) wires wires_now t_now
+      → Forwards most nodes 1 (datagram_read datagram up ∷ []) wires_mid wires_now t t_now
+      → Ran most nodes known_now source now (took + 1) wires wires_now t_now
   ran_read known_now datagram up wires wires_mid wires_now t t_now next ran gives forwards =
-      let read : Read = read_of datagram up in
+      let read : Read = datagram_read datagram up in
       let told : mid.told ≡ with_datagrams (datagram ∷ []) now.told = ap (λ (o : Object). o.told) gives in
-      let datagrams : List Read → List (List ℕ) = map (λ (x : Read). x.datagram) in
       let count : length (ran.reads ++ read ∷ []) ≡ length ran.reads + 1 = length-append ran.reads (read ∷ []) in
       let turn : raised mid.turns ≡ now.turns = ap (λ (o : Object). o.turns) gives in
       record {
+        datagrams = ran.datagrams ++ datagram ∷ [];
         reads = ran.reads ++ read ∷ [];
         are = next ran.reads ran.are;
-        forwards = Forwards-next most nodes ran.reads (read ∷ []) wires wires_mid wires_now no_totals t t_now ran.forwards forwards;
-        given = ran.given ∙ ap (with_datagrams (datagrams ran.reads)) told ∙ with_datagrams-append now.told (datagrams ran.reads) (datagram ∷ [])
-            ∙ ap (λ ds. with_datagrams ds now.told) (sym (map-append (λ (x : Read). x.datagram) ran.reads (read ∷ [])));
+        read = zip_push IsReadOf ran.datagrams ran.reads datagram read ran.read (refl, refl);
+        forwards = subst (λ (n : ℕ). Forwards most nodes n (ran.reads ++ read ∷ []) wires wires_now no_totals t_now)
+            (sym (length-append ran.datagrams (datagram ∷ [])))
+            (Forwards-next most nodes (length ran.datagrams) 1 ran.reads
+            (read ∷ []) wires wires_mid wires_now no_totals t t_now ran.forwards forwards);
+        given = ran.given ∙ ap (with_datagrams ran.datagrams) told ∙ with_datagrams-append now.told ran.datagrams (datagram ∷ []);
         turns = omega (arith, turn, ran.turns);
         many = omega (arith, count, ran.many);
         faults = ap (λ (o : Object). o.faults) (sym gives) ∙ ran.faults;
@@ -209,10 +210,12 @@ module _ (most : ℕ) (nodes : List Node) (known : List Read → List Total → 
   ran_idle wires wires_now t ran idle =
       let turn : now.turns ≡ raised mid.turns = ap (λ (o : Object). o.turns) idle in
       record {
+        datagrams = ran.datagrams;
         reads = ran.reads;
         are = ran.are;
+        read = ran.read;
         forwards = ran.forwards;
-        given = ran.given ∙ ap (λ (o : Object). with_datagrams (map (λ (x : Read). x.datagram) ran.reads) o.told) (sym idle);
+        given = ran.given ∙ ap (λ (o : Object). with_datagrams ran.datagrams o.told) (sym idle);
         turns = omega (arith, turn, ran.turns);
         many = omega (arith, ran.many);
         faults = ap (λ (o : Object). o.faults) idle ∙ ran.faults;
@@ -223,13 +226,12 @@ module _ (most : ℕ) (nodes : List Node) (known : List Read → List Total → 
   pub ran_out : (wires wires_now : List Object) (ended : Ended) (t : code.ProxyTotals) (p : Proxied) → p.ended ≡ ended → p.totals ≡ t → Ran most nodes known source mid took wires wires_now (totals_view t) → length wires ≡ length nodes
       → now ≡ record mid { faults = now.faults } → EndsReceiver 0 (end_view ended) source now 0 took → Out most nodes known source now wires wires_now p
   ran_out wires wires_now ended t p so counts ran each last ends = record {
-    relay = record { reads = ran.reads; batched = ran.forwards.batched; ended = end_view ended };
+    relay = record { datagrams = ran.datagrams; reads = ran.reads; batched = ran.forwards.batched; ended = end_view ended };
     are = subst (known ran.reads) ran.forwards.counted ran.are;
     relays = record {
-      given = ran.given ∙ ap (λ (o : Object). with_datagrams (map (λ (x : Read). x.datagram) ran.reads) o.told) (sym last);
-      packets = ran.forwards.packets;
-      each = each;
-      sends = ran.forwards.sends;
+      given = ran.given ∙ ap (λ (o : Object). with_datagrams ran.datagrams o.told) (sym last);
+      read = ran.read;
+      forwarded = record { packets = ran.forwards.are; each = each; sends = ran.forwards.sends };
       turned = took;
       turns = ap (λ (o : Object). o.turns) last ∙ ran.turns;
       many = ran.many;
@@ -253,7 +255,9 @@ pub out_under : (most : ℕ) (nodes : List Node) (up : ℕ) (source now : Object
 out_under most nodes up source now wires wires_now p out = record { relay = out.relay; under = out.are; relays = out.relays; totals = out.totals; ended = out.ended }
 
 -- what a receiver did by looks
-pub out_looked : (most : ℕ) (nodes : List Node) (old new : RelaySeen) (p : Proxied) → Out most nodes (Looked nodes (record { history = old.history; looks = old.looks; events = old.events }) (record { history = new.history; looks = new.looks; events = new.events })) old.source new.source old.wires new.wires p
+pub out_looked : (most : ℕ) (nodes : List Node) (old new : RelaySeen) (p : Proxied)
+    → Out most nodes (Looked 1 most nodes (record { history = old.history; looks = old.looks; events = old.events })
+    (record { history = new.history; looks = new.looks; events = new.events })) old.source new.source old.wires new.wires p
     → ProxiesByLooks most nodes old new p
 out_looked most nodes old new p out =
     let counts = out.are.counts in
@@ -262,7 +266,11 @@ out_looked most nodes old new p out =
       each = out.are.each;
       looks = out.are.answered;
       relays = out.relays;
-      counts = (map CountsDatagram counts.counts, counts.are, record { counts = counts.counts; are = refl; each = counts.each; sum = counts.sum });
-      totals = out.totals;
-      ended = out.ended;
+      counts = (
+        map CountsRead counts.counts,
+        counts.are,
+        record { counts = counts.counts; are = refl; each = counts.each; sum = counts.sum },
+      );
+      totals_are = out.totals;
+      ended_so = out.ended;
     }

@@ -110,7 +110,7 @@ Sends-next xs ys old mid new s t u first second = record {
 }
 
 -- a count to which nothing is added
-steady : (n : ℕ) → n ≤ last_counted → n ≡ counted n 0
+pub steady : (n : ℕ) → n ≤ last_counted → n ≡ counted n 0
 steady n few = omega (arith, few)
 
 -- no packet

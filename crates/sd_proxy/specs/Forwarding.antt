@@ -1,7 +1,8 @@
 -- Lines that were sent on the wires of their owners, or wait for that, and counted.
-use Rattle.std.specs.Prelude.{◌≡◌, ℕ, ◌<◌, ◌≤◌, List, [], ◌++◌, All, filter, get_or, length, map}
+use Rattle.std.specs.Prelude.{◌≡◌, ℕ, ◌+◌, ◌<◌, ◌≤◌, List, [], ◌++◌, All, filter, get_or, length, map}
 use Rattle.sd_model_outside.specs.Outside.{Object}
 use Rattle.sd_model_settings.specs.Entries.{Node}
+use Rattle.sd_model_text.specs.Lines.{lines}
 use Rattle.sd_model_proxy.specs.Batches.{AreBatched, AreForwarded, Batched, add_totals, batches, totals_by, totals_of}
 use Rattle.sd_model_proxy.specs.Routes.{Read, Route, goes_to, route}
 use Rattle.sd_model_record.specs.Totals.{Total}
@@ -12,26 +13,32 @@ use Rattle.sd_proxy.specs.declared.waiting.Waiting.{Waiting}
 abbrev pub NoneWaits : (most : ℕ) → List Waiting → Type 0
 NoneWaits most waiting = All (Holds most []) waiting
 
--- Datagrams, each with the nodes that were up, were read, their lines were sent in packets of at most so many bytes, and counted.
-pub record Forwards (most : ℕ) (nodes : List Node) (reads : List Read) (wires wires_now : List Object) (totals totals_now : List Total) : Type 0 where
+-- the read of a datagram, with the nodes that were up
+abbrev pub datagram_read : (datagram : List ℕ) → (up : ℕ) → Read
+datagram_read datagram up = record { lines = lines datagram; long = 0; up = up }
+
+-- The lines of reads, of so many datagrams in all, were sent in packets of at most so many bytes, and counted.
+pub record Forwards (most : ℕ) (nodes : List Node) (packets : ℕ) (reads : List Read) (wires wires_now : List Object)
+    (totals totals_now : List Total) : Type 0 where
   pub batched : Batched
-  pub packets : AreBatched most nodes reads batched
+  pub are : AreBatched most nodes reads batched
   pub sends : AreForwarded batched wires wires_now
-  pub counted : totals_now ≡ add_totals totals (totals_of nodes reads batched)
+  pub counted : totals_now ≡ add_totals totals (totals_of nodes packets reads batched)
 
 -- the lines of these that go to the node in a place
 abbrev pub lines_for : List Node → (up place : ℕ) → List (List ℕ) → List (List ℕ)
 lines_for nodes up place lines = filter (λ line. goes_to place (route line nodes up)) lines
 
--- What stands within one datagram: lines that went so were counted, and of those for the node in each place some packets were sent and
--- some lines wait, as this says.
-pub record Stands (says : ℕ → List (List (List ℕ)) → List (List ℕ) → Type 0) (most : ℕ) (nodes : List Node) (routes : List Route) (waiting : List Waiting) (first wires : List Object) (totals totals_now : List Total) : Type 0 where
+-- What stands within one read: so many datagrams, so many lines that were too long, and lines that went so were counted, and of those
+-- for the node in each place some packets were sent and some lines wait, as this says.
+pub record Stands (says : ℕ → List (List (List ℕ)) → List (List ℕ) → Type 0) (most : ℕ) (nodes : List Node) (packets long : ℕ)
+    (routes : List Route) (waiting : List Waiting) (first wires : List Object) (totals totals_now : List Total) : Type 0 where
   pub sent : Batched
   pub begun : ℕ → List (List ℕ)
   pub are : (place : ℕ) → says place (map (λ b. b.lines) (sent place)) (begun place)
   pub holds : (place : ℕ) (d : Waiting) → place < length waiting → Holds most (begun place) (get_or waiting place d)
   pub sends : AreForwarded sent first wires
-  pub counted : totals_now ≡ add_totals totals (totals_by nodes 1 routes sent)
+  pub counted : totals_now ≡ add_totals totals (totals_by nodes packets long routes sent)
 
 -- where lines go
 abbrev pub routes_by : List Node → ℕ → List (List ℕ) → List Route
@@ -42,9 +49,17 @@ pub record IsUnderWay (most : ℕ) (nodes : List Node) (up : ℕ) (done : List (
   pub past : length nodes ≤ place → begun ≡ []
   pub cut : (lines : List (List ℕ)) → batches most (lines_for nodes up place done ++ lines) ≡ packets ++ batches_behind most begun lines
 
--- these lines of a datagram were taken, each behind those before
-abbrev pub AreUnderWay : ℕ → List Node → (up : ℕ) → (done : List (List ℕ)) → List Waiting → (first wires : List Object) → (totals totals_now : List Total) → Type 0
-AreUnderWay most nodes up done = Stands (IsUnderWay most nodes up done) most nodes (routes_by nodes up done)
+-- these lines of a read were taken, each behind those before
+abbrev pub AreUnderWay : ℕ → List Node → (up packets long : ℕ) → (done : List (List ℕ)) → List Waiting → (first wires : List Object)
+    → (totals totals_now : List Total) → Type 0
+AreUnderWay most nodes up packets long done = Stands (IsUnderWay most nodes up done) most nodes packets long (routes_by nodes up done)
+
+-- Lines of a read were taken behind those before, whichever these were, with so many that were too long.
+pub record TakesLines (nodes : List Node) (up : ℕ) (taken : List (List ℕ)) (too_long : ℕ) (waiting waiting_now : List Waiting)
+    (wires wires_now : List Object) (totals totals_now : List Total) : Type 0 where
+  pub on : (most packets long : ℕ) (done : List (List ℕ)) (first : List Object) (t : List Total)
+      → AreUnderWay most nodes up packets long done waiting first wires t totals
+      → AreUnderWay most nodes up packets (long + too_long) (done ++ taken) waiting_now first wires_now t totals_now
 
 -- no more lines come: the packets that were sent to a node, and that of the lines that wait, are all; and none wait before a place
 pub record IsLeft (most : ℕ) (nodes : List Node) (up : ℕ) (done : List (List ℕ)) (to : ℕ) (place : ℕ) (packets : List (List (List ℕ))) (begun : List (List ℕ)) : Type 0 where
@@ -52,6 +67,8 @@ pub record IsLeft (most : ℕ) (nodes : List Node) (up : ℕ) (done : List (List
   pub before : place < to → begun ≡ []
   pub cut : batches most (lines_for nodes up place done) ≡ packets ++ under_way begun
 
--- these lines, which are all of a datagram, were sent
-abbrev pub AreSent : ℕ → List Node → (up : ℕ) → (done : List (List ℕ)) → List Waiting → (first wires : List Object) → (totals totals_now : List Total) → Type 0
-AreSent most nodes up done = Stands (IsLeft most nodes up done (length nodes)) most nodes (routes_by nodes up done)
+-- these lines, which are all of a read, were sent
+abbrev pub AreSent : ℕ → List Node → (up packets long : ℕ) → (done : List (List ℕ)) → List Waiting → (first wires : List Object)
+    → (totals totals_now : List Total) → Type 0
+AreSent most nodes up packets long done = Stands (IsLeft most nodes up done (length nodes)) most nodes packets long
+    (routes_by nodes up done)

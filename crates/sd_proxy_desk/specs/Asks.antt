@@ -1,6 +1,6 @@
 -- What a proxy's desk is asked for, and what it does.
 use Rattle.std.specs.Prelude.{◌≡◌, ℕ, List, map}
-use Rattle.sd_model_live.specs.Desk.{CountsCheck, CountsDatagram, HearsFacts, IsHeard, ProxyAct, ProxyEvent, SaysHealth, facts_after, first_facts}
+use Rattle.sd_model_live.specs.Desk.{CountsCheck, CountsRead, HearsFacts, IsHeard, ProxyAct, ProxyEvent, SaysHealth, facts_after, first_facts}
 use Rattle.sd_model_live.specs.Desk as model
 use Rattle.sd_proxy_desk.specs.Views.{facts_view, totals_view}
 use Rattle.sd_proxy_desk.specs.declared.ask.ProxyAsk.{ProxyAsk}
@@ -17,7 +17,7 @@ facts_in (Told f) = facts_view f
 
 -- the event that an ask and its reply are
 abbrev pub event_of : ProxyAsk → ProxyReply → ProxyEvent
-event_of (Count totals) reply = CountsDatagram (totals_view totals)
+event_of (Count totals) reply = CountsRead (totals_view totals)
 event_of (Check failed) reply = CountsCheck failed
 event_of (SetHealth up) reply = SaysHealth up
 event_of Facts reply = HearsFacts (facts_in reply)

@@ -1,4 +1,5 @@
 pub mod Views
+pub mod Ends
 pub mod Asks
 pub mod Behind
 pub mod BehindInside

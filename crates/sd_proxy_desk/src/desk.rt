@@ -1,6 +1,6 @@
 ghost use Rattle.std.specs.Prelude.{◌≡◌, ◌<◌, ◌∷◌, ◌++◌, [], length, map, IfOk, All};
 ghost use Rattle.sd_turn.specs.Lists.{span};
-ghost use Rattle.sd_model_live.specs.Desk.{CountsDatagram, CountsCheck, SaysHealth, HearsFacts};
+ghost use Rattle.sd_model_live.specs.Desk.{CountsRead, CountsCheck, SaysHealth, HearsFacts};
 ghost use Rattle.sd_proxy_desk.specs.Views.{facts_view, totals_view};
 
 use crate::ask::{ProxyAsk, ProxyReply};
@@ -50,11 +50,11 @@ impl ProxyDesk {
         self.turn.with_turn(rt, own, &mut ask, || ())
     }
 
-    /// Counts what a datagram came to.
+    /// Counts what a read came to: a datagram, or the lines that one read of a stream ended.
     pub fn count<R: Wait>(&self, rt: &R, totals: ProxyTotals, own: &mut ProxySeat)
         requires { IsSeatOf self.now own.old }
         ensures seat { IsSeatOf self.now own.new × (number_of_seat own.new ≡ number_of_seat own.old) }
-        ensures did { events_of own.new ≡ events_of own.old ++ CountsDatagram (totals_view totals) ∷ [] }
+        ensures did { events_of own.new ≡ events_of own.old ++ CountsRead (totals_view totals) ∷ [] }
     {
         match self.ask(rt, own, ProxyAsk::Count { totals }) {
             ProxyReply::Done => {}

@@ -1,11 +1,11 @@
 ghost use Rattle.std.specs.Prelude.{◌≡◌};
-ghost use Rattle.sd_model_live.specs.Desk.{CountsCheck, CountsDatagram, facts_after, first_facts};
+ghost use Rattle.sd_model_live.specs.Desk.{CountsCheck, CountsRead, facts_after, first_facts};
 ghost use Rattle.sd_proxy_desk.specs.Views.{facts_view, totals_view};
 
 use crate::totals::{ProxyTotals, raised};
 
-/// What a proxy tells of itself: what its receivers counted, how many checks were made and how many of their questions failed, each up to
-/// 2^63, and whether it is said to be well.
+/// What a proxy tells of itself: what its receivers and its reader of lines counted, how many checks were made and how many of their
+/// questions failed, each up to 2^63, and whether it is said to be well.
 #[derive(Clone, Copy, Debug, PartialEq, Eq)]
 pub struct ProxyFacts {
     pub totals: ProxyTotals,
@@ -27,9 +27,9 @@ impl ProxyFacts {
         }
     }
 
-    // Adds what a datagram came to.
+    // Adds what a read came to.
     pub(crate) fn add_totals(&mut self, totals: ProxyTotals)
-        ensures { facts_view self.new ≡ facts_after (facts_view self.old) (CountsDatagram (totals_view totals)) }
+        ensures { facts_view self.new ≡ facts_after (facts_view self.old) (CountsRead (totals_view totals)) }
     {
         self.totals = self.totals.and(totals);
     }

@@ -67,9 +67,17 @@ impl ProxyTotals {
 
     /// Counts a datagram.
     pub fn add_packet(&mut self)
-        ensures { totals_view self.new ≡ add_totals (totals_view self.old) (totals_by [] 1 [] (λ place. [])) }
+        ensures { totals_view self.new ≡ add_totals (totals_view self.old) (totals_by [] 1 0 [] (λ place. [])) }
     {
         self.packets = raised(self.packets, 1);
+    }
+
+    /// Counts a line that is too long, which is bad.
+    pub fn add_long(&mut self)
+        ensures { totals_view self.new ≡ add_totals (totals_view self.old) (totals_by [] 0 1 [] (λ place. [])) }
+    {
+        self.lines = raised(self.lines, 1);
+        self.bad = raised(self.bad, 1);
     }
 
     /// Counts a line, by where it goes.

@@ -1,3 +1,4 @@
+pub mod LineLemmas
 pub mod LookLemmas
 pub mod OwnLemmas
 pub mod PostLemmas

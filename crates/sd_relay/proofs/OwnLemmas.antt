@@ -1,5 +1,5 @@
 -- Passes and seats, paired.
-use Rattle.std.proofs.Common.{◌≡◌, ◌∙◌, ℕ, zero, suc, ◌+◌, List, [], ◌∷◌, ◌++◌, All, length, map, refl, ap, arith}
+use Rattle.std.proofs.Common.{◌≡◌, ◌∙◌, ℕ, zero, suc, ◌+◌, List, [], ◌∷◌, ◌++◌, All, length, map, refl, sym, ap, arith}
 use Rattle.std.specs.List.{AllByRecursion}
 use Rattle.std.proofs.lemmas.List.Elements.{All-nil, All-cons}
 use Rattle.sd_turn.specs.Lists.{span}
@@ -11,11 +11,12 @@ use Rattle.sd_proxy_desk.specs.declared.desk.ProxyDesk.{ProxyDesk}
 use Rattle.sd_proxy_desk.specs.declared.hub.ProxyPass.{ProxyPass}
 use Rattle.sd_relay.specs.Owns.{IsFreshOwn, number_of, pass_of, seat_of}
 
--- What seats have these numbers, in order: those of a list, and two more.
-pub record Numbered (from : ℕ) (owns : List ProxyPass) (next last : OwnSeat) : Type 0 where
+-- What seats have these numbers, in order: those of a list, two more, and those of another list.
+pub record Numbered (from : ℕ) (owns : List ProxyPass) (next last : OwnSeat) (more : List ProxyPass) : Type 0 where
   pub front : map number_of owns ≡ span from (length owns)
   pub checker : number_of_seat next ≡ from + length owns
   pub port : number_of_seat last ≡ from + length owns + 1
+  pub behind : map number_of more ≡ span (from + length owns + 2) (length more)
 
 -- the first of two equal lists, and what stands behind it
 head_is : (a b : ℕ) (xs ys : List ℕ) → a ∷ xs ≡ b ∷ ys → a ≡ b
@@ -24,19 +25,43 @@ head_is a b xs ys same = cc
 tail_is : (a b : ℕ) (xs ys : List ℕ) → a ∷ xs ≡ b ∷ ys → xs ≡ ys
 tail_is a b xs ys same = cc
 
+-- the numbers of seats are those of who has them
+numbers_of : (owns : List ProxyPass) → map number_of_seat (map seat_of owns) ≡ map number_of owns
+numbers_of [] = refl
+numbers_of (own ∷ owns) = ap (λ l. number_of own ∷ l) (numbers_of owns)
+
 -- seats that have the numbers from one on, in order
-pub numbered : (from : ℕ) (owns : List ProxyPass) (checker port : OwnSeat) → map number_of_seat (map seat_of owns ++ checker ∷ port ∷ []) ≡ span from (length owns + 2) → Numbered from owns checker port
-numbered from [] checker port same =
-    let first : number_of_seat checker ≡ from = head_is _ _ _ _ same in
-    let second : number_of_seat port ≡ from + 1 = head_is _ _ _ _ (tail_is _ _ _ _ same) in
-    record { front = refl; checker = omega (arith, first); port = omega (arith, second) }
-numbered from (own ∷ owns) checker port same =
+pub numbered : (from : ℕ) (owns : List ProxyPass) (checker port : OwnSeat) (more : List ProxyPass)
+    → map number_of_seat (map seat_of owns ++ checker ∷ port ∷ map seat_of more) ≡ span from (length owns + 2 + length more)
+    → Numbered from owns checker port more
+numbered from [] checker port more same =
+    let count : ℕ = length more in
+    let two : length {A = ProxyPass} [] + 2 + count ≡ suc (suc count) = omega arith in
+    let all = same ∙ ap (span from) two in
+    let rest = tail_is _ _ _ _ all in
+    let first : number_of_seat checker ≡ from = head_is _ _ _ _ all in
+    let second : number_of_seat port ≡ from + 1 = head_is _ _ _ _ rest in
+    let next : from + 1 + 1 ≡ from + length {A = ProxyPass} [] + 2 = omega arith in
+    record {
+      front = refl;
+      checker = omega (arith, first);
+      port = omega (arith, second);
+      behind = sym (numbers_of more) ∙ tail_is _ _ _ _ rest ∙ ap (λ n. span n count) next;
+    }
+numbered from (own ∷ owns) checker port more same =
     let count : ℕ = length owns in
-    let more : length (own ∷ owns) + 2 ≡ suc (count + 2) = omega arith in
-    let all = same ∙ ap (span from) more in
+    let others : ℕ = length more in
+    let all_count : length (own ∷ owns) + 2 + others ≡ suc (count + 2 + others) = omega arith in
+    let all = same ∙ ap (span from) all_count in
     let first : number_of own ≡ from = head_is _ _ _ _ all in
-    let n = numbered (from + 1) owns checker port (tail_is _ _ _ _ all) in
-    record { front = λ i. first i ∷ n.front i; checker = omega (arith, n.checker); port = omega (arith, n.port) }
+    let n = numbered (from + 1) owns checker port more (tail_is _ _ _ _ all) in
+    let next : from + 1 + count + 2 ≡ from + length (own ∷ owns) + 2 = omega arith in
+    record {
+      front = λ i. first i ∷ n.front i;
+      checker = omega (arith, n.checker);
+      port = omega (arith, n.port);
+      behind = n.behind ∙ ap (λ k. span k others) next;
+    }
 
 -- how many numbers a span has
 pub span_length : (from n : ℕ) → length (span from n) ≡ n

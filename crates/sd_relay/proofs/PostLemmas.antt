@@ -1,5 +1,5 @@
 -- Posts that were run: what their receivers did together.
-use Rattle.std.proofs.Common.{◌≡◌, ℕ, zero, suc, ◌+◌, ◌<◌, List, [], ◌∷◌, ◌++◌, length, map, flat_map, take, drop, All, refl, sym, ap, subst, ◌∙◌, arith, append_assoc, length-append}
+use Rattle.std.proofs.Common.{◌≡◌, ℕ, zero, suc, ◌+◌, ◌<◌, List, [], ◌∷◌, ◌++◌, length, map, flat_map, take, drop, All, refl, sym, ap, subst, ◌∙◌, ◌*◌, arith, suc-mul, length-append}
 use Rattle.std.specs.Prelude.{slice_index_or, ⊤}
 use Rattle.std.specs.List.{AllByRecursion}
 use Rattle.std.proofs.lemmas.List.Elements.{All-nil, All-cons, All-head, All-tail}
@@ -15,7 +15,6 @@ use Rattle.sd_live.specs.declared.pass.UpPass.{UpPass}
 use Rattle.sd_live.specs.declared.up_cell.UpCell.{UpCell}
 use Rattle.sd_proxy_desk.specs.Shared.{IsSeatOf, OwnSeat, events_of, number_of_seat}
 use Rattle.sd_proxy_desk.specs.declared.desk.ProxyDesk.{ProxyDesk}
-use Rattle.sd_proxy_desk.specs.declared.hub.ProxyPass.{ProxyPass}
 use Rattle.sd_proxy.specs.Views.{end_view}
 use Rattle.sd_relay.specs.Owns.{IsFreshOwn, number_of, pass_of, seat_of}
 use Rattle.sd_relay.specs.Parts.{IsFitted, NoLineWaits, own_in, source_in, wires_in}
@@ -25,13 +24,15 @@ use Rattle.sd_relay.specs.Sums.{WasRun, totals_by, totals_in}
 use Rattle.sd_relay.specs.declared.post.Post.{Post}
 
 -- a run of wires, and what stands behind it
-take_run : {L : Type 0} (see : L → Object) (n : ℕ) (first behind : List L) → length first ≡ n → take n (map see (first ++ behind)) ≡ map see first
+pub take_run : {L : Type 0} (see : L → Object) (n : ℕ) (first behind : List L) → length first ≡ n → take n (map see (first ++ behind))
+    ≡ map see first
 take_run see zero [] behind len = refl
 take_run see zero (w ∷ first) behind len = absurd (omega (arith, len))
 take_run see (suc n) [] behind len = absurd (omega (arith, len))
 take_run see (suc n) (w ∷ first) behind len = ap (λ ws. see w ∷ ws) (take_run see n first behind (omega (arith, len)))
 
-drop_run : {L : Type 0} (see : L → Object) (n : ℕ) (first behind : List L) → length first ≡ n → drop n (map see (first ++ behind)) ≡ map see behind
+pub drop_run : {L : Type 0} (see : L → Object) (n : ℕ) (first behind : List L) → length first ≡ n → drop n (map see (first ++ behind))
+    ≡ map see behind
 drop_run see zero [] behind len = refl
 drop_run see zero (w ∷ first) behind len = absurd (omega (arith, len))
 drop_run see (suc n) [] behind len = absurd (omega (arith, len))
@@ -47,9 +48,9 @@ module _ {D L : Type 0} (cell : UpCell) (desk : ProxyDesk) (history : List ℕ) 
   abbrev pub AreFresh : List (Post D L) → Type 0
   AreFresh posts = AllByRecursion (λ p. IsFreshOwn cell desk history p.own) posts
 
-  pub fresh_posts : (xs : List (Post D L)) (more : List ProxyPass) → AllByRecursion (IsFreshOwn cell desk history) (map own_in xs ++ more) → AreFresh xs
-  fresh_posts [] more all = tt
-  fresh_posts (x ∷ xs) more all = (all.0, fresh_posts xs more all.1)
+  pub fresh_posts : (xs : List (Post D L)) → AllByRecursion (IsFreshOwn cell desk history) (map own_in xs) → AreFresh xs
+  fresh_posts [] all = tt
+  fresh_posts (x ∷ xs) all = (all.0, fresh_posts xs all.1)
 
   pub ready_posts : (nodes : List Node) (xs : List (Post D L)) → AreFresh xs → AllByRecursion (IsFitted nodes) xs → All (IsReady cell desk) xs
   ready_posts nodes [] fresh fitted = All-nil (IsReady cell desk)
@@ -126,14 +127,17 @@ module _ {D L : Type 0} (seen : D → Object) (wire_seen : L → Object) (cell :
   relays_ended most [] [] all clear = refl
   relays_ended most [] (y ∷ ys) all clear = absurd all
   relays_ended most (x ∷ xs) [] all clear = refl
-  relays_ended most (x ∷ xs) (y ∷ ys) all clear = λ i. (ap (λ o. end_view (ended_by o)) all.0.got_is ∙ (all.0.proxies most clear.0).ended) i ∷ relays_ended most xs ys all.1 clear.1 i
+  relays_ended most (x ∷ xs) (y ∷ ys) all clear = λ i.
+      (ap (λ o. end_view (ended_by o)) all.0.got_is ∙ (all.0.proxies most clear.0).ended_so) i ∷ relays_ended most xs ys all.1 clear.1 i
 
   pub relays_counted : (most : ℕ) (nodes : List Node) (xs ys : List (Post D L)) (all : AllRan xs ys) (clear : AreClear most xs) → AllByRecursion (IsFitted nodes) xs → map totals_in ys ≡ map (relay_totals nodes) (relays_of most xs ys all clear)
   relays_counted most nodes [] [] all clear fitted = refl
   relays_counted most nodes [] (y ∷ ys) all clear fitted = absurd all
   relays_counted most nodes (x ∷ xs) [] all clear fitted = refl
   relays_counted most nodes (x ∷ xs) (y ∷ ys) all clear fitted = λ i.
-      (ap totals_by all.0.got_is ∙ (all.0.proxies most clear.0).totals ∙ ap (λ ns. relay_totals ns (all.0.proxies most clear.0).relay) fitted.0.0) i ∷ relays_counted most nodes xs ys all.1 clear.1 fitted.1 i
+      (ap totals_by all.0.got_is ∙ (all.0.proxies most clear.0).totals_are
+      ∙ ap (λ ns. relay_totals ns (all.0.proxies most clear.0).relay) fitted.0.0) i ∷ relays_counted most nodes xs ys all.1 clear.1
+      fitted.1 i
 
   -- what each saw is a beginning of the history of all sets
   pub relays_looked : (most : ℕ) (nodes : List Node) (history : List ℕ) (more : List UpPass) (xs ys : List (Post D L)) (all : AllRan xs ys) (clear : AreClear most xs) → AreFresh cell desk (first_history nodes) xs
@@ -149,7 +153,8 @@ module _ {D L : Type 0} (seen : D → Object) (wire_seen : L → Object) (cell :
   -- each receiver, numbered from this number on, counted each of its datagrams in the history of the desk
   pub relays_acted : (most : ℕ) (nodes : List Node) (seen_first : List ℕ) (log : List ProxyAct) (more : List OwnSeat) (from : ℕ) (xs ys : List (Post D L)) (all : AllRan xs ys) (clear : AreClear most xs)
       → AreFresh cell desk seen_first xs → AllByRecursion (IsFitted nodes) xs → map number_of (map own_in xs) ≡ span from (length xs)
-      → AllByRecursion (λ s. events_of s ≡ done_by (number_of_seat s) log) (map seat_of (map own_in ys) ++ more) → AreCounted nodes from (relays_of most xs ys all clear) log
+      → AllByRecursion (λ s. events_of s ≡ done_by (number_of_seat s) log) (map seat_of (map own_in ys) ++ more)
+      → AreCounted 1 most nodes from (relays_of most xs ys all clear) log
   relays_acted most nodes seen_first log more from [] [] all clear fresh fitted numbers own = tt
   relays_acted most nodes seen_first log more from [] (y ∷ ys) all clear fresh fitted numbers own = absurd all
   relays_acted most nodes seen_first log more from (x ∷ xs) [] all clear fresh fitted numbers own = absurd all
@@ -159,34 +164,54 @@ module _ {D L : Type 0} (seen : D → Object) (wire_seen : L → Object) (cell :
       let events : List ProxyEvent = did.0 in
       let number : number_of_seat x.own.seat ≡ from = cc in
       let rest : map number_of (map own_in xs) ≡ span (from + 1) (length xs) = cc in
-      let is : events ≡ done_by from log = sym (did.1 ∙ ap (λ (l : List ProxyEvent). l ++ events) fresh.0.events) ∙ own.0 ∙ ap (λ n. done_by n log) (all.0.number ∙ number) in
-      (subst (λ l. CountsEach nodes relay l) is (subst (λ ns. CountsEach ns relay events) fitted.0.0 did.2), relays_acted most nodes seen_first log more (from + 1) xs ys all.1 clear.1 fresh.1 fitted.1 rest own.1)
+      let is : events ≡ done_by from log = sym (did.1 ∙ ap (λ (l : List ProxyEvent). l ++ events) fresh.0.events) ∙ own.0 ∙ ap (λ n. done_by n log) (all.0.number ∙ number) in (
+        subst (λ l. CountsEach 1 most nodes relay l) is (subst (λ ns. CountsEach 1 most ns relay events) fitted.0.0 did.2),
+        relays_acted most nodes seen_first log more (from + 1) xs ys all.1 clear.1 fresh.1 fitted.1 rest own.1,
+      )
 
   one_relay : (most : ℕ) (nodes : List Node) (x y : Post D L) (ran : Ran x y) (clear : NoLineWaits most x) → x.ring ≡ nodes → IsRelay most nodes (ran.proxies most clear).relay (seen x.packets) (seen y.packets) (map wire_seen x.wires.items) (map wire_seen y.wires.items)
   one_relay most nodes x y ran clear ring = subst (λ ns. IsRelay most ns (ran.proxies most clear).relay (seen x.packets) (seen y.packets) (map wire_seen x.wires.items) (map wire_seen y.wires.items)) ring (ran.proxies most clear).relays
 
-  pub all_relays : (most : ℕ) (nodes : List Node) (more : List D) (rest : List L) (xs ys : List (Post D L)) (all : AllRan xs ys) (clear : AreClear most xs) → AllByRecursion (IsFitted nodes) xs
-      → AreRelays most nodes (relays_of most xs ys all clear) (map seen (map source_in xs ++ more)) (map seen (map source_in ys ++ more)) (map wire_seen (flat_map wires_in xs ++ rest)) (map wire_seen (flat_map wires_in ys ++ rest))
-  all_relays most nodes more rest [] [] all clear fitted = (refl, refl)
-  all_relays most nodes more rest [] (y ∷ ys) all clear fitted = absurd all
-  all_relays most nodes more rest (x ∷ xs) [] all clear fitted = absurd all
-  all_relays most nodes more rest (x ∷ xs) (y ∷ ys) all clear fitted =
+  -- each did what a receiver does, with its own source and its own run of wires
+  pub all_relays : (most : ℕ) (nodes : List Node) (more : List D) (xs ys : List (Post D L)) (all : AllRan xs ys) (clear : AreClear most xs)
+      → AllByRecursion (IsFitted nodes) xs
+      → AreRelays most nodes (relays_of most xs ys all clear) (map seen (map source_in xs ++ more)) (map seen (map source_in ys ++ more))
+      (map wire_seen (flat_map wires_in xs)) (map wire_seen (flat_map wires_in ys))
+  all_relays most nodes more [] [] all clear fitted = (refl, refl)
+  all_relays most nodes more [] (y ∷ ys) all clear fitted = absurd all
+  all_relays most nodes more (x ∷ xs) [] all clear fitted = absurd all
+  all_relays most nodes more (x ∷ xs) (y ∷ ys) all clear fitted =
       let run : ℕ = length nodes in
-      let old = append_assoc x.wires.items (flat_map wires_in xs) rest in
-      let now = append_assoc y.wires.items (flat_map wires_in ys) rest in
       let old_len : length x.wires.items ≡ run = fitted.0.1 in
       let now_len : length y.wires.items ≡ run = sym y.wires.ok.0 ∙ all.0.wires ∙ x.wires.ok.0 ∙ old_len in
       let relay : Relay = (all.0.proxies most clear.0).relay in
-      let first : IsRelay most nodes relay (seen x.packets) (seen y.packets) (take run (map wire_seen (flat_map wires_in (x ∷ xs) ++ rest))) (take run (map wire_seen (flat_map wires_in (y ∷ ys) ++ rest))) =
-      subst (λ ws. IsRelay most nodes relay (seen x.packets) (seen y.packets) ws (take run (map wire_seen (flat_map wires_in (y ∷ ys) ++ rest))))
-      (sym (ap (λ ws. take run (map wire_seen ws)) old ∙ take_run wire_seen run x.wires.items (flat_map wires_in xs ++ rest) old_len))
+      let first : IsRelay most nodes relay (seen x.packets) (seen y.packets) (take run (map wire_seen (flat_map wires_in (x ∷ xs))))
+      (take run (map wire_seen (flat_map wires_in (y ∷ ys)))) =
+      subst (λ ws. IsRelay most nodes relay (seen x.packets) (seen y.packets) ws (take run (map wire_seen (flat_map wires_in (y ∷ ys)))))
+      (sym (take_run wire_seen run x.wires.items (flat_map wires_in xs) old_len))
       (subst (λ ws. IsRelay most nodes relay (seen x.packets) (seen y.packets) (map wire_seen x.wires.items) ws)
-      (sym (ap (λ ws. take run (map wire_seen ws)) now ∙ take_run wire_seen run y.wires.items (flat_map wires_in ys ++ rest) now_len))
+      (sym (take_run wire_seen run y.wires.items (flat_map wires_in ys) now_len))
       (one_relay most nodes x y all.0 clear.0 fitted.0.0)) in
-      let others = all_relays most nodes more rest xs ys all.1 clear.1 fitted.1 in
-      let behind = subst (λ ws. AreRelays most nodes (relays_of most xs ys all.1 clear.1) (map seen (map source_in xs ++ more)) (map seen (map source_in ys ++ more)) ws (drop run (map wire_seen (flat_map wires_in (y ∷ ys) ++ rest))))
-      (sym (ap (λ ws. drop run (map wire_seen ws)) old ∙ drop_run wire_seen run x.wires.items (flat_map wires_in xs ++ rest) old_len))
-      (subst (λ ws. AreRelays most nodes (relays_of most xs ys all.1 clear.1) (map seen (map source_in xs ++ more)) (map seen (map source_in ys ++ more)) (map wire_seen (flat_map wires_in xs ++ rest)) ws)
-      (sym (ap (λ ws. drop run (map wire_seen ws)) now ∙ drop_run wire_seen run y.wires.items (flat_map wires_in ys ++ rest) now_len))
+      let others = all_relays most nodes more xs ys all.1 clear.1 fitted.1 in
+      let behind = subst (λ ws. AreRelays most nodes (relays_of most xs ys all.1 clear.1) (map seen (map source_in xs ++ more))
+      (map seen (map source_in ys ++ more)) ws (drop run (map wire_seen (flat_map wires_in (y ∷ ys)))))
+      (sym (drop_run wire_seen run x.wires.items (flat_map wires_in xs) old_len))
+      (subst (λ ws. AreRelays most nodes (relays_of most xs ys all.1 clear.1) (map seen (map source_in xs ++ more))
+      (map seen (map source_in ys ++ more)) (map wire_seen (flat_map wires_in xs)) ws)
+      (sym (drop_run wire_seen run y.wires.items (flat_map wires_in ys) now_len))
       others) in
       (first, behind)
+
+-- as many wires as there are nodes, for each post
+pub runs_long : {D L : Type 0} (nodes : List Node) (xs : List (Post D L)) → AllByRecursion (IsFitted nodes) xs
+    → length (flat_map wires_in xs) ≡ length xs * length nodes
+runs_long nodes [] fitted = omega arith
+runs_long nodes (x ∷ xs) fitted =
+    let count : ℕ = length xs in
+    let run : ℕ = length nodes in
+    let rest = runs_long nodes xs fitted.1 in
+    let both = length-append x.wires.items (flat_map wires_in xs) in
+    let one : length x.wires.items ≡ run = fitted.0.1 in
+    let more : suc count * run ≡ count * run + run = suc-mul count run in
+    let step : length (flat_map wires_in (x ∷ xs)) ≡ suc count * run = omega (arith, rest, both, one, more) in
+    step

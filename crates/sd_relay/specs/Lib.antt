@@ -5,5 +5,8 @@ pub mod Port
 pub mod Objects
 pub mod Sums
 pub mod Parts
+pub mod LinePost
+pub mod Lining
+pub mod Postings
 pub mod Room
 pub mod Relaying

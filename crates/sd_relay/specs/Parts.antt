@@ -5,6 +5,7 @@ use Rattle.sd_model_settings.specs.Entries.{Node}
 use Rattle.sd_proxy_desk.specs.declared.hub.ProxyPass.{ProxyPass}
 use Rattle.sd_proxy.specs.Forwarding.{NoneWaits}
 use Rattle.sd_relay.specs.declared.parts.PostRoom.{PostRoom}
+use Rattle.sd_relay.specs.declared.parts.SendRoom.{SendRoom}
 use Rattle.sd_relay.specs.declared.post.Post.{Post}
 
 module _ {D L : Type 0} where
@@ -29,11 +30,19 @@ module _ {D L : Type 0} where
   abbrev pub NoLineWaits : (most : ℕ) → Post D L → Type 0
   NoLineWaits most post = NoneWaits most post.waiting.items
 
--- there is a ring of these nodes, room for a wire to each, of which none is there, for lines that wait for each, and for a datagram
+-- there is a ring of these nodes, room for a wire to each, of which none is there, and for lines that wait for each
+abbrev pub HasSends : {L : Type 0} → List Node → SendRoom L → Type 0
+HasSends nodes room =
+    (room.ring ≡ nodes) × (room.wires.items ≡ []) × (length nodes ≤ vec_capacity room.wires) × (length room.waiting.items ≡ length nodes)
+
+-- no line waits there, in room for packets of at most so many bytes
+abbrev pub NoneToSend : {L : Type 0} → (most : ℕ) → SendRoom L → Type 0
+NoneToSend most room = NoneWaits most room.waiting.items
+
+-- there is such room for these nodes, and room for a datagram
 abbrev pub HasPlace : {L : Type 0} → List Node → PostRoom L → Type 0
-HasPlace nodes room =
-    (room.ring ≡ nodes) × (room.wires.items ≡ []) × (length nodes ≤ vec_capacity room.wires) × (most_datagram ≤ length room.buf.items) × (length room.waiting.items ≡ length nodes)
+HasPlace nodes room = HasSends nodes room.sends × (most_datagram ≤ length room.buf.items)
 
 -- no line waits there, in room for packets of at most so many bytes
 abbrev pub IsClear : {L : Type 0} → (most : ℕ) → PostRoom L → Type 0
-IsClear most room = NoneWaits most room.waiting.items
+IsClear most room = NoneToSend most room.sends

@@ -1,5 +1,5 @@
 -- What the work of a port's keeper needs, and what it leaves.
-use Rattle.std.specs.Prelude.{◌≡◌, ℕ, ◌<◌, ◌^◌, false, List, ◌++◌}
+use Rattle.std.specs.Prelude.{◌≡◌, ℕ, List, ◌++◌}
 use Rattle.sd_model_outside.specs.Outside.{Object}
 use Rattle.sd_model_settings.specs.Settings.{Settings}
 use Rattle.sd_model_live.specs.Desk.{ProxyEvent}
@@ -11,7 +11,9 @@ use Rattle.sd_proxy_desk.specs.Shared.{IsSeatOf, events_of, number_of_seat}
 use Rattle.sd_proxy_desk.specs.declared.desk.ProxyDesk.{ProxyDesk}
 use Rattle.sd_proxy_desk.specs.declared.hub.ProxyPass.{ProxyPass}
 use Rattle.sd_talk.specs.Room.{IsLineRoom}
+use Rattle.sd_relay.specs.Objects.{IsDoorBefore}
 use Rattle.sd_relay.specs.declared.port.PortPost.{PortPost}
+use Rattle.sd_relay.specs.declared.port.PortRoom.{PortRoom}
 
 -- What was done at a port with what its keeper has: where the settings have a port, its sessions did this at the desk, and their looks
 -- told these sets.
@@ -22,14 +24,17 @@ pub record PortDone (s : Settings) (own own_now : ProxyPass) (door door_now : Ob
   pub did : events_of own_now.seat ≡ events_of own.seat ++ events
   pub looked : HaveAnswered (history_in own.pass) (history_in own_now.pass) ups
 
+-- the pass is the cell's, the seat one of the desk, and there is room for a line
+pub record IsReadyToKeep (cell : UpCell) (desk : ProxyDesk) (room : PortRoom) : Type 0 where
+  pub pass : IsPassOf cell room.own.pass
+  pub seat : IsSeatOf desk room.own.seat
+  pub line : IsLineRoom room.line
+
 module _ {E : Type 0} where
-  -- its pass is the cell's, its seat one of the desk, there is room for a line, and its door has no session out
+  -- it has what a keeper of a port has, and its door has no session out
   pub record CanKeep (seen : E → Object) (cell : UpCell) (desk : ProxyDesk) (p : PortPost E) : Type 0 where
-    pub pass : IsPassOf cell p.room.now.own.pass
-    pub seat : IsSeatOf desk p.room.now.own.seat
-    pub line : IsLineRoom p.room.now.line
-    pub none_out : (seen p.door.now).is_out ≡ false
-    pub turns : (seen p.door.now).turns < 2 ^ 62
+    pub room : IsReadyToKeep cell desk p.room.now
+    pub door : IsDoorBefore (seen p.door.now)
 
   -- It kept the port, if there is one, and works with the same as before.
   pub record HasKept (seen : E → Object) (cell : UpCell) (desk : ProxyDesk) (s : Settings) (old new : PortPost E) : Type 0 where

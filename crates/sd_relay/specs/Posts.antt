@@ -1,5 +1,5 @@
 -- What a receiver's post has to have, and what running it leaves.
-use Rattle.std.specs.Prelude.{◌≡◌, ◌≤◌, ℕ, length, map, vec_len, Some}
+use Rattle.std.specs.Prelude.{◌≡◌, ◌<◌, ◌≤◌, ℕ, List, length, map, slice_index_or, vec_len, Some}
 use Rattle.sd_model_outside.specs.Outside.{Object}
 use Rattle.sd_model_outside.specs.Turns.{most_datagram}
 use Rattle.sd_live.specs.declared.up_cell.UpCell.{UpCell}
@@ -34,3 +34,9 @@ module _ {D L : Type 0} where
     pub wires : vec_len new.wires ≡ vec_len old.wires
     pub room : vec_len new.buf ≡ vec_len old.buf
     pub proxies : (most : ℕ) → NoneWaits most old.waiting.items → ProxiesByLooks most old.ring (relay_seen old.own (seen old.packets) (map wire_seen old.wires.items)) (relay_seen new.own (seen new.packets) (map wire_seen new.wires.items)) got
+
+  -- each post was run
+  pub record WereRun (seen : D → Object) (wire_seen : L → Object) (cell : UpCell) (desk : ProxyDesk)
+      (old new : List (Post D L)) : Type 0 where
+    pub len : length new ≡ length old
+    pub each : (i : ℕ) (d : Post D L) → i < length old → HasRun seen wire_seen cell desk (slice_index_or old i d) (slice_index_or new i d)

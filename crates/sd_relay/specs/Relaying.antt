@@ -1,5 +1,5 @@
 -- What a run of a proxy leaves.
-use Rattle.std.specs.Prelude.{◌≡◌, ℕ, ◌^◌, min, List, length, map, Option, Some, None}
+use Rattle.std.specs.Prelude.{◌≡◌, ℕ, ◌^◌, min, List, ◌++◌, length, map, Option, Some, None, option_to_list}
 use Rattle.sd_model_settings.specs.Settings.{Settings}
 use Rattle.sd_model_proxy.specs.Relays.{Relay, relays_totals}
 use Rattle.sd_model_live.specs.Checks.{Check, failed_in}
@@ -26,16 +26,22 @@ module _ {D L : Type 0} where
 
   -- for how many receivers a room is
   abbrev pub receivers_in : RelayRoom D L → ℕ
-  receivers_in room = length room.rooms.items
+  receivers_in room = length room.postings.rooms.items
 
--- A proxy of these settings was run, its theorem holds of what was done, and it left how its receivers and its checker ended, what these counted, the
--- receivers added up, and how many checks were made.
-pub record HasRelayed (s : Settings) (receivers : ℕ) (o o_now : ProxyObjects) (r : Relayed) : Type 0 where
+  -- and for how many readers of lines
+  abbrev pub lines_in : RelayRoom D L → ℕ
+  lines_in room = length (option_to_list room.postings.lines)
+
+-- A proxy of these settings was run, and its theorem holds of what was done. It left how its receivers and its checker ended; what its
+-- receivers and its reader of lines counted, added up; and how many checks were made, and how many of their questions failed.
+pub record HasRelayed (s : Settings) (receivers lines : ℕ) (o o_now : ProxyObjects) (r : Relayed) : Type 0 where
   pub relays : List Relay
+  pub lined : List Relay
   pub checks : List Check
-  pub theorem : ProxyTheorem s relays checks (checking.end_view r.checked.ended) o o_now
+  pub theorem : ProxyTheorem s relays lined checks (checking.end_view r.checked.ended) o o_now
   pub count : length relays ≡ receivers
+  pub one : length lined ≡ lines
   pub received : map end_view r.received.items ≡ map (λ x. x.ended) relays
-  pub sums : sums_view r.sums ≡ relays_totals s.lists.nodes relays
+  pub sums : sums_view r.sums ≡ relays_totals s.lists.nodes (relays ++ lined)
   pub checked : r.checked.checks ≡ length checks
   pub faults : r.checked.probe_faults ≡ min (failed_in checks) (2 ^ 63)

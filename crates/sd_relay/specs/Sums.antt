@@ -1,10 +1,12 @@
--- What the receivers of posts counted, added up.
-use Rattle.std.specs.Prelude.{◌≡◌, ◌+◌, ◌≤◌, ◌^◌, List, [], ◌∷◌, codes, Option, Some, None}
+-- What the receivers and the reader of lines of posts counted, added up.
+use Rattle.std.specs.Prelude.{◌≡◌, ◌+◌, ◌≤◌, ◌^◌, List, [], ◌∷◌, codes, map, Option, Some, None, option_to_list}
 use Rattle.sd_model_record.specs.Totals.{Total}
 use Rattle.sd_model_proxy.specs.Batches.{no_totals}
 use Rattle.sd_proxy_desk.specs.Views.{totals_view}
+use Rattle.sd_proxy.specs.declared.lined.Lined.{Lined}
 use Rattle.sd_proxy.specs.declared.proxied.Proxied.{Proxied}
 use Rattle.sd_proxy_desk.specs.declared.totals.ProxyTotals.{ProxyTotals}
+use Rattle.sd_relay.specs.declared.line_post.LinePost.{LinePost}
 use Rattle.sd_relay.specs.declared.post.Post.{Post}
 use Rattle.sd_relay.specs.declared.sums.ProxySums.{ProxySums}
 
@@ -21,6 +23,20 @@ module _ {D L : Type 0} where
   -- what its receiver counted, where it was run
   abbrev pub totals_in : Post D L → List Total
   totals_in post = totals_by post.got
+
+-- what a reader of lines counted, if it did
+abbrev pub totals_by_lines : Option Lined → List Total
+totals_by_lines None = no_totals
+totals_by_lines (Some got) = totals_view got.totals
+
+module _ {L : Type 0} where
+  -- the post of the reader of lines was run
+  abbrev pub LineWasRun : LinePost L → Type 0
+  LineWasRun post = (got : Lined) × (post.got ≡ Some got)
+
+  -- what the reader of lines counted, if there is one
+  abbrev pub line_totals : Option (LinePost L) → List (List Total)
+  line_totals post = map (λ p. totals_by_lines p.got) (option_to_list post)
 
 -- sums, as the definitions have them
 abbrev pub sums_view : ProxySums → List Total

@@ -2,7 +2,7 @@ use crate::live::Live;
 use log::Log;
 use sd_outside::{Beat, Gate, Probe};
 use sd_plan::Node;
-use sd_proxy::{Checked, ProxyPass, check};
+use sd_proxy::{CheckEnd, Checked, ProxyPass, check};
 use sd_workers::Worker;
 use std::sync::Wait;
 
@@ -14,6 +14,33 @@ pub(crate) struct Checking<'p, 'n, 'b, 'q, P, Q> {
     pub beat: &'b mut P,
     pub probe: &'q mut Q,
     pub got: Checked,
+}
+
+impl<'p, 'n, 'b, 'q, P, Q> Checking<'p, 'n, 'b, 'q, P, Q> {
+    ghost use Rattle.sd_relay.specs.Checking.{IsOver};
+
+    /// The work of a checker over these, before it is run.
+    pub fn new(
+        own: &'p mut ProxyPass,
+        nodes: &'n [Node],
+        beat: &'b mut P,
+        probe: &'q mut Q,
+    ) -> Checking<'p, 'n, 'b, 'q, P, Q>
+        ensures { IsOver own.entry nodes.entry beat.entry probe.entry result }
+    {
+        let got = Checked {
+            ended: CheckEnd::End,
+            checks: 0,
+            probe_faults: 0,
+        };
+        Checking {
+            own,
+            nodes,
+            beat,
+            probe,
+            got,
+        }
+    }
 }
 
 impl<'a, P: Beat, Q: Probe, G: Gate> Worker<Live<'a, G>> for Checking<'_, '_, '_, '_, P, Q> {

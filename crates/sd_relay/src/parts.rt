@@ -11,12 +11,46 @@ use sd_ring::Ring;
 use sd_workers::{datagram_room, put_first, put_run, take_first, take_run};
 use std::alloc::{AllocError, Global};
 
-/// The room of a receiver: its ring, and room for its wires, for the lines that wait for each node, and for a datagram.
+/// The room of what sends lines on: its ring, and room for its wires and for the lines that wait for each node.
 #[derive(Drop)]
-pub(crate) struct PostRoom<L> {
+pub(crate) struct SendRoom<L> {
     pub ring: Ring,
     pub wires: Vec<L>,
     pub waiting: Vec<Waiting>,
+}
+
+impl<L: Drop> SendRoom<L> {
+    ghost use Rattle.sd_relay.specs.Parts.{HasSends, NoneToSend};
+
+    /// Such room with a ring of these nodes, which remembers so many keys, a place for a wire to each, and room for a packet of so
+    /// many bytes to each.
+    ///
+    /// # Errors
+    ///
+    /// Where no memory is left for it.
+    pub fn open(
+        alloc: Global,
+        nodes: &[Node],
+        cache: u32,
+        batch: u32,
+    ) -> Result<SendRoom<L>, AllocError>
+        requires nodes { length nodes.now ≤ 64 }
+        requires cache { 0 < cache }
+        ensures place { IfOk result (HasSends (map node_view nodes.now)) }
+        ensures clear { IfOk result (NoneToSend batch) }
+    {
+        Ok(SendRoom {
+            ring: Ring::open(alloc, nodes, cache)?,
+            wires: Vec::with_capacity(alloc, nodes.len())?,
+            waiting: Waiting::for_nodes(alloc, nodes.len(), batch)?,
+        })
+    }
+}
+
+/// The room of a receiver: to send lines on, and for a datagram.
+#[derive(Drop)]
+pub(crate) struct PostRoom<L> {
+    pub sends: SendRoom<L>,
     pub buf: Vec<u8>,
 }
 
@@ -42,17 +76,15 @@ pub(crate) fn open_rooms<L: Drop>(
     let mut rooms = Vec::with_capacity(alloc, count)?;
     for _ in 0..count {
         rooms.push_reserved(PostRoom {
-            ring: Ring::open(alloc, nodes, cache)?,
-            wires: Vec::with_capacity(alloc, nodes.len())?,
-            waiting: Waiting::for_nodes(alloc, nodes.len(), batch)?,
+            sends: SendRoom::open(alloc, nodes, cache, batch)?,
             buf: datagram_room(alloc)?,
         });
     }
     Ok(rooms)
 }
 
-/// Moves the first of the sources, each with a run of wires, one for each of so many nodes, and the first of what threads have of cell and desk into posts:
-/// one for each room.
+/// Moves the first of the sources, each with a run of wires, one for each of these nodes, and the first of what threads have of cell
+/// and desk into posts: one for each room.
 pub(crate) fn gather<D: Datagrams + Drop, L: Wire + Drop>(
     packets: &mut Vec<D>,
     wires: &mut Vec<L>,
@@ -78,14 +110,15 @@ pub(crate) fn gather<D: Datagrams + Drop, L: Wire + Drop>(
     ensures owns_room { vec_capacity owns.new ≡ vec_capacity owns.old }
 {
     while let Some(room) = rooms.pop() {
+        let PostRoom { sends, buf } = room;
         posts.push_reserved(Post {
-            ring: room.ring,
-            buf: room.buf,
-            waiting: room.waiting,
+            ring: sends.ring,
+            waiting: sends.waiting,
+            buf,
             got: None,
             own: take_first(owns),
             packets: take_first(packets),
-            wires: take_run(wires, room.wires, nodes.len()),
+            wires: take_run(wires, sends.wires, nodes.len()),
         });
     }
 }

@@ -1,5 +1,5 @@
 //! The port of a proxy, where it has one.
-ghost use Rattle.std.specs.Prelude.{◌≡◌, ◌<◌, ◌^◌, true, false};
+ghost use Rattle.std.specs.Prelude.{◌≡◌, true};
 ghost use Rattle.sd_model_live.specs.Port.{has_port};
 ghost use Rattle.sd_live.specs.Live.{IsPassOf};
 ghost use Rattle.sd_proxy_desk.specs.Shared.{IsSeatOf, number_of_seat};
@@ -22,6 +22,7 @@ pub(crate) struct PortRoom {
 }
 
 impl PortRoom {
+    ghost use Rattle.sd_relay.specs.Objects.{IsDoorBefore};
     ghost use Rattle.sd_relay.specs.Port.{PortDone};
 
     // Keeps the port of these settings.
@@ -29,8 +30,7 @@ impl PortRoom {
         requires pass { IsPassOf shared.now.hub.now.cell.now self.old.own.pass }
         requires seat { IsSeatOf shared.now.hub.now.desk.now self.old.own.seat }
         requires line { IsLineRoom self.old.line }
-        requires none_out { (E.seen door.old).is_out ≡ false }
-        requires turns { (E.seen door.old).turns < 2 ^ 62 }
+        requires door { IsDoorBefore (E.seen door.old) }
         requires port { has_port shared.now.settings.now ≡ true }
         ensures pass { IsPassOf shared.now.hub.now.cell.now self.new.own.pass }
         ensures seat { IsSeatOf shared.now.hub.now.desk.now self.new.own.seat × (number_of_seat self.new.own.seat ≡ number_of_seat self.old.own.seat) }

@@ -1,3 +1,4 @@
 pub mod Homes
 pub mod Points
+pub mod Recent
 pub mod RingInside

@@ -5,7 +5,6 @@ ghost use Rattle.sd_plan.specs.Entries.{node_view};
 
 use md5::{Digest, Md5};
 use sd_decimal::{Line, write_whole};
-use sd_key::Key;
 use sd_plan::Node;
 use std::marker::Model;
 
@@ -40,11 +39,11 @@ pub(crate) fn node_digest(node: &Node, i: u8) -> [u8; 16]
     Md5::digest(text.as_slice())
 }
 
-/// The number of a key.
-pub(crate) fn number_of_key(key: &Key) -> u32
+/// The number of the key with these bytes.
+pub(crate) fn number_of_key(key: &[u8]) -> u32
     ensures { result ≡ number_of_key key.now }
 {
-    word_at(&Md5::digest(key.as_slice()), 0)
+    word_at(&Md5::digest(key), 0)
 }
 
 /// The number at byte `at` of a digest, whose low byte stands first.

@@ -1,13 +1,16 @@
-ghost use Rattle.std.specs.Prelude.{◌≡◌, ◌↔◌, ℕ, ◌<◌, ◌≤◌, length, map, IsNone, IfOk, IfSome, true, false};
+ghost use Rattle.std.specs.Prelude.{◌≡◌, ◌↔◌, ℕ, ◌<◌, ◌≤◌, List, length, map, IsNone, Ok, Err, IfOk, IfErr, Some, IfSome, true, false};
+ghost use Rattle.sd_key.specs.Clean.{fault_of};
 ghost use Rattle.sd_model_ring.specs.Ring.{owner, is_up};
+ghost use Rattle.sd_model_text.specs.Names.{clean};
 ghost use Rattle.sd_plan.specs.Entries.{node_view};
 ghost use Rattle.sd_ring.specs.RingInside.{all_up};
 
 use crate::homes::{recall, remember};
 use crate::point::{Point, is_up, number_of_key};
 use crate::points::{next_node, points_of_nodes};
+use crate::recent::Recent;
 use lru::LruCache;
-use sd_key::Key;
+use sd_key::{Key, KeyFault, clean};
 use sd_plan::Node;
 use std::alloc::{AllocError, Global};
 use std::marker::Model;
@@ -21,6 +24,7 @@ pub struct Ring {
     nodes: Vec<Node>,
     points: Vec<Point>,
     homes: LruCache<Key, u8>,
+    recent: Recent,
 }
 
 impl Model for Ring {
@@ -39,8 +43,8 @@ impl Model for Ring {
 impl Ring {
     /// The ring of at most 64 nodes, which remembers the homes of so many keys. The error is want of memory.
     ///
-    /// It takes about 1.6 kilobytes a node, and the cache's table. The cache takes more, about 300 bytes, for each key
-    /// that it comes to hold.
+    /// It takes about 1.6 kilobytes a node, 256 kilobytes for the names that came lately, and the cache's table. The cache takes
+    /// more, about 300 bytes, for each key that it comes to hold.
     pub fn open(alloc: Global, nodes: &[Node], cache: u32) -> Result<Ring, AllocError>
         requires nodes { length nodes.now ≤ 64 }
         requires cache { 0 < cache }
@@ -52,6 +56,7 @@ impl Ring {
             nodes: copies_of(alloc, nodes)?,
             points,
             homes: LruCache::new(alloc, NonZeroUsize::new(cache as usize).unwrap())?,
+            recent: Recent::open(alloc)?,
         })
     }
 
@@ -74,6 +79,53 @@ impl Ring {
         ensures node { IfSome result (λ i. i < length self.old) }
     {
         let home = self.home(key)?;
+        self.owner_from(home, key.as_slice(), up)
+    }
+
+    /// The owner of the key of a name, as `owner` answers it. A name that came lately, and is its own key, is neither cleaned nor
+    /// looked for in the cache.
+    ///
+    /// # Errors
+    ///
+    /// The fault of `clean`, where the name has no key.
+    pub fn owner_of_name(&mut self, name: &[u8], up: u64) -> Result<Option<u8>, KeyFault>
+        ensures ok { IfOk result (λ node. (key : List ℕ) × (clean name.now ≡ Ok key) × (node ≡ owner key self.old up)) }
+        ensures err { IfErr result (λ fault. clean name.now ≡ Err (fault_of fault)) }
+        ensures ring { self.new ≡ self.old }
+        ensures none { IfOk result (λ node. IsNone node ↔ ((i : ℕ) → i < length self.old → is_up up i ≡ false)) }
+        ensures up { IfOk result (λ node. IfSome node (λ i. is_up up i ≡ true)) }
+        ensures node { IfOk result (λ node. IfSome node (λ i. i < length self.old)) }
+    {
+        match self.recent.home(name) {
+            Some(home) => Ok(self.owner_from(home, name, up)),
+            None => self.owner_of_new(name, up),
+        }
+    }
+
+    /// The owner of the key of a name that didn't come lately.
+    // A call of its own spares a name that did come lately the room for a key.
+    #[inline(never)]
+    fn owner_of_new(&mut self, name: &[u8], up: u64) -> Result<Option<u8>, KeyFault>
+        ensures ok { IfOk result (λ node. (key : List ℕ) × (clean name.now ≡ Ok key) × (node ≡ owner key self.old up)) }
+        ensures err { IfErr result (λ fault. clean name.now ≡ Err (fault_of fault)) }
+        ensures ring { self.new ≡ self.old }
+    {
+        let key = clean(name)?;
+        let Some(home) = self.home(&key) else {
+            return Ok(None);
+        };
+        let node = self.owner_from(home, key.as_slice(), up);
+        if key.as_slice() == name {
+            self.recent.keep(name, home);
+        }
+        Ok(node)
+    }
+
+    /// The owner of the key with these bytes, whose home is known.
+    fn owner_from(&self, home: u8, key: &[u8], up: u64) -> Option<u8>
+        requires { owner key.now self.now all_up ≡ Some home }
+        ensures { result ≡ owner key.now self.now up }
+    {
         if is_up(up, home) {
             Some(home)
         } else {
@@ -89,13 +141,13 @@ impl Ring {
         if let Some(home) = recall(&mut self.homes, key) {
             return Some(home);
         }
-        let home = self.find_owner(key, u64::MAX)?;
+        let home = self.find_owner(key.as_slice(), u64::MAX)?;
         remember(&mut self.homes, key, home);
         Some(home)
     }
 
-    /// The owner of a key, found among the points.
-    fn find_owner(&self, key: &Key, up: u64) -> Option<u8>
+    /// The owner of the key with these bytes, found among the points.
+    fn find_owner(&self, key: &[u8], up: u64) -> Option<u8>
         ensures { result ≡ owner key.now self.now up }
     {
         next_node(&self.points, number_of_key(key), up)

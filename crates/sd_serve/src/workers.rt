@@ -13,7 +13,6 @@ ghost use Rattle.sd_serve.specs.Objects.{StayObjects};
 ghost use Rattle.sd_serve.specs.OutRoom.{IsOutRoom, has_rooms, rooms_of};
 ghost use Rattle.sd_serve.specs.Through.{FlushesThrough, has_counts};
 
-use crate::beside::run_with_third;
 use crate::flushing::Flushing;
 use crate::keeping::Keeping;
 use crate::kinds::{Kinds, ObjectsOf};
@@ -27,6 +26,7 @@ use sd_flush::Flushed;
 use sd_outside::{DoorEnd, Ended};
 use sd_receive::Post;
 use sd_shared::Shared;
+use sd_workers::run_with_third;
 use std::sync::Wait;
 use std::thread::Threads;
 

@@ -1,5 +1,6 @@
 mod FoundLemmas
 mod TogetherLemmas
 mod CarryLemmas
-mod SessionLemmas
+mod LineLemmas
+mod DoneLemmas
 mod VisitLemmas

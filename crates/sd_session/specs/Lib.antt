@@ -1,6 +1,6 @@
 pub mod Asking
-pub mod Lines
+pub mod Doing
+pub mod Answering
 pub mod Space
-pub mod Reading
 pub mod Sessions
 pub mod Visiting

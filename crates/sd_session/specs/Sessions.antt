@@ -5,20 +5,11 @@ use Rattle.sd_model_settings.specs.Settings as file
 use Rattle.sd_model_shard.specs.History.{History}
 use Rattle.sd_model_record.specs.Counts.{Part}
 use Rattle.sd_model_serve.specs.Doors.{line_calls}
-use Rattle.sd_model_serve.specs.Talks as model
 use Rattle.sd_model_serve.specs.Talks.{Dialogue, HasTalked, lines_in}
 use Rattle.sd_model_serve.specs.Sessions.{Broadcasts, Exchange, admin_talk, asked_in, events_in}
 use Rattle.sd_model_serve.specs.Rounds.{AreCommands}
-use Rattle.sd_session.specs.declared.sessions.SessionEnd.{SessionEnd}
-use Rattle.sd_session.specs.declared.sessions.SessionEnd.TheVariants.{Quit, End, ReadFault, WriteFault, LineTooLong}
-
--- an end of the code, as the definitions have it
-abbrev pub end_of : SessionEnd → model.SessionEnd
-end_of Quit = model.Quit
-end_of End = model.AtEnd
-end_of ReadFault = model.ReadFault
-end_of WriteFault = model.WriteFault
-end_of LineTooLong = model.LineTooLong
+use Rattle.sd_talk.specs.Sessions.{end_of}
+use Rattle.sd_talk.specs.declared.sessions.SessionEnd.{SessionEnd}
 
 -- A session was held over so many shards: what its lines ask for was asked of each shard, in order, and nothing else.
 pub record HoldsSession (shards : ℕ) (settings : file.Settings) (says : ℕ → Type 0) (ended : SessionEnd) (own own_now : ℕ → History) (part part_now : Part) (source source_now sink sink_now : Object) : Type 0 where

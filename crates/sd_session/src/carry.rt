@@ -1,10 +1,9 @@
 ghost use Rattle.std.specs.Prelude.{◌≡◌, ◌*◌, ◌<◌, ◌≤◌, ◌^◌, length};
 ghost use Rattle.sd_model_record.specs.Admin.{names_of};
 ghost use Rattle.sd_model_serve.specs.Receiving.{administrator};
-ghost use Rattle.sd_model_record.specs.Replies.{health_after as health_left};
 ghost use Rattle.sd_key.specs.Kind.{kind_of};
 ghost use Rattle.sd_desk.specs.Facts.{facts_view};
-ghost use Rattle.sd_admin.specs.Command.{command_view, health_word_view};
+ghost use Rattle.sd_admin.specs.Command.{command_view};
 ghost use Rattle.sd_pool.specs.Pool.{IsSeatOf, limits_of, own_at, shards_of, who_is};
 ghost use Rattle.sd_session.specs.Asking.{CarriesOut, DeletesNames};
 
@@ -12,7 +11,7 @@ use crate::space::ReplyRoom;
 use crate::telling::tell_deleted;
 use crate::together::{delete_all, dump_all, look_all};
 use log::Log;
-use sd_admin::{Command, HealthWord, Reply, write_reply};
+use sd_admin::{Command, Reply, write_reply};
 use sd_config::Settings;
 use sd_desk::DeskFacts;
 use sd_key::Kind;
@@ -51,17 +50,6 @@ fn delete<O: Sink, R: Wait + Log>(
         i += 1;
     }
     write_reply(&Reply::Finish, output)
-}
-
-/// How the health is after a word, where it was so before.
-fn health_after(word: HealthWord, up: bool) -> bool
-    ensures { result ≡ health_left (health_word_view word) up }
-{
-    match word {
-        HealthWord::Up => true,
-        HealthWord::Down => false,
-        HealthWord::Ask => up,
-    }
 }
 
 /// What a line is answered from beside the shards: the settings, what the desk told of itself before the line, and the moment.
@@ -126,7 +114,7 @@ pub(crate) fn carry_out<O: Sink, R: Wait + Log>(
             delete(rt, pool, seat, kind, &command, &mut replies.keys, output)
         }
         Command::Health(word) => {
-            let up = health_after(word, basis.facts.up);
+            let up = word.health_after(basis.facts.up);
             write_reply(&Reply::Health { up }, output)
         }
     }

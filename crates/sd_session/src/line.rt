@@ -1,35 +1,26 @@
-ghost use Rattle.std.specs.Prelude.{◌≡◌, ◌*◌, ◌≤◌, ◌++◌};
+ghost use Rattle.std.specs.Prelude.{◌≡◌, ◌*◌, ◌<◌, ◌≤◌, ◌++◌};
 ghost use Rattle.sd_model_record.specs.Admin.{command};
 ghost use Rattle.sd_model_serve.specs.Receiving.{administrator};
 ghost use Rattle.sd_model_record.specs.Counts.{HasCounted, nothing};
 ghost use Rattle.sd_model_serve.specs.Doors.{health_calls};
-ghost use Rattle.sd_model_serve.specs.Sessions.{is_quit};
-ghost use Rattle.sd_pool.specs.Pool.{IsSeatOf, limits_of, own_at, shards_of, who_is};
+ghost use Rattle.sd_model_serve.specs.Sessions.{Exchange, admin_talk, is_quit};
+ghost use Rattle.sd_pool.specs.Pool.{IsSeatOf, limits_of, shards_of, who_is};
 ghost use Rattle.sd_shared_desk.specs.Shared.{IsSeatOf as IsDeskSeatOf, number_of_seat, part_of};
-ghost use Rattle.sd_session.specs.Lines.{TellsLine};
+ghost use Rattle.sd_talk.specs.Answers.{Answers};
+ghost use Rattle.sd_talk.specs.declared.answerer.Told.TheVariants.{Cut};
+ghost use Rattle.sd_session.specs.Doing.{HasCarriedOut};
 
 use crate::carry::{AnswerBasis, carry_out};
+use crate::shared::AdminShared;
 use crate::space::ReplyRoom;
 use crate::telling::tell_health;
 use log::Log;
 use sd_admin::{Command, HealthWord};
-use sd_config::Settings;
 use sd_outside::{Clock, Sink};
 use sd_pool::Seat;
-use sd_shared::Shared;
 use sd_shared_desk::{DeskSeat, SharedDesk};
+use sd_talk::Told;
 use std::sync::Wait;
-
-/// What a line came to.
-#[derive(Clone, Copy, Debug, PartialEq, Eq)]
-pub(crate) enum Told {
-    /// It was carried out, and replied to whole.
-    Whole,
-    /// It asks for the end of the session.
-    Quit,
-    /// Its reply was cut, since the output failed.
-    Cut,
-}
 
 /// Whether a line asks for the end of the session.
 fn asks_for_end(line: &[u8]) -> bool
@@ -53,39 +44,40 @@ fn set_health<R: Wait>(rt: &R, desk: &SharedDesk, own: &mut DeskSeat, line: &[u8
 }
 
 /// Carries out a line of a session, and replies.
-pub(crate) fn tell_line<O: Sink, C: Clock, G, R: Wait + Log>(
+pub(crate) fn answer_line<O: Sink, C: Clock, G, R: Wait + Log>(
     rt: &R,
-    shared: &Shared<'_, G, C>,
+    shared: &AdminShared<'_, '_, G, C>,
     own: &mut DeskSeat,
     seat: &mut Seat,
-    settings: &Settings,
     replies: &mut ReplyRoom,
     line: &[u8],
     sink: &mut O,
 ) -> Told
-    requires seat { IsSeatOf shared.now.pool.now seat.old × (who_is seat.old ≡ administrator) }
-    requires own { IsDeskSeatOf shared.now.desk.now own.old }
-    requires keys { shards_of shared.now.pool.now * (limits_of shared.now.pool.now).rows ≤ replies.old.keys.room }
-    requires dump { shards_of shared.now.pool.now * (limits_of shared.now.pool.now).rows ≤ replies.old.dump.room }
-    ensures seat { IsSeatOf shared.now.pool.now seat.new × (who_is seat.new ≡ administrator) }
-    ensures own { IsDeskSeatOf shared.now.desk.now own.new × (number_of_seat own.new ≡ number_of_seat own.old) }
+    requires seat { IsSeatOf shared.now.workers.now.pool.now seat.old × (who_is seat.old ≡ administrator) }
+    requires own { IsDeskSeatOf shared.now.workers.now.desk.now own.old }
+    requires keys { shards_of shared.now.workers.now.pool.now * (limits_of shared.now.workers.now.pool.now).rows ≤ replies.old.keys.room }
+    requires dump { shards_of shared.now.workers.now.pool.now * (limits_of shared.now.workers.now.pool.now).rows ≤ replies.old.dump.room }
+    ensures seat { IsSeatOf shared.now.workers.now.pool.now seat.new × (who_is seat.new ≡ administrator) }
+    ensures own { IsDeskSeatOf shared.now.workers.now.desk.now own.new }
     ensures keys { replies.new.keys.room ≡ replies.old.keys.room }
     ensures dump { replies.new.dump.room ≡ replies.old.dump.room }
-    ensures counted { HasCounted nothing (part_of own.old) (part_of own.new) }
-    ensures tells { TellsLine (shards_of shared.now.pool.now) settings.now (C.may_say shared.now.clock.now) line.now result (own_at seat.old) (own_at seat.new) (part_of own.old) (part_of own.new) (O.seen sink.old) (O.seen sink.new) }
+    ensures answered { (e : Exchange) × Answers (admin_talk (shards_of shared.now.workers.now.pool.now) shared.now.settings.now (C.may_say shared.now.workers.now.clock.now)) e line.now result (O.seen sink.old) (O.seen sink.new) × HasCarriedOut (shards_of shared.now.workers.now.pool.now) e seat.old seat.new own.old own.new }
+    ensures place { (O.seen sink.new).opened_at ≡ (O.seen sink.old).opened_at }
+    ensures cause { result ≡ Cut → 0 < (O.seen sink.new).faults }
 {
     if asks_for_end(line) {
         return Told::Quit;
     }
-    let facts = shared.desk.facts(rt, own);
-    set_health(rt, shared.desk, own, line);
+    let workers = shared.workers;
+    let facts = workers.desk.facts(rt, own);
+    set_health(rt, workers.desk, own, line);
     tell_health(rt, line);
     let basis = AnswerBasis {
-        settings,
+        settings: shared.settings,
         facts: &facts,
-        moment: shared.clock.now(),
+        moment: workers.clock.now(),
     };
-    match carry_out(rt, shared.pool, seat, replies, &basis, line, sink) {
+    match carry_out(rt, workers.pool, seat, replies, &basis, line, sink) {
         Ok(()) => Told::Whole,
         Err(_) => Told::Cut,
     }

@@ -3,23 +3,14 @@ ghost use Rattle.sd_epoch.specs.Limits.{limits_of, AreLimits};
 
 use sd_epoch::Limits;
 use sd_shard::{Dump, Keys};
+use sd_talk::LineRoom;
 use std::alloc::{AllocError, Global};
-
-// The most bytes of a line, with the newline that ends it.
-const LINE_ROOM: usize = 1024;
 
 /// The room for replies: for the keys and the rows that all shards tell.
 #[derive(Drop)]
 pub(crate) struct ReplyRoom {
     pub keys: Keys,
     pub dump: Dump,
-}
-
-/// The room for a line. In a session its first `len` bytes were read, and aren't carried out yet.
-#[derive(Drop)]
-pub(crate) struct LineRoom {
-    pub bytes: Vec<u8>,
-    pub len: usize,
 }
 
 /// The room that admin sessions work in: for replies, and for a line.
@@ -48,10 +39,7 @@ impl AdminSpace {
                 keys: Keys::open(alloc, rows)?,
                 dump: Dump::open(alloc, rows)?,
             },
-            line: LineRoom {
-                bytes: vec![in alloc; 0; LINE_ROOM]?,
-                len: 0,
-            },
+            line: LineRoom::open(alloc)?,
         })
     }
 }

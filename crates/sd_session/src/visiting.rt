@@ -1,9 +1,9 @@
 ghost use Rattle.std.specs.Prelude.{◌≡◌};
 ghost use Rattle.sd_model_serve.specs.Talks.{ReadFault, WriteFault};
 ghost use Rattle.sd_model_serve.specs.Doors.{ends_by_fault};
-ghost use Rattle.sd_session.specs.Sessions.{end_of};
+ghost use Rattle.sd_talk.specs.Sessions.{end_of};
 
-use crate::sessions::{SessionEnd, session};
+use crate::sessions::session;
 use crate::space::AdminSpace;
 use log::Log;
 use sd_config::Settings;
@@ -12,6 +12,7 @@ use sd_outside::{Clock, Gate, Sink, Source};
 use sd_pool::Seat;
 use sd_shared::Shared;
 use sd_shared_desk::DeskSeat;
+use sd_talk::SessionEnd;
 use std::sync::Wait;
 
 /// Holds the admin sessions of a door.

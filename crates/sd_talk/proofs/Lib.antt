@@ -1,5 +1,5 @@
 mod AlongLemmas
-mod DoorLemmas
+pub mod DoorLemmas
 mod ServeLemmas
 mod SessionLemmas
 mod TurnLemmas

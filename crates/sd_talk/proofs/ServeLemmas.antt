@@ -9,6 +9,7 @@ use Rattle.sd_model_serve.specs.Talks.{Talk, lines_in}
 use Rattle.sd_talk.specs.Answers.{Along}
 use Rattle.sd_talk.specs.Serving.{IsTalkOf, ServesTalks}
 use Rattle.sd_talk.specs.Sessions.{HoldsSession}
+use Rattle.sd_talk.specs.declared.sessions.SessionEnd.{SessionEnd}
 use Rattle.sd_talk.proofs.AlongLemmas.{Along-append, zip-append}
 use Rattle.sd_talk.proofs.DoorLemmas.{ServesDoor-none, ServesDoor-failed, ServesDoor-one, ServesDoor-next}
 
@@ -40,8 +41,8 @@ module _ {E V : Type 0} (t : Talk E) (leads : E → V → V → Type 0) where
   }
 
   -- a session was held, and given back
-  pub ServesTalks-one : (v : Visit) (old new : V) (door door_mid door_now : Object) → door.turns < 2 ^ 63 → GivesSession v.asking v.told door door_mid → HasLeft v.asking_now v.told_now door_mid door_now → HoldsSession t leads v old new → IsFaultOf v → ServesTalks t leads old new door door_now
-  ServesTalks-one v old new door door_mid door_now few gives left held cause = record {
+  pub ServesTalks-one : (ended : SessionEnd) (v : Visit) (old new : V) (door door_mid door_now : Object) → door.turns < 2 ^ 63 → GivesSession v.asking v.told door door_mid → HasLeft v.asking_now v.told_now door_mid door_now → HoldsSession t leads ended v old new → IsFaultOf v → ServesTalks t leads old new door door_now
+  ServesTalks-one ended v old new door door_mid door_now few gives left held cause = record {
     visits = v ∷ [];
     failures = 0;
     dialogues = held.dialogue ∷ [];

@@ -95,7 +95,7 @@ module _ {E V : Type 0} (t : Talk E) (leads : E → V → V → Type 0) where
 
   -- a session that ended at its last turn
   pub Listens-stops : (ended : SessionEnd) (old mid new : V) (rest : List ℕ) (source source_mid source_now sink sink_mid sink_now : Object) → Listens t leads old mid [] rest source source_mid sink sink_mid → Stops t leads (end_of ended) mid new rest source_mid source_now sink_mid sink_now
-      → HoldsSession t leads (visit_of source source_now sink sink_now (ends_by_fault (end_of ended))) old new
+      → HoldsSession t leads ended (visit_of source source_now sink sink_now (ends_by_fault (end_of ended))) old new
   Listens-stops ended old mid new rest source source_mid source_now sink sink_mid sink_now a b = record {
     dialogue = dialogue;
     talked = record {
@@ -108,6 +108,7 @@ module _ {E V : Type 0} (t : Talk E) (leads : E → V → V → Type 0) where
           subst (λ n. EndsSession t (end_of ended) b.last b.behind n source_now (given (replied t a.exchanges) sink) sink_now) (sym (ap (λ (o : Object). o.faults) a.read))
           (subst (λ (o : Object). EndsSession t (end_of ended) b.last b.behind source_mid.faults source_now o sink_now) a.written b.ends);
     };
+    ended_is = refl;
     fault = refl;
     did = Along-append leads a.exchanges b.last old mid new a.did b.did;
   } where

@@ -21,9 +21,10 @@ abbrev pub visit_of : (asking asking_now told told_now : Object) → Bool → Vi
 visit_of asking asking_now told told_now is_fault =
     record { asking = asking; asking_now = asking_now; told = told; told_now = told_now; is_fault = is_fault }
 
--- A session was held: it went so, it is a fault just where it ended by one, and its lines lead from what was to what is.
-pub record HoldsSession {E V : Type 0} (t : Talk E) (leads : E → V → V → Type 0) (v : Visit) (old new : V) : Type 0 where
+-- A session was held: it went so, it ended so, it is a fault just where it ended by one, and its lines lead from what was to what is.
+pub record HoldsSession {E V : Type 0} (t : Talk E) (leads : E → V → V → Type 0) (ended : SessionEnd) (v : Visit) (old new : V) : Type 0 where
   pub dialogue : Dialogue E
+  pub ended_is : dialogue.ended ≡ end_of ended
   pub talked : HasTalked t dialogue v.asking v.asking_now v.told v.told_now
   pub fault : v.is_fault ≡ ends_by_fault dialogue.ended
   pub did : Along leads (lines_in dialogue) old new

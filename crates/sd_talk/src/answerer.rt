@@ -21,17 +21,17 @@ pub enum Told {
 
 /// What answers the lines of sessions, over what is shared.
 pub trait Answerer<S> {
-    /// What is known of a line that was carried out. No value of it is made.
-    type Exchange;
+    /// What is known of a line that was carried out.
+    ghost Exchange: { Type 0 };
 
     /// What its sessions are about.
-    ghost talk: { S → Talk Self.Exchange };
+    ghost talk: { S → Talk Exchange };
 
     /// It may answer a line.
     ghost can_answer: { S → Self → Type 0 };
 
     /// By what it was and what it is, it has carried out a line so.
-    ghost has_answered: { S → Self.Exchange → Self → Self → Type 0 };
+    ghost has_answered: { S → Exchange → Self → Self → Type 0 };
 
     /// Carries out a line, which comes without its newline, and replies to it. Its reply is cut only where the output failed.
     fn answer<O: Sink, R: Wait + Log>(
@@ -44,7 +44,7 @@ pub trait Answerer<S> {
         requires ready { can_answer shared.now self.old }
         requires line { FitsLine line.now }
         ensures ready { can_answer shared.now self.new }
-        ensures answered { (e : Self.Exchange) × Answers (talk shared.now) e line.now result (O.seen sink.old) (O.seen sink.new) × has_answered shared.now e self.old self.new }
+        ensures answered { (e : Exchange) × Answers (talk shared.now) e line.now result (O.seen sink.old) (O.seen sink.new) × has_answered shared.now e self.old self.new }
         ensures place { (O.seen sink.new).opened_at ≡ (O.seen sink.old).opened_at }
         ensures cause { result ≡ Cut → 0 < (O.seen sink.new).faults };
 }

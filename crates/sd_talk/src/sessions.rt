@@ -124,7 +124,7 @@ pub fn session<S, V: Answerer<S>, A: Source, O: Sink, R: Wait + Log>(
     requires room { IsLineRoom room.old }
     ensures ready { V.can_answer shared.now answerer.new }
     ensures room { IsLineRoom room.new }
-    ensures held { HoldsSession (V.talk shared.now) (V.has_answered shared.now) (visit_of (A.seen source.old) (A.seen source.new) (O.seen sink.old) (O.seen sink.new) (ends_by_fault (end_of result))) answerer.old answerer.new }
+    ensures held { HoldsSession (V.talk shared.now) (V.has_answered shared.now) result (visit_of (A.seen source.old) (A.seen source.new) (O.seen sink.old) (O.seen sink.new) (ends_by_fault (end_of result))) answerer.old answerer.new }
     ensures cause { ends_by_fault (end_of result) ≡ true → 0 < (A.seen source.new).faults + (O.seen sink.new).faults }
 {
     room.len = 0;

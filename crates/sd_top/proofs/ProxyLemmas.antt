@@ -1,5 +1,5 @@
 -- The proxy: settings that are those of one, and its account.
-use Rattle.std.proofs.Common.{◌≡◌, ℕ, zero, suc, ◌*◌, ◌<◌, ◌≤◌, Bool, true, false, nat_lt, List, [], ◌∷◌, ◌++◌, length, map, codes, Some, None, inl, inr, refl, sym, ap, subst, ◌∙◌, arith}
+use Rattle.std.proofs.Common.{◌≡◌, ℕ, zero, suc, ◌+◌, ◌*◌, ◌<◌, ◌≤◌, Bool, true, false, nat_lt, List, [], ◌∷◌, ◌++◌, length, map, codes, Some, None, inl, inr, refl, sym, ap, subst, ◌∙◌, arith}
 use Rattle.std.specs.Prelude.{◌==◌}
 use Rattle.std.proofs.lemmas.Bool.{cond-true, cond-false}
 use Rattle.std.proofs.lemmas.Bool.Decides.{nat_tests}
@@ -9,7 +9,7 @@ use Rattle.sd_model_settings.specs.Settings.{OutOfRange, SettingsFlaw}
 use Rattle.sd_model_record.specs.Totals.{totals_text}
 use Rattle.sd_model_call.specs.Opening.{IsAccepted, World, settled}
 use Rattle.sd_model_call.specs.Call.{Answer, StopsAmong, WritesTotals}
-use Rattle.sd_model_call.specs.Proxy.{ProxyAccounts, most_wires, proxy_answer, proxy_flaw, proxy_openings, relay_text}
+use Rattle.sd_model_call.specs.Proxy.{ProxyAccounts, line_readers, most_wires, proxy_answer, proxy_flaw, proxy_openings, relay_text}
 use Rattle.sd_model_call.specs.Server.{ends_answer}
 use Rattle.sd_check.specs.Checking as checking
 use Rattle.sd_outside.specs.declared.datagrams.Ended.{Ended}
@@ -21,7 +21,7 @@ use Rattle.sd_top.specs.Relaying.{HasRelayed, relay_answer, relay_lines}
 
 module _ (s : file.Settings) where
   abbrev wires : ℕ
-  wires = s.sizes.receivers * length s.lists.nodes
+  wires = (s.sizes.receivers + line_readers s) * length s.lists.nodes
 
   -- what keeps the proxy from settings
   pub no_nodes : length s.lists.nodes ≡ 0 → proxy_flaw s ≡ Some (OutOfRange (codes "nodes"))
@@ -64,7 +64,7 @@ module _ (name : List ℕ) (values : file.Settings) (settings : Object) (old new
       → WritesTotals (relay_lines r.sums r.checked) (relay_answer r.received.items r.checked) answer old.seen.output output → ProxyAccounts name answer old new
   proxy_ran r answer mid output h is written =
       let x = h.relayed in
-      let text : relay_lines r.sums r.checked ≡ relay_text values.lists.nodes x.relays x.checks = (λ i. totals_text (x.sums i ++ (codes "checks", x.checked i) ∷ (codes "probe_faults", x.faults i) ∷ [])) in
+      let text : relay_lines r.sums r.checked ≡ relay_text values.lists.nodes (x.relays ++ x.lined) x.checks = (λ i. totals_text (x.sums i ++ (codes "checks", x.checked i) ∷ (codes "probe_faults", x.faults i) ∷ [])) in
       let ends = same_ends r.received.items ∙ x.received in
       let whole : relay_answer r.received.items r.checked ≡ proxy_answer x.relays (checking.end_view r.checked.ended) = (λ i. ends_answer (ends i) (checking.end_view r.checked.ended) []) in
       subst (λ (w : World). ProxyAccounts name answer old w) (sym (is ∙ ap (λ (w : World). record w { seen = record w.seen { output = output } }) h.others))
@@ -75,6 +75,8 @@ module _ (name : List ℕ) (values : file.Settings) (settings : Object) (old new
         fits = fit;
         relays = x.relays;
         count = x.count;
+        lined = x.lined;
+        one = x.one;
         checks = x.checks;
         checker_ended = checking.end_view r.checked.ended;
         theorem = x.theorem;

@@ -4,7 +4,7 @@ use Rattle.sd_model_settings.specs.Settings as file
 use Rattle.sd_model_record.specs.Totals.{totals_text}
 use Rattle.sd_model_call.specs.Call.{Answer}
 use Rattle.sd_model_call.specs.Opening.{World}
-use Rattle.sd_model_call.specs.Proxy.{proxy_begun, proxy_objects}
+use Rattle.sd_model_call.specs.Proxy.{line_readers, proxy_begun, proxy_objects}
 use Rattle.sd_model_call.specs.Server.{ends_answer}
 use Rattle.sd_check.specs.Checking as checking
 use Rattle.sd_check.specs.declared.checked.Checked.{Checked}
@@ -17,10 +17,10 @@ use Rattle.sd_serve.specs.Serving.{end_of}
 
 -- The parts of the proxy were opened, the beat was started, and then it ran. Nothing else that is seen changed.
 pub record HasRelayed (values : file.Settings) (old new : World) (r : Relayed) : Type 0 where
-  pub relayed : relaying.HasRelayed values values.sizes.receivers (proxy_objects (proxy_begun values old)) (proxy_objects new) r
+  pub relayed : relaying.HasRelayed values values.sizes.receivers (line_readers values) (proxy_objects (proxy_begun values old)) (proxy_objects new) r
   pub others : new ≡ record old {
     seen = record old.seen { wires = new.seen.wires };
-    served = record old.served { sources = new.served.sources; beat = new.served.beat; door = new.served.door };
+    served = record old.served { sources = new.served.sources; beat = new.served.beat; door = new.served.door; streams = new.served.streams };
     probe = new.probe;
   }
 

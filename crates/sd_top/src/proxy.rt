@@ -1,13 +1,13 @@
 //! The proxy, from its settings to its answer.
-ghost use Rattle.std.specs.Prelude.{◌≡◌, ◌++◌, ◌<◌, ◌≤◌, ◌^◌, ◌∷◌, [], codes, false, if◌then◌else◌, length, map, None, Some, OnOk, IfOk, IfErr};
+ghost use Rattle.std.specs.Prelude.{◌≡◌, ◌+◌, ◌++◌, ◌<◌, ◌≤◌, ◌^◌, ◌∷◌, [], codes, false, if◌then◌else◌, length, map, None, Some, OnOk, IfOk, IfErr};
 ghost use Rattle.std.specs.List.{list_any};
 ghost use Rattle.sd_model_live.specs.Port.{has_port};
 ghost use Rattle.sd_model_outside.specs.Outside.{Host, opened};
 ghost use Rattle.sd_model_settings.specs.Settings.{OutOfRange, SettingsFlaw};
 ghost use Rattle.sd_model_call.specs.Call.{Misset, StopsAmong, WritesTotals};
 ghost use Rattle.sd_model_call.specs.Opening.{opened_all};
-ghost use Rattle.sd_model_call.specs.Proxy.{ProxyAccounts, port_openings, proxy_flaw, proxy_openings, relay_openings};
-ghost use Rattle.sd_model_call.specs.Server.{is_worn};
+ghost use Rattle.sd_model_call.specs.Proxy.{ProxyAccounts, line_readers, port_openings, proxy_flaw, proxy_openings, relay_openings};
+ghost use Rattle.sd_model_call.specs.Server.{has_streams, is_worn, stream_openings};
 ghost use Rattle.sd_check.specs.Checking.{end_view};
 ghost use Rattle.sd_serve.specs.Serving.{end_of};
 ghost use Rattle.sd_top.specs.Answers.{answer_of};
@@ -17,7 +17,7 @@ ghost use Rattle.sd_top.specs.World.{SameRest, world_of};
 use crate::call::WorldOf;
 use crate::ends::{any_worn, by_receivers, by_turns, cut};
 use crate::opening::{open_peers, open_where};
-use crate::server_opening::{host_address, open_packets};
+use crate::server_opening::{host_address, open_packets, open_streams, reads_streams};
 use crate::settings::read_settings;
 use crate::status::{Part, Status};
 use crate::telling::{tell_end, tell_fault, tell_proxy, tell_unopened, tell_unread};
@@ -28,7 +28,7 @@ use sd_decimal::Line;
 use sd_outside::{Address, Beat, Ended, Failed, Interval, Name, Sink, write_all};
 use sd_plan::Node;
 use sd_proxy::{CheckEnd, Checked};
-use sd_relay::{ProxyParts, ProxySums, RelayRoom, Relayed, relay};
+use sd_relay::{ProxySums, RelayParts, RelayRoom, Relayed, relay};
 use sd_run::names_backend;
 use sd_serve::Kinds;
 use sd_totals::push_total;
@@ -50,11 +50,26 @@ fn out_of_range(name: &[u8]) -> Status
     Status::Config(ConfigFault::OutOfRange { name: text })
 }
 
+/// How many readers of lines over TCP a proxy by these settings has: one, where these have a port.
+fn line_readers(settings: &Settings) -> u16
+    ensures { result ≡ line_readers settings.now }
+{
+    u16::from(reads_streams(settings))
+}
+
+/// How many runs of wires a proxy by these settings has: one for each receiver, and one for the reader of lines, where there is one.
+fn wire_runs(settings: &Settings) -> u16
+    ensures runs { result ≡ (settings.now).sizes.receivers + line_readers settings.now }
+    ensures few { result ≤ 17 }
+{
+    u16::try_from(settings.receivers()).unwrap() + line_readers(settings)
+}
+
 /// Tests that settings are those of a proxy.
 ///
 /// # Errors
 ///
-/// `Config` where they name no node, or where the receivers have more wires to the nodes than there may be.
+/// `Config` where they name no node, or where the receivers, with the reader of lines, have more wires to the nodes than there may be.
 fn check_fit(settings: &Settings) -> Result<(), Status>
     ensures fits { OnOk result (proxy_flaw settings.now ≡ None) }
     ensures refused { IfErr result (λ status. (flaw : SettingsFlaw) × (answer_of status ≡ Misset flaw) × (proxy_flaw settings.now ≡ Some flaw)) }
@@ -63,7 +78,7 @@ fn check_fit(settings: &Settings) -> Result<(), Status>
     if nodes == 0 {
         return Err(out_of_range(b"nodes"));
     }
-    if usize::try_from(settings.receivers()).unwrap() * nodes > MOST_WIRES {
+    if usize::from(wire_runs(settings)) * nodes > MOST_WIRES {
         return Err(out_of_range(b"receivers"));
     }
     Ok(())
@@ -76,7 +91,8 @@ fn tell_unfit<L: Log>(log: &L, alloc: Global, at: &Address, status: &Status) {
     }
 }
 
-/// Opens a source for each receiver of the proxy, and a run of wires, with one to each node.
+/// Opens a source for each receiver of the proxy, and a run of wires, with one to each node, for each receiver and for the reader of
+/// lines, where there is one.
 ///
 /// # Errors
 ///
@@ -97,9 +113,9 @@ fn open_relays<K: Kinds>(settings: &Settings, world: &mut WorldOf<K>) -> Result<
     ensures rest { SameRest world.old world.new }
     ensures backs { (world.new).backs ≡ (world.old).backs }
 {
-    let receivers = u16::try_from(settings.receivers()).unwrap();
+    let runs = wire_runs(settings);
     open_packets::<K>(settings, world)?;
-    open_peers::<Node, K>(receivers, settings.nodes(), world)
+    open_peers::<Node, K>(runs, settings.nodes(), world)
 }
 
 /// Whether a proxy by these settings has a port.
@@ -131,7 +147,29 @@ fn open_port<K: Kinds>(settings: &Settings, world: &mut WorldOf<K>) -> Result<()
     open_where(has_port(settings), &mut world.door, &door, Part::Door)
 }
 
-/// Opens all parts of the proxy, in their order: what its receivers use, and then the door of its port.
+/// Opens the doors of the proxy: that of lines over TCP, and then that of its port, where it has them.
+///
+/// # Errors
+///
+/// `OpenFault` where one failed, and `OutOfMemory`.
+fn open_proxy_doors<K: Kinds>(settings: &Settings, world: &mut WorldOf<K>) -> Result<(), Status>
+    ensures opened { OnOk result (world_of K.R.seen K.O.seen K.B.seen K.D.seen K.L.seen K.E.seen K.P.seen K.Q.seen K.S.seen world.new
+        ≡ opened_all (world_of K.R.seen K.O.seen K.B.seen K.D.seen K.L.seen K.E.seen K.P.seen K.Q.seen K.S.seen world.old) (stream_openings settings.now ++ port_openings settings.now)) }
+    ensures refused { IfErr result (λ status. StopsAmong (stream_openings settings.now ++ port_openings settings.now) (answer_of status)
+        (world_of K.R.seen K.O.seen K.B.seen K.D.seen K.L.seen K.E.seen K.P.seen K.Q.seen K.S.seen world.old)
+        (world_of K.R.seen K.O.seen K.B.seen K.D.seen K.L.seen K.E.seen K.P.seen K.Q.seen K.S.seen world.new)) }
+    ensures packets { (world.new).packets ≡ (world.old).packets }
+    ensures wires { (world.new).wires ≡ (world.old).wires }
+    ensures door { OnOk result (K.E.seen (world.new).door ≡ (if has_port settings.now then opened (Host (settings.now).addresses.mgmt_address (settings.now).transport.proxy_mgmt_port) (K.E.seen (world.old).door) else K.E.seen (world.old).door)) }
+    ensures streams { OnOk result (K.S.seen (world.new).streams ≡ (if has_streams settings.now then opened (Host (settings.now).addresses.address (settings.now).transport.tcp_port) (K.S.seen (world.old).streams) else K.S.seen (world.old).streams)) }
+    ensures rest { SameRest world.old world.new }
+    ensures backs { (world.new).backs ≡ (world.old).backs }
+{
+    open_streams::<K>(settings, world)?;
+    open_port::<K>(settings, world)
+}
+
+/// Opens all parts of the proxy, in their order: what its receivers use, the door of lines over TCP, and then the door of its port.
 ///
 /// # Errors
 ///
@@ -148,16 +186,16 @@ fn open_proxy<K: Kinds>(settings: &Settings, world: &mut WorldOf<K>) -> Result<(
     ensures packets { length (world.new).packets.items ≡ length (world.old).packets.items }
     ensures wires { length (world.new).wires.items ≡ length (world.old).wires.items }
     ensures door { OnOk result (K.E.seen (world.new).door ≡ (if has_port settings.now then opened (Host (settings.now).addresses.mgmt_address (settings.now).transport.proxy_mgmt_port) (K.E.seen (world.old).door) else K.E.seen (world.old).door)) }
-    ensures streams { (world.new).streams ≡ (world.old).streams }
+    ensures streams { OnOk result (K.S.seen (world.new).streams ≡ (if has_streams settings.now then opened (Host (settings.now).addresses.address (settings.now).transport.tcp_port) (K.S.seen (world.old).streams) else K.S.seen (world.old).streams)) }
     ensures rest { SameRest world.old world.new }
     ensures backs { (world.new).backs ≡ (world.old).backs }
 {
     open_relays::<K>(settings, world)?;
-    open_port::<K>(settings, world)
+    open_proxy_doors::<K>(settings, world)
 }
 
-/// Takes the room of the proxy by these settings, opens its parts, starts the beat, and runs the proxy until its receivers, its checker
-/// and its port have ended.
+/// Takes the room of the proxy by these settings, opens its parts, starts the beat, and runs the proxy until its receivers, its checker,
+/// its port and its reader of lines have ended.
 ///
 /// # Errors
 ///
@@ -172,6 +210,7 @@ fn run_proxy<K: Kinds, X: Threads + Wait + time::Clock + Sync>(
     requires packets { 16 ≤ length (world.old).packets.items }
     requires wires { 256 ≤ length (world.old).wires.items }
     requires door { ((K.E.seen (world.old).door).is_out ≡ false) × ((K.E.seen (world.old).door).turns < 2 ^ 62) }
+    requires streams { ((K.S.seen (world.old).streams).is_out ≡ false) × ((K.S.seen (world.old).streams).turns < 2 ^ 62) }
     ensures relayed { IfOk result (HasRelayed settings.now
         (world_of K.R.seen K.O.seen K.B.seen K.D.seen K.L.seen K.E.seen K.P.seen K.Q.seen K.S.seen world.old)
         (world_of K.R.seen K.O.seen K.B.seen K.D.seen K.L.seen K.E.seen K.P.seen K.Q.seen K.S.seen world.new)) }
@@ -185,6 +224,7 @@ fn run_proxy<K: Kinds, X: Threads + Wait + time::Clock + Sync>(
         alloc,
         settings.nodes(),
         receivers,
+        reads_streams(settings),
         settings.cache_size(),
         settings.batch_bytes(),
     ) else {
@@ -197,9 +237,10 @@ fn run_proxy<K: Kinds, X: Threads + Wait + time::Clock + Sync>(
     });
     tell_proxy(&world.log, settings);
     let rt = Logged::new(rt, LevelFilter::Trace, &world.log);
-    let mut parts = ProxyParts {
+    let mut parts = RelayParts {
         packets: &mut world.packets,
         wires: &mut world.wires,
+        lines: &mut world.streams,
         beat: &mut world.beat,
         probe: &mut world.probe,
         door: &mut world.door,
@@ -275,6 +316,7 @@ pub(crate) fn proxy_files<K: Kinds, X: Threads + Wait + time::Clock + Sync>(
     requires packets { 16 ≤ length (world.old).packets.items }
     requires wires { 256 ≤ length (world.old).wires.items }
     requires door { ((K.E.seen (world.old).door).is_out ≡ false) × ((K.E.seen (world.old).door).turns < 2 ^ 62) }
+    requires streams { ((K.S.seen (world.old).streams).is_out ≡ false) × ((K.S.seen (world.old).streams).turns < 2 ^ 62) }
     ensures { ProxyAccounts settings.items (answer_of result)
         (world_of K.R.seen K.O.seen K.B.seen K.D.seen K.L.seen K.E.seen K.P.seen K.Q.seen K.S.seen world.old)
         (world_of K.R.seen K.O.seen K.B.seen K.D.seen K.L.seen K.E.seen K.P.seen K.Q.seen K.S.seen world.new) }
@@ -304,7 +346,7 @@ pub(crate) fn proxy_files<K: Kinds, X: Threads + Wait + time::Clock + Sync>(
             status
         }
         Err(status) => {
-            tell_unopened(&world.log, &settings, &status);
+            tell_unopened(&world.log, &settings, settings.proxy_mgmt_port(), &status);
             status
         }
     }

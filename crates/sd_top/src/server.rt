@@ -161,7 +161,7 @@ pub(crate) fn serve_files<K: Kinds, X: Threads + Wait + RandomSource + time::Clo
             status
         }
         Err(status) => {
-            tell_unopened(&world.log, &settings, &status);
+            tell_unopened(&world.log, &settings, settings.mgmt_port(), &status);
             status
         }
     }

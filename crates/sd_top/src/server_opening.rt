@@ -4,7 +4,7 @@ ghost use Rattle.sd_model_outside.specs.Outside as outside;
 ghost use Rattle.sd_model_outside.specs.Outside.{Host, opened};
 ghost use Rattle.sd_model_call.specs.Call.{StopsAmong};
 ghost use Rattle.sd_model_call.specs.Opening.{OfSource, flags_of, opened_all, repeated};
-ghost use Rattle.sd_model_call.specs.Server.{door_openings, has_streams, server_openings, source_openings};
+ghost use Rattle.sd_model_call.specs.Server.{door_openings, has_streams, server_openings, source_openings, stream_openings};
 ghost use Rattle.sd_outside.specs.Places.{place_of};
 ghost use Rattle.sd_top.specs.Answers.{answer_of};
 ghost use Rattle.sd_top.specs.Causes.{EachStops, opened_each};
@@ -99,11 +99,41 @@ pub(crate) fn open_packets<K: Kinds>(
     open_sources(0, receivers, &at, &mut world.packets)
 }
 
-/// Whether a server by these settings reads lines of streams.
+/// Whether a server or a proxy by these settings reads lines of streams.
 pub(crate) fn reads_streams(settings: &Settings) -> bool
     ensures { result ≡ has_streams settings.now }
 {
     settings.tcp_port() > 0
+}
+
+/// Opens the door of streams, where it is used.
+///
+/// # Errors
+///
+/// `OpenFault` where it failed, and `OutOfMemory`.
+pub(crate) fn open_streams<K: Kinds>(
+    settings: &Settings,
+    world: &mut WorldOf<K>,
+) -> Result<(), Status>
+    ensures opened { OnOk result (world_of K.R.seen K.O.seen K.B.seen K.D.seen K.L.seen K.E.seen K.P.seen K.Q.seen K.S.seen world.new
+        ≡ opened_all (world_of K.R.seen K.O.seen K.B.seen K.D.seen K.L.seen K.E.seen K.P.seen K.Q.seen K.S.seen world.old) (stream_openings settings.now)) }
+    ensures refused { IfErr result (λ status. StopsAmong (stream_openings settings.now) (answer_of status)
+        (world_of K.R.seen K.O.seen K.B.seen K.D.seen K.L.seen K.E.seen K.P.seen K.Q.seen K.S.seen world.old)
+        (world_of K.R.seen K.O.seen K.B.seen K.D.seen K.L.seen K.E.seen K.P.seen K.Q.seen K.S.seen world.new)) }
+    ensures streams { OnOk result (K.S.seen (world.new).streams ≡ (if has_streams settings.now then opened (Host (settings.now).addresses.address (settings.now).transport.tcp_port) (K.S.seen (world.old).streams) else K.S.seen (world.old).streams)) }
+    ensures packets { (world.new).packets ≡ (world.old).packets }
+    ensures wires { (world.new).wires ≡ (world.old).wires }
+    ensures door { (world.new).door ≡ (world.old).door }
+    ensures backs { (world.new).backs ≡ (world.old).backs }
+    ensures rest { SameRest world.old world.new }
+{
+    let streams = host_address(settings.address(), settings.tcp_port());
+    open_where(
+        reads_streams(settings),
+        &mut world.streams,
+        &streams,
+        Part::Streams,
+    )
 }
 
 /// Opens the door of streams, where it is used, and then the admin door: where that is open, all parts of the server are.
@@ -124,13 +154,7 @@ fn open_doors<K: Kinds>(settings: &Settings, world: &mut WorldOf<K>) -> Result<(
     ensures backs { (world.new).backs ≡ (world.old).backs }
     ensures rest { SameRest world.old world.new }
 {
-    let streams = host_address(settings.address(), settings.tcp_port());
-    open_where(
-        reads_streams(settings),
-        &mut world.streams,
-        &streams,
-        Part::Streams,
-    )?;
+    open_streams::<K>(settings, world)?;
     let door = host_address(settings.mgmt_address(), settings.mgmt_port());
     open(&mut world.door, &door, Part::Door)
 }

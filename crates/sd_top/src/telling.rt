@@ -5,7 +5,7 @@ use log::Log;
 use sd_config::{ConfigFault, Settings};
 use sd_decimal::{Line, write_whole};
 use sd_event::{
-    ProxyParts, ServerParts, SettingRefused, outlets_small, proxy_started, refused,
+    Places, ProxyParts, ServerParts, SettingRefused, outlets_small, proxy_started, refused,
     refused_setting, refused_toml, refused_with, server_started, stopped,
 };
 use sd_outside::{Address, Name};
@@ -176,8 +176,8 @@ fn host_and_port(host: &Name, port: u32) -> Line {
     line
 }
 
-/// The name of an object, and where it should have been opened.
-fn object_of(part: Part, settings: &Settings) -> (&'static str, Line) {
+/// The name of an object, and where it should have been opened; the door of admin sessions at this port.
+fn object_of(part: Part, settings: &Settings, mgmt_port: u32) -> (&'static str, Line) {
     match part {
         Part::Settings => ("settings", Line::new()),
         Part::Script => ("script", Line::new()),
@@ -194,10 +194,7 @@ fn object_of(part: Part, settings: &Settings) -> (&'static str, Line) {
             )
         }
         Part::Console => ("console", Line::new()),
-        Part::Door => (
-            "door",
-            host_and_port(settings.mgmt_address(), settings.mgmt_port()),
-        ),
+        Part::Door => ("door", host_and_port(settings.mgmt_address(), mgmt_port)),
         Part::Streams => (
             "streams",
             host_and_port(settings.address(), settings.tcp_port()),
@@ -205,11 +202,11 @@ fn object_of(part: Part, settings: &Settings) -> (&'static str, Line) {
     }
 }
 
-/// Tells why a run didn't begin.
-pub(crate) fn tell_unopened<L: Log>(log: &L, settings: &Settings, status: &Status) {
+/// Tells why a run didn't begin whose admin sessions should come at this port.
+pub(crate) fn tell_unopened<L: Log>(log: &L, settings: &Settings, mgmt_port: u32, status: &Status) {
     match status {
         Status::OpenFault { part } => {
-            let (object, address) = object_of(*part, settings);
+            let (object, address) = object_of(*part, settings, mgmt_port);
             refused(log, object, address.as_slice());
         }
         Status::OutOfMemory => refused_with(log, "memory", "out of memory"),
@@ -255,18 +252,29 @@ fn tell_outlets<L: Log>(log: &L, settings: &Settings) {
     }
 }
 
+/// A port, where it isn't 0, which means none.
+fn some_port(port: u32) -> Option<u32> {
+    (port > 0).then_some(port)
+}
+
+/// Where a server or a proxy of these settings listens, with this port for admin sessions, where it isn't 0.
+fn places_of(settings: &Settings, mgmt_port: u32) -> Places<'_> {
+    Places {
+        address: settings.address().as_slice(),
+        port: settings.port(),
+        tcp_port: some_port(settings.tcp_port()),
+        mgmt_address: settings.mgmt_address().as_slice(),
+        mgmt_port: some_port(mgmt_port),
+    }
+}
+
 /// Tells that a server has all open, and whose outlets are small for it.
 pub(crate) fn tell_server<L: Log>(log: &L, settings: &Settings) {
-    let tcp_port = settings.tcp_port();
     server_started(
         log,
         &ServerParts {
             version: VERSION,
-            address: settings.address().as_slice(),
-            port: settings.port(),
-            tcp_port: (tcp_port > 0).then_some(tcp_port),
-            mgmt_address: settings.mgmt_address().as_slice(),
-            mgmt_port: settings.mgmt_port(),
+            places: places_of(settings, settings.mgmt_port()),
             backends: backends_of(settings),
             shards: settings.shards(),
             rows: settings.rows(),
@@ -283,8 +291,7 @@ pub(crate) fn tell_proxy<L: Log>(log: &L, settings: &Settings) {
         log,
         &ProxyParts {
             version: VERSION,
-            address: settings.address().as_slice(),
-            port: settings.port(),
+            places: places_of(settings, settings.proxy_mgmt_port()),
             nodes: settings.nodes().len() as u32,
             receivers: settings.receivers(),
         },

@@ -73,7 +73,8 @@ pub(crate) fn threads_of_server(settings: &Settings) -> usize {
 
 /// How many threads a proxy by these settings works with.
 pub(crate) fn threads_of_proxy(settings: &Settings) -> usize {
-    1 + usize::from(has_port(settings)) + settings.receivers() as usize
+    let lines = usize::from(settings.tcp_port() > 0);
+    1 + lines + usize::from(has_port(settings)) + settings.receivers() as usize
 }
 
 /// Whether the system gives so many threads, which is told where it doesn't.

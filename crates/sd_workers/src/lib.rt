@@ -11,4 +11,4 @@ mod worker;
 
 pub use moving::{datagram_room, put_first, put_run, take_first, take_run};
 pub use reports::{Reports, ends_in};
-pub use worker::{Worker, run_each, run_pair, run_workers};
+pub use worker::{Worker, run_each, run_pair, run_with_third, run_workers};

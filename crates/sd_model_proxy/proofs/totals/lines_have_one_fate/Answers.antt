@@ -1,15 +1,15 @@
-use Rattle.std.proofs.Common.{length}
+use Rattle.std.proofs.Common.{◌+◌, length}
 use Rattle.std.specs.Prelude.{count_by}
-use Rattle.sd_model_proxy.specs.Batches.{lines_not_sent, lines_sent, over_nodes}
+use Rattle.sd_model_proxy.specs.Batches.{lines_not_sent, lines_sent, long_in, over_nodes}
 use Rattle.sd_model_proxy.specs.Routes.{is_bad, is_unowned, routes_of}
 use Rattle.sd_model_proxy.proofs.TotalLemmas.{all_fates, counted_fates}
 use Rattle.sd_model_proxy.proofs.totals.lines_have_one_fate.Goals as goal
 
 pub returns-clause-lines : goal.returns-clause-lines
-returns-clause-lines c = all_fates
+returns-clause-lines c most nodes packets = all_fates most nodes
 
 pub returns-clause-totals : goal.returns-clause-totals
 returns-clause-totals c most nodes r are few =
     let routes = routes_of nodes r.reads in
-    counted_fates (length routes) (count_by is_bad routes) (over_nodes nodes r.batched lines_sent) (count_by is_unowned routes) (over_nodes nodes r.batched lines_not_sent)
+    counted_fates (length routes + long_in r.reads) (count_by is_bad routes + long_in r.reads) (over_nodes nodes r.batched lines_sent) (count_by is_unowned routes) (over_nodes nodes r.batched lines_not_sent)
     (all_fates most nodes r.reads r.batched are) few

@@ -11,7 +11,8 @@ pub loop-place-init : goal.loop-place-init
 loop-place-init g c = record {
   wires = refl;
   waiting = refl;
-  left = λ most nodes up done first t same under. flush_first most nodes up done c.args.waiting.now first (map g.L.Faulty.seen c.args.wires.now) t (totals_view c.args.totals.now) under;
+  left = λ most packets long nodes up done first t same under. flush_first most nodes up packets long done c.args.waiting.now first
+      (map g.L.Faulty.seen c.args.wires.now) t (totals_view c.args.totals.now) under;
 }
 
 pub loop-place-preserved : goal.loop-place-preserved
@@ -25,11 +26,13 @@ loop-place-preserved g c =
     record {
       wires = length-set c.loop-place.wires place c.send.new.wire ∙ loop.wires;
       waiting = length-set c.loop-place.waiting place c.send.new.self ∙ loop.waiting;
-      left = λ most nodes up done first t same under.
-          let s = loop.left most nodes up done first t same under in
+      left = λ most packets long nodes up done first t same under.
+          let s = loop.left most packets long nodes up done first t same under in
           let begun = s.begun place in
           let holds = s.holds place c.index-waiting-place.result within in
-          put (IsLeft most nodes up done place) (IsLeft most nodes up done (place + 1)) most nodes (routes_by nodes up done) c.loop-place.waiting first t seen c.loop-place.wires (totals_view c.loop-place.totals) (totals_view c.send.new.totals) place
+          put (IsLeft most nodes up done place) (IsLeft most nodes up done (place + 1)) most nodes packets long
+          (routes_by nodes up done) c.loop-place.waiting first t seen c.loop-place.wires (totals_view c.loop-place.totals)
+          (totals_view c.send.new.totals) place
           (get_or c.loop-place.wires place c.index-wires-place.result) c.send.new.wire c.send.new.self (under_way begun) [] s inside (omega (arith, below, same)) (ap (λ d. get_or c.loop-place.wires place d) c.index-wires-place.is) (c.send.ensures.sends most begun holds) (c.send.ensures.none most begun holds)
           (left_here most nodes up done place (map (λ (b : Batch). b.lines) (s.sent place)) begun (s.are place))
           (λ at ps b other left. left_elsewhere most nodes up done place at ps b other left);

@@ -12,6 +12,9 @@ invariant-loop-place g l =
     record {
       wires : length l.wires ≡ length l.fn.wires;
       waiting : length l.waiting ≡ length l.fn.waiting;
-      left : (most : ℕ) (nodes : List Node) (up : ℕ) (done : List (List ℕ)) (first : List Object) (t : List Total) → length nodes ≡ length l.fn.wires → AreUnderWay most nodes up done l.fn.waiting first (map seen l.fn.wires) t (totals_view l.fn.totals)
-          → Stands (IsLeft most nodes up done l.place) most nodes (routes_by nodes up done) l.waiting first (map seen l.wires) t (totals_view l.totals);
+      left : (most packets long : ℕ) (nodes : List Node) (up : ℕ) (done : List (List ℕ)) (first : List Object) (t : List Total)
+          → length nodes ≡ length l.fn.wires → AreUnderWay most nodes up packets long done l.fn.waiting first (map seen l.fn.wires) t
+          (totals_view l.fn.totals)
+          → Stands (IsLeft most nodes up done l.place) most nodes packets long (routes_by nodes up done) l.waiting first
+          (map seen l.wires) t (totals_view l.totals);
     }

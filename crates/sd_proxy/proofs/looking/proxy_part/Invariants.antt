@@ -3,7 +3,8 @@ use Rattle.sd_live.specs.Live.{IsPassOf, publishes}
 use Rattle.sd_proxy_desk.specs.Shared.{IsSeatOf, number_of_seat}
 use Rattle.sd_proxy_desk.specs.Views.{totals_view}
 use Rattle.sd_proxy.specs.Forwarding.{NoneWaits}
-use Rattle.sd_proxy.proofs.RelayLemmas.{Looked, Ran, pass_seen}
+use Rattle.sd_proxy.specs.Looking.{Looked, pass_seen}
+use Rattle.sd_proxy.proofs.RelayLemmas.{Ran}
 use Rattle.sd_proxy.proofs.looking.proxy_part.Given as goal
 
 abbrev pub invariant-loop-turn : goal.invariant-loop-turn
@@ -17,5 +18,7 @@ invariant-loop-turn g l =
       waiting : length l.waiting ≡ length l.fn.waiting;
       none : (most : ℕ) → NoneWaits most l.fn.waiting → NoneWaits most l.waiting;
       room : length l.buf ≡ length l.fn.buf;
-      ran : (most : ℕ) → NoneWaits most l.fn.waiting → Ran most l.fn.ring (Looked l.fn.ring (pass_seen l.fn.own) (pass_seen l.own)) (g.D.Faulty.seen l.fn.packets) (g.D.Faulty.seen l.packets) l._turn (map wire l.fn.wires) (map wire l.wires) (totals_view l.totals);
+      ran : (most : ℕ) → NoneWaits most l.fn.waiting
+          → Ran most l.fn.ring (Looked 1 most l.fn.ring (pass_seen l.fn.own) (pass_seen l.own)) (g.D.Faulty.seen l.fn.packets)
+          (g.D.Faulty.seen l.packets) l._turn (map wire l.fn.wires) (map wire l.wires) (totals_view l.totals);
     }

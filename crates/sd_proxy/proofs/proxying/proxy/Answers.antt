@@ -4,9 +4,9 @@ use Rattle.std.proofs.lemmas.List.Elements.{All-nil}
 use Rattle.sd_model_settings.specs.Entries.{Node}
 use Rattle.sd_model_proxy.specs.Routes.{Read}
 use Rattle.sd_outside.specs.declared.datagrams.Ended.TheVariants.{End, Failed, Worn}
-use Rattle.sd_proxy.specs.Forwarding.{Forwards, NoneWaits}
+use Rattle.sd_proxy.specs.Forwarding.{Forwards, NoneWaits, datagram_read}
 use Rattle.sd_proxy_desk.specs.Views.{totals_view}
-use Rattle.sd_proxy.proofs.RelayLemmas.{under, under-next, read_of, ran_first, ran_idle, ran_read, ran_out, out_under, ends_failed, ends_spent, same_faults}
+use Rattle.sd_proxy.proofs.RelayLemmas.{under, under-next, ran_first, ran_idle, ran_read, ran_out, out_under, ends_failed, ends_spent, same_faults}
 use Rattle.sd_proxy.proofs.proxying.proxy.Goals as goal
 
 pub loop-turn-init : goal.loop-turn-init
@@ -26,7 +26,8 @@ loop-turn-preserved g c =
     let forward = c.forward_datagram.ensures in
     let datagram = take c.in-Packet.len c.next.new.buf in
     let forwards = λ (most : ℕ) (none : NoneWaits most c.args.waiting.now).
-    subst (λ (ns : List Node). Forwards most ns (read_of datagram c.args.up ∷ []) (map seen c.loop-turn.wires) (map seen c.forward_datagram.new.wires) (totals_view c.loop-turn.totals) (totals_view c.forward_datagram.new.totals))
+    subst (λ (ns : List Node). Forwards most ns 1 (datagram_read datagram c.args.up ∷ []) (map seen c.loop-turn.wires)
+    (map seen c.forward_datagram.new.wires) (totals_view c.loop-turn.totals) (totals_view c.forward_datagram.new.totals))
     loop.ring (forward.forwards most (loop.none most none)) in
     record {
       ring = forward.ring ∙ loop.ring;

@@ -1,4 +1,5 @@
-use Rattle.std.proofs.Common.{◌∙◌, List, ◌∷◌, ◌++◌, All, map, ap, subst}
+use Rattle.std.proofs.Common.{◌∙◌, List, ◌∷◌, ◌++◌, All, append-nil, map, ap, subst}
+use Rattle.std.specs.Prelude.{option_to_list}
 use Rattle.sd_model_live.specs.Proxy.{Begins}
 use Rattle.sd_live.specs.Live.{seen}
 use Rattle.sd_live.specs.declared.pass.UpPass.{UpPass}
@@ -8,6 +9,8 @@ use Rattle.sd_relay.proofs.own_parts.close_hub.Goals as goal
 pub returns-clause-begins : goal.returns-clause-begins
 returns-clause-begins g c =
     let owns = c.args.owns in
-    let last = c.put_first.ensures.items ∙ ap (λ (l : List UpPass). owns.port.own.pass ∷ l) c.requires.none.0 in
-    let all = c.put_apart.ensures.passes ∙ ap (λ (l : List UpPass). map pass_of owns.receivers.items ++ l) last in
+    let lines = map pass_of (option_to_list owns.lines) in
+    let last = c.put_own.ensures.passes ∙ ap (λ (l : List UpPass). lines ++ l) c.requires.none.0 ∙ append-nil lines in
+    let behind = c.put_first.ensures.items ∙ ap (λ (l : List UpPass). owns.port.own.pass ∷ l) last in
+    let all = c.put_apart.ensures.passes ∙ ap (λ (l : List UpPass). map pass_of owns.receivers.items ++ l) behind in
     subst (All (λ (p : UpPass). Begins (seen p) (seen owns.checker.pass))) all c.close.ensures

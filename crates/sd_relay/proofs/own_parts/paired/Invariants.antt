@@ -8,8 +8,8 @@ invariant-loop l = record {
   room : l.count ≤ vec_capacity l.made;
   passes : l.fn.passes.receivers.items ≡ map pass_of l.made.items ++ l.receivers.items;
   seats : l.fn.seats.items ≡ map seat_of l.made.items ++ l.seats.items;
-  passes_left : length l.receivers.items + l.counter ≡ l.count + 1;
-  seats_left : length l.seats.items + l.counter ≡ l.count + 2;
-  pass_room : l.count + 1 ≤ vec_capacity l.receivers;
-  seat_room : l.count + 2 ≤ vec_capacity l.seats;
+  passes_left : length l.receivers.items + l.counter ≡ length l.fn.passes.receivers.items;
+  seats_left : length l.seats.items + l.counter ≡ length l.fn.seats.items;
+  pass_room : length l.fn.passes.receivers.items ≤ vec_capacity l.receivers;
+  seat_room : length l.fn.seats.items ≤ vec_capacity l.seats;
 }

@@ -22,7 +22,9 @@ loop-room-preserved g c =
       len = let a = loop.len in let b = push.len in omega arith;
       room = let a = loop.room in let b = push.len in let d = push.capacity in omega arith;
       rooms = taken.0;
-      fitted = All-same (IsFitted nodes) _ _ push.items (All-push (IsFitted nodes) _ _ loop.fitted (taken.1.0, wires.len ∙ sym (length-map c.args.nodes.now node_view), taken.1.3, taken.1.4));
+      fitted = All-same (IsFitted nodes) _ _ push.items
+          (All-push (IsFitted nodes) _ _ loop.fitted
+          (taken.1.0.0, wires.len ∙ sym (length-map c.args.nodes.now node_view), taken.1.1, taken.1.0.3));
       clear = λ most all.
           let both = loop.clear most all in
           let popped_clear = All-pop (IsClear most) _ _ (Some c.in-Some.room) popped.items both.0 in

@@ -20,4 +20,4 @@ returns-in-End-clause-served g c =
 
 pub returns-in-Session-clause-served : goal.returns-in-Session-clause-served
 returns-in-Session-clause-served g c =
-    ServesTalks-one (g.V.Answerer.talk c.args.shared.now) (g.V.Answerer.has_answered c.args.shared.now) _ c.args.answerer.now c.session.new.answerer _ _ _ c.requires.few c.in-Session.ensures c.leave.ensures c.session.ensures.held c.session.ensures.cause
+    ServesTalks-one (g.V.Answerer.talk c.args.shared.now) (g.V.Answerer.has_answered c.args.shared.now) c.session.result _ c.args.answerer.now c.session.new.answerer _ _ _ c.requires.few c.in-Session.ensures c.leave.ensures c.session.ensures.held c.session.ensures.cause

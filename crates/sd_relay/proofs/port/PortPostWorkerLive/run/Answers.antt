@@ -15,8 +15,8 @@ returns-then-proxy_mgmt_port-eq0 g c =
     record {
       room_stays = refl;
       door_stays = refl;
-      pass = c.requires.pass;
-      seat = c.requires.seat;
+      pass = c.requires.room.pass;
+      seat = c.requires.room.seat;
       number = refl;
       done = record {
         events = [];

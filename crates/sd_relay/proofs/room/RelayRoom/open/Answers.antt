@@ -1,4 +1,4 @@
-use Rattle.std.proofs.Common.{◌≡◌, ◌∙◌, [], ◌∷◌, length, map, sym, subst, arith}
+use Rattle.std.proofs.Common.{◌≡◌, ◌∙◌, [], ◌∷◌, if◌then◌else◌, length, map, sym, subst, arith}
 use Rattle.std.proofs.lemmas.List.{length-map}
 use Rattle.sd_model_live.specs.Proxy.{all_of}
 use Rattle.sd_plan.specs.Entries.{node_view}
@@ -10,17 +10,12 @@ pub returns-clause-room : goal.returns-clause-room
 returns-clause-room g c =
     let room = c.in_ok-open_hub.field-0 in
     let hub = c.in_ok-open_hub.ensures in
-    let rooms = c.in_ok-open_rooms.ensures in
-    let posts = c.in_ok-with_capacity.ensures in
-    let ends = c.in_ok-with_capacity-2.ensures in
+    let ends = c.in_ok-with_capacity.ensures in
     let opened : nodes_of room.cell ≡ length (map node_view c.args.nodes.now) = omega (arith, hub.cell, length-map c.args.nodes.now node_view, c.requires.nodes.1) in
     record {
-      hub = subst (λ n. IsHubFor (all_of n ∷ []) n c.args.receivers room) (sym hub.cell ∙ opened) hub;
+      hub = subst (λ n. IsHubFor (all_of n ∷ []) n c.args.receivers (if c.args.has_lines then 1 else 0) room) (sym hub.cell ∙ opened) hub;
       few = omega arith;
-      places = rooms.count ∙ c.from-count.ensures;
-      place_each = rooms.each;
-      no_post = posts.items;
-      post_room = let a = posts.capacity in let b = c.from-count.ensures in omega arith;
+      postings = c.in_ok-open.ensures.postings;
       no_end = ends.items;
-      end_room = let a = ends.capacity in let b = c.from-count.ensures in omega arith;
+      end_room = let a = ends.capacity in let b = c.from.ensures in omega arith;
     }

@@ -9,6 +9,7 @@ invariant_of-self c =
       points = c.self.invariant.points;
       ascends = c.self.invariant.ascends;
       homes = λ key home there. c.self.invariant.homes key home (c.recall.ensures.homes key home there);
+      recent = c.self.invariant.recent;
     }
 
 pub returns-in-Some-clause-home : goal.returns-in-Some-clause-home
@@ -21,6 +22,7 @@ invariant_of-self-in_err-home c =
       points = c.self.invariant.points;
       ascends = c.self.invariant.ascends;
       homes = λ key home there. c.self.invariant.homes key home (c.recall.ensures.homes key home there);
+      recent = c.self.invariant.recent;
     }
 
 pub invariant_of-self-2 : goal.invariant_of-self-2
@@ -29,6 +31,7 @@ invariant_of-self-2 c =
       points = c.self.invariant.points;
       ascends = c.self.invariant.ascends;
       homes = λ key home there. c.self.invariant.homes key home (c.recall.ensures.homes key home there);
+      recent = c.self.invariant.recent;
     }
 
 pub invariant_of-self-3 : goal.invariant_of-self-3
@@ -41,7 +44,8 @@ invariant_of-self-3 c =
         | inl before ↦ was key home (c.recall.ensures.homes key home before)
         | inr (is, same) ↦
             let found : owner c.args.key.now (nodes_in c.self.inside) all_up ≡ Some c.in_ok-home.home =
-            sym c.in_ok-home.ensures
+            ap (λ bytes. owner bytes (nodes_in c.self.inside) all_up) (sym c.as_slice.ensures.bytes) ∙ sym c.in_ok-home.ensures
             in ap (λ k. owner k (nodes_in c.self.inside) all_up) is ∙ found ∙ ap Some (sym same)
       ];
+      recent = c.self.invariant.recent;
     }

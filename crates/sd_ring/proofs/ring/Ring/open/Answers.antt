@@ -14,4 +14,5 @@ invariant_of-result c =
       points = subst (λ ps. IsPermutation ps c.sort_unstable.new.self.items) taken c.sort_unstable.ensures.permutation;
       ascends = Ascends-from_sorted _ compared c.sort_unstable.new.self.items c.sort_unstable.ensures.sorted;
       homes = λ key home there. absurd (Contains-none (key, home) (subst (λ cache. Contains cache.entries (key, home)) c.in_ok-new.ensures there));
+      recent = λ name home known. absurd (c.in_ok-open.ensures name home known);
     }
