@@ -1,2 +1,3 @@
 pub mod WordPlaces
 pub mod TotalsLines
+pub mod WordLemmas

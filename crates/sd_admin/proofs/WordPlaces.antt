@@ -7,8 +7,9 @@ use Rattle.std.proofs.lemmas.List.Elements.{All-from_recursion}
 use Rattle.std.proofs.lemmas.Bool.Decides.{nat_tests}
 use Rattle.std.proofs.lemmas.List.Sums.{prefix_len-le-length}
 use Rattle.sd_model_text.specs.Lists.{is_white_space}
-use Rattle.sd_model_record.specs.Admin.{IsWord, words}
-use Rattle.sd_model_record.proofs.WordLemmas.{words-blank, words-word, words-more}
+use Rattle.sd_model_record.specs.Admin.{words}
+use Rattle.sd_admin.specs.Words.{IsWord}
+use Rattle.sd_admin.proofs.WordLemmas.{words-blank, words-word, words-more}
 
 by_test : (p n : ℕ) (b : Bool) → ltb p n ≡ b → p ≤ n → unwrap_or (cond b (Some p) None) n ≡ p
 by_test p n true is within = refl

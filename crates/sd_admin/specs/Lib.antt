@@ -1,2 +1,4 @@
 pub mod Command
 pub mod Reply
+pub mod Order
+pub mod Words

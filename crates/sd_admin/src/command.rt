@@ -66,7 +66,8 @@ pub enum AdminFault {
 }
 
 impl<'a> Command<'a> {
-    ghost use Rattle.sd_model_record.specs.Admin.{command, name_at};
+    ghost use Rattle.sd_model_record.specs.Admin.{command};
+    ghost use Rattle.sd_admin.specs.Words.{name_at};
     ghost use Rattle.sd_admin.specs.Command.{command_view};
 
     /// The command of a line, which stands without the newline that ends it. Words are parted by runs of white space, the

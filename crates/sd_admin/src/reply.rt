@@ -1,6 +1,7 @@
 ghost use Rattle.std.specs.Prelude.{◌≡◌, OnOk, OnErr};
 ghost use Rattle.sd_model_outside.specs.Outside.{HasFailedBehind, given};
-ghost use Rattle.sd_model_record.specs.Replies.{reply_text, reply_lines, IsInOrder};
+ghost use Rattle.sd_model_record.specs.Replies.{reply_text, reply_lines};
+ghost use Rattle.sd_admin.specs.Order.{IsInOrder};
 ghost use Rattle.sd_admin.specs.Reply.{reply_view};
 
 use crate::command::AdminFault;

@@ -3,7 +3,8 @@ use Rattle.std.specs.Prelude.{◌≡◌, ℕ, ◌+◌, ◌==◌, if◌then◌els
 use Rattle.sd_model_text.specs.Lines.{Sample}
 use Rattle.sd_model_shard.specs.Shard.{State, Limits, Policy, Submit}
 use Rattle.sd_model_shard.specs.History.{Asked, History, after_all, answered}
-use Rattle.sd_model_shard.specs.Whereabouts.{taken_in, dropped_in, told_by}
+use Rattle.sd_model_shard.specs.Whereabouts.{dropped_in, told_by}
+use Rattle.sd_law_shard.specs.Sums.{taken_in}
 use Rattle.sd_shard.specs.Shard.{Standing, state_of}
 use Rattle.sd_batch.specs.declared.counts.Counts.{Counts}
 

@@ -1,6 +1,6 @@
 //! Datagrams that a receiver takes.
 ghost use Rattle.std.specs.Prelude.{◌≤◌, All, IfOk, vec_len};
-ghost use Rattle.sd_model_outside.specs.Turns.{most_datagram};
+ghost use Rattle.sd_outside.specs.Turns.{most_datagram};
 ghost use Rattle.sd_cases_flush.specs.Bench.{IsReady};
 
 use crate::bench::Bench;

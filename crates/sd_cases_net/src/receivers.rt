@@ -1,5 +1,5 @@
 ghost use Rattle.std.specs.Prelude.{◌≡◌, ◌≤◌, length};
-ghost use Rattle.sd_model_outside.specs.Turns.{most_datagram};
+ghost use Rattle.sd_outside.specs.Turns.{most_datagram};
 
 use crate::common::{
     datagrams_at, datagrams_here, here, no_sockets, opening_text, room, socket_here, step,

@@ -5,8 +5,9 @@ use Rattle.std.proofs.lemmas.List.Elements.{All-nil, All-cons, All-head, All-tai
 use Rattle.sd_live.specs.declared.pass.UpPass.{UpPass}
 use Rattle.sd_live.specs.declared.up_cell.UpCell.{UpCell}
 use Rattle.sd_live.specs.Live.{seen, IsPassOf, IsReceiverOf, nodes_of}
-use Rattle.sd_model_live.specs.Proxy.{Begins, HaveAnswered, all_of}
-use Rattle.sd_model_live.proofs.LookLemmas.{answered_on}
+use Rattle.sd_model_live.specs.Proxy.{all_of}
+use Rattle.sd_live.specs.Looks.{Begins, HaveAnswered}
+use Rattle.sd_live.proofs.LookLemmas.{answered_on}
 use Rattle.sd_cases_proxy.specs.declared.looker.Looker.{Looker}
 use Rattle.sd_cases_proxy.specs.Lookers.{HasLooked, IsNew, HasSeen}
 

@@ -1,6 +1,6 @@
 -- What the steps of a receiver's case need.
 use Rattle.std.specs.Prelude.{◌≡◌, ◌+◌, ◌≤◌, length}
-use Rattle.sd_model_outside.specs.Turns.{most_datagram}
+use Rattle.sd_outside.specs.Turns.{most_datagram}
 use Rattle.sd_live.specs.declared.up_cell.UpCell.{UpCell}
 use Rattle.sd_live.specs.Live.{seen, IsPassOf, IsCheckerOf}
 use Rattle.sd_proxy_desk.specs.declared.desk.ProxyDesk.{ProxyDesk}

@@ -1,6 +1,7 @@
 -- What receivers that look were answered.
 use Rattle.std.specs.Prelude.{◌≡◌, [], ◌∷◌}
-use Rattle.sd_model_live.specs.Proxy.{all_of, HaveAnswered}
+use Rattle.sd_model_live.specs.Proxy.{all_of}
+use Rattle.sd_live.specs.Looks.{HaveAnswered}
 use Rattle.sd_live.specs.declared.up_cell.UpCell.{UpCell}
 use Rattle.sd_live.specs.Live.{nodes_of, seen, IsPassOf}
 use Rattle.sd_cases_proxy.specs.declared.looker.Looker.{Looker}

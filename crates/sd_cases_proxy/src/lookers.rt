@@ -1,6 +1,7 @@
 //! One checker publishes while receivers look.
 ghost use Rattle.std.specs.Prelude.{◌≡◌, ℕ, ◌+◌, ◌^◌, ◌<◌, ◌≤◌, ◌++◌, [], ◌∷◌, length, map, slice_index_or, IfOk, All};
-ghost use Rattle.sd_model_live.specs.Proxy.{all_of, HaveAnswered};
+ghost use Rattle.sd_model_live.specs.Proxy.{all_of};
+ghost use Rattle.sd_live.specs.Looks.{HaveAnswered};
 ghost use Rattle.sd_live.specs.Live.{nodes_of, seen, IsPassOf, IsCheckerOf, IsReceiverOf};
 ghost use Rattle.sd_cases_proxy.specs.Lookers.{HasLooked, IsNew, HasSeen};
 

@@ -1,6 +1,6 @@
 //! What a server or a proxy of a case is given.
 ghost use Rattle.std.specs.Prelude.{◌≡◌, ◌≤◌, All, IfOk, false, length, vec_len};
-ghost use Rattle.sd_model_outside.specs.Turns.{most_datagram};
+ghost use Rattle.sd_outside.specs.Turns.{most_datagram};
 ghost use Rattle.sd_memory.specs.MemBeat.{seen_of as beat_seen};
 ghost use Rattle.sd_memory.specs.MemDoor.{seen_of as door_seen};
 ghost use Rattle.sd_memory.specs.MemSessions.{HasNoFaults};

@@ -5,8 +5,9 @@ use Rattle.std.proofs.lemmas.List.{map-append, length-map}
 use Rattle.std.proofs.lemmas.List.Concat.{flat_map-append}
 use Rattle.std.proofs.lemmas.List.Elements.{All-nil, All-push}
 use Rattle.sd_model_settings.specs.Entries.{Node}
-use Rattle.sd_model_outside.specs.Outside.{Object, Place, Told, Ticks, HasFailed, Rose, last_count, raised}
-use Rattle.sd_model_outside.specs.Turns.{GivesTick, IsSpent, with_ticks}
+use Rattle.sd_model_outside.specs.Outside.{Object, Place, Told, Ticks, HasFailed, Rose, last_count}
+use Rattle.sd_outside.specs.Turns.{raised, GivesTick}
+use Rattle.sd_model_outside.specs.Turns.{IsSpent, with_ticks}
 use Rattle.sd_model_outside.specs.Probes.{AreAsked}
 use Rattle.sd_model_outside.proofs.TurnLemmas.{with_ticks-append}
 use Rattle.sd_model_serve.specs.Ends.{most_turns}

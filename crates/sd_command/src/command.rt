@@ -2,9 +2,11 @@ ghost use Rattle.std.specs.Prelude.{◌≡◌, ◌≢◌, ◌≤◌, ◌<◌, �
 ghost use Rattle.sd_model_text.specs.Names.{Set};
 ghost use Rattle.sd_model_outside.specs.Outside.{Object, HasFailedBehind, given};
 ghost use Rattle.sd_model_shard.specs.Shard.{Delete, Dump as DumpOf};
-ghost use Rattle.sd_model_record.specs.Admin.{command, names_of};
+ghost use Rattle.sd_model_record.specs.Admin.{command};
+ghost use Rattle.sd_admin.specs.Words.{names_of};
 ghost use Rattle.sd_model_record.specs.Desk.{with_health};
-ghost use Rattle.sd_model_record.specs.Replies.{Finish, IsInOrder, Rows, reply_text, health_after, names_replied, replies_text, rows_told};
+ghost use Rattle.sd_model_record.specs.Replies.{Finish, Rows, reply_text, health_after, names_replied, replies_text, rows_told};
+ghost use Rattle.sd_admin.specs.Order.{IsInOrder};
 ghost use Rattle.sd_model_replay.specs.Script.{Admin};
 ghost use Rattle.sd_model_replay.specs.Replay.{desk_after_line, states_after};
 ghost use Rattle.sd_model_replay.specs.Asked.{output_in};

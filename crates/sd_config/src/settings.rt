@@ -1,7 +1,7 @@
 ghost use Rattle.std.specs.Prelude.{◌≡◌, ◌*◌, ◌<◌, ◌≤◌, length, map};
 ghost use Rattle.toml.specs.View.{table_view};
 ghost use Rattle.sd_model_settings.specs.Settings.{top, tables, settings_in, document, settings, plan_of};
-ghost use Rattle.sd_model_settings.specs.Ranges.{IsWithin, IsPrefix, IsHost, AreThresholds, AreBackends, AreClassNames, AreHistograms, AreTargets, AreNodes, InRange};
+ghost use Rattle.sd_law_settings.specs.Ranges.{IsWithin, IsPrefix, IsHost, AreThresholds, AreBackends, AreClassNames, AreHistograms, AreTargets, AreNodes, InRange};
 ghost use Rattle.sd_config.specs.Answers.{Gives};
 ghost use Rattle.sd_plan.specs.Values.{IsSetting, micros, name_bytes};
 ghost use Rattle.sd_plan.specs.Entries.{classes_view, target_view, node_view};
@@ -44,7 +44,7 @@ pub struct Settings {
 impl Model for Settings {
     ghost use Rattle.std.specs.Prelude.{map};
     ghost use Rattle.sd_model_settings.specs.Settings.{Settings as ModelSettings};
-    ghost use Rattle.sd_model_settings.specs.Ranges.{IsWithin, NamespaceInRange, AreTargets, AreNodes, AreInRange};
+    ghost use Rattle.sd_law_settings.specs.Ranges.{IsWithin, NamespaceInRange, AreTargets, AreNodes, AreInRange};
     ghost use Rattle.sd_model_settings.specs.Table.{addresses as address_table, sizes as size_table, transport as transport_table};
     ghost use Rattle.sd_plan.specs.Entries.{target_view, node_view};
     ghost use Rattle.sd_config.specs.Groups.{deletions_view, addresses_view, sizes_view, transport_view};

@@ -5,7 +5,7 @@ ghost use Rattle.sd_model_text.specs.Names.{is_name_byte};
 ghost use Rattle.sd_model_settings.specs.Values.{whole, flag, text, decimal, is_prefix, is_filled_prefix, is_metric, is_host, is_host_byte};
 ghost use Rattle.sd_model_settings.specs.Entries.{is_backend};
 ghost use Rattle.sd_model_settings.specs.Kinds.{Share, read_as};
-ghost use Rattle.sd_model_settings.specs.Ranges.{IsWithin};
+ghost use Rattle.sd_law_settings.specs.Ranges.{IsWithin};
 ghost use Rattle.sd_config.specs.Answers.{seen_by};
 ghost use Rattle.sd_config.specs.Values.{passes, longest};
 

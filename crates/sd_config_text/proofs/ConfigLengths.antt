@@ -7,8 +7,8 @@ use Rattle.std.proofs.lemmas.Bool.Decides.{nat_tests}
 use Rattle.sd_model_text.specs.Numbers.{number_text, Limit, Below, Infinite}
 use Rattle.sd_decimal.proofs.NumberTexts.{length-number_text}
 use Rattle.sd_model_settings.specs.Entries.{is_limit, is_backend, is_class_name}
-use Rattle.sd_model_settings.specs.Ranges.{IsThreshold, AreThresholds, AreBackends, AreClassNames, AreLimits}
-use Rattle.sd_model_settings.proofs.EntriesInRange.{length-class_name}
+use Rattle.sd_law_settings.specs.Ranges.{IsThreshold, AreThresholds, AreBackends, AreClassNames, AreLimits}
+use Rattle.sd_law_settings.proofs.EntriesInRange.{length-class_name}
 use Rattle.sd_model_settings.specs.ConfigText.{joined, limit_text}
 use Rattle.sd_decimal.specs.declared.number.Micro.{Micro}
 use Rattle.sd_decimal.specs.declared.number.Limit as code

@@ -1,7 +1,7 @@
 ghost use Rattle.std.specs.Prelude.{◌≡◌, ◌+◌, ◌≤◌, [], ◌∷◌, ◌++◌, length, map, slice_get, decimal, codes};
 ghost use Rattle.std.specs.Option.{option_map};
 ghost use Rattle.arrayvec.specs.ArrayVec.{array_vec_len};
-ghost use Rattle.sd_model_settings.specs.Ranges.{IsClasses, AreLimits, AreHistograms};
+ghost use Rattle.sd_law_settings.specs.Ranges.{IsClasses, AreLimits, AreHistograms};
 ghost use Rattle.sd_model_settings.specs.ConfigText.{line, limit_text, joined, group_lines, front_lines, histogram_line, repeater_line, node_line, back_lines, config_lines};
 ghost use Rattle.sd_model_settings.specs.Table.{server, deletions, addresses, namespace, sizes, flush_rules, transport};
 ghost use Rattle.sd_plan.specs.Entries.{limits_of, classes_view, target_view, node_view};
@@ -274,7 +274,7 @@ pub trait ConfigText {
 impl ConfigText for Settings {
     ghost use Rattle.std.specs.Prelude.{OnOk, OnErr};
     ghost use Rattle.sd_model_outside.specs.Outside.{HasFailedBehind, given};
-    ghost use Rattle.sd_model_settings.specs.ConfigText.{config_text};
+    ghost use Rattle.sd_config_text.specs.ConfigText.{config_text};
 
     fn config_text<K: Sink>(&self, sink: &mut K) -> Result<(), Failed>
         ensures ok { OnOk result (K.seen sink.new ≡ given (config_text self.now) (K.seen sink.old)) }

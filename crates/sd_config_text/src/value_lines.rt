@@ -1,7 +1,7 @@
 //! The line of a setting of each kind, by the kinds' names in the table of settings.
 ghost use Rattle.std.specs.Prelude.{◌≡◌, ◌≤◌, length, map, decimal};
 ghost use Rattle.sd_model_text.specs.Numbers.{number_text};
-ghost use Rattle.sd_model_settings.specs.Ranges.{AreThresholds, AreBackends, AreClassNames};
+ghost use Rattle.sd_law_settings.specs.Ranges.{AreThresholds, AreBackends, AreClassNames};
 ghost use Rattle.sd_model_settings.specs.ConfigText.{line, flag_line, joined};
 ghost use Rattle.sd_plan.specs.Values.{micros, name_bytes};
 

@@ -1,6 +1,7 @@
 -- The desk of the code, as the definitions have it, and what it keeps.
 use Rattle.std.specs.Prelude.{◌^◌, ◌≤◌}
 use Rattle.sd_model_record.specs.Desk as model
+use Rattle.sd_desk.specs.Sums.{AddsUp}
 use Rattle.sd_desk.specs.Tally.{tally_of}
 use Rattle.sd_desk.specs.declared.desk.Desk.TheInside.{Inside}
 
@@ -23,7 +24,7 @@ desk_of d =
     }
 
 pub record IsDesk (d : Inside) : Type 0 where
-  pub adds_up : model.AddsUp (desk_of d)
+  pub adds_up : AddsUp (desk_of d)
   pub rounds : d.rounds ≤ 2 ^ 63
   pub graphite_faults : d.graphite_faults ≤ 2 ^ 63
   pub console_faults : d.console_faults ≤ 2 ^ 63

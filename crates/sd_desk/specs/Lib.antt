@@ -2,3 +2,4 @@ pub mod Desk
 pub mod Facts
 pub mod Marks
 pub mod Tally
+pub mod Sums

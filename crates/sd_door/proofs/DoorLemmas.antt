@@ -5,7 +5,8 @@ use Rattle.sd_model_outside.specs.Outside.{Told, Untold, Left, Number, Bytes, Bu
 use Rattle.sd_model_outside.specs.Turns.{with_sessions, with_back}
 use Rattle.sd_model_outside.proofs.TurnLemmas.{with_sessions-append, with_back-append}
 use Rattle.sd_model_record.specs.DeskHistory.{DeskCall, AdminFault as FailedSession, Done}
-use Rattle.sd_model_record.specs.Counts.{Among, HasCalled, IsKeeping, IsLook, Count, TotalPackets, TotalLines, TotalBad, TotalDropped, TakenPackets, TakenLines, TakenBad, TakenDropped, RoundsMade, GraphiteFaults, ConsoleFaults, RepeaterFaults, AdminFaults, Amounts, Part, HasCounted, nothing, of_sessions, plus}
+use Rattle.sd_model_record.specs.Counts.{Among, IsKeeping, Count, TotalPackets, TotalLines, TotalBad, TotalDropped, TakenPackets, TakenLines, TakenBad, TakenDropped, RoundsMade, GraphiteFaults, ConsoleFaults, RepeaterFaults, AdminFaults, Amounts}
+use Rattle.sd_shared_desk.specs.Counts.{HasCalled, IsLook, Part, HasCounted, nothing, of_sessions, plus}
 
 -- sessions were taken and given back so
 abbrev pub Serves : (taken back : List Session) → Told → Told → Type 0

@@ -3,10 +3,12 @@ use Rattle.std.proofs.Common.{◌≡◌, ℕ, zero, suc, ◌+◌, ◌<◌, ◌^�
 use Rattle.std.specs.List.{AllByRecursion}
 use Rattle.std.proofs.lemmas.List.{map-append}
 use Rattle.std.proofs.lemmas.List.Sums.{sum_by-append, sum_by-cons}
-use Rattle.sd_model_outside.specs.Outside.{Object, Session, Told, HasFailed, Rose, RoseBy, raised}
-use Rattle.sd_model_outside.specs.Turns.{GivesSession, HasLeft, session_of, turned}
+use Rattle.sd_model_outside.specs.Outside.{Object, Session, Told, HasFailed, Rose, RoseBy}
+use Rattle.sd_outside.specs.Turns.{raised, GivesSession, HasLeft, turned}
+use Rattle.sd_model_outside.specs.Turns.{session_of}
 use Rattle.sd_model_record.specs.DeskHistory.{DeskCall}
-use Rattle.sd_model_record.specs.Counts.{Among, IsKeeping, IsLook, Amounts, Part, HasCalled, HasCounted, nothing, of_sessions, plus}
+use Rattle.sd_model_record.specs.Counts.{Among, IsKeeping, Amounts}
+use Rattle.sd_shared_desk.specs.Counts.{IsLook, Part, HasCalled, HasCounted, nothing, of_sessions, plus}
 use Rattle.sd_model_serve.specs.Doors.{Visit, IsFresh, IsFaultOf, faults_among}
 use Rattle.sd_door.specs.Keeping.{HasKept, Visited}
 use Rattle.sd_door.proofs.DoorLemmas.{Serves, Serves-none, Serves-next, Serves-one, called_behind, counted_before, counted_behind, looks_among, counted_more, none_counted, nothing-plus, plus-assoc, plus-nothing}

@@ -1,8 +1,10 @@
 -- The keeping of a door: the visits of its sessions, and how it ends.
 use Rattle.std.specs.Prelude.{◌≡◌, ℕ, ◌+◌, Bool, true, false, List, [], ◌∷◌, ◌++◌}
-use Rattle.sd_model_outside.specs.Outside.{Object, raised}
+use Rattle.sd_model_outside.specs.Outside.{Object}
+use Rattle.sd_outside.specs.Turns.{raised}
 use Rattle.sd_model_outside.specs.Turns.{IsSpent}
-use Rattle.sd_model_record.specs.Counts.{Among, Amounts, IsKeeping, Part, HasCalled, HasCounted, RoundsMade, nothing, of_sessions, plus}
+use Rattle.sd_model_record.specs.Counts.{Among, Amounts, IsKeeping, RoundsMade}
+use Rattle.sd_shared_desk.specs.Counts.{Part, HasCalled, HasCounted, nothing, of_sessions, plus}
 use Rattle.sd_model_record.specs.DeskHistory.{DeskCall}
 use Rattle.sd_model_serve.specs.Doors.{Visit, ServesDoor, faults_among}
 use Rattle.sd_model_serve.specs.Ends.{EndsKeeper, Spent, Enough, WornOut}

@@ -5,9 +5,10 @@ use Rattle.std.specs.List.{cons_option}
 use Rattle.std.proofs.lemmas.List.Elements.{All-nil, All-append}
 use Rattle.std.proofs.lemmas.List.Sums.{sum_by-cons}
 use Rattle.sd_model_text.specs.Lines.{Sample, pieces, bad_of, good, is_bad, reading, samples_of}
-use Rattle.sd_model_text.proofs.PieceCounts.{length-pieces}
+use Rattle.sd_law_text.proofs.PieceCounts.{length-pieces}
 use Rattle.sd_model_shard.specs.History.{Act, History}
-use Rattle.sd_model_shard.specs.Whereabouts.{taken_in, dropped_in}
+use Rattle.sd_model_shard.specs.Whereabouts.{dropped_in}
+use Rattle.sd_law_shard.specs.Sums.{taken_in}
 use Rattle.sd_model_serve.specs.Receiving.{asks, events_of, told_in}
 use Rattle.sd_model_serve.proofs.ActsLemmas.{asks-append}
 use Rattle.sd_line.specs.Piece.{cause_of}

@@ -10,7 +10,8 @@ use Rattle.sd_model_text.specs.Names.{shard}
 use Rattle.sd_model_text.specs.Lines.{Sample}
 use Rattle.sd_model_shard.specs.Shard.{Submit}
 use Rattle.sd_model_shard.specs.History.{Act, History}
-use Rattle.sd_model_shard.specs.Whereabouts.{taken_in, dropped_in}
+use Rattle.sd_model_shard.specs.Whereabouts.{dropped_in}
+use Rattle.sd_law_shard.specs.Sums.{taken_in}
 use Rattle.sd_model_shard.proofs.OrderLemmas.{weighed_once}
 use Rattle.sd_model_serve.specs.Receiving.{asks, events_of, told_in}
 use Rattle.sd_batch.specs.Runs.{run_at}

@@ -4,20 +4,23 @@ use Rattle.std.specs.Prelude.{Some, None}
 use Rattle.std.proofs.lemmas.List.{map-append, length_push}
 use Rattle.std.proofs.lemmas.Grind.{flat_map-append}
 use Rattle.std.proofs.lemmas.List.Sums.{sum_by-append, sum_by-cons}
-use Rattle.sd_model_outside.specs.Outside.{Object, Told, Ticks, raised}
-use Rattle.sd_model_outside.specs.Turns.{GivesTick, turned, with_ticks}
+use Rattle.sd_model_outside.specs.Outside.{Object, Told, Ticks}
+use Rattle.sd_outside.specs.Turns.{raised, GivesTick, turned}
+use Rattle.sd_model_outside.specs.Turns.{with_ticks}
 use Rattle.sd_model_outside.specs.Deliveries.{Delivery, AfterDeliveries}
 use Rattle.sd_model_outside.proofs.DeliveryLemmas.{AfterDeliveries-push}
 use Rattle.sd_model_outside.proofs.TurnLemmas.{with_ticks-append}
 use Rattle.sd_model_shard.specs.History.{History}
 use Rattle.sd_model_record.specs.Desk.{Marks, counted}
-use Rattle.sd_model_record.specs.Counts.{Count, Amounts, Part, HasCounted, nothing, plus, share}
+use Rattle.sd_model_record.specs.Counts.{Count, Amounts}
+use Rattle.sd_shared_desk.specs.Counts.{Part, HasCounted, nothing, plus, share}
 use Rattle.sd_model_record.specs.DeskHistory.{DeskCall}
 use Rattle.sd_model_record.specs.Backends.{Backend, Graphite, Console, mark_of}
-use Rattle.sd_model_record.proofs.CountLemmas.{counted_none, counted_next}
-use Rattle.sd_model_serve.specs.Receiving.{Adds}
-use Rattle.sd_model_serve.specs.Rounds.{Round, Form, MakesRound, MakesRounds, MarksFit, last_second, round_calls, round_deliveries, round_text, swap_of, swaps_at, of_round, of_rounds}
-use Rattle.sd_model_serve.proofs.ActsLemmas.{Adds-none, Adds-next}
+use Rattle.sd_shared_desk.proofs.CountLemmas.{counted_none, counted_next}
+use Rattle.sd_pool.specs.Adding.{Adds}
+use Rattle.sd_model_serve.specs.Rounds.{Round, Form, MarksFit, last_second, round_calls, round_deliveries, round_text, swap_of, swaps_at}
+use Rattle.sd_flush.specs.Made.{MakesRound, MakesRounds, of_round, of_rounds}
+use Rattle.sd_pool.proofs.ActsLemmas.{Adds-none, Adds-next}
 use Rattle.sd_rows.specs.declared.row.Row.{Row}
 use Rattle.sd_pool.proofs.AlongLemmas.{AllByRecursion-append}
 use Rattle.sd_flush.specs.Flushing.{MakesRoundAt, uses_by}

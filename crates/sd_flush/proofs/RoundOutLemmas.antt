@@ -3,12 +3,13 @@ use Rattle.std.proofs.Common.{◌≡◌, ℕ, ◌+◌, ◌<◌, ◌^◌, List, [
 use Rattle.std.specs.Prelude.{Some, None}
 use Rattle.std.proofs.lemmas.List.{map-append, length_push}
 use Rattle.sd_model_outside.specs.Outside.{Object}
-use Rattle.sd_model_outside.specs.Turns.{GivesTick, with_ticks}
+use Rattle.sd_model_outside.specs.Turns.{with_ticks}
+use Rattle.sd_outside.specs.Turns.{GivesTick}
 use Rattle.sd_model_shard.specs.History.{History}
 use Rattle.sd_model_record.specs.Backends.{Backend}
-use Rattle.sd_model_record.specs.Counts.{Part}
+use Rattle.sd_shared_desk.specs.Counts.{Part}
 use Rattle.sd_model_serve.specs.Rounds.{Round, Form, last_second, round_text}
-use Rattle.sd_model_serve.proofs.ActsLemmas.{Adds-none}
+use Rattle.sd_pool.proofs.ActsLemmas.{Adds-none}
 use Rattle.sd_rows.specs.declared.row.Row.{Row}
 use Rattle.sd_pool.proofs.AlongLemmas.{AllByRecursion-append}
 use Rattle.sd_flush.specs.declared.flushed.Flushed.{Flushed}

@@ -6,11 +6,12 @@ use Rattle.sd_model_outside.specs.Turns.{with_ticks}
 use Rattle.sd_model_settings.specs.Settings.{Names}
 use Rattle.sd_model_shard.specs.History.{History}
 use Rattle.sd_model_record.specs.Desk.{Marks}
-use Rattle.sd_model_record.specs.Counts.{Part}
+use Rattle.sd_shared_desk.specs.Counts.{Part}
 use Rattle.sd_model_record.specs.Backends.{Backend, Graphite, Console}
 use Rattle.sd_model_serve.specs.Ends as model
 use Rattle.sd_model_serve.specs.Ends.{EndsFlusher, Spent, Enough, WornOut}
-use Rattle.sd_model_serve.specs.Rounds.{Round, Form, MakesRound, MakesRounds, last_second}
+use Rattle.sd_model_serve.specs.Rounds.{Round, Form, last_second}
+use Rattle.sd_flush.specs.Made.{MakesRound, MakesRounds}
 use Rattle.sd_outside.specs.declared.backend.Backs.{Backs}
 use Rattle.sd_outside.specs.declared.datagrams.Ended.{Ended}
 use Rattle.sd_outside.specs.declared.datagrams.Ended.TheVariants.{End, Failed, Stopped, Worn}

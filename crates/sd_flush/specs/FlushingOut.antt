@@ -6,10 +6,11 @@ use Rattle.sd_model_outside.specs.Outside.{Object}
 use Rattle.sd_model_outside.specs.Turns.{with_ticks}
 use Rattle.sd_model_shard.specs.History.{History}
 use Rattle.sd_model_record.specs.Desk.{Marks}
-use Rattle.sd_model_record.specs.Counts.{Part, HasCounted}
+use Rattle.sd_shared_desk.specs.Counts.{Part, HasCounted}
 use Rattle.sd_model_record.specs.Backends.{Backend, Graphite, Console}
-use Rattle.sd_model_serve.specs.Receiving.{Adds}
-use Rattle.sd_model_serve.specs.Rounds.{Round, Form, last_second, of_round, of_rounds, round_calls, round_text, swaps_at}
+use Rattle.sd_pool.specs.Adding.{Adds}
+use Rattle.sd_model_serve.specs.Rounds.{Round, Form, last_second, round_calls, round_text, swaps_at}
+use Rattle.sd_flush.specs.Made.{of_round, of_rounds}
 use Rattle.sd_rows.specs.declared.row.Row.{Row}
 use Rattle.sd_epoch.specs.Table.{Listing, table_of}
 use Rattle.sd_flush.specs.declared.flushed.Flushed.{Flushed}

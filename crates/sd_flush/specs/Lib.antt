@@ -4,3 +4,4 @@ pub mod Offers
 pub mod Outs
 pub mod Swapping
 pub mod Tables
+pub mod Made

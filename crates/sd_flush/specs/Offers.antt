@@ -1,6 +1,7 @@
 -- Texts that are offered to an outlet, and what becomes of each.
 use Rattle.std.specs.Prelude.{◌≡◌, ℕ, ◌+◌, ◌<◌, ◌≤◌, ◌^◌, List, [], ◌∷◌, ◌++◌, length, map, flat_map, sum_by, min, None, Some, IsSome}
-use Rattle.sd_model_outside.specs.Outside.{last_count, raised}
+use Rattle.sd_model_outside.specs.Outside.{last_count}
+use Rattle.sd_outside.specs.Turns.{raised}
 use Rattle.sd_outlet.specs.declared.feed.Feed.{Feed}
 use Rattle.sd_outlet.specs.declared.outlet.Outlet.{Outlet}
 use Rattle.sd_outlet.specs.Feed.{buffers, bytes_of, refusals_of, sends_of, sent, stopped_at}

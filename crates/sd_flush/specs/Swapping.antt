@@ -2,8 +2,9 @@
 use Rattle.std.specs.Prelude.{◌≡◌, ℕ, ◌+◌, List, [], ◌∷◌, ◌++◌, length, map}
 use Rattle.sd_model_shard.specs.Shard.{Swap, Swapped}
 use Rattle.sd_model_shard.specs.History.{History}
-use Rattle.sd_model_serve.specs.Receiving.{Adds}
-use Rattle.sd_model_serve.specs.Rounds.{swap_of, table_at}
+use Rattle.sd_pool.specs.Adding.{Adds}
+use Rattle.sd_model_serve.specs.Rounds.{swap_of}
+use Rattle.sd_flush.specs.Made.{table_at}
 use Rattle.sd_epoch.specs.Table.{Listing, live_of, table_of}
 use Rattle.sd_record.specs.Rows.{AreDisjoint}
 use Rattle.sd_spares.specs.Spares.{Stock}

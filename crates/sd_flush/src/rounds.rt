@@ -1,6 +1,6 @@
 ghost use Rattle.std.specs.Prelude.{◌≡◌, ◌++◌, [], ◌∷◌, length, map};
 ghost use Rattle.sd_model_serve.specs.Receiving.{flusher};
-ghost use Rattle.sd_model_record.specs.Counts.{HasCounted, of_marks, of_taken};
+ghost use Rattle.sd_shared_desk.specs.Counts.{HasCounted, of_marks, of_taken};
 ghost use Rattle.sd_model_record.specs.DeskHistory.{Take, Mark, Took, Done};
 ghost use Rattle.sd_desk.specs.Marks.{marks_of};
 ghost use Rattle.sd_desk.specs.Tally.{tally_of};

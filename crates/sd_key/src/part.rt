@@ -1,5 +1,5 @@
 ghost use Rattle.std.specs.Prelude.{◌↔◌, IsTrue};
-ghost use Rattle.sd_model_text.specs.Names.{HasPart};
+ghost use Rattle.sd_law_text.specs.Bytes.{HasPart};
 
 use crate::Key;
 

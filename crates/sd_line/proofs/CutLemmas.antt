@@ -4,8 +4,8 @@ use Rattle.std.proofs.lemmas.List.{get_or-take}
 use Rattle.std.proofs.Math.Seq.{split_at}
 use Rattle.memchr.specs.Find.{IsFirstByte, is_byte}
 use Rattle.sd_model_text.specs.Lists.{cut_at, Cut, before_part}
-use Rattle.sd_model_text.specs.Lines.{has_byte}
-use Rattle.sd_model_text.proofs.CutLemmas.{cut-first, cut-none}
+use Rattle.sd_law_text.specs.Bytes.{has_byte}
+use Rattle.sd_law_text.proofs.CutLemmas.{cut-first, cut-none}
 
 -- a cut of what stands behind the front
 abbrev pub cut_behind : List ℕ → Option Cut → Option Cut

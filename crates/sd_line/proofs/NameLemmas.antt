@@ -9,9 +9,9 @@ use Rattle.std.proofs.Math.Seq.{split_at}
 use Rattle.std.specs.List.{prefix_len, AllPass}
 use Rattle.sd_model_text.specs.Lists.{cut_at, Cut}
 use Rattle.sd_model_text.specs.Names.{is_name_byte, as_key, clean}
-use Rattle.sd_model_text.specs.Lines.{has_byte}
+use Rattle.sd_law_text.specs.Bytes.{has_byte}
 use Rattle.sd_model_text.proofs.NamesLemmas.{as_key-fits, cleaned-names}
-use Rattle.sd_model_text.proofs.CutLemmas.{cut-first}
+use Rattle.sd_law_text.proofs.CutLemmas.{cut-first}
 
 -- the bytes that pass from the front on are bytes of names
 front_passes : (xs : List ℕ) → AllPass is_name_byte (take (prefix_len is_name_byte xs) xs)

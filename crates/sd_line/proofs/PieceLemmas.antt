@@ -3,13 +3,14 @@ use Rattle.std.proofs.Common.{◌≡◌, ℕ, false, List, [], ◌∷◌, ◌++�
 use Rattle.std.specs.Prelude.{All, flat_map, IsTrue, ◌↔◌}
 use Rattle.std.proofs.lemmas.List.Elements.{All-head}
 use Rattle.sd_model_text.specs.Lists.{split, cut_at, Cut}
-use Rattle.sd_model_text.specs.Lines.{Sample, has_byte, lines, pieces, pieces_in, pieces_cut, reading, reading_behind, reading_cut}
-use Rattle.sd_model_text.specs.Grammar.{IsPiece, err_of}
-use Rattle.sd_model_text.proofs.CutLemmas.{cut-first}
-use Rattle.sd_model_text.proofs.GrammarLemmas.{first_flaw}
-use Rattle.sd_model_text.proofs.GoodLemmas.{reading-good}
+use Rattle.sd_model_text.specs.Lines.{Sample, lines, pieces, pieces_in, pieces_cut, reading, reading_behind, reading_cut}
+use Rattle.sd_law_text.specs.Bytes.{has_byte}
+use Rattle.sd_law_text.specs.Grammar.{IsPiece, err_of}
+use Rattle.sd_law_text.proofs.CutLemmas.{cut-first}
+use Rattle.sd_law_text.proofs.GrammarLemmas.{first_flaw}
+use Rattle.sd_law_text.proofs.GoodLemmas.{reading-good}
 use Rattle.sd_model_text.proofs.ListLemmas.{split-cut, parts_of}
-use Rattle.sd_model_text.proofs.PieceLemmas.{LacksByte, is_piece, parts_lack}
+use Rattle.sd_law_text.proofs.PieceLemmas.{LacksByte, is_piece, parts_lack}
 use Rattle.sd_line.specs.Cut.{parts_in}
 use Rattle.sd_line.specs.Piece.{Gives, Answers}
 use Rattle.sd_line.specs.declared.piece.Bad.{Bad}

@@ -2,7 +2,7 @@
 use Rattle.std.specs.Prelude.{◌≡◌, ℕ, List, Option, Result, Ok, Err, ⊤, MatchOption, MatchResult, OnErr}
 use Rattle.sd_model_text.specs.Lines as model
 use Rattle.sd_model_text.specs.Lines.{reading}
-use Rattle.sd_model_text.specs.Grammar as grammar
+use Rattle.sd_law_text.specs.Grammar as grammar
 use Rattle.sd_decimal.specs.NumberFault.{flaw_of}
 use Rattle.sd_key.specs.Clean.{fault_of}
 use Rattle.sd_line.specs.declared.piece.Bad.{Bad}

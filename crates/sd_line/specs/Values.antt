@@ -1,7 +1,7 @@
 -- The pieces of a line that are left, and what is kept of its name.
 use Rattle.std.specs.Prelude.{◌≡◌, ℕ, false, List, ◌∷◌, ◌++◌, map, option_map, Option, Some, None, Result, Ok, Err}
 use Rattle.sd_model_text.specs.Names as model
-use Rattle.sd_model_text.specs.Lines.{has_byte}
+use Rattle.sd_law_text.specs.Bytes.{has_byte}
 use Rattle.sd_key.specs.Clean.{fault_of}
 use Rattle.sd_key.specs.declared.cleaning.KeyFault.{KeyFault}
 use Rattle.sd_line.specs.Cut.{parts_in}

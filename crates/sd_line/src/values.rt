@@ -1,7 +1,7 @@
 ghost use Rattle.std.specs.Prelude.{◌≡◌, ◌↔◌, ℕ, List, [], ◌∷◌, ◌++◌, map, IsNone, IfSome, IsTrue, None, Ok, true, false};
 ghost use Rattle.sd_model_text.specs.Lists.{split};
 ghost use Rattle.sd_model_text.specs.Names.{clean as clean_name, fnv1a};
-ghost use Rattle.sd_model_text.specs.Lines.{has_byte};
+ghost use Rattle.sd_law_text.specs.Bytes.{has_byte};
 ghost use Rattle.sd_line.specs.Piece.{Answers, Stays, filled};
 
 use crate::cut::first_part;

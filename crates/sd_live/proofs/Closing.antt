@@ -3,7 +3,7 @@ use Rattle.std.proofs.Common.{◌≡◌, List, [], ◌∷◌, ◌++◌, map, All
 use Rattle.std.proofs.lemmas.List.Elements.{All-nil, All-cons, All-head, All-tail}
 use Rattle.sd_live.specs.declared.pass.UpPass.{UpPass}
 use Rattle.sd_live.specs.declared.up_cell.UpCell.{UpCell}
-use Rattle.sd_model_live.specs.Proxy.{Begins}
+use Rattle.sd_live.specs.Looks.{Begins}
 use Rattle.sd_live.specs.Live.{published_in, seen, IsPassOf}
 use Rattle.sd_live.specs.Rule.{EachBegins}
 

@@ -1,3 +1,4 @@
 pub mod AllNodes
 pub mod Steps
 pub mod Closing
+pub mod LookLemmas

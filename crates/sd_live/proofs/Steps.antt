@@ -7,8 +7,8 @@ use lib.ListN.{get_elem?}
 use Rattle.crossbeam_utils.specs.Register.{Turns, Forks, Merges}
 use Rattle.atomic_table.proofs.Lists.{at_set, at_snoc}
 use Rattle.sd_live.specs.declared.rule.SetView.{SetView}
-use Rattle.sd_model_live.specs.Proxy.{Begins}
-use Rattle.sd_model_live.proofs.LookLemmas.{begins_itself}
+use Rattle.sd_live.specs.Looks.{Begins}
+use Rattle.sd_live.proofs.LookLemmas.{begins_itself}
 use Rattle.sd_live.specs.Views.{set_view, first_view, told, nothing, gathered}
 use Rattle.sd_live.specs.Rule.{EachBegins, Fits, InStep, Looked, Published}
 

@@ -3,7 +3,7 @@ use Rattle.std.specs.Prelude.{◌≡◌, ℕ, true, List, [], ◌∷◌, ◌++�
 use Rattle.std.specs.List.{last_or}
 use mathlib.Core.Option.{some}
 use lib.ListN.{get_elem?}
-use Rattle.sd_model_live.specs.Proxy.{Begins}
+use Rattle.sd_live.specs.Looks.{Begins}
 use Rattle.sd_live.specs.declared.rule.SetView.{SetView}
 use Rattle.sd_live.specs.Views.{set_view}
 

@@ -2,7 +2,8 @@
 ghost use Rattle.std.specs.Prelude.{◌≡◌, ◌<◌, ◌≤◌, ◌^◌, ◌++◌, [], ◌∷◌, length, map, Some, None, IfOk, All, true};
 ghost use Rattle.std.specs.List.{last_or};
 ghost use Rattle.crossbeam_utils.specs.Seq.{cell_view};
-ghost use Rattle.sd_model_live.specs.Proxy.{Begins, all_of, last_place};
+ghost use Rattle.sd_model_live.specs.Proxy.{all_of};
+ghost use Rattle.sd_live.specs.Looks.{Begins, last_place};
 
 use crate::pass::{UpPass, UpPasses};
 use crate::rule::{Another, Gather, Look, Publish, SetCell, SetPass, Whole};

@@ -2,7 +2,7 @@
 use Rattle.std.proofs.Common.{◌≡◌, ℕ, ◌+◌, ◌<◌, Bool, true, List, [], ◌∷◌, All, Option, None, length, map, min, remove, sym, ap, subst, ◌∙◌, arith}
 use Rattle.std.specs.Prelude.{slice_index_or}
 use Rattle.sd_model_outside.specs.Outside.{Object, Place, Session, Sessions, last_count}
-use Rattle.sd_model_outside.specs.Turns.{GivesSession}
+use Rattle.sd_outside.specs.Turns.{GivesSession}
 use Rattle.sd_memory.specs.MemSessions.{HasNoFaults, session_in}
 use Rattle.sd_memory.specs.MemSource as source
 use Rattle.sd_memory.specs.MemSource.{MemSource}

@@ -1,7 +1,7 @@
 -- What a beat in memory has, and what its calls leave.
 use Rattle.std.specs.Prelude.{ℕ, List, Contains, drop, false, None, min, option_map}
 use Rattle.sd_model_outside.specs.Outside.{Object, Ticks, last_count}
-use Rattle.sd_model_outside.specs.Turns.{GivesTick}
+use Rattle.sd_outside.specs.Turns.{GivesTick}
 use Rattle.sd_outside.specs.Intervals.{interval_view}
 use Rattle.sd_memory.specs.declared.mem_beat.MemBeat.{MemBeat}
 

@@ -1,7 +1,7 @@
 -- What a source of datagrams in memory has, and what its calls leave.
 use Rattle.std.specs.Prelude.{◌≡◌, ℕ, ◌≤◌, List, drop, map, min, take}
 use Rattle.sd_model_outside.specs.Outside.{Object, Datagrams, fresh, last_count}
-use Rattle.sd_model_outside.specs.Turns.{GivesDatagram, most_datagram}
+use Rattle.sd_outside.specs.Turns.{GivesDatagram, most_datagram}
 use Rattle.sd_memory.specs.MemObject.{content_of, seen_by}
 use Rattle.sd_memory.specs.declared.mem_datagrams.DatagramsLeft.{DatagramsLeft}
 use Rattle.sd_memory.specs.declared.mem_object.MemObject.{MemObject}

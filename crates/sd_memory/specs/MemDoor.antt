@@ -1,6 +1,7 @@
 -- What a door in memory has, and what its calls leave.
 use Rattle.std.specs.Prelude.{◌≡◌, ◌<◌, ◌⊎◌, List, map, min}
-use Rattle.sd_model_outside.specs.Outside.{Object, Session, Sessions, fresh, last_count, raised}
+use Rattle.sd_model_outside.specs.Outside.{Object, Session, Sessions, fresh, last_count}
+use Rattle.sd_outside.specs.Turns.{raised}
 use Rattle.sd_memory.specs.MemSessions.{session_in}
 use Rattle.sd_memory.specs.MemObject.{content_of, seen_by}
 use Rattle.sd_memory.specs.declared.mem_door.DoorSessions.{DoorSessions}

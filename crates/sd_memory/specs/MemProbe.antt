@@ -1,7 +1,8 @@
 -- What a probe in memory has, and what a question leaves.
 use Rattle.std.specs.Prelude.{◌≡◌, ℕ, ◌-◌, ◌<◌, Bool, true, false, List, drop, length, map, min, None}
 use Rattle.sd_model_outside.specs.Outside as model
-use Rattle.sd_model_outside.specs.Outside.{Object, Told, Untold, Replies, Place, last_count, object_of, raised}
+use Rattle.sd_model_outside.specs.Outside.{Object, Told, Untold, Replies, Place, last_count, object_of}
+use Rattle.sd_outside.specs.Turns.{raised}
 use Rattle.sd_model_outside.specs.Probes.{HasAsked, Tells}
 use Rattle.sd_outside.specs.Places.{place_of}
 use Rattle.sd_memory.specs.declared.mem_probe.MemProbe.{MemProbe}

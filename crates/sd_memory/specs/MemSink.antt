@@ -1,6 +1,7 @@
 -- What a sink in memory has, and what a write does to it.
 use Rattle.std.specs.Prelude.{◌≡◌, ℕ, ◌+◌, ◌<◌, List, length, take, min, None}
-use Rattle.sd_model_outside.specs.Outside.{Object, Bytes, HasFailed, given, last_count, object_of, raised}
+use Rattle.sd_model_outside.specs.Outside.{Object, Bytes, HasFailed, given, last_count, object_of}
+use Rattle.sd_outside.specs.Turns.{raised}
 use Rattle.sd_memory.specs.ByteStore as store
 use Rattle.sd_memory.specs.declared.mem_sink.MemSink.{MemSink}
 

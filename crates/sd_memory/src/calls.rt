@@ -1,5 +1,5 @@
 ghost use Rattle.std.specs.Prelude.{◌≡◌, ◌↔◌, IsTrue, Contains};
-ghost use Rattle.sd_model_outside.specs.Outside.{raised};
+ghost use Rattle.sd_outside.specs.Turns.{raised};
 
 /// Counts a call, and answers whether its number is among those that are to fail.
 pub(crate) fn next_call_fails(calls: &mut u64, listed: &[u64]) -> bool

@@ -108,7 +108,7 @@ impl MemBackend {
 
 impl Sink for MemBackend {
     ghost use Rattle.std.specs.Prelude.{◌≡◌, ◌<◌, ◌⊎◌, ◌↔◌, length, IfOk, OnErr, IsErr, Contains};
-    ghost use Rattle.sd_model_outside.specs.Outside.{raised};
+    ghost use Rattle.sd_outside.specs.Turns.{raised};
     ghost use Rattle.sd_memory.specs.MemBackend.{Calls, Takes, Fails, HasNoRoom, SameChoices, calls_of};
 
     fn write(&mut self, bytes: &[u8]) -> Result<usize, Failed>
@@ -134,7 +134,7 @@ impl Sink for MemBackend {
 
 impl Backend for MemBackend {
     ghost use Rattle.std.specs.Prelude.{◌≡◌, ◌⊎◌, ◌↔◌, OnOk, OnErr, IsErr, Contains};
-    ghost use Rattle.sd_model_outside.specs.Outside.{raised};
+    ghost use Rattle.sd_outside.specs.Turns.{raised};
     ghost use Rattle.sd_memory.specs.MemBackend.{Begins, Calls, Fails, Finishes, SameChoices, calls_of, list_room_in};
     ghost use Rattle.sd_memory.specs.MemObject.{content_of};
 

@@ -81,7 +81,7 @@ impl Faulty for MemBeat {
 
 impl Beat for MemBeat {
     ghost use Rattle.std.specs.Prelude.{◌≡◌};
-    ghost use Rattle.sd_model_outside.specs.Outside.{raised};
+    ghost use Rattle.sd_outside.specs.Turns.{raised};
     ghost use Rattle.sd_model_outside.specs.Turns.{with_interval};
     ghost use Rattle.sd_outside.specs.Answers.{Fails, HasEnded, MatchTick};
     ghost use Rattle.sd_outside.specs.Intervals.{interval_view};

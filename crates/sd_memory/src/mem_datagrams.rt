@@ -26,7 +26,7 @@ pub type MemDatagrams = MemObject<DatagramsLeft>;
 impl MemDatagrams {
     ghost use Rattle.std.specs.Prelude.{◌≡◌, ◌≤◌, All, vec_len, [], map};
     ghost use Rattle.sd_model_outside.specs.Outside.{Datagrams, fresh};
-    ghost use Rattle.sd_model_outside.specs.Turns.{most_datagram};
+    ghost use Rattle.sd_outside.specs.Turns.{most_datagram};
     ghost use Rattle.sd_memory.specs.MemObject.{Calls, calls_of};
 
     /// A source that has the datagrams left, and of which no call is to fail.
@@ -66,8 +66,8 @@ impl MemDatagrams {
 impl Datagrams for MemDatagrams {
     ghost use Rattle.std.specs.Prelude.{◌≡◌, ◌≤◌, length};
     ghost use Rattle.std.proofs.Common.{arith};
-    ghost use Rattle.sd_model_outside.specs.Outside.{raised};
-    ghost use Rattle.sd_model_outside.specs.Turns.{most_datagram};
+    ghost use Rattle.sd_outside.specs.Turns.{raised};
+    ghost use Rattle.sd_outside.specs.Turns.{most_datagram};
     ghost use Rattle.sd_outside.specs.Answers.{Fails, HasEnded, MatchNext};
     ghost use Rattle.sd_memory.specs.MemDatagrams.{Gives, left_of, seen_of};
     ghost use Rattle.sd_memory.specs.MemObject.{Calls, IsToFail, SameFailures, calls_of};

@@ -97,8 +97,8 @@ impl Door for MemDoor {
 
     ghost use Rattle.std.specs.Prelude.{◌≡◌, true, false};
     ghost use Rattle.std.proofs.Common.{arith};
-    ghost use Rattle.sd_model_outside.specs.Outside.{raised};
-    ghost use Rattle.sd_model_outside.specs.Turns.{GivesSession, HasLeft, turned};
+    ghost use Rattle.sd_outside.specs.Turns.{raised};
+    ghost use Rattle.sd_outside.specs.Turns.{GivesSession, HasLeft, turned};
     ghost use Rattle.sd_outside.specs.Answers.{Fails, HasEnded, MatchEntry};
     ghost use Rattle.sd_memory.specs.MemDoor.{IsRaisedFor, left_of, seen_of};
     ghost use Rattle.sd_memory.specs.MemObject.{Calls, IsToFail, SameFailures, calls_of};

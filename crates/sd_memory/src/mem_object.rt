@@ -107,7 +107,8 @@ impl<T: Content> Faulty for MemObject<T> {
 
 impl<T: Content> Opens for MemObject<T> {
     ghost use Rattle.std.specs.Prelude.{◌≡◌, ◌↔◌, OnOk, OnErr, IfErr, IsErr, Contains};
-    ghost use Rattle.sd_model_outside.specs.Outside.{opened, raised};
+    ghost use Rattle.sd_model_outside.specs.Outside.{opened};
+    ghost use Rattle.sd_outside.specs.Turns.{raised};
     ghost use Rattle.sd_outside.specs.Answers.{Fails};
     ghost use Rattle.sd_memory.specs.MemObject.{Calls, SameFailures, calls_of, content_of, seen_by};
     ghost use Rattle.sd_outside.specs.Places.{place_of};

@@ -115,7 +115,8 @@ impl Faulty for MemProbe {
 
 impl Probe for MemProbe {
     ghost use Rattle.std.specs.Prelude.{◌≡◌, ◌<◌, ◌↔◌, ◌⊎◌, length, OnOk, OnErr, IsErr, Contains, Some, None};
-    ghost use Rattle.sd_model_outside.specs.Outside.{Untold, raised};
+    ghost use Rattle.sd_model_outside.specs.Outside.{Untold};
+    ghost use Rattle.sd_outside.specs.Turns.{raised};
     ghost use Rattle.sd_model_outside.specs.Probes.{HasAsked, Tells};
     ghost use Rattle.sd_memory.specs.MemProbe.{Fails, calls_of, left_of, room_in, seen_of};
     ghost use Rattle.sd_outside.specs.Places.{place_of};

@@ -71,7 +71,7 @@ impl Faulty for MemSink {
 
 impl Sink for MemSink {
     ghost use Rattle.std.specs.Prelude.{◌≡◌, ◌<◌, ◌⊎◌, ◌↔◌, length, IfOk, OnErr, IsErr, Contains};
-    ghost use Rattle.sd_model_outside.specs.Outside.{raised};
+    ghost use Rattle.sd_outside.specs.Turns.{raised};
     ghost use Rattle.sd_memory.specs.MemSink.{Takes, Fails, room_in, writes_of};
 
     fn write(&mut self, bytes: &[u8]) -> Result<usize, Failed>

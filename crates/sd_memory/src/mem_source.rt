@@ -59,7 +59,7 @@ impl MemSource {
 
 impl Source for MemSource {
     ghost use Rattle.std.specs.Prelude.{◌≡◌, ◌<◌, ◌↔◌, length, IfOk, OnErr, IsErr};
-    ghost use Rattle.sd_model_outside.specs.Outside.{raised};
+    ghost use Rattle.sd_outside.specs.Turns.{raised};
     ghost use Rattle.sd_outside.specs.Answers.{Fails};
     ghost use Rattle.sd_memory.specs.MemObject.{Calls, IsToFail, SameFailures, calls_of};
     ghost use Rattle.sd_memory.specs.MemSource.{Gives, most_of, seen_of};

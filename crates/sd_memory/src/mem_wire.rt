@@ -72,7 +72,7 @@ impl MemWire {
 
 impl Wire for MemWire {
     ghost use Rattle.std.specs.Prelude.{◌≡◌, ◌⊎◌, ◌↔◌, length, OnOk, OnErr, IsErr};
-    ghost use Rattle.sd_model_outside.specs.Outside.{raised};
+    ghost use Rattle.sd_outside.specs.Turns.{raised};
     ghost use Rattle.sd_memory.specs.MemObject.{Calls, IsToFail, SameFailures, calls_of};
     ghost use Rattle.sd_memory.specs.MemWire.{Fails, HasNoRoomFor, Sends};
 

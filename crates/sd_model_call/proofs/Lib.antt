@@ -1,11 +1,2 @@
-pub mod Openings
-pub mod ReplayEnds
-pub mod CallEnds
 pub mod DrillEnds
-pub mod KeptFaults
 pub mod WordsLemmas
-pub mod BegunLemmas
-pub mod LoopEnds
-pub mod ServerEnds
-pub mod ProxyEnds
-pub mod AuditLemmas

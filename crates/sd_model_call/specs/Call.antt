@@ -1,5 +1,5 @@
 -- What the program answers to its words, and what was done by then.
-use Rattle.std.specs.Prelude.{◌≡◌, ◌⊎◌, ℕ, List, [], Option, Some, None, ⊤}
+use Rattle.std.specs.Prelude.{◌≡◌, ◌⊎◌, ℕ, List, [], Option, Some, None}
 use Rattle.sd_model_outside.specs.Outside.{File, Number, Object, Place, HasFailed, HasFailedBehind, given}
 use Rattle.sd_model_settings.specs.Settings.{SettingsFlaw, Settings, default_settings}
 use Rattle.sd_model_replay.specs.Totals.{totals_after}
@@ -141,12 +141,6 @@ Answers (Some (Replay name script)) answer a old new = AnswersReplay name script
 Answers (Some (Serve name)) answer a old new = (a.course.played ≡ []) × (a.course.ahead ≡ [])
 Answers (Some (Proxy name)) answer a old new = (a.course.played ≡ []) × (a.course.ahead ≡ [])
 Answers (Some (Drill n)) answer a old new = (answer ≡ NoMemory) × DoesNothing a old new ⊎ RanDrill n answer a old new
-
--- the words are none that ask for the server or the proxy
-abbrev pub IsScripted : Option Form → Type 0
-IsScripted (Some (Serve name)) = ⊥
-IsScripted (Some (Proxy name)) = ⊥
-IsScripted asked = ⊤
 
 -- A call, by its words, what is seen of its objects before and after it, and its answer: whatever it answers, the
 -- accounting theorem holds of the records that it carried out under the settings in force, between what was seen when they

@@ -1,4 +1,2 @@
 pub mod Bits
-pub mod LookLemmas
-pub mod OrderLemmas
 pub mod QuestionLemmas

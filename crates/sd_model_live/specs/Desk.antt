@@ -41,11 +41,6 @@ facts_after f (CountsCheck failed) = record f { checks = counted f.checks 1; pro
 facts_after f (SaysHealth up) = record f { up = up }
 facts_after f (HearsFacts facts) = f
 
--- the facts after acts
-abbrev pub facts_left : ProxyFacts → List ProxyAct → ProxyFacts
-facts_left f [] = f
-facts_left f (a ∷ acts) = facts_left (facts_after f a.event) acts
-
 -- who is told these facts is told those that there are
 abbrev pub IsHeard : ProxyFacts → ProxyEvent → Type 0
 IsHeard f (HearsFacts facts) = facts ≡ f

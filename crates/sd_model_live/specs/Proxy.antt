@@ -1,6 +1,6 @@
 -- The sets of nodes that are up, and what looks at them answer; and what a proxy does, whose receivers look while its checker
 -- publishes.
-use Rattle.std.specs.Prelude.{ℕ, List, [], ◌∷◌, length, map, take, drop, ◌≡◌, ◌+◌, ◌*◌, ◌-◌, ◌^◌, ◌<◌, ◌≤◌, ◌==◌, ◌++◌, if◌then◌else◌, slice_get, Some, ⊤}
+use Rattle.std.specs.Prelude.{ℕ, List, [], ◌∷◌, length, map, take, drop, ◌≡◌, ◌+◌, ◌*◌, ◌-◌, ◌^◌, ◌<◌, ◌==◌, if◌then◌else◌, ⊤}
 use Rattle.std.specs.List.{All}
 use Rattle.sd_model_settings.specs.Entries.{Node}
 use Rattle.sd_model_settings.specs.Settings.{Settings}
@@ -16,34 +16,9 @@ use Rattle.sd_model_live.specs.Port.{HasPort, has_port}
 abbrev pub all_of : ℕ → ℕ
 all_of nodes = 2 ^ nodes - 1
 
--- a history goes on from what was seen of it
-abbrev pub Begins : (seen history : List ℕ) → Type 0
-Begins seen history = (rest : List ℕ) × (history ≡ seen ++ rest)
-
--- the place of the last set of a history
-abbrev pub last_place : List ℕ → ℕ
-last_place [] = 0
-last_place (up ∷ history) = length history
-
--- each of these sets stands in the history at a place that isn't before that of the set before it, from one place on, up to another
-abbrev pub NeverFall : (from : ℕ) → (history : List ℕ) → (to : ℕ) → (ups : List ℕ) → Type 0
-NeverFall from history to [] = from ≤ to
-NeverFall from history to (up ∷ ups) =
-    (place : ℕ) × (from ≤ place) × (slice_get history place ≡ Some up) × NeverFall place history to ups
-
--- Looks answered these sets, one after another: what is seen of the history goes on from what was seen before, and the places of
--- the sets never fall, from the last that was seen before up to the last that is seen now.
-pub record HaveAnswered (before now ups : List ℕ) : Type 0 where
-  pub goes_on : Begins before now
-  pub never_fall : NeverFall (last_place before) now (last_place now) ups
-
 -- the history of sets before any is published: that of all nodes
 abbrev pub first_history : List Node → List ℕ
 first_history nodes = all_of (length nodes) ∷ []
-
--- the sets under which a receiver routed its datagrams are what looks answered, one each, in this history
-abbrev pub LookedIn : List Node → List ℕ → Relay → Type 0
-LookedIn nodes history r = HaveAnswered (first_history nodes) history (map (λ x. x.up) r.reads)
 
 -- A step at the sets: one was published; or somebody, by a number, looked, and was told one.
 pub data SetStep : Type 0 where

@@ -9,4 +9,4 @@ mod checks;
 mod looks;
 
 pub use checks::failed_questions_are_faults;
-pub use looks::{all_nodes_are_up, looks_go_on};
+pub use looks::all_nodes_are_up;

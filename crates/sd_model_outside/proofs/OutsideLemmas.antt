@@ -1,6 +1,6 @@
 -- Laws of what objects tell.
-use Rattle.std.proofs.Common.{◌≡◌, ℕ, ◌+◌, List, [], ◌∷◌, ◌++◌, length, Some, None, refl, sym, ap, ◌∙◌, arith, append_assoc, append-nil, length-append, min}
-use Rattle.sd_model_outside.specs.Outside.{Told, Untold, Left, Number, Bytes, Buffer, Rounds, Packets, Datagrams, Ticks, Sessions, Replies, FitsLastCount, Reads, put_back, appended, last_count}
+use Rattle.std.proofs.Common.{◌≡◌, ℕ, ◌+◌, List, [], ◌∷◌, ◌++◌, length, Some, None, refl, sym, ap, ◌∙◌, arith, append_assoc, length-append, min}
+use Rattle.sd_model_outside.specs.Outside.{Told, Untold, Left, Number, Bytes, Buffer, Rounds, Packets, Datagrams, Ticks, Sessions, Replies, Reads, put_back, appended, last_count}
 
 -- a count that stops at its end, after two rises
 min-add-min : (n a b : ℕ) → min (min (n + a) last_count + b) last_count ≡ min (n + (a + b)) last_count
@@ -21,21 +21,6 @@ appended-appended (Datagrams left) xs ys = refl
 appended-appended (Ticks left) xs ys = refl
 appended-appended (Sessions left back) xs ys = refl
 appended-appended (Replies left questions) xs ys = refl
-
--- a write of nothing
-pub appended-nil : (w : Told) → FitsLastCount w → appended w [] ≡ w
-appended-nil Untold fits = refl
-appended-nil (Left bytes) fits = refl
-appended-nil (Number n) fits = ap Number (omega arith)
-appended-nil (Bytes zs) fits = ap Bytes (append-nil zs)
-appended-nil (Buffer size zs) fits = ap (Buffer size) (append-nil zs)
-appended-nil (Rounds rounds (Some zs)) fits = ap (λ bytes. Rounds rounds (Some bytes)) (append-nil zs)
-appended-nil (Rounds rounds None) fits = refl
-appended-nil (Packets packets) fits = refl
-appended-nil (Datagrams left) fits = refl
-appended-nil (Ticks left) fits = refl
-appended-nil (Sessions left back) fits = refl
-appended-nil (Replies left questions) fits = refl
 
 -- nothing was read
 pub Reads-nil : (told : Told) → Reads told [] told

@@ -1,6 +1,6 @@
 -- What the program may know of the objects outside it: what they tell of their content, how often they failed, where
 -- they were opened, and what else they always tell.
-use Rattle.std.specs.Prelude.{◌≡◌, ℕ, ◌+◌, ◌-◌, ◌^◌, ◌<◌, ◌≤◌, min, take, Bool, true, false, List, [], ◌∷◌, ◌++◌, length, Option, Some, None, IfSome, ⊤}
+use Rattle.std.specs.Prelude.{◌≡◌, ℕ, ◌+◌, ◌-◌, ◌^◌, ◌<◌, ◌≤◌, min, take, Bool, true, false, List, [], ◌∷◌, ◌++◌, length, Option, Some, None, IfSome}
 
 -- Where an object is opened: at a file by its name; at a host and a port; or where datagrams come: a host, a port, and
 -- how many bytes of room are asked for.
@@ -12,10 +12,6 @@ pub data Place : Type 0 where
 -- where a count that has no more room stops
 abbrev pub last_count : ℕ
 last_count = 2 ^ 64 - 1
-
--- a count after one more, which stays at its end
-abbrev pub raised : ℕ → ℕ
-raised n = min (n + 1) last_count
 
 -- a count of faults has risen by n or more, or stands at its end
 abbrev pub RoseBy : ℕ → ℕ → ℕ → Type 0
@@ -132,11 +128,6 @@ pub record FailedBehind (most : ℕ) (old new : Object) : Type 0 where
 abbrev pub IsAtEnd : Told → Type 0
 IsAtEnd told = IfSome (left_in told) (λ bytes. bytes ≡ [])
 
--- a number that is told isn't above the last count
-abbrev pub FitsLastCount : Told → Type 0
-FitsLastCount (Number n) = n ≤ last_count
-FitsLastCount told = ⊤
-
 -- after a write of these bytes, which begins a list where none is open
 abbrev pub appended : Told → List ℕ → Told
 appended (Number n) xs = Number (min (n + length xs) last_count)
@@ -176,11 +167,6 @@ abbrev pub ended : Told → Told
 ended (Rounds rounds (Some bytes)) = Rounds (rounds ++ record { bytes = bytes; is_ended = true } ∷ []) None
 ended told = told
 
--- the lists that a backend tells, the open one last
-abbrev pub told_lists : Told → Option (List Round)
-told_lists (Rounds rounds open_list) = Some (lists_of rounds open_list)
-told_lists told = None
-
 -- after this packet was sent
 abbrev pub with_packet : Told → List ℕ → Told
 with_packet (Packets packets) packet = Packets (packets ++ packet ∷ [])
@@ -189,8 +175,3 @@ with_packet told packet = told
 -- an object after this packet was sent
 abbrev pub sent : List ℕ → Object → Object
 sent packet o = telling (with_packet o.told packet) o
-
--- the packets that a wire tells
-abbrev pub told_packets : Told → Option (List (List ℕ))
-told_packets (Packets packets) = Some packets
-told_packets told = None

@@ -9,6 +9,6 @@ mod deliveries;
 mod outside;
 mod turns;
 
-pub use deliveries::{deliveries_are_lists, no_fault_no_failure};
-pub use outside::{empty_write, fronts_join, reads_join, whole_round, writes_join};
+pub use deliveries::no_fault_no_failure;
+pub use outside::{fronts_join, reads_join, whole_round, writes_join};
 pub use turns::steps_join;

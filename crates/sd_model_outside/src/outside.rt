@@ -1,14 +1,9 @@
 ghost use Rattle.std.specs.Prelude.{◌≡◌, ℕ, ◌+◌, List, [], ◌∷◌, ◌++◌, length, Option, min, true};
-ghost use Rattle.sd_model_outside.specs.Outside.{AppendsFront, Round, Told, Untold, Number, Bytes, Rounds, FitsLastCount, Reads, appended, begun, ended, lists_of, last_count};
+ghost use Rattle.sd_model_outside.specs.Outside.{AppendsFront, Round, Told, Untold, Number, Bytes, Rounds, Reads, appended, begun, ended, lists_of, last_count};
 
 /// Two writes one after the other are one write.
 pub fn writes_join()
     ensures { (w : Told) (xs ys : List ℕ) → appended (appended w xs) ys ≡ appended w (xs ++ ys) }
-{}
-
-/// A write of nothing changes nothing.
-pub fn empty_write()
-    ensures { (w : Told) → FitsLastCount w → appended w [] ≡ w }
 {}
 
 /// `begin`, the writes of a text and `finish` add one ended list, which is that text. A list that was open

@@ -1,12 +1,9 @@
 -- Where lines go, by where their keys do.
-use Rattle.std.proofs.Common.{◌≡◌, ◌≢◌, ◌∙◌, ◌↔◌, ℕ, ◌-◌, ◌^◌, ◌<◌, ◌≤◌, false, true, List, length, get_or, Option, Some, None, refl, sym, ap, arith}
-use Rattle.std.specs.List.{range_with_len}
-use Rattle.std.proofs.lemmas.List.FromFn.{get_or-range_with_len, length-range_with_len}
-use Rattle.std.proofs.lemmas.List.Sums.{AllPass-from_list_all}
+use Rattle.std.proofs.Common.{◌≡◌, ◌≢◌, ◌↔◌, ℕ, ◌<◌, false, true, List, length, Option, Some, None, refl, ap}
 use Rattle.sd_model_settings.specs.Entries.{Node}
 use Rattle.sd_model_ring.specs.Ring.{is_up, owner}
 use Rattle.sd_model_ring.proofs.Owners.{owner-node, owner-up, owner-none, none-owner}
-use Rattle.sd_model_proxy.specs.Routes.{AreAllUp, Bad, Unowned, To, key_of_line, route, route_of_key, to_owner}
+use Rattle.sd_model_proxy.specs.Routes.{Bad, Unowned, To, key_of_line, route, route_of_key, to_owner}
 
 to_owner-to : (o : Option ℕ) (place : ℕ) → to_owner o ≡ To place → o ≡ Some place
 to_owner-to None place goes = cc
@@ -58,13 +55,3 @@ goes-unowned line nodes up = key_unowned nodes up (key_of_line line)
 
 pub goes-by_key : (one other : List ℕ) (nodes : List Node) (up : ℕ) → key_of_line one ≡ key_of_line other → route one nodes up ≡ route other nodes up
 goes-by_key one other nodes up same = ap (λ k. route_of_key k nodes up) same
-
-pub none-unowned : (line : List ℕ) (nodes : List Node) (up : ℕ) → 0 < length nodes → AreAllUp nodes up → route line nodes up ≢ Unowned
-none-unowned line nodes up some all goes = let h = (goes-unowned line nodes up).0 goes in let both : true ≡ false = sym (all 0 some) ∙ h.1 0 some in cc
-
--- where all bits are 1, each node is up
-pub bits-all_up : (nodes : List Node) → length nodes ≤ 64 → AreAllUp nodes (2 ^ 64 - 1)
-bits-all_up nodes few place within =
-    let each = AllPass-from_list_all (is_up (2 ^ 64 - 1)) (range_with_len 0 64) refl in
-    let at : get_or (range_with_len 0 64) place 0 ≡ place = get_or-range_with_len 0 64 place 0 (omega arith) ∙ omega arith in
-    ap (is_up (2 ^ 64 - 1)) (sym at) ∙ each place 0 (omega (arith, length-range_with_len 0 64))

@@ -1,11 +1,11 @@
 -- Where a line goes among the nodes that are up, and the lines that were read together, with the nodes that were up for them.
-use Rattle.std.specs.Prelude.{◌≡◌, ℕ, ◌<◌, ◌==◌, Bool, true, false, List, length, map, flat_map, filter, Option, Some, None}
+use Rattle.std.specs.Prelude.{ℕ, ◌==◌, Bool, true, false, List, map, flat_map, filter, Option, Some, None}
 use Rattle.std.specs.Option.{option_and_then}
 use Rattle.std.specs.Result.{result_ok}
 use Rattle.sd_model_text.specs.Lines.{name_in_line}
 use Rattle.sd_model_text.specs.Names.{clean}
 use Rattle.sd_model_settings.specs.Entries.{Node}
-use Rattle.sd_model_ring.specs.Ring.{is_up, owner}
+use Rattle.sd_model_ring.specs.Ring.{owner}
 
 -- the key of a line: that of the name before its first colon, where there is one
 abbrev pub key_of_line : List ℕ → Option (List ℕ)
@@ -60,7 +60,3 @@ routes_of nodes reads = flat_map (λ r. map (λ line. route line nodes r.up) r.l
 -- the lines read together that go to the node in a place, in order
 abbrev pub lines_to : List Node → ℕ → Read → List (List ℕ)
 lines_to nodes place r = filter (λ line. goes_to place (route line nodes r.up)) r.lines
-
--- each of the nodes is up
-abbrev pub AreAllUp : List Node → ℕ → Type 0
-AreAllUp nodes up = (place : ℕ) → place < length nodes → is_up up place ≡ true

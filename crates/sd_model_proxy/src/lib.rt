@@ -10,5 +10,5 @@ mod routes;
 mod totals;
 
 pub use batches::{nodes_get_their_lines, packets_hold_lines};
-pub use routes::{all_up_all_owned, lines_go_to_owners};
-pub use totals::{lines_have_one_fate, totals_add_up, wires_add_up};
+pub use routes::lines_go_to_owners;
+pub use totals::{lines_have_one_fate, totals_add_up};

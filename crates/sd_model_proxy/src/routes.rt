@@ -1,7 +1,7 @@
-ghost use Rattle.std.specs.Prelude.{◌≡◌, ◌≢◌, ◌↔◌, ℕ, ◌-◌, ◌^◌, ◌<◌, ◌≤◌, List, length, None, true, false};
+ghost use Rattle.std.specs.Prelude.{◌≡◌, ◌≢◌, ◌↔◌, ℕ, ◌<◌, List, length, None, true, false};
 ghost use Rattle.sd_model_settings.specs.Entries.{Node};
 ghost use Rattle.sd_model_ring.specs.Ring.{is_up};
-ghost use Rattle.sd_model_proxy.specs.Routes.{AreAllUp, Bad, Unowned, To, key_of_line, route};
+ghost use Rattle.sd_model_proxy.specs.Routes.{Bad, Unowned, To, key_of_line, route};
 
 /// A line goes to one of the nodes that are up. It is bad exactly where it has no key; it has no owner exactly where it has
 /// a key and no node is up. And it goes by its key alone.
@@ -12,11 +12,4 @@ pub fn lines_go_to_owners()
     ensures unowned { (line : List ℕ) (nodes : List Node) (up : ℕ)
         → (route line nodes up ≡ Unowned) ↔ ((key_of_line line ≢ None) × ((place : ℕ) → place < length nodes → is_up up place ≡ false)) }
     ensures key { (one other : List ℕ) (nodes : List Node) (up : ℕ) → key_of_line one ≡ key_of_line other → route one nodes up ≡ route other nodes up }
-{}
-
-/// Where each node is up, and there is one, each line that isn't bad has an owner. Of at most 64 nodes each is up where all 64 bits
-/// are 1.
-pub fn all_up_all_owned()
-    ensures owned { (line : List ℕ) (nodes : List Node) (up : ℕ) → 0 < length nodes → AreAllUp nodes up → route line nodes up ≢ Unowned }
-    ensures bits { (nodes : List Node) → length nodes ≤ 64 → AreAllUp nodes (2 ^ 64 - 1) }
 {}

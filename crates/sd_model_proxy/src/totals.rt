@@ -1,9 +1,8 @@
-ghost use Rattle.std.specs.Prelude.{◌≡◌, ℕ, ◌+◌, ◌<◌, List, [], ◌∷◌, ◌++◌, codes, length, map};
+ghost use Rattle.std.specs.Prelude.{◌≡◌, ℕ, ◌+◌, ◌<◌, List, [], ◌∷◌, ◌++◌, codes};
 ghost use Rattle.sd_model_settings.specs.Entries.{Node};
 ghost use Rattle.sd_model_record.specs.Desk.{last_counted};
 ghost use Rattle.sd_model_record.specs.Totals.{number_in};
-ghost use Rattle.sd_model_record.specs.WireSends.{failed_among, packets_of};
-ghost use Rattle.sd_model_proxy.specs.Batches.{AreBatched, Batched, lines_not_sent, lines_sent, over_nodes, send_of, sums_of_totals, totals_of};
+ghost use Rattle.sd_model_proxy.specs.Batches.{AreBatched, Batched, sums_of_totals, totals_of};
 ghost use Rattle.sd_model_proxy.specs.Relays.{Relay, relay_totals, relays_totals};
 ghost use Rattle.sd_model_proxy.specs.Routes.{Read};
 
@@ -23,13 +22,4 @@ pub fn totals_add_up()
     ensures one { (nodes : List Node) (r : Relay) → relays_totals nodes (r ∷ []) ≡ relay_totals nodes r }
     ensures more { (nodes : List Node) (xs ys : List Relay)
         → relays_totals nodes (xs ++ ys) ≡ sums_of_totals (relays_totals nodes xs ∷ relays_totals nodes ys ∷ []) }
-{}
-
-/// Where each line goes alone, the totals are those of the wires: as many lines were sent as there are packets on all wires, and as
-/// many weren't as sends failed on them.
-pub fn wires_add_up()
-    ensures sent { (nodes : List Node) (reads : List Read) (batched : Batched) → AreBatched 0 nodes reads batched
-        → over_nodes nodes batched (λ bs. length (packets_of (map send_of bs))) ≡ over_nodes nodes batched lines_sent }
-    ensures failed { (nodes : List Node) (reads : List Read) (batched : Batched) → AreBatched 0 nodes reads batched
-        → over_nodes nodes batched (λ bs. failed_among (map send_of bs)) ≡ over_nodes nodes batched lines_not_sent }
 {}

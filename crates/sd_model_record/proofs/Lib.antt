@@ -1,9 +1,5 @@
-pub mod CommandLemmas
-pub mod WordLemmas
 pub mod CountLemmas
 pub mod DeskLemmas
-pub mod DocumentedLemmas
-pub mod EndLemmas
 pub mod OrderLemmas
 pub mod SentLemmas
 pub mod WireLemmas

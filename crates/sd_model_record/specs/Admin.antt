@@ -1,7 +1,7 @@
 -- Admin commands: what a line asks for, or why it asks for nothing. The commands but `totals`, `config` and `quit` are those of
 -- StatsD's admin interface (docs/admin_interface.md).
-use Rattle.std.specs.Prelude.{◌≡◌, ℕ, ◌<◌, false, not, nat_le, if◌then◌else◌, List, [], ◌∷◌, length, filter, Option, Result, Ok, Err, slice_get, codes}
-use Rattle.std.specs.List.{All, slice_split}
+use Rattle.std.specs.Prelude.{ℕ, not, nat_le, if◌then◌else◌, List, [], ◌∷◌, length, filter, Result, Ok, Err, codes}
+use Rattle.std.specs.List.{slice_split}
 use Rattle.std.specs.Str.{bytes_eq}
 use Rattle.sd_model_text.specs.Lists.{is_white_space}
 use Rattle.sd_model_text.specs.Names.{Kind, Counter, Timer, Gauge}
@@ -33,11 +33,6 @@ pub data AdminFault : Type 0 where
 -- the words of a line: its parts between white space, without the empty ones
 abbrev pub words : List ℕ → List (List ℕ)
 words line = filter (λ part. not (is_empty part)) (slice_split is_white_space line)
-
--- a word has at least one byte, and no white space
-pub record IsWord (word : List ℕ) : Type 0 where
-  pub some : 0 < length word
-  pub dense : All (λ b. is_white_space b ≡ false) word
 
 -- the deletion of rows of a kind, by at least one name
 abbrev pub deletion : Kind → List (List ℕ) → Result Command AdminFault
@@ -79,12 +74,3 @@ longest_line = 1023
 -- the command of a line, or its fault; that it is too long comes first
 abbrev pub command : List ℕ → Result Command AdminFault
 command line = if nat_le (length line) longest_line then command_of_words (words line) else Err TooLong
-
--- the names of a deletion, and none of another command
-abbrev pub names_of : Command → List (List ℕ)
-names_of (Delete kind names) = names
-names_of command = []
-
--- the i-th name of a command, from 0
-abbrev pub name_at : Command → ℕ → Option (List ℕ)
-name_at command i = slice_get (names_of command) i

@@ -1,5 +1,5 @@
 -- The desk: what the server counts of itself.
-use Rattle.std.specs.Prelude.{◌≡◌, ℕ, ◌+◌, ◌^◌, ◌<◌, ◌≤◌, min, Bool, true}
+use Rattle.std.specs.Prelude.{◌≡◌, ℕ, ◌+◌, ◌^◌, ◌<◌, min, Bool, true}
 use Rattle.sd_model_outside.specs.Deliveries.{Mark, fault_of}
 use Rattle.sd_model_record.specs.Record.{Tally}
 
@@ -93,10 +93,6 @@ with_admin_fault d = record d { facts = record d.facts { admin_faults = counted 
 abbrev pub with_repeater_faults : Desk → ℕ → Desk
 with_repeater_faults d n = record d { facts = record d.facts { repeater_faults = counted d.facts.repeater_faults n } }
 
--- the totals are the tallies taken and the tally, up to where counts stop
-abbrev pub AddsUp : Desk → Type 0
-AddsUp d = d.facts.totals ≡ add_tally d.taken_so_far d.tally
-
 -- a total that hasn't reached the last count is what was taken and what was counted since
 abbrev pub IsWhole : ℕ → ℕ → ℕ → Type 0
 IsWhole total taken since = total < last_counted → total ≡ taken + since
@@ -107,10 +103,3 @@ pub record IsBalanced (d : Desk) : Type 0 where
   pub lines : IsWhole d.facts.totals.lines d.taken_so_far.lines d.tally.lines
   pub bad : IsWhole d.facts.totals.bad d.taken_so_far.bad d.tally.bad
   pub dropped : IsWhole d.facts.totals.dropped d.taken_so_far.dropped d.tally.dropped
-
--- each count of a tally is at most the last count
-pub record IsTallyInRange (t : Tally) : Type 0 where
-  pub packets : t.packets ≤ last_counted
-  pub lines : t.lines ≤ last_counted
-  pub bad : t.bad ≤ last_counted
-  pub dropped : t.dropped ≤ last_counted

@@ -1,10 +1,7 @@
 -- Replies to admin commands, line by line; what a line asks of each shard, and what is replied to it.
-use Rattle.std.specs.Prelude.{◌≢◌, ℕ, ◌-◌, Bool, if◌then◌else◌, List, [], ◌∷◌, ◌++◌, map, codes, decimal, ⊤, ◌+◌, true, false, flat_map, Result, Ok, Err}
+use Rattle.std.specs.Prelude.{ℕ, ◌-◌, Bool, if◌then◌else◌, List, [], ◌∷◌, ◌++◌, map, codes, decimal, ◌+◌, true, false, flat_map, Result, Ok, Err}
 use Rattle.std.specs.List.{concat}
-use Rattle.std.specs.List.Sorted.{IsSorted, IsSortedByKey}
-use Rattle.std.specs.Ordering.{nat_cmp}
-use Rattle.std.specs.Cmp.Lexicographic.{slice_cmp}
-use Rattle.sd_model_text.specs.Names.{Kind, Timer, Set}
+use Rattle.sd_model_text.specs.Names.{Kind, Timer}
 use Rattle.sd_model_text.specs.Numbers.{number_text}
 use Rattle.sd_model_settings.specs.Settings as file
 use Rattle.sd_model_settings.specs.ConfigText.{line, config_lines}
@@ -100,12 +97,6 @@ reply_lines (Fault fault) = fault_line fault ∷ []
 -- the text of a reply
 abbrev pub reply_text : Reply → List ℕ
 reply_text reply = concat (reply_lines reply)
-
--- rows and keys stand in the order of the bytes of their keys, and rows aren't those of sets
-abbrev pub IsInOrder : Reply → Type 0
-IsInOrder (Rows kind rows) = (kind ≢ Set) × IsSortedByKey (λ row. row.key) (slice_cmp nat_cmp) rows
-IsInOrder (Gone name keys) = IsSorted (slice_cmp nat_cmp) keys
-IsInOrder reply = ⊤
 
 -- what an admin line asks of each shard: a deletion for each name of its command, in their order, a dump, or its numbers; and
 -- nothing where its command is another one, or it has none

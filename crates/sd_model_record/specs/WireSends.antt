@@ -1,5 +1,5 @@
 -- What sends do to wires: to one, one after another, and to several, each wire's by its number; and packets that are repeated on all.
-use Rattle.std.specs.Prelude.{◌≡◌, ℕ, ◌≤◌, Bool, not, List, [], ◌∷◌, length, map, filter, count_by, get_or, filter_map, option_map, slice_get}
+use Rattle.std.specs.Prelude.{◌≡◌, ℕ, ◌≤◌, Bool, List, [], ◌∷◌, length, count_by, get_or, filter_map, option_map, slice_get}
 use Rattle.sd_model_outside.specs.Outside.{Object, Untold, fresh}
 use Rattle.sd_model_outside.specs.Wires.{HasSent}
 
@@ -12,14 +12,6 @@ pub record WireSend : Type 0 where
 abbrev pub AfterSends : List WireSend → Object → Object → Type 0
 AfterSends [] old new = new ≡ old
 AfterSends (s ∷ sends) old new = (mid : Object) × HasSent s.packet s.is_failed old mid × AfterSends sends mid new
-
--- the packets of the sends that didn't fail
-abbrev pub packets_of : List WireSend → List (List ℕ)
-packets_of sends = map (λ s. s.packet) (filter (λ s. not s.is_failed) sends)
-
--- how many of the sends failed
-abbrev pub failed_among : List WireSend → ℕ
-failed_among sends = count_by (λ s. s.is_failed) sends
 
 -- what is seen of a wire by its number, and of one that isn't there
 abbrev pub wire_at : ℕ → List Object → Object

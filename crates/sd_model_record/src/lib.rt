@@ -7,15 +7,7 @@
 #![tactic(auto)]
 
 mod admin;
-mod desk;
-mod records;
 mod texts;
-mod wires;
 
-pub use admin::{deletions_have_names, ends_stand_last, lines_have_words, sets_are_not_shown};
-pub use desk::{
-    desk_histories_add_up, desks_are_balanced, desks_count, desks_keep_counts, parts_add_up,
-};
-pub use records::rows_are_documented;
+pub use admin::sets_are_not_shown;
 pub use texts::empty_lists_send_all;
-pub use wires::sends_are_packets;

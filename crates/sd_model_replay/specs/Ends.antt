@@ -1,13 +1,13 @@
 -- How a replay ends, and what was done by then.
 use Rattle.std.specs.Prelude.{◌≡◌, ◌⊎◌, ◌<◌, ◌^◌, ℕ, min, List, [], ◌∷◌, ◌++◌, length, map, ⊤}
-use Rattle.sd_model_outside.specs.Outside.{Told, Object, Used, HasFailedBehind, Rose, given, last_count, put_back}
+use Rattle.sd_model_outside.specs.Outside.{Object, Used, HasFailedBehind, Rose, given, last_count}
 use Rattle.sd_model_replay.specs.Settings.{bounds_of}
 use Rattle.sd_model_replay.specs.Script.{script_text, BeginsEnd, ScriptFlaw, Next, Faulty, Begins, IsUndecided}
 use Rattle.sd_model_replay.specs.Replay.{Played, first_run, run_of}
 use Rattle.sd_model_replay.specs.Asked.{output_in, output_of}
 use Rattle.sd_model_record.specs.Totals.{Total, totals_text}
 use Rattle.sd_model_replay.specs.Totals.{totals_after}
-use Rattle.sd_model_replay.specs.AccountingTheorem.{Seen, Course, AccountingTheorem}
+use Rattle.sd_model_replay.specs.AccountingTheorem.{Seen, Course}
 use Rattle.sd_model_settings.specs.Settings.{Settings}
 
 -- Why a replay ends: it came to the word that ends the script and wrote these totals; the record at a place of the script
@@ -31,11 +31,6 @@ most_records = 2 ^ 62
 -- fewer records than that
 abbrev pub AreFew : List Played → Type 0
 AreFew played = length played < most_records
-
--- what stands in a script behind the records of a course, where it tells: the bytes read behind them, and what it has
--- left
-abbrev pub behind : Course → Seen → Told
-behind course now = put_back course.ahead now.script.told
 
 -- The bytes that were read behind the records, with what the script has left then, begin with this, at this place.
 pub record StopsFor (settings : Settings) (next : Next) (at : ℕ) (course : Course) (new : Seen) : Type 0 where
@@ -92,9 +87,3 @@ pub record EndsAs (settings : Settings) (end : End) (course : Course) (old new :
   pub script : Used old.script new.script
   pub script_faults : ScriptFaults end old.script.faults new.script.faults
   pub output : OutputAfter settings end course old.output new.output
-
--- A replay: what it carried out, of which the accounting theorem holds, and how it ended.
-pub record Replayed (settings : Settings) (end : End) (old new : Seen) : Type 0 where
-  pub course : Course
-  pub theorem : AccountingTheorem settings course old new
-  pub ends : EndsAs settings end course old new

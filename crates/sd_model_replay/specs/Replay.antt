@@ -6,7 +6,7 @@ use Rattle.sd_model_text.specs.Lines.{Sample, samples_of, pieces, bad_of}
 use Rattle.sd_model_shard.specs.Shard.{State, empty_state, Submit, Swap, Reply, table_of}
 use Rattle.sd_model_shard.specs.History.{Asked, History, after_all, answered, part_of}
 use Rattle.sd_model_shard.specs.Whereabouts.{Arrival, dropped_in}
-use Rattle.sd_model_record.specs.Record.{Tally, Record}
+use Rattle.sd_model_record.specs.Record.{Tally}
 use Rattle.sd_model_record.specs.Admin as admin
 use Rattle.sd_model_record.specs.Admin.{AdminFault}
 use Rattle.sd_model_outside.specs.Deliveries.{NotUsed, Delivery, FitsUse}
@@ -15,7 +15,7 @@ use Rattle.sd_model_record.specs.Backends.{Backend, mark_of}
 use Rattle.sd_model_record.specs.WireSends.{Sending, failures}
 use Rattle.sd_model_serve.specs.Receiving.{flusher, administrator}
 use Rattle.sd_model_record.specs.Replies.{admin_events, health_after}
-use Rattle.sd_model_serve.specs.Rounds.{Form, Round, round_deliveries, round_record}
+use Rattle.sd_model_serve.specs.Rounds.{Form, Round, round_deliveries}
 use Rattle.sd_model_replay.specs.Settings.{Bounds, bounds_of, is_used, targets_of}
 use Rattle.sd_model_replay.specs.Script.{Command, Packet, Flush, Admin}
 use Rattle.sd_model_settings.specs.Settings.{Settings, plan_of, names_of}
@@ -158,10 +158,6 @@ rounds_from bounds run played = filter_map (λ m. round_by m.before m.played.com
 -- the rounds of a replay
 abbrev pub rounds : Bounds → List Played → List Round
 rounds bounds played = rounds_from bounds (first_run played) played
-
--- their records
-abbrev pub records : Settings → List Played → List Record
-records settings played = map (round_record (form_of settings)) (rounds (bounds_of settings) played)
 
 -- what they have for a backend: the text of each record, with its mark
 abbrev pub deliveries : Settings → Backend → List Played → List Delivery

@@ -1,7 +1,7 @@
 -- Scripts: the first lines of records; the records that a replay carries out, and their text; and what stands next in a script.
 use Rattle.std.specs.Prelude.{◌≡◌, ℕ, ◌≤◌, List, [], ◌∷◌, ◌++◌, length, flat_map, ◌^◌, ◌<◌, Bool, true, false, decimal, Option, Some, None, ⊤, ◌≢◌, ◌⊎◌, IsTrue, take, slice_index}
 use Rattle.sd_model_text.specs.Lists.{Lacks}
-use Rattle.sd_model_outside.specs.Outside.{Told, IsAtEnd, Reads, put_back}
+use Rattle.sd_model_outside.specs.Outside.{Told, IsAtEnd}
 
 -- A datagram of so many bytes that a receiver got at a moment; a flush at a Unix second; an admin command of so many
 -- bytes at a moment; or the end of the script.
@@ -88,10 +88,6 @@ IsLegal receivers (Packet who moment datagram) =
 IsLegal receivers (Flush ts) = IsMoment ts
 IsLegal receivers (Admin moment line) = IsMoment moment × (length line ≤ longest_command) × Lacks 10 line
 
--- bytes that begin with a record that is carried out
-abbrev pub BeginsRecord : ℕ → List ℕ → Type 0
-BeginsRecord receivers bytes = (command : Command) × (rest : List ℕ) × IsLegal receivers command × (bytes ≡ spelled command ++ rest)
-
 -- bytes that begin with the word that ends a script
 abbrev pub BeginsEnd : List ℕ → Type 0
 BeginsEnd bytes = (rest : List ℕ) × (bytes ≡ end_word ++ rest)
@@ -145,10 +141,6 @@ IsMisfit body rest = (slice_index rest body.len ≢ 10) ⊎ (IsTrue body.is_line
 abbrev pub IsWrong : Body → List ℕ → Type 0
 IsWrong body rest = (body.len ≤ body.most) × (body.len < length rest) × IsMisfit body rest
 
--- as many bytes stand there as may, and one more, and they fit
-abbrev pub IsWhole : Body → List ℕ → Type 0
-IsWhole body rest = (body.len ≤ body.most) × (body.len < length rest) × (slice_index rest body.len ≡ 10) × (IsTrue body.is_line → Lacks 10 (take body.len rest))
-
 -- bytes that don't decide yet what stands next, so that more have to be read: a part of a line, or of a body
 abbrev pub IsUndecided : ℕ → List ℕ → Type 0
 IsUndecided receivers bytes = IsPartOfLine bytes ⊎ HasBody receivers IsPart bytes
@@ -172,15 +164,3 @@ abbrev pub Begins : ℕ → Next → List ℕ → Told → Type 0
 Begins receivers (Carried command) bytes left = IsLegal receivers command × ((rest : List ℕ) × (bytes ≡ spelled command ++ rest))
 Begins receivers Ending bytes left = BeginsEnd bytes
 Begins receivers (Faulty flaw) bytes left = HasFlaw receivers flaw bytes left
-
--- the text that is read of it
-abbrev pub next_text : Next → List ℕ
-next_text (Carried command) = spelled command
-next_text Ending = end_word
-next_text (Faulty flaw) = []
-
--- What stands next in a script that has old left: its text is read, and behind it these bytes were read ahead, and the
--- source has new left.
-pub record StandsNext (receivers : ℕ) (next : Next) (old : Told) (ahead : List ℕ) (new : Told) : Type 0 where
-  pub begins : Begins receivers next (next_text next ++ ahead) new
-  pub reads : Reads old (next_text next) (put_back ahead new)

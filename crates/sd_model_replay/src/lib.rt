@@ -5,12 +5,6 @@
 //! for the accounting theorem of a replay.
 #![tactic(auto)]
 
-mod accounting;
-mod earlier;
 mod made;
-mod script;
 
-pub use accounting::{records_are_documented, replays_are_runs, samples_are_accounted};
-pub use earlier::earlier_files_play_as_before;
 pub use made::made_records_are_legal;
-pub use script::{one_thing_stands_next, scripts_have_one_reading};

@@ -1,4 +1,3 @@
 pub mod Least
 pub mod Owners
-pub mod Places
 pub mod Points

@@ -1,7 +1,7 @@
 -- The ring: where nodes and keys stand on it, and which node owns a key.
-use Rattle.std.specs.Prelude.{◌≡◌, ℕ, ◌+◌, ◌/◌, ◌%◌, ◌^◌, ◌==◌, ◌&&◌, ◌||◌, Bool, nat_lt, nat_le, if◌then◌else◌, true, List, [], ◌∷◌, ◌++◌, map, filter, codes, slice_get, Contains, Option, Some, None, option_map}
+use Rattle.std.specs.Prelude.{ℕ, ◌+◌, ◌/◌, ◌%◌, ◌^◌, ◌==◌, ◌&&◌, ◌||◌, Bool, nat_lt, nat_le, if◌then◌else◌, List, [], ◌∷◌, ◌++◌, map, filter, codes, Option, Some, None, option_map}
 use Rattle.std.specs.List.{concat, range_with_len}
-use Rattle.std.specs.Option.{option_or, option_map_or, option_and_then}
+use Rattle.std.specs.Option.{option_or, option_map_or}
 use Rattle.std.specs.Fmt.{decimal}
 use Rattle.md5.specs.Md5.{md5, word_at}
 use Rattle.sd_model_settings.specs.Entries.{Node}
@@ -80,15 +80,3 @@ next_point number ps = option_or (least (points_not_below number ps)) (least ps)
 -- The owner of a key among the nodes that are up: the place of the node of the next point from the key's number on, or none where no node is up.
 abbrev pub owner : List ℕ → List Node → ℕ → Option ℕ
 owner key nodes up = option_map (λ p. p.node) (next_point (number_of_key key) (points_up up (points nodes)))
-
--- the node that owns a key, or none where no node is up
-abbrev pub owning_node : List ℕ → List Node → ℕ → Option Node
-owning_node key nodes up = option_and_then (slice_get nodes) (owner key nodes up)
-
--- a node stands among nodes, and is up there
-abbrev pub IsUpAmong : List Node → ℕ → Node → Type 0
-IsUpAmong nodes up node = (place : ℕ) × (slice_get nodes place ≡ Some node) × (is_up up place ≡ true)
-
--- two nodes have a number in common
-abbrev pub ShareANumber : Node → Node → Type 0
-ShareANumber a b = (number : ℕ) × Contains (numbers_of_node a) number × Contains (numbers_of_node b) number

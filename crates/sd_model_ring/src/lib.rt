@@ -6,4 +6,4 @@
 
 mod ring;
 
-pub use ring::{key_vectors, keys_stay, order_is_free, other_bits_are_free, owners_are_up};
+pub use ring::{key_vectors, keys_stay, other_bits_are_free, owners_are_up};

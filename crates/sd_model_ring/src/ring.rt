@@ -1,6 +1,6 @@
 ghost use Rattle.std.specs.Prelude.{◌≡◌, ◌↔◌, ℕ, ◌<◌, List, length, Some, None, codes, true, false};
 ghost use Rattle.sd_model_settings.specs.Entries.{Node};
-ghost use Rattle.sd_model_ring.specs.Ring.{is_up, number_of_key, owner, owning_node, IsUpAmong, ShareANumber};
+ghost use Rattle.sd_model_ring.specs.Ring.{is_up, number_of_key, owner};
 
 /// The owner is one of the nodes, and it is up. There is none exactly where no node is up.
 pub fn owners_are_up()
@@ -19,14 +19,6 @@ pub fn other_bits_are_free()
 pub fn keys_stay()
     ensures { (key : List ℕ) (nodes : List Node) (up fewer node : ℕ) → ((other : ℕ) → is_up fewer other ≡ true → is_up up other ≡ true)
         → owner key nodes up ≡ Some node → is_up fewer node ≡ true → owner key nodes fewer ≡ Some node }
-{}
-
-/// Which node owns a key doesn't depend on where the nodes stand, if no two that are up have a number in common.
-pub fn order_is_free()
-    ensures { (key : List ℕ) (nodes others : List Node) (up also : ℕ)
-        → ((node : Node) → IsUpAmong nodes up node ↔ IsUpAmong others also node)
-        → ((a b : Node) → IsUpAmong nodes up a → IsUpAmong nodes up b → ShareANumber a b → a ≡ b)
-        → owning_node key nodes up ≡ owning_node key others also }
 {}
 
 /// The numbers of two keys, which are the first words of their digests in RFC 1321.

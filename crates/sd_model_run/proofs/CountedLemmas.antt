@@ -1,22 +1,8 @@
--- What a run counts, as its receivers, its rounds and its sessions add up.
-use Rattle.std.proofs.Common.{◌≡◌, ℕ, zero, suc, ◌+◌, ◌<◌, Bool, true, false, List, [], ◌∷◌, length, flat_map, refl, sym, ap, ◌∙◌, arith, length-append}
-use Rattle.std.specs.Prelude.{min, sum_by, ◌==◌, if◌then◌else◌}
+-- Sums that are alike, of nothing, of parts and over a range.
+use Rattle.std.proofs.Common.{◌≡◌, ℕ, zero, suc, ◌+◌, ◌<◌, List, [], ◌∷◌, refl, sym, ap, ◌∙◌, arith}
+use Rattle.std.specs.Prelude.{sum_by}
 use Rattle.std.specs.List.{range_with_len}
-use Rattle.std.proofs.lemmas.List.Sums.{sum_by-cons, sum_by-append}
-use Rattle.sd_model_text.specs.Lines.{pieces, bad_of}
-use Rattle.sd_model_outside.specs.Deliveries.{fault_of}
-use Rattle.sd_model_shard.specs.Shard.{Limits, Policy, State, Event, Submit, Swap, Delete, Dump, Look, step}
-use Rattle.sd_model_shard.specs.History.{Act, History, LegalFrom, after}
-use Rattle.sd_model_shard.specs.Whereabouts.{dropped_in, told_by}
-use Rattle.sd_model_record.specs.Backends.{Graphite, Console, mark_of}
-use Rattle.sd_model_record.specs.Counts.{Count, TotalPackets, TotalLines, TotalBad, TotalDropped, TakenPackets, TakenLines, TakenBad, TakenDropped, RoundsMade, GraphiteFaults, ConsoleFaults, RepeaterFaults, AdminFaults, Amounts, Part, HasCounted, plus, share, of_tally, of_sends, of_sessions}
-use Rattle.sd_model_record.specs.Desk.{last_counted}
-use Rattle.sd_model_record.proofs.CountLemmas.{nothing_counted}
-use Rattle.sd_model_serve.specs.Receiving.{acts_by, events_by, events_of, told_in, failed_sends, tally_of, Reception}
-use Rattle.sd_model_serve.specs.Doors.{faults_among}
-use Rattle.sd_model_serve.specs.Rounds.{Form, Round, of_round, of_rounds, swaps_at, AreCommands}
-use Rattle.sd_model_stream.specs.Streams.{bad_of_line, pieces_of_line, lines_in, Lining, faults_in_lines}
-use Rattle.sd_model_run.specs.Run.{Course, counts_of, rounds_in}
+use Rattle.std.proofs.lemmas.List.Sums.{sum_by-cons}
 
 -- two ways to count each element alike add up alike
 pub sum_by-alike : {X : Type 0} (f g : X → ℕ) (xs : List X) → ((x : X) → f x ≡ g x) → sum_by f xs ≡ sum_by g xs
@@ -27,11 +13,6 @@ sum_by-alike f g (x ∷ xs) same = let rest = sum_by-alike f g xs same in let on
 pub sum_by-nothing : {X : Type 0} (f : X → ℕ) (xs : List X) → ((x : X) → f x ≡ 0) → sum_by f xs ≡ 0
 sum_by-nothing f [] none = refl
 sum_by-nothing f (x ∷ xs) none = let rest = sum_by-nothing f xs none in let one = none x in let a = sum_by-cons f x xs in omega arith
-
--- one of each is as many as there are
-pub sum_by-ones : {X : Type 0} (f : X → ℕ) (xs : List X) → ((x : X) → f x ≡ 1) → sum_by f xs ≡ length xs
-sum_by-ones f [] one = refl
-sum_by-ones f (x ∷ xs) one = let rest = sum_by-ones f xs one in let first = one x in let a = sum_by-cons f x xs in omega arith
 
 -- sums side by side, added up either way
 pub sum_by-across : {X Y : Type 0} (f : X → Y → ℕ) (xs : List X) (ys : List Y) → sum_by (λ x. sum_by (f x) ys) xs ≡ sum_by (λ y. sum_by (λ x. f x y) xs) ys
@@ -53,119 +34,3 @@ sum_by-range f g from (suc n) same =
     let a = sum_by-cons f from (range_with_len (from + 1) n) in
     let b = sum_by-cons g from (range_with_len (from + 1) n) in
     omega arith
-
--- deletions and dumps drop nothing, whatever acts stand between them
-drops_nothing : (limits : Limits) (policy : Policy) (state : State) (event : Event) → AreCommands (event ∷ []) → dropped_in (step limits policy state event).reply ≡ 0
-drops_nothing limits policy state (Submit s) h = absurd (h.0)
-drops_nothing limits policy state Swap h = absurd (h.0)
-drops_nothing limits policy state (Delete kind pattern) h = refl
-drops_nothing limits policy state (Dump kind) h = refl
-drops_nothing limits policy state Look h = refl
-
-pub no_drops : (limits : Limits) (policy : Policy) (state : State) (who : ℕ) (acts : History) → LegalFrom limits policy state acts → AreCommands (events_by who acts) → told_by dropped_in (acts_by who acts) ≡ 0
-no_drops limits policy state who [] legal commands = refl
-no_drops limits policy state who (a ∷ acts) legal commands = by_test (who == a.who) commands (no_drops limits policy (after limits policy state a) who acts legal.1) where
-  by_test : (b : Bool) → AreCommands (events_of (if b then a ∷ acts_by who acts else acts_by who acts)) → (AreCommands (events_by who acts) → told_by dropped_in (acts_by who acts) ≡ 0)
-      → told_by dropped_in (if b then a ∷ acts_by who acts else acts_by who acts) ≡ 0
-  by_test true all rest =
-      let first : dropped_in a.reply ≡ 0 = ap dropped_in legal.0 ∙ drops_nothing limits policy state a.event (all.0, tt) in
-      let others = rest all.1 in
-      let sum = sum_by-cons (λ (b : Act). dropped_in b.reply) a (acts_by who acts) in
-      omega arith
-  by_test false all rest = rest all
-
--- swaps drop nothing
-pub swaps_drop_nothing : (rounds : List Round) (i : ℕ) → told_by dropped_in (swaps_at rounds i) ≡ 0
-swaps_drop_nothing [] i = refl
-swaps_drop_nothing (r ∷ rounds) i = swaps_drop_nothing rounds i
-
--- what receivers count together, with so many drops
-abbrev pub received_by : List Reception → ℕ → Amounts
-received_by receptions drops =
-    let read = flat_map (λ (r : Reception). r.read) receptions in
-    plus (of_tally (record { packets = length read; lines = sum_by (λ d. length (pieces d)) read; bad = sum_by bad_of read; dropped = drops }))
-    (of_sends (sum_by (λ (r : Reception). failed_sends r.sendings) receptions))
-
--- what keepers of lines count together, with so many drops
-abbrev pub lined_by : List Lining → ℕ → Amounts
-lined_by linings drops =
-    let lines = flat_map (λ (l : Lining). lines_in l.streams) linings in
-    plus (of_tally (record { packets = 0; lines = sum_by pieces_of_line lines; bad = sum_by bad_of_line lines; dropped = drops }))
-    (of_sessions (sum_by faults_in_lines linings))
-
--- What a run counts is what its receivers, its keeper of lines, its rounds and its admin sessions count.
-module _ (form : Form) (c : Course) where
-  abbrev faults : ℕ
-  faults = c.failures + faults_among c.visits
-
-  no_rounds : (count : Count) → ((r : Round) → of_round r count ≡ 0) → of_rounds (rounds_in c) count ≡ 0
-  no_rounds count none = sum_by-nothing (λ (r : Round). of_round r count) (rounds_in c) none
-
-  in_rounds : (count : Count) (f : Round → ℕ) → ((r : Round) → of_round r count ≡ f r) → of_rounds (rounds_in c) count ≡ sum_by f (rounds_in c)
-  in_rounds count f same = sum_by-alike (λ (r : Round). of_round r count) f (rounds_in c) same
-
-  pub counts_add_up : (drops lined : ℕ) → drops + lined ≡ told_in dropped_in form.shards c.histories → (count : Count)
-      → counts_of form.shards c count ≡ received_by c.receptions drops count + (lined_by c.linings lined count + (of_rounds (rounds_in c) count + of_sessions faults count))
-  counts_add_up drops lined is TotalPackets = let none = no_rounds TotalPackets (λ r. refl) in omega (arith, none)
-  counts_add_up drops lined is TotalLines = let none = no_rounds TotalLines (λ r. refl) in omega (arith, none)
-  counts_add_up drops lined is TotalBad = let none = no_rounds TotalBad (λ r. refl) in omega (arith, none)
-  counts_add_up drops lined is TotalDropped = let none = no_rounds TotalDropped (λ r. refl) in omega (arith, none, is)
-  counts_add_up drops lined is TakenPackets = let all = in_rounds TakenPackets (λ r. r.tally.packets) (λ r. omega arith) in omega (arith, all)
-  counts_add_up drops lined is TakenLines = let all = in_rounds TakenLines (λ r. r.tally.lines) (λ r. omega arith) in omega (arith, all)
-  counts_add_up drops lined is TakenBad = let all = in_rounds TakenBad (λ r. r.tally.bad) (λ r. omega arith) in omega (arith, all)
-  counts_add_up drops lined is TakenDropped = let all = in_rounds TakenDropped (λ r. r.tally.dropped) (λ r. omega arith) in omega (arith, all)
-  counts_add_up drops lined is RoundsMade = let all = sum_by-ones (λ (r : Round). of_round r RoundsMade) (rounds_in c) (λ r. omega arith) in omega (arith, all)
-  counts_add_up drops lined is GraphiteFaults =
-      let all = in_rounds GraphiteFaults (λ r. fault_of (mark_of Graphite r.marks)) (λ r. omega arith) in omega (arith, all)
-  counts_add_up drops lined is ConsoleFaults =
-      let all = in_rounds ConsoleFaults (λ r. fault_of (mark_of Console r.marks)) (λ r. omega arith) in omega (arith, all)
-  counts_add_up drops lined is RepeaterFaults = let none = no_rounds RepeaterFaults (λ r. refl) in omega (arith, none)
-  counts_add_up drops lined is AdminFaults = let none = no_rounds AdminFaults (λ r. refl) in omega (arith, none)
-
--- what one receiver counts, with so many drops
-abbrev pub one_by : Reception → ℕ → Amounts
-one_by r drops =
-    plus (of_tally (record { packets = length r.read; lines = sum_by (λ d. length (pieces d)) r.read; bad = sum_by bad_of r.read; dropped = drops }))
-    (of_sends (failed_sends r.sendings))
-
--- no receiver counts nothing
-pub none_received : (count : Count) → received_by [] 0 count ≡ 0
-none_received count = omega (arith, nothing_counted count)
-
--- one receiver more
-pub received_next : (r : Reception) (receptions : List Reception) (drops others : ℕ) (count : Count)
-    → received_by (r ∷ receptions) (drops + others) count ≡ one_by r drops count + received_by receptions others count
-received_next r receptions drops others TotalPackets =
-    let all = length-append r.read (flat_map (λ (q : Reception). q.read) receptions) in omega (arith, all)
-received_next r receptions drops others TotalLines =
-    let all = sum_by-append (λ (d : List ℕ). length (pieces d)) r.read (flat_map (λ (q : Reception). q.read) receptions) in omega (arith, all)
-received_next r receptions drops others TotalBad =
-    let all = sum_by-append bad_of r.read (flat_map (λ (q : Reception). q.read) receptions) in omega (arith, all)
-received_next r receptions drops others TotalDropped = omega arith
-received_next r receptions drops others TakenPackets = refl
-received_next r receptions drops others TakenLines = refl
-received_next r receptions drops others TakenBad = refl
-received_next r receptions drops others TakenDropped = refl
-received_next r receptions drops others RoundsMade = refl
-received_next r receptions drops others GraphiteFaults = refl
-received_next r receptions drops others ConsoleFaults = refl
-received_next r receptions drops others RepeaterFaults =
-    let all = sum_by-cons (λ (q : Reception). failed_sends q.sendings) r receptions in omega (arith, all)
-received_next r receptions drops others AdminFaults = refl
-
--- A tally that stops at the last count is what was counted, up to it, whatever else was counted with it.
-pub exact_share : (packets lines bad drops : ℕ) (others : Amounts) (old new : Part) → HasCounted (plus (of_tally (tally_of packets lines bad drops)) others) old new → ((count : Count) → share old count ≡ 0) → (count : Count)
-    → min (share new count) last_counted ≡ min (plus (of_tally (record { packets = packets; lines = lines; bad = bad; dropped = drops })) others count) last_counted
-exact_share packets lines bad drops others old new h none TotalPackets = omega (arith, h.adds TotalPackets, none TotalPackets)
-exact_share packets lines bad drops others old new h none TotalLines = omega (arith, h.adds TotalLines, none TotalLines)
-exact_share packets lines bad drops others old new h none TotalBad = omega (arith, h.adds TotalBad, none TotalBad)
-exact_share packets lines bad drops others old new h none TotalDropped = omega (arith, h.adds TotalDropped, none TotalDropped)
-exact_share packets lines bad drops others old new h none TakenPackets = omega (arith, h.adds TakenPackets, none TakenPackets)
-exact_share packets lines bad drops others old new h none TakenLines = omega (arith, h.adds TakenLines, none TakenLines)
-exact_share packets lines bad drops others old new h none TakenBad = omega (arith, h.adds TakenBad, none TakenBad)
-exact_share packets lines bad drops others old new h none TakenDropped = omega (arith, h.adds TakenDropped, none TakenDropped)
-exact_share packets lines bad drops others old new h none RoundsMade = omega (arith, h.adds RoundsMade, none RoundsMade)
-exact_share packets lines bad drops others old new h none GraphiteFaults = omega (arith, h.adds GraphiteFaults, none GraphiteFaults)
-exact_share packets lines bad drops others old new h none ConsoleFaults = omega (arith, h.adds ConsoleFaults, none ConsoleFaults)
-exact_share packets lines bad drops others old new h none RepeaterFaults = omega (arith, h.adds RepeaterFaults, none RepeaterFaults)
-exact_share packets lines bad drops others old new h none AdminFaults = omega (arith, h.adds AdminFaults, none AdminFaults)

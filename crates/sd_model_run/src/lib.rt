@@ -4,8 +4,6 @@
 //! and each states a law of the definitions.
 #![tactic(auto)]
 
-mod audit;
 mod outlets;
 
-pub use audit::runs_add_up;
 pub use outlets::texts_are_queued_or_skipped;

@@ -5,12 +5,9 @@ use Rattle.sd_model_outside.specs.Outside.{Object, RoseBy}
 use Rattle.sd_model_outside.specs.Turns.{session_of, with_sessions, with_back}
 use Rattle.sd_model_record.specs.Admin.{AdminFault, Command, Health, Up, Down, command}
 use Rattle.sd_model_record.specs.DeskHistory.{DeskCall, SetHealth, Look, Done, Told}
-use Rattle.sd_model_record.specs.Counts.{Among, IsKeeping, Part, HasCalled, HasCounted, of_sessions}
 use Rattle.sd_model_settings.specs.Settings as file
-use Rattle.sd_model_shard.specs.History.{History}
 use Rattle.sd_model_serve.specs.Talks.{Dialogue, HasTalked, SessionEnd, ReadFault, WriteFault, lines_in}
-use Rattle.sd_model_serve.specs.Sessions.{Broadcast, Broadcasts, Exchange, admin_talk, is_quit, asked_in, events_in}
-use Rattle.sd_model_serve.specs.Rounds.{AreCommands}
+use Rattle.sd_model_serve.specs.Sessions.{Broadcast, Exchange, admin_talk, is_quit, asked_in}
 
 -- A session that was served: what was seen of its ends, that which asks and that which is told, before and after; and
 -- whether it was counted as a fault.
@@ -47,11 +44,6 @@ pub record ServesDoor (visits : List Visit) (failures : ℕ) (door door_now : Ob
   pub rises : door.faults ≤ door_now.faults
   pub faults : RoseBy (failures + faults_among visits) door.faults door_now.faults
 
--- The sessions of a door were so served, and each failure and each visit that is a fault was counted at the desk, once.
-pub record KeepsDoor (visits : List Visit) (failures : ℕ) (door door_now : Object) (part part_now : Part) : Type 0 where
-  pub served : ServesDoor visits failures door door_now
-  pub counted : HasCounted (of_sessions (failures + faults_among visits)) part part_now
-
 -- whether a session ended since one of its ends failed
 abbrev pub ends_by_fault : SessionEnd → Bool
 ends_by_fault ReadFault = true
@@ -86,15 +78,3 @@ line_calls e = if is_quit (command e.line) then [] else (record { event = Look; 
 -- the calls of sessions, in order
 abbrev pub called_in : List (Dialogue Exchange) → List DeskCall
 called_in dialogues = flat_map (λ d. flat_map line_calls (lines_in d)) dialogues
-
--- The sessions of a door were served one after another over so many shards: what their lines ask for was asked of each shard,
--- in order, and nothing else: deletions and dumps.
-pub record ServesSessions (shards : ℕ) (settings : file.Settings) (says : ℕ → Type 0) (own own_now : ℕ → History) (door door_now : Object) (part part_now : Part) : Type 0 where
-  pub visits : List Visit
-  pub failures : ℕ
-  pub dialogues : List (Dialogue Exchange)
-  pub keeps : KeepsDoor visits failures door door_now part part_now
-  pub went : AreVisitsOf shards settings says visits dialogues
-  pub asked : Broadcasts shards (asked_by dialogues) own own_now
-  pub commands : AreCommands (events_in (asked_by dialogues))
-  pub called : HasCalled (Among IsKeeping (called_in dialogues)) part part_now

@@ -1,14 +1,13 @@
 -- Who did what at shards; what callers file there, and what a receiver does with the datagrams that it reads.
-use Rattle.std.specs.Prelude.{◌≡◌, ⊤, ℕ, ◌+◌, min, List, [], ◌∷◌, length, map, take, drop, flat_map, sum_by, All, ◌<◌, ◌==◌, if◌then◌else◌, ◌++◌, ◌≤◌}
+use Rattle.std.specs.Prelude.{◌≡◌, ⊤, ℕ, min, List, [], ◌∷◌, length, map, take, drop, flat_map, sum_by, All}
 use Rattle.sd_model_text.specs.Lines.{Sample, samples_of, pieces, bad_of}
 use Rattle.sd_model_outside.specs.Outside.{Object}
 use Rattle.sd_model_outside.specs.Turns.{with_datagrams}
-use Rattle.sd_model_shard.specs.History.{History, Act, part_of}
-use Rattle.sd_model_shard.specs.Whereabouts.{taken_in, dropped_in, told_by}
+use Rattle.sd_model_shard.specs.History.{History, part_of}
+use Rattle.sd_model_shard.specs.Whereabouts.{told_by}
 use Rattle.sd_model_record.specs.Record.{Tally}
 use Rattle.sd_model_record.specs.Desk.{last_counted}
 use Rattle.sd_model_record.specs.DeskHistory.{DeskCall, DeskEvent, Add, RepeaterFaults, Look}
-use Rattle.sd_model_record.specs.Counts.{Part, HasCalled, HasCounted, plus, of_tally, of_sends}
 use Rattle.sd_model_serve.specs.Ends.{LoopEnd}
 use Rattle.sd_model_record.specs.WireSends.{Sending, AreRepeated, failures}
 use Rattle.std.specs.List.{AllByRecursion, AllZip, range_with_len}
@@ -35,21 +34,9 @@ events_of acts = map (λ a. a.event) acts
 abbrev pub events_by : ℕ → History → List Event
 events_by who acts = events_of (acts_by who acts)
 
--- At each of so many shards, by its number, a caller made these acts behind those that it had made.
-abbrev pub Adds : ℕ → (ℕ → History) → (ℕ → History) → (ℕ → History) → Type 0
-Adds shards acts old new = (i : ℕ) → i < shards → new i ≡ old i ++ acts i
-
--- an act at one shard, and none at the others
-abbrev pub one_at : ℕ → Act → ℕ → History
-one_at home a i = if i == home then a ∷ [] else []
-
 -- what good samples ask of shard i of so many: that those whose keys belong there are taken, in order
 abbrev pub asks : ℕ → ℕ → List Sample → List Event
 asks shards i samples = map Submit (part_of (λ s. shard s.key shards) i samples)
-
--- what datagrams ask of shard i of so many: that the good samples whose keys belong there are taken, in order
-abbrev pub submits : ℕ → ℕ → List (List ℕ) → List Event
-submits shards i read = asks shards i (flat_map samples_of read)
 
 -- the replies at so many shards, each weighed, added up
 abbrev pub told_in : (Reply → ℕ) → ℕ → (ℕ → History) → ℕ
@@ -65,21 +52,6 @@ tally_of packets lines bad drops =
       bad = min bad last_counted;
       dropped = min drops last_counted;
     }
-
--- Samples were submitted once each, in order, at the shards of their keys, and each was taken or dropped. They came in so
--- many packets and pieces, of which so many were bad; this is what all that counts for, and how many samples were taken.
-pub record HasFiled (shards : ℕ) (samples : List Sample) (packets lines bad : ℕ) (old new : ℕ → History) (tally : Tally) (taken : ℕ) : Type 0 where
-  pub acts : ℕ → History
-  pub added : Adds shards acts old new
-  pub asked : (i : ℕ) → events_of (acts i) ≡ asks shards i samples
-  pub placed : (i : ℕ) → told_by taken_in (acts i) + told_by dropped_in (acts i) ≡ length (acts i)
-  pub tally_is : tally ≡ tally_of packets lines bad (told_in dropped_in shards acts)
-  pub taken_is : taken ≡ min (told_in taken_in shards acts) last_counted
-
--- the same of the good samples of datagrams
-abbrev pub FilesDatagrams : ℕ → List (List ℕ) → (ℕ → History) → (ℕ → History) → Tally → ℕ → Type 0
-FilesDatagrams shards read old new tally taken =
-    HasFiled shards (flat_map samples_of read) (length read) (sum_by (λ d. length (pieces d)) read) (sum_by bad_of read) old new tally taken
 
 -- how many sends of packets failed
 abbrev pub failed_sends : List Sending → ℕ
@@ -123,17 +95,6 @@ pub record IsCountOf (says : ℕ → Type 0) (datagram : List ℕ) (a : Addition
 pub record CountsDatagrams (says : ℕ → Type 0) (read : List (List ℕ)) (calls : List DeskCall) : Type 0 where
   pub only : AllByRecursion (λ c. IsReceiving c.event) calls
   pub each : AllZip (IsCountOf says) read (additions_in calls)
-
--- The datagrams that a source has given since, at most one a turn, were so sent on, their good samples were submitted, and what they
--- count for was added at the desk, with the sends that failed.
-pub record HasReceived (says : ℕ → Type 0) (shards turns : ℕ) (source source_now : Object) (wires wires_now : List Object) (own own_now : ℕ → History) (part part_now : Part) (tally : Tally) (taken : ℕ) : Type 0 where
-  pub read : List (List ℕ)
-  pub many : length read ≤ turns
-  pub sendings : List Sending
-  pub passed : PassesOn read sendings source source_now wires wires_now
-  pub filed : FilesDatagrams shards read own own_now tally taken
-  pub counted : HasCounted (plus (of_tally tally) (of_sends (failed_sends sendings))) part part_now
-  pub called : HasCalled (CountsDatagrams says read) part part_now
 
 -- What a receiver did: the datagrams that it read, their sends on its wires, and how it ended.
 pub record Reception : Type 0 where

@@ -1,20 +1,18 @@
 -- The rounds of a flusher: what each took out of the shards and the desk, and what it wrote; the account of histories and rounds; and
 -- the history of each shard that a run leaves, from the side of its callers.
-use Rattle.std.specs.Prelude.{◌≡◌, ℕ, Bool, true, Option, Some, None, List, [], ◌∷◌, ◌++◌, map, flat_map, get_or, sum_by, ◌<◌, ◌≢◌, ◌≤◌, length, ⊤}
+use Rattle.std.specs.Prelude.{◌≡◌, ℕ, Bool, Option, Some, None, List, [], ◌∷◌, map, get_or, ◌<◌, ◌≢◌, ◌≤◌, length}
 use Rattle.std.specs.FinMap.{empty}
-use Rattle.std.specs.List.{AllByRecursion, range_with_len}
-use Rattle.sd_model_outside.specs.Outside.{Object, Rose}
-use Rattle.sd_model_outside.specs.Deliveries.{Written, Delivery, AfterMark, AfterDeliveries, FitsUse}
+use Rattle.std.specs.List.{range_with_len}
+use Rattle.sd_model_outside.specs.Deliveries.{Delivery, FitsUse}
 use Rattle.sd_model_settings.specs.Settings.{Plan, Names}
-use Rattle.sd_model_shard.specs.Shard.{Table, Swap, Swapped, Limits, Policy, Event, Submit, Delete, Dump, Look}
+use Rattle.sd_model_shard.specs.Shard.{Table, Swap, Swapped, Limits, Policy}
 use Rattle.sd_model_shard.specs.History.{Act, History, Legal}
 use Rattle.sd_model_record.specs.Record.{Tally, Record, record_of}
 use Rattle.sd_model_record.specs.Documented.{documented_rows}
 use Rattle.sd_model_record.specs.Desk.{Marks}
 use Rattle.sd_model_record.specs.DeskHistory.{DeskCall, Take, Mark, Took, Done}
-use Rattle.sd_model_record.specs.Counts.{Amounts, Part, HasCounted, plus, of_taken, of_marks}
 use Rattle.sd_model_record.specs.Backends.{Backend, mark_of, text_of}
-use Rattle.sd_model_serve.specs.Receiving.{flusher, administrator, Adds, acts_by, events_by, asks}
+use Rattle.sd_model_serve.specs.Receiving.{flusher, administrator, acts_by, events_by, asks}
 use Rattle.sd_model_shard.specs.Whereabouts.{Accounted, AreDocumented, Flushed, flushes, RowsAreCarried, tables}
 use Rattle.sd_model_text.specs.Lines.{Sample}
 use Rattle.sd_model_serve.specs.Sessions.{Broadcast, acts_in}
@@ -61,18 +59,6 @@ no_flush = record { table = record { live = empty }; journal = [] }
 abbrev pub flushed_at : ℕ → (ℕ → History) → ℕ → List Flushed
 flushed_at shards histories k = map (λ i. get_or (flushes (histories i)) k no_flush) (range_with_len 0 shards)
 
--- the table of shard i among tables in the order of the shards, and an empty one past their end
-abbrev pub table_at : List Table → ℕ → Table
-table_at tables i = get_or tables i (record { live = empty })
-
--- what a round adds to the desk's numbers: the tally that it took, and its marks
-abbrev pub of_round : Round → Amounts
-of_round r = plus (of_taken r.tally) (of_marks r.marks)
-
--- what rounds add
-abbrev pub of_rounds : List Round → Amounts
-of_rounds rounds count = sum_by (λ r. of_round r count) rounds
-
 -- a round's calls of the desk: it takes the tally, and leaves its marks
 abbrev pub round_calls : Round → List DeskCall
 round_calls r = record { event = Take; answer = Took r.tally } ∷ record { event = Mark r.marks; answer = Done } ∷ []
@@ -81,30 +67,11 @@ round_calls r = record { event = Take; answer = Took r.tally } ∷ record { even
 abbrev pub MarksFit : (Backend → Bool) → Round → Type 0
 MarksFit uses r = (back : Backend) → FitsUse (uses back) (mark_of back r.marks)
 
--- A round was made: each shard was swapped once, the desk's tally was taken, each backend that is used was given the text of
--- the record of both, and the desk was given the marks. A backend that is used and whose count of faults didn't rise was
--- given the whole text.
-pub record MakesRound (form : Form) (uses : Backend → Bool) (round : Round) (own own_now : ℕ → History) (part part_now : Part) (back back_now : Backend → Object) : Type 0 where
-  pub swapped : Adds form.shards (swaps_at (round ∷ [])) own own_now
-  pub used : MarksFit uses round
-  pub delivered : (b : Backend) → AfterMark (mark_of b round.marks) (round_text form b round) (back b) (back_now b)
-  pub whole : (b : Backend) → uses b ≡ true → ¬ Rose (back b).faults (back_now b).faults → mark_of b round.marks ≡ Written
-  pub counted : HasCounted (of_round round) part part_now
-  pub called : part_now.own ≡ part.own ++ round_calls round
-
 -- the second of the last of rounds, if there is one
 abbrev pub last_second : List Round → Option ℕ
 last_second [] = None
 last_second (r ∷ []) = Some r.ts
 last_second (r ∷ q ∷ rounds) = last_second (q ∷ rounds)
-
--- Rounds were made, one after another.
-pub record MakesRounds (form : Form) (uses : Backend → Bool) (rounds : List Round) (own own_now : ℕ → History) (part part_now : Part) (back back_now : Backend → Object) : Type 0 where
-  pub swapped : Adds form.shards (swaps_at rounds) own own_now
-  pub used : AllByRecursion (MarksFit uses) rounds
-  pub delivered : (b : Backend) → AfterDeliveries (round_deliveries form b rounds) (back b) (back_now b)
-  pub counted : HasCounted (of_rounds rounds) part part_now
-  pub called : part_now.own ≡ part.own ++ flat_map round_calls rounds
 
 -- The account of shards with these histories, one a number, and of these rounds.
 pub record AreAccounted (limits : Limits) (policy : Policy) (form : Form) (histories : ℕ → History) (rounds : List Round) : Type 0 where
@@ -123,15 +90,6 @@ pub record AreAccounted (limits : Limits) (policy : Policy) (form : Form) (histo
   pub statistics : (k : ℕ) (other : Round) → k < length rounds
       → (round_record form (get_or rounds k other)).rows ≡ documented_rows form.plan (flushed_at form.shards histories k)
 
--- The one history of a shard, as its callers' own acts tell it: it is legal, it has just the acts that each receiver, the
--- flusher and the administrator made, in the order of each, and nobody else's.
-pub record JoinsAs (limits : Limits) (policy : Policy) (receivers : List History) (swaps commands : History) (acts : History) : Type 0 where
-  pub legal : Legal limits policy acts
-  pub submitted : (r : ℕ) → r < length receivers → acts_by r acts ≡ get_or receivers r []
-  pub swapped : acts_by flusher acts ≡ swaps
-  pub commanded : acts_by administrator acts ≡ commands
-  pub others : (who : ℕ) → length receivers ≤ who → who ≢ flusher → who ≢ administrator → acts_by who acts ≡ []
-
 -- The history of shard i of so many that a run left: it is legal; each receiver submitted the samples that it brought, those
 -- with keys of that shard, in order; the flusher swapped once for each round, in order, and got the round's table; the admin
 -- sessions asked for what they broadcast, in order, and got those replies; and nobody else asked for anything. So the tables
@@ -143,15 +101,3 @@ pub record Ran (limits : Limits) (policy : Policy) (shards : ℕ) (brought : Lis
   pub commanded : acts_by administrator acts ≡ acts_in asked i
   pub others : (who : ℕ) → length brought ≤ who → who ≢ flusher → who ≢ administrator → acts_by who acts ≡ []
   pub handed_out : tables acts ≡ map (λ round. round.tables i) rounds
-
--- an event is one that an admin line asks for: a deletion, a dump or a look
-abbrev pub IsCommand : Event → Type 0
-IsCommand (Submit sample) = ⊥
-IsCommand Swap = ⊥
-IsCommand (Delete kind pattern) = ⊤
-IsCommand (Dump kind) = ⊤
-IsCommand Look = ⊤
-
--- all of the events are
-abbrev pub AreCommands : List Event → Type 0
-AreCommands events = AllByRecursion IsCommand events

@@ -1,5 +1,5 @@
 -- The sessions of a server's admin port: what their lines asked of all shards and got replied.
-use Rattle.std.specs.Prelude.{◌≡◌, ℕ, ◌+◌, nat_lt, Bool, true, false, List, [], map, flat_map, take, get_or, slice_get, Some, Result, Ok, Err, ⊤}
+use Rattle.std.specs.Prelude.{◌≡◌, ℕ, ◌+◌, nat_lt, Bool, true, false, List, [], map, flat_map, take, get_or, slice_get, Some, Result, Ok}
 use Rattle.std.specs.List.{range_with_len}
 use Rattle.sd_model_outside.specs.Outside.{Object, HasFailedBehind, given}
 use Rattle.sd_model_settings.specs.Settings as file
@@ -8,7 +8,7 @@ use Rattle.sd_model_shard.specs.Shard.{Event}
 use Rattle.sd_model_shard.specs.History.{History}
 use Rattle.sd_model_record.specs.Admin as admin
 use Rattle.sd_model_record.specs.Admin.{AdminFault, command}
-use Rattle.sd_model_serve.specs.Receiving.{administrator, Adds}
+use Rattle.sd_model_serve.specs.Receiving.{administrator}
 use Rattle.sd_model_serve.specs.Talks.{Talk}
 use Rattle.sd_model_record.specs.Desk.{Facts}
 use Rattle.sd_model_record.specs.Replies.{Reply, reply_text, admin_events, replies_by, replies_text}
@@ -25,10 +25,6 @@ events_in asked = map (λ b. b.event) asked
 -- what the administrator did at shard i
 abbrev pub acts_in : List Broadcast → ℕ → History
 acts_in asked i = map (λ b. record { who = administrator; event = b.event; reply = b.replies i }) asked
-
--- At each of so many shards the administrator asked for these events behind what it had asked for.
-abbrev pub Broadcasts : ℕ → List Broadcast → (ℕ → History) → (ℕ → History) → Type 0
-Broadcasts shards asked own own_now = Adds shards (acts_in asked) own own_now
 
 -- what all of so many shards replied, shard by shard
 abbrev pub all_replies : ℕ → Broadcast → List shard.Reply
@@ -53,11 +49,6 @@ replies_of shards settings e = replies_by (nat_lt 0 settings.transport.outlets) 
 abbrev pub events_of_line : Exchange → List Event
 events_of_line e = admin_events (command e.line)
 
--- Just what the line asks for was asked for, and the replies were written whole.
-pub record IsWhole (replies : List Reply) (events asked : List Event) (old new : Object) : Type 0 where
-  pub all : asked ≡ events
-  pub written : new ≡ given (replies_text replies) old
-
 -- A reply was cut, since the output failed: those before it were written whole, and of it a front. Of the events just those
 -- were asked for whose replies were written whole, and the one of the reply that was cut.
 pub record IsCut (replies : List Reply) (events asked : List Event) (old new : Object) : Type 0 where
@@ -66,15 +57,6 @@ pub record IsCut (replies : List Reply) (events asked : List Event) (old new : O
   pub part : slice_get replies whole ≡ Some cut
   pub front : asked ≡ take (whole + 1) events
   pub written : HasFailedBehind (reply_text cut) (given (replies_text (take whole replies)) old) new
-
--- by whether the replies were written whole
-abbrev pub AreReplied : {E : Type 0} → List Reply → (events asked : List Event) → Result ⊤ E → Object → Object → Type 0
-AreReplied replies events asked (Ok written) old new = IsWhole replies events asked old new
-AreReplied replies events asked (Err fault) old new = IsCut replies events asked old new
-
--- a line was carried out: whole, or up to where a reply was cut
-abbrev pub IsCarriedOut : {E : Type 0} → ℕ → file.Settings → Exchange → Result ⊤ E → Object → Object → Type 0
-IsCarriedOut shards settings e result old new = AreReplied (replies_of shards settings e) (events_of_line e) (events_in e.asked) result old new
 
 -- what lines asked of all shards
 abbrev pub asked_in : List Exchange → List Broadcast

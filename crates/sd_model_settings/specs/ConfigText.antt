@@ -1,6 +1,6 @@
 -- The reply to `config`: a line for each setting in force, in the order and under the names of the file.
 use Rattle.std.specs.Prelude.{ℕ, Bool, if◌then◌else◌, List, [], ◌∷◌, ◌++◌, map, codes, decimal}
-use Rattle.std.specs.List.{concat, join_with_byte}
+use Rattle.std.specs.List.{join_with_byte}
 use Rattle.sd_model_text.specs.Numbers.{number_text, Limit, Below, Infinite}
 use Rattle.sd_model_settings.specs.Entries.{Classes, Target, Node}
 use Rattle.sd_model_settings.specs.Kinds.{Kind, Whole, Share, Flag, Prefix, FilledPrefix, Host, Thresholds, Backends, ClassNames, Histograms, Targets, Nodes, Value}
@@ -73,7 +73,3 @@ back_lines s = group_lines [] sizes s.sizes ++ group_lines [] flush_rules s.rule
 -- the lines of all settings
 abbrev pub config_lines : Settings → List (List ℕ)
 config_lines s = front_lines s ++ entry_lines s ++ back_lines s
-
--- the reply, without its end
-abbrev pub config_text : Settings → List ℕ
-config_text s = concat (config_lines s)

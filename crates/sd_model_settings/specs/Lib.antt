@@ -3,6 +3,4 @@ pub mod Entries
 pub mod Kinds
 pub mod Table
 pub mod Settings
-pub mod Ranges
 pub mod ConfigText
-pub mod Earlier

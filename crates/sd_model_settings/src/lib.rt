@@ -6,10 +6,6 @@
 //! and the proxy have their settings from here.
 #![tactic(auto)]
 
-mod accepted;
-mod earlier;
 mod files;
 
-pub use accepted::accepted_values;
-pub use earlier::earlier_files;
 pub use files::{accepted_files, config_lines_of_files, refused_files};

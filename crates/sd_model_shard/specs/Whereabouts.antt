@@ -1,10 +1,10 @@
 -- Where each sample of a history is, and which rows its tables have.
-use Rattle.std.specs.Prelude.{◌≡◌, ℕ, ◌+◌, ◌==◌, min, sum_by, count_by, List, [], ◌∷◌, ◌++◌, length, map, fold, flat_map, filter_map, Option, Some, None, ⊤}
+use Rattle.std.specs.Prelude.{◌≡◌, ℕ, ◌+◌, min, sum_by, count_by, List, [], ◌∷◌, ◌++◌, length, map, fold, flat_map, filter_map, Option, Some, None, ⊤}
 use Rattle.std.specs.List.{range_with_len, AllByRecursion}
 use Rattle.std.specs.List.Sorted.{IsPermutation, IsStrictlyIncreasing}
 use Rattle.sd_model_text.specs.Lines.{Sample}
 use Rattle.sd_model_shard.specs.Rows.{Rows, Entry}
-use Rattle.sd_model_shard.specs.Summaries.{touched, is_listed, samples_in, Tell}
+use Rattle.sd_model_shard.specs.Summaries.{touched, is_listed, Tell}
 use Rattle.sd_model_shard.specs.Shard.{State, Limits, Policy, Placed, Taken, Dropped, Cause, Table, Event, Submit, Swap, Delete, Reply, Answered, Swapped, Deleted, carried, last_number}
 use Rattle.sd_model_shard.specs.Commands.{rows_left, entries_taken_out}
 use Rattle.sd_model_shard.specs.History.{Act, History, held_by, held_after, state_after}
@@ -108,36 +108,14 @@ deleted_from held acts = flat_map (λ m. taken_out m.held m.act.event m.act.repl
 abbrev pub deletions : History → List Entry
 deletions acts = deleted_from [] acts
 
--- how many samples a reply takes: 1 where it took one, and else 0
-abbrev pub taken_in : Reply → ℕ
-taken_in (Answered (Taken number)) = 1
-taken_in reply = 0
-
 -- 1 for a drop, and else 0
 abbrev pub dropped_in : Reply → ℕ
 dropped_in (Answered (Dropped cause)) = 1
 dropped_in reply = 0
 
--- how many samples the rows have that a reply hands out
-abbrev pub flushed_in : Reply → ℕ
-flushed_in (Swapped table) = samples_in table.live
-flushed_in reply = 0
-
--- how many samples a reply deletes
-abbrev pub deleted_in : Reply → ℕ
-deleted_in (Deleted keys rows samples) = samples
-deleted_in reply = 0
-
 -- the replies of a history, each weighed, added up
 abbrev pub told_by : (Reply → ℕ) → History → ℕ
 told_by weigh acts = sum_by (λ a. weigh a.reply) acts
-
--- The numbers of the state after a history are what its replies add up to; drops are counted up to the last number.
-pub record AreSums (acts : History) (last : State) : Type 0 where
-  pub taken : last.taken ≡ told_by taken_in acts
-  pub flushed : last.flushed ≡ told_by flushed_in acts
-  pub deleted : last.deleted ≡ told_by deleted_in acts
-  pub dropped : last.dropped ≡ min (told_by dropped_in acts) last_number
 
 -- Each sample submitted has one fate. Those that were taken have the numbers 0, 1, 2 and so on, and stand, each once,
 -- in the journals of the swaps, in what the deletions took out, or among the entries held; the others were dropped.
@@ -156,17 +134,6 @@ pub record Places (acts : History) (last : State) : Type 0 where
 -- A history is accounted for by its replies and the state after it.
 abbrev pub Accounted : Limits → Policy → History → Type 0
 Accounted limits policy acts = Places acts (state_after limits policy acts)
-
--- how often a number stands among entries
-abbrev pub times : ℕ → List Entry → ℕ
-times number entries = count_by (λ e. e.number == number) entries
-
--- A number stands once, in the journal of one swap, in what one deletion took out, or among the entries held.
-abbrev pub StandsOnce : History → ℕ → Type 0
-StandsOnce acts number =
-    sum_by (λ f. times number f.journal) (flushes acts)
-    + sum_by (λ m. times number (taken_out m.held m.act.event m.act.reply)) (acts_over [] acts)
-    + times number (held_after acts) ≡ 1
 
 -- Summaries are documented: the tables that the swaps answered are those of the flushes, and each tells its journal; the rows of
 -- the state tell the entries held, and its number of listed samples is theirs.

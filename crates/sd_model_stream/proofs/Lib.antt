@@ -1,4 +1,1 @@
-pub mod SplitLemmas
-pub mod CutLemmas
 pub mod StreamLemmas
-pub mod PartLemmas

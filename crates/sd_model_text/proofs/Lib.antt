@@ -1,14 +1,8 @@
-pub mod BeforeLemmas
-pub mod CutLemmas
 pub mod Cuts
 pub mod Digits
-pub mod GoodLemmas
-pub mod GrammarLemmas
 pub mod ListLemmas
 pub mod NamesLemmas
 pub mod PartLemmas
-pub mod PieceCounts
-pub mod PieceLemmas
 pub mod Places
 pub mod Rounding
 pub mod Trims

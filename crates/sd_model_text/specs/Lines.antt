@@ -1,7 +1,6 @@
 -- Datagrams and lines: the pieces of a datagram, and the sample of a piece. The form of a piece is that of a line of
 -- StatsD, `NAME:VALUE|TYPE`, with or without `|@RATE` behind it; a line may have several values behind its name.
-use Rattle.std.specs.Prelude.{ℕ, ◌+◌, ◌^◌, ◌==◌, ◌&&◌, ◌||◌, Bool, true, false, not, nat_lt, nat_le, ℤ, pos, negsuc, unsigned_abs, int_lt, List, [], ◌∷◌, ◌++◌, length, map, filter, flat_map, if◌then◌else◌, Option, Some, None, Result, Ok, Err, slice_get, unwrap_or, option_map, ok_or, filter_map, count_by, codes}
-use Rattle.std.specs.List.{list_any}
+use Rattle.std.specs.Prelude.{ℕ, ◌^◌, ◌==◌, ◌&&◌, Bool, true, false, not, nat_lt, nat_le, ℤ, pos, negsuc, unsigned_abs, int_lt, List, [], ◌∷◌, ◌++◌, length, map, filter, flat_map, if◌then◌else◌, Option, Some, None, Result, Ok, Err, slice_get, unwrap_or, option_map, ok_or, filter_map, count_by, codes}
 use Rattle.std.specs.Str.{bytes_eq}
 use Rattle.sd_model_text.specs.Lists.{is_white_space, trim_end, split, cut_at, Cut}
 use Rattle.sd_model_text.specs.Names.{Kind, Counter, Timer, Gauge, Set, KeyFault, clean}
@@ -144,10 +143,6 @@ is_below_zero kind v = false
 abbrev pub is_long_member : Kind → List ℕ → Bool
 is_long_member Set text = nat_lt 128 (length text)
 is_long_member kind text = false
-
--- whether a byte stands in a list
-abbrev pub has_byte : ℕ → List ℕ → Bool
-has_byte byte xs = list_any (λ x. x == byte) xs
 
 -- whether there is a fourth field
 abbrev pub is_over : List (List ℕ) → Bool

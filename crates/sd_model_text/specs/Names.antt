@@ -1,5 +1,5 @@
 -- Names of metrics, and their kinds.
-use Rattle.std.specs.Prelude.{◌≡◌, ℕ, ◌-◌, ◌*◌, ◌%◌, ◌^◌, Bool, false, ◌==◌, ◌||◌, ◌&&◌, if◌then◌else◌, nat_eq, nat_le, List, [], ◌∷◌, ◌++◌, length, take, map, filter, fold, bit_xor, Result, Ok, Err}
+use Rattle.std.specs.Prelude.{ℕ, ◌-◌, ◌*◌, ◌%◌, ◌^◌, Bool, false, ◌==◌, ◌||◌, ◌&&◌, if◌then◌else◌, nat_eq, nat_le, List, [], ◌∷◌, length, take, map, filter, fold, bit_xor, Result, Ok, Err}
 use Rattle.std.specs.List.{starts_with, ends_with}
 use Rattle.std.specs.Str.{bytes_eq}
 use Rattle.sd_model_text.specs.Lists.{is_white_space}
@@ -74,7 +74,3 @@ matches pattern key =
 abbrev pub is_part : List ℕ → List ℕ → Bool
 is_part part [] = starts_with nat_eq [] part
 is_part part (b ∷ key) = starts_with nat_eq (b ∷ key) part || is_part part key
-
--- a part stands somewhere in a key
-abbrev pub HasPart : List ℕ → List ℕ → Type 0
-HasPart key part = (front : List ℕ) × (back : List ℕ) × (key ≡ front ++ part ++ back)

@@ -1,9 +1,9 @@
 -- Numbers are whole millionths: 1 stands for 0.000001.
-use Rattle.std.specs.Prelude.{◌≡◌, ℕ, ◌+◌, ◌*◌, ◌/◌, ◌%◌, ◌^◌, ◌==◌, ◌&&◌, ◌||◌, Bool, true, false, nat_lt, nat_le, int_lt, if◌then◌else◌, ℤ, pos, negsuc, ◌*ℤ◌, List, [], ◌∷◌, ◌++◌, length, drop, map, Option, Some, None, Result, Ok, Err}
+use Rattle.std.specs.Prelude.{ℕ, ◌+◌, ◌*◌, ◌/◌, ◌%◌, ◌^◌, ◌==◌, ◌&&◌, ◌||◌, Bool, true, false, nat_lt, nat_le, int_lt, if◌then◌else◌, ℤ, pos, negsuc, ◌*ℤ◌, List, [], ◌∷◌, ◌++◌, length, drop, map, Option, Some, None, Result, Ok, Err}
 use Rattle.std.proofs.Common.{suc, neg_ℤ}
 use Rattle.std.specs.Char.{is_ascii_digit}
 use Rattle.std.specs.Fmt.{decimal}
-use Rattle.std.specs.List.{list_all, list_any, position_or_len, before_first, after_first}
+use Rattle.std.specs.List.{list_all, position_or_len, before_first, after_first}
 use Rattle.std.specs.Str.Parse.{digits_value}
 use Rattle.sd_model_text.specs.Lists.{trim_end}
 
@@ -101,10 +101,6 @@ magnitude_of_sides whole fraction exponent =
 -- whether a byte is `e` or `E`, which an exponent begins with
 abbrev pub is_mark : ℕ → Bool
 is_mark b = b == 101 || b == 69
-
--- a text has no such byte
-abbrev pub HasNoMark : List ℕ → Type 0
-HasNoMark text = list_any is_mark text ≡ false
 
 -- what an exponent says behind its mark: an optional sign, and one to four digits
 abbrev pub exponent_behind : List ℕ → Option ℤ

@@ -6,14 +6,10 @@
 //! `sd_decimal`, `sd_key`, `sd_line`.
 #![tactic(auto)]
 
-mod grammar;
 mod names;
 mod numbers;
 
-pub use grammar::{pieces_are_good_or_bad, pieces_have_one_colon, plain_lines_stay};
-pub use names::{
-    clean_keys, clean_names, clean_twice, hash_vectors, matches_families, parts_are_told,
-};
+pub use names::{clean_keys, clean_names, clean_twice, hash_vectors, matches_families};
 pub use numbers::{
     rounding_is_exact, rounding_is_monotone, rounding_is_near, rounding_is_symmetric,
 };

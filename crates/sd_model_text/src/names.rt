@@ -1,6 +1,6 @@
 ghost use Rattle.std.specs.Prelude.{◌≡◌, ◌≢◌, ◌↔◌, ℕ, ◌<◌, ◌≤◌, List, [], ◌∷◌, ◌++◌, length, Ok, IsTrue, codes};
 ghost use Rattle.std.specs.List.{AllPass};
-ghost use Rattle.sd_model_text.specs.Names.{clean, fnv1a, is_name_byte, is_part, matches, HasPart};
+ghost use Rattle.sd_model_text.specs.Names.{clean, fnv1a, is_name_byte, matches};
 
 /// A name that was cleaned is its own clean form.
 pub fn clean_twice()
@@ -23,11 +23,6 @@ pub fn clean_names()
 pub fn matches_families()
     ensures family { (front key : List ℕ) → IsTrue (matches (front ++ 46 ∷ 42 ∷ []) key) ↔ ((rest : List ℕ) × (key ≡ front ++ 46 ∷ rest)) }
     ensures alone { (pattern key : List ℕ) → ((front : List ℕ) → pattern ≢ front ++ 46 ∷ 42 ∷ []) → IsTrue (matches pattern key) ↔ (key ≡ pattern) }
-{}
-
-/// The test by places tells just whether a part stands in a key.
-pub fn parts_are_told()
-    ensures { (part key : List ℕ) → IsTrue (is_part part key) ↔ HasPart key part }
 {}
 
 /// The hashes of three texts are the published ones.

@@ -1,5 +1,5 @@
 ghost use Rattle.std.specs.Prelude.{◌≡◌, OnErr, OnOk};
-ghost use Rattle.sd_model_outside.specs.Outside.{raised};
+ghost use Rattle.sd_outside.specs.Turns.{raised};
 
 use crate::log_text::address_text;
 use crate::moments::now;

@@ -1,5 +1,5 @@
 ghost use Rattle.std.specs.Prelude.{◌≡◌, ◌≤◌};
-ghost use Rattle.sd_model_outside.specs.Outside.{raised};
+ghost use Rattle.sd_outside.specs.Turns.{raised};
 
 use sd_outside::{Address, Name, OpenRefusal, opening_fault};
 use std::io::{Error, ErrorKind};

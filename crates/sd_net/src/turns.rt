@@ -1,5 +1,5 @@
 ghost use Rattle.std.specs.Prelude.{◌≡◌, ◌≤◌};
-ghost use Rattle.sd_model_outside.specs.Outside.{raised};
+ghost use Rattle.sd_outside.specs.Turns.{raised};
 
 /// Counts a turn of an object, up to 2^64 - 1.
 pub(crate) fn take_turn(turns: &mut u64)

@@ -1,9 +1,10 @@
 -- The lists of a backend whose rounds were counted.
 use Rattle.std.proofs.Common.{◌≡◌, ◌≢◌, ℕ, ◌+◌, List, [], ◌∷◌, ◌++◌, map, refl, ap, ◌∙◌, Option, Some, arith}
 use Rattle.std.proofs.lemmas.List.Sums.{sum_by-cons}
-use Rattle.sd_model_outside.specs.Outside.{Object, Round, Rounds, lists_of, told_lists}
-use Rattle.sd_model_outside.specs.Deliveries.{Mark, NotUsed, Written, Fault, fault_of, Delivery, missed, whole_list, LeavesLists, LeaveLists}
-use Rattle.sd_model_outside.proofs.DeliveryLemmas.{all_told}
+use Rattle.sd_model_outside.specs.Outside.{Object, Round, Rounds, lists_of}
+use Rattle.sd_outlet.specs.Lists.{told_lists, whole_list, LeavesLists, LeaveLists}
+use Rattle.sd_model_outside.specs.Deliveries.{Mark, NotUsed, Written, Fault, fault_of, Delivery, missed}
+use Rattle.sd_outlet.proofs.ToldLemmas.{all_told}
 use Rattle.sd_outlet.specs.declared.worked.Worked.{Worked}
 use Rattle.sd_outlet.specs.Worked.{EachUsed, HasListsOf, HasWorked}
 

@@ -6,3 +6,4 @@ pub mod OutBuf
 pub mod Worked
 pub mod Feed
 pub mod Drain
+pub mod Lists

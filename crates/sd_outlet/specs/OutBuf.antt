@@ -1,6 +1,7 @@
 -- What contracts read of a buffer that is out, and what a write does to it.
 use Rattle.std.specs.Prelude.{◌≡◌, ℕ, ◌-◌, ◌<◌, List, [], length, take, min, None}
-use Rattle.sd_model_outside.specs.Outside.{Object, Buffer, HasFailed, given, last_count, object_of, raised}
+use Rattle.sd_model_outside.specs.Outside.{Object, Buffer, HasFailed, given, last_count, object_of}
+use Rattle.sd_outside.specs.Turns.{raised}
 use Rattle.sd_outlet.specs.Buf.{text_of, size_of}
 use Rattle.sd_outlet.specs.declared.out_buf.OutBuf.{OutBuf}
 

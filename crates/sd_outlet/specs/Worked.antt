@@ -1,7 +1,8 @@
 -- What a count of rounds says of the texts that were written.
 use Rattle.std.specs.Prelude.{◌≡◌, ◌≢◌, ℕ, List, [], ◌∷◌, map, length, min}
 use Rattle.sd_model_outside.specs.Outside.{Object, Round, Told, last_count}
-use Rattle.sd_model_outside.specs.Deliveries.{NotUsed, Delivery, AfterDeliveries, HasLists, missed, texts_written}
+use Rattle.sd_model_outside.specs.Deliveries.{NotUsed, Delivery, AfterDeliveries, missed}
+use Rattle.sd_outlet.specs.Lists.{HasLists, texts_written}
 use Rattle.sd_outlet.specs.declared.worked.Worked.{Worked}
 
 -- each is of a backend that is used

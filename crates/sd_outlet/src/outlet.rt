@@ -1,7 +1,8 @@
 //! The calls of an outlet.
 ghost use Rattle.std.specs.Prelude.{◌≡◌, ◌<◌, ◌≤◌, ◌^◌, ◌+◌, ℕ, List, true, false, [], ◌∷◌, ◌++◌, length, None, Some, IfOk, IfSome, IfNone, IsSome, OnOk, OnErr};
 ghost use Rattle.crossbeam_queue.specs.Passes.{view, IsPassOf};
-ghost use Rattle.sd_model_outside.specs.Outside.{RoseBy, raised};
+ghost use Rattle.sd_model_outside.specs.Outside.{RoseBy};
+ghost use Rattle.sd_outside.specs.Turns.{raised};
 ghost use Rattle.sd_outlet.specs.Buf.{size_of};
 ghost use Rattle.sd_outlet.specs.OutBuf.{text_in};
 ghost use Rattle.sd_outlet.specs.Queue.{pass_view};

@@ -1,6 +1,6 @@
 ghost use Rattle.std.specs.Prelude.{◌≡◌, ℕ, List, ◌++◌, map, Option, Some};
-ghost use Rattle.sd_model_outside.specs.Outside.{Object, Round, Rounds, lists_of, told_lists};
-ghost use Rattle.sd_model_outside.specs.Deliveries.{whole_list};
+ghost use Rattle.sd_model_outside.specs.Outside.{Object, Round, Rounds, lists_of};
+ghost use Rattle.sd_outlet.specs.Lists.{told_lists, whole_list};
 ghost use Rattle.sd_outlet.specs.declared.worked.Worked.{Worked as Count};
 ghost use Rattle.sd_outlet.specs.Worked.{HasListsOf, HasWorked};
 

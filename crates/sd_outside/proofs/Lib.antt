@@ -1,3 +1,4 @@
 pub mod AddressLemmas
 pub mod ReadLemmas
 pub mod WriteLemmas
+pub mod NothingWritten

@@ -1,6 +1,7 @@
 -- What holds by what an object answered.
 use Rattle.std.specs.Prelude.{◌≡◌, ℕ, List, []}
-use Rattle.sd_model_outside.specs.Outside.{Object, HasFailed, raised}
+use Rattle.sd_model_outside.specs.Outside.{Object, HasFailed}
+use Rattle.sd_outside.specs.Turns.{raised}
 use Rattle.sd_outside.specs.declared.datagrams.Next.{Next}
 use Rattle.sd_outside.specs.declared.datagrams.Next.TheVariants as next
 use Rattle.sd_outside.specs.declared.beat.Tick.{Tick}

@@ -2,3 +2,4 @@ pub mod Answers
 pub mod CountSink
 pub mod Intervals
 pub mod Places
+pub mod Turns

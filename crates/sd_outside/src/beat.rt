@@ -1,6 +1,7 @@
 ghost use Rattle.std.specs.Prelude.{◌≡◌, ◌≤◌};
 ghost use Rattle.sd_model_outside.specs.Outside.{HasFailed, last_count};
-ghost use Rattle.sd_model_outside.specs.Turns.{GivesTick, IsSpent, with_interval};
+ghost use Rattle.sd_model_outside.specs.Turns.{IsSpent, with_interval};
+ghost use Rattle.sd_outside.specs.Turns.{GivesTick};
 ghost use Rattle.sd_outside.specs.Answers.{MatchTick};
 ghost use Rattle.sd_outside.specs.Intervals.{interval_view};
 

@@ -1,6 +1,7 @@
 ghost use Rattle.std.specs.Prelude.{◌≡◌, ◌≤◌, length, take};
 ghost use Rattle.sd_model_outside.specs.Outside.{HasFailed, last_count};
-ghost use Rattle.sd_model_outside.specs.Turns.{GivesDatagram, IsSpent, most_datagram, turned};
+ghost use Rattle.sd_model_outside.specs.Turns.{IsSpent};
+ghost use Rattle.sd_outside.specs.Turns.{GivesDatagram, most_datagram, turned};
 ghost use Rattle.sd_outside.specs.Answers.{MatchNext};
 
 use crate::opens::Opens;

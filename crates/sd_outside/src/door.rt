@@ -1,6 +1,7 @@
 ghost use Rattle.std.specs.Prelude.{◌≡◌, ◌≤◌, true, false};
 ghost use Rattle.sd_model_outside.specs.Outside.{HasFailed, last_count};
-ghost use Rattle.sd_model_outside.specs.Turns.{GivesSession, HasLeft, IsSpent, turned};
+ghost use Rattle.sd_model_outside.specs.Turns.{IsSpent};
+ghost use Rattle.sd_outside.specs.Turns.{GivesSession, HasLeft, turned};
 ghost use Rattle.sd_outside.specs.Answers.{MatchEntry};
 
 use crate::opens::Opens;

@@ -1,5 +1,6 @@
 ghost use Rattle.std.specs.Prelude.{◌≡◌, ◌<◌, ◌≤◌, length, take, IfOk, OnOk, OnErr};
-ghost use Rattle.sd_model_outside.specs.Outside.{HasFailed, HasFailedBehind, FitsLastCount, given};
+ghost use Rattle.sd_model_outside.specs.Outside.{HasFailed, HasFailedBehind, given};
+ghost use Rattle.sd_outside.specs.Turns.{FitsLastCount};
 
 use crate::opens::{Failed, Faulty};
 

@@ -15,7 +15,7 @@ pub struct Calculated {
 
 impl Model for Calculated {
     ghost use Rattle.std.specs.Prelude.{ℕ, List};
-    ghost use Rattle.sd_model_settings.specs.Ranges.{AreClassNames};
+    ghost use Rattle.sd_law_settings.specs.Ranges.{AreClassNames};
     ghost use Rattle.sd_plan.specs.Values.{name_bytes};
 
     ghost Value = { List (List ℕ) };
@@ -33,7 +33,7 @@ fn is_among(name: &[u8], names: &[Name]) -> bool
 }
 
 impl Calculated {
-    ghost use Rattle.sd_model_settings.specs.Ranges.{AreClassNames};
+    ghost use Rattle.sd_law_settings.specs.Ranges.{AreClassNames};
     ghost use Rattle.sd_model_settings.specs.Entries.{sends};
     ghost use Rattle.sd_plan.specs.Values.{IsSetting, name_bytes};
     ghost use Rattle.sd_plan.specs.Calculated.{class_of};

@@ -11,7 +11,7 @@ pub struct Histograms {
 impl Model for Histograms {
     ghost use Rattle.std.specs.Prelude.{List, map};
     ghost use Rattle.sd_model_settings.specs.Entries.{Classes as ModelClasses};
-    ghost use Rattle.sd_model_settings.specs.Ranges.{AreHistograms};
+    ghost use Rattle.sd_law_settings.specs.Ranges.{AreHistograms};
     ghost use Rattle.sd_plan.specs.Entries.{classes_view};
 
     ghost Value = { List ModelClasses };
@@ -23,7 +23,7 @@ impl Model for Histograms {
 
 impl Histograms {
     ghost use Rattle.std.specs.Prelude.{◌≡◌, map};
-    ghost use Rattle.sd_model_settings.specs.Ranges.{AreHistograms};
+    ghost use Rattle.sd_law_settings.specs.Ranges.{AreHistograms};
     ghost use Rattle.sd_plan.specs.Entries.{classes_view};
     ghost use Rattle.sd_plan.specs.Values.{IsSetting};
 

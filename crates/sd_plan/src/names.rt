@@ -1,6 +1,6 @@
 ghost use Rattle.std.specs.Prelude.{◌≡◌, ◌<◌, length};
 ghost use Rattle.sd_model_settings.specs.Settings.{names_of, default_settings};
-ghost use Rattle.sd_model_settings.specs.Ranges.{IsPrefix, NamespaceInRange};
+ghost use Rattle.sd_law_settings.specs.Ranges.{IsPrefix, NamespaceInRange};
 ghost use Rattle.sd_plan.specs.Names.{namespace_view};
 ghost use Rattle.sd_plan.specs.Values.{IsSetting};
 
@@ -30,7 +30,7 @@ pub struct Names {
 impl Model for Names {
     ghost use Rattle.std.specs.Prelude.{◌<◌, length};
     ghost use Rattle.sd_model_settings.specs.Settings.{Names as ModelNames};
-    ghost use Rattle.sd_model_settings.specs.Ranges.{IsPrefix, NamespaceInRange};
+    ghost use Rattle.sd_law_settings.specs.Ranges.{IsPrefix, NamespaceInRange};
     ghost use Rattle.sd_plan.specs.Names.{namespace_view};
 
     ghost Value = { ModelNames };
@@ -55,7 +55,7 @@ impl Names {
     }
 
     /// The names that the defaults make.
-    #[tactic(auto, using(sd_model_settings::proofs::DefaultsInRange::defaults_in_range), unfolding(sd_model_settings::proofs::OnLiterals::defaults_on_literals))]
+    #[tactic(auto, using(sd_law_settings::proofs::DefaultsInRange::defaults_in_range), unfolding(sd_model_settings::proofs::OnLiterals::defaults_on_literals))]
     pub fn plain() -> Names
         ensures { result ≡ names_of default_settings }
     {

@@ -1,4 +1,4 @@
-ghost use Rattle.sd_model_settings.specs.Ranges.{IsWithin};
+ghost use Rattle.sd_law_settings.specs.Ranges.{IsWithin};
 
 use crate::calculated::Calculated;
 use crate::histograms::Histograms;
@@ -23,7 +23,7 @@ impl Reckoning {
     ghost use Rattle.sd_plan.specs.Plan.{plan_view};
 
     /// What the defaults make: 10 seconds, the threshold 90, no bins, and all lines of timers.
-    #[tactic(auto, using(sd_model_settings::proofs::DefaultsInRange::defaults_in_range), unfolding(sd_model_settings::proofs::OnLiterals::defaults_on_literals))]
+    #[tactic(auto, using(sd_law_settings::proofs::DefaultsInRange::defaults_in_range), unfolding(sd_model_settings::proofs::OnLiterals::defaults_on_literals))]
     pub fn plain() -> Reckoning
         ensures { plan_view result ≡ plan_of default_settings }
     {

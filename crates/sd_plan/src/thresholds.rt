@@ -11,7 +11,7 @@ pub struct Thresholds {
 
 impl Model for Thresholds {
     ghost use Rattle.std.specs.Prelude.{ℤ, List};
-    ghost use Rattle.sd_model_settings.specs.Ranges.{AreThresholds};
+    ghost use Rattle.sd_law_settings.specs.Ranges.{AreThresholds};
     ghost use Rattle.sd_plan.specs.Values.{micros};
 
     ghost Value = { List ℤ };
@@ -23,7 +23,7 @@ impl Model for Thresholds {
 
 impl Thresholds {
     ghost use Rattle.std.specs.Prelude.{◌≡◌};
-    ghost use Rattle.sd_model_settings.specs.Ranges.{AreThresholds};
+    ghost use Rattle.sd_law_settings.specs.Ranges.{AreThresholds};
     ghost use Rattle.sd_plan.specs.Values.{IsSetting, micros};
 
     /// Thresholds that are in range.

@@ -6,7 +6,7 @@ use Rattle.std.proofs.lemmas.List.{length-map}
 use Rattle.sd_turn.specs.Lists.{span}
 use Rattle.sd_model_shard.specs.History.{History}
 use Rattle.sd_model_serve.specs.Receiving.{flusher, administrator, acts_by}
-use Rattle.sd_model_serve.specs.Rounds.{JoinsAs}
+use Rattle.sd_pool.specs.Adding.{JoinsAs}
 use Rattle.sd_pool.specs.Pool.{ShardHistory, limits_of, own_at, policy_of, who_is}
 use Rattle.sd_pool.specs.declared.pool.Pool.{Pool}
 use Rattle.sd_pool.specs.declared.seat.Seat.{Seat}

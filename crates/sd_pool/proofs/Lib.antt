@@ -10,3 +10,4 @@ mod SeatLemmas
 mod StandsLemmas
 mod ToldLemmas
 mod WhoLemmas
+pub mod ActsLemmas

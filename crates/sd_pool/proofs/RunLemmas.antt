@@ -8,7 +8,7 @@ use Rattle.sd_model_text.specs.Lines.{Sample}
 use Rattle.sd_model_shard.specs.Shard.{Limits, Policy, State, Submit, empty_state, step}
 use Rattle.sd_model_shard.specs.History.{Act, History, Legal, LegalFrom, after, after_all, state_after, part_of}
 use Rattle.sd_model_shard.proofs.HistoryLemmas.{LegalFrom-answered}
-use Rattle.sd_model_serve.specs.Receiving.{Adds}
+use Rattle.sd_pool.specs.Adding.{Adds}
 use Rattle.sd_batch.specs.declared.counts.Counts.{Counts}
 use Rattle.sd_batch.specs.Batch.{Waiting}
 use Rattle.sd_batch.specs.Runs.{CountsRun, run_at, submissions, submitted}

@@ -3,7 +3,8 @@ use Rattle.std.specs.Prelude.{◌≡◌, ◌≢◌, ℕ, List, [], map, All}
 use Rattle.sd_model_text.specs.Lines.{Sample}
 use Rattle.sd_model_shard.specs.Shard.{Submit}
 use Rattle.sd_model_shard.specs.History.{Act, History}
-use Rattle.sd_model_serve.specs.Receiving.{Adds, events_of}
+use Rattle.sd_model_serve.specs.Receiving.{events_of}
+use Rattle.sd_pool.specs.Adding.{Adds}
 use Rattle.sd_batch.specs.declared.counts.Counts.{Counts}
 use Rattle.sd_batch.specs.Runs.{CountsRun, run_at}
 use Rattle.sd_pool.specs.Pool.{ActsAll, own_at, shards_of, who_is}

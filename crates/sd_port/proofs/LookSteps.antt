@@ -3,8 +3,8 @@ use Rattle.std.proofs.Common.{◌≡◌, ◌∙◌, ℕ, List, [], ◌∷◌, �
 use Rattle.std.specs.Prelude.{None, Some, slice_get}
 use Rattle.std.specs.List.{last_or}
 use Rattle.std.proofs.lemmas.List.{map-append}
-use Rattle.sd_model_live.specs.Proxy.{Begins, last_place}
-use Rattle.sd_model_live.proofs.LookLemmas.{answered_more, begun, last_at, none_answered, one_answered}
+use Rattle.sd_live.specs.Looks.{Begins, last_place}
+use Rattle.sd_live.proofs.LookLemmas.{answered_more, begun, last_at, none_answered, one_answered}
 use Rattle.sd_port.specs.Doing.{LooksFor}
 
 -- what looks were told stands where the history went on

@@ -2,7 +2,7 @@
 use Rattle.std.specs.Prelude.{◌≡◌, ℕ, List, ◌++◌, map, slice_get, Some}
 use Rattle.sd_model_live.specs.Desk.{ProxyEvent}
 use Rattle.sd_model_live.specs.Port.{PortExchange, line_events, line_looks}
-use Rattle.sd_model_live.specs.Proxy.{HaveAnswered}
+use Rattle.sd_live.specs.Looks.{HaveAnswered}
 use Rattle.sd_live.specs.Live.{IsPassOf, looks_of, publishes, seen}
 use Rattle.sd_proxy_desk.specs.Shared.{IsSeatOf, events_of, number_of_seat}
 use Rattle.sd_proxy_desk.specs.declared.hub.ProxyHub.{ProxyHub}

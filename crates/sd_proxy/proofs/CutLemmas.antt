@@ -6,8 +6,9 @@ use Rattle.std.proofs.lemmas.List.Sums.{sum_by-append}
 use Rattle.sd_model_outside.specs.Outside.{Object}
 use Rattle.sd_model_record.specs.Totals.{Total}
 use Rattle.sd_model_settings.specs.Entries.{Node}
-use Rattle.sd_model_stream.specs.Streams.{Cut, Cutting, CutsOn}
-use Rattle.sd_model_stream.proofs.CutLemmas.{CutsOn-next, CutsOn-none}
+use Rattle.sd_model_stream.specs.Streams.{Cut}
+use Rattle.sd_tcp.specs.Cutting.{Cutting, CutsOn}
+use Rattle.sd_tcp.proofs.CutLemmas.{CutsOn-next, CutsOn-none}
 use Rattle.sd_model_proxy.specs.LineRelays.{is_long, lines_of_cut}
 use Rattle.sd_proxy.specs.Forwarding.{AreSent, Forwards, TakesLines}
 use Rattle.sd_proxy.specs.Streaming.{SendsBytes, TakesBytes}

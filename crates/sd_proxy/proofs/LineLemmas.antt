@@ -2,8 +2,8 @@
 use Rattle.std.proofs.Common.{◌≡◌, ◌∙◌, ℕ, ◌+◌, ◌<◌, ◌^◌, true, false, List, [], ◌∷◌, ◌++◌, append-nil, length, map, refl, sym, ap, subst, arith}
 use Rattle.std.specs.List.{AllZip}
 use Rattle.std.proofs.lemmas.List.Concat.{flat_map-append}
-use Rattle.sd_model_outside.specs.Outside.{HasFailed, Object, raised}
-use Rattle.sd_model_outside.specs.Turns.{GivesSession, HasLeft, turned}
+use Rattle.sd_model_outside.specs.Outside.{HasFailed, Object}
+use Rattle.sd_outside.specs.Turns.{raised, GivesSession, HasLeft, turned}
 use Rattle.sd_model_record.specs.Totals.{Total}
 use Rattle.sd_model_settings.specs.Entries.{Node}
 use Rattle.sd_model_serve.specs.Doors.{IsFaultOf, Visit}

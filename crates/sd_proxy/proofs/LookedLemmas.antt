@@ -11,8 +11,8 @@ use Rattle.sd_model_settings.specs.Entries.{Node}
 use Rattle.sd_model_proxy.specs.Batches.{add_totals, no_totals}
 use Rattle.sd_model_proxy.specs.Routes.{Read}
 use Rattle.sd_model_live.specs.Desk.{CountsFor, CountsRead, ProxyEvent}
-use Rattle.sd_model_live.specs.Proxy.{HaveAnswered}
-use Rattle.sd_model_live.proofs.LookLemmas.{answered_more}
+use Rattle.sd_live.specs.Looks.{HaveAnswered}
+use Rattle.sd_live.proofs.LookLemmas.{answered_more}
 use Rattle.sd_proxy.specs.Forwarding.{Forwards}
 use Rattle.sd_proxy.specs.Looking.{Counted, Looked, PassSeen, SendsByLooks}
 use Rattle.sd_proxy_desk.specs.Views.{totals_view}

@@ -5,8 +5,9 @@ use Rattle.std.specs.List.{AllZip, last_or}
 use Rattle.std.proofs.lemmas.List.{map-append}
 use Rattle.std.proofs.lemmas.List.Elements.{All-nil, All-cons, All-append}
 use Rattle.std.proofs.lemmas.List.Sums.{fold_push}
-use Rattle.sd_model_outside.specs.Outside.{Object, Told, Datagrams, HasFailed, Rose, last_count, raised}
-use Rattle.sd_model_outside.specs.Turns.{GivesDatagram, IsSpent, turned, with_datagrams}
+use Rattle.sd_model_outside.specs.Outside.{Object, Told, Datagrams, HasFailed, Rose, last_count}
+use Rattle.sd_outside.specs.Turns.{raised, GivesDatagram, turned}
+use Rattle.sd_model_outside.specs.Turns.{IsSpent, with_datagrams}
 use Rattle.sd_model_outside.proofs.TurnLemmas.{with_datagrams-append}
 use Rattle.sd_model_settings.specs.Entries.{Node}
 use Rattle.sd_model_serve.specs.Ends.{EndsReceiver, most_turns}
@@ -15,8 +16,8 @@ use Rattle.sd_model_proxy.specs.Batches.{add_totals, no_totals, totals_of}
 use Rattle.sd_model_proxy.specs.Relays.{IsReadOf, IsRelay, Relay, relay_totals}
 use Rattle.sd_model_record.specs.Totals.{Total}
 use Rattle.sd_model_live.specs.Desk.{CountsFor, CountsRead, ProxyEvent}
-use Rattle.sd_model_live.specs.Proxy.{Begins, HaveAnswered, last_place}
-use Rattle.sd_model_live.proofs.LookLemmas.{answered_more, begun, last_at, none_answered, one_answered}
+use Rattle.sd_live.specs.Looks.{Begins, HaveAnswered, last_place}
+use Rattle.sd_live.proofs.LookLemmas.{answered_more, begun, last_at, none_answered, one_answered}
 use Rattle.sd_proxy.specs.Forwarding.{Forwards, datagram_read}
 use Rattle.sd_proxy.specs.Looking.{Counted, Looked, PassSeen}
 use Rattle.sd_proxy.specs.Proxying.{Proxies, ProxiesByLooks, RelaySeen}

@@ -10,8 +10,9 @@ use Rattle.sd_model_outside.proofs.OutsideLemmas.{Reads-nil}
 use Rattle.sd_model_record.specs.Totals.{Total}
 use Rattle.sd_model_settings.specs.Entries.{Node}
 use Rattle.sd_model_serve.specs.Ends.{most_turns}
-use Rattle.sd_model_stream.specs.Streams.{AtEnd, Cut, Cutting, Failed, HasCut, ReadsStream, Stream, WornOut, nothing_cut, stream_lines}
-use Rattle.sd_model_stream.proofs.CutLemmas.{HasCut-none, all_given}
+use Rattle.sd_model_stream.specs.Streams.{AtEnd, Cut, Failed, ReadsStream, Stream, WornOut, stream_lines}
+use Rattle.sd_tcp.specs.Cutting.{Cutting, HasCut, nothing_cut}
+use Rattle.sd_tcp.proofs.CutLemmas.{HasCut-none, all_given}
 use Rattle.sd_model_stream.proofs.StreamLemmas.{concat-push}
 use Rattle.sd_model_proxy.specs.Batches.{add_totals, no_totals}
 use Rattle.sd_model_proxy.specs.LineRelays.{IsReadOfLines, lines_ended}

@@ -7,7 +7,7 @@ use Rattle.sd_model_settings.specs.Entries.{Node}
 use Rattle.sd_model_proxy.specs.Batches.{add_totals, no_totals}
 use Rattle.sd_model_proxy.specs.Routes.{Read}
 use Rattle.sd_model_live.specs.Desk.{CountsFor, CountsRead, ProxyEvent}
-use Rattle.sd_model_live.specs.Proxy.{HaveAnswered}
+use Rattle.sd_live.specs.Looks.{HaveAnswered}
 use Rattle.sd_live.specs.Live.{looks_of, seen}
 use Rattle.sd_proxy_desk.specs.Shared.{events_of}
 use Rattle.sd_proxy_desk.specs.declared.hub.ProxyPass.{ProxyPass}

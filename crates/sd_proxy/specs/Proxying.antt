@@ -8,7 +8,7 @@ use Rattle.sd_model_proxy.specs.LineRelays.{IsLineRelay}
 use Rattle.sd_model_proxy.specs.Relays.{IsRelay, Relay, relay_totals}
 use Rattle.sd_model_proxy.specs.Routes.{Read}
 use Rattle.sd_model_live.specs.Desk.{CountsEach, ProxyEvent}
-use Rattle.sd_model_live.specs.Proxy.{HaveAnswered}
+use Rattle.sd_live.specs.Looks.{HaveAnswered}
 use Rattle.sd_live.specs.Live.{looks_of, seen}
 use Rattle.sd_proxy_desk.specs.Ends.{door_end_view}
 use Rattle.sd_proxy_desk.specs.Shared.{events_of}

@@ -5,7 +5,8 @@ use Rattle.sd_model_outside.specs.Outside.{HasFailed, HasRead, IsAtEnd, Object}
 use Rattle.sd_model_record.specs.Totals.{Total}
 use Rattle.sd_model_settings.specs.Entries.{Node}
 use Rattle.sd_model_serve.specs.Doors.{ServesDoor, Visit}
-use Rattle.sd_model_stream.specs.Streams.{AreStreamsOf, Cut, Cutting, CutsOn, ReadsStream, Stream}
+use Rattle.sd_model_stream.specs.Streams.{AreStreamsOf, Cut, ReadsStream, Stream}
+use Rattle.sd_tcp.specs.Cutting.{Cutting, CutsOn}
 use Rattle.sd_model_proxy.specs.LineRelays.{IsReadOfLines, is_long, lines_by_read, lines_ended, lines_of_cut}
 use Rattle.sd_model_proxy.specs.Routes.{Read}
 use Rattle.sd_proxy.specs.Forwarding.{Forwards, TakesLines}

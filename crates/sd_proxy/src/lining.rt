@@ -1,5 +1,5 @@
 ghost use Rattle.std.specs.Prelude.{◌≡◌, ◌<◌, ◌^◌, ℕ, false, IfNone, IfSome, length, map};
-ghost use Rattle.sd_model_outside.specs.Outside.{raised};
+ghost use Rattle.sd_outside.specs.Turns.{raised};
 ghost use Rattle.sd_model_outside.specs.Turns.{IsSpent};
 ghost use Rattle.sd_live.specs.Live.{IsPassOf, publishes};
 ghost use Rattle.sd_proxy_desk.specs.Shared.{IsSeatOf, number_of_seat};

@@ -2,7 +2,8 @@
 use Rattle.std.proofs.Common.{◌≡◌, ◌<◌, ℕ, Bool, true, false, cond, eqb, List, [], ◌∷◌, ◌++◌, refl, sym, ap, subst, ◌∙◌}
 use Rattle.std.proofs.lemmas.List.{map_push}
 use Rattle.std.proofs.lemmas.List.Elements.{All-map, All-weaker}
-use Rattle.sd_model_live.specs.Desk.{AreActs, IsProxyHistory, IsHeard, ProxyAct, ProxyEvent, ProxyFacts, done_by, facts_after, facts_left, first_facts}
+use Rattle.sd_model_live.specs.Desk.{AreActs, IsProxyHistory, IsHeard, ProxyAct, ProxyEvent, ProxyFacts, done_by, facts_after, first_facts}
+use Rattle.sd_proxy_desk.specs.Left.{facts_left}
 use Rattle.sd_turn.specs.Entries.{entries_by, pick}
 use Rattle.sd_turn.specs.Turn as turn
 use Rattle.sd_proxy_desk.specs.declared.ask.ProxyAsk.{ProxyAsk}

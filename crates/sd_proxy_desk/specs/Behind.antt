@@ -1,6 +1,7 @@
 -- The value behind a turn, as contracts see it.
 use Rattle.std.specs.Prelude.{◌≡◌, ℕ, List}
-use Rattle.sd_model_live.specs.Desk.{IsProxyHistory, ProxyFacts, facts_left, first_facts}
+use Rattle.sd_model_live.specs.Desk.{IsProxyHistory, ProxyFacts, first_facts}
+use Rattle.sd_proxy_desk.specs.Left.{facts_left}
 use Rattle.sd_proxy_desk.specs.Asks.{acts}
 use Rattle.sd_proxy_desk.specs.declared.noted.Noted.{Noted}
 use Rattle.sd_proxy_desk.specs.declared.noted.Setup.{Setup}

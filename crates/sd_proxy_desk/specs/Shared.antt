@@ -1,6 +1,7 @@
 -- What contracts read of a proxy's desk and of its seats.
 use Rattle.std.specs.Prelude.{◌≡◌, ◌<◌, ℕ, List, [], All}
-use Rattle.sd_model_live.specs.Desk.{IsProxyHistory, ProxyAct, ProxyEvent, ProxyFacts, done_by, facts_left, first_facts}
+use Rattle.sd_model_live.specs.Desk.{IsProxyHistory, ProxyAct, ProxyEvent, ProxyFacts, done_by, first_facts}
+use Rattle.sd_proxy_desk.specs.Left.{facts_left}
 use Rattle.sd_turn.specs.declared.turn_seat.TurnSeat.{TurnSeat}
 use Rattle.sd_turn.specs.Turn as turn
 use Rattle.sd_proxy_desk.specs.Asks.{events}

@@ -2,7 +2,8 @@
 //! legal history of what those who share it did.
 //!
 //! `sd_proxy`'s receivers count each datagram there and its reader of lines each read, `sd_check`'s checker each check, and `sd_port`'s
-//! sessions ask for the facts and say the health. Each call waits for the turn. Only `open` takes memory. It sends nothing and asks no node.
+//! sessions ask for the facts and say the health. Each call waits for the turn. Only `open` takes memory. It sends nothing and asks no
+//! node.
 #![tactic(auto)]
 
 mod ask;

@@ -8,11 +8,14 @@ use Rattle.sd_model_shard.specs.History.{History}
 use Rattle.sd_model_shard.specs.Whereabouts.{dropped_in}
 use Rattle.std.proofs.lemmas.Grind.{flat_map-append}
 use Rattle.sd_model_record.specs.DeskHistory.{DeskCall, DeskEvent, Add, Look, Done}
-use Rattle.sd_model_record.specs.Counts.{Among, HasCalled, IsKeeping, IsLook, Part}
+use Rattle.sd_model_record.specs.Counts.{Among, IsKeeping}
+use Rattle.sd_shared_desk.specs.Counts.{HasCalled, IsLook, Part}
 use Rattle.sd_model_record.specs.Record.{Tally}
-use Rattle.sd_model_record.proofs.DeskLemmas.{called_next}
-use Rattle.sd_model_serve.specs.Receiving.{Addition, CountsDatagrams, FilesDatagrams, IsCountOf, IsReceiving, addition_of, additions_in, tally_of, told_in}
-use Rattle.sd_model_stream.specs.Streams.{CountsReads, Cutting, IsCountOfRead, IsLining}
+use Rattle.sd_shared_desk.proofs.DeskLemmas.{called_next}
+use Rattle.sd_model_serve.specs.Receiving.{Addition, CountsDatagrams, IsCountOf, IsReceiving, addition_of, additions_in, tally_of, told_in}
+use Rattle.sd_receive.specs.Received.{FilesDatagrams}
+use Rattle.sd_model_stream.specs.Streams.{CountsReads, IsCountOfRead, IsLining}
+use Rattle.sd_tcp.specs.Cutting.{Cutting}
 use Rattle.sd_receive.specs.Receiving.{IsFailedSend}
 use Rattle.sd_receive.specs.Streaming.{TakesBytes}
 

@@ -3,8 +3,9 @@ use Rattle.std.proofs.Common.{◌≡◌, ℕ, ◌+◌, sym, subst, arith}
 use Rattle.std.specs.Prelude.{min}
 use Rattle.sd_model_record.specs.Record.{Tally}
 use Rattle.sd_model_record.specs.Desk.{last_counted, add_tally, no_tally}
-use Rattle.sd_model_record.specs.Counts.{Count, TotalPackets, TotalLines, TotalBad, TotalDropped, TakenPackets, TakenLines, TakenBad, TakenDropped, RoundsMade, GraphiteFaults, ConsoleFaults, RepeaterFaults, AdminFaults, Amounts, Part, HasCounted, plus, of_tally, of_sends}
-use Rattle.sd_model_record.proofs.CountLemmas.{counted_next, nothing_counted}
+use Rattle.sd_model_record.specs.Counts.{Count, TotalPackets, TotalLines, TotalBad, TotalDropped, TakenPackets, TakenLines, TakenBad, TakenDropped, RoundsMade, GraphiteFaults, ConsoleFaults, RepeaterFaults, AdminFaults, Amounts}
+use Rattle.sd_shared_desk.specs.Counts.{Part, HasCounted, plus, of_tally, of_sends}
+use Rattle.sd_shared_desk.proofs.CountLemmas.{counted_next, nothing_counted}
 
 -- amounts that are the same, up to the last count
 pub record AreAlike (a b : Amounts) : Type 0 where

@@ -4,10 +4,12 @@ use Rattle.std.proofs.lemmas.List.Sums.{sum_by-cons}
 use Rattle.sd_model_shard.specs.History.{History}
 use Rattle.sd_model_record.specs.Record.{Tally}
 use Rattle.sd_model_record.specs.Desk.{add_tally, no_tally}
-use Rattle.sd_model_record.specs.Counts.{Amounts, Count, Part, HasCounted, nothing, of_tally, plus}
+use Rattle.sd_model_record.specs.Counts.{Amounts, Count}
+use Rattle.sd_shared_desk.specs.Counts.{Part, HasCounted, nothing, of_tally, plus}
 use Rattle.sd_model_record.specs.DeskHistory.{DeskCall}
 use Rattle.sd_model_serve.specs.Doors.{Visit}
-use Rattle.sd_model_stream.specs.Streams.{CountsReads, Cut, stream_lines, AreStreamsOf, FilesLines, Stream, any_worn, bytes_in, is_worn, lines_in, reads_in}
+use Rattle.sd_model_stream.specs.Streams.{CountsReads, Cut, stream_lines, AreStreamsOf, Stream, any_worn, bytes_in, is_worn, lines_in, reads_in}
+use Rattle.sd_receive.specs.Streamed.{FilesLines}
 use Rattle.sd_desk.specs.Tally.{tally_of}
 use Rattle.sd_door.specs.Keeping.{Visited}
 use Rattle.sd_pool.specs.declared.pool.Pool.{Pool}

@@ -5,11 +5,15 @@ use Rattle.std.proofs.lemmas.Grind.{flat_map-append}
 use Rattle.std.proofs.lemmas.List.Sums.{sum_by-append, sum_by-cons}
 use Rattle.sd_model_text.specs.Lines.{Sample, pieces, samples_of, bad_of}
 use Rattle.sd_model_shard.specs.History.{History}
-use Rattle.sd_model_shard.specs.Whereabouts.{taken_in, dropped_in}
+use Rattle.sd_model_shard.specs.Whereabouts.{dropped_in}
+use Rattle.sd_law_shard.specs.Sums.{taken_in}
 use Rattle.sd_model_record.specs.Record.{Tally}
 use Rattle.sd_model_record.specs.Desk.{last_counted, add_tally, no_tally, counted}
-use Rattle.sd_model_serve.specs.Receiving.{Adds, asks, events_of, told_in, HasFiled, FilesDatagrams, tally_of}
-use Rattle.sd_model_serve.proofs.ActsLemmas.{Adds-none, Adds-next, asks-append}
+use Rattle.sd_model_serve.specs.Receiving.{asks, events_of, told_in, tally_of}
+use Rattle.sd_pool.specs.Adding.{Adds}
+use Rattle.sd_receive.specs.Received.{HasFiled, FilesDatagrams}
+use Rattle.sd_model_serve.proofs.ActsLemmas.{asks-append}
+use Rattle.sd_pool.proofs.ActsLemmas.{Adds-none, Adds-next}
 use Rattle.sd_filing.specs.declared.filing.Filed.{Filed}
 use Rattle.sd_filing.specs.Filing.{FilesDatagram}
 use Rattle.sd_filing.proofs.ToldLemmas.{ArePlaced-append, events_of-append, told_in-append, told_in-none}

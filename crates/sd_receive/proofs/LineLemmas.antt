@@ -5,13 +5,18 @@ use Rattle.std.proofs.lemmas.Grind.{flat_map-append}
 use Rattle.std.proofs.lemmas.List.Sums.{count_by-le-length, sum_by-append, sum_by-cons}
 use Rattle.sd_model_text.specs.Lines.{Sample, bad_of, is_bad, pieces, reading, samples_of}
 use Rattle.sd_model_shard.specs.History.{History}
-use Rattle.sd_model_shard.specs.Whereabouts.{taken_in, dropped_in}
+use Rattle.sd_model_shard.specs.Whereabouts.{dropped_in}
+use Rattle.sd_law_shard.specs.Sums.{taken_in}
 use Rattle.sd_model_record.specs.Record.{Tally}
 use Rattle.sd_model_record.specs.Desk.{add_tally, counted, last_counted, no_tally}
-use Rattle.sd_model_serve.specs.Receiving.{Adds, asks, told_in, HasFiled, tally_of}
-use Rattle.sd_model_serve.proofs.ActsLemmas.{Adds-none}
-use Rattle.sd_model_stream.specs.Streams.{Cut, Line, Long, samples_in, pieces_of_line, bad_of_line, FilesLines, Cutting, CutsOn}
-use Rattle.sd_model_stream.proofs.CutLemmas.{CutsOn-none, CutsOn-next}
+use Rattle.sd_model_serve.specs.Receiving.{asks, told_in, tally_of}
+use Rattle.sd_pool.specs.Adding.{Adds}
+use Rattle.sd_receive.specs.Received.{HasFiled}
+use Rattle.sd_pool.proofs.ActsLemmas.{Adds-none}
+use Rattle.sd_model_stream.specs.Streams.{Cut, Line, Long, samples_in, pieces_of_line, bad_of_line}
+use Rattle.sd_receive.specs.Streamed.{FilesLines}
+use Rattle.sd_tcp.specs.Cutting.{Cutting, CutsOn}
+use Rattle.sd_tcp.proofs.CutLemmas.{CutsOn-none, CutsOn-next}
 use Rattle.sd_filing.specs.declared.filing.Filed.{Filed}
 use Rattle.sd_filing.specs.Filing.{ReadsDatagram, SubmitsWaiting}
 use Rattle.sd_filing.proofs.ToldLemmas.{told_in-none}

@@ -10,13 +10,15 @@ use Rattle.sd_model_outside.specs.Turns.{with_datagrams}
 use Rattle.sd_model_shard.specs.History.{History}
 use Rattle.sd_model_record.specs.Record.{Tally}
 use Rattle.sd_model_record.specs.Desk.{add_tally, no_tally, counted}
-use Rattle.sd_model_record.specs.Counts.{Part, HasCalled, HasCounted, IsLook, plus, nothing, of_tally, of_sends}
+use Rattle.sd_shared_desk.specs.Counts.{Part, HasCalled, HasCounted, IsLook, plus, nothing, of_tally, of_sends}
 use Rattle.sd_model_record.specs.WireSends.{Sending, AreRepeated, failures}
-use Rattle.sd_model_record.proofs.CountLemmas.{counted_next}
-use Rattle.sd_model_record.proofs.DeskLemmas.{called_as, called_next}
-use Rattle.sd_model_record.proofs.WireLemmas.{AreRepeated-next, AreRepeated-none, AreRepeated-one, length-sent}
+use Rattle.sd_shared_desk.proofs.CountLemmas.{counted_next}
+use Rattle.sd_shared_desk.proofs.DeskLemmas.{called_as, called_next}
+use Rattle.sd_model_record.proofs.WireLemmas.{AreRepeated-next, AreRepeated-none}
+use Rattle.sd_repeater.proofs.SentLemmas.{AreRepeated-one, length-sent}
 use Rattle.sd_model_serve.specs.Ends.{most_turns}
-use Rattle.sd_model_serve.specs.Receiving.{CountsDatagrams, HasReceived, failed_sends}
+use Rattle.sd_model_serve.specs.Receiving.{CountsDatagrams, failed_sends}
+use Rattle.sd_receive.specs.Received.{HasReceived}
 use Rattle.sd_outside.specs.declared.datagrams.Ended.{Ended}
 use Rattle.sd_outside.specs.declared.datagrams.Ended.TheVariants.{End, Failed, Stopped, Worn}
 use Rattle.sd_receive.specs.Receiving.{EndsSo, TakesDatagram}

@@ -9,12 +9,15 @@ use Rattle.sd_model_outside.proofs.OutsideLemmas.{Reads-nil}
 use Rattle.sd_model_shard.specs.History.{History}
 use Rattle.sd_model_record.specs.Record.{Tally}
 use Rattle.sd_model_record.specs.Desk.{add_tally, counted, no_tally}
-use Rattle.sd_model_record.specs.Counts.{Count, Part, HasCalled, HasCounted, nothing, plus, of_sends, of_tally}
-use Rattle.sd_model_record.proofs.CountLemmas.{counted_next, counted_none}
-use Rattle.sd_model_record.proofs.DeskLemmas.{called_next, called_none}
+use Rattle.sd_model_record.specs.Counts.{Count}
+use Rattle.sd_shared_desk.specs.Counts.{Part, HasCalled, HasCounted, nothing, plus, of_sends, of_tally}
+use Rattle.sd_shared_desk.proofs.CountLemmas.{counted_next, counted_none}
+use Rattle.sd_shared_desk.proofs.DeskLemmas.{called_next, called_none}
 use Rattle.sd_model_serve.specs.Ends.{most_turns}
-use Rattle.sd_model_stream.specs.Streams.{CountsReads, Cut, stream_lines, FilesLines, HasStreamed, ReadsStream, Stream, WornOut, Cutting, HasCut, nothing_cut}
-use Rattle.sd_model_stream.proofs.CutLemmas.{HasCut-none, all_given}
+use Rattle.sd_model_stream.specs.Streams.{CountsReads, Cut, stream_lines, ReadsStream, Stream, WornOut}
+use Rattle.sd_receive.specs.Streamed.{FilesLines, HasStreamed}
+use Rattle.sd_tcp.specs.Cutting.{Cutting, HasCut, nothing_cut}
+use Rattle.sd_tcp.proofs.CutLemmas.{HasCut-none, all_given}
 use Rattle.sd_model_stream.proofs.StreamLemmas.{concat-push}
 use Rattle.sd_outside.proofs.ReadLemmas.{reads_on}
 use Rattle.sd_receive.specs.Streaming.{CannotRead, TakesRead, end_of}

@@ -2,13 +2,15 @@
 use Rattle.std.specs.Prelude.{◌≡◌, ℕ, ◌+◌, ◌<◌, true, false, ◌||◌, List, length}
 use Rattle.sd_model_outside.specs.Outside.{Object}
 use Rattle.sd_model_shard.specs.History.{History}
-use Rattle.sd_model_record.specs.Counts.{Amounts, Part, of_tally}
+use Rattle.sd_model_record.specs.Counts.{Amounts}
+use Rattle.sd_shared_desk.specs.Counts.{Part, of_tally}
 use Rattle.sd_model_record.specs.DeskHistory.{DeskCall}
 use Rattle.sd_model_record.specs.Desk.{add_tally, counted, no_tally}
 use Rattle.sd_model_record.specs.Record.{Tally}
 use Rattle.sd_model_serve.specs.Doors.{Visit}
 use Rattle.sd_model_serve.specs.Ends.{most_turns}
-use Rattle.sd_model_stream.specs.Streams.{CountsReads, stream_lines, FilesLines, IsStreamOf, ServesStreams, Stream, any_worn, bytes_in, is_worn}
+use Rattle.sd_model_stream.specs.Streams.{CountsReads, stream_lines, IsStreamOf, Stream, any_worn, bytes_in, is_worn}
+use Rattle.sd_receive.specs.Streamed.{FilesLines, ServesStreams}
 use Rattle.sd_desk.specs.Tally.{tally_of}
 use Rattle.sd_outside.specs.declared.door.DoorEnd.TheVariants.{Worn}
 use Rattle.sd_filing.specs.Filing.{IsOpenFor}

@@ -1,7 +1,7 @@
 -- What a post has to have, and what running it leaves.
 use Rattle.std.specs.Prelude.{◌≡◌, ℕ, ◌<◌, ◌≤◌, ◌^◌, map, vec_len, Option, Some, None}
 use Rattle.sd_model_outside.specs.Outside.{Object}
-use Rattle.sd_model_outside.specs.Turns.{most_datagram}
+use Rattle.sd_outside.specs.Turns.{most_datagram}
 use Rattle.sd_outside.specs.declared.datagrams.Ended.{Ended}
 use Rattle.sd_outside.specs.declared.datagrams.Ended.TheVariants.{End}
 use Rattle.sd_filing.specs.Filing.{IsOpenFor}

@@ -1,15 +1,17 @@
 -- What a receiver did, and how it ended.
 use Rattle.std.specs.Prelude.{◌≡◌, ℕ, ◌+◌, min, Bool, List, [], ◌∷◌, Option, Some, None}
 use Rattle.sd_model_outside.specs.Outside.{Object, last_count}
-use Rattle.sd_model_outside.specs.Wires.{AreSent}
+use Rattle.sd_repeater.specs.Sent.{AreSent}
 use Rattle.sd_model_shard.specs.History.{History}
-use Rattle.sd_model_record.specs.Counts.{Part, RoundsMade, HasCalled, HasCounted, plus, of_tally, of_sends}
+use Rattle.sd_model_record.specs.Counts.{RoundsMade}
+use Rattle.sd_shared_desk.specs.Counts.{Part, HasCalled, HasCounted, plus, of_tally, of_sends}
 use Rattle.sd_model_record.specs.DeskHistory.{DeskCall, RepeaterFaults}
 use Rattle.sd_model_record.specs.Record.{Tally}
 use Rattle.sd_model_record.specs.WireSends.{failures}
 use Rattle.sd_model_serve.specs.Ends as model
 use Rattle.sd_model_serve.specs.Ends.{EndsReceiver, Spent, Enough, WornOut}
-use Rattle.sd_model_serve.specs.Receiving.{CountsDatagrams, FilesDatagrams, HasReceived}
+use Rattle.sd_model_serve.specs.Receiving.{CountsDatagrams}
+use Rattle.sd_receive.specs.Received.{FilesDatagrams, HasReceived}
 use Rattle.sd_desk.specs.Tally.{tally_of}
 use Rattle.sd_outside.specs.declared.datagrams.Ended.{Ended}
 use Rattle.sd_outside.specs.declared.datagrams.Ended.TheVariants.{End, Failed, Stopped, Worn}

@@ -3,10 +3,12 @@ use Rattle.std.specs.Prelude.{◌≡◌, ℕ, ◌<◌, List, ◌++◌, length, f
 use Rattle.sd_model_text.specs.Lines.{Sample}
 use Rattle.sd_model_outside.specs.Outside.{Object, HasFailed, HasRead, IsAtEnd}
 use Rattle.sd_model_shard.specs.History.{History}
-use Rattle.sd_model_record.specs.Counts.{Part, HasCalled, HasCounted, of_tally}
+use Rattle.sd_shared_desk.specs.Counts.{Part, HasCalled, HasCounted, of_tally}
 use Rattle.sd_model_record.specs.Record.{Tally}
-use Rattle.sd_model_serve.specs.Receiving.{HasFiled}
-use Rattle.sd_model_stream.specs.Streams.{CountsReads, Cut, FilesLines, HasStreamed, Stream, Cutting, CutsOn, samples_in, pieces_of_line, bad_of_line}
+use Rattle.sd_receive.specs.Received.{HasFiled}
+use Rattle.sd_model_stream.specs.Streams.{CountsReads, Cut, Stream, samples_in, pieces_of_line, bad_of_line}
+use Rattle.sd_receive.specs.Streamed.{FilesLines, HasStreamed}
+use Rattle.sd_tcp.specs.Cutting.{Cutting, CutsOn}
 use Rattle.sd_model_stream.specs.Streams as model
 use Rattle.sd_desk.specs.Tally.{tally_of}
 use Rattle.sd_receive.specs.declared.streamed.StreamEnd.{StreamEnd}

@@ -4,7 +4,7 @@ ghost use Rattle.sd_desk.specs.Tally.{tally_of};
 ghost use Rattle.sd_filing.specs.Filing.{HasRoomFor, IsOpenFor};
 ghost use Rattle.sd_pool.specs.Pool.{IsSeatOf, own_at, shards_of, who_is};
 ghost use Rattle.sd_tcp.specs.Cut.{IsShort, cut_view};
-ghost use Rattle.sd_model_serve.specs.Receiving.{HasFiled};
+ghost use Rattle.sd_receive.specs.Received.{HasFiled};
 ghost use Rattle.sd_receive.specs.Streaming.{ReadsBytes, ReadsLines, TakesBytes};
 
 use crate::account::Account;

@@ -1,5 +1,5 @@
 ghost use Rattle.std.specs.Prelude.{◌≡◌, ◌<◌, ◌≤◌, ◌^◌, length, map};
-ghost use Rattle.sd_model_outside.specs.Turns.{most_datagram};
+ghost use Rattle.sd_outside.specs.Turns.{most_datagram};
 ghost use Rattle.sd_model_record.specs.Desk.{counted as counted_up};
 ghost use Rattle.sd_filing.specs.Filing.{IsOpenFor};
 ghost use Rattle.sd_pool.specs.Pool.{IsSeatOf, own_at, shards_of, who_is};

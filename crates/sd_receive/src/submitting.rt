@@ -15,8 +15,8 @@ pub(crate) struct Submitting<'a, G, R> {
 }
 
 impl<'a, G: Gate, R: Wait + Log> Submit<Seat> for Submitting<'a, G, R> {
-    ghost use Rattle.sd_model_serve.specs.Receiving.{Adds};
-    ghost use Rattle.sd_model_serve.proofs.ActsLemmas.{Adds-none, Adds-next};
+    ghost use Rattle.sd_pool.specs.Adding.{Adds};
+    ghost use Rattle.sd_pool.proofs.ActsLemmas.{Adds-none, Adds-next};
     ghost use Rattle.sd_pool.specs.Pool.{IsSeatOf, own_at, shards_of, who_is};
 
     ghost shards = { λ group seat. shards_of group.pool.now };

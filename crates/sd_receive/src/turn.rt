@@ -1,14 +1,13 @@
 ghost use Rattle.std.specs.Prelude.{◌≡◌, ◌<◌, ◌≤◌, ◌^◌, length, map, IfNone, IfSome, None};
-ghost use Rattle.sd_model_outside.specs.Outside.{raised};
-ghost use Rattle.sd_model_outside.specs.Turns.{most_datagram};
-ghost use Rattle.sd_model_record.specs.Counts.{HasCalled, HasCounted, of_sends};
+ghost use Rattle.sd_outside.specs.Turns.{raised, most_datagram};
+ghost use Rattle.sd_shared_desk.specs.Counts.{HasCalled, HasCounted, of_sends};
 ghost use Rattle.std.specs.List.{AllByRecursion};
 ghost use Rattle.sd_model_record.specs.Desk.{no_tally};
 ghost use Rattle.sd_desk.specs.Tally.{tally_of};
 ghost use Rattle.sd_filing.specs.Filing.{IsOpenFor};
 ghost use Rattle.sd_pool.specs.Pool.{IsSeatOf, own_at, shards_of, who_is};
 ghost use Rattle.sd_shared_desk.specs.Shared.{IsSeatOf as IsDeskSeatOf, number_of_seat, part_of};
-ghost use Rattle.sd_model_serve.specs.Receiving.{HasReceived};
+ghost use Rattle.sd_receive.specs.Received.{HasReceived};
 ghost use Rattle.sd_receive.specs.Receiving.{EndsSo, IsFailedSend, TakesDatagram, most_read};
 
 use crate::submitting::Submitting;

@@ -4,11 +4,13 @@ use Rattle.std.specs.Prelude.{◌==◌, All, filter_map, unsigned_abs, IsTrue, �
 use Rattle.std.proofs.lemmas.Bool.{cases_Bool, false≢true}
 use Rattle.std.proofs.lemmas.List.{length-map, get_or-map}
 use Rattle.std.proofs.lemmas.List.Elements.{All-get_or}
-use Rattle.sd_model_text.specs.Names.{is_part, HasPart}
+use Rattle.sd_model_text.specs.Names.{is_part}
+use Rattle.sd_law_text.specs.Bytes.{HasPart}
 use Rattle.sd_model_text.specs.Numbers as text
 use Rattle.sd_model_text.specs.Numbers.{per_second}
-use Rattle.sd_model_text.proofs.PartLemmas.{found_part, part_found}
-use Rattle.sd_model_settings.specs.Ranges.{IsThreshold}
+use Rattle.sd_model_text.proofs.PartLemmas.{part_found}
+use Rattle.sd_law_text.proofs.PartLemmas.{found_part}
+use Rattle.sd_law_settings.specs.Ranges.{IsThreshold}
 use Rattle.sd_model_shard.specs.Values.{Bin, Part, Whole, bin, bins, pct, timer_of, whole}
 use Rattle.sd_model_settings.specs.Settings.{Plan}
 use Rattle.sd_model_record.specs.Record.{limits_for, timer_figures}

@@ -1,5 +1,5 @@
 ghost use Rattle.std.specs.Prelude.{◌≡◌, ◌≤◌, length, map, filter_map, All};
-ghost use Rattle.sd_model_settings.specs.Ranges.{IsThreshold};
+ghost use Rattle.sd_law_settings.specs.Ranges.{IsThreshold};
 ghost use Rattle.sd_model_shard.specs.Values.{pct};
 ghost use Rattle.sd_plan.specs.Values.{micros};
 ghost use Rattle.sd_stats.specs.Seen.{timer_seen};

@@ -3,3 +3,4 @@ pub mod LookLemmas
 pub mod OwnLemmas
 pub mod PostLemmas
 pub mod SumLemmas
+pub mod OrderLemmas

@@ -5,8 +5,10 @@ use Rattle.sd_model_settings.specs.Entries.{Node}
 use Rattle.sd_model_serve.specs.Ends.{Spent}
 use Rattle.sd_model_proxy.specs.Relays.{Relay}
 use Rattle.sd_model_proxy.specs.Routes.{Read}
-use Rattle.sd_model_live.specs.Proxy.{AreCurrent, AreTold, HaveAnswered, LookedIn, SetStep, all_of, first_history, published_in, told_to}
-use Rattle.sd_model_live.proofs.OrderLemmas.{one_order}
+use Rattle.sd_model_live.specs.Proxy.{AreCurrent, AreTold, SetStep, all_of, first_history, published_in, told_to}
+use Rattle.sd_live.specs.Looks.{HaveAnswered}
+use Rattle.sd_relay.specs.Looked.{LookedIn}
+use Rattle.sd_relay.proofs.OrderLemmas.{one_order}
 
 -- what holds of each of both lists holds of each of the second
 pub all_behind : {X : Type 0} (P : X → Type 0) (xs ys : List X) → AllByRecursion P (xs ++ ys) → AllByRecursion P ys

@@ -7,8 +7,10 @@ use Rattle.sd_model_outside.specs.Outside.{Object}
 use Rattle.sd_model_settings.specs.Entries.{Node}
 use Rattle.sd_model_proxy.specs.Relays.{IsRelay, Relay, AreRelays, relay_totals}
 use Rattle.sd_model_live.specs.Desk.{AreCounted, CountsEach, ProxyAct, ProxyEvent, done_by}
-use Rattle.sd_model_live.specs.Proxy.{Begins, HaveAnswered, LookedIn, first_history}
-use Rattle.sd_model_live.proofs.LookLemmas.{answered_on}
+use Rattle.sd_model_live.specs.Proxy.{first_history}
+use Rattle.sd_live.specs.Looks.{Begins, HaveAnswered}
+use Rattle.sd_relay.specs.Looked.{LookedIn}
+use Rattle.sd_live.proofs.LookLemmas.{answered_on}
 use Rattle.sd_turn.specs.Lists.{span}
 use Rattle.sd_live.specs.Live.{IsPassOf, seen as history_in}
 use Rattle.sd_live.specs.declared.pass.UpPass.{UpPass}

@@ -10,3 +10,4 @@ pub mod Lining
 pub mod Postings
 pub mod Room
 pub mod Relaying
+pub mod Looked

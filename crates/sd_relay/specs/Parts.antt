@@ -1,6 +1,6 @@
 -- What stands in posts.
 use Rattle.std.specs.Prelude.{◌≡◌, ◌≤◌, ℕ, List, [], length, vec_capacity}
-use Rattle.sd_model_outside.specs.Turns.{most_datagram}
+use Rattle.sd_outside.specs.Turns.{most_datagram}
 use Rattle.sd_model_settings.specs.Entries.{Node}
 use Rattle.sd_proxy_desk.specs.declared.hub.ProxyPass.{ProxyPass}
 use Rattle.sd_proxy.specs.Forwarding.{NoneWaits}

@@ -1,7 +1,7 @@
 -- What a receiver's post has to have, and what running it leaves.
 use Rattle.std.specs.Prelude.{◌≡◌, ◌<◌, ◌≤◌, ℕ, List, length, map, slice_index_or, vec_len, Some}
 use Rattle.sd_model_outside.specs.Outside.{Object}
-use Rattle.sd_model_outside.specs.Turns.{most_datagram}
+use Rattle.sd_outside.specs.Turns.{most_datagram}
 use Rattle.sd_live.specs.declared.up_cell.UpCell.{UpCell}
 use Rattle.sd_live.specs.Live.{IsPassOf, publishes}
 use Rattle.sd_proxy_desk.specs.Shared.{IsSeatOf, number_of_seat}

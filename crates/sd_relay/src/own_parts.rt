@@ -2,7 +2,8 @@
 //! when both are opened and closed.
 ghost use Rattle.std.specs.Prelude.{◌≡◌, ◌+◌, ◌<◌, ◌≤◌, [], ◌∷◌, ◌++◌, All, IfOk, if◌then◌else◌, length, map, option_to_list, vec_capacity};
 ghost use Rattle.sd_model_live.specs.Desk.{ProxyFacts};
-ghost use Rattle.sd_model_live.specs.Proxy.{Begins, all_of};
+ghost use Rattle.sd_model_live.specs.Proxy.{all_of};
+ghost use Rattle.sd_live.specs.Looks.{Begins};
 ghost use Rattle.sd_live.specs.Live.{IsCheckerOf, IsPassOf, seen};
 ghost use Rattle.sd_proxy_desk.specs.Shared.{History, IsSeatOf, seats_of};
 ghost use Rattle.sd_talk.specs.Room.{IsLineRoom};

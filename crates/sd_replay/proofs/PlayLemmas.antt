@@ -7,9 +7,11 @@ use Rattle.std.proofs.Common.{◌≡◌, ◌≢◌, inl, inr, ℕ, Bool, true, f
 use Rattle.std.specs.Prelude.{sum_by, Option, Some, None, option_and_then}
 use Rattle.std.proofs.lemmas.List.{map-append}
 use Rattle.sd_model_text.specs.Lines.{Sample, samples_of}
-use Rattle.sd_model_outside.specs.Outside.{Told, Object, Reads, Used, Rose, HasFailedBehind, FitsLastCount, given, last_count, put_back, telling}
+use Rattle.sd_model_outside.specs.Outside.{Told, Object, Reads, Used, Rose, HasFailedBehind, given, last_count, put_back, telling}
+use Rattle.sd_outside.specs.Turns.{FitsLastCount}
 use Rattle.sd_model_outside.specs.Deliveries.{FitsUse, AfterMark, AfterDeliveries}
-use Rattle.sd_model_outside.proofs.OutsideLemmas.{appended-nil, Reads-append, put_back-append}
+use Rattle.sd_model_outside.proofs.OutsideLemmas.{Reads-append, put_back-append}
+use Rattle.sd_outside.proofs.NothingWritten.{appended-nil}
 use Rattle.sd_model_outside.proofs.WriteLemmas.{given-given}
 use Rattle.sd_model_shard.specs.Shard.{State, empty_state, Policy, Submit, after_swap, carried, left_of, table_of}
 use Rattle.sd_model_shard.specs.Rows.{Rows, Kept, row_cmp}
@@ -32,8 +34,9 @@ use Rattle.sd_model_replay.specs.Asked.{output_in, output_of}
 use Rattle.sd_model_record.specs.Totals.{Total, totals_of, totals_text}
 use Rattle.sd_model_replay.specs.Totals.{summed, totals_after}
 use Rattle.sd_model_replay.specs.AccountingTheorem.{Seen, Course, AccountingTheorem, seen_at}
-use Rattle.sd_model_replay.specs.Ends.{Complete, Faulted, ReadFailed, WriteFailed, WornOut, Replayed, text_length}
-use Rattle.sd_model_replay.proofs.AccountingLemmas.{are_accounted}
+use Rattle.sd_model_replay.specs.Ends.{Complete, Faulted, ReadFailed, WriteFailed, WornOut, text_length}
+use Rattle.sd_replay.specs.Replayed.{Replayed}
+use Rattle.sd_law_record.proofs.AccountingLemmas.{are_accounted}
 use Rattle.sd_model_replay.proofs.HistoryLemmas.{arrivals-history_at, state-history_at}
 use Rattle.sd_model_outside.proofs.DeliveryLemmas.{AfterDeliveries-push}
 use Rattle.sd_model_record.proofs.WireLemmas.{AreRepeated-next, AreRepeated-none}

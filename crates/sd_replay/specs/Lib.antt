@@ -5,3 +5,4 @@ pub mod Seen
 pub mod Sent
 pub mod Start
 pub mod Totals
+pub mod Replayed

@@ -1,7 +1,7 @@
 -- A packet that was repeated and counted.
 use Rattle.std.specs.Prelude.{◌≡◌, ℕ, Bool, List}
 use Rattle.sd_model_outside.specs.Outside.{Object}
-use Rattle.sd_model_outside.specs.Wires.{AreSent}
+use Rattle.sd_repeater.specs.Sent.{AreSent}
 use Rattle.sd_model_record.specs.Record.{Tally}
 use Rattle.sd_model_record.specs.Desk.{Desk, with_tally, with_repeater_faults}
 use Rattle.sd_model_record.specs.WireSends.{failures}

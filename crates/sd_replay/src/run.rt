@@ -6,7 +6,7 @@ ghost use Rattle.sd_model_replay.specs.Settings.{targets_of, is_used};
 ghost use Rattle.sd_model_replay.specs.Script.{Packet};
 ghost use Rattle.sd_model_replay.specs.Replay.{packet_tally, replies_to, states_after};
 ghost use Rattle.sd_model_record.specs.Totals.{totals_text};
-ghost use Rattle.sd_model_replay.specs.Ends.{Replayed};
+ghost use Rattle.sd_replay.specs.Replayed.{Replayed};
 ghost use Rattle.sd_shards.specs.Shards.{AreAlike, group_bounds, state_at};
 ghost use Rattle.sd_replay.specs.Ends.{end_of};
 ghost use Rattle.sd_replay.specs.Room.{sizing_of};

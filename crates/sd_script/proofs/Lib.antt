@@ -3,3 +3,4 @@ pub mod HeadLemmas
 pub mod AheadLemmas
 pub mod FrontLemmas
 pub mod ReaderLemmas
+pub mod NextLemmas

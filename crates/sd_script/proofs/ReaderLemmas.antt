@@ -5,8 +5,9 @@ use Rattle.std.specs.Option.{option_map_or}
 use Rattle.sd_model_outside.specs.Outside.{Told, last_count, put_back}
 use Rattle.sd_model_outside.proofs.OutsideLemmas.{put_back-append}
 use Rattle.sd_model_replay.specs.Script as model
-use Rattle.sd_model_replay.specs.Script.{PacketHead, FlushHead, AdminHead, EndHead, Body, head_line, body_of, IsForm, Next, StandsNext, next_text, IsWhole}
-use Rattle.sd_model_replay.proofs.NextLemmas.{whole_next, StandsInFront, body_stands, line_stands}
+use Rattle.sd_model_replay.specs.Script.{PacketHead, FlushHead, AdminHead, EndHead, Body, head_line, body_of, IsForm, Next}
+use Rattle.sd_script.specs.Next.{StandsNext, next_text, IsWhole}
+use Rattle.sd_script.proofs.NextLemmas.{whole_next, StandsInFront, body_stands, line_stands}
 use Rattle.sd_script.specs.Found.{BeginsWith, size_of}
 use Rattle.sd_script.specs.Head.{head_of, item_of}
 use Rattle.sd_script.specs.Reader.{lent_of, pending_of}

@@ -2,7 +2,8 @@
 use Rattle.std.specs.Prelude.{◌≡◌, ℕ, ◌+◌, List, ◌∷◌, ◌++◌, length, drop, Result, Ok, Err, IfSome}
 use Rattle.std.specs.Option.{option_map_or}
 use Rattle.sd_model_outside.specs.Outside.{Told}
-use Rattle.sd_model_replay.specs.Script.{head_line, body_of, IsForm, HasFlaw, IsWhole}
+use Rattle.sd_model_replay.specs.Script.{head_line, body_of, IsForm, HasFlaw}
+use Rattle.sd_script.specs.Next.{IsWhole}
 use Rattle.sd_script.specs.Flaws.{flaw_of}
 use Rattle.sd_script.specs.Head.{head_of}
 use Rattle.sd_script.specs.declared.flaw.Flaw.{Flaw}

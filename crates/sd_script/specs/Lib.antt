@@ -6,3 +6,4 @@ pub mod Head
 pub mod Reader
 pub mod Reading
 pub mod Reads
+pub mod Next

@@ -2,7 +2,8 @@
 -- after it.
 use Rattle.std.specs.Prelude.{◌≡◌, ℕ, ◌+◌, List, [], length, min, ⊤}
 use Rattle.sd_model_outside.specs.Outside.{Told, last_count}
-use Rattle.sd_model_replay.specs.Script.{Packet as PacketRecord, Flush as FlushRecord, Admin as AdminRecord, spelled, end_word, Next, Carried, Ending, Faulty, StandsNext}
+use Rattle.sd_model_replay.specs.Script.{Packet as PacketRecord, Flush as FlushRecord, Admin as AdminRecord, spelled, end_word, Next, Carried, Ending, Faulty}
+use Rattle.sd_script.specs.Next.{StandsNext}
 use Rattle.sd_script.specs.Flaws.{flaw_of}
 use Rattle.sd_script.specs.Reading.{Reading, left}
 use Rattle.sd_script.specs.declared.reader.Item.{Item}

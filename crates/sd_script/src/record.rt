@@ -1,7 +1,8 @@
 ghost use Rattle.std.specs.Prelude.{◌≡◌, ◌<◌, ◌≤◌, drop, length, slice_index, take, IsTrue, MatchBool, MatchOption, IfOk, OnOk, OnErr};
 ghost use Rattle.sd_model_text.specs.Lists.{Lacks};
 ghost use Rattle.sd_model_outside.specs.Outside.{Rose, Used, put_back};
-ghost use Rattle.sd_model_replay.specs.Script.{IsMisfit, IsPart, IsUndecided, IsWhole};
+ghost use Rattle.sd_model_replay.specs.Script.{IsMisfit, IsPart, IsUndecided};
+ghost use Rattle.sd_script.specs.Next.{IsWhole};
 ghost use Rattle.sd_script.specs.Ahead.{held_in, Grows};
 ghost use Rattle.sd_script.specs.Flaws.{flaw_of, HasBodyFlaw, HasLineFlaw};
 ghost use Rattle.sd_script.specs.Found.{IsFront};

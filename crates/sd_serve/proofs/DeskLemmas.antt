@@ -9,7 +9,7 @@ use Rattle.sd_turn.specs.Lists.{span}
 use Rattle.sd_model_outside.specs.Outside.{Object}
 use Rattle.sd_model_shard.specs.History.{part_of as part_by}
 use Rattle.sd_model_record.specs.DeskHistory.{DeskAct, DeskCall, DeskHistory, calls_by}
-use Rattle.sd_model_record.specs.Counts.{HasCalled, Part}
+use Rattle.sd_shared_desk.specs.Counts.{HasCalled, Part}
 use Rattle.sd_model_serve.specs.Receiving.{CountsDatagrams, Reception}
 use Rattle.sd_model_stream.specs.Streams.{CountsReads, Lining, reads_in}
 use Rattle.sd_outside.specs.declared.door.DoorEnd.{DoorEnd}

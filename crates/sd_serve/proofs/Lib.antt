@@ -6,3 +6,6 @@ mod ServeLemmas
 mod ServedLemmas
 mod ThroughLemmas
 mod WrittenLemmas
+pub mod CallerLemmas
+pub mod CountedLemmas
+pub mod RunLemmas

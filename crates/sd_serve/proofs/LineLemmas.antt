@@ -6,15 +6,17 @@ use Rattle.std.proofs.lemmas.List.Elements.{All-nil, All-cons}
 use Rattle.std.proofs.lemmas.List.Sums.{sum_by-cons}
 use Rattle.sd_model_outside.specs.Outside.{Object}
 use Rattle.sd_model_shard.specs.Whereabouts.{dropped_in, told_by}
-use Rattle.sd_model_record.specs.Counts.{Count, RoundsMade, Part, HasCounted, plus, share, of_sessions, of_tally}
+use Rattle.sd_model_record.specs.Counts.{Count, RoundsMade}
+use Rattle.sd_shared_desk.specs.Counts.{Part, HasCounted, plus, share, of_sessions, of_tally}
 use Rattle.sd_model_record.specs.Desk.{last_counted}
 use Rattle.sd_model_record.specs.Record.{Tally}
-use Rattle.sd_model_record.proofs.CountLemmas.{nothing_counted}
+use Rattle.sd_shared_desk.proofs.CountLemmas.{nothing_counted}
 use Rattle.sd_model_serve.specs.Receiving.{asks, events_of, told_in, tally_of}
 use Rattle.sd_model_serve.specs.Ends.{EndsKeeper}
 use Rattle.sd_model_stream.specs.Streams.{Cut, bad_of_line, pieces_of_line, lines_in, Lining, brought_in_lines, faults_in_lines}
 use Rattle.sd_model_run.specs.Run.{AreLined}
-use Rattle.sd_model_run.proofs.CountedLemmas.{exact_share, lined_by, sum_by-range}
+use Rattle.sd_model_run.proofs.CountedLemmas.{sum_by-range}
+use Rattle.sd_serve.proofs.CountedLemmas.{exact_share, lined_by}
 use Rattle.sd_outside.specs.declared.door.DoorEnd.{DoorEnd}
 use Rattle.sd_outside.specs.declared.door.DoorEnd.TheVariants as closed
 use Rattle.sd_door.specs.Keeping.{EndsAfter}

@@ -7,14 +7,16 @@ use Rattle.std.proofs.lemmas.List.Sums.{sum_by-cons}
 use Rattle.sd_model_outside.specs.Outside.{Object}
 use Rattle.sd_model_text.specs.Lines.{Sample, pieces, bad_of}
 use Rattle.sd_model_shard.specs.Whereabouts.{dropped_in, told_by}
-use Rattle.sd_model_record.specs.Counts.{Count, RoundsMade, Part, HasCounted, plus, share, of_calls, of_tally, of_sends}
+use Rattle.sd_model_record.specs.Counts.{Count, RoundsMade}
+use Rattle.sd_shared_desk.specs.Counts.{Part, HasCounted, plus, share, of_calls, of_tally, of_sends}
 use Rattle.sd_model_record.specs.DeskHistory.{DeskCall}
 use Rattle.sd_model_record.specs.Desk.{last_counted}
 use Rattle.sd_model_record.specs.Record.{Tally}
 use Rattle.sd_model_serve.specs.Receiving.{asks, events_of, told_in, failed_sends, tally_of, Reception, brought_by}
 use Rattle.sd_model_serve.specs.Ends.{EndsReceiver}
 use Rattle.sd_model_run.specs.Run.{AreReceptions, IsReception}
-use Rattle.sd_model_run.proofs.CountedLemmas.{exact_share, none_received, one_by, received_by, received_next, sum_by-range}
+use Rattle.sd_model_run.proofs.CountedLemmas.{sum_by-range}
+use Rattle.sd_serve.proofs.CountedLemmas.{exact_share, none_received, one_by, received_by, received_next}
 use Rattle.sd_outside.specs.declared.datagrams.Ended.{Ended}
 use Rattle.sd_outside.specs.declared.datagrams.Ended.TheVariants.{End, Failed, Stopped, Worn}
 use Rattle.sd_pool.specs.Along.{Pairs}

@@ -15,19 +15,26 @@ use Rattle.sd_model_shard.specs.History.{History, state_after}
 use Rattle.sd_model_shard.specs.Shard.{empty_state}
 use Rattle.sd_model_shard.specs.Whereabouts.{dropped_in, told_by}
 use Rattle.sd_model_record.specs.Backends.{Backend, mark_of}
-use Rattle.sd_model_serve.specs.Receiving.{CountsDatagrams, administrator, flusher, Adds, events_by, events_of, told_in, brought_by}
-use Rattle.sd_model_record.specs.Counts.{Among, IsKeeping, share, Count, RoundsMade, TotalPackets, TotalLines, TotalBad, TotalDropped, TakenPackets, TakenLines, TakenBad, TakenDropped, HasCounted, Part, number_of}
+use Rattle.sd_model_serve.specs.Receiving.{CountsDatagrams, administrator, flusher, events_by, events_of, told_in, brought_by}
+use Rattle.sd_pool.specs.Adding.{Adds, JoinsAs}
+use Rattle.sd_model_record.specs.Counts.{Among, IsKeeping, Count, RoundsMade, TotalPackets, TotalLines, TotalBad, TotalDropped, TakenPackets, TakenLines, TakenBad, TakenDropped, number_of}
+use Rattle.sd_shared_desk.specs.Counts.{share, HasCounted, Part}
 use Rattle.sd_model_record.specs.Desk.{Desk, IsBalanced, Marks, last_counted}
 use Rattle.sd_model_record.specs.DeskHistory.{DeskCall, IsDeskHistory, calls_by, desk_after}
 use Rattle.sd_model_serve.specs.Ends.{EndsFlusher}
-use Rattle.sd_model_serve.specs.Rounds.{Round, of_rounds, round_calls, round_deliveries, round_text, swaps_at, AreCommands, JoinsAs, Ran}
+use Rattle.sd_model_serve.specs.Rounds.{Round, round_calls, round_deliveries, round_text, swaps_at, Ran}
+use Rattle.sd_flush.specs.Made.{of_rounds}
+use Rattle.sd_session.specs.Commands.{AreCommands}
 use Rattle.sd_model_serve.specs.Sessions.{acts_in, events_in}
-use Rattle.sd_model_serve.specs.Doors.{ServesSessions, asked_by, called_in}
-use Rattle.sd_model_serve.proofs.ServedLemmas.{events_of_acts, ran_by_callers}
+use Rattle.sd_model_serve.specs.Doors.{asked_by, called_in}
+use Rattle.sd_session.specs.Doors.{ServesSessions}
+use Rattle.sd_model_serve.proofs.ServedLemmas.{events_of_acts}
+use Rattle.sd_serve.proofs.CallerLemmas.{ran_by_callers}
 use Rattle.sd_model_run.specs.Run.{Course, Terms, brought_in, counts_of, HasOneDesk, IsRun, Objects, ServerTheorem, later}
 use Rattle.sd_model_stream.specs.Streams.{CountsReads, Lining, brought_in_lines, reads_in}
-use Rattle.sd_model_run.proofs.CountedLemmas.{counts_add_up, no_drops, sum_by-across, sum_by-range, swaps_drop_nothing}
-use Rattle.sd_model_run.proofs.RunLemmas.{run_accounted}
+use Rattle.sd_model_run.proofs.CountedLemmas.{sum_by-across, sum_by-range}
+use Rattle.sd_serve.proofs.CountedLemmas.{counts_add_up, no_drops, swaps_drop_nothing}
+use Rattle.sd_serve.proofs.RunLemmas.{run_accounted}
 use Rattle.sd_outside.specs.declared.datagrams.Ended.{Ended}
 use Rattle.sd_outside.specs.declared.datagrams.Ended.TheVariants as ended
 use Rattle.sd_outside.specs.declared.door.DoorEnd.{DoorEnd}

@@ -8,7 +8,7 @@ use Rattle.sd_model_outside.specs.Deliveries as deliveries
 use Rattle.sd_model_outside.specs.Outside.{Object, last_count}
 use Rattle.sd_model_shard.specs.History.{History}
 use Rattle.sd_model_record.specs.Backends.{Backend, Graphite, Console, mark_of}
-use Rattle.sd_model_record.specs.Counts.{Part}
+use Rattle.sd_shared_desk.specs.Counts.{Part}
 use Rattle.sd_model_record.specs.Desk.{Marks}
 use Rattle.sd_model_serve.specs.Rounds.{Form, MarksFit, Round, round_deliveries, round_text}
 use Rattle.sd_model_run.specs.Outlets.{AreChosen, HasFlowed, Outflow, OutletRoom, chosen, no_outflow}

@@ -1,7 +1,8 @@
 -- What an outlet's worker and the close of the outlet wrote of the texts that were offered.
 use Rattle.std.proofs.Common.{◌≡◌, ◌⊎◌, ℕ, Bool, true, false, List, [], ◌∷◌, ◌++◌, length, map, min, inl, inr, refl, sym, ap, subst, ◌∙◌, arith}
 use Rattle.std.specs.Prelude.{Option, Some, None, IfSome, IsNone, IsSome}
-use Rattle.sd_model_outside.specs.Deliveries.{Delivery, AfterDeliveries, missed, texts_written}
+use Rattle.sd_model_outside.specs.Deliveries.{Delivery, AfterDeliveries, missed}
+use Rattle.sd_outlet.specs.Lists.{texts_written}
 use Rattle.sd_model_outside.specs.Outside.{Object, last_count}
 use Rattle.sd_outlet.specs.declared.feed.Feed.{Feed}
 use Rattle.sd_outlet.specs.declared.outlet.Outlet.{Outlet}

@@ -7,7 +7,7 @@ use Rattle.sd_pool.specs.Pool.{IsSeatOf, limits_of, own_at, shards_of, who_is}
 use Rattle.sd_shared_desk.specs.declared.shared_desk.SharedDesk.{SharedDesk}
 use Rattle.sd_shared_desk.specs.Shared.{IsSeatOf as IsDeskSeatOf, number_of_seat, part_of}
 use Rattle.sd_door.specs.Keeping.{EndsKeeping}
-use Rattle.sd_model_serve.specs.Doors.{ServesSessions}
+use Rattle.sd_session.specs.Doors.{ServesSessions}
 use Rattle.sd_session.specs.Space.{IsSpaceFor}
 use Rattle.sd_serve.specs.declared.keeping.Keeping.{Keeping}
 

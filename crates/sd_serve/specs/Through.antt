@@ -6,9 +6,10 @@ use Rattle.sd_model_outside.specs.Outside.{Object, last_count}
 use Rattle.sd_model_outside.specs.Turns.{with_ticks}
 use Rattle.sd_model_shard.specs.History.{History}
 use Rattle.sd_model_record.specs.Backends.{Backend, Graphite, Console}
-use Rattle.sd_model_record.specs.Counts.{Part, HasCounted}
-use Rattle.sd_model_serve.specs.Receiving.{Adds}
-use Rattle.sd_model_serve.specs.Rounds.{Form, MarksFit, Round, last_second, of_rounds, round_calls, round_deliveries, round_text, swaps_at}
+use Rattle.sd_shared_desk.specs.Counts.{Part, HasCounted}
+use Rattle.sd_pool.specs.Adding.{Adds}
+use Rattle.sd_model_serve.specs.Rounds.{Form, MarksFit, Round, last_second, round_calls, round_deliveries, round_text, swaps_at}
+use Rattle.sd_flush.specs.Made.{of_rounds}
 use Rattle.sd_model_run.specs.Outlets.{HasFlowed, Outflow, OutletRoom, has_outlet, uses_at_ticks}
 use Rattle.sd_flush.specs.Flushing.{EndsSo}
 use Rattle.sd_flush.specs.declared.flushed.Flushed.{Flushed}

@@ -6,7 +6,7 @@ ghost use Rattle.sd_receive.specs.Posts.{HasRun, IsReady};
 ghost use Rattle.sd_flush.specs.Flushing.{Flushes, back_of, form_of, uses};
 ghost use Rattle.sd_flush.specs.Tables.{AreTablesFor};
 ghost use Rattle.sd_door.specs.Keeping.{EndsKeeping};
-ghost use Rattle.sd_model_serve.specs.Doors.{ServesSessions};
+ghost use Rattle.sd_session.specs.Doors.{ServesSessions};
 ghost use Rattle.sd_session.specs.Space.{IsSpaceFor};
 ghost use Rattle.sd_serve.specs.LinePost.{AreLinedBy, IsLineReady};
 ghost use Rattle.sd_serve.specs.Objects.{StayObjects};

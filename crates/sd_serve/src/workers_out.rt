@@ -2,7 +2,7 @@
 ghost use Rattle.std.specs.Prelude.{◌≡◌, ◌⊎◌, ℕ, ◌<◌, ◌^◌, [], false, All, IfSome, IsNone, IsSome, length, slice_index_or};
 ghost use Rattle.sd_model_outside.specs.Outside.{Object};
 ghost use Rattle.sd_model_serve.specs.Receiving.{administrator, flusher};
-ghost use Rattle.sd_model_serve.specs.Doors.{ServesSessions};
+ghost use Rattle.sd_session.specs.Doors.{ServesSessions};
 ghost use Rattle.sd_pool.specs.Pool.{IsSeatOf, limits_of, own_at, shards_of, who_is};
 ghost use Rattle.sd_shared_desk.specs.Shared.{IsSeatOf as IsDeskSeatOf, number_of_seat, part_of};
 ghost use Rattle.sd_receive.specs.Posts.{HasRun, IsReady};

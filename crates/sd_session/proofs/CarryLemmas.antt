@@ -5,8 +5,9 @@ use Rattle.std.proofs.Math.Seq.{split_at}
 use Rattle.std.proofs.lemmas.List.{take_at, take-map, length-map, length-take-le, map-append}
 use Rattle.std.proofs.lemmas.Option.{get_or_from_slice_get, slice_get_within}
 use Rattle.sd_model_text.specs.Names.{Kind}
-use Rattle.sd_model_outside.specs.Outside.{Object, Told, HasFailedBehind, FitsLastCount, given, telling}
-use Rattle.sd_model_outside.proofs.OutsideLemmas.{appended-nil}
+use Rattle.sd_model_outside.specs.Outside.{Object, Told, HasFailedBehind, given, telling}
+use Rattle.sd_outside.specs.Turns.{FitsLastCount}
+use Rattle.sd_outside.proofs.NothingWritten.{appended-nil}
 use Rattle.sd_model_outside.proofs.WriteLemmas.{given-given}
 use Rattle.sd_model_settings.specs.Settings as file
 use Rattle.sd_model_shard.specs.Shard as shard
@@ -15,8 +16,9 @@ use Rattle.sd_model_shard.specs.History.{History}
 use Rattle.sd_model_record.specs.Admin.{AdminFault, Command, command}
 use Rattle.sd_model_record.specs.Desk.{Facts}
 use Rattle.sd_model_record.specs.Replies.{Reply, Gone, Finish, reply_text, admin_events, keys_told, names_replied, replies_by, replies_text}
-use Rattle.sd_model_serve.specs.Sessions.{Broadcast, Broadcasts, AreReplied, IsCut, acts_in, all_replies, events_in, replies_at}
-use Rattle.sd_model_serve.proofs.ActsLemmas.{Adds-none, Adds-next}
+use Rattle.sd_model_serve.specs.Sessions.{Broadcast, IsCut, acts_in, all_replies, events_in, replies_at}
+use Rattle.sd_session.specs.Carried.{Broadcasts, AreReplied}
+use Rattle.sd_pool.proofs.ActsLemmas.{Adds-none, Adds-next}
 use Rattle.sd_totals.proofs.TakeLemmas.{take-more}
 use Rattle.sd_command.proofs.CommandLemmas.{none_found, text-more}
 use Rattle.sd_session.specs.Asking.{CarriesOut, DeletesNames}

@@ -1,9 +1,9 @@
 -- What a thread did at all shards and at the desk, one thing behind another.
 use Rattle.std.proofs.Common.{◌∙◌, ℕ, List, [], ◌∷◌, ◌++◌, append-nil, append_assoc, refl, sym, ap, subst}
 use Rattle.std.specs.Prelude.{flat_map}
-use Rattle.sd_model_record.specs.Counts.{nothing}
+use Rattle.sd_shared_desk.specs.Counts.{nothing}
 use Rattle.sd_model_record.specs.DeskHistory.{DeskCall}
-use Rattle.sd_model_record.proofs.CountLemmas.{counted_none, counted_next}
+use Rattle.sd_shared_desk.proofs.CountLemmas.{counted_none, counted_next}
 use Rattle.sd_model_serve.specs.Doors.{line_calls}
 use Rattle.sd_model_serve.specs.Sessions.{Broadcast, Exchange, asked_in}
 use Rattle.sd_pool.specs.Pool.{own_at}

@@ -4,3 +4,4 @@ mod CarryLemmas
 mod LineLemmas
 mod DoneLemmas
 mod VisitLemmas
+pub mod CommandLemmas

@@ -2,7 +2,7 @@
 use Rattle.std.proofs.Common.{◌≡◌, ◌∙◌, List, [], ◌∷◌, ◌++◌, sym, ap, append-nil, append_assoc}
 use Rattle.std.specs.Prelude.{Bool, true, false, if◌then◌else◌}
 use Rattle.sd_model_record.specs.Admin.{command}
-use Rattle.sd_model_record.specs.Counts.{Part}
+use Rattle.sd_shared_desk.specs.Counts.{Part}
 use Rattle.sd_model_record.specs.Desk.{Facts, no_tally}
 use Rattle.sd_model_record.specs.DeskHistory.{DeskCall, Look, Told as ToldOf}
 use Rattle.sd_model_serve.specs.Doors.{health_calls, line_calls}

@@ -21,9 +21,10 @@ use Rattle.sd_model_shard.specs.History.{History}
 use Rattle.sd_model_serve.specs.Receiving.{administrator}
 use Rattle.sd_model_record.specs.Replies.{keys_in, keys_told, numbers_in, numbers_told, rows_in, rows_told}
 use Rattle.sd_model_record.proofs.OrderLemmas.{in_key_order_is, keys_in_order}
-use Rattle.sd_model_shards.specs.Shards.{AtHome}
-use Rattle.sd_model_shards.proofs.HomeLemmas.{all_keys_once, all_rows_once}
-use Rattle.sd_model_serve.specs.Sessions.{Broadcast, Broadcasts, all_replies}
+use Rattle.sd_law_shards.specs.Shards.{AtHome}
+use Rattle.sd_law_shards.proofs.HomeLemmas.{all_keys_once, all_rows_once}
+use Rattle.sd_model_serve.specs.Sessions.{Broadcast, all_replies}
+use Rattle.sd_session.specs.Carried.{Broadcasts}
 use Rattle.sd_shard.specs.Shard.{Appends}
 use Rattle.sd_pool.specs.Setup.{OnlyOf}
 

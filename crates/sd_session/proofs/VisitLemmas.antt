@@ -1,11 +1,13 @@
 -- The visits of admin sessions, one after another.
 use Rattle.std.proofs.Common.{◌≡◌, ℕ, List, [], ◌∷◌, ◌++◌, flat_map, ap, subst, sym, ◌∙◌, arith}
 use Rattle.sd_model_settings.specs.Settings as file
-use Rattle.sd_model_record.specs.Counts.{Amounts, Count, HasCounted, Part, nothing, plus}
+use Rattle.sd_model_record.specs.Counts.{Amounts, Count}
+use Rattle.sd_shared_desk.specs.Counts.{HasCounted, Part, nothing, plus}
 use Rattle.sd_model_record.specs.DeskHistory.{DeskCall}
 use Rattle.sd_model_serve.specs.Doors.{Visit, AreVisitsOf, asked_by, called_in, line_calls}
 use Rattle.sd_model_serve.specs.Talks.{Dialogue, lines_in}
-use Rattle.sd_model_serve.specs.Sessions.{Broadcasts, Exchange, asked_in}
+use Rattle.sd_model_serve.specs.Sessions.{Exchange, asked_in}
+use Rattle.sd_session.specs.Carried.{Broadcasts}
 use Rattle.sd_pool.specs.Pool.{own_at, shards_of}
 use Rattle.sd_pool.specs.declared.pool.Pool.{Pool}
 use Rattle.sd_door.specs.Keeping.{Visited}

@@ -8,7 +8,8 @@ use Rattle.sd_model_shard.specs.History.{History}
 use Rattle.sd_model_shard.specs.Shard.{Delete, Dump, Look, Numbers}
 use Rattle.sd_model_record.specs.Desk.{Facts}
 use Rattle.sd_model_record.specs.Replies.{Finish, keys_told, rows_told, numbers_told, names_replied}
-use Rattle.sd_model_serve.specs.Sessions.{Broadcast, Broadcasts, AreReplied, IsCarriedOut, all_replies, events_in, replies_at}
+use Rattle.sd_model_serve.specs.Sessions.{Broadcast, all_replies, events_in, replies_at}
+use Rattle.sd_session.specs.Carried.{Broadcasts, AreReplied, IsCarriedOut}
 
 module _ (shards : ℕ) where
   -- each of so many shards was asked for a deletion, and these are the keys that all of them told

@@ -1,9 +1,10 @@
 -- What a thread does at all shards and at the desk.
 use Rattle.std.specs.Prelude.{◌≡◌, ℕ, List, ◌++◌}
-use Rattle.sd_model_record.specs.Counts.{HasCounted, nothing}
+use Rattle.sd_shared_desk.specs.Counts.{HasCounted, nothing}
 use Rattle.sd_model_record.specs.DeskHistory.{DeskCall}
 use Rattle.sd_model_serve.specs.Doors.{line_calls}
-use Rattle.sd_model_serve.specs.Sessions.{Broadcast, Broadcasts, Exchange}
+use Rattle.sd_model_serve.specs.Sessions.{Broadcast, Exchange}
+use Rattle.sd_session.specs.Carried.{Broadcasts}
 use Rattle.sd_pool.specs.Pool.{own_at}
 use Rattle.sd_pool.specs.declared.seat.Seat.{Seat}
 use Rattle.sd_shared_desk.specs.Shared.{OwnSeat, number_of_seat, part_of}

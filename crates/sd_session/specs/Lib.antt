@@ -4,3 +4,6 @@ pub mod Answering
 pub mod Space
 pub mod Sessions
 pub mod Visiting
+pub mod Carried
+pub mod Commands
+pub mod Doors

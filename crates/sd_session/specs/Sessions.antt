@@ -3,11 +3,12 @@ use Rattle.std.specs.Prelude.{◌≡◌, ℕ, ◌++◌, flat_map}
 use Rattle.sd_model_outside.specs.Outside.{Object}
 use Rattle.sd_model_settings.specs.Settings as file
 use Rattle.sd_model_shard.specs.History.{History}
-use Rattle.sd_model_record.specs.Counts.{Part}
+use Rattle.sd_shared_desk.specs.Counts.{Part}
 use Rattle.sd_model_serve.specs.Doors.{line_calls}
 use Rattle.sd_model_serve.specs.Talks.{Dialogue, HasTalked, lines_in}
-use Rattle.sd_model_serve.specs.Sessions.{Broadcasts, Exchange, admin_talk, asked_in, events_in}
-use Rattle.sd_model_serve.specs.Rounds.{AreCommands}
+use Rattle.sd_model_serve.specs.Sessions.{Exchange, admin_talk, asked_in, events_in}
+use Rattle.sd_session.specs.Carried.{Broadcasts}
+use Rattle.sd_session.specs.Commands.{AreCommands}
 use Rattle.sd_talk.specs.Sessions.{end_of}
 use Rattle.sd_talk.specs.declared.sessions.SessionEnd.{SessionEnd}
 

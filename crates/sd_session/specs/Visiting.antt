@@ -1,11 +1,13 @@
 -- The visitor of admin sessions: what it needs, and what a visit leaves.
 use Rattle.std.specs.Prelude.{◌≡◌, ℕ, List, flat_map}
 use Rattle.sd_model_serve.specs.Receiving.{administrator}
-use Rattle.sd_model_record.specs.Counts.{Amounts, nothing}
+use Rattle.sd_model_record.specs.Counts.{Amounts}
+use Rattle.sd_shared_desk.specs.Counts.{nothing}
 use Rattle.sd_model_record.specs.DeskHistory.{DeskCall}
 use Rattle.sd_model_serve.specs.Doors.{Visit, IsVisitOf, line_calls}
 use Rattle.sd_model_serve.specs.Talks.{Dialogue, lines_in}
-use Rattle.sd_model_serve.specs.Sessions.{Broadcasts, Exchange, asked_in}
+use Rattle.sd_model_serve.specs.Sessions.{Exchange, asked_in}
+use Rattle.sd_session.specs.Carried.{Broadcasts}
 use Rattle.sd_pool.specs.Pool.{IsSeatOf, limits_of, own_at, shards_of, who_is}
 use Rattle.sd_pool.specs.declared.pool.Pool.{Pool}
 use Rattle.sd_session.specs.Space.{IsSpaceFor}

@@ -1,5 +1,5 @@
 ghost use Rattle.std.specs.Prelude.{◌≡◌, ◌*◌, ◌<◌, ◌≤◌, ◌^◌, length};
-ghost use Rattle.sd_model_record.specs.Admin.{names_of};
+ghost use Rattle.sd_admin.specs.Words.{names_of};
 ghost use Rattle.sd_model_serve.specs.Receiving.{administrator};
 ghost use Rattle.sd_key.specs.Kind.{kind_of};
 ghost use Rattle.sd_desk.specs.Facts.{facts_view};

@@ -3,7 +3,7 @@ ghost use Rattle.sd_model_serve.specs.Receiving.{administrator};
 ghost use Rattle.sd_pool.specs.Pool.{IsSeatOf, limits_of, own_at, shards_of, who_is};
 ghost use Rattle.sd_shared_desk.specs.Shared.{IsSeatOf as IsDeskSeatOf, number_of_seat, part_of};
 ghost use Rattle.sd_door.specs.Keeping.{EndsKeeping};
-ghost use Rattle.sd_model_serve.specs.Doors.{ServesSessions};
+ghost use Rattle.sd_session.specs.Doors.{ServesSessions};
 ghost use Rattle.sd_session.specs.Space.{IsSpaceFor};
 ghost use Rattle.sd_session.specs.Visiting.{CanVisit, WorksOn};
 

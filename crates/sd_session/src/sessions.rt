@@ -1,7 +1,7 @@
 //! Sessions at their two ends.
 ghost use Rattle.std.specs.Prelude.{◌≡◌};
 ghost use Rattle.sd_model_serve.specs.Receiving.{administrator};
-ghost use Rattle.sd_model_record.specs.Counts.{HasCounted, nothing};
+ghost use Rattle.sd_shared_desk.specs.Counts.{HasCounted, nothing};
 ghost use Rattle.sd_pool.specs.Pool.{IsSeatOf, limits_of, own_at, shards_of, who_is};
 ghost use Rattle.sd_shared_desk.specs.Shared.{IsSeatOf as IsDeskSeatOf, number_of_seat, part_of};
 ghost use Rattle.sd_talk.specs.Room.{IsLineRoom};

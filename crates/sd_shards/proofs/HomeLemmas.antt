@@ -10,8 +10,8 @@ use Rattle.sd_model_text.specs.Names.{shard}
 use Rattle.sd_model_shard.specs.Rows.{row_cmp}
 use Rattle.sd_model_shard.specs.Shard as model
 use Rattle.sd_model_shard.specs.Shard.{State, empty_state}
-use Rattle.sd_model_shards.specs.Shards.{AtHome}
-use Rattle.sd_model_shards.proofs.HomeLemmas.{home_of_row}
+use Rattle.sd_law_shards.specs.Shards.{AtHome}
+use Rattle.sd_law_shards.proofs.HomeLemmas.{home_of_row}
 use Rattle.sd_epoch.specs.Table.{Listing, table_of}
 use Rattle.sd_record.specs.Rows.{AreDisjoint, ShareNone}
 use Rattle.sd_shard.specs.Shard.{Standing, state_of}

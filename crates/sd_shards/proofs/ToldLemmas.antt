@@ -11,8 +11,8 @@ use Rattle.sd_model_shard.specs.Shard.{State, Dumped, deletion_of}
 use Rattle.sd_model_shard.specs.Commands.{DumpRow, dump_of, in_key_order}
 use Rattle.sd_model_record.specs.Replies.{keys_in, keys_told, rows_in, rows_told}
 use Rattle.sd_model_record.proofs.OrderLemmas.{in_key_order_is, keys_in_order}
-use Rattle.sd_model_shards.specs.Shards.{AtHome}
-use Rattle.sd_model_shards.proofs.HomeLemmas.{all_keys_once, all_rows_once}
+use Rattle.sd_law_shards.specs.Shards.{AtHome}
+use Rattle.sd_law_shards.proofs.HomeLemmas.{all_keys_once, all_rows_once}
 use Rattle.sd_shard.specs.Shard.{Standing, state_of, Appends}
 use Rattle.sd_shards.specs.Standings.{state_in}
 use Rattle.sd_shards.proofs.EachLemmas.{flat_map-states}

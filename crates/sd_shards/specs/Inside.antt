@@ -1,6 +1,6 @@
 -- What the shards of a server keep of their fields.
 use Rattle.std.specs.Prelude.{◌≡◌, ◌+◌, ◌≤◌, length, map, vec_len}
-use Rattle.sd_model_shards.specs.Shards.{AtHome}
+use Rattle.sd_law_shards.specs.Shards.{AtHome}
 use Rattle.sd_epoch.specs.Table.{table_of}
 use Rattle.sd_filing.specs.Filing.{IsOpenFor}
 use Rattle.sd_record.specs.Rows.{AreDisjoint}

@@ -7,9 +7,11 @@ use Rattle.std.proofs.lemmas.List.{map-append, map_push}
 use Rattle.std.proofs.lemmas.List.Sums.{fold_push, sum_by-append, sum_by-cons}
 use Rattle.sd_model_record.specs.Desk.{Desk, Facts, last_counted, new_desk}
 use Rattle.sd_model_record.specs.DeskHistory.{AnswersFrom, DeskAct, DeskCall, DeskHistory, IsDeskHistory, Look, Told, calls_by, desk_after, desk_answer, desk_left, desk_step}
-use Rattle.sd_model_record.specs.Counts.{AreSeen, Count, TotalPackets, TotalLines, TotalBad, TotalDropped, RoundsMade, GraphiteFaults, ConsoleFaults, RepeaterFaults, AdminFaults, HasCalled, HasCounted, IsLook, number_of, of_calls, of_event, of_history, place}
-use Rattle.sd_model_record.proofs.CountLemmas.{new_in_range, starts_at_none}
-use Rattle.sd_model_record.proofs.DeskLemmas.{acts_grew}
+use Rattle.sd_model_record.specs.Counts.{Count, TotalPackets, TotalLines, TotalBad, TotalDropped, RoundsMade, GraphiteFaults, ConsoleFaults, RepeaterFaults, AdminFaults, number_of, place}
+use Rattle.sd_shared_desk.specs.Counts.{AreSeen, HasCalled, HasCounted, IsLook, of_calls, of_event, of_history}
+use Rattle.sd_model_record.proofs.CountLemmas.{starts_at_none}
+use Rattle.sd_shared_desk.proofs.CountLemmas.{new_in_range}
+use Rattle.sd_shared_desk.proofs.DeskLemmas.{acts_grew}
 use Rattle.sd_turn.specs.Entries.{Begins, GoesOn, entries_by, pick}
 use Rattle.sd_turn.specs.Turn as turn
 use Rattle.sd_shared_desk.specs.declared.ask.DeskAsk.{DeskAsk}

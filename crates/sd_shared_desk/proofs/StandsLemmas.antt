@@ -4,7 +4,7 @@ use Rattle.std.proofs.lemmas.List.{map_push}
 use Rattle.std.proofs.lemmas.List.Sums.{fold_push}
 use Rattle.sd_model_record.specs.Desk.{Desk, new_desk}
 use Rattle.sd_model_record.specs.DeskHistory.{DeskAct, DeskEvent, Add as Added, Take as TakeOut, SetHealth as SetWell, Mark as Marked, AdminFault as Failed, RepeaterFaults as FailedSends, Look, Took as TookOut, Told as ToldOf, IsDeskHistory, desk_after, desk_answer, desk_step}
-use Rattle.sd_model_record.proofs.DeskLemmas.{answers_push}
+use Rattle.sd_shared_desk.proofs.DeskLemmas.{answers_push}
 use Rattle.sd_shared_desk.specs.declared.ask.DeskAsk.{DeskAsk}
 use Rattle.sd_shared_desk.specs.declared.ask.DeskAsk.TheVariants.{Add, Take, SetHealth, Mark, AdminFault, RepeaterFaults, Facts}
 use Rattle.sd_shared_desk.specs.declared.ask.DeskReply.{DeskReply}

@@ -2,7 +2,8 @@
 use Rattle.std.specs.Prelude.{◌≡◌, ℕ, List, [], ◌∷◌, ◌++◌, All, Any, min, sum_by}
 use Rattle.sd_model_record.specs.Desk.{Desk, IsWhole, last_counted}
 use Rattle.sd_model_record.specs.DeskHistory.{DeskCall, DeskHistory, IsDeskHistory, calls_by, desk_after}
-use Rattle.sd_model_record.specs.Counts.{Count, TotalPackets, TotalLines, TotalBad, TotalDropped, TakenPackets, TakenLines, TakenBad, TakenDropped, Part, of_history, share}
+use Rattle.sd_model_record.specs.Counts.{Count, TotalPackets, TotalLines, TotalBad, TotalDropped, TakenPackets, TakenLines, TakenBad, TakenDropped}
+use Rattle.sd_shared_desk.specs.Counts.{Part, of_history, share}
 use Rattle.sd_turn.specs.declared.turn_seat.TurnSeat.{TurnSeat}
 use Rattle.sd_turn.specs.Entries.{Begins, GoesOn}
 use Rattle.sd_turn.specs.Turn as turn

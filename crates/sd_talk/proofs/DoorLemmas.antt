@@ -3,7 +3,8 @@ use Rattle.std.proofs.Common.{◌≡◌, ℕ, zero, suc, ◌+◌, ◌<◌, ◌�
 use Rattle.std.proofs.lemmas.List.{map-append}
 use Rattle.std.proofs.lemmas.List.Sums.{sum_by-append, sum_by-cons}
 use Rattle.sd_model_outside.specs.Outside.{Object, Told, Untold, Left, Number, Bytes, Buffer, Rounds, Packets, Datagrams, Ticks, Sessions, Replies, Session, HasFailed, Rose, RoseBy}
-use Rattle.sd_model_outside.specs.Turns.{GivesSession, HasLeft, session_of, turned, with_sessions, with_back}
+use Rattle.sd_model_outside.specs.Turns.{session_of, with_sessions, with_back}
+use Rattle.sd_outside.specs.Turns.{GivesSession, HasLeft, turned}
 use Rattle.sd_model_outside.proofs.TurnLemmas.{with_sessions-append, with_back-append}
 use Rattle.sd_model_serve.specs.Doors.{Visit, IsFresh, IsFaultOf, ServesDoor, faults_among}
 use Rattle.sd_talk.proofs.AlongLemmas.{all-append}

@@ -2,8 +2,8 @@
 use Rattle.std.proofs.Common.{◌≡◌, ℕ, ◌+◌, ◌<◌, ◌≤◌, ◌^◌, false, List, [], ◌∷◌, ◌++◌, refl, sym, subst, arith, append-nil}
 use Rattle.std.proofs.lemmas.Grind.{flat_map-append}
 use Rattle.std.specs.Prelude.{flat_map}
-use Rattle.sd_model_outside.specs.Outside.{Object, HasFailed, raised}
-use Rattle.sd_model_outside.specs.Turns.{GivesSession, HasLeft, turned}
+use Rattle.sd_model_outside.specs.Outside.{Object, HasFailed}
+use Rattle.sd_outside.specs.Turns.{raised, GivesSession, HasLeft, turned}
 use Rattle.sd_model_serve.specs.Doors.{Visit, IsFaultOf}
 use Rattle.sd_model_serve.specs.Talks.{Talk, lines_in}
 use Rattle.sd_talk.specs.Answers.{Along}

@@ -1,8 +1,10 @@
 -- Sessions, turn by turn.
 use Rattle.std.proofs.Common.{◌≡◌, ℕ, ◌<◌, length, List, [], ◌∷◌, ◌++◌, refl, ap, subst, ◌∙◌, append-nil, append_assoc, sym}
 use Rattle.std.proofs.lemmas.Grind.{flat_map-append}
-use Rattle.sd_model_outside.specs.Outside.{Object, Told, HasRead, FitsLastCount, given, put_back, telling}
-use Rattle.sd_model_outside.proofs.OutsideLemmas.{Reads-nil, appended-nil}
+use Rattle.sd_model_outside.specs.Outside.{Object, Told, HasRead, given, put_back, telling}
+use Rattle.sd_outside.specs.Turns.{FitsLastCount}
+use Rattle.sd_model_outside.proofs.OutsideLemmas.{Reads-nil}
+use Rattle.sd_outside.proofs.NothingWritten.{appended-nil}
 use Rattle.sd_model_outside.proofs.WriteLemmas.{given-given}
 use Rattle.sd_model_serve.specs.Doors.{ends_by_fault}
 use Rattle.sd_model_serve.specs.Talks as model

@@ -1,7 +1,8 @@
 -- The sessions of a door that were served, and how that ends.
 use Rattle.std.specs.Prelude.{◌≡◌, ℕ, ◌+◌, ◌^◌, Bool, true, false, List, flat_map}
 use Rattle.std.specs.List.{AllZip}
-use Rattle.sd_model_outside.specs.Outside.{Object, raised}
+use Rattle.sd_model_outside.specs.Outside.{Object}
+use Rattle.sd_outside.specs.Turns.{raised}
 use Rattle.sd_model_outside.specs.Turns.{IsSpent}
 use Rattle.sd_model_serve.specs.Doors.{ServesDoor, Visit, ends_by_fault}
 use Rattle.sd_model_serve.specs.Talks.{Dialogue, HasTalked, Talk, lines_in}

@@ -1,1 +1,4 @@
 pub mod LineLemmas
+pub mod CutLemmas
+pub mod PartLemmas
+pub mod SplitLemmas

@@ -6,7 +6,7 @@ use Rattle.std.proofs.lemmas.List.{get_or_at, length-take-le, take_min, take_mor
 use Rattle.std.proofs.lemmas.List.Elements.{All-weaker}
 use Rattle.std.proofs.lemmas.List.Folds.{list_any-append, list_any_none}
 use Rattle.sd_model_stream.specs.Streams.{most_line}
-use Rattle.sd_model_text.specs.Lines.{has_byte}
+use Rattle.sd_law_text.specs.Bytes.{has_byte}
 
 -- bytes of which none is a newline
 pub lacks_newline : (bytes : List ℕ) → All (λ b. b ≢ 10) bytes → has_byte 10 bytes ≡ false

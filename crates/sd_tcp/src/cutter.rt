@@ -1,6 +1,7 @@
 ghost use Rattle.std.specs.Prelude.{◌≡◌, ◌+◌, ◌<◌, ◌≤◌, true, false, [], ◌∷◌, ◌++◌, length, take, IfNone, IfOk, IfSome, MatchOption};
-ghost use Rattle.sd_model_text.specs.Lines.{has_byte};
-ghost use Rattle.sd_model_stream.specs.Streams.{Line, CutsOn, longer, most_line, nothing_cut, through_newline};
+ghost use Rattle.sd_law_text.specs.Bytes.{has_byte};
+ghost use Rattle.sd_model_stream.specs.Streams.{Line, most_line};
+ghost use Rattle.sd_tcp.specs.Cutting.{CutsOn, longer, nothing_cut, through_newline};
 ghost use Rattle.sd_tcp.specs.Cut.{IsShort, cut_view};
 
 use crate::cut::{Cut, MOST_BYTES};
@@ -20,7 +21,8 @@ pub struct Cutter {
 
 impl Model for Cutter {
     ghost use Rattle.std.specs.Prelude.{◌≤◌, vec_capacity, vec_len};
-    ghost use Rattle.sd_model_stream.specs.Streams.{Cutting, most_line};
+    ghost use Rattle.sd_model_stream.specs.Streams.{most_line};
+    ghost use Rattle.sd_tcp.specs.Cutting.{Cutting};
     ghost use Rattle.sd_tcp.specs.Held.{line_held};
 
     ghost Value = { Cutting };

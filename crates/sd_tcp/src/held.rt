@@ -1,6 +1,7 @@
 //! The bytes that are held of a line.
 ghost use Rattle.std.specs.Prelude.{◌≡◌, ◌≤◌, vec_capacity, vec_len};
-ghost use Rattle.sd_model_stream.specs.Streams.{longer, most_line};
+ghost use Rattle.sd_model_stream.specs.Streams.{most_line};
+ghost use Rattle.sd_tcp.specs.Cutting.{longer};
 ghost use Rattle.sd_tcp.specs.Held.{line_held};
 
 use crate::cut::MOST_BYTES;

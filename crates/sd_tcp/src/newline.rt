@@ -1,7 +1,7 @@
 //! Where newlines stand.
 ghost use Rattle.std.specs.Prelude.{◌≡◌, ◌≢◌, ◌+◌, ◌<◌, ◌≤◌, false, [], ◌∷◌, ◌++◌, length, take, drop, All, MatchOption, IfNone, IfSome};
 ghost use Rattle.sd_model_stream.specs.Streams.{most_line};
-ghost use Rattle.sd_model_text.specs.Lines.{has_byte};
+ghost use Rattle.sd_law_text.specs.Bytes.{has_byte};
 
 use crate::cut::MOST_BYTES;
 

@@ -7,8 +7,9 @@ use Rattle.sd_model_settings.specs.Settings.{default_settings, Settings}
 use Rattle.sd_model_record.proofs.WireLemmas.{AreRepeated-none}
 use Rattle.sd_model_replay.specs.Settings.{bounds_of}
 use Rattle.sd_model_replay.specs.AccountingTheorem.{Seen, Course, AccountingTheorem}
-use Rattle.sd_model_replay.specs.Ends.{End, Replayed}
-use Rattle.sd_model_replay.proofs.AccountingLemmas.{are_accounted}
+use Rattle.sd_model_replay.specs.Ends.{End}
+use Rattle.sd_replay.specs.Replayed.{Replayed}
+use Rattle.sd_law_record.proofs.AccountingLemmas.{are_accounted}
 use Rattle.sd_model_replay.proofs.HistoryLemmas.{arrivals-history_at, state-history_at}
 use Rattle.sd_model_call.specs.Words.{Form, Replay, Drill, form}
 use Rattle.sd_model_call.specs.Opening.{World, IsAccepted, replay_openings, settled, started}

@@ -9,11 +9,13 @@ use Rattle.sd_model_record.specs.Totals.{Total, total_line, totals_text}
 use Rattle.sd_model_replay.specs.Totals.{totals_after}
 use Rattle.sd_model_record.proofs.TotalLemmas.{totals_text-snoc}
 use Rattle.sd_model_replay.specs.AccountingTheorem.{Seen}
-use Rattle.sd_model_replay.specs.Ends.{End, Complete, WriteFailed, Replayed}
+use Rattle.sd_model_replay.specs.Ends.{End, Complete, WriteFailed}
+use Rattle.sd_replay.specs.Replayed.{Replayed}
 use Rattle.sd_model_call.specs.Words.{most_packets}
 use Rattle.sd_model_call.specs.Drill.{bytes_counted, drill_start, drill_text, drilled}
 use Rattle.sd_model_call.specs.Call.{Account, Answer, Done, Drilled, WritesTotals, drill_end, NotWritten, ending}
-use Rattle.sd_model_call.proofs.DrillEnds.{DrillEnd, drill_ends, drill_totals}
+use Rattle.sd_model_call.proofs.DrillEnds.{DrillEnd, drill_totals}
+use Rattle.sd_law_call.proofs.DrillEnds.{drill_ends}
 use Rattle.sd_replay.specs.Ends.{end_of}
 use Rattle.sd_replay.specs.declared.fault.ScriptFault.TheVariants.{Word, Length, Truncated}
 use Rattle.sd_replay.specs.declared.run.ReplayEnd.{ReplayEnd}

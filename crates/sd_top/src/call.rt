@@ -1,5 +1,5 @@
 ghost use Rattle.std.specs.Prelude.{◌≡◌, ◌<◌, ◌≤◌, ◌^◌, false, length, map, string_bytes, IfOk, IfErr};
-ghost use Rattle.sd_model_replay.specs.Ends.{Replayed};
+ghost use Rattle.sd_replay.specs.Replayed.{Replayed};
 ghost use Rattle.sd_model_call.specs.Opening.{flags_of, replay_openings, started};
 ghost use Rattle.sd_model_call.specs.Call.{Accounts, StopsAmong};
 ghost use Rattle.sd_model_call.specs.Server.{AnswersServer};

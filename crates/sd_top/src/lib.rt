@@ -7,9 +7,7 @@
 //! `World`.
 #![tactic(auto)]
 
-mod audit;
 mod call;
-mod completeness;
 mod drill;
 mod ends;
 mod opening;
@@ -23,7 +21,5 @@ mod telling;
 mod threads;
 mod words;
 
-pub use audit::served_totals_add_up;
 pub use call::{World, statsd};
-pub use completeness::unhindered_servers_serve;
 pub use status::{Part, Status, explain};

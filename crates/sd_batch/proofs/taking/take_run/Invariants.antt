@@ -1,6 +1,7 @@
 use Rattle.std.proofs.Common.{◌≡◌, ℕ, ◌+◌, length}
 use Rattle.sd_model_shard.specs.History.{after_all}
-use Rattle.sd_model_shard.specs.Whereabouts.{taken_in, dropped_in, told_by}
+use Rattle.sd_model_shard.specs.Whereabouts.{dropped_in, told_by}
+use Rattle.sd_law_shard.specs.Sums.{taken_in}
 use Rattle.sd_shard.specs.Shard.{state_of}
 use Rattle.sd_batch.specs.Runs.{submitted}
 use Rattle.sd_batch.proofs.taking.take_run.Given as goal

@@ -2,7 +2,7 @@ use Rattle.std.proofs.Common.{◌≡◌, ◌<◌, map, inl, inr, ℕ, ◌+◌, �
 use Rattle.std.proofs.lemmas.Bool.{cases_lt}
 use Rattle.std.specs.List.{range_with_len}
 use Rattle.sd_model_text.specs.Names.{Kind}
-use Rattle.sd_model_record.specs.Admin.{names_of}
+use Rattle.sd_admin.specs.Words.{names_of}
 use Rattle.sd_model_record.specs.Replies.{Finish, Gone, reply_text, keys_told, names_replied, replies_text}
 use Rattle.sd_model_shard.specs.Shard.{State, Delete, after_delete, deletion_of}
 use Rattle.sd_key.specs.Kind.{kind_of}

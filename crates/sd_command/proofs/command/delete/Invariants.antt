@@ -1,5 +1,5 @@
 use Rattle.std.proofs.Common.{◌≡◌, ◌≤◌, ℕ, ◌-◌, length, take, map}
-use Rattle.sd_model_record.specs.Admin.{names_of}
+use Rattle.sd_admin.specs.Words.{names_of}
 use Rattle.sd_model_record.specs.Replies.{names_replied, replies_text}
 use Rattle.sd_model_shard.specs.Shard.{Delete}
 use Rattle.sd_key.specs.Kind.{kind_of}

@@ -2,8 +2,8 @@ use Rattle.std.proofs.lemmas.Result.{IfOk-at_ok}
 use Rattle.toml.specs.View.{table_view}
 use Rattle.sd_model_settings.specs.Table.{server, addresses, namespace, entry_lists, sizes, flush_rules, transport}
 use Rattle.sd_model_settings.specs.Settings.{top}
-use Rattle.sd_model_settings.specs.Ranges.{AreInRange}
-use Rattle.sd_model_settings.proofs.SettingsInRange.{server_in_range, addresses_in_range, namespace_in_range, entry_lists_in_range, sizes_in_range, flush_rules_in_range, transport_in_range}
+use Rattle.sd_law_settings.specs.Ranges.{AreInRange}
+use Rattle.sd_law_settings.proofs.SettingsInRange.{server_in_range, addresses_in_range, namespace_in_range, entry_lists_in_range, sizes_in_range, flush_rules_in_range, transport_in_range}
 use Rattle.sd_config.proofs.settings.settings_in.Goals as goal
 
 pub of-requires : goal.of-requires

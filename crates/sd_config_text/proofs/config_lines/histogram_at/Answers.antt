@@ -1,5 +1,5 @@
 use Rattle.std.proofs.Common.{◌∙◌, ap, Some, None, codes}
-use Rattle.sd_model_settings.specs.Ranges.{IsClasses}
+use Rattle.sd_law_settings.specs.Ranges.{IsClasses}
 use Rattle.sd_model_settings.specs.ConfigText.{histogram_line}
 use Rattle.sd_plan.specs.Entries.{classes_view}
 use Rattle.sd_config_text.proofs.ConfigPlaces.{all_at, through, got, got_none}

@@ -1,5 +1,5 @@
 use Rattle.std.proofs.Common.{refl, ◌∙◌, arith, rules}
-use Rattle.sd_model_record.proofs.CountLemmas.{counted_none}
+use Rattle.sd_shared_desk.proofs.CountLemmas.{counted_none}
 use Rattle.sd_door.proofs.DoorLemmas.{called_not}
 use Rattle.sd_door.proofs.KeepLemmas.{HasKept-none, HasKept-from, HasKept-next, HasKept-then, one_turn}
 use Rattle.sd_door.proofs.keeping.keep_door.Goals as goal

@@ -1,5 +1,5 @@
 use Rattle.std.proofs.Common.{refl, ap, ◌∙◌, arith}
-use Rattle.sd_model_text.proofs.PieceCounts.{length-pieces}
+use Rattle.sd_law_text.proofs.PieceCounts.{length-pieces}
 use Rattle.sd_batch.specs.Batch.{Waiting}
 use Rattle.sd_filing.specs.declared.filing.Filed.{Filed}
 use Rattle.sd_filing.proofs.FilingLemmas.{all_read, bad_one, none_filed, piece_filed, reads_same, submitted_filed}

@@ -6,8 +6,9 @@ use Rattle.sd_model_outside.specs.Deliveries.{AfterMark, FitsUse, Written}
 use Rattle.sd_model_shard.specs.Shard.{Table}
 use Rattle.sd_model_record.specs.Backends.{Backend, Graphite, Console, mark_of, text_of}
 use Rattle.sd_model_record.specs.Record.{record_of}
-use Rattle.sd_model_record.proofs.CountLemmas.{counted_next}
-use Rattle.sd_model_serve.specs.Rounds.{Round, table_at, round_text}
+use Rattle.sd_shared_desk.proofs.CountLemmas.{counted_next}
+use Rattle.sd_model_serve.specs.Rounds.{Round, round_text}
+use Rattle.sd_flush.specs.Made.{table_at}
 use Rattle.sd_epoch.specs.Table.{table_of}
 use Rattle.sd_desk.specs.Marks.{marks_of, mark_of as seen_mark}
 use Rattle.sd_desk.specs.Tally.{tally_of}

@@ -4,8 +4,9 @@ use Rattle.std.proofs.lemmas.List.{length-map}
 use Rattle.sd_model_shard.specs.Shard.{Table}
 use Rattle.sd_model_record.specs.Backends.{console_text, graphite_text}
 use Rattle.sd_model_record.specs.Record.{record_of}
-use Rattle.sd_model_record.proofs.CountLemmas.{counted_next}
-use Rattle.sd_model_serve.specs.Rounds.{Round, table_at}
+use Rattle.sd_shared_desk.proofs.CountLemmas.{counted_next}
+use Rattle.sd_model_serve.specs.Rounds.{Round}
+use Rattle.sd_flush.specs.Made.{table_at}
 use Rattle.sd_epoch.specs.Table.{table_of}
 use Rattle.sd_desk.specs.Tally.{tally_of}
 use Rattle.sd_flush.specs.Flushing.{form_of}

@@ -4,7 +4,7 @@ use Rattle.std.proofs.lemmas.Bool.Decides.{Decides-eqb}
 use Rattle.std.proofs.lemmas.List.{take-append-drop, take_rest, drop_at}
 use Rattle.std.proofs.lemmas.Slice.Eq.{starts_is}
 use Rattle.std.specs.List.{starts_with}
-use Rattle.sd_model_text.specs.Names.{HasPart}
+use Rattle.sd_law_text.specs.Bytes.{HasPart}
 use Rattle.sd_key.proofs.part.has_part.Goals as goal
 
 -- the part stands where the rest begins with it

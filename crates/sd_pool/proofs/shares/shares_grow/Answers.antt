@@ -4,7 +4,7 @@ use Rattle.std.proofs.lemmas.List.Sums.{sum_by-append, sum_by-cons}
 use Rattle.sd_model_shard.specs.Shard.{Reply}
 use Rattle.sd_model_shard.specs.History.{Act, History}
 use Rattle.sd_model_shard.specs.Whereabouts.{told_by}
-use Rattle.sd_model_serve.specs.Receiving.{one_at}
+use Rattle.sd_pool.specs.Adding.{one_at}
 use Rattle.sd_pool.specs.Pool.{own_at}
 use Rattle.sd_pool.proofs.shares.shares_grow.Goals as goal
 

@@ -2,7 +2,7 @@ use Rattle.std.proofs.Common.{◌≡◌, ℕ, eqb-true, length, List, [], ◌++�
 use Rattle.std.specs.Prelude.{flat_map}
 use Rattle.std.proofs.lemmas.List.{nil_from_length, take-append-drop, take_rest}
 use Rattle.sd_model_settings.specs.Entries.{Node}
-use Rattle.sd_model_stream.specs.Streams.{CutsOn}
+use Rattle.sd_tcp.specs.Cutting.{CutsOn}
 use Rattle.sd_model_proxy.specs.LineRelays.{lines_of_cut}
 use Rattle.sd_proxy_desk.specs.Views.{totals_view}
 use Rattle.sd_proxy.specs.Streaming.{TakesBytes}

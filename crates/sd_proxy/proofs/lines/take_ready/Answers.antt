@@ -1,5 +1,6 @@
 use Rattle.std.proofs.Common.{[], ◌∷◌, sym, subst}
-use Rattle.sd_model_stream.specs.Streams.{Cut, CutsOn}
+use Rattle.sd_model_stream.specs.Streams.{Cut}
+use Rattle.sd_tcp.specs.Cutting.{CutsOn}
 use Rattle.sd_tcp.specs.Cut.{cut_view}
 use Rattle.sd_proxy.proofs.CutLemmas.{TakesBytes-none, TakesBytes-one}
 use Rattle.sd_proxy.proofs.lines.take_ready.Goals as goal

@@ -1,6 +1,6 @@
 use Rattle.std.proofs.Common.{◌∙◌, ℕ, List, map, subst, take, arith}
 use Rattle.std.proofs.lemmas.List.{length-take-le, with_items_is}
-use Rattle.sd_model_stream.specs.Streams.{CutsOn}
+use Rattle.sd_tcp.specs.Cutting.{CutsOn}
 use Rattle.sd_proxy.specs.Looking.{pass_seen}
 use Rattle.sd_proxy.specs.Streaming.{cuts_read}
 use Rattle.sd_proxy.proofs.LookedLemmas.{SendsByLooks-one}

@@ -1,6 +1,6 @@
 use Rattle.std.proofs.Common.{◌∙◌, List, map, refl, ap, subst, rules}
 use Rattle.sd_model_settings.specs.Entries.{Node}
-use Rattle.sd_model_stream.specs.Streams.{Cutting}
+use Rattle.sd_tcp.specs.Cutting.{Cutting}
 use Rattle.sd_proxy.specs.Looking.{pass_seen}
 use Rattle.sd_proxy.specs.Streaming.{SendsRead}
 use Rattle.sd_proxy_desk.specs.Views.{totals_view}

@@ -1,5 +1,6 @@
 use Rattle.std.proofs.Common.{ℕ, List, [], ◌∷◌, sym, subst}
-use Rattle.sd_model_stream.specs.Streams.{Line, CutsOn}
+use Rattle.sd_model_stream.specs.Streams.{Line}
+use Rattle.sd_tcp.specs.Cutting.{CutsOn}
 use Rattle.sd_receive.proofs.LineLemmas.{ReadsBytes-push}
 use Rattle.sd_receive.proofs.lines.take_line.Goals as goal
 

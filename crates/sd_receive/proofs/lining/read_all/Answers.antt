@@ -1,6 +1,6 @@
 use Rattle.std.proofs.Common.{◌≡◌, Bool, ◌||◌, sym, ap, subst, ◌∙◌}
 use Rattle.sd_model_record.specs.Counts.{Among, IsKeeping}
-use Rattle.sd_model_record.proofs.DeskLemmas.{called_as}
+use Rattle.sd_shared_desk.proofs.DeskLemmas.{called_as}
 use Rattle.sd_model_stream.specs.Streams.{CountsReads, any_worn, reads_in}
 use Rattle.sd_outside.specs.declared.door.DoorEnd.{DoorEnd}
 use Rattle.sd_shared_desk.specs.Shared.{part_of}

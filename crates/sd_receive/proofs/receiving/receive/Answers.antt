@@ -1,7 +1,7 @@
 use Rattle.std.proofs.Common.{sym, ◌∙◌, refl, arith, rules}
 use Rattle.std.proofs.lemmas.List.{length-map}
-use Rattle.sd_model_record.proofs.CountLemmas.{counted_none}
-use Rattle.sd_model_record.proofs.DeskLemmas.{called_none}
+use Rattle.sd_shared_desk.proofs.CountLemmas.{counted_none}
+use Rattle.sd_shared_desk.proofs.DeskLemmas.{called_none}
 use Rattle.sd_receive.proofs.ReadLemmas.{takes_none, takes_next, EndsSo-after}
 use Rattle.sd_receive.proofs.receiving.receive.Goals as goal
 

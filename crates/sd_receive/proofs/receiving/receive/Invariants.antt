@@ -3,7 +3,7 @@ use Rattle.sd_model_outside.specs.Outside.{last_count}
 use Rattle.sd_desk.specs.Tally.{tally_of}
 use Rattle.sd_pool.specs.Pool.{IsSeatOf, own_at, shards_of, who_is}
 use Rattle.sd_shared_desk.specs.Shared.{IsSeatOf as IsDeskSeatOf, number_of_seat, part_of}
-use Rattle.sd_model_serve.specs.Receiving.{HasReceived}
+use Rattle.sd_receive.specs.Received.{HasReceived}
 use Rattle.sd_receive.proofs.receiving.receive.Given as goal
 
 abbrev pub invariant-loop-turn : goal.invariant-loop-turn

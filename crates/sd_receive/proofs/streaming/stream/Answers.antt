@@ -1,5 +1,6 @@
 use Rattle.std.proofs.Common.{refl, ap, ◌∙◌, rules}
-use Rattle.sd_model_stream.specs.Streams.{Cutting, WornOut}
+use Rattle.sd_model_stream.specs.Streams.{WornOut}
+use Rattle.sd_tcp.specs.Cutting.{Cutting}
 use Rattle.sd_pool.specs.Pool.{shards_of}
 use Rattle.sd_model_serve.specs.Ends.{most_turns}
 use Rattle.sd_receive.specs.Streaming.{end_of}

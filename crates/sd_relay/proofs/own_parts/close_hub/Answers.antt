@@ -1,6 +1,6 @@
 use Rattle.std.proofs.Common.{◌∙◌, List, ◌∷◌, ◌++◌, All, append-nil, map, ap, subst}
 use Rattle.std.specs.Prelude.{option_to_list}
-use Rattle.sd_model_live.specs.Proxy.{Begins}
+use Rattle.sd_live.specs.Looks.{Begins}
 use Rattle.sd_live.specs.Live.{seen}
 use Rattle.sd_live.specs.declared.pass.UpPass.{UpPass}
 use Rattle.sd_relay.specs.Owns.{pass_of}

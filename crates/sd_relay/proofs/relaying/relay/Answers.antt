@@ -12,8 +12,9 @@ use Rattle.sd_model_proxy.specs.Relays.{AreRelays, relay_totals}
 use Rattle.sd_model_live.specs.Checks.{Check, HasChecked, failed_of}
 use Rattle.sd_model_live.specs.Desk.{CountsCheck, ProxyAct, ProxyEvent, done_by}
 use Rattle.sd_model_live.specs.Port.{HasPort, has_port}
-use Rattle.sd_model_live.specs.Proxy.{Begins, HaveAnswered, all_of, first_history}
-use Rattle.sd_model_live.proofs.LookLemmas.{answered_on}
+use Rattle.sd_model_live.specs.Proxy.{all_of, first_history}
+use Rattle.sd_live.specs.Looks.{Begins, HaveAnswered}
+use Rattle.sd_live.proofs.LookLemmas.{answered_on}
 use Rattle.sd_plan.specs.Entries.{node_view}
 use Rattle.sd_turn.specs.Lists.{span}
 use Rattle.sd_live.specs.Live.{IsPassOf, seen}

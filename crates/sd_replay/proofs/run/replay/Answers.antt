@@ -1,6 +1,6 @@
 use Rattle.std.proofs.Common.{◌≡◌, ◌≢◌, ◌<◌, ℕ, ◌^◌, List, [], ◌∷◌, ◌++◌, map, take, drop, length, length-take, length-append, sym, subst, ap, ◌∙◌, refl, arith}
 use Rattle.sd_model_outside.specs.Outside.{Object, Used, Rose, HasFailedBehind, given, put_back}
-use Rattle.sd_model_outside.specs.Wires.{AreSent}
+use Rattle.sd_repeater.specs.Sent.{AreSent}
 use Rattle.sd_model_outside.specs.Deliveries.{AfterMark, FitsUse}
 use Rattle.sd_model_outside.proofs.OutsideLemmas.{Reads-append, Reads-nil}
 use Rattle.sd_model_outside.proofs.WriteLemmas.{given-given}
@@ -17,13 +17,13 @@ use Rattle.sd_model_replay.specs.Replay.{packet_tally, replies_to, states_after,
 use Rattle.sd_model_replay.specs.Script.{Packet, Flush, Admin, IsLegal, end_word, Faulty, Begins, IsUndecided}
 use Rattle.sd_model_replay.specs.Asked.{output_in, output_of}
 use Rattle.sd_model_replay.specs.AccountingTheorem.{Seen, seen_at}
-use Rattle.sd_model_replay.specs.Ends.{Replayed}
+use Rattle.sd_replay.specs.Replayed.{Replayed}
 use Rattle.sd_shards.specs.Shards.{Group, AreAlike, group_bounds, numbers, state_at}
 use Rattle.sd_model_shard.specs.Whereabouts.{dropped_in}
 use Rattle.sd_replay.specs.Ends.{end_of}
 use Rattle.sd_desk.specs.Marks.{marks_of}
 use Rattle.sd_plan.specs.Entries.{target_view}
-use Rattle.sd_model_record.proofs.WireLemmas.{AreRepeated-one, length-sent}
+use Rattle.sd_repeater.proofs.SentLemmas.{AreRepeated-one, length-sent}
 use Rattle.std.proofs.lemmas.List.{map-append, length-map, take-append-drop, length-drop}
 use Rattle.sd_script.specs.Flaws.{flaw_of}
 use Rattle.sd_script.specs.Reading.{left}

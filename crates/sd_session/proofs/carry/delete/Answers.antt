@@ -1,7 +1,7 @@
 use Rattle.std.proofs.Common.{◌≡◌, refl, sym, ◌∙◌, arith, Some, None, slice_get}
 use Rattle.std.proofs.lemmas.Option.{slice_get_within}
 use Rattle.std.proofs.lemmas.Result.{err_from_is_err_and}
-use Rattle.sd_model_record.specs.Admin.{names_of}
+use Rattle.sd_admin.specs.Words.{names_of}
 use Rattle.sd_key.specs.Kind.{kind_of}
 use Rattle.sd_admin.specs.Command.{command_view}
 use Rattle.sd_pool.specs.Pool.{own_at, shards_of}

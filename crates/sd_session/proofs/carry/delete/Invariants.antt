@@ -1,5 +1,5 @@
 use Rattle.std.proofs.Common.{◌≡◌, ◌-◌, length}
-use Rattle.sd_model_record.specs.Admin.{names_of}
+use Rattle.sd_admin.specs.Words.{names_of}
 use Rattle.sd_model_serve.specs.Receiving.{administrator}
 use Rattle.sd_key.specs.Kind.{kind_of}
 use Rattle.sd_admin.specs.Command.{command_view}

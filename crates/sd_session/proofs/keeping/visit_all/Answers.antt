@@ -1,6 +1,7 @@
-use Rattle.sd_model_serve.proofs.CommandLemmas.{visits_commands}
+use Rattle.sd_session.proofs.CommandLemmas.{visits_commands}
 use Rattle.std.proofs.Common.{List, subst}
-use Rattle.sd_model_record.specs.Counts.{Among, HasCalled, IsKeeping}
+use Rattle.sd_model_record.specs.Counts.{Among, IsKeeping}
+use Rattle.sd_shared_desk.specs.Counts.{HasCalled}
 use Rattle.sd_model_record.specs.DeskHistory.{DeskCall}
 use Rattle.sd_shared_desk.specs.Shared.{part_of}
 use Rattle.sd_session.proofs.VisitLemmas.{faults_alone, visited_all}

@@ -1,7 +1,7 @@
 use Rattle.std.proofs.Common.{◌≡◌, ◌∙◌, [], true, false, refl, sym}
 use Rattle.sd_model_record.specs.Admin.{command}
-use Rattle.sd_model_record.specs.Counts.{nothing}
-use Rattle.sd_model_record.proofs.CountLemmas.{counted_none, counted_next}
+use Rattle.sd_shared_desk.specs.Counts.{nothing}
+use Rattle.sd_shared_desk.proofs.CountLemmas.{counted_none, counted_next}
 use Rattle.sd_model_serve.specs.Sessions.{Exchange, is_quit}
 use Rattle.sd_desk.specs.Facts.{facts_view}
 use Rattle.sd_pool.specs.Pool.{own_at, shards_of}

@@ -1,4 +1,4 @@
-use Rattle.sd_model_serve.proofs.CommandLemmas.{talked_commands}
+use Rattle.sd_session.proofs.CommandLemmas.{talked_commands}
 use Rattle.sd_pool.specs.Pool.{shards_of}
 use Rattle.sd_model_serve.specs.Talks.{lines_in}
 use Rattle.sd_session.proofs.DoneLemmas.{answered_all}

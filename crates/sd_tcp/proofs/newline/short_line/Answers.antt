@@ -1,6 +1,6 @@
 use Rattle.std.proofs.Common.{ℕ, ◌+◌, take, length-take, sym, ap, ◌∙◌, arith}
 use Rattle.std.proofs.lemmas.List.{length-take-le, take-take}
-use Rattle.sd_model_text.specs.Lines.{has_byte}
+use Rattle.sd_law_text.specs.Bytes.{has_byte}
 use Rattle.sd_tcp.proofs.LineLemmas.{front_ended, front_of, lacks_newline}
 use Rattle.sd_tcp.proofs.newline.short_line.Goals as goal
 

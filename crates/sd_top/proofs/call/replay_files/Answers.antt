@@ -1,5 +1,5 @@
 use Rattle.std.proofs.Common.{◌≡◌, map, refl, subst, ◌∙◌}
-use Rattle.sd_model_replay.specs.Ends.{Replayed}
+use Rattle.sd_replay.specs.Replayed.{Replayed}
 use Rattle.sd_model_call.specs.Call.{StopsAmong}
 use Rattle.sd_model_call.specs.Opening.{World, flags_of, replay_openings, settled, started}
 use Rattle.sd_replay.specs.Ends.{end_of}

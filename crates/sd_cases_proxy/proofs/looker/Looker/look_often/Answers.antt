@@ -1,7 +1,7 @@
 use Rattle.std.proofs.Common.{rules, ◌≡◌, ◌++◌, [], ◌∷◌, sym, subst}
 use Rattle.sd_live.specs.Live.{seen}
-use Rattle.sd_model_live.specs.Proxy.{HaveAnswered}
-use Rattle.sd_model_live.proofs.LookLemmas.{none_answered, one_answered, answered_on, answered_more}
+use Rattle.sd_live.specs.Looks.{HaveAnswered}
+use Rattle.sd_live.proofs.LookLemmas.{none_answered, one_answered, answered_on, answered_more}
 use Rattle.sd_cases_proxy.proofs.looker.Looker.look_often.Goals as goal
 
 pub loop-init : goal.loop-init

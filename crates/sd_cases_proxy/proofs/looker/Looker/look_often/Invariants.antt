@@ -1,5 +1,5 @@
 use Rattle.sd_live.specs.Live.{seen, IsPassOf}
-use Rattle.sd_model_live.specs.Proxy.{HaveAnswered}
+use Rattle.sd_live.specs.Looks.{HaveAnswered}
 use Rattle.sd_cases_proxy.proofs.looker.Looker.look_often.Given as goal
 
 abbrev pub invariant-loop : goal.invariant-loop

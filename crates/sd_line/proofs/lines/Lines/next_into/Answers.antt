@@ -1,7 +1,7 @@
 use Rattle.std.proofs.Common.{◌≡◌, [], ◌∷◌, ◌++◌, None, sym, ap, ◌∙◌}
 use Rattle.std.proofs.lemmas.Bool.{both_ways}
 use Rattle.sd_model_text.specs.Lines.{pieces}
-use Rattle.sd_model_text.proofs.CutLemmas.{cut-leaves}
+use Rattle.sd_law_text.proofs.CutLemmas.{cut-leaves}
 use Rattle.sd_line.specs.Named.{named_view}
 use Rattle.sd_line.proofs.PieceLemmas.{line-answers, pieces-line, some-values}
 use Rattle.sd_line.proofs.lines.Lines.next_into.Goals as goal

@@ -1,5 +1,5 @@
 use Rattle.std.proofs.Common.{refl, sym, ap, ◌∙◌, rules}
-use Rattle.sd_model_record.specs.Counts.{of_tally}
+use Rattle.sd_shared_desk.specs.Counts.{of_tally}
 use Rattle.sd_model_stream.specs.Streams.{ends_by_failure}
 use Rattle.sd_desk.specs.Tally.{tally_of}
 use Rattle.sd_receive.proofs.line_visitor.LineVisitorVisitor.visit.Goals as goal

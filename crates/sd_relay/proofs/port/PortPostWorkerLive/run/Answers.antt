@@ -1,7 +1,7 @@
 use Rattle.std.proofs.Common.{◌≡◌, ◌∙◌, [], false, refl, sym, ap, subst, append-nil}
 use Rattle.std.specs.Prelude.{nat_lt}
 use Rattle.sd_model_live.specs.Port.{HasPort, has_port}
-use Rattle.sd_model_live.proofs.LookLemmas.{none_answered}
+use Rattle.sd_live.proofs.LookLemmas.{none_answered}
 use Rattle.sd_proxy_desk.specs.Shared.{events_of}
 use Rattle.sd_live.specs.Live.{seen}
 use Rattle.sd_relay.proofs.port.PortPostWorkerLive.run.Goals as goal

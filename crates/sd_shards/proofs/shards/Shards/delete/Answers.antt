@@ -3,8 +3,8 @@ use Rattle.std.specs.Prelude.{flat_map}
 use Rattle.std.specs.Vec.{with_items}
 use Rattle.sd_model_shard.specs.Shard.{State, after_delete, deletion_of}
 use Rattle.sd_model_record.specs.Replies.{keys_in, keys_told}
-use Rattle.sd_model_shards.specs.Shards.{AtHome}
-use Rattle.sd_model_shards.proofs.HomeLemmas.{AtHome-delete}
+use Rattle.sd_law_shards.specs.Shards.{AtHome}
+use Rattle.sd_law_shards.proofs.HomeLemmas.{AtHome-delete}
 use Rattle.sd_key.specs.Kind.{kind_of}
 use Rattle.sd_shard.specs.Shard.{Standing, state_of, Appends}
 use Rattle.sd_shards.specs.Shards.{Group}

@@ -3,7 +3,7 @@ use Rattle.std.specs.Prelude.{flat_map}
 use Rattle.sd_model_shard.specs.Shard.{State, Dumped}
 use Rattle.sd_model_shard.specs.Commands.{DumpRow, dump_of}
 use Rattle.sd_model_record.specs.Replies.{rows_told}
-use Rattle.sd_model_shards.specs.Shards.{AtHome}
+use Rattle.sd_law_shards.specs.Shards.{AtHome}
 use Rattle.sd_key.specs.Kind.{kind_of}
 use Rattle.sd_shard.specs.Dump.{dump_row_of, rows_of}
 use Rattle.sd_shard.specs.Shard.{Standing, state_of, Appends}

@@ -4,7 +4,7 @@ use Rattle.std.proofs.lemmas.List.{length-map}
 use Rattle.sd_model_shard.specs.Whereabouts.{dropped_in}
 use Rattle.sd_model_replay.specs.Script.{Packet}
 use Rattle.sd_model_replay.specs.Replay.{replies_to, states_after}
-use Rattle.sd_model_shards.proofs.HomeLemmas.{AtHome-after}
+use Rattle.sd_law_shards.proofs.HomeLemmas.{AtHome-after}
 use Rattle.sd_batch.specs.Batch.{Waiting}
 use Rattle.sd_shard.specs.Shard.{state_of}
 use Rattle.sd_shards.specs.Inside.{AreShards}

@@ -4,8 +4,8 @@ use Rattle.std.specs.Vec.{with_items}
 use Rattle.std.proofs.lemmas.List.{length-append, length-map}
 use Rattle.sd_rows.specs.declared.row.Row.{Row}
 use Rattle.sd_model_shard.specs.Shard.{after_swap, table_of}
-use Rattle.sd_model_shards.specs.Shards.{AtHome}
-use Rattle.sd_model_shards.proofs.HomeLemmas.{AtHome-swap}
+use Rattle.sd_law_shards.specs.Shards.{AtHome}
+use Rattle.sd_law_shards.proofs.HomeLemmas.{AtHome-swap}
 use Rattle.sd_epoch.specs.Table.{Listing, table_of as table_seen}
 use Rattle.sd_filing.specs.Filing.{IsOpenFor}
 use Rattle.sd_shard.specs.Shard.{Standing, state_of}

@@ -1,6 +1,6 @@
 use Rattle.std.proofs.Common.{[], ◌∷◌, sym, subst}
-use Rattle.sd_model_stream.specs.Streams.{Cutting, CutsOn}
-use Rattle.sd_model_stream.proofs.CutLemmas.{CutsOn-finish}
+use Rattle.sd_tcp.specs.Cutting.{Cutting, CutsOn}
+use Rattle.sd_tcp.proofs.CutLemmas.{CutsOn-finish}
 use Rattle.sd_tcp.proofs.cutter.Cutter.finish.Goals as goal
 
 pub returns-clause-cut : goal.returns-clause-cut

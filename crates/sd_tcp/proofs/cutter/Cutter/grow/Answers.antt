@@ -1,5 +1,5 @@
 use Rattle.std.proofs.Common.{ap, ◌∙◌}
-use Rattle.sd_model_stream.specs.Streams.{Cutting, longer}
+use Rattle.sd_tcp.specs.Cutting.{Cutting, longer}
 use Rattle.sd_tcp.proofs.cutter.Cutter.grow.Goals as goal
 
 pub returns : goal.returns

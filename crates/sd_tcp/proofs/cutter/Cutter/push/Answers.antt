@@ -1,7 +1,7 @@
 use Rattle.std.proofs.Common.{ℕ, true, false, List, [], ◌+◌, length, take, sym, ap, subst, ◌∙◌, arith}
 use Rattle.std.proofs.lemmas.List.{length-take-le, take_all}
-use Rattle.sd_model_stream.specs.Streams.{Cutting, CutsOn, longer, through_newline}
-use Rattle.sd_model_stream.proofs.CutLemmas.{CutsOn-line, CutsOn-part, through_none, through_part}
+use Rattle.sd_tcp.specs.Cutting.{Cutting, CutsOn, longer, through_newline}
+use Rattle.sd_tcp.proofs.CutLemmas.{CutsOn-line, CutsOn-part, through_none, through_part}
 use Rattle.sd_tcp.proofs.LineLemmas.{front_ended, has_newline, lacks_newline}
 use Rattle.sd_tcp.proofs.cutter.Cutter.push.Goals as goal
 

@@ -1,7 +1,8 @@
 use Rattle.std.proofs.Common.{◌≡◌, [], ◌∷◌, ◌++◌, eqb-true, length, vec_len, sym, ap, subst, ◌∙◌, arith}
 use Rattle.std.proofs.lemmas.List.{nil_from_length}
-use Rattle.sd_model_stream.specs.Streams.{Line, Cutting, CutsOn, nothing_cut}
-use Rattle.sd_model_stream.proofs.CutLemmas.{CutsOn-whole}
+use Rattle.sd_model_stream.specs.Streams.{Line}
+use Rattle.sd_tcp.specs.Cutting.{Cutting, CutsOn, nothing_cut}
+use Rattle.sd_tcp.proofs.CutLemmas.{CutsOn-whole}
 use Rattle.sd_tcp.specs.Held.{line_held}
 use Rattle.sd_tcp.proofs.LineLemmas.{both_of}
 use Rattle.sd_tcp.proofs.cutter.Cutter.whole_line.Goals as goal

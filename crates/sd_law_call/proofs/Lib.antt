@@ -1,0 +1,10 @@
+pub mod BegunLemmas
+pub mod CallEnds
+pub mod DrillEnds
+pub mod KeptFaults
+pub mod LoopEnds
+pub mod Openings
+pub mod ProxyEnds
+pub mod ReadingLemmas
+pub mod ReplayEnds
+pub mod ServerEnds

@@ -1,0 +1,4 @@
+pub mod AccountLemmas
+pub mod AccountingLemmas
+pub mod DocumentedLemmas
+pub mod SendLemmas

@@ -1,0 +1,13 @@
+pub mod AllUpLemmas
+pub mod AskedLemmas
+pub mod AuditLemmas
+pub mod CommandLemmas
+pub mod Decisions
+pub mod EarlierLemmas
+pub mod EarlierReplays
+pub mod EndLemmas
+pub mod EndedLemmas
+pub mod NodeLemmas
+pub mod RunAudit
+pub mod SentLemmas
+pub mod StreamLemmas

@@ -1,0 +1,4 @@
+pub mod DefaultsInRange
+pub mod EntriesInRange
+pub mod SettingsInRange
+pub mod ValuesInRange

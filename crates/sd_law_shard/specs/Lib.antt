@@ -1,0 +1,3 @@
+pub mod Amounts
+pub mod Sums
+pub mod Told

@@ -1,0 +1,8 @@
+pub mod BooksLemmas
+pub mod EventsLemmas
+pub mod HomeLemmas
+pub mod MergedLemmas
+pub mod PremiseLemmas
+pub mod ShownLemmas
+pub mod ToldLemmas
+pub mod ViewLemmas

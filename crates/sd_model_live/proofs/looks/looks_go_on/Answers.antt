@@ -1,8 +1,0 @@
-use Rattle.sd_model_live.proofs.LookLemmas.{answered_on, answered_more}
-use Rattle.sd_model_live.proofs.looks.looks_go_on.Goals as goal
-
-pub returns-clause-history : goal.returns-clause-history
-returns-clause-history c = answered_on
-
-pub returns-clause-looks : goal.returns-clause-looks
-returns-clause-looks c = answered_more

@@ -1,5 +1,0 @@
-use Rattle.sd_model_record.proofs.CommandLemmas.{names_read-short}
-use Rattle.sd_model_record.proofs.admin.deletions_have_names.Goals as goal
-
-pub returns-clause-short : goal.returns-clause-short
-returns-clause-short c = names_read-short

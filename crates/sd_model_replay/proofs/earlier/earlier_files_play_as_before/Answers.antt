@@ -1,8 +1,0 @@
-use Rattle.sd_model_replay.proofs.EarlierLemmas.{first_swap, all_lines}
-use Rattle.sd_model_replay.proofs.earlier.earlier_files_play_as_before.Goals as goal
-
-pub returns-clause-policy : goal.returns-clause-policy
-returns-clause-policy c = first_swap
-
-pub returns-clause-records : goal.returns-clause-records
-returns-clause-records c = all_lines

@@ -1,5 +1,0 @@
-use Rattle.sd_model_serve.proofs.AccountLemmas.{account}
-use Rattle.sd_model_serve.proofs.served.histories_account.Goals as goal
-
-pub returns : goal.returns
-returns c limits policy form histories rounds legal handed_out = account limits policy form histories rounds legal handed_out

@@ -1,5 +1,0 @@
-use Rattle.sd_model_shard.proofs.NumberLemmas.{sums_are_told}
-use Rattle.sd_model_shard.proofs.history.numbers_are_sums.Goals as goal
-
-pub returns : goal.returns
-returns c = sums_are_told
