@@ -1,4 +1,4 @@
-use crate::stop::Stop;
+use sd_timing::Stop;
 use std::time::{Clock, Duration};
 
 /// Whether an object is to stop, and has gone on for so many seconds since it first saw that.

@@ -1,8 +1,6 @@
-use crate::moments::now;
-use crate::pace::Pace;
-use crate::stop::Stop;
 use sd_edge::{TimeLimit, text_limit};
 use sd_socket::{most_of_output, waits_for_output};
+use sd_timing::{Pace, Stop, now};
 use std::fs::Files;
 use std::io::{self, ErrorKind};
 use std::sync::OnceLock;

@@ -1,12 +1,11 @@
 //! That workers may take the objects into threads of their own, and share the gate and the clock.
 
-use crate::graphite_link::GraphiteLink;
-use crate::system_clock::SystemClock;
-use crate::tcp_door::TcpDoor;
-use crate::tcp_probe::TcpProbe;
 use crate::tick_beat::TickBeat;
 use crate::udp_receiver::UdpReceiver;
+use sd_doors::TcpDoor;
 use sd_outside::{Backend, Beat, Clock, Datagrams, Door, Gate, NoGate, Probe};
+use sd_peers::{GraphiteLink, TcpProbe};
+use sd_timing::SystemClock;
 use std::thread::Threads;
 
 fn is_receiver<D: Datagrams + Send>(_receiver: &D) {}

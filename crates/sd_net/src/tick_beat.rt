@@ -1,11 +1,8 @@
-use crate::moments::{millis, now};
-use crate::pace::Pace;
-use crate::run_log::RunLog;
-use crate::stop::Stop;
-use crate::turns::take_turn;
 use sd_edge::{Backoff, FlushSeconds, TickTimes, TimeLimit};
 use sd_event::flush_is_late;
+use sd_log::RunLog;
 use sd_outside::{Beat, Faulty, Interval, Tick, fault};
+use sd_timing::{Pace, Stop, millis, now, take_turn};
 use std::fs::Files;
 use std::io::{self, ErrorKind};
 use std::thread::sleep;

@@ -1,14 +1,12 @@
 ghost use Rattle.std.specs.Prelude.{◌≤◌, length, IfOk};
 
 use crate::draining::has_drained;
-use crate::place::{datagrams_of, refusal};
-use crate::run_log::RunLog;
-use crate::sockets::Sockets;
-use crate::stop::Stop;
-use crate::turns::take_turn;
 use sd_edge::Backoff;
+use sd_log::RunLog;
+use sd_open::{Sockets, datagrams_of, refusal};
 use sd_outside::{Address, Datagrams, Faulty, Next, OpenRefusal, Opens, fault, opening_fault};
 use sd_socket::receive_buffer;
+use sd_timing::{Stop, take_turn};
 use std::fs::Files;
 use std::io::{self, ErrorKind};
 use std::net::{Net, UdpSocket};

@@ -1,7 +1,7 @@
 //! Sockets that the standard library doesn't make: several for datagrams at one address, each with a receive buffer that was
 //! asked for, and those that were handed over by what started the process, as systemd does.
 //!
-//! `sd_net` opens them. This crate alone has `unsafe` code: calls of the C library, each of which requires of its arguments
+//! `sd_open` opens them. This crate alone has `unsafe` code: calls of the C library, each of which requires of its arguments
 //! what the library does, and the taking of descriptors that such a call has just made. What the system does with a socket no
 //! clause says.
 #![tactic(auto)]

@@ -10,7 +10,7 @@ const SLICE_MS: u64 = 100;
 
 /// A delivery that is under way, the clock that it goes by, and the stop that makes it shorter.
 #[derive(Drop)]
-pub(crate) struct Waiting<'a, R> {
+pub struct Waiting<'a, R> {
     host: &'a R,
     stop: &'a Stop,
     delivery: Delivery,
@@ -22,7 +22,7 @@ impl<'a, R: Clock + Files> Waiting<'a, R> {
     /// # Errors
     ///
     /// Those of the clock.
-    pub(crate) fn begin(host: &'a R, stop: &'a Stop, limit: u64) -> io::Result<Waiting<'a, R>> {
+    pub fn begin(host: &'a R, stop: &'a Stop, limit: u64) -> io::Result<Waiting<'a, R>> {
         let began = now(host)?;
         Ok(Waiting {
             host,
@@ -41,7 +41,7 @@ impl<'a, R: Clock + Files> Waiting<'a, R> {
     /// # Errors
     ///
     /// `TimedOut` where nothing is left, and those of the clock.
-    pub(crate) fn left(&self) -> io::Result<u64> {
+    pub fn left(&self) -> io::Result<u64> {
         self.left_until(self.end())
     }
 
@@ -50,7 +50,7 @@ impl<'a, R: Clock + Files> Waiting<'a, R> {
     /// # Errors
     ///
     /// `TimedOut` where nothing is left, and those of the clock.
-    pub(crate) fn left_until(&self, limit: TimeLimit) -> io::Result<u64> {
+    pub fn left_until(&self, limit: TimeLimit) -> io::Result<u64> {
         let left = self.end().and(limit).left(now(self.host)?);
         left.ok_or(io::Error::from(ErrorKind::TimedOut))
     }
@@ -60,7 +60,7 @@ impl<'a, R: Clock + Files> Waiting<'a, R> {
     /// # Errors
     ///
     /// `TimedOut` where nothing is left, and those of the clock.
-    pub(crate) fn share(&self, tries: usize) -> io::Result<u64> {
+    pub fn share(&self, tries: usize) -> io::Result<u64> {
         let share = self.end().share(now(self.host)?, tries);
         share.ok_or(io::Error::from(ErrorKind::TimedOut))
     }
@@ -70,12 +70,12 @@ impl<'a, R: Clock + Files> Waiting<'a, R> {
     /// # Errors
     ///
     /// Those of the clock.
-    pub(crate) fn since_now(&self, span: u64) -> io::Result<TimeLimit> {
+    pub fn since_now(&self, span: u64) -> io::Result<TimeLimit> {
         Ok(TimeLimit::after(now(self.host)?, span))
     }
 }
 
 /// How long a call may wait before it is asked again what is left, where so many milliseconds are.
-pub(crate) fn slice(left: u64) -> Duration {
+pub fn slice(left: u64) -> Duration {
     Duration::from_millis(left.min(SLICE_MS))
 }

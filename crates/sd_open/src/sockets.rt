@@ -33,7 +33,7 @@ impl Sockets {
     ///
     /// `AddrInUse` where each that was handed over for the place is taken: none of another user can be bound beside it. Those of the
     /// system and of looking up the place.
-    pub(crate) fn datagrams_at<R: Net>(
+    pub fn datagrams_at<R: Net>(
         &self,
         host: &R,
         place: (&str, u16),
@@ -83,7 +83,7 @@ impl Sockets {
     /// # Errors
     ///
     /// Those of the system and of looking up the place, such as `AddrInUse`.
-    pub(crate) fn listener_at<R: Net<Listener = TcpListener, Stream = TcpStream>>(
+    pub fn listener_at<R: Net<Listener = TcpListener, Stream = TcpStream>>(
         &self,
         host: &R,
         place: (&str, u16),

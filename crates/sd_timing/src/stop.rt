@@ -36,12 +36,12 @@ impl Stop {
     }
 
     /// From now on the caller looks for the file, several times a second.
-    pub(crate) fn watch(&self) {
+    pub fn watch(&self) {
         self.is_watched.store(true, Ordering::SeqCst);
     }
 
     /// Looks for the file, where no other part does, and answers whether the flag is set.
-    pub(crate) fn look_unwatched(&self, host: &impl Files) -> bool {
+    pub fn look_unwatched(&self, host: &impl Files) -> bool {
         if self.is_watched.load(Ordering::SeqCst) {
             self.is_set()
         } else {
@@ -65,7 +65,7 @@ impl Stop {
     }
 
     /// Looks for the file, and answers when the flag was first seen set, in milliseconds of the clock that never goes back.
-    pub(crate) fn seen_at(&self, host: &(impl Files + Clock)) -> Option<u64> {
+    pub fn seen_at(&self, host: &(impl Files + Clock)) -> Option<u64> {
         if !self.look(host) {
             return None;
         }

@@ -1,12 +1,12 @@
 use crate::client::{Client, Taken, Unheard};
 use crate::door_sizes::DoorSizes;
 use crate::look::Look;
-use crate::run_log::RunLog;
 use mio::Poll;
 use mio::event::Event;
 use mio::net::{TcpListener, TcpStream};
 use sd_edge::{Guest, Guests, LineBuffer, PIECE, Stage};
 use sd_event::client_let_go;
+use sd_log::RunLog;
 use std::alloc::{AllocError, Global};
 use std::io::{self, ErrorKind};
 

@@ -2,12 +2,12 @@ ghost use Rattle.std.specs.Prelude.{◌≡◌};
 
 use crate::conversation::{Conversation, Progress, ReplyLine};
 use crate::hosts::Hosts;
-use crate::moments::now;
-use crate::place::host_of;
-use crate::run_log::RunLog;
 use mio::{Events, Poll};
 use sd_edge::TimeLimit;
+use sd_log::RunLog;
+use sd_open::host_of;
 use sd_outside::{Address, Failed, Faulty, Probe, fault};
+use sd_timing::now;
 use std::alloc::Global;
 use std::io::{self, ErrorKind};
 use std::thread::Threads;

@@ -1,6 +1,6 @@
-use crate::moments::now;
 use crate::resolved::Resolved;
 use sd_outside::Name;
+use sd_timing::now;
 use std::alloc::{AllocError, Global};
 use std::io::{self, ErrorKind};
 use std::net::IpAddr;

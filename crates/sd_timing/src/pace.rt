@@ -21,13 +21,13 @@ impl Pace {
     }
 
     /// Flushes are so many milliseconds apart from now on.
-    pub(crate) fn start(&self, interval_ms: u32) {
+    pub fn start(&self, interval_ms: u32) {
         self.interval
             .store(u64::from(interval_ms.max(1)), Ordering::SeqCst);
     }
 
     /// How many milliseconds flushes are apart, once the run has started.
-    pub(crate) fn interval(&self) -> Option<u32> {
+    pub fn interval(&self) -> Option<u32> {
         match self.interval.load(Ordering::SeqCst) {
             0 => None,
             interval => Some(u32::try_from(interval).unwrap_or(u32::MAX)),
@@ -35,12 +35,12 @@ impl Pace {
     }
 
     /// How long one delivery may take, in milliseconds.
-    pub(crate) fn delivery_limit(&self) -> u64 {
+    pub fn delivery_limit(&self) -> u64 {
         delivery_limit(self.interval().unwrap_or(0))
     }
 
     /// The last flush has this second where no tick comes any more.
-    pub(crate) fn expect_last(&self, second: u64) {
+    pub fn expect_last(&self, second: u64) {
         self.last_second.store(second, Ordering::SeqCst);
     }
 

@@ -19,6 +19,7 @@ pub struct SystemClock<'a, R> {
 }
 
 impl<'a, R> SystemClock<'a, R> {
+    /// One that was asked nothing yet.
     pub fn new(host: &'a R, pace: &'a Pace) -> SystemClock<'a, R> {
         SystemClock {
             host,

@@ -1,10 +1,10 @@
 use crate::hosts::Host;
-use crate::moments::now;
 use arrayvec::ArrayVec;
 use mio::net::TcpStream;
 use mio::{Interest, Registry, Token};
 use sd_edge::TimeLimit;
 use sd_outside::Address;
+use sd_timing::now;
 use std::io::{self, ErrorKind, Read, Write};
 use std::net::{IpAddr, SocketAddr};
 

@@ -11,8 +11,8 @@ pub(crate) const COUNTED: &str = "samples";
 
 /// Text that is cut where it is too long.
 #[derive(Clone, Debug, Drop)]
-pub(crate) struct ShortText<const MOST: usize> {
-    pub bytes: ArrayVec<u8, MOST>,
+pub struct ShortText<const MOST: usize> {
+    pub(crate) bytes: ArrayVec<u8, MOST>,
 }
 
 impl<const MOST: usize> ShortText<MOST> {
@@ -31,7 +31,8 @@ impl<const MOST: usize> ShortText<MOST> {
         text
     }
 
-    pub(crate) fn as_slice(&self) -> &[u8] {
+    /// Its bytes, so many at most.
+    pub fn as_slice(&self) -> &[u8] {
         self.bytes.as_slice()
     }
 }
@@ -46,7 +47,7 @@ impl<const MOST: usize> Write for ShortText<MOST> {
 }
 
 /// An address of a host with its port, where there is one.
-pub(crate) fn address_text(at: &Option<Address>) -> ShortText<280> {
+pub fn address_text(at: &Option<Address>) -> ShortText<280> {
     match at {
         Some(Address::Host { host, port }) => {
             let host = host.as_slice().escape_ascii();

@@ -1,14 +1,12 @@
 use crate::clients::{Ended, Visit};
 use crate::door_sizes::{DoorSizes, Share};
 use crate::hall::{Hall, Next};
-use crate::place::{host_of, refusal};
-use crate::run_log::RunLog;
 use crate::session_sink::SessionSink;
 use crate::session_source::SessionSource;
-use crate::sockets::Sockets;
-use crate::stop::Stop;
-use crate::turns::take_turn;
+use sd_log::RunLog;
+use sd_open::{Sockets, host_of, refusal};
 use sd_outside::{Address, Door, Entry, Faulty, OpenRefusal, Opens, fault, opening_fault};
+use sd_timing::{Stop, take_turn};
 use std::alloc::Global;
 use std::net::{Net, TcpListener, TcpStream};
 use std::thread::sleep;

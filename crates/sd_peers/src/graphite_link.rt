@@ -1,20 +1,15 @@
 ghost use Rattle.std.specs.Prelude.{◌≡◌, OnErr, OnOk};
 ghost use Rattle.sd_outside.specs.Turns.{raised};
 
-use crate::log_text::address_text;
-use crate::moments::now;
-use crate::pace::Pace;
-use crate::place::host_of;
 use crate::resolved::Resolved;
-use crate::rounds::Rounds;
-use crate::run_log::RunLog;
-use crate::stop::Stop;
 use crate::text_room::TextRoom;
-use crate::waiting::{Waiting, slice};
 use sd_event::Link;
+use sd_log::{Rounds, RunLog, address_text};
+use sd_open::host_of;
 use sd_outside::{
     Address, Backend, Failed, Faulty, OpenRefusal, Opens, Sink, fault, opening_fault,
 };
+use sd_timing::{Pace, Stop, Waiting, now, slice};
 use std::io::{self, ErrorKind, Read, Write};
 use std::net::{Shutdown, SocketAddr, TcpStream};
 use std::thread::{Threads, sleep};

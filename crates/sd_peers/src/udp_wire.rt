@@ -1,11 +1,9 @@
 use crate::hosts::{Host, Hosts};
-use crate::log_text::address_text;
-use crate::moments::now;
-use crate::place::{host_of, refusal};
-use crate::rounds::Rounds;
-use crate::run_log::RunLog;
 use sd_event::Link;
+use sd_log::{Rounds, RunLog, address_text};
+use sd_open::{host_of, refusal};
 use sd_outside::{Address, Failed, Faulty, OpenRefusal, Opens, Wire, fault, opening_fault};
+use sd_timing::now;
 use std::io::{self, ErrorKind};
 use std::net::{IpAddr, Ipv4Addr, Ipv6Addr, SocketAddr, UdpSocket};
 use std::thread::Threads;

@@ -2,12 +2,12 @@
 
 use crate::log_text::{COUNTED, Pairs, ShortText, amount_in};
 use crate::lost::dropped_at;
-use crate::moments::now;
 use log::kv::Source;
 use log::span::Spans;
 use log::{Level, LevelFilter, Log, Metadata, Record};
 use sd_edge::{LineLimit, LogLine};
 use sd_socket::takes_errors;
+use sd_timing::now;
 use std::fmt::Display;
 use std::io::Write;
 use std::sync::{Mutex, MutexGuard};
@@ -37,7 +37,9 @@ struct Counted {
 struct State {
     is_running: bool,
     is_stopping: bool,
-    limit: LineLimit,
+    /// How many lines are told in a second, of those that clients cause and of the others: none of a client's hides another.
+    of_clients: LineLimit,
+    others: LineLimit,
     /// When it was last told how many lines were left out, in milliseconds.
     suppressed_at: u64,
     bad: Counted,
@@ -64,7 +66,9 @@ struct Counts {
 enum Care {
     /// It is told at once.
     Always,
-    /// It is told as far as the limit of lines goes.
+    /// It is told as far as the limit of lines that clients cause goes.
+    OfClients,
+    /// It is told as far as the limit of the other lines goes.
     Limited,
     /// It is counted.
     Bad,
@@ -136,6 +140,8 @@ fn care_for(word: &[u8]) -> Care {
         || word == b"stopped".as_slice()
     {
         Care::Always
+    } else if is_of_client(word) || word == b"client".as_slice() {
+        Care::OfClients
     } else {
         Care::Limited
     }
@@ -179,7 +185,8 @@ impl<'a> RunLog<'a> {
             state: Mutex::new(State {
                 is_running: false,
                 is_stopping: false,
-                limit: LineLimit::new(),
+                of_clients: LineLimit::new(),
+                others: LineLimit::new(),
                 suppressed_at: 0,
                 bad: Counted::none(),
                 dropped: Counted::none(),
@@ -199,14 +206,14 @@ impl<'a> RunLog<'a> {
     }
 
     /// Notes whose admin session begins.
-    pub(crate) fn note_client<D: Display>(&self, client: &D) {
+    pub fn note_client<D: Display>(&self, client: &D) {
         if let Some(mut state) = self.state() {
             state.client = ShortText::of(client);
         }
     }
 
     /// Notes at which port datagrams come, and how many of them the system has dropped there by now.
-    pub(crate) fn note_port(&self, port: u16) {
+    pub fn note_port(&self, port: u16) {
         let lost = dropped_at(self.host, port);
         if let Some(mut state) = self.state() {
             state.port = Some(port);
@@ -215,7 +222,7 @@ impl<'a> RunLog<'a> {
     }
 
     /// Tells that a stop was seen, once.
-    pub(crate) fn note_stop(&self) {
+    pub fn note_stop(&self) {
         if self.is_first_stop() && self.level.allows(Level::Info) {
             self.write(begun(Level::Info, b"stopping"));
         }
@@ -234,7 +241,7 @@ impl<'a> RunLog<'a> {
     }
 
     /// Tells what was counted since this was done last, and what the system lost meanwhile.
-    pub(crate) fn end_interval(&self) {
+    pub fn end_interval(&self) {
         self.tell_interval(false);
     }
 
@@ -263,7 +270,7 @@ impl<'a> RunLog<'a> {
 
     fn tell_counted(&self, line: Option<LogLine>) {
         if let Some(line) = line {
-            self.tell_limited(line);
+            self.tell_limited(Care::Limited, line);
         }
     }
 
@@ -273,7 +280,10 @@ impl<'a> RunLog<'a> {
         let mut state = self.state()?;
         let suppressed = if is_last || moment.saturating_sub(state.suppressed_at) >= SECOND {
             state.suppressed_at = moment;
-            state.limit.take_suppressed()
+            state
+                .of_clients
+                .take_suppressed()
+                .saturating_add(state.others.take_suppressed())
         } else {
             0
         };
@@ -308,24 +318,28 @@ impl<'a> RunLog<'a> {
         };
         let risen = self.risen_to(dropped_at(self.host, port));
         if risen > 0 {
-            self.tell_limited(numbered("lost", "datagrams", risen));
+            self.tell_limited(Care::Limited, numbered("lost", "datagrams", risen));
         }
     }
 
-    /// Whether one more line may be told now.
-    fn may_tell(&self) -> bool {
+    /// Whether one more line that is so cared for may be told now.
+    fn may_tell(&self, care: Care) -> bool {
         let Ok(moment) = now(self.host) else {
             return false;
         };
-        match self.state() {
-            Some(mut state) => state.limit.pass(moment),
-            None => false,
+        let Some(mut state) = self.state() else {
+            return false;
+        };
+        if care == Care::OfClients {
+            state.of_clients.pass(moment)
+        } else {
+            state.others.pass(moment)
         }
     }
 
-    /// Writes a line as far as the limit of lines goes.
-    fn tell_limited(&self, line: LogLine) {
-        if self.may_tell() {
+    /// Writes a line as far as its limit goes.
+    fn tell_limited(&self, care: Care, line: LogLine) {
+        if self.may_tell(care) {
             self.write(line);
         }
     }
@@ -343,7 +357,7 @@ impl<'a> RunLog<'a> {
     /// Counts a line that standard error didn't take.
     fn note_unwritten(&self) {
         if let Some(mut state) = self.state() {
-            state.limit.suppressed = state.limit.suppressed.saturating_add(1);
+            state.others.suppressed = state.others.suppressed.saturating_add(1);
         }
     }
 
@@ -392,7 +406,9 @@ impl<'a> RunLog<'a> {
         match care_for(word) {
             Care::Bad => self.count_bad(pairs),
             Care::Dropped => self.count_dropped(pairs),
-            Care::Limited => self.tell_limited(self.line_of(level, word, pairs)),
+            care @ (Care::OfClients | Care::Limited) => {
+                self.tell_limited(care, self.line_of(level, word, pairs))
+            }
             Care::Always => self.write(self.line_of(level, word, pairs)),
         }
     }

@@ -6,7 +6,7 @@ use std::io::{Error, ErrorKind};
 use std::str;
 
 /// The host and the port of an address, where it has them and the host is UTF-8.
-pub(crate) fn host_of(at: &Address) -> Option<(&str, u16)> {
+pub fn host_of(at: &Address) -> Option<(&str, u16)> {
     let Address::Host { host, port } = at else {
         return None;
     };
@@ -14,7 +14,7 @@ pub(crate) fn host_of(at: &Address) -> Option<(&str, u16)> {
 }
 
 /// The host and the port where datagrams come, and how large a receive buffer is asked for, likewise.
-pub(crate) fn datagrams_of(at: &Address) -> Option<((&str, u16), u32)> {
+pub fn datagrams_of(at: &Address) -> Option<((&str, u16), u32)> {
     let Address::Datagrams {
         host,
         port,
@@ -34,7 +34,7 @@ fn named(host: &Name, port: u16) -> Option<(&str, u16)> {
 }
 
 /// Why an opening failed, which is counted as a fault unless memory was wanted.
-pub(crate) fn refusal(error: &Error, faults: &mut u64) -> OpenRefusal
+pub fn refusal(error: &Error, faults: &mut u64) -> OpenRefusal
     ensures failed { result ≡ OpenRefusal.Failed → faults.new ≡ raised faults.old }
     ensures stays { faults.old ≤ faults.new }
     ensures out_of_memory { result ≡ OpenRefusal.OutOfMemory → faults.new ≡ faults.old }
