@@ -4,13 +4,14 @@ use Rattle.std.specs.Prelude.{Bool, slice_get, Some}
 use Rattle.std.specs.Option.{option_map}
 use Rattle.std.proofs.lemmas.List.{length-map}
 use Rattle.std.proofs.lemmas.Option.{slice_get-map, slice_get_within}
-use Rattle.sd_model_text.proofs.Places.{get_front, get_behind}
+use Rattle.sd_model_text.proofs.Places.{get_prefix, get_behind}
 use Rattle.sd_model_shard.specs.Shard.{Numbers}
 use Rattle.sd_model_record.specs.Desk.{Facts}
-use Rattle.sd_model_record.specs.Totals.{Total, added, known_before_end, total_line, totals_of}
-use Rattle.sd_model_record.specs.Replies.{end_lines, shard_line, shard_lines, totals_lines}
+use Rattle.sd_model_record.specs.Totals.{Total, known_before_end, total_line, totals_of}
+use Rattle.sd_model_record.specs.Replies.{end_lines, shard_lines}
 use Rattle.sd_shard.specs.Shard.{numbers_in}
 use Rattle.sd_shard.specs.declared.shard.ShardBook.{ShardBook}
+use Rattle.sd_model_record.proofs.Short.{added, shard_line, totals_lines}
 
 -- there is a line for each shard
 pub length-shard_lines : (i : ℕ) (shards : List Numbers) → length (shard_lines i shards) ≡ length shards
@@ -27,8 +28,8 @@ module _ (outlets : Bool) (facts : Facts) (books : List ShardBook) where
   abbrev totals : List Total
   totals = known_before_end outlets (totals_of (added (map numbers_in books)) facts)
 
-  abbrev front : List (List ℕ)
-  front = map total_line totals
+  abbrev prefix : List (List ℕ)
+  prefix = map total_line totals
 
   abbrev lines : List (List ℕ)
   lines = shard_lines 0 (map numbers_in books)
@@ -39,18 +40,18 @@ module _ (outlets : Bool) (facts : Facts) (books : List ShardBook) where
   -- how many lines the reply has
   pub totals-count : length (totals_lines outlets facts (map numbers_in books) ++ end_lines) ≡ length totals + length books + 2
   totals-count =
-      omega (arith, length-append (front ++ lines) end_lines, length-append front lines, length-map totals total_line, lines-count)
+      omega (arith, length-append (prefix ++ lines) end_lines, length-append prefix lines, length-map totals total_line, lines-count)
 
   module _ (place : ℕ) where
-    pub total_at : place < length totals → slice_get (totals_lines outlets facts (map numbers_in books) ++ end_lines) place ≡ slice_get front place
+    pub total_at : place < length totals → slice_get (totals_lines outlets facts (map numbers_in books) ++ end_lines) place ≡ slice_get prefix place
     total_at below =
-        ap (λ all. slice_get all place) (append_assoc front lines end_lines)
-        ∙ get_front front (lines ++ end_lines) place (omega (arith, below, length-map totals total_line))
+        ap (λ all. slice_get all place) (append_assoc prefix lines end_lines)
+        ∙ get_prefix prefix (lines ++ end_lines) place (omega (arith, below, length-map totals total_line))
 
     behind : length totals ≤ place → slice_get (totals_lines outlets facts (map numbers_in books) ++ end_lines) place ≡ slice_get (lines ++ end_lines) (place - length totals)
     behind past =
-        ap (λ all. slice_get all place) (append_assoc front lines end_lines)
-        ∙ get_behind front (lines ++ end_lines) place (omega (arith, past, length-map totals total_line))
+        ap (λ all. slice_get all place) (append_assoc prefix lines end_lines)
+        ∙ get_behind prefix (lines ++ end_lines) place (omega (arith, past, length-map totals total_line))
         ∙ ap (λ n. slice_get (lines ++ end_lines) (place - n)) (length-map totals total_line)
 
     pub shard_at : (book : ShardBook) → length totals ≤ place → slice_get books (place - length totals) ≡ Some book
@@ -58,7 +59,7 @@ module _ (outlets : Bool) (facts : Facts) (books : List ShardBook) where
     shard_at book past found =
         let i = place - length totals in
         let same : 0 + i ≡ i = omega arith in
-        behind past ∙ get_front lines end_lines i (omega (arith, lines-count, slice_get_within books i book found))
+        behind past ∙ get_prefix lines end_lines i (omega (arith, lines-count, slice_get_within books i book found))
         ∙ get-shard_lines 0 (map numbers_in books) i ∙ ap (λ k. option_map (shard_line k) (slice_get (map numbers_in books) i)) same
         ∙ ap (option_map (shard_line i)) (slice_get-map numbers_in books i ∙ ap (option_map numbers_in) found)
 

@@ -54,7 +54,7 @@ keeps : (text : List ℕ) (parts : List (List ℕ)) → 0 < length text → fill
 keeps [] parts some = absurd (omega (arith, some))
 keeps (x ∷ xs) parts some = refl
 
--- white space in front
+-- white space before it
 pub words-blank : (b : ℕ) (line : List ℕ) → is_white_space b ≡ true → words (b ∷ line) ≡ words line
 words-blank b line blank = ap filled (slice_split-cons_yes is_white_space b line blank)
 

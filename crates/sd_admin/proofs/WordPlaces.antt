@@ -73,7 +73,7 @@ nothing (x ∷ xs) h = absurd (grind (arith, nat_tests))
 something : (xs : List ℕ) → (length xs == 0) ≡ false → 0 < length xs
 something xs h = grind (arith, nat_tests)
 
--- the first word behind the white space in front, and the words behind it
+-- the first word behind the white space before it, and the words behind it
 module _ (line from : List ℕ) (n : ℕ) (start : n ≡ position_or_len (λ b. not (is_white_space b)) line) (part : from ≡ take (length line - n) (drop n line)) where
   is : from ≡ drop (position_or_len (λ b. not (is_white_space b)) line) line
   is = part ∙ take_rest line n ∙ ap (λ m. drop m line) start
@@ -85,13 +85,13 @@ module _ (line from : List ℕ) (n : ℕ) (start : n ≡ position_or_len (λ b. 
   no_word none = sym same ∙ ap words (nothing from none)
 
   pub next_word : (text rest : List ℕ) (m : ℕ) → m ≡ position_or_len is_white_space from → (length from == 0) ≡ false → text ≡ take m from → rest ≡ drop m from → words line ≡ text ∷ words rest
-  next_word text rest m end some front back =
+  next_word text rest m end some prefix back =
       let cut = dense_until from in
       let plain = subst (BeginsWith (λ b. is_white_space b ≡ false)) (sym is) (blanks line).plain in
       let word : IsWord (take (position_or_len is_white_space from) from) = record { some = some_taken from plain (something from some); dense = All-from_recursion (λ b. is_white_space b ≡ false) (take (position_or_len is_white_space from) from) cut.dense } in
       sym same ∙ ap words (sym (take-append-drop (position_or_len is_white_space from) from))
       ∙ word_and_rest (take (position_or_len is_white_space from) from) (drop (position_or_len is_white_space from) from) word cut.ends
-      ∙ ap (λ t. t ∷ words (drop (position_or_len is_white_space from) from)) (sym (front ∙ ap (λ k. take k from) end)) ∙ ap (λ r. text ∷ words r) (sym (back ∙ ap (λ k. drop k from) end))
+      ∙ ap (λ t. t ∷ words (drop (position_or_len is_white_space from) from)) (sym (prefix ∙ ap (λ k. take k from) end)) ∙ ap (λ r. text ∷ words r) (sym (back ∙ ap (λ k. drop k from) end))
 
 -- what is left of all words behind the first n
 abbrev pub IsLeft : List (List ℕ) → ℕ → List (List ℕ) → Type 0

@@ -9,7 +9,7 @@ use Rattle.sd_admin.specs.Command.{fault_view}
 use Rattle.sd_admin.specs.declared.reply.Reply.{Reply}
 use Rattle.sd_admin.specs.declared.reply.Reply.TheVariants.{Stats, Totals, Rows, Gone, Finish, Health, Config, Fault}
 
-abbrev pub reply_view : Reply → model.Reply
+abbrev pub reply_view : Reply → model.AdminReply
 reply_view (Stats facts now) = model.Stats (facts_view facts.now) now
 reply_view (Totals outlets facts books) = model.Totals outlets (facts_view facts.now) (map numbers_in books.now.items)
 reply_view (Rows kind dump) = model.Rows (kind_of kind) (rows_of dump.now)

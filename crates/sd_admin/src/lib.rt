@@ -1,7 +1,7 @@
 //! Admin commands: what a line asks for, and the replies.
 //!
 //! `sd_command` has a script's lines read and replied to by it, `sd_session` those of a server's session, and `sd_port` those of a
-//! proxy's. It carries out nothing: what
+//! proxy's. It executes nothing: what
 //! a reply tells, the caller lends. It takes no memory, and writes to any `Sink`.
 #![tactic(auto)]
 

@@ -98,7 +98,7 @@ impl LineText for Reply<'_> {
 ///
 /// # Errors
 ///
-/// `WriteFault` where the sink failed. Then a front of the reply was appended.
+/// `WriteFault` where the sink failed. Then a prefix of the reply was appended.
 pub fn write_reply<K: Sink>(ask: &Reply<'_>, sink: &mut K) -> Result<(), WriteFault>
     requires { IsInOrder (reply_view ask.now) }
     ensures ok { OnOk result (K.seen sink.new ≡ given (reply_text (reply_view ask.now)) (K.seen sink.old)) }

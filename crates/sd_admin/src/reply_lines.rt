@@ -1,9 +1,9 @@
-ghost use Rattle.std.specs.Prelude.{◌≡◌, ◌+◌, ◌<◌, ◌≤◌, ◌∷◌, ◌++◌, [], length, map, slice_get, decimal};
+ghost use Rattle.std.specs.Prelude.{◌≡◌, ◌+◌, ◌<◌, ◌≤◌, ◌∷◌, ◌++◌, [], length, map, slice_get, decimal, codes, if◌then◌else◌, sum_by};
 ghost use Rattle.std.specs.Option.{option_map};
-ghost use Rattle.sd_model_settings.specs.ConfigText.{config_lines};
-ghost use Rattle.sd_model_record.specs.Replies.{end_lines, stats_lines, shard_line, totals_lines, row_value, row_line, gone_lines, health_line, fault_line};
+ghost use Rattle.sd_model_settings.specs.ConfigText.{config_lines, config_line};
+ghost use Rattle.sd_model_record.specs.Replies.{end_lines, stats_lines, shown_value, gone_lines, fault_line, shard_lines};
 ghost use Rattle.sd_key.specs.Kind.{kind_of};
-ghost use Rattle.sd_model_record.specs.Totals.{known_before_end, total_line};
+ghost use Rattle.sd_model_record.specs.Totals.{known_before_end, total_line, totals_of};
 ghost use Rattle.sd_shard.specs.Dump.{dump_row_of, rows_of};
 ghost use Rattle.sd_shard.specs.Shard.{numbers_in};
 ghost use Rattle.sd_totals.specs.Totals.{totals_view};
@@ -81,7 +81,7 @@ fn push_number(word: &[u8], n: u128, line: &mut Line)
 
 /// The line of a shard by its number.
 fn shard_line(i: usize, book: &ShardBook) -> ReplyLine
-    ensures { result.items ≡ shard_line i (numbers_in book.now) }
+    ensures { result.items ≡ (codes "shard " ++ decimal i ++ codes " rows " ++ decimal (numbers_in book.now).rows ++ codes " held " ++ decimal (numbers_in book.now).held ++ 10 ∷ []) }
 {
     let mut line = Line::new();
     push_number(b"shard ", i as u128, &mut line);
@@ -98,7 +98,7 @@ pub(crate) fn totals_line(
     books: &Books,
     place: usize,
 ) -> Option<ReplyLine>
-    ensures { option_map (λ l. l.items) result ≡ slice_get (totals_lines outlets (facts_view facts.now) (map numbers_in books.now.items) ++ end_lines) place }
+    ensures { option_map (λ l. l.items) result ≡ slice_get ((map total_line (known_before_end outlets (totals_of (λ number. sum_by number (map numbers_in books.now.items)) (facts_view facts.now))) ++ shard_lines 0 (map numbers_in books.now.items)) ++ end_lines) place }
 {
     let totals = known_totals(outlets);
     if place < totals {
@@ -113,7 +113,7 @@ pub(crate) fn totals_line(
 
 /// What stands behind the key of a row.
 fn row_value(kind: Kind, row: &DumpRow) -> Line
-    ensures value { result.items ≡ row_value (kind_of kind) (dump_row_of row.now) }
+    ensures value { result.items ≡ shown_value (kind_of kind) (dump_row_of row.now) }
     ensures short { length result.items ≤ 81 }
 {
     let mut value = Line::new();
@@ -127,14 +127,14 @@ fn row_value(kind: Kind, row: &DumpRow) -> Line
 
 /// The line of a row.
 fn row_line(kind: Kind, row: &DumpRow) -> ReplyLine
-    ensures { result.items ≡ row_line (kind_of kind) (dump_row_of row.now) }
+    ensures { result.items ≡ config_line (dump_row_of row.now).key (shown_value (kind_of kind) (dump_row_of row.now)) }
 {
     line_of(row.key.as_slice(), row_value(kind, row).as_slice())
 }
 
 /// The line of the reply to `counters`, `timers` or `gauges` at a place.
 pub(crate) fn rows_line(kind: Kind, dump: &Dump, place: usize) -> Option<ReplyLine>
-    ensures { option_map (λ l. l.items) result ≡ slice_get (map (row_line (kind_of kind)) (rows_of dump.now) ++ end_lines) place }
+    ensures { option_map (λ l. l.items) result ≡ slice_get (map (λ row. config_line row.key (shown_value (kind_of kind) row)) (rows_of dump.now) ++ end_lines) place }
 {
     if place < dump.len() {
         Some(row_line(kind, dump.get(place)))
@@ -169,7 +169,7 @@ pub(crate) fn gone_line(name: &Pattern, keys: &Keys, place: usize) -> Option<Rep
 
 /// The line of the health at a place.
 pub(crate) fn health_line(up: bool, place: usize) -> Option<ReplyLine>
-    ensures { option_map (λ l. l.items) result ≡ slice_get (health_line up ∷ []) place }
+    ensures { option_map (λ l. l.items) result ≡ slice_get (config_line (codes "health") (if up then codes "up" else codes "down") ∷ []) place }
 {
     if up {
         alone(line_of(b"health", b"up"), place)

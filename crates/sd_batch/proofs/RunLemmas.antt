@@ -6,15 +6,15 @@ use Rattle.std.proofs.lemmas.List.Sums.{sum_by-cons}
 use Rattle.sd_model_text.specs.Lines.{Sample}
 use Rattle.sd_model_shard.specs.Shard.{Limits, Policy, State, Event, Submit, Reply, step}
 use Rattle.sd_model_shard.specs.History.{Act}
-use Rattle.sd_model_shard.specs.Whereabouts.{told_by}
+use Rattle.sd_model_shard.specs.Whereabouts.{summed_by}
 use Rattle.sd_batch.specs.Runs.{submitted}
 
 module _ (limits : Limits) (policy : Policy) (who : ℕ) where
   -- the first of samples, and those behind it
-  pub told-next : (weigh : Reply → ℕ) (state : State) (s : Sample) (rest : List Sample)
-      → told_by weigh (submitted limits policy state who (s ∷ rest))
-      ≡ weigh (step limits policy state (Submit s)).reply + told_by weigh (submitted limits policy (step limits policy state (Submit s)).state who rest)
-  told-next weigh state s rest =
+  pub reported-next : (weigh : Reply → ℕ) (state : State) (s : Sample) (rest : List Sample)
+      → summed_by weigh (submitted limits policy state who (s ∷ rest))
+      ≡ weigh (step limits policy state (Submit s)).reply + summed_by weigh (submitted limits policy (step limits policy state (Submit s)).state who rest)
+  reported-next weigh state s rest =
       sum_by-cons (λ (a : Act). weigh a.reply) (record { who = who; event = Submit s; reply = (step limits policy state (Submit s)).reply }) (submitted limits policy (step limits policy state (Submit s)).state who rest)
 
   pub submitted_long : (state : State) (samples : List Sample) → length (submitted limits policy state who samples) ≡ length samples

@@ -3,7 +3,7 @@ use Rattle.std.specs.Prelude.{◌≡◌, ℕ, ◌+◌, ◌==◌, if◌then◌els
 use Rattle.sd_model_text.specs.Lines.{Sample}
 use Rattle.sd_model_shard.specs.Shard.{State, Limits, Policy, Submit}
 use Rattle.sd_model_shard.specs.History.{Asked, History, after_all, answered}
-use Rattle.sd_model_shard.specs.Whereabouts.{dropped_in, told_by}
+use Rattle.sd_model_shard.specs.Whereabouts.{dropped_in, summed_by}
 use Rattle.sd_law_shard.specs.Sums.{taken_in}
 use Rattle.sd_shard.specs.Shard.{Standing, state_of}
 use Rattle.sd_batch.specs.declared.counts.Counts.{Counts}
@@ -22,8 +22,8 @@ run_at home made i = if i == home then made else []
 
 -- so many samples were taken and dropped by acts, and each was one of the two
 pub record CountsRun (counts : Counts) (made : History) : Type 0 where
-  pub taken : counts.taken ≡ told_by taken_in made
-  pub dropped : counts.dropped ≡ told_by dropped_in made
+  pub taken : counts.taken ≡ summed_by taken_in made
+  pub dropped : counts.dropped ≡ summed_by dropped_in made
   pub whole : counts.taken + counts.dropped ≡ length made
 
 -- A shard took or dropped samples, whoever submitted them, and so many were taken and dropped.

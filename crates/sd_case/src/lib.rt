@@ -1,8 +1,8 @@
 //! What the programs of cases share: the words and bytes of a case, its answer, why it has none, and the loop over
 //! the lines.
 //!
-//! All programs of cases stand on it but `sd_cases_threads`, which reads plain lines. A case is a line of standard input, and is
-//! printed with its answer, or with ` ? ` and why it has none; a heading is printed as it is.
+//! All programs of cases stand on it. A case is a line of standard input, and is printed with its answer, or with ` ? ` and why it
+//! has none; a heading is printed as it is.
 //! The program `statsd` has nothing of it.
 #![tactic(auto)]
 

@@ -87,7 +87,7 @@ pub fn count(alloc: Global, rows: &Rows, range: Range) -> Result<u32, AllocError
     Ok(found)
 }
 
-/// Removes those that are there, each so many behind the one before it and from the front again, and answers how many.
+/// Removes those that are there, each so many behind the one before it and from the start again, and answers how many.
 pub fn drain(alloc: Global, rows: &mut Rows, range: Range, stride: u32) -> Result<u32, AllocError> {
     let keys = keys_of(alloc, range, rows.len())?;
     let mut removed = 0_u32;

@@ -1,131 +1,296 @@
-use crate::many_rows::{copy_all, count, drain, fill};
-use crate::row_calls::{Call, Name, read_call};
-use sd_case::{Answer, Refusal};
+ghost use Rattle.std.specs.Prelude.{◌≡◌, ◌≤◌, ◌<◌, length, IfOk};
+ghost use Rattle.sd_epoch.specs.Limits.{limits_of, AreLimits};
+ghost use Rattle.sd_record.specs.Room.{room_for};
+
+use crate::records::{Flush, Text, show_record, show_text, tally_from};
+use crate::samples::sample_of;
+use crate::shards::{limits_from, show_name, show_sorted, show_table};
+use sd_case::{Answer, Refusal, bytes_of, key_of, kind_of, number};
+use sd_config::{NamesOf, Settings};
 use sd_decimal::Micro;
-use sd_rows::Rows;
-use std::alloc::{AllocError, Global};
-use std::mem;
+use sd_epoch::{Limits, Scratch, Table};
+use sd_key::Kind;
+use sd_memory::MemSink;
+use sd_plan::Names;
+use sd_record::RecordScratch;
+use std::alloc::Global;
 
-/// The seed of the hashes by which rows are found.
-const SEED: u64 = 0;
+/// What of a row's samples is shown.
+#[derive(Clone, Copy)]
+enum Part {
+    Values,
+    Members,
+    Amount,
+}
 
-/// The rows that a case calls, and spare ones of the same size.
+/// A table, the room for what its rows have, and that of its record, for the same limits.
 #[derive(Drop)]
-struct Tables {
-    rows: Rows,
-    spare: Rows,
+struct Bench {
+    limits: Limits,
+    gathered: Scratch,
+    table: Table,
+    scratch: RecordScratch,
+    ghost opened: { table.limits ≡ limits_of limits },
+    ghost sample_room: { gathered.room ≡ limits.entries },
+    ghost room: { scratch.room ≡ room_for (limits_of limits) 1 },
 }
 
-/// `PLACES CALL..`: what the calls of a table with so many places answer, one after another.
-pub fn calls_of(
-    alloc: Global,
-    places: u32,
-    calls: &[&str],
-    out: &mut Answer,
-) -> Result<(), Refusal> {
-    let mut tables = Tables {
-        rows: Rows::open(alloc, places, SEED)?,
-        spare: Rows::open(alloc, places, SEED)?,
-    };
-    tables.answer_all(alloc, calls, out)
-}
+impl Bench {
+    /// An empty table with these limits.
+    fn open(alloc: Global, limits: Limits) -> Result<Bench, Refusal>
+        requires { AreLimits (limits_of limits) }
+    {
+        Ok(Bench {
+            limits,
+            gathered: Scratch::open(alloc, limits)?,
+            table: Table::open(alloc, limits, 0)?,
+            scratch: RecordScratch::open(alloc, limits, 1)?,
+        })
+    }
 
-impl Tables {
-    /// Appends what the calls of these words answer.
-    fn answer_all(
+    /// Executes steps, and appends what each answers.
+    fn steps(
         &mut self,
         alloc: Global,
-        words: &[&str],
+        flush: &Flush,
+        steps: &[&str],
         out: &mut Answer,
     ) -> Result<(), Refusal> {
-        for (place, word) in words.iter().enumerate() {
-            out.text(if place == 0 { " -> " } else { ", " });
-            self.answer_word(alloc, word, out)?;
+        for step in steps {
+            out.step(step);
+            self.step(alloc, flush, step, out)?;
         }
         Ok(())
     }
 
-    fn answer_word(&mut self, alloc: Global, word: &str, out: &mut Answer) -> Result<(), Refusal> {
-        match read_call(word) {
-            Some(call) => self.answer(alloc, &call, out),
-            None => Err(Refusal::Malformed),
+    /// Executes a step.
+    fn step(
+        &mut self,
+        alloc: Global,
+        flush: &Flush,
+        step: &str,
+        out: &mut Answer,
+    ) -> Result<(), Refusal> {
+        match step.split_once('=') {
+            Some(("keep", name)) => self.keep(alloc, name, out),
+            Some(("has", name)) => self.has(alloc, name, out),
+            Some(("forget", what)) => self.forget(alloc, what, out),
+            Some(("text", sink)) => self.text(alloc, flush, Text::Graphite, sink, out),
+            Some(("console", sink)) => self.text(alloc, flush, Text::Console, sink, out),
+            Some(_) => Err(Refusal::Malformed),
+            None => self.plain_step(alloc, flush, step, out),
         }
     }
 
-    /// Makes a call, and appends what it answered.
-    fn answer(&mut self, alloc: Global, call: &Call, out: &mut Answer) -> Result<(), Refusal> {
-        match call {
-            Call::Find(name) => self.find(name, out),
-            Call::Add(name) => out.text(self.add(name)),
-            Call::Remove(name) => out.text(self.remove(name)),
-            Call::Set(name, base, swaps) => out.text(self.set(name, *base, *swaps)),
-            Call::Free => out.number(i128::from(self.rows.free())),
-            Call::Len => out.number(i128::from(self.rows.len())),
-            Call::Copy => {
-                out.number(i128::from(copy_all(&self.rows, &mut self.spare)));
-                out.text(" copied");
+    /// Executes a step without an argument, or else puts in the sample that it writes.
+    fn plain_step(
+        &mut self,
+        alloc: Global,
+        flush: &Flush,
+        step: &str,
+        out: &mut Answer,
+    ) -> Result<(), Refusal> {
+        match step {
+            "record" => {
+                self.record(flush, out);
+                Ok(())
             }
-            Call::Swap => {
-                mem::swap(&mut self.rows, &mut self.spare);
-                out.text("swapped");
+            "rows" => show_table(alloc, &self.table, out),
+            "values" => show_parts(alloc, &self.table, Part::Values, &mut self.gathered, out),
+            "members" => show_parts(alloc, &self.table, Part::Members, &mut self.gathered, out),
+            "amounts" => show_parts(alloc, &self.table, Part::Amount, &mut self.gathered, out),
+            "limits" => {
+                self.show_limits(out);
+                Ok(())
             }
-            Call::Fill(range) => return show(fill(alloc, &mut self.rows, *range), out),
-            Call::Count(range) => return show(count(alloc, &self.rows, *range), out),
-            Call::Drain(range, stride) => {
-                return show(drain(alloc, &mut self.rows, *range, *stride), out);
+            "clear" => {
+                self.table.clear();
+                out.text("ok");
+                Ok(())
             }
+            _ => self.push(alloc, step, out),
         }
+    }
+
+    /// Appends the limits.
+    fn show_limits(&mut self, out: &mut Answer) {
+        let limits = self.table.limits();
+        out.count("rows ", u64::from(limits.rows));
+        out.count(", entries ", u64::from(limits.entries));
+        if limits.sums_on_arrival {
+            out.text(", sums on arrival");
+        }
+    }
+
+    /// Puts a sample into the table, where there is room for a new row and an entry.
+    fn push(&mut self, alloc: Global, word: &str, out: &mut Answer) -> Result<(), Refusal> {
+        let sample = sample_of(alloc, word)?;
+        let limits = self.table.limits();
+        if self.table.rows() >= limits.rows
+            || self.table.entries() >= limits.entries
+            || self.table.held() >= u64::from(limits.entries)
+        {
+            return Err(Refusal::Condition);
+        }
+        self.table.sample(&sample);
+        out.text("ok");
         Ok(())
     }
 
-    /// Appends the base in millionths and the swaps of a row, where it is there.
-    fn find(&self, name: &Name, out: &mut Answer) {
-        let Some(at) = self.rows.find(name.kind, &name.key) else {
-            return out.text("absent");
-        };
-        match self.rows.row(at) {
-            Some(row) => {
-                out.number(i128::from(row.base.0));
-                out.count("/", u64::from(row.swaps));
-            }
-            None => out.text("empty"),
+    /// Makes the row of a counter, which has to be absent.
+    fn keep(&mut self, alloc: Global, name: &str, out: &mut Answer) -> Result<(), Refusal> {
+        let key = key_of(alloc, name)?;
+        let limits = self.table.limits();
+        if self.table.has_row(Kind::Counter, &key) || self.table.rows() >= limits.rows {
+            return Err(Refusal::Condition);
         }
+        self.table.keep_row(Kind::Counter, &key, Micro(7), 3);
+        out.text("ok");
+        Ok(())
     }
 
-    fn add(&mut self, name: &Name) -> &'static str {
-        if self.rows.find(name.kind, &name.key).is_some() {
-            return "there";
-        }
-        if self.rows.free() == 0 {
-            return "full";
-        }
-        self.rows.add(name.kind, &name.key);
-        "added"
+    /// Appends whether the table has the row of a counter.
+    fn has(&mut self, alloc: Global, name: &str, out: &mut Answer) -> Result<(), Refusal> {
+        let key = key_of(alloc, name)?;
+        out.yes_or_no(self.table.has_row(Kind::Counter, &key));
+        Ok(())
     }
 
-    fn set(&mut self, name: &Name, base: Micro, swaps: u32) -> &'static str {
-        match self.rows.find(name.kind, &name.key) {
-            Some(at) => {
-                self.rows.set(at, base, swaps);
-                "set"
-            }
-            None => "absent",
-        }
+    /// Takes the row that is written as `KIND/NAME` out, and appends how many samples went.
+    fn forget(&mut self, alloc: Global, what: &str, out: &mut Answer) -> Result<(), Refusal> {
+        let (kind, name) = what.split_once('/').ok_or(Refusal::Malformed)?;
+        let key = key_of(alloc, name)?;
+        out.count("", self.table.forget_row(kind_of(kind)?, &key));
+        Ok(())
     }
 
-    fn remove(&mut self, name: &Name) -> &'static str {
-        match self.rows.find(name.kind, &name.key) {
-            Some(at) => {
-                self.rows.remove(at);
-                "removed"
+    /// Appends the record of the table.
+    fn record(&mut self, flush: &Flush, out: &mut Answer) {
+        let _rows = self.table.rows();
+        let _entries = self.table.entries();
+        show_record(&self.table, &mut self.scratch, flush, out);
+    }
+
+    /// Appends a text of the record, as a sink has it that is written as `ROOM` or `ROOM!CALL`.
+    fn text(
+        &mut self,
+        alloc: Global,
+        flush: &Flush,
+        text: Text,
+        sink: &str,
+        out: &mut Answer,
+    ) -> Result<(), Refusal> {
+        let _rows = self.table.rows();
+        let _entries = self.table.entries();
+        let mut sink = sink_from(alloc, sink)?;
+        show_text(text, &self.table, &mut self.scratch, flush, &mut sink, out);
+        Ok(())
+    }
+}
+
+/// Appends the line of each row of a table, with a part of its samples.
+fn show_parts(
+    alloc: Global,
+    table: &Table,
+    part: Part,
+    gathered: &mut Scratch,
+    out: &mut Answer,
+) -> Result<(), Refusal>
+    requires { table.now.limits.entries ≤ gathered.old.room }
+    ensures { gathered.new.room ≡ gathered.old.room }
+{
+    let _entries = table.entries();
+    let mut lines = Vec::new(alloc);
+    for i in 0..table.rows() {
+        let row = table.get(i);
+        let mut line = Answer::new(alloc);
+        show_name(row.kind, row.key, &mut line);
+        show_part(table, i, part, gathered, &mut line);
+        lines.push(line.finish()?)?;
+    }
+    show_sorted(lines, out)
+}
+
+/// Appends the values or the members of a table's row, in the order in which they came, or what they come to.
+fn show_part(table: &Table, i: u32, part: Part, gathered: &mut Scratch, out: &mut Answer)
+    requires place { i < length table.now.listed }
+    requires room { table.now.entries ≤ gathered.old.room }
+    ensures { gathered.new.room ≡ gathered.old.room }
+{
+    match part {
+        Part::Values => {
+            out.text(": values");
+            table.values_of(i, gathered);
+            for value in gathered.values() {
+                out.text(" ");
+                out.number(i128::from(value.0));
             }
-            None => "absent",
+        }
+        Part::Members => {
+            out.text(": members");
+            table.members_of(i, gathered);
+            for member in gathered.members() {
+                out.text(" ");
+                out.bytes(member.as_slice());
+            }
+        }
+        Part::Amount => {
+            out.text(": amount ");
+            out.number(table.amount_of(i).0);
         }
     }
 }
 
-/// Appends a number, where there is one.
-fn show(number: Result<u32, AllocError>, out: &mut Answer) -> Result<(), Refusal> {
-    out.number(i128::from(number?));
-    Ok(())
+/// The sink that a word writes as `ROOM` or `ROOM!CALL`, the call that fails.
+fn sink_from(alloc: Global, word: &str) -> Result<MemSink, Refusal> {
+    let Some((room, call)) = word.split_once('!') else {
+        return Ok(MemSink::open(alloc, number(word)?)?);
+    };
+    let mut sink = MemSink::open(alloc, number(room)?)?;
+    sink.fail_call.push(number(call)?)?;
+    Ok(sink)
+}
+
+/// What a flush is told by a settings file, a Unix second and a tally.
+fn flush_from(alloc: Global, settings: &str, ts: &str, tally: &str) -> Result<Flush, Refusal> {
+    let ts = number(ts)?;
+    let tally = tally_from(tally)?;
+    let Ok(settings) = Settings::read(alloc, &bytes_of(alloc, settings)?) else {
+        return Err(Refusal::Condition);
+    };
+    Ok(Flush {
+        names: Names::of(&settings),
+        settings,
+        ts,
+        tally,
+    })
+}
+
+/// `table ROWS/ENTRIES SETTINGS TS PACKETS/LINES/BAD/DROPPED STEPS`: what each step on an empty table answers, and
+/// on the records of it, which go by a settings file.
+pub(crate) fn steps_on_table(
+    alloc: Global,
+    limits: &str,
+    flush: &[&str; 3],
+    steps: &[&str],
+    out: &mut Answer,
+) -> Result<(), Refusal> {
+    let limits = limits_from(limits)?;
+    let [settings, ts, tally] = *flush;
+    let flush = flush_from(alloc, settings, ts, tally)?;
+    steps_by_flush(alloc, limits, &flush, steps, out)
+}
+
+/// What each step on an empty table answers, and on the records of it, which go by what a flush is told.
+fn steps_by_flush(
+    alloc: Global,
+    limits: Limits,
+    flush: &Flush,
+    steps: &[&str],
+    out: &mut Answer,
+) -> Result<(), Refusal>
+    requires { AreLimits (limits_of limits) }
+{
+    let mut bench = Bench::open(alloc, limits)?;
+    bench.steps(alloc, flush, steps, out)
 }

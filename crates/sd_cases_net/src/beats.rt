@@ -28,7 +28,7 @@ fn tick_text(tick: Tick) -> &'static str {
 }
 
 /// Whether a beat told the others to stop.
-fn told_text(stop: &Stop) -> &'static str {
+fn reported_text(stop: &Stop) -> &'static str {
     if stop.is_set() {
         ", the others are told,"
     } else {
@@ -96,13 +96,13 @@ fn unstarted<'a>(rt: &'a HostRuntime, stop: &'a Stop, out: &mut Answer) {
     let mut beat = TickBeat::new(rt, stop, &pace, &log);
     step(out, "one that isn't started, twice");
     out.text(tick_text(beat.next()));
-    out.text(told_text(stop));
+    out.text(reported_text(stop));
     out.text(tick_text(beat.next()));
     out.count("; faults ", beat.faults());
 }
 
 /// What a beat answers while its stop file is made beside it, and whether that was made.
-fn next_beside<'a>(
+fn next_together<'a>(
     threads: &impl Threads,
     rt: &'a HostRuntime,
     stop: &'a Stop,
@@ -132,7 +132,7 @@ fn stop_file(threads: &impl Threads, rt: &HostRuntime, out: &mut Answer) -> io::
         "a stop file that appears while it waits for a tick in ten seconds",
     );
     let before = time::Clock::monotonic(rt)?;
-    let (made, tick) = next_beside(threads, rt, &stop, name);
+    let (made, tick) = next_together(threads, rt, &stop, name);
     let is_early = millis_since(rt, before)? < 5_000;
     let removed = fs::remove_file(rt, name).is_ok();
     out.text(if made && removed {
@@ -141,7 +141,7 @@ fn stop_file(threads: &impl Threads, rt: &HostRuntime, out: &mut Answer) -> io::
         " no file,"
     });
     out.text(tick_text(tick));
-    out.text(told_text(&stop));
+    out.text(reported_text(&stop));
     out.text(if is_early { " at once" } else { " late" });
     Ok(())
 }

@@ -53,7 +53,7 @@ enum Asked {
 fn ask<'a>(
     door: &mut TcpDoor<'a, HostRuntime>,
     buf: &mut [u8],
-    told: &[u8],
+    answer: &[u8],
     out: &mut Answer,
 ) -> Asked
     requires { (⟦<TcpDoor<'a, HostRuntime> as Faulty>⟧.seen door.old).is_out ≡ false }
@@ -65,7 +65,7 @@ fn ask<'a>(
                 Ok(len) => out.bytes(&buf[..len]),
                 Err(_) => out.text("failed"),
             }
-            if write_all(&mut telling, told).is_err() {
+            if write_all(&mut telling, answer).is_err() {
                 out.text(" cut off");
             }
             door.leave(asking, telling);
@@ -81,7 +81,7 @@ fn ask<'a>(
 pub(crate) fn serve<'a>(
     door: &mut TcpDoor<'a, HostRuntime>,
     buf: &mut [u8],
-    told: &[u8],
+    answer: &[u8],
     out: &mut Answer,
 )
     requires { (⟦<TcpDoor<'a, HostRuntime> as Faulty>⟧.seen door.old).is_out ≡ false }
@@ -89,7 +89,7 @@ pub(crate) fn serve<'a>(
 {
     out.text(" ");
     for _ in 0..MOST_TURNS {
-        match ask(door, buf, told, out) {
+        match ask(door, buf, answer, out) {
             Asked::Served => return,
             Asked::End => {
                 out.text("end");
@@ -109,13 +109,13 @@ pub(crate) fn serve<'a>(
 pub(crate) fn rest<'a>(
     door: &mut TcpDoor<'a, HostRuntime>,
     buf: &mut [u8],
-    told: &[u8],
+    answer: &[u8],
     out: &mut Answer,
 )
     requires { (⟦<TcpDoor<'a, HostRuntime> as Faulty>⟧.seen door.old).is_out ≡ false }
     ensures { (⟦<TcpDoor<'a, HostRuntime> as Faulty>⟧.seen door.new).is_out ≡ false }
 {
-    match ask(door, buf, told, out) {
+    match ask(door, buf, answer, out) {
         Asked::Served => out.text(" served"),
         Asked::End => out.text(" end"),
         Asked::Idle => out.text(" nothing"),

@@ -10,8 +10,6 @@ mod handed;
 mod links;
 mod probes;
 mod receivers;
-mod stalls;
-mod streams;
 
 use sd_case::Answer;
 use std::io;
@@ -24,8 +22,6 @@ fn main(rt: HostRuntime) -> io::Result<()> {
     links::run(&rt, &rt, &mut out)?;
     probes::run(&rt, &rt, &mut out)?;
     doors::run(&rt, &mut out)?;
-    streams::run(&rt, &mut out)?;
-    stalls::run(&rt, &rt, &mut out)?;
     match out.finish() {
         Ok(text) => println!(rt; "{text}"),
         Err(_) => println!(rt; "no memory is left"),

@@ -3,7 +3,7 @@ ghost use Rattle.std.specs.Prelude.{◌≡◌, length};
 ghost use Rattle.sd_memory.specs.MemBeat.{seen_of as beat_seen};
 ghost use Rattle.sd_memory.specs.MemDoor.{seen_of as door_seen};
 
-use crate::case::MemWorld;
+use crate::case::MemObjects;
 use sd_case::{Refusal, number};
 use sd_memory::{MemDatagrams, MemWire};
 
@@ -110,7 +110,7 @@ fn wire_at(wires: &mut [MemWire], wire: usize) -> Result<&mut MemWire, Refusal> 
 }
 
 /// Has a call fail.
-pub(crate) fn fail(world: &mut MemWorld, failing: Failing) -> Result<(), Refusal>
+pub(crate) fn fail(world: &mut MemObjects, failing: Failing) -> Result<(), Refusal>
     ensures packets { length (world.new).packets.items ≡ length (world.old).packets.items }
     ensures wires { length (world.new).wires.items ≡ length (world.old).wires.items }
     ensures beat { beat_seen (world.new).beat ≡ beat_seen (world.old).beat }

@@ -1,10 +1,13 @@
 ghost use Rattle.std.specs.Prelude.{◌≡◌, length, IfOk};
 ghost use Rattle.sd_memory.specs.MemBeat.{seen_of as beat_seen};
 ghost use Rattle.sd_memory.specs.MemDoor.{seen_of as door_seen};
+ghost use Rattle.sd_cases_runs.specs.Passing.{door_seen as passing_seen};
 ghost use Rattle.sd_cases_runs.specs.Ready.{IsReady};
 
 use crate::calls::{Failing, fail};
+use crate::gate::{Holds, Order};
 use crate::most::Most;
+use crate::passing::{MemWorld, with_gate};
 use crate::traffic::Traffic;
 use log::sink::Discard;
 use sd_case::{Refusal, bytes_of, number, set_number};
@@ -18,8 +21,8 @@ use std::alloc::Global;
 use std::num::NonZeroUsize;
 use std::str;
 
-/// The objects of a run, in memory.
-pub(crate) type MemWorld = World<
+/// The objects of a run in memory, which pass no gate yet.
+pub(crate) type MemObjects = World<
     MemSource,
     MemSink,
     MemBackend,
@@ -57,6 +60,7 @@ pub(crate) struct Case {
     pub most: Most,
     traffic: Traffic,
     failing: Vec<Failing>,
+    pub holds: Holds,
 }
 
 impl Case {
@@ -87,6 +91,7 @@ impl Case {
             most: Most::all(NonZeroUsize::MAX),
             traffic: Traffic::none(alloc),
             failing: Vec::new(alloc),
+            holds: Holds::none(alloc),
         };
         case.take_all(alloc, parts)?;
         Ok(case)
@@ -109,7 +114,8 @@ impl Case {
 
     /// Takes a part: `settings=TEXT`, `script=TEXT`, `made=PACKETS` for the made script, `output=BYTES`,
     /// `graphite=BYTES/LISTS`, `console=BYTES/LISTS`, `wires=BYTES/PACKETS`, `most=BYTES` or `most=BYTES/OBJECT` for what reads and
-    /// writes take, `fail=CALL:NUMBER`, or what a server or a proxy is given.
+    /// writes take, `fail=CALL:NUMBER`, `hold=PLACE.NUMBER/PLACE.NUMBER` and `note=PLACE,PLACE..` for the gate, or what a server or a
+    /// proxy is given.
     fn set(&mut self, alloc: Global, part: &str) -> Result<(), Refusal> {
         match part.split_once('=') {
             Some(("settings", text)) => set_bytes(alloc, &mut self.settings, text),
@@ -121,6 +127,8 @@ impl Case {
             Some(("wires", room)) => set_room(&mut self.wire, room),
             Some(("most", text)) => self.most.set(text),
             Some(("fail", failing)) => self.push_failing(failing),
+            Some(("hold", text)) => self.holds.hold(text),
+            Some(("note", text)) => self.holds.note(text),
             Some((name, value)) => self.traffic.set(alloc, name, value),
             None => Err(Refusal::Malformed),
         }
@@ -149,15 +157,6 @@ impl Case {
         Ok(wires)
     }
 
-    /// The first datagram that the run is given.
-    ///
-    /// # Errors
-    ///
-    /// `Condition` where it is given none, and `OutOfMemory`.
-    pub(crate) fn first_datagram(&self) -> Result<Vec<u8>, Refusal> {
-        self.traffic.first_datagram()
-    }
-
     /// The settings file, the script and the output.
     fn files(&self, alloc: Global) -> Result<(MemSource, MemSource, MemSink), Refusal> {
         let mut settings = MemSource::of(self.settings.clone()?);
@@ -184,7 +183,7 @@ impl Case {
     }
 
     /// The objects of the run, none of whose calls fails.
-    fn objects(&self, alloc: Global) -> Result<MemWorld, Refusal>
+    fn objects(&self, alloc: Global) -> Result<MemObjects, Refusal>
         ensures { IfOk result (IsReady door_seen beat_seen door_seen) }
     {
         let beat = self.traffic.beat()?;
@@ -212,7 +211,7 @@ impl Case {
     }
 
     /// Has the calls fail that are to.
-    fn fail_all(&self, world: &mut MemWorld) -> Result<(), Refusal>
+    fn fail_all(&self, world: &mut MemObjects) -> Result<(), Refusal>
         requires { IsReady door_seen beat_seen door_seen world.old }
         ensures { IsReady door_seen beat_seen door_seen world.new }
     {
@@ -222,13 +221,13 @@ impl Case {
         Ok(())
     }
 
-    /// The objects of the run.
-    pub(crate) fn world(&self, alloc: Global) -> Result<MemWorld, Refusal>
-        ensures { IfOk result (IsReady door_seen beat_seen door_seen) }
+    /// The objects of the run, which pass a gate.
+    pub(crate) fn world<'a>(&self, alloc: Global, gate: &'a Order) -> Result<MemWorld<'a>, Refusal>
+        ensures { IfOk result (IsReady passing_seen beat_seen passing_seen) }
     {
-        let mut world = self.objects(alloc)?;
-        self.fail_all(&mut world)?;
-        Ok(world)
+        let mut objects = self.objects(alloc)?;
+        self.fail_all(&mut objects)?;
+        Ok(with_gate(alloc, objects, gate)?)
     }
 }
 

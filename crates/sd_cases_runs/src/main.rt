@@ -1,12 +1,13 @@
 //! Cases of whole runs: reads the words, files and failing calls of a run from each line, runs the program over objects in
-//! memory, and prints the line with all that came of it. A line reads `run WORDS : PARTS`; `cut`, `both`, `slow` and `late` make
+//! memory, and prints the line with all that came of it. A line reads `run WORDS : PARTS`; `cut`, `both` and `slow` make
 //! the run in other ways, and `status NAME` asks for a text.
 #![tactic(auto)]
 
 mod calls;
 mod case;
-mod late;
+mod gate;
 mod most;
+mod passing;
 mod report;
 mod run;
 mod status;
@@ -29,7 +30,6 @@ where
         ["cut", record, parts @ ..] => run::each_truncation(rt, alloc, record, parts, out),
         ["both", first, second, parts @ ..] => run::by_both(rt, alloc, first, second, parts, out),
         ["slow", most, parts @ ..] => run::by_slow(rt, alloc, most, parts, out),
-        ["late", count, parts @ ..] => late::run_late(rt, alloc, count, parts, out),
         ["status", fields @ ..] => status::texts_of(alloc, fields, out),
         _ => Err(Refusal::UnknownCall),
     }

@@ -1,22 +1,22 @@
-use crate::case::MemWorld;
+use crate::passing::{MemWorld, PassingSource, PassingWire};
 use crate::status::show_status;
 use sd_case::Answer;
-use sd_memory::{MemBackend, MemBeat, MemDatagrams, MemDoor, MemProbe, MemWire};
+use sd_memory::{MemBackend, MemBeat, MemDoor, MemProbe, MemWire};
 use sd_outside::Address;
 use sd_top::Status;
 
 /// Appends all that came of a run: its status, exit and explanation, Graphite's lists, what came of the objects of a server or a
 /// proxy, the output, the counts of faults, where each object was opened, and which backends are used.
-pub(crate) fn report(status: &Status, world: &MemWorld, out: &mut Answer) {
+pub(crate) fn report(status: &Status, world: &MemWorld<'_>, out: &mut Answer) {
     out.text("\n  ");
     show_status(status, out);
-    show_lists(&world.backs.graphite, "list", out);
-    show_lists(&world.backs.console, "console", out);
+    show_lists(&world.backs.graphite.object, "list", out);
+    show_lists(&world.backs.console.object, "console", out);
     show_sources(&world.packets, out);
     show_wires(&world.wires, out);
     show_beat(&world.beat, out);
-    show_door("door", &world.door, out);
-    show_door("streams", &world.streams, out);
+    show_door("door", &world.door.object, out);
+    show_door("streams", &world.streams.object, out);
     show_probe(&world.probe, out);
     out.text("\n  output:");
     out.lines(world.output.bytes());
@@ -44,8 +44,9 @@ fn show_lists(backend: &MemBackend, name: &str, out: &mut Answer) {
 
 /// Appends the wires that were opened or failed: where they were opened, how often they failed, and the packets that were
 /// sent.
-pub(crate) fn show_wires(wires: &[MemWire], out: &mut Answer) {
-    for (place, wire) in wires.iter().enumerate() {
+fn show_wires(wires: &[PassingWire<'_>], out: &mut Answer) {
+    for (place, passing) in wires.iter().enumerate() {
+        let wire = &passing.object;
         if wire.opened_at().is_some() || wire.faults() > 0 {
             out.count("\n  wire ", place as u64);
             out.text(": opened ");
@@ -59,8 +60,9 @@ pub(crate) fn show_wires(wires: &[MemWire], out: &mut Answer) {
 
 /// Appends the sources that were opened or failed: where they were opened, how often they failed, and how many datagrams they
 /// have left.
-fn show_sources(sources: &[MemDatagrams], out: &mut Answer) {
-    for (place, source) in sources.iter().enumerate() {
+fn show_sources(sources: &[PassingSource<'_>], out: &mut Answer) {
+    for (place, passing) in sources.iter().enumerate() {
+        let source = &passing.object;
         if source.opened_at().is_some() || source.faults() > 0 {
             out.count("\n  source ", place as u64);
             out.text(": opened ");
@@ -72,7 +74,7 @@ fn show_sources(sources: &[MemDatagrams], out: &mut Answer) {
 }
 
 /// Appends what came of the beat, where it was started.
-pub(crate) fn show_beat(beat: &MemBeat, out: &mut Answer) {
+fn show_beat(beat: &MemBeat, out: &mut Answer) {
     if let Some(interval) = beat.interval() {
         out.count("\n  beat: every ", u64::from(interval.ms));
         out.text(if interval.is_aligned {
@@ -104,7 +106,7 @@ fn show_door(name: &str, door: &MemDoor, out: &mut Answer) {
 }
 
 /// Appends what came of the probe, where it was asked: how often it failed, how many replies it has left, and where it was asked.
-pub(crate) fn show_probe(probe: &MemProbe, out: &mut Answer) {
+fn show_probe(probe: &MemProbe, out: &mut Answer) {
     if !probe.questions().is_empty() || probe.faults() > 0 {
         out.count("\n  probe: faults ", probe.faults());
         out.count(", left ", probe.remaining().len() as u64);
@@ -129,24 +131,24 @@ fn show_packets(wire: &MemWire, out: &mut Answer) {
 }
 
 /// Appends how often each object failed.
-fn show_faults(world: &MemWorld, out: &mut Answer) {
+fn show_faults(world: &MemWorld<'_>, out: &mut Answer) {
     out.count("\n  faults: settings ", world.settings.faults());
     out.count(", script ", world.script.faults());
     out.count(", output ", world.output.faults());
-    out.count(", graphite ", world.backs.graphite.faults());
-    out.count(", console ", world.backs.console.faults());
+    out.count(", graphite ", world.backs.graphite.object.faults());
+    out.count(", console ", world.backs.console.object.faults());
 }
 
 /// Appends where each object was opened.
-fn show_places(world: &MemWorld, out: &mut Answer) {
+fn show_places(world: &MemWorld<'_>, out: &mut Answer) {
     out.text("\n  opened: settings ");
     show_address(world.settings.opened_at(), out);
     out.text(", script ");
     show_address(world.script.opened_at(), out);
     out.text(", graphite ");
-    show_address(world.backs.graphite.opened_at(), out);
+    show_address(world.backs.graphite.object.opened_at(), out);
     out.text(", console ");
-    show_address(world.backs.console.opened_at(), out);
+    show_address(world.backs.console.object.opened_at(), out);
 }
 
 /// Appends an address, or `nowhere`.

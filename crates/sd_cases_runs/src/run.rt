@@ -1,4 +1,5 @@
 use crate::case::Case;
+use crate::gate::Order;
 use crate::most::{Most, bytes_of_word};
 use crate::report::report;
 use sd_case::{Answer, Refusal, bytes_of};
@@ -11,16 +12,30 @@ use std::thread::Threads;
 use std::time;
 
 /// Runs the program, and appends all that came of it.
-fn carry_out<R: Threads + Wait + RandomSource + time::Clock + Sync>(
+fn execute<R: Threads + Wait + RandomSource + time::Clock + Sync>(
     rt: &R,
     alloc: Global,
     case: &Case,
     out: &mut Answer,
 ) -> Result<(), Refusal> {
-    let mut world = case.world(alloc)?;
+    let gate = Order::of(alloc, &case.holds)?;
+    run_past(rt, alloc, case, &gate, out)?;
+    gate.show(out);
+    Ok(())
+}
+
+/// Runs the program past a gate, appends all that came of it, and answers how many bytes Graphite was given.
+fn run_past<R: Threads + Wait + RandomSource + time::Clock + Sync>(
+    rt: &R,
+    alloc: Global,
+    case: &Case,
+    gate: &Order,
+    out: &mut Answer,
+) -> Result<u64, Refusal> {
+    let mut world = case.world(alloc, gate)?;
     let status = statsd(rt, alloc, &case.words, &mut world);
     report(&status, &world, out);
-    Ok(())
+    Ok(bytes_in(&world.backs.graphite.object))
 }
 
 /// `run WORDS : PARTS`: what comes of a run.
@@ -30,7 +45,7 @@ pub(crate) fn whole<R: Threads + Wait + RandomSource + time::Clock + Sync>(
     parts: &[&str],
     out: &mut Answer,
 ) -> Result<(), Refusal> {
-    carry_out(rt, alloc, &Case::of(alloc, parts)?, out)
+    execute(rt, alloc, &Case::of(alloc, parts)?, out)
 }
 
 /// `cut RECORD WORDS : PARTS`: what comes of the run whose script is that of the parts and behind it the record cut
@@ -46,7 +61,7 @@ pub(crate) fn each_truncation<R: Threads + Wait + RandomSource + time::Clock + S
     let record = bytes_of(alloc, record)?;
     let mut previous = String::new(alloc);
     for len in 0..record.len() {
-        let report = report_of_front(rt, alloc, &record[..len], parts)?;
+        let report = report_of_prefix(rt, alloc, &record[..len], parts)?;
         if report != previous {
             out.count("\n  from ", len as u64);
             out.text(" bytes on:");
@@ -58,14 +73,14 @@ pub(crate) fn each_truncation<R: Threads + Wait + RandomSource + time::Clock + S
 }
 
 /// What comes of the run where these bytes stand behind the script.
-fn report_of_front<R: Threads + Wait + RandomSource + time::Clock + Sync>(
+fn report_of_prefix<R: Threads + Wait + RandomSource + time::Clock + Sync>(
     rt: &R,
     alloc: Global,
-    front: &[u8],
+    prefix: &[u8],
     parts: &[&str],
 ) -> Result<String, Refusal> {
     let mut case = Case::of(alloc, parts)?;
-    case.script.extend_from_slice(front)?;
+    case.script.extend_from_slice(prefix)?;
     report_of(rt, alloc, &case)
 }
 
@@ -76,7 +91,7 @@ fn report_of<R: Threads + Wait + RandomSource + time::Clock + Sync>(
     case: &Case,
 ) -> Result<String, Refusal> {
     let mut report = Answer::new(alloc);
-    carry_out(rt, alloc, case, &mut report)?;
+    execute(rt, alloc, case, &mut report)?;
     report.finish()
 }
 
@@ -156,11 +171,10 @@ fn report_by<R: Threads + Wait + RandomSource + time::Clock + Sync>(
     case: &Case,
     out: &mut Answer,
 ) -> Result<String, Refusal> {
-    let mut world = case.world(alloc)?;
-    let status = statsd(rt, alloc, &case.words, &mut world);
-    out.count("\n  graphite ", bytes_in(&world.backs.graphite));
+    let gate = Order::of(alloc, &case.holds)?;
     let mut text = Answer::new(alloc);
-    report(&status, &world, &mut text);
+    let bytes = run_past(rt, alloc, case, &gate, &mut text)?;
+    out.count("\n  graphite ", bytes);
     text.finish()
 }
 

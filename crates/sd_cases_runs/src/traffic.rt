@@ -16,7 +16,7 @@ const SOURCES: usize = 16;
 /// How many bytes a datagram has at most.
 const MOST_DATAGRAM: usize = 65_527;
 
-/// For how many bytes of replies each session has room.
+/// For how many bytes of replies each session has room, where nothing else is said.
 const ROOM: usize = 1 << 16;
 
 /// For how many questions the probe has room.
@@ -29,11 +29,18 @@ struct Sent {
     datagram: Vec<u8>,
 }
 
-/// A read of a session's source that is to fail, by its number from 1.
+/// A read or a write of a session that is to fail, by its number from 1.
 #[derive(Clone, Copy)]
-struct Unread {
+struct FailingCall {
     session: usize,
-    read: u64,
+    call: u64,
+}
+
+/// The room for the replies of a session.
+#[derive(Clone, Copy)]
+struct ReplyRoom {
+    session: usize,
+    bytes: usize,
 }
 
 /// Datagrams, ticks, sessions, streams of lines and replies of nodes, and the moment of the clock.
@@ -42,7 +49,9 @@ pub(crate) struct Traffic {
     sent: Vec<Sent>,
     ticks: Vec<u64>,
     sessions: Vec<Vec<u8>>,
-    unread: Vec<Unread>,
+    unread: Vec<FailingCall>,
+    unwritten: Vec<FailingCall>,
+    rooms: Vec<ReplyRoom>,
     streams: Vec<Vec<u8>>,
     replies: Vec<Vec<u8>>,
     now: u64,
@@ -64,20 +73,37 @@ fn push_bytes(alloc: Global, texts: &mut Vec<Vec<u8>>, word: &str) -> Result<(),
     Ok(())
 }
 
-/// The two ends of a session that has these bytes, of whose reads these are to fail, and whose reads and writes take so many bytes at
-/// most.
+/// Appends the call that `SESSION/CALL` stands for.
+fn push_call(calls: &mut Vec<FailingCall>, value: &str) -> Result<(), Refusal> {
+    let (session, call) = value.split_once('/').ok_or(Refusal::Malformed)?;
+    let (session, call) = (number(session)?, number(call)?);
+    calls.push(FailingCall { session, call })?;
+    Ok(())
+}
+
+/// The calls of the session of a number.
+fn calls_of(alloc: Global, calls: &[FailingCall], session: usize) -> Result<Vec<u64>, Refusal> {
+    let mut numbers = Vec::new(alloc);
+    for failing in calls {
+        if failing.session == session {
+            numbers.push(failing.call)?;
+        }
+    }
+    Ok(numbers)
+}
+
+/// The two ends of a session that has these bytes and so much room, and whose reads and writes take so many bytes at most.
 fn ends_of(
     alloc: Global,
     asked: Vec<u8>,
-    unread: Vec<u64>,
+    room: usize,
     most: NonZeroUsize,
 ) -> Result<(MemSource, MemSink), Refusal>
     ensures { IfOk result HasNoFaults }
 {
     let mut source = MemSource::of(asked);
-    source.fail_call = unread;
     source.most = most.get();
-    let mut replies = MemSink::open(alloc, ROOM)?;
+    let mut replies = MemSink::open(alloc, room)?;
     replies.most = most.get();
     Ok((source, replies))
 }
@@ -90,6 +116,8 @@ impl Traffic {
             ticks: Vec::new(alloc),
             sessions: Vec::new(alloc),
             unread: Vec::new(alloc),
+            unwritten: Vec::new(alloc),
+            rooms: Vec::new(alloc),
             streams: Vec::new(alloc),
             replies: Vec::new(alloc),
             now: 1000,
@@ -97,8 +125,8 @@ impl Traffic {
     }
 
     /// Takes a part: a datagram `packet=SOURCE/TEXT`, `counted=SOURCE/COUNT/NAME` for the datagrams `NAME:I|c` with I from 1 on,
-    /// `tick=SECOND`, `session=TEXT`, `unread=SESSION/READ` for a read that is to fail, `stream=TEXT` of lines, `reply=TEXT` of a
-    /// node, or the moment `clock=SECOND`.
+    /// `tick=SECOND`, `session=TEXT`, `unread=SESSION/READ` and `unwritten=SESSION/WRITE` for a read and a write that are to fail,
+    /// `room=SESSION/BYTES` for its replies, `stream=TEXT` of lines, `reply=TEXT` of a node, or the moment `clock=SECOND`.
     ///
     /// # Errors
     ///
@@ -109,7 +137,9 @@ impl Traffic {
             "counted" => self.push_counted(alloc, value),
             "tick" => push_number(&mut self.ticks, value),
             "session" => push_bytes(alloc, &mut self.sessions, value),
-            "unread" => self.push_unread(value),
+            "unread" => push_call(&mut self.unread, value),
+            "unwritten" => push_call(&mut self.unwritten, value),
+            "room" => self.push_room(value),
             "stream" => push_bytes(alloc, &mut self.streams, value),
             "reply" => push_bytes(alloc, &mut self.replies, value),
             "clock" => set_number(&mut self.now, value),
@@ -126,11 +156,11 @@ impl Traffic {
         Ok(())
     }
 
-    /// Appends the read that `SESSION/READ` stands for.
-    fn push_unread(&mut self, value: &str) -> Result<(), Refusal> {
-        let (session, read) = value.split_once('/').ok_or(Refusal::Malformed)?;
-        let (session, read) = (number(session)?, number(read)?);
-        self.unread.push(Unread { session, read })?;
+    /// Appends the room that `SESSION/BYTES` stands for.
+    fn push_room(&mut self, value: &str) -> Result<(), Refusal> {
+        let (session, bytes) = value.split_once('/').ok_or(Refusal::Malformed)?;
+        let (session, bytes) = (number(session)?, number(bytes)?);
+        self.rooms.push(ReplyRoom { session, bytes })?;
         Ok(())
     }
 
@@ -144,16 +174,6 @@ impl Traffic {
             self.sent.push(Sent { source, datagram })?;
         }
         Ok(())
-    }
-
-    /// The first datagram of all.
-    ///
-    /// # Errors
-    ///
-    /// `Condition` where there is none, and `OutOfMemory`.
-    pub(crate) fn first_datagram(&self) -> Result<Vec<u8>, Refusal> {
-        let first = self.sent.first().ok_or(Refusal::Condition)?;
-        Ok(first.datagram.clone()?)
     }
 
     /// The datagrams of the source of a number.
@@ -191,15 +211,12 @@ impl Traffic {
         Ok(MemBeat::of(self.ticks.clone()?))
     }
 
-    /// The reads of the session of a number that are to fail.
-    fn unread_of(&self, alloc: Global, session: usize) -> Result<Vec<u64>, Refusal> {
-        let mut reads = Vec::new(alloc);
-        for unread in &self.unread {
-            if unread.session == session {
-                reads.push(unread.read)?;
-            }
+    /// The room for the replies of the session of a number.
+    fn room_of(&self, session: usize) -> usize {
+        match self.rooms.iter().find(|room| room.session == session) {
+            Some(room) => room.bytes,
+            None => ROOM,
         }
-        Ok(reads)
     }
 
     /// The two ends of the session of a number, whose reads and writes take so many bytes at most.
@@ -212,7 +229,15 @@ impl Traffic {
         ensures { IfOk result HasNoFaults }
     {
         let asked = self.sessions.get(session).ok_or(Refusal::Malformed)?;
-        ends_of(alloc, asked.clone()?, self.unread_of(alloc, session)?, most)
+        let (mut source, mut replies) = ends_of(
+            alloc,
+            asked.clone()?,
+            self.room_of(session),
+            most,
+        )?;
+        source.fail_call = calls_of(alloc, &self.unread, session)?;
+        replies.fail_call = calls_of(alloc, &self.unwritten, session)?;
+        Ok((source, replies))
     }
 
     /// The door of the run, the reads and writes of whose sessions take so many bytes at most.
@@ -239,7 +264,7 @@ impl Traffic {
     {
         let mut given = Vec::new(alloc);
         for stream in &self.streams {
-            given.push(ends_of(alloc, stream.clone()?, Vec::new(alloc), most)?)?;
+            given.push(ends_of(alloc, stream.clone()?, ROOM, most)?)?;
         }
         Ok(MemDoor::open(given)?)
     }

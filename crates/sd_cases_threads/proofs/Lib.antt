@@ -1,2 +1,3 @@
 mod PutLists
-mod ToldLemmas
+mod ReportedLemmas
+pub mod Answered

@@ -1,2 +1,4 @@
 pub mod Puts
 pub mod Submitted
+pub mod Lookers
+pub mod Cell

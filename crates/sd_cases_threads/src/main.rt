@@ -1,30 +1,38 @@
-//! Cases of values behind a turn, and of a pool among threads: each line of the input names one, and is printed with its answer,
-//! which is the same whatever the order of the threads. A line reads as in `turn 20000 30000`; the others with one number or two
-//! are `seats`, `desk` and `facts`. Those of a pool read `shared LINE` or `held LINE`, with the line of one sample.
+//! Cases of threads: of values behind a turn, of a pool, of a set of nodes that are up, and of an outlet. Each line of the input
+//! names one, and is printed with its answer, which is the same whatever the order of the threads. It reads `turn`, `seats`, `desk`,
+//! `facts`, `shared`, `held`, `cell`, `looks`, `relay` or `follow`, with arguments.
 #![tactic(auto)]
 
+mod cell;
+mod count_gate;
 mod desk;
 mod held;
+mod looker;
+mod lookers;
+mod looks;
 mod puts;
 mod register;
+mod relay;
+mod relays;
 mod shared;
 
 use desk::{Counted, add_and_take, each_call};
 use held::hold_one;
 use puts::{Done, open_many, put_both};
+use sd_case::{Answer, Refusal, answer_cases, number};
 use sd_desk::Tally;
 use sd_line::{Lines, Sample};
 use shared::submit_and_swap;
-use std::alloc::{AllocError, Global};
+use std::alloc::Global;
 use std::io;
 use std::sync::Wait;
 use std::sync::atomic::AtomicU64;
 use std::sync::atomic::Ordering::SeqCst;
 use std::thread::Threads;
 
-// How often each seat stands in the log.
-fn by_seat(log: &[u16], number: u16) -> usize {
-    log.iter().filter(|&&n| n == number).count()
+// How often a seat stands in the log.
+fn by_seat(log: &[u16], number: u16) -> u64 {
+    log.iter().filter(|&&n| n == number).count() as u64
 }
 
 fn added_up(answers: &[u64]) -> u64 {
@@ -42,155 +50,169 @@ fn rise(answers: &[u64]) -> bool {
     true
 }
 
-// Each seat puts 1 each time, and is answered the sum before it. What is called inside the turn counts too.
+// `turn FIRST SECOND`: two threads put so often. Each seat puts 1 each time, and is answered the sum before it. What is called inside
+// the turn counts too.
 fn turn_case<R: Threads + Wait + Sync>(
     rt: &R,
     alloc: Global,
-    first: u32,
-    second: u32,
-) -> Result<String, AllocError> {
+    first: &str,
+    second: &str,
+    out: &mut Answer,
+) -> Result<(), Refusal> {
     let inside = AtomicU64::new(0);
-    let Done {
-        register,
-        first,
-        second,
-    } = put_both(rt, alloc, &inside, first, second)?;
-    let counted = inside.load(SeqCst);
-    let log = register.log.as_slice();
-    let answers = added_up(first.as_slice()).wrapping_add(added_up(second.as_slice()));
-    let order = if rise(first.as_slice()) && rise(second.as_slice()) {
-        "in order"
+    let done = put_both(rt, alloc, &inside, number(first)?, number(second)?)?;
+    show_done(&done, out);
+    out.count(", counted inside ", inside.load(SeqCst));
+    Ok(())
+}
+
+fn show_done(done: &Done, out: &mut Answer) {
+    let (log, first, second) = (&done.register.log, &done.first, &done.second);
+    out.count(": sum ", done.register.sum);
+    out.count(", in the log ", by_seat(log, 0));
+    out.count(" and ", by_seat(log, 1));
+    out.count(", answers ", first.len() as u64);
+    out.count(" and ", second.len() as u64);
+    out.count(
+        ", which add up to ",
+        added_up(first).wrapping_add(added_up(second)),
+    );
+    out.text(if rise(first) && rise(second) {
+        ", in order"
     } else {
-        "out of order"
-    };
-    format!(in alloc;
-        "sum {}, in the log {} and {}, answers {} and {}, which add up to {answers}, {order}, counted inside {counted}",
-        register.sum,
-        by_seat(log, 0),
-        by_seat(log, 1),
-        first.len(),
-        second.len()
-    )
+        ", out of order"
+    });
 }
 
-// A turn for so many seats.
-fn seats_case(alloc: Global, seats: u32) -> Result<String, AllocError> {
-    let Ok(seats) = u16::try_from(seats) else {
-        return format!(in alloc; "too many");
-    };
+// `seats SEATS`: a turn for so many seats.
+fn seats_case(alloc: Global, seats: &str, out: &mut Answer) -> Result<(), Refusal> {
+    let seats = number::<u16>(seats)?;
     if seats == 0 {
-        return format!(in alloc; "too few");
+        return Err(Refusal::Condition);
     }
-    match open_many(alloc, seats)? {
-        (count, Some(last)) => format!(in alloc; "{count}, the last {last}"),
-        (count, None) => format!(in alloc; "{count}"),
+    let (count, last) = open_many(alloc, seats)?;
+    out.count(": ", count as u64);
+    if let Some(last) = last {
+        out.count(", the last ", u64::from(last));
     }
+    Ok(())
 }
 
-fn tally_text(alloc: Global, t: Tally) -> Result<String, AllocError> {
-    format!(in alloc;
-        "{} packets, {} lines, {} bad, {} dropped",
-        t.packets, t.lines, t.bad, t.dropped
-    )
+fn show_tally(t: Tally, out: &mut Answer) {
+    out.count("", t.packets);
+    out.count(" packets, ", t.lines);
+    out.count(" lines, ", t.bad);
+    out.count(" bad, ", t.dropped);
+    out.text(" dropped");
 }
 
-// The first thread adds datagrams of 2 pieces, the second datagrams of 5 pieces, of which 3 are bad, while a third takes
-// the tally a thousand times.
+// `desk FIRST SECOND`: the first thread adds so many datagrams of 2 pieces, the second so many of 5 pieces, of which 3 are bad, while
+// a third takes the tally a thousand times.
 fn desk_case<R: Threads + Wait + Sync>(
     rt: &R,
     alloc: Global,
-    first: u32,
-    second: u32,
-) -> Result<String, AllocError> {
-    let Counted { totals, taken } = add_and_take(rt, alloc, first, second)?;
-    let all = tally_text(alloc, totals)?;
-    let sum = tally_text(alloc, taken)?;
-    format!(in alloc; "{all}, taken with the last: {sum}")
+    first: &str,
+    second: &str,
+    out: &mut Answer,
+) -> Result<(), Refusal> {
+    let Counted { totals, taken } = add_and_take(rt, alloc, number(first)?, number(second)?)?;
+    out.text(": ");
+    show_tally(totals, out);
+    out.text(", taken with the last: ");
+    show_tally(taken, out);
+    Ok(())
 }
 
-// Each call of a shared desk once.
-fn facts_case<R: Wait>(rt: &R, alloc: Global, lines: u32, bad: u32) -> Result<String, AllocError> {
-    let facts = each_call(rt, alloc, lines, bad)?;
-    let totals = tally_text(alloc, facts.totals)?;
-    format!(in alloc;
-        "start {}, last {}, {totals}, well {}, rounds {}, faults {} {} {} {}",
-        facts.start,
-        facts.last,
-        facts.up,
-        facts.rounds,
-        facts.graphite_faults,
-        facts.console_faults,
-        facts.repeater_faults,
-        facts.admin_faults
-    )
+// `facts LINES BAD`: each call of a shared desk once.
+fn facts_case<R: Wait>(
+    rt: &R,
+    alloc: Global,
+    lines: &str,
+    bad: &str,
+    out: &mut Answer,
+) -> Result<(), Refusal> {
+    let facts = each_call(rt, alloc, number(lines)?, number(bad)?)?;
+    out.count(": start ", facts.start);
+    out.count(", last ", facts.last);
+    out.text(", ");
+    show_tally(facts.totals, out);
+    out.text(if facts.up { ", up" } else { ", down" });
+    out.count(", rounds ", facts.rounds);
+    out.count(", faults ", facts.graphite_faults);
+    out.count(" ", facts.console_faults);
+    out.count(" ", facts.repeater_faults);
+    out.count(" ", facts.admin_faults);
+    Ok(())
 }
 
 // The sample of a line.
-fn sample_of(line: &[u8]) -> Option<Sample> {
-    match Lines::new(line).next() {
-        Some(Ok(sample)) => Some(sample),
-        _ => None,
+fn sample_of(line: &str) -> Result<Sample, Refusal> {
+    match Lines::new(line.as_bytes()).next() {
+        Some(Ok(sample)) => Ok(sample),
+        _ => Err(Refusal::Malformed),
     }
 }
 
-// Two threads submit a sample while a third swaps its shard.
+// `shared LINE`: two threads submit a sample while a third swaps its shard.
 fn shared_case<R: Threads + Wait + Sync>(
     rt: &R,
     alloc: Global,
     line: &str,
-) -> Result<String, AllocError> {
-    let Some(sample) = sample_of(line.as_bytes()) else {
-        return format!(in alloc; "no sample");
-    };
-    let book = submit_and_swap(rt, alloc, &sample, line.as_bytes())?;
-    format!(in alloc;
-        "taken {}, flushed and held {}, dropped {}, deleted {}",
-        book.taken,
+    out: &mut Answer,
+) -> Result<(), Refusal> {
+    let book = submit_and_swap(rt, alloc, &sample_of(line)?, line.as_bytes())?;
+    out.count(": taken ", book.taken);
+    out.count(
+        ", flushed and held ",
         book.flushed.saturating_add(book.held),
-        book.dropped,
-        book.deleted
-    )
+    );
+    out.count(", dropped ", book.dropped);
+    out.count(", deleted ", book.deleted);
+    Ok(())
 }
 
-// One thread has the turn of a shard, and another submits a sample meanwhile.
+// `held LINE`: one thread has the turn of a shard, and another submits a sample meanwhile.
 fn held_case<R: Threads + Wait + Sync>(
     rt: &R,
     alloc: Global,
     line: &str,
-) -> Result<String, AllocError> {
-    let Some(sample) = sample_of(line.as_bytes()) else {
-        return format!(in alloc; "no sample");
-    };
-    let held = hold_one(rt, alloc, &sample)?;
-    format!(in alloc; "answered inside {}, taken {}", held.inside, held.taken)
+    out: &mut Answer,
+) -> Result<(), Refusal> {
+    let held = hold_one(rt, alloc, &sample_of(line)?)?;
+    out.text(": answered inside ");
+    out.yes_or_no(held.inside);
+    out.text(", taken ");
+    out.yes_or_no(held.taken);
+    Ok(())
 }
 
-fn answer<R: Threads + Wait + Sync>(
-    rt: &R,
-    alloc: Global,
-    line: &str,
-) -> Result<String, AllocError> {
-    let mut words = line.split(' ');
-    let name = words.next().unwrap_or("");
-    let word = words.next().unwrap_or("");
-    let first = word.parse::<u32>();
-    let second = words.next().unwrap_or("").parse::<u32>();
-    match (name, first, second) {
-        ("turn", Ok(first), Ok(second)) => turn_case(rt, alloc, first, second),
-        ("seats", Ok(seats), _) => seats_case(alloc, seats),
-        ("desk", Ok(first), Ok(second)) => desk_case(rt, alloc, first, second),
-        ("facts", Ok(lines), Ok(bad)) => facts_case(rt, alloc, lines, bad),
-        ("shared", _, _) => shared_case(rt, alloc, word),
-        ("held", _, _) => held_case(rt, alloc, word),
-        _ => format!(in alloc; "no such case"),
+fn call<R>(rt: &R, alloc: Global, words: &[&str], out: &mut Answer) -> Result<(), Refusal>
+where
+    R: Threads + Wait + Sync,
+{
+    match words {
+        ["turn", first, second] => turn_case(rt, alloc, first, second, out),
+        ["seats", seats] => seats_case(alloc, seats, out),
+        ["desk", first, second] => desk_case(rt, alloc, first, second, out),
+        ["facts", lines, bad] => facts_case(rt, alloc, lines, bad, out),
+        ["shared", line] => shared_case(rt, alloc, line, out),
+        ["held", line] => held_case(rt, alloc, line, out),
+        ["cell", nodes, receivers, steps @ ..] => {
+            cell::steps_on_cell(rt, alloc, nodes, receivers, steps, out)
+        }
+        ["looks", sets, receivers, looks] => {
+            looks::looks_together(rt, alloc, sets, receivers, looks, out)
+        }
+        ["relay", n, count, fail] => relays::relay_case(rt, alloc, [n, count, fail], false, out),
+        ["follow", n, count, fail] => relays::relay_case(rt, alloc, [n, count, fail], true, out),
+        _ => Err(Refusal::UnknownCall),
     }
 }
 
 fn main(rt: HostRuntime) -> io::Result<()> {
-    for line in rt.lines(rt.alloc()) {
-        let line = line?;
-        let text = answer(&rt, rt.alloc(), line.as_str())?;
-        println!(rt; "{line}: {text}")?;
-    }
-    Ok(())
+    answer_cases(
+        &rt,
+        rt.alloc(),
+        |alloc: Global, words: &[&str], out: &mut Answer| { call(&rt, alloc, words, out) },
+    )
 }

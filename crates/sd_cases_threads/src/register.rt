@@ -70,7 +70,7 @@ impl Change<Register> for Put<'_> {
 
     ghost entries = { λ put then was seats number. event number put.more was ∷ [] };
 
-    ghost told = { λ put then was seats. then.found.ghost_name ≡ put.found.ghost_name };
+    ghost promised = { λ put then was seats. then.found.ghost_name ≡ put.found.ghost_name };
 
     fn apply(&mut self, value: &mut Register, number: u16) -> u64 {
         let sum = value.sum;

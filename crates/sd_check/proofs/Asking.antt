@@ -1,22 +1,24 @@
 -- What stands once some nodes were asked.
 use Rattle.std.proofs.Common.{◌≡◌, ℕ, ◌+◌, ◌^◌, ◌<◌, ◌≤◌, cond, Bool, true, false, List, [], ◌∷◌, ◌++◌, length, map, Option, refl, sym, ap, ◌∙◌, subst, arith, length-append}
+use Rattle.std.specs.Option.{is_none}
 use Rattle.std.specs.Prelude.{count_by}
 use Rattle.std.proofs.lemmas.List.{map-append}
 use Rattle.sd_model_settings.specs.Entries.{Node}
 use Rattle.sd_model_outside.specs.Outside.{Object}
-use Rattle.sd_model_outside.specs.Probes.{HasAsked, AreAsked}
-use Rattle.sd_model_live.specs.Checks.{admin_place, tells_up, is_failed, IsSetOf}
+use Rattle.sd_model_outside.specs.Uses.{HasAsked, AreAsked}
+use Rattle.sd_model_live.specs.Proxy.{tells_up}
 use Rattle.sd_model_live.proofs.QuestionLemmas.{AreAsked-append, AreAsked-one, failed-append}
 use Rattle.sd_check.specs.Questions.{AddsAnswer, HasAskedAll}
 use Rattle.sd_check.specs.declared.questions.Found.{Found}
 use Rattle.sd_check.proofs.Sets.{set_none, set_more}
+use Rattle.sd_model_live.proofs.Short.{admin_place, IsSetOf}
 
 -- how many failed, with one question more
-failed-snoc : (xs : List (Option (List ℕ))) (answer : Option (List ℕ)) → count_by is_failed (xs ++ answer ∷ []) ≡ count_by is_failed xs + cond (is_failed answer) 1 0
+failed-snoc : (xs : List (Option (List ℕ))) (answer : Option (List ℕ)) → count_by is_none (xs ++ answer ∷ []) ≡ count_by is_none xs + cond (is_none answer) 1 0
 failed-snoc xs answer =
-    let n : ℕ = cond (is_failed answer) 1 0 in
+    let n : ℕ = cond (is_none answer) 1 0 in
     let one : 0 + n ≡ n = omega arith in
-    failed-append xs (answer ∷ []) ∙ ap (λ m. count_by is_failed xs + m) one
+    failed-append xs (answer ∷ []) ∙ ap (λ m. count_by is_none xs + m) one
 
 -- these nodes were asked, and this was found
 pub record Stands (nodes : List Node) (old now : Object) (found : Found) : Type 0 where
@@ -25,7 +27,7 @@ pub record Stands (nodes : List Node) (old now : Object) (found : Found) : Type 
   pub asked : AreAsked (map admin_place nodes) answers old now
   pub small : found.up < 2 ^ length nodes
   pub set : IsSetOf found.up answers
-  pub failures : found.failed ≡ count_by is_failed answers
+  pub failures : found.failed ≡ count_by is_none answers
   pub few : found.failed ≤ length nodes
 
 pub stands_first : (old : Object) (found : Found) → found.up ≡ 0 → found.failed ≡ 0 → Stands [] old old found
@@ -50,7 +52,7 @@ stands_more nodes node old now then place answer found next here s a adds =
     let at : 2 ^ place ≡ 2 ^ length nodes = ap (λ n. 2 ^ n) here in
     let more = set_more found.up (length nodes) s.answers answer s.each s.small s.set in
     let up : next.up ≡ cond (tells_up answer) (found.up + 2 ^ length nodes) found.up = adds.up ∙ ap (λ n. cond (tells_up answer) (found.up + n) found.up) at in
-    let one : cond (is_failed answer) 1 0 ≤ 1 = at_most_one (is_failed answer) in
+    let one : cond (is_none answer) 1 0 ≤ 1 = at_most_one (is_none answer) in
     record {
       answers = s.answers ++ answer ∷ [];
       each = length-append s.answers (answer ∷ []) ∙ ap (λ n. n + 1) s.each ∙ sym len;
@@ -58,7 +60,7 @@ stands_more nodes node old now then place answer found next here s a adds =
           (AreAsked-append (map admin_place nodes) (admin_place node ∷ []) s.answers (answer ∷ []) old now then s.asked (AreAsked-one (admin_place node) answer now then a));
       small = subst (λ (n : ℕ × ℕ). n.0 < 2 ^ n.1) (λ i. (sym up i, sym len i)) more.1;
       set = subst (λ n. IsSetOf n (s.answers ++ answer ∷ [])) (sym up) more.0;
-      failures = adds.failed ∙ ap (λ n. n + cond (is_failed answer) 1 0) s.failures ∙ sym (failed-snoc s.answers answer);
+      failures = adds.failed ∙ ap (λ n. n + cond (is_none answer) 1 0) s.failures ∙ sym (failed-snoc s.answers answer);
       few = subst (λ n. next.failed ≤ n) (sym len) (let f = adds.failed in let g = s.few in omega arith);
     }
 

@@ -4,8 +4,9 @@ use Rattle.std.specs.Prelude.{slice_get}
 use Rattle.std.specs.Option.{option_map_or}
 use Rattle.std.proofs.lemmas.Bool.{cases_order}
 use Rattle.sd_model_ring.specs.Ring.{is_up}
-use Rattle.sd_model_live.specs.Checks.{tells_up, IsSetOf}
+use Rattle.sd_model_live.specs.Proxy.{tells_up}
 use Rattle.sd_model_live.proofs.Bits.{is_up-beyond, is_up-below, is_up-here, with_bit-small}
+use Rattle.sd_model_live.proofs.Short.{IsSetOf}
 
 module _ {A : Type 0} where
   get_below : (xs ys : List A) (i : ℕ) → i < length xs → slice_get (xs ++ ys) i ≡ slice_get xs i

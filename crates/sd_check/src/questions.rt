@@ -1,10 +1,12 @@
 //! The questions of one check.
-ghost use Rattle.std.specs.Prelude.{◌≡◌, ℕ, ◌<◌, ◌≤◌, ◌^◌, List, length, map, Option, option_map};
-ghost use Rattle.sd_model_outside.specs.Probes.{HasAsked};
-ghost use Rattle.sd_model_live.specs.Checks.{admin_place, says_up as reply_says_up};
+ghost use Rattle.std.specs.Prelude.{◌≡◌, ℕ, ◌<◌, ◌≤◌, ◌^◌, List, length, map, Option, option_map, codes};
+ghost use Rattle.sd_model_outside.specs.Uses.{HasAsked};
 ghost use Rattle.sd_plan.specs.Entries.{node_view};
 ghost use Rattle.sd_outside.specs.Places.{place_of};
 ghost use Rattle.sd_check.specs.Questions.{AddsAnswer, HasAskedAll};
+ghost use Rattle.sd_model_outside.specs.Outside.{Host};
+ghost use Rattle.sd_model_text.specs.Lists.{trim_end, is_white_space};
+ghost use Rattle.std.specs.Str.{bytes_eq};
 
 use crate::reply::says_up;
 use crate::telling::tell_node;
@@ -15,7 +17,7 @@ use sd_plan::Node;
 
 /// Where a node is asked how it is.
 fn admin_address(node: &Node) -> Address
-    ensures { place_of result ≡ admin_place (node_view node.now) }
+    ensures { place_of result ≡ Host (node_view node.now).host (node_view node.now).adminport }
 {
     Address::Host {
         host: node.host.clone().unwrap(),
@@ -25,8 +27,8 @@ fn admin_address(node: &Node) -> Address
 
 /// Whether a node says that it is up; none where the question failed.
 fn ask<Q: Probe>(node: &Node, probe: &mut Q, line: &mut Line) -> Option<bool>
-    ensures { (answer : Option (List ℕ)) × HasAsked (admin_place (node_view node.now)) answer (Q.seen probe.old) (Q.seen probe.new)
-        × (result ≡ option_map reply_says_up answer) }
+    ensures { (answer : Option (List ℕ)) × HasAsked (Host (node_view node.now).host (node_view node.now).adminport) answer (Q.seen probe.old) (Q.seen probe.new)
+        × (result ≡ option_map (λ reply. bytes_eq (trim_end is_white_space reply) (codes "health: up")) answer) }
 {
     match probe.ask(&admin_address(node), line) {
         Ok(()) => Some(says_up(line.as_slice())),
@@ -51,7 +53,7 @@ fn ask_next<Q: Probe>(
 ) -> Found
     requires place { (place < 64) × (found.up < 2 ^ place) }
     requires failed { found.failed ≤ place }
-    ensures { (answer : Option (List ℕ)) × HasAsked (admin_place (node_view node.now)) answer (Q.seen probe.old) (Q.seen probe.new)
+    ensures { (answer : Option (List ℕ)) × HasAsked (Host (node_view node.now).host (node_view node.now).adminport) answer (Q.seen probe.old) (Q.seen probe.new)
         × AddsAnswer place answer found result }
 {
     match ask(node, probe, line) {

@@ -1,7 +1,7 @@
 //! What a reply says.
-ghost use Rattle.std.specs.Prelude.{◌≡◌};
+ghost use Rattle.std.specs.Prelude.{◌≡◌, codes};
 ghost use Rattle.sd_model_text.specs.Lists.{trim_end, is_white_space};
-ghost use Rattle.sd_model_live.specs.Checks.{says_up as reply_says_up};
+ghost use Rattle.std.specs.Str.{bytes_eq};
 
 use sd_key::is_white_space;
 
@@ -10,18 +10,18 @@ fn trimmed(bytes: &[u8]) -> &[u8]
     ensures { result.now ≡ trim_end is_white_space bytes.now }
 {
     let mut rest = bytes;
-    while let [front @ .., last] = rest {
+    while let [prefix @ .., last] = rest {
         if !is_white_space(*last) {
             break;
         }
-        rest = front;
+        rest = prefix;
     }
     rest
 }
 
 /// Whether a reply, without the white space at its end, is `health: up`.
 pub fn says_up(reply: &[u8]) -> bool
-    ensures { result ≡ reply_says_up reply.now }
+    ensures { result ≡ bytes_eq (trim_end is_white_space reply.now) (codes "health: up") }
 {
     trimmed(reply) == b"health: up".as_slice()
 }

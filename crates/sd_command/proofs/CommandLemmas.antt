@@ -16,9 +16,7 @@ use Rattle.sd_model_outside.specs.Outside.{Object, HasFailedBehind, given}
 use Rattle.sd_model_outside.proofs.WriteLemmas.{given-given, behind-later}
 use Rattle.sd_model_shard.specs.Shard as shard
 use Rattle.sd_model_shard.specs.Shard.{State, empty_state, Event, Delete, Dump, Look, Numbers, after_delete, deletion_of, numbers_of}
-use Rattle.sd_model_shard.specs.Rows.{RowId, Kept, row_cmp}
-use Rattle.sd_model_shard.specs.Commands.{is_hit, rows_left, rows_taken_out}
-use Rattle.sd_model_shard.specs.Summaries.{samples_in, samples_where, listed_in}
+use Rattle.sd_model_shard.specs.Rows.{RowId, Kept, row_cmp, is_hit, rows_left, rows_taken_out, samples_in, samples_where, listed_in}
 use Rattle.sd_model_shard.proofs.SumLemmas.{samples-parts, samples-none}
 use Rattle.sd_model_shard.proofs.SummaryLemmas.{Tell-empty}
 use Rattle.sd_model_shard.proofs.RowLemmas.{rows_total, rows_exact}
@@ -26,49 +24,49 @@ use Rattle.sd_model_shard.proofs.DeletionLemmas.{get-rows_left}
 use Rattle.sd_model_shard.specs.History.{Asked, answered, after_all}
 use Rattle.sd_model_record.specs.Admin as admin
 use Rattle.sd_model_record.specs.Admin.{AdminFault, TooLong, words, command_named, command_of_words, longest_line}
-use Rattle.sd_model_record.specs.Replies.{Reply, Stats, Totals, Rows, Gone, Finish, reply_text, admin_events, keys_told, names_replied, numbers_in, numbers_told, replies_by, replies_text, rows_told}
-use Rattle.sd_model_replay.specs.Settings.{Bounds, bounds_of}
+use Rattle.sd_model_record.specs.Replies.{AdminReply, Stats, Totals, Rows, Gone, Finish, reply_text, admin_events, names_replied, numbers_looked, replies_by, replies_text}
+use Rattle.sd_model_replay.specs.Replay.{Bounds, bounds_of, states_after}
 use Rattle.sd_model_replay.specs.Script.{Admin}
 use Rattle.sd_model_serve.specs.Receiving.{administrator}
 use Rattle.sd_model_record.specs.Desk.{Desk, Facts}
 use Rattle.sd_model_serve.specs.Sessions.{Broadcast, replies_at}
-use Rattle.sd_model_replay.specs.Replay.{states_after}
-use Rattle.sd_model_replay.specs.Asked.{broadcasts, output_in}
+use Rattle.sd_model_replay.specs.AccountingTheorem.{broadcasts, output_in}
 use Rattle.sd_shards.specs.Shards.{Group, AreAlike, numbers as shards_of, state_at}
 use Rattle.sd_command.specs.Commanded.{IsWritten, deleted}
 use Rattle.sd_model_settings.specs.Settings.{Settings}
+use Rattle.sd_model_record.proofs.Short.{numbers_reported, keys_reported, rows_reported}
 
 -- events as an administrator asks for them
 abbrev as_asked : List Event → List Asked
 as_asked events = map (λ event. record { who = administrator; event = event }) events
 
 -- what is replied to a name more
-pub replied-more : (answers : ℕ → List shard.Reply) (names : List (List ℕ)) (name : List ℕ) → names_replied answers (names ++ name ∷ []) ≡ names_replied answers names ++ Gone name (keys_told (answers (length names))) ∷ []
+pub replied-more : (answers : ℕ → List shard.Reply) (names : List (List ℕ)) (name : List ℕ) → names_replied answers (names ++ name ∷ []) ≡ names_replied answers names ++ Gone name (keys_reported (answers (length names))) ∷ []
 replied-more answers [] name = refl
 replied-more answers (n ∷ names) name =
     let next : length names + 1 ≡ suc (length names) = omega arith in
-    ap (λ (replies : List Reply). Gone n (keys_told (answers 0)) ∷ replies)
-    (replied-more (λ k. answers (k + 1)) names name ∙ ap (λ m. names_replied (λ k. answers (k + 1)) names ++ Gone name (keys_told (answers m)) ∷ []) next)
+    ap (λ (replies : List AdminReply). Gone n (keys_reported (answers 0)) ∷ replies)
+    (replied-more (λ k. answers (k + 1)) names name ∙ ap (λ m. names_replied (λ k. answers (k + 1)) names ++ Gone name (keys_reported (answers m)) ∷ []) next)
 
 -- what all shards answer to a name of a deletion
-pub told_at : (bounds : Bounds) (kind : Kind) (states : ℕ → State) (names : List (List ℕ)) (n : ℕ) (name : List ℕ) → slice_get names n ≡ Some name
+pub reported_at : (bounds : Bounds) (kind : Kind) (states : ℕ → State) (names : List (List ℕ)) (n : ℕ) (name : List ℕ) → slice_get names n ≡ Some name
     → replies_at bounds.shards (broadcasts bounds states (map (Delete kind) names)) n ≡ map (λ i. deletion_of kind name (deleted kind (states i) (take n names))) (range_with_len 0 bounds.shards)
-told_at bounds kind states [] n name found = absurd (cc)
-told_at bounds kind states (m ∷ names) zero name found = let same : m ≡ name = cc found in ap (λ x. map (λ i. deletion_of kind x (states i)) (range_with_len 0 bounds.shards)) same
-told_at bounds kind states (m ∷ names) (suc n) name found = told_at bounds kind (λ i. after_delete kind m (states i)) names n name found
+reported_at bounds kind states [] n name found = absurd (cc)
+reported_at bounds kind states (m ∷ names) zero name found = let same : m ≡ name = cc found in ap (λ x. map (λ i. deletion_of kind x (states i)) (range_with_len 0 bounds.shards)) same
+reported_at bounds kind states (m ∷ names) (suc n) name found = reported_at bounds kind (λ i. after_delete kind m (states i)) names n name found
 
 -- which doesn't depend on their bounds
-told_alike : (one other : Bounds) (kind : Kind) (states : ℕ → State) (names : List (List ℕ)) → broadcasts one states (map (Delete kind) names) ≡ broadcasts other states (map (Delete kind) names)
-told_alike one other kind states [] = refl
-told_alike one other kind states (name ∷ names) =
-    ap (λ (bs : List Broadcast). record { event = Delete kind name; replies = λ i. deletion_of kind name (states i) } ∷ bs) (told_alike one other kind (λ i. after_delete kind name (states i)) names)
+reported_alike : (one other : Bounds) (kind : Kind) (states : ℕ → State) (names : List (List ℕ)) → broadcasts one states (map (Delete kind) names) ≡ broadcasts other states (map (Delete kind) names)
+reported_alike one other kind states [] = refl
+reported_alike one other kind states (name ∷ names) =
+    ap (λ (bs : List Broadcast). record { event = Delete kind name; replies = λ i. deletion_of kind name (states i) } ∷ bs) (reported_alike one other kind (λ i. after_delete kind name (states i)) names)
 
 -- a name more
 pub deleted-more : (kind : Kind) (state : State) (names : List (List ℕ)) (name : List ℕ) → deleted kind state (names ++ name ∷ []) ≡ after_delete kind name (deleted kind state names)
 deleted-more kind state names name = fold_push (λ st x. after_delete kind x st) state names name
 
 -- the text of a reply more
-pub text-more : (replies : List Reply) (reply : Reply) → flat_map reply_text (replies ++ reply ∷ []) ≡ flat_map reply_text replies ++ reply_text reply
+pub text-more : (replies : List AdminReply) (reply : AdminReply) → flat_map reply_text (replies ++ reply ∷ []) ≡ flat_map reply_text replies ++ reply_text reply
 text-more replies reply = flat_map-append reply_text replies (reply ∷ []) ∙ ap (λ text. flat_map reply_text replies ++ text) (append-nil (reply_text reply))
 
 -- a deletion leaves an empty shard as it is
@@ -99,8 +97,8 @@ module _ (bounds : Bounds) where
   names_asked kind state [] = refl
   names_asked kind state (name ∷ names) = names_asked kind (after_delete kind name state) names
 
-  pub names_carried : (states : ℕ → State) (moment : ℕ) (line : List ℕ) (kind : Kind) (names : List (List ℕ)) (i : ℕ) → admin.command line ≡ Ok (admin.Delete kind names) → states_after bounds states (Admin moment line) i ≡ deleted kind (states i) names
-  names_carried states moment line kind names i read = ap (λ answer. asked_of answer (states i)) read ∙ names_asked kind (states i) names
+  pub names_executed : (states : ℕ → State) (moment : ℕ) (line : List ℕ) (kind : Kind) (names : List (List ℕ)) (i : ℕ) → admin.command line ≡ Ok (admin.Delete kind names) → states_after bounds states (Admin moment line) i ≡ deleted kind (states i) names
+  names_executed states moment line kind names i read = ap (λ answer. asked_of answer (states i)) read ∙ names_asked kind (states i) names
 
   -- it leaves an empty one as it is
   idle_names : (kind : Kind) (names : List (List ℕ)) → asked_of (Ok (admin.Delete kind names)) empty_state ≡ empty_state
@@ -127,40 +125,40 @@ module _ (settings : Settings) (states : ℕ → State) (desk : Desk) (moment : 
   abbrev text_by : Result admin.Command AdminFault → List ℕ
   text_by answer = replies_text (replies_by false (replies_at settings.sizes.shards (broadcasts (bounds_of settings) states (admin_events answer))) desk.facts settings moment answer)
 
-  abbrev told : List ℕ
-  told = output_in settings (record { shards = states; desk = desk }) (Admin moment line)
+  abbrev reported : List ℕ
+  reported = output_in settings (record { shards = states; desk = desk }) (Admin moment line)
 
-  pub stats_told : (facts : Facts) → facts ≡ desk.facts → admin.command line ≡ Ok admin.Stats → reply_text (Stats facts moment) ≡ told
-  stats_told facts same read =
+  pub stats_reported : (facts : Facts) → facts ≡ desk.facts → admin.command line ≡ Ok admin.Stats → reply_text (Stats facts moment) ≡ reported
+  stats_reported facts same read =
       ap (λ f. reply_text (Stats f moment)) same ∙ sym (append-nil (reply_text (Stats desk.facts moment))) ∙ sym (ap text_by read)
 
-  pub totals_told : (group : Group) (facts : Facts) (numbers : List Numbers) → length group.states ≡ settings.sizes.shards → states ≡ state_at group → facts ≡ desk.facts
-      → numbers ≡ map (λ i. numbers_of (state_at group i)) (shards_of group) → admin.command line ≡ Ok admin.Totals → reply_text (Totals false facts numbers) ≡ told
-  totals_told group facts numbers count are same tell read =
+  pub totals_reported : (group : Group) (facts : Facts) (numbers : List Numbers) → length group.states ≡ settings.sizes.shards → states ≡ state_at group → facts ≡ desk.facts
+      → numbers ≡ map (λ i. numbers_of (state_at group i)) (shards_of group) → admin.command line ≡ Ok admin.Totals → reply_text (Totals false facts numbers) ≡ reported
+  totals_reported group facts numbers count are same tell read =
       let answers : (ℕ → State) → ℕ → List shard.Reply = λ at n. replies_at n (broadcasts (bounds_of settings) at (Look ∷ [])) 0 in
-      let all : numbers ≡ numbers_told (answers states settings.sizes.shards) =
+      let all : numbers ≡ numbers_reported (answers states settings.sizes.shards) =
       tell ∙ sym (flat_map-alone (λ i. numbers_of (state_at group i)) (shards_of group))
-      ∙ sym (flat_map-map numbers_in (λ i. shard.Looked (numbers_of (state_at group i))) (shards_of group))
-      ∙ ap (λ n. numbers_told (answers (state_at group) n)) count ∙ ap (λ at. numbers_told (answers at settings.sizes.shards)) (sym are) in
+      ∙ sym (flat_map-map numbers_looked (λ i. shard.Looked (numbers_of (state_at group i))) (shards_of group))
+      ∙ ap (λ n. numbers_reported (answers (state_at group) n)) count ∙ ap (λ at. numbers_reported (answers at settings.sizes.shards)) (sym are) in
       (λ i. reply_text (Totals false (same i) (all i)))
-      ∙ sym (append-nil (reply_text (Totals false desk.facts (numbers_told (answers states settings.sizes.shards))))) ∙ sym (ap text_by read)
+      ∙ sym (append-nil (reply_text (Totals false desk.facts (numbers_reported (answers states settings.sizes.shards))))) ∙ sym (ap text_by read)
 
   pub rows_shown : (bounds : Bounds) (kind : Kind) → bounds.shards ≡ settings.sizes.shards → admin.command line ≡ Ok (admin.Show kind)
-      → reply_text (Rows kind (rows_told (replies_at bounds.shards (broadcasts bounds states (Dump kind ∷ [])) 0))) ≡ told
+      → reply_text (Rows kind (rows_reported (replies_at bounds.shards (broadcasts bounds states (Dump kind ∷ [])) 0))) ≡ reported
   rows_shown bounds kind count read =
       let answers : ℕ → List shard.Reply = λ n. replies_at n (broadcasts bounds states (Dump kind ∷ [])) 0 in
-      ap (λ n. reply_text (Rows kind (rows_told (answers n)))) count ∙ sym (append-nil (reply_text (Rows kind (rows_told (answers settings.sizes.shards))))) ∙ sym (ap text_by read)
+      ap (λ n. reply_text (Rows kind (rows_reported (answers n)))) count ∙ sym (append-nil (reply_text (Rows kind (rows_reported (answers settings.sizes.shards))))) ∙ sym (ap text_by read)
 
-  pub names_told : (bounds : Bounds) (kind : Kind) (names : List (List ℕ)) → bounds.shards ≡ settings.sizes.shards → admin.command line ≡ Ok (admin.Delete kind names)
-      → replies_text (names_replied (replies_at bounds.shards (broadcasts bounds states (map (Delete kind) names))) names ++ Finish ∷ []) ≡ told
-  names_told bounds kind names count read =
+  pub names_reported : (bounds : Bounds) (kind : Kind) (names : List (List ℕ)) → bounds.shards ≡ settings.sizes.shards → admin.command line ≡ Ok (admin.Delete kind names)
+      → replies_text (names_replied (replies_at bounds.shards (broadcasts bounds states (map (Delete kind) names))) names ++ Finish ∷ []) ≡ reported
+  names_reported bounds kind names count read =
       let text : ℕ → List Broadcast → List ℕ = λ n bs. replies_text (names_replied (replies_at n bs) names ++ Finish ∷ []) in
-      ap (λ n. text n (broadcasts bounds states (map (Delete kind) names))) count ∙ ap (text settings.sizes.shards) (told_alike bounds (bounds_of settings) kind states names) ∙ sym (ap text_by read)
+      ap (λ n. text n (broadcasts bounds states (map (Delete kind) names))) count ∙ ap (text settings.sizes.shards) (reported_alike bounds (bounds_of settings) kind states names) ∙ sym (ap text_by read)
 
 -- what was written whole, and then this
 pub written-more : {E : Type 0} (text more : List ℕ) (result : Result ⊤ E) (old mid new : Object) → mid ≡ given text old → IsWritten more result mid new → IsWritten (text ++ more) result old new
-written-more text more (Ok whole) old mid new front written = written ∙ ap (given more) front ∙ given-given text more old
-written-more text more (Err fault) old mid new front failed = behind-later text more old mid new front failed
+written-more text more (Ok whole) old mid new prefix written = written ∙ ap (given more) prefix ∙ given-given text more old
+written-more text more (Err fault) old mid new prefix failed = behind-later text more old mid new prefix failed
 
 -- the two clauses of a write are one
 pub as_written : {E : Type 0} (text : List ℕ) (result : Result ⊤ E) (old new : Object) → OnOk result (new ≡ given text old) → OnErr result (HasFailedBehind text old new) → IsWritten text result old new

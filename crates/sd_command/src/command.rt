@@ -1,20 +1,21 @@
-ghost use Rattle.std.specs.Prelude.{◌≡◌, ◌≢◌, ◌≤◌, ◌<◌, ◌^◌, ◌*◌, ℕ, List, [], ◌∷◌, ◌++◌, length, map, OnOk, OnErr};
+ghost use Rattle.std.specs.Prelude.{◌≡◌, ◌≢◌, ◌≤◌, ◌<◌, ◌^◌, ◌*◌, ℕ, List, [], ◌∷◌, ◌++◌, length, map, OnOk, OnErr, flat_map};
 ghost use Rattle.sd_model_text.specs.Names.{Set};
 ghost use Rattle.sd_model_outside.specs.Outside.{Object, HasFailedBehind, given};
 ghost use Rattle.sd_model_shard.specs.Shard.{Delete, Dump as DumpOf};
 ghost use Rattle.sd_model_record.specs.Admin.{command};
 ghost use Rattle.sd_admin.specs.Words.{names_of};
 ghost use Rattle.sd_model_record.specs.Desk.{with_health};
-ghost use Rattle.sd_model_record.specs.Replies.{Finish, Rows, reply_text, health_after, names_replied, replies_text, rows_told};
+ghost use Rattle.sd_model_record.specs.Replies.{Finish, Rows, reply_text, health_after, names_replied, replies_text, rows_in};
 ghost use Rattle.sd_admin.specs.Order.{IsInOrder};
 ghost use Rattle.sd_model_replay.specs.Script.{Admin};
 ghost use Rattle.sd_model_replay.specs.Replay.{desk_after_line, states_after};
-ghost use Rattle.sd_model_replay.specs.Asked.{output_in};
+ghost use Rattle.sd_model_replay.specs.AccountingTheorem.{output_in};
 ghost use Rattle.sd_key.specs.Kind.{kind_of};
 ghost use Rattle.sd_shards.specs.Shards.{AreAlike, group_bounds, state_at};
 ghost use Rattle.sd_admin.specs.Command.{command_view, health_word_view};
 ghost use Rattle.sd_admin.specs.Reply.{reply_view};
-ghost use Rattle.sd_command.specs.Commanded.{IsWritten, deleted, told_of};
+ghost use Rattle.sd_command.specs.Commanded.{IsWritten, deleted, reported_of};
+ghost use Rattle.sd_model_shard.specs.Rows.{in_key_order};
 
 use sd_admin::{Command, HealthWord, Reply, write_reply};
 use sd_config::Settings;
@@ -28,7 +29,7 @@ use sd_shards::Shards;
 ///
 /// # Errors
 ///
-/// `WriteFault` where the output failed, now or before. Then a front of the text was written.
+/// `WriteFault` where the output failed, now or before. Then a prefix of the text was written.
 fn tell<O: Sink>(
     so_far: Result<(), WriteFault>,
     reply: &Reply<'_>,
@@ -51,7 +52,7 @@ fn show<O: Sink>(
 ) -> Result<(), WriteFault>
     requires kind { kind_of kind ≢ Set }
     requires room { length (shards.now).states * (shards.now).limits.rows ≤ dump.old.room }
-    ensures written { IsWritten (reply_text (Rows (kind_of kind) (rows_told (told_of shards.now (DumpOf (kind_of kind) ∷ []) 0))))
+    ensures written { IsWritten (reply_text (Rows (kind_of kind) (in_key_order (λ row. row.key) (flat_map rows_in (reported_of shards.now (DumpOf (kind_of kind) ∷ []) 0)))))
         result (O.seen output.old) (O.seen output.new) }
     ensures room { dump.new.room ≡ dump.old.room }
 {
@@ -60,7 +61,7 @@ fn show<O: Sink>(
 }
 
 /// Deletes the rows of a kind that the names of a command match, name by name, and replies with the keys. Where the output
-/// fails nothing more is written, and the names behind are carried out all the same.
+/// fails nothing more is written, and the names behind are executed all the same.
 fn delete<O: Sink>(
     shards: &mut Shards,
     kind: Kind,
@@ -74,7 +75,7 @@ fn delete<O: Sink>(
     ensures alike { AreAlike shards.old shards.new }
     ensures room { keys.new.room ≡ keys.old.room }
     ensures written { IsWritten
-        (replies_text (names_replied (told_of shards.old (map (Delete (kind_of kind)) (names_of (command_view names.now)))) (names_of (command_view names.now)) ++ Finish ∷ []))
+        (replies_text (names_replied (reported_of shards.old (map (Delete (kind_of kind)) (names_of (command_view names.now)))) (names_of (command_view names.now)) ++ Finish ∷ []))
         result (O.seen output.old) (O.seen output.new) }
 {
     let mut written = Ok(());
@@ -104,13 +105,13 @@ fn health(desk: &mut Desk, word: HealthWord) -> bool
     desk.facts().up
 }
 
-/// Carries out an admin line that came now, and replies. Where the output fails, the command has its whole effect all the
+/// Executes an admin line that came now, and replies. Where the output fails, the command has its whole effect all the
 /// same.
 ///
 /// # Errors
 ///
-/// `WriteFault` where the output failed. Then a front of the reply was written.
-pub fn carry_out<O: Sink>(
+/// `WriteFault` where the output failed. Then a prefix of the reply was written.
+pub fn execute<O: Sink>(
     shards: &mut Shards,
     desk: &mut Desk,
     keys: &mut Keys,

@@ -1,9 +1,9 @@
--- The elements of a list, with what was read of its front.
+-- The elements of a list, with what was read of its start.
 use Rattle.std.proofs.Common.{◌≡◌, ℕ, ◌<◌, ◌≤◌, Bool, true, false, cond, List, [], ◌∷◌, ◌++◌, length, Result, Ok, Err, refl, append_assoc, append-nil, length-append, le-leb, arith}
 use Rattle.std.proofs.lemmas.Bool.Decides.{nat_tests}
 use Rattle.sd_model_settings.specs.Values.{ValueFlaw, OtherKind, OutsideRange, both, mapped, ranged, are_at_most}
 
--- what the whole list is, where its front has the elements xs and `is_over` says whether one was out of range
+-- what the whole list is, where its prefix has the elements xs and `is_over` says whether one was out of range
 -- or too many
 abbrev pub onto : {A : Type 0} → ℕ → Bool → List A → Result (List A) ValueFlaw → Result (List A) ValueFlaw
 onto n is_over xs (Ok ys) = cond is_over (Err OutsideRange) (ranged (are_at_most n) (Ok (xs ++ ys)))

@@ -1,4 +1,4 @@
 pub mod Answers
 pub mod Values
 pub mod Groups
-pub mod Told
+pub mod Reported

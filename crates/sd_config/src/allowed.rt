@@ -1,7 +1,7 @@
 ghost use Rattle.std.specs.Prelude.{◌≡◌, is_some};
 ghost use Rattle.std.specs.List.{list_any};
 ghost use Rattle.std.specs.Str.{bytes_eq};
-ghost use Rattle.sd_config.specs.Told.{tells_a_setting, is_told_name};
+ghost use Rattle.sd_config.specs.Reported.{tells_a_setting, is_reported_name};
 
 use crate::fault::ConfigFault;
 use crate::table::{Allowed, GRAPHITE_ALLOWED, TOP_ALLOWED};
@@ -19,7 +19,7 @@ fn allowed_among(name: &[u8], among: &[Allowed]) -> Option<&'static str>
 
 // What is allowed for a setting, by its name, or for the file.
 fn allowed_for(name: &[u8]) -> Option<&'static str>
-    ensures { is_some result ≡ is_told_name name.now }
+    ensures { is_some result ≡ is_reported_name name.now }
 {
     if let Some(text) = allowed_among(name, &TOP_ALLOWED) {
         return Some(text);

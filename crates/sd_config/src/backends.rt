@@ -1,8 +1,10 @@
 ghost use Rattle.std.specs.Prelude.{◌≡◌};
 ghost use Rattle.toml.specs.View.{view};
-ghost use Rattle.sd_model_settings.specs.Entries.{backends, class_names};
+ghost use Rattle.sd_model_settings.specs.Entries.{is_backend, is_class_name};
 ghost use Rattle.sd_config.specs.Answers.{seen_by};
 ghost use Rattle.sd_plan.specs.Values.{name_bytes};
+ghost use Rattle.sd_model_settings.specs.Values.{ranged, are_distinct, listed, text};
+ghost use Rattle.std.specs.Str.{bytes_eq};
 
 use crate::fault::ValueFault;
 use crate::lists::distinct_texts;
@@ -13,14 +15,14 @@ use toml::Value;
 
 /// The names of backends, each at most once.
 pub(crate) fn backends(value: &Value) -> Result<ArrayVec<Name, 3>, ValueFault>
-    ensures { seen_by (λ v. name_bytes v.items) result ≡ backends (view value.now) }
+    ensures { seen_by (λ v. name_bytes v.items) result ≡ ranged (are_distinct bytes_eq) (listed 3 (text is_backend) (view value.now)) }
 {
     distinct_texts(value, TextRule::Backend)
 }
 
 /// The names of classes of timers' lines, each at most once.
 pub(crate) fn class_names(value: &Value) -> Result<ArrayVec<Name, 16>, ValueFault>
-    ensures { seen_by (λ v. name_bytes v.items) result ≡ class_names (view value.now) }
+    ensures { seen_by (λ v. name_bytes v.items) result ≡ ranged (are_distinct bytes_eq) (listed 16 (text is_class_name) (view value.now)) }
 {
     distinct_texts(value, TextRule::ClassName)
 }

@@ -1,10 +1,10 @@
-ghost use Rattle.std.specs.Prelude.{◌≡◌};
+ghost use Rattle.std.specs.Prelude.{◌≡◌, Ok, if◌then◌else◌};
 ghost use Rattle.std.specs.List.{list_all};
 ghost use Rattle.toml.specs.Data.{get_member};
 ghost use Rattle.toml.specs.View.{view, items_view, table_view};
-ghost use Rattle.sd_model_settings.specs.Values.{required};
-ghost use Rattle.sd_model_text.specs.Numbers.{ascends, limit_lt};
-ghost use Rattle.sd_model_settings.specs.Entries.{is_inf, has_early_inf, is_limit, are_limits, bins_of, bins};
+ghost use Rattle.sd_model_settings.specs.Values.{required, decimal, mapped};
+ghost use Rattle.sd_model_text.specs.Numbers.{ascends, limit_lt, Below, Infinite};
+ghost use Rattle.sd_model_settings.specs.Entries.{is_inf, has_early_inf, is_limit, are_limits, bins_of, bins_read};
 ghost use Rattle.sd_config.specs.Answers.{seen_by};
 ghost use Rattle.sd_plan.specs.Entries.{limit_of, limits_of};
 
@@ -31,14 +31,13 @@ fn is_inf(value: &Value) -> bool
 
 impl Element<()> for Limit {
     ghost use Rattle.sd_model_text.specs.Numbers.{Limit as ModelLimit};
-    ghost use Rattle.sd_model_settings.specs.Entries.{limit};
     ghost use Rattle.sd_plan.specs.Entries.{limit_of};
 
     ghost Seen = { ModelLimit };
 
     ghost seen = { limit_of };
 
-    ghost reads = { λ rule. limit };
+    ghost reads = { λ rule d. if is_inf d then Ok Infinite else mapped Below (decimal d) };
 
     fn read(value: &Value, _rule: ()) -> Result<Limit, ValueFault> {
         if is_inf(value) {
@@ -124,7 +123,7 @@ fn bins_of(items: &[Value]) -> Result<ArrayVec<Limit, 64>, ValueFault>
 /// The bins that an entry of a histogram has to have.
 pub(crate) fn required_bins(table: &Table, name: &str) -> Result<ArrayVec<Limit, 64>, ValueFault>
     ensures { seen_by (λ v. limits_of v.items) result
-        ≡ required bins (get_member name.now (table_view table.now)) }
+        ≡ required bins_read (get_member name.now (table_view table.now)) }
 {
     match found(table, name) {
         Some(Value::Array(items)) => bins_of(items.as_slice()),

@@ -1,9 +1,10 @@
 ghost use Rattle.std.specs.Prelude.{◌≡◌, codes};
 ghost use Rattle.toml.specs.Data.{get_member};
 ghost use Rattle.toml.specs.View.{table_view};
-ghost use Rattle.sd_model_settings.specs.Values.{both, required, whole, text, is_host};
+ghost use Rattle.sd_model_settings.specs.Values.{both, required, whole_read, text, is_host, mapped, entry};
 ghost use Rattle.sd_config.specs.Answers.{seen_by};
 ghost use Rattle.sd_plan.specs.Entries.{classes_view, target_view, node_view};
+ghost use Rattle.sd_model_settings.specs.Entries.{host_and_port};
 
 use crate::bins::required_bins;
 use crate::fault::ValueFault;
@@ -18,7 +19,7 @@ use toml::{Table, Value};
 fn place_of(table: &Table) -> Result<(Name, u16), ValueFault>
     ensures { seen_by (λ p. (p.0.items, p.1)) result
         ≡ both (required (text is_host) (get_member (codes "host") (table_view table.now)))
-        (required (whole 1 65535) (get_member (codes "port") (table_view table.now))) }
+        (required (whole_read 1 65535) (get_member (codes "port") (table_view table.now))) }
 {
     both(
         required_text(table, "host", TextRule::Host),
@@ -73,13 +74,13 @@ impl Element<()> for Node {
 }
 
 impl Element<()> for Target {
-    ghost use Rattle.sd_model_settings.specs.Entries.{Target as ModelTarget, target};
+    ghost use Rattle.sd_model_settings.specs.Entries.{Target as ModelTarget};
 
     ghost Seen = { ModelTarget };
 
     ghost seen = { target_view };
 
-    ghost reads = { λ rule. target };
+    ghost reads = { λ rule. entry (λ ms. mapped (λ p. record { host = p.0; port = p.1 }) (host_and_port ms)) };
 
     fn read(value: &Value, _rule: ()) -> Result<Target, ValueFault> {
         let Value::Table(table) = value else {

@@ -30,12 +30,12 @@ pub(crate) enum ValueFault {
 }
 
 // The first `count` bytes, or all where there are fewer.
-fn front(bytes: &[u8], count: usize) -> &[u8]
+fn first_bytes(bytes: &[u8], count: usize) -> &[u8]
     ensures bytes { result.now ≡ take count bytes.now }
     ensures short { length result.now ≤ count }
 {
     match bytes.get(..count) {
-        Some(front) => front,
+        Some(first_bytes) => first_bytes,
         None => bytes,
     }
 }
@@ -44,8 +44,8 @@ fn front(bytes: &[u8], count: usize) -> &[u8]
 pub(crate) fn shown(prefix: &str, name: &str) -> Name
     ensures { result.items ≡ shown (prefix.now ++ name.now) }
 {
-    let prefix = front(prefix.as_bytes(), 64);
-    let name = front(name.as_bytes(), 64 - prefix.len());
+    let prefix = first_bytes(prefix.as_bytes(), 64);
+    let name = first_bytes(name.as_bytes(), 64 - prefix.len());
     let mut shown = name_of(prefix);
     shown.try_extend_from_slice(name).unwrap();
     shown

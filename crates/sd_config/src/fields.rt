@@ -2,7 +2,7 @@ ghost use Rattle.std.specs.Prelude.{◌≡◌};
 ghost use Rattle.std.specs.Option.{option_map};
 ghost use Rattle.toml.specs.Data.{get_member};
 ghost use Rattle.toml.specs.View.{view, table_view};
-ghost use Rattle.sd_model_settings.specs.Values.{both, required, optional, text, whole};
+ghost use Rattle.sd_model_settings.specs.Values.{both, required, optional, text, whole_read};
 ghost use Rattle.sd_config.specs.Answers.{seen_by};
 ghost use Rattle.sd_config.specs.Values.{passes};
 
@@ -46,7 +46,7 @@ pub(crate) fn required_text(table: &Table, name: &str, rule: TextRule) -> Result
 /// A port that an entry has to have.
 pub(crate) fn required_port(table: &Table, name: &str) -> Result<u16, ValueFault>
     ensures { seen_by (λ n. n) result
-        ≡ required (whole 1 65535) (get_member name.now (table_view table.now)) }
+        ≡ required (whole_read 1 65535) (get_member name.now (table_view table.now)) }
 {
     match found(table, name) {
         Some(value) => match values::whole(value, 1, 65535) {
@@ -60,7 +60,7 @@ pub(crate) fn required_port(table: &Table, name: &str) -> Result<u16, ValueFault
 /// A port of an entry, or the default.
 pub(crate) fn optional_port(table: &Table, name: &str, default: u16) -> Result<u16, ValueFault>
     ensures { seen_by (λ n. n) result
-        ≡ optional (whole 1 65535) default (get_member name.now (table_view table.now)) }
+        ≡ optional (whole_read 1 65535) default (get_member name.now (table_view table.now)) }
 {
     match found(table, name) {
         Some(_) => required_port(table, name),

@@ -1,4 +1,4 @@
-ghost use Rattle.sd_model_settings.specs.Table.{server, deletions, addresses, namespace, entry_lists, sizes, flush_rules, transport};
+ghost use Rattle.sd_model_settings.specs.Table.{server, deletion_rules, addresses, namespace, entry_lists, sizes, flush_rules, transport};
 ghost use Rattle.sd_model_settings.specs.Settings.{read};
 ghost use Rattle.sd_config.specs.Answers.{Gives};
 ghost use Rattle.sd_config.specs.Values.{section_of};
@@ -53,7 +53,7 @@ pub(crate) struct Deletions {
 
 #[tactic(auto, unfolding(sd_model_settings::specs::Settings::read))]
 pub(crate) fn deletions_in(top: &Section) -> Result<Deletions, ConfigFault>
-    ensures { Gives deletions_view result (read deletions (section_of top.now)) }
+    ensures { Gives deletions_view result (read deletion_rules (section_of top.now)) }
 {
     deletion_settings!(read_group(top, Deletions))
 }

@@ -7,7 +7,7 @@ ghost use Rattle.std.specs.List.Sorted.{IsStrictlySortedBy};
 ghost use Rattle.std.specs.Option.{option_map, option_copied};
 ghost use Rattle.toml.specs.Data.{get_member};
 ghost use Rattle.toml.specs.View.{view, items_view, table_view};
-ghost use Rattle.sd_model_settings.specs.Settings.{shown, names, first_unknown, unknown_in, unknown_among, unknown_in_list, tables, unknown};
+ghost use Rattle.sd_model_settings.specs.Settings.{shown, names, first_unknown, unknown_in, unknown_among, unknown_in_list, setting_tables, unknown};
 
 use crate::fault::shown;
 use crate::fields::found;
@@ -75,7 +75,7 @@ fn unknown_in_list(value: Option<&Value>, prefix: &str, known: &[&str]) -> Optio
 /// The first name of a file that isn't known.
 #[tactic(auto, unfolding(sd_model_settings::specs::Settings::unknown))]
 pub(crate) fn unknown(table: &Table) -> Option<Name>
-    ensures { option_map (λ n. n.items) result ≡ option_map shown (unknown tables (table_view table.now)) }
+    ensures { option_map (λ n. n.items) result ≡ option_map shown (unknown setting_tables (table_view table.now)) }
 {
     if let Some(name) = first_unknown(table, "", &TOP) {
         return Some(name);

@@ -2,13 +2,13 @@ ghost use Rattle.std.specs.Prelude.{◌≡◌, ◌≤◌, [], ◌∷◌, ◌++�
 ghost use Rattle.std.specs.Option.{option_map};
 ghost use Rattle.toml.specs.Data.{get_member, no_members};
 ghost use Rattle.toml.specs.View.{view, table_view};
-ghost use Rattle.sd_model_settings.specs.Values.{whole, flag, text, listed, members};
-ghost use Rattle.sd_model_settings.specs.Entries.{thresholds, backends, class_names};
-ghost use Rattle.sd_model_settings.specs.Kinds.{Share, read_as};
-ghost use Rattle.sd_model_settings.specs.Settings.{named, found};
+ghost use Rattle.sd_model_settings.specs.Values.{whole_read, flag, text, listed, members, ranged, are_distinct};
+ghost use Rattle.sd_model_settings.specs.Entries.{thresholds, Share, read_as, is_backend, is_class_name};
+ghost use Rattle.sd_model_settings.specs.Settings.{with_name, found};
 ghost use Rattle.sd_config.specs.Answers.{Gives, seen_by};
 ghost use Rattle.sd_config.specs.Values.{passes, section_of, members_of};
 ghost use Rattle.sd_plan.specs.Values.{micros, name_bytes};
+ghost use Rattle.std.specs.Str.{bytes_eq};
 
 use crate::fault::{ConfigFault, ValueFault, shown};
 use crate::fields::found;
@@ -51,7 +51,7 @@ impl<'a> Section<'a> {
     // What was read, with the setting's name beside what is wrong.
     fn named<T>(&self, name: &str, read: Result<T, ValueFault>) -> Result<T, ConfigFault>
         ensures { Gives (λ x. x) result
-            (named (self.now.prefix.now ++ name.now) (seen_by (λ x. x) read)) }
+            (with_name (self.now.prefix.now ++ name.now) (seen_by (λ x. x) read)) }
     {
         match read {
             Ok(value) => Ok(value),
@@ -73,7 +73,7 @@ impl<'a> Section<'a> {
         default: u32,
     ) -> Result<u32, ConfigFault>
         ensures { Gives (λ n. n) result
-            (found (section_of self.now) name.now (whole least most) default) }
+            (found (section_of self.now) name.now (whole_read least most) default) }
     {
         match self.get(name) {
             None => Ok(default),
@@ -154,7 +154,7 @@ impl<'a> Section<'a> {
     ) -> Result<ArrayVec<Name, 3>, ConfigFault>
         requires { length default.now ≤ 255 }
         ensures { Gives (λ v. name_bytes v.items) result
-            (found (section_of self.now) name.now backends (default.now ∷ [])) }
+            (found (section_of self.now) name.now (λ d. ranged (are_distinct bytes_eq) (listed 3 (text is_backend) d)) (default.now ∷ [])) }
     {
         match self.get(name) {
             None => {
@@ -169,7 +169,7 @@ impl<'a> Section<'a> {
     /// The names of classes of timers' lines, none where the setting isn't given.
     pub(crate) fn class_names(&self, name: &str) -> Result<ArrayVec<Name, 16>, ConfigFault>
         ensures { Gives (λ v. name_bytes v.items) result
-            (found (section_of self.now) name.now class_names []) }
+            (found (section_of self.now) name.now (λ d. ranged (are_distinct bytes_eq) (listed 16 (text is_class_name) d)) []) }
     {
         match self.get(name) {
             None => Ok(ArrayVec::new()),

@@ -1,6 +1,6 @@
 ghost use Rattle.std.specs.Prelude.{◌≡◌, ◌*◌, ◌<◌, ◌≤◌, length, map};
 ghost use Rattle.toml.specs.View.{table_view};
-ghost use Rattle.sd_model_settings.specs.Settings.{top, tables, settings_in, document, settings, plan_of};
+ghost use Rattle.sd_model_settings.specs.Settings.{top, setting_tables, settings_in, document, settings, plan_of};
 ghost use Rattle.sd_law_settings.specs.Ranges.{IsWithin, IsPrefix, IsHost, AreThresholds, AreBackends, AreClassNames, AreHistograms, AreTargets, AreNodes, InRange};
 ghost use Rattle.sd_config.specs.Answers.{Gives};
 ghost use Rattle.sd_plan.specs.Values.{IsSetting, micros, name_bytes};
@@ -88,7 +88,7 @@ impl Model for Settings {
 
 #[tactic(auto, unfolding(sd_model_settings::specs::Settings::settings_in))]
 fn settings_in(table: &Table) -> Result<Settings, ConfigFault>
-    ensures { Gives (λ s. s) result (settings_in tables (top (table_view table.now))) }
+    ensures { Gives (λ s. s) result (settings_in setting_tables (top (table_view table.now))) }
 {
     let top = Section {
         prefix: "",
@@ -173,7 +173,7 @@ impl Settings {
         }
     }
 
-    /// What a record is reckoned by.
+    /// What a record is made by.
     pub fn plan(&self) -> &Reckoning
         ensures { plan_view result.now ≡ plan_of self.now }
     {

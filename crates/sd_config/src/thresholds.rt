@@ -1,8 +1,8 @@
-ghost use Rattle.std.specs.Prelude.{◌≡◌};
+ghost use Rattle.std.specs.Prelude.{◌≡◌, not, unsigned_abs, nat_le, ◌==◌, ◌&&◌};
 ghost use Rattle.std.specs.List.{list_all};
 ghost use Rattle.std.specs.Ordering.{int_eq};
 ghost use Rattle.toml.specs.View.{view};
-ghost use Rattle.sd_model_settings.specs.Entries.{is_threshold, are_thresholds, thresholds};
+ghost use Rattle.sd_model_settings.specs.Entries.{are_thresholds, thresholds};
 ghost use Rattle.sd_config.specs.Answers.{seen_by};
 ghost use Rattle.sd_plan.specs.Values.{micros};
 
@@ -29,13 +29,13 @@ impl Element<()> for Micro {
 }
 
 fn is_threshold(number: &Micro) -> bool
-    ensures { result ≡ is_threshold number.now.0 }
+    ensures { result ≡ (nat_le (unsigned_abs number.now.0) 100000000 && not (unsigned_abs number.now.0 == 0)) }
 {
     number.0.unsigned_abs() <= 100_000_000 && number.0 != 0
 }
 
 fn each_is_threshold(numbers: &[Micro]) -> bool
-    ensures { result ≡ list_all (λ m. is_threshold m.0) numbers.now }
+    ensures { result ≡ list_all (λ m. (nat_le (unsigned_abs m.0) 100000000 && not (unsigned_abs m.0 == 0))) numbers.now }
 {
     numbers.iter().all(is_threshold)
 }

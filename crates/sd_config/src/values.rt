@@ -1,10 +1,9 @@
-ghost use Rattle.std.specs.Prelude.{◌≡◌, ◌≤◌, length, IsTrue, IfOk};
+ghost use Rattle.std.specs.Prelude.{◌≡◌, ◌≤◌, length, IsTrue, IfOk, nat_le, ◌&&◌};
 ghost use Rattle.std.specs.List.{list_all};
 ghost use Rattle.toml.specs.View.{view};
 ghost use Rattle.sd_model_text.specs.Names.{is_name_byte};
-ghost use Rattle.sd_model_settings.specs.Values.{whole, flag, text, decimal, is_prefix, is_filled_prefix, is_metric, is_host, is_host_byte};
-ghost use Rattle.sd_model_settings.specs.Entries.{is_backend};
-ghost use Rattle.sd_model_settings.specs.Kinds.{Share, read_as};
+ghost use Rattle.sd_model_settings.specs.Values.{whole_read, flag, text, decimal, is_prefix, is_filled_prefix, is_metric, is_host};
+ghost use Rattle.sd_model_settings.specs.Entries.{is_backend, Share, read_as};
 ghost use Rattle.sd_law_settings.specs.Ranges.{IsWithin};
 ghost use Rattle.sd_config.specs.Answers.{seen_by};
 ghost use Rattle.sd_config.specs.Values.{passes, longest};
@@ -34,7 +33,7 @@ pub(crate) enum TextRule {
 
 /// An integer from `least` to `most`.
 pub(crate) fn whole(value: &Value, least: u32, most: u32) -> Result<u32, ValueFault>
-    ensures value { seen_by (λ n. n) result ≡ whole least most (view value.now) }
+    ensures value { seen_by (λ n. n) result ≡ whole_read least most (view value.now) }
     ensures range { IfOk result (IsWithin least most) }
 {
     match value {
@@ -85,7 +84,7 @@ fn are_name_bytes(bytes: &[u8]) -> bool
 }
 
 fn are_host_bytes(bytes: &[u8]) -> bool
-    ensures { result ≡ list_all is_host_byte bytes.now }
+    ensures { result ≡ list_all (λ b. nat_le 33 b && nat_le b 126) bytes.now }
 {
     bytes.iter().all(|b| 33 <= *b && *b <= 126)
 }

@@ -9,17 +9,17 @@ use Rattle.sd_decimal.proofs.NumberTexts.{length-number_text}
 use Rattle.sd_model_settings.specs.Entries.{is_limit, is_backend, is_class_name}
 use Rattle.sd_law_settings.specs.Ranges.{IsThreshold, AreThresholds, AreBackends, AreClassNames, AreLimits}
 use Rattle.sd_law_settings.proofs.EntriesInRange.{length-class_name}
-use Rattle.sd_model_settings.specs.ConfigText.{joined, limit_text}
+use Rattle.sd_model_settings.specs.ConfigText.{with_commas, limit_text}
 use Rattle.sd_decimal.specs.declared.number.Micro.{Micro}
 use Rattle.sd_decimal.specs.declared.number.Limit as code
 use Rattle.sd_plan.specs.Values.{micros}
 use Rattle.sd_plan.specs.Entries.{limit_of, limits_of}
 
 -- a part more
-length-joined : (n : ℕ) (t u : List ℕ) (ts : List (List ℕ)) → length t ≤ 41 → length (joined (u ∷ ts)) ≤ 42 * n → length (joined (t ∷ u ∷ ts)) ≤ 42 * (n + 1)
-length-joined n t u ts short rest = omega (arith, short, rest, length-append t (44 ∷ joined (u ∷ ts)))
+length-joined : (n : ℕ) (t u : List ℕ) (ts : List (List ℕ)) → length t ≤ 41 → length (with_commas (u ∷ ts)) ≤ 42 * n → length (with_commas (t ∷ u ∷ ts)) ≤ 42 * (n + 1)
+length-joined n t u ts short rest = omega (arith, short, rest, length-append t (44 ∷ with_commas (u ∷ ts)))
 
-pub length-thresholds : (xs : List ℤ) → All IsThreshold xs → length (joined (map number_text xs)) ≤ 42 * length xs
+pub length-thresholds : (xs : List ℤ) → All IsThreshold xs → length (with_commas (map number_text xs)) ≤ 42 * length xs
 length-thresholds [] h = omega arith
 length-thresholds (x ∷ []) h =
     let range = h zero x (omega arith) in
@@ -34,7 +34,7 @@ length-limit_text (Below (pos n)) e = length-number_text (pos n) (grind (arith, 
 length-limit_text (Below (negsuc n)) e = length-number_text (negsuc n) (grind (arith, nat_tests))
 length-limit_text Infinite e = omega arith
 
-pub length-limits : (ls : List Limit) → AllPass is_limit ls → length (joined (map limit_text ls)) ≤ 42 * length ls
+pub length-limits : (ls : List Limit) → AllPass is_limit ls → length (with_commas (map limit_text ls)) ≤ 42 * length ls
 length-limits [] h = omega arith
 length-limits (x ∷ []) h = omega (arith, length-limit_text x (h zero x (omega arith)))
 length-limits (x ∷ y ∷ xs) h =
@@ -59,24 +59,24 @@ length-backend s e = elim (or_cases (bytes_eq s (codes "graphite")) (bytes_eq s 
   ]
 ]
 
-length-names : (ts : List (List ℕ)) → AllPass is_backend ts → length (joined ts) ≤ 9 * length ts
+length-names : (ts : List (List ℕ)) → AllPass is_backend ts → length (with_commas ts) ≤ 9 * length ts
 length-names [] h = omega arith
 length-names (t ∷ []) h = omega (arith, length-backend t (h zero t (omega arith)))
 length-names (t ∷ u ∷ ts) h =
     let rest = length-names (u ∷ ts) (λ k d l. h (suc k) d (omega arith)) in
-    omega (arith, rest, length-backend t (h zero t (omega arith)), length-append t (44 ∷ joined (u ∷ ts)))
+    omega (arith, rest, length-backend t (h zero t (omega arith)), length-append t (44 ∷ with_commas (u ∷ ts)))
 
-pub length-backends : (ts : List (List ℕ)) → AreBackends ts → length (joined ts) ≤ 27
+pub length-backends : (ts : List (List ℕ)) → AreBackends ts → length (with_commas ts) ≤ 27
 length-backends ts h = omega (arith, h.few, length-names ts h.known)
 
-length-class_names : (ts : List (List ℕ)) → AllPass is_class_name ts → length (joined ts) ≤ 20 * length ts
+length-class_names : (ts : List (List ℕ)) → AllPass is_class_name ts → length (with_commas ts) ≤ 20 * length ts
 length-class_names [] h = omega arith
 length-class_names (t ∷ []) h = omega (arith, length-class_name t (h zero t (omega arith)))
 length-class_names (t ∷ u ∷ ts) h =
     let rest = length-class_names (u ∷ ts) (λ k d l. h (suc k) d (omega arith)) in
-    omega (arith, rest, length-class_name t (h zero t (omega arith)), length-append t (44 ∷ joined (u ∷ ts)))
+    omega (arith, rest, length-class_name t (h zero t (omega arith)), length-append t (44 ∷ with_commas (u ∷ ts)))
 
-pub length-calculated : (ts : List (List ℕ)) → AreClassNames ts → length (joined ts) ≤ 320
+pub length-calculated : (ts : List (List ℕ)) → AreClassNames ts → length (with_commas ts) ≤ 320
 length-calculated ts h = omega (arith, h.few, length-class_names ts h.known)
 
 -- the texts of numbers and limits of the code
@@ -88,8 +88,8 @@ pub limit_texts : (ls : List code.Limit) → map (λ l. limit_text (limit_of l))
 limit_texts [] = refl
 limit_texts (l ∷ ls) = ap (λ ts. limit_text (limit_of l) ∷ ts) (limit_texts ls)
 
-pub length-micros : (xs : List Micro) → AreThresholds (micros xs) → length (joined (map (λ m. number_text m.0) xs)) ≤ 672
-length-micros xs h = omega (arith, ap (λ ts. length (joined ts)) (micro_texts xs), h.few, length-thresholds (micros xs) h.range)
+pub length-micros : (xs : List Micro) → AreThresholds (micros xs) → length (with_commas (map (λ m. number_text m.0) xs)) ≤ 672
+length-micros xs h = omega (arith, ap (λ ts. length (with_commas ts)) (micro_texts xs), h.few, length-thresholds (micros xs) h.range)
 
-pub length-bins : (ls : List code.Limit) → AreLimits (limits_of ls) → length (joined (map (λ l. limit_text (limit_of l)) ls)) ≤ 2688
-length-bins ls h = omega (arith, ap (λ ts. length (joined ts)) (limit_texts ls), h.few, length-limits (limits_of ls) h.range)
+pub length-bins : (ls : List code.Limit) → AreLimits (limits_of ls) → length (with_commas (map (λ l. limit_text (limit_of l)) ls)) ≤ 2688
+length-bins ls h = omega (arith, ap (λ ts. length (with_commas ts)) (limit_texts ls), h.few, length-limits (limits_of ls) h.range)

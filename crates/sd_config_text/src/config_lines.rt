@@ -2,8 +2,8 @@ ghost use Rattle.std.specs.Prelude.{◌≡◌, ◌+◌, ◌≤◌, [], ◌∷◌
 ghost use Rattle.std.specs.Option.{option_map};
 ghost use Rattle.arrayvec.specs.ArrayVec.{array_vec_len};
 ghost use Rattle.sd_law_settings.specs.Ranges.{IsClasses, AreLimits, AreHistograms};
-ghost use Rattle.sd_model_settings.specs.ConfigText.{line, limit_text, joined, group_lines, front_lines, histogram_line, repeater_line, node_line, back_lines, config_lines};
-ghost use Rattle.sd_model_settings.specs.Table.{server, deletions, addresses, namespace, sizes, flush_rules, transport};
+ghost use Rattle.sd_model_settings.specs.ConfigText.{config_line, limit_text, with_commas, group_lines, first_lines, histogram_line, repeater_line, node_line, back_lines, config_lines};
+ghost use Rattle.sd_model_settings.specs.Table.{server, deletion_rules, addresses, namespace, sizes, flush_rules, transport};
 ghost use Rattle.sd_plan.specs.Entries.{limits_of, classes_view, target_view, node_view};
 
 use crate::config_value::{ReplyLine, push_joined, push_text};
@@ -18,7 +18,7 @@ use sd_outside::{Failed, Sink};
 use sd_plan::{Classes, Node, Target};
 
 // how many lines stand before those of entries, and behind them
-const FRONT_LINES: usize = 22;
+const FIRST_LINES: usize = 22;
 
 const BACK_LINES: usize = 17;
 
@@ -26,7 +26,7 @@ const BACK_LINES: usize = 17;
 pub fn line_of(name: &[u8], value: &[u8]) -> ReplyLine
     requires name { length name.now ≤ 255 }
     requires value { length value.now ≤ 3800 }
-    ensures { result.items ≡ line name.now value.now }
+    ensures { result.items ≡ config_line name.now value.now }
 {
     let mut line = ReplyLine::new();
     push_text(name, &mut line);
@@ -39,7 +39,7 @@ pub fn line_of(name: &[u8], value: &[u8]) -> ReplyLine
 /// The line of a name and a whole number.
 pub fn number_line(name: &[u8], number: u64) -> ReplyLine
     requires { length name.now ≤ 255 }
-    ensures { result.items ≡ line name.now (decimal number) }
+    ensures { result.items ≡ config_line name.now (decimal number) }
 {
     let mut value = Line::new();
     write_whole(u128::from(number), &mut value);
@@ -65,7 +65,7 @@ fn server_line(settings: &Settings, place: usize) -> Option<ReplyLine>
 
 /// The line of what is deleted when idle, at a place.
 fn deletion_line(settings: &Settings, place: usize) -> Option<ReplyLine>
-    ensures { option_map (λ l. l.items) result ≡ slice_get (group_lines [] deletions settings.now.deletions) place }
+    ensures { option_map (λ l. l.items) result ≡ slice_get (group_lines [] deletion_rules settings.now.deletions) place }
 {
     deletion_settings!(line_at(settings, place, 5, ""))
 }
@@ -110,7 +110,7 @@ fn push_limits(limits: &[Limit], value: &mut ReplyLine)
     requires range { AreLimits (limits_of limits.now) }
     requires room { array_vec_len value.old ≤ 512 }
     ensures text { value.new.items
-        ≡ value.old.items ++ joined (map limit_text (limits_of limits.now)) }
+        ≡ value.old.items ++ with_commas (map limit_text (limits_of limits.now)) }
     ensures short { array_vec_len value.new ≤ array_vec_len value.old + 2688 }
 {
     push_joined(limits, value);
@@ -162,9 +162,9 @@ fn node_line(node: &Node) -> ReplyLine
 }
 
 /// The line at a place before those of entries.
-fn front_line(settings: &Settings, place: usize) -> Option<ReplyLine>
+fn first_line(settings: &Settings, place: usize) -> Option<ReplyLine>
     ensures { option_map (λ l. l.items) result
-        ≡ slice_get (front_lines settings.now) place }
+        ≡ slice_get (first_lines settings.now) place }
 {
     if place < 4 {
         server_line(settings, place)
@@ -233,17 +233,17 @@ pub fn config_line_count(settings: &Settings) -> usize
     ensures short { result ≤ 135 }
 {
     let entries = settings.histogram().len() + settings.repeater().len() + settings.nodes().len();
-    FRONT_LINES + entries + BACK_LINES
+    FIRST_LINES + entries + BACK_LINES
 }
 
 /// The line of the reply to `config` at a place, counted from 0, or none behind the last.
 pub fn config_line(settings: &Settings, place: usize) -> Option<ReplyLine>
     ensures { option_map (λ l. l.items) result ≡ slice_get (config_lines settings.now) place }
 {
-    if place < FRONT_LINES {
-        return front_line(settings, place);
+    if place < FIRST_LINES {
+        return first_line(settings, place);
     }
-    let place = place - FRONT_LINES;
+    let place = place - FIRST_LINES;
     let histogram = settings.histogram();
     if place < histogram.len() {
         return histogram_at(histogram, place);
@@ -267,7 +267,7 @@ pub trait ConfigText {
     ///
     /// # Errors
     ///
-    /// `Failed` where the sink failed. Then a front of the text was written.
+    /// `Failed` where the sink failed. Then a prefix of the text was written.
     fn config_text<K: Sink>(&self, sink: &mut K) -> Result<(), Failed>;
 }
 

@@ -1,6 +1,6 @@
 ghost use Rattle.std.specs.Prelude.{◌≡◌, ◌+◌, ◌≤◌, ◌++◌, ℕ, List, length, map};
 ghost use Rattle.arrayvec.specs.ArrayVec.{array_vec_len};
-ghost use Rattle.sd_model_settings.specs.ConfigText.{joined};
+ghost use Rattle.sd_model_settings.specs.ConfigText.{with_commas};
 
 use arrayvec::ArrayVec;
 use sd_decimal::{Limit, Line, Micro, Sum, write};
@@ -63,8 +63,8 @@ impl Part for Name {
 
 /// Appends texts joined by commas.
 pub(crate) fn push_joined<T: Part>(parts: &[T], line: &mut ReplyLine)
-    requires { array_vec_len line.old + length (joined (map T.text parts.now)) ≤ 4096 }
-    ensures { line.new.items ≡ line.old.items ++ joined (map T.text parts.now) }
+    requires { array_vec_len line.old + length (with_commas (map T.text parts.now)) ≤ 4096 }
+    ensures { line.new.items ≡ line.old.items ++ with_commas (map T.text parts.now) }
 {
     match parts {
         [] => (),

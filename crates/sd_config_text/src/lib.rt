@@ -1,7 +1,7 @@
 //! The lines of the reply to `config`, and texts that are made line by line.
 //!
 //! `sd_admin` writes the reply to `config` by it, and all its other replies as such texts. It writes to any `Sink`, and where a
-//! write fails a front of the text was written. It changes no setting, and takes no memory.
+//! write fails a prefix of the text was written. It changes no setting, and takes no memory.
 #![tactic(auto)]
 
 mod config_lines;

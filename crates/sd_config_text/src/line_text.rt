@@ -24,7 +24,7 @@ pub trait LineText {
 ///
 /// # Errors
 ///
-/// `Failed` where the sink failed. Then a front of the text was written.
+/// `Failed` where the sink failed. Then a prefix of the text was written.
 pub fn write_lines<T: LineText, K: Sink>(text: &T, sink: &mut K) -> Result<(), Failed>
     ensures ok { OnOk result (K.seen sink.new ≡ given (concat (T.lines text.now)) (K.seen sink.old)) }
     ensures failed { OnErr result (HasFailedBehind (concat (T.lines text.now)) (K.seen sink.old) (K.seen sink.new)) }

@@ -1,7 +1,7 @@
 //! The console's text of a record.
 //!
 //! `sd_delivery` has it written to the backend, and `sd_flush` into an outlet's buffer. It begins and ends no list, and takes no
-//! memory; where a write fails, a front of the text was written.
+//! memory; where a write fails, a prefix of the text was written.
 #![tactic(auto)]
 
 mod form;

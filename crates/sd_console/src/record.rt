@@ -14,7 +14,7 @@ use sd_text::{write_line, write_lines, write_rows};
 ///
 /// # Errors
 ///
-/// `WriteFault` where the sink failed. Then a front of the text was appended.
+/// `WriteFault` where the sink failed. Then a prefix of the text was appended.
 pub fn write_record<K: Sink>(rec: &mut Record<'_>, sink: &mut K) -> Result<(), WriteFault>
     ensures ok { OnOk result (K.seen sink.new ≡ given (console_text (record_view rec.old)) (K.seen sink.old)) }
     ensures failed { OnErr result (HasFailedBehind (console_text (record_view rec.old)) (K.seen sink.old) (K.seen sink.new)) }

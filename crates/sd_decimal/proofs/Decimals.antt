@@ -9,14 +9,14 @@ length-decimal_step n long small =
     ap length (decimal_step_wide n long small) ∙ length-append (decimal (n / 10)) ((48 + n % 10) ∷ [])
 
 -- text with the digits of a number behind it, as the last digit is put behind the others
-pub append-decimal_step : (n : ℕ) (before front after : List ℕ) → 10 ≤ n → n < 10 ^ 64 → front ≡ before ++ decimal (n / 10) → after ≡ front ++ (48 + n % 10) ∷ [] → after ≡ before ++ decimal n
-append-decimal_step n before front after long small first then =
+pub append-decimal_step : (n : ℕ) (before prefix after : List ℕ) → 10 ≤ n → n < 10 ^ 64 → prefix ≡ before ++ decimal (n / 10) → after ≡ prefix ++ (48 + n % 10) ∷ [] → after ≡ before ++ decimal n
+append-decimal_step n before prefix after long small first then =
     then ∙ ap (λ xs. xs ++ (48 + n % 10) ∷ []) first ∙ append_assoc before (decimal (n / 10)) ((48 + n % 10) ∷ [])
     ∙ ap (λ xs. before ++ xs) (sym (decimal_step_wide n long small))
 
 -- room for the last digit, once the others stand
-pub room_decimal_step : (n room : ℕ) (before front : List ℕ) → 10 ≤ n → n < 10 ^ 64 → front ≡ before ++ decimal (n / 10) → length before + length (decimal n) ≤ room → length front < room
-room_decimal_step n room before front long small first fits =
+pub room_decimal_step : (n room : ℕ) (before prefix : List ℕ) → 10 ≤ n → n < 10 ^ 64 → prefix ≡ before ++ decimal (n / 10) → length before + length (decimal n) ≤ room → length prefix < room
+room_decimal_step n room before prefix long small first fits =
     omega (arith, length-decimal_step n long small, ap length first, length-append before (decimal (n / 10)))
 
 -- the whole part of a total

@@ -32,12 +32,12 @@ module _ (ds : List ℕ) (n : ℕ) (digits : n ≡ prefix_len is_ascii_digit ds)
   exponent_written : (text : List ℕ) → ds ≡ without_sign text → 0 < n → n ≤ 4 → length ds ≤ n → exponent_behind text ≡ Some (signed (has_minus text) kept)
   exponent_written text rest some few whole =
       let long : n ≡ length ds = omega (arith, prefix_len-le-length is_ascii_digit ds) in
-      let front : take n ds ≡ ds = ap (λ k. take k ds) long ∙ take-length ds in
-      let all : list_all is_ascii_digit ds ≡ true = ap (list_all is_ascii_digit) (sym front) ∙ leading_digits ds n digits in
+      let prefix : take n ds ≡ ds = ap (λ k. take k ds) long ∙ take-length ds in
+      let all : list_all is_ascii_digit ds ≡ true = ap (list_all is_ascii_digit) (sym prefix) ∙ leading_digits ds n digits in
       cond-true _ _ _
       (subst (λ (t : List ℕ). (is_digits t && nat_le (length t) 4) ≡ true) rest
       (and_from _ _ (and_from _ _ all (lt-ltb 0 (length ds) (omega arith))) (le-leb (length ds) 4 (omega arith))))
-      ∙ ap Some (sym (ap (signed (has_minus text)) (few_kept few ∙ ap (digits_value 10) (front ∙ rest))))
+      ∙ ap Some (sym (ap (signed (has_minus text)) (few_kept few ∙ ap (digits_value 10) (prefix ∙ rest))))
 
   -- up to four digits write an exponent of either sign
   pub exponent_signed : (text : List ℕ) (is_negative : Bool) → ds ≡ without_sign text → is_negative ≡ has_minus text → 0 < n → n ≤ 4 → length ds ≤ n

@@ -5,10 +5,10 @@ use Rattle.std.proofs.lemmas.Bool.{cond-false, cases_lt, lt-leb}
 use Rattle.std.proofs.lemmas.Nat.{pow-add, mul-le}
 use Rattle.sd_model_text.specs.Numbers.{BadRange, rounded, within_range}
 use Rattle.sd_decimal.specs.Digits.{Keeps}
-use Rattle.sd_decimal.proofs.Powers.{power_positive, rounded_by_front, le_rounded, rounded_none}
+use Rattle.sd_decimal.proofs.Powers.{power_positive, rounded_by_prefix, le_rounded, rounded_none}
 
 pub Keeps_none : Keeps 0 0 0
-Keeps_none = record { front = refl; large = λ h. absurd (omega arith); bound = omega arith }
+Keeps_none = record { prefix = refl; large = λ h. absurd (omega arith); bound = omega arith }
 
 all_kept : (n more : ℕ) → more ≡ 0 → n / 10 ^ more ≡ n
 all_kept n more none = ap (λ k. n / 10 ^ k) none ∙ omega arith
@@ -19,10 +19,10 @@ none_left_out n kept more low keeps =
 
 -- a number of up to 10^18 is kept whole
 pub Keeps_whole : (n kept more : ℕ) → kept ≤ 10 ^ 18 → Keeps n kept more → kept ≡ n
-Keeps_whole n kept more low keeps = keeps.front ∙ all_kept n more (none_left_out n kept more low keeps)
+Keeps_whole n kept more low keeps = keeps.prefix ∙ all_kept n more (none_left_out n kept more low keeps)
 
 kept_le : (n kept more : ℕ) → Keeps n kept more → kept ≤ n
-kept_le n kept more keeps = omega (arith, keeps.front, div-le_self n (10 ^ more))
+kept_le n kept more keeps = omega (arith, keeps.prefix, div-le_self n (10 ^ more))
 
 pub Keeps_small : (n kept more : ℕ) → n ≤ 10 ^ 18 → Keeps n kept more → kept ≡ n
 Keeps_small n kept more small keeps = Keeps_whole n kept more (omega (arith, kept_le n kept more keeps)) keeps
@@ -32,7 +32,7 @@ pub Keeps_more : (n kept more d : ℕ) → kept ≤ 10 ^ 18 → d < 10 → Keeps
 Keeps_more n kept more d low digit keeps =
     let none : more ≡ 0 = none_left_out n kept more low keeps in
     record {
-      front = ap (λ x. x * 10 + d) (Keeps_whole n kept more low keeps) ∙ sym (all_kept (n * 10 + d) more none);
+      prefix = ap (λ x. x * 10 + d) (Keeps_whole n kept more low keeps) ∙ sym (all_kept (n * 10 + d) more none);
       large = λ h. absurd (omega arith);
       bound = omega arith;
     }
@@ -42,10 +42,10 @@ pub Keeps_later : (n kept more d : ℕ) → 10 ^ 18 < kept → d < 10 → Keeps 
 Keeps_later n kept more d high digit keeps =
     let place : more + 1 ≡ 1 + more = omega arith in
     let last : (n * 10 + d) / 10 ≡ n = omega arith in
-    let front : (n * 10 + d) / 10 ^ (more + 1) ≡ n / 10 ^ more =
+    let prefix : (n * 10 + d) / 10 ^ (more + 1) ≡ n / 10 ^ more =
     ap (λ k. (n * 10 + d) / 10 ^ k) place ∙ ap (λ x. (n * 10 + d) / x) (pow-add 10 1 more)
     ∙ sym (div-div-eq-div-mul (n * 10 + d) 10 (10 ^ more)) ∙ ap (λ x. x / 10 ^ more) last in
-    record { front = keeps.front ∙ sym front; large = λ h. high; bound = keeps.bound }
+    record { prefix = keeps.prefix ∙ sym prefix; large = λ h. high; bound = keeps.bound }
 
 beyond : (m : ℕ) → 10 ^ 18 < m → within_range m ≡ Err BadRange
 beyond m large = cond-false _ _ _ (lt-leb m (10 ^ 18) large)
@@ -99,7 +99,7 @@ within_range_over_few n kept more places some few keeps =
     omega (
       arith,
       mul-le kept (10 ^ places) kept (10 ^ more) (omega arith) (pow-le-pow_right {n = 10} (omega arith) few),
-      ap (λ x. x * 10 ^ more) keeps.front,
+      ap (λ x. x * 10 ^ more) keeps.prefix,
       div-mul-le_self n (10 ^ more),
     ) in
     beyond (rounded n (10 ^ places)) (omega (arith, le_rounded kept n (10 ^ places) (power_positive places) fits))
@@ -109,8 +109,8 @@ pub rounded_by_kept : (n kept more places : ℕ) → more < places → Keeps n k
 rounded_by_kept n kept more places many keeps =
     let parts : places ≡ more + (places - more) = omega arith in
     let some : 0 < places - more = omega arith in
-    ap (λ k. rounded n (10 ^ k)) parts ∙ rounded_by_front n more (places - more) some
-    ∙ ap (λ x. rounded x (10 ^ (places - more))) (sym keeps.front)
+    ap (λ k. rounded n (10 ^ k)) parts ∙ rounded_by_prefix n more (places - more) some
+    ∙ ap (λ x. rounded x (10 ^ (places - more))) (sym keeps.prefix)
 
 pub rounded_over_many : (n kept more places : ℕ) → 19 < places - more → Keeps n kept more → rounded n (10 ^ places) ≡ 0
 rounded_over_many n kept more places many keeps =

@@ -83,9 +83,9 @@ module _ (text : List ℕ) (n : ℕ) (digits : n ≡ prefix_len is_ascii_digit t
   no_mark_before : (k : ℕ) → k < n → is_mark (get_or text k 0) ≡ false
   no_mark_before k h = digit_no_mark (get_or text k 0) (passes k h)
 
-  -- they begin each longer front of it as well
-  digits_in_front : (p : ℕ) → n ≤ p → p ≤ length text → n ≡ prefix_len is_ascii_digit (take p text)
-  digits_in_front p le fits =
+  -- they begin each longer prefix of it as well
+  digits_before : (p : ℕ) → n ≤ p → p ≤ length text → n ≡ prefix_len is_ascii_digit (take p text)
+  digits_before p le fits =
       let long : length (take p text) ≡ p = length-take-le p text fits in
       sym (prefix_len_is is_ascii_digit (take p text) n 0 (omega arith)
       (λ k h. ap is_ascii_digit (get_or-take p text k 0 (omega arith)) ∙ passes k h)
@@ -96,13 +96,13 @@ module _ (text : List ℕ) (n : ℕ) (digits : n ≡ prefix_len is_ascii_digit t
     whole_sides : (e : ℤ) → magnitude_by (take n text) (Some e) ≡ magnitude_of_sides (take n text) [] e
     whole_sides e =
         let long : length (take n text) ≡ n = length-take-le n text inside in
-        sides_end (take n text) n (digits_in_front n (omega arith) inside) e (omega arith)
-        ∙ ap (λ front. magnitude_of_sides front [] e) (take-take n n text (omega arith))
+        sides_end (take n text) n (digits_before n (omega arith) inside) e (omega arith)
+        ∙ ap (λ prefix. magnitude_of_sides prefix [] e) (take-take n n text (omega arith))
 
     whole_longer : (p : ℕ) → n < p → p ≤ length text → (e : ℤ) → magnitude_by (take p text) (Some e) ≡ Err BadShape
     whole_longer p more fits e =
         let long : length (take p text) ≡ p = length-take-le p text fits in
-        sides_other (take p text) n (digits_in_front p (omega arith) fits) e (omega arith)
+        sides_other (take p text) n (digits_before p (omega arith) fits) e (omega arith)
         (λ point. no_point (omega arith) (sym (get_or-take p text n 0 more) ∙ point))
 
     pub whole_read : 0 < n → decimal_magnitude text ≡ placed (digits_value 10 (take n text)) 0 (exponent_at (drop n text))
@@ -142,8 +142,8 @@ module _ (text : List ℕ) (n : ℕ) (digits : n ≡ prefix_len is_ascii_digit t
 
     point_sides : (p : ℕ) → n + 1 ≤ p → p ≤ length text → (e : ℤ) → magnitude_by (take p text) (Some e) ≡ magnitude_of_sides (take n text) (drop (n + 1) (take p text)) e
     point_sides p le short e =
-        sides_point (take p text) n (digits_in_front p (omega arith) short) e (get_or-take p text n 0 (omega arith) ∙ point)
-        ∙ ap (λ front. magnitude_of_sides front (drop (n + 1) (take p text)) e) (take-take n p text (omega arith))
+        sides_point (take p text) n (digits_before p (omega arith) short) e (get_or-take p text n 0 (omega arith) ∙ point)
+        ∙ ap (λ prefix. magnitude_of_sides prefix (drop (n + 1) (take p text)) e) (take-take n p text (omega arith))
 
     point_longer : (p : ℕ) → n + 1 + f < p → p ≤ length text → (e : ℤ) → magnitude_by (take p text) (Some e) ≡ Err BadShape
     point_longer p beyond short e =

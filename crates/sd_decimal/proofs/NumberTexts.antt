@@ -2,8 +2,9 @@
 use Rattle.std.proofs.Common.{◌≡◌, ℕ, suc, ◌+◌, ◌*◌, ◌/◌, ◌%◌, ◌^◌, ◌≤◌, ◌==◌, Bool, true, false, cond, ℤ, pos, negsuc, unsigned_abs, List, [], ◌∷◌, ◌++◌, length, ap, ◌∙◌, arith, length-append, append-nil}
 use Rattle.std.specs.Fmt.{decimal}
 use Rattle.sd_model_text.specs.Lists.{trim_end, unless_last}
-use Rattle.sd_model_text.specs.Numbers.{six_digits, behind_point, magnitude_text, number_text}
+use Rattle.sd_model_text.specs.Numbers.{behind_point, magnitude_text, number_text}
 use Rattle.sd_decimal.proofs.Decimals.{length-decimal-whole}
+use Rattle.sd_model_text.proofs.Short.{six_digits}
 
 length-unless_last : (p : ℕ → Bool) (x : ℕ) (xs : List ℕ) → length (unless_last p x xs) ≤ length xs + 1
 length-unless_last p x [] = elim (p x) as (λ b. length (cond b [] (x ∷ [])) ≤ 1) [ true ↦ omega arith | false ↦ omega arith ]

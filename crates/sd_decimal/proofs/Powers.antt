@@ -54,8 +54,8 @@ rounded-even a h =
     ap (λ x. x / (2 * (2 * h))) top ∙ mul-div-mul_left {m = 2} (a + h) (2 * h) (omega arith)
 
 -- an even divisor times another: the number over that other decides
-rounded-front : (n m h : ℕ) → 0 < m → rounded n (m * (2 * h)) ≡ rounded (n / m) (2 * h)
-rounded-front n m h positive =
+rounded-prefix : (n m h : ℕ) → 0 < m → rounded n (m * (2 * h)) ≡ rounded (n / m) (2 * h)
+rounded-prefix n m h positive =
     let moved : m * (2 * h) ≡ 2 * (m * h) = omega arith in
     ap (rounded n) moved ∙ rounded-even n (m * h) ∙ ap (λ y. (n + m * h) / y) (sym moved)
     ∙ sym (div-div-eq-div-mul (n + m * h) m (2 * h))
@@ -63,13 +63,13 @@ rounded-front n m h positive =
     ∙ sym (rounded-even (n / m) h)
 
 -- The digits before the last `more` decide, where another is taken off with these.
-pub rounded_by_front : (n more left : ℕ) → 0 < left → rounded n (10 ^ (more + left)) ≡ rounded (n / 10 ^ more) (10 ^ left)
-rounded_by_front n more left some =
+pub rounded_by_prefix : (n more left : ℕ) → 0 < left → rounded n (10 ^ (more + left)) ≡ rounded (n / 10 ^ more) (10 ^ left)
+rounded_by_prefix n more left some =
     let h = 5 * 10 ^ (left - 1) in
     let place : left ≡ 1 + (left - 1) = omega arith in
     let even : 10 ^ left ≡ 2 * h = ap (λ k. 10 ^ k) place ∙ pow-add 10 1 (left - 1) ∙ omega arith in
     ap (rounded n) (pow-add 10 more left ∙ ap (λ s. 10 ^ more * s) even)
-    ∙ rounded-front n (10 ^ more) h (power_positive more)
+    ∙ rounded-prefix n (10 ^ more) h (power_positive more)
     ∙ ap (rounded (n / 10 ^ more)) (sym even)
 
 -- a whole number that the quotient reaches

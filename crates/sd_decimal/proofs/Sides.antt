@@ -81,15 +81,15 @@ module _ (text : List ℕ) (n : ℕ) (digits : n ≡ prefix_len is_ascii_digit t
   pub sides_other : n < length text → get_or text n 0 ≢ 46 → magnitude_by text (Some e) ≡ Err BadShape
   sides_other inside other =
       let place = position_or_len is_point text in
-      let front = before_first is_point text in
+      let prefix = before_first is_point text in
       let back = after_first is_point text in
       let before : n < place = before_point inside other in
-      let long : length front ≡ place = length-take-le place text (prefix_len-le-length (λ b. not (is_point b)) text) in
-      let bad : is_ascii_digit (get_or front n 0) ≡ false =
+      let long : length prefix ≡ place = length-take-le place text (prefix_len-le-length (λ b. not (is_point b)) text) in
+      let bad : is_ascii_digit (get_or prefix n 0) ≡ false =
       ap is_ascii_digit (get_or-take place text n 0 before) ∙ ap (λ k. is_ascii_digit (get_or text k 0)) digits
       ∙ prefix_len_stops is_ascii_digit text 0 (omega arith) in
-      sides_bad_byte front back e
-      (list_all-append is_ascii_digit front back ∙ and_left _ _ (list_all_at is_ascii_digit front n 0 (omega arith) bad))
+      sides_bad_byte prefix back e
+      (list_all-append is_ascii_digit prefix back ∙ and_left _ _ (list_all_at is_ascii_digit prefix n 0 (omega arith) bad))
 
 -- digits on both sides, of which some stand there
 pub sides_digits : (whole fraction : List ℕ) (e : ℤ) → list_all is_ascii_digit whole ≡ true → list_all is_ascii_digit fraction ≡ true → 0 < length whole + length fraction → magnitude_of_sides whole fraction e ≡ within_range (rounded (digits_value_after 10 (digits_value 10 whole) fraction * 1000000 * raised e) (10 ^ length fraction * lowered e))

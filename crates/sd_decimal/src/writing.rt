@@ -1,8 +1,8 @@
-ghost use Rattle.std.specs.Prelude.{◌≡◌, ◌+◌, ◌/◌, ◌%◌, ◌<◌, ◌≤◌, ◌==◌, ◌++◌, length};
+ghost use Rattle.std.specs.Prelude.{◌≡◌, ◌+◌, ◌/◌, ◌%◌, ◌<◌, ◌≤◌, ◌==◌, ◌++◌, length, map, ◌∷◌, []};
 ghost use Rattle.std.specs.Fmt.{decimal};
 ghost use Rattle.arrayvec.specs.ArrayVec.{array_vec_len};
 ghost use Rattle.sd_model_text.specs.Lists.{trim_end};
-ghost use Rattle.sd_model_text.specs.Numbers.{six_digits, behind_point, number_text};
+ghost use Rattle.sd_model_text.specs.Numbers.{behind_point, number_text};
 
 use crate::number::{Line, Sum};
 use crate::rounding::divided;
@@ -62,7 +62,7 @@ fn push_whole(n: u64, out: &mut Line)
 fn push_fraction(millionths: u32, out: &mut Line)
     requires { array_vec_len out.old + 7 ≤ 1024 }
     ensures { out.new.items
-        ≡ out.old.items ++ behind_point (trim_end (λ d. d == 48) (six_digits millionths)) }
+        ≡ out.old.items ++ behind_point (trim_end (λ d. d == 48) (map (λ unit. 48 + millionths / unit % 10) (100000 ∷ 10000 ∷ 1000 ∷ 100 ∷ 10 ∷ 1 ∷ []))) }
 {
     if millionths == 0 {
         return;
@@ -80,7 +80,7 @@ fn push_fraction(millionths: u32, out: &mut Line)
 
 // The six digits of a fraction.
 fn six_digits(millionths: u32) -> [u8; 6]
-    ensures { result ≡ six_digits millionths }
+    ensures { result ≡ map (λ unit. 48 + millionths / unit % 10) (100000 ∷ 10000 ∷ 1000 ∷ 100 ∷ 10 ∷ 1 ∷ []) }
 {
     [
         digit(millionths, 100_000),
@@ -105,11 +105,11 @@ fn without_zeros(digits: &[u8]) -> &[u8]
     ensures { result.now ≡ trim_end (λ d. d == 48) digits.now }
 {
     let mut kept = digits;
-    while let Some((last, front)) = kept.split_last() {
+    while let Some((last, prefix)) = kept.split_last() {
         if *last != b'0' {
             return kept;
         }
-        kept = front;
+        kept = prefix;
     }
     kept
 }

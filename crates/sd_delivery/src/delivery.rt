@@ -1,6 +1,6 @@
 ghost use Rattle.std.specs.Prelude.{◌≡◌, ◌≢◌, IsTrue};
 ghost use Rattle.sd_model_outside.specs.Outside.{Rose};
-ghost use Rattle.sd_model_outside.specs.Deliveries.{NotUsed, AfterMark, FitsUse};
+ghost use Rattle.sd_model_outside.specs.Uses.{NotUsed, AfterMark, FitsUse};
 ghost use Rattle.sd_model_record.specs.Backends.{console_text, graphite_text};
 ghost use Rattle.sd_record.specs.Record.{record_view, room_of, SameScratch};
 ghost use Rattle.sd_desk.specs.Marks.{mark_of};

@@ -1,5 +1,5 @@
 -- Marks of the code, as the definitions have them.
-use Rattle.sd_model_outside.specs.Deliveries as deliveries
+use Rattle.sd_model_outside.specs.Uses as deliveries
 use Rattle.sd_model_record.specs.Desk as model
 use Rattle.sd_desk.specs.declared.marks.Mark.{Mark}
 use Rattle.sd_desk.specs.declared.marks.Mark.TheVariants.{NotUsed, Written, Fault}

@@ -19,7 +19,7 @@ pub struct RoundMarks {
 }
 
 impl Mark {
-    ghost use Rattle.sd_model_outside.specs.Deliveries.{fault_of};
+    ghost use Rattle.sd_model_outside.specs.Uses.{fault_of};
     ghost use Rattle.sd_desk.specs.Marks.{mark_of};
 
     /// How many faults it counts for.

@@ -1,49 +1,9 @@
 -- Sessions that are taken of a door and given back, and the faults that are counted meanwhile.
 use Rattle.std.proofs.Common.{◌≡◌, ℕ, ◌+◌, ◌⊎◌, inl, inr, List, [], ◌∷◌, ◌++◌, refl, sym, ap, ◌∙◌, arith, append_assoc, append-nil}
 use Rattle.std.specs.List.{AllByRecursion}
-use Rattle.sd_model_outside.specs.Outside.{Told, Untold, Left, Number, Bytes, Buffer, Rounds, Packets, Datagrams, Ticks, Sessions, Replies, Session}
-use Rattle.sd_model_outside.specs.Turns.{with_sessions, with_back}
-use Rattle.sd_model_outside.proofs.TurnLemmas.{with_sessions-append, with_back-append}
 use Rattle.sd_model_record.specs.DeskHistory.{DeskCall, AdminFault as FailedSession, Done}
-use Rattle.sd_model_record.specs.Counts.{Among, IsKeeping, Count, TotalPackets, TotalLines, TotalBad, TotalDropped, TakenPackets, TakenLines, TakenBad, TakenDropped, RoundsMade, GraphiteFaults, ConsoleFaults, RepeaterFaults, AdminFaults, Amounts}
+use Rattle.sd_model_record.specs.Totals.{Among, IsKeeperCall, Count, TotalPackets, TotalLines, TotalBad, TotalDropped, TakenPackets, TakenLines, TakenBad, TakenDropped, RoundsMade, GraphiteFaults, ConsoleFaults, RepeaterFaults, AdminFaults, Amounts}
 use Rattle.sd_shared_desk.specs.Counts.{HasCalled, IsLook, Part, HasCounted, nothing, of_sessions, plus}
-
--- sessions were taken and given back so
-abbrev pub Serves : (taken back : List Session) → Told → Told → Type 0
-Serves taken back old new = with_back back old ≡ with_sessions taken new
-
-either_way : (xs ys : List Session) (told : Told) → with_back ys (with_sessions xs told) ≡ with_sessions xs (with_back ys told)
-either_way xs ys Untold = refl
-either_way xs ys (Left bytes) = refl
-either_way xs ys (Number n) = refl
-either_way xs ys (Bytes bytes) = refl
-either_way xs ys (Buffer size bytes) = refl
-either_way xs ys (Rounds rounds open_list) = refl
-either_way xs ys (Packets packets) = refl
-either_way xs ys (Datagrams left) = refl
-either_way xs ys (Ticks left) = refl
-either_way xs ys (Sessions left back) = refl
-either_way xs ys (Replies left questions) = refl
-
-pub Serves-none : (told : Told) → Serves [] [] told told
-Serves-none Untold = refl
-Serves-none (Left bytes) = refl
-Serves-none (Number n) = refl
-Serves-none (Bytes bytes) = refl
-Serves-none (Buffer size bytes) = refl
-Serves-none (Rounds rounds open_list) = refl
-Serves-none (Packets packets) = refl
-Serves-none (Datagrams left) = refl
-Serves-none (Ticks left) = refl
-Serves-none (Sessions left back) = ap (Sessions left) (append-nil back)
-Serves-none (Replies left questions) = refl
-
-pub Serves-next : (xs bs ys cs : List Session) (old mid new : Told) → Serves xs bs old mid → Serves ys cs mid new → Serves (xs ++ ys) (bs ++ cs) old new
-Serves-next xs bs ys cs old mid new first second =
-    sym (with_back-append old bs cs) ∙ ap (with_back cs) first ∙ either_way xs cs mid ∙ ap (with_sessions xs) second ∙ with_sessions-append new xs ys
-
-pub Serves-one : (s b : Session) (old mid new : Told) → old ≡ with_sessions (s ∷ []) mid → new ≡ with_back (b ∷ []) mid → Serves (s ∷ []) (b ∷ []) old new
-Serves-one s b old mid new taken left = ap (with_back (b ∷ [])) taken ∙ either_way (s ∷ []) (b ∷ []) mid ∙ ap (with_sessions (s ∷ [])) (sym left)
 
 -- whether it is the count of these faults
 is_of_sessions : (c : Count) → ((n : ℕ) → of_sessions n c ≡ n) ⊎ ((n : ℕ) → of_sessions n c ≡ 0)
@@ -135,26 +95,26 @@ module _ (Other : DeskCall → Type 0) where
   Among-same (c ∷ cs) = inl (refl, Among-same cs)
 
 -- looks alone
-pub looks_among : (cs : List DeskCall) → AllByRecursion IsLook cs → Among IsKeeping [] cs
+pub looks_among : (cs : List DeskCall) → AllByRecursion IsLook cs → Among IsKeeperCall [] cs
 looks_among [] all = tt
 looks_among (c ∷ cs) all = (inl all.0, looks_among cs all.1)
 
 -- no call was made
-pub called_not : (p : Part) → HasCalled (Among IsKeeping []) p p
+pub called_not : (p : Part) → HasCalled (Among IsKeeperCall []) p p
 called_not p = record { calls = []; made = sym (append-nil p.own); are_so = tt }
 
 -- a failed session was counted
-pub called_fault : (old new : Part) → new.own ≡ old.own ++ record { event = FailedSession; answer = Done } ∷ [] → HasCalled (Among IsKeeping []) old new
+pub called_fault : (old new : Part) → new.own ≡ old.own ++ record { event = FailedSession; answer = Done } ∷ [] → HasCalled (Among IsKeeperCall []) old new
 called_fault old new made = record { calls = record { event = FailedSession; answer = Done } ∷ []; made = made; are_so = (inr refl, tt) }
 
 -- calls behind calls
-pub called_behind : (ns ms : List DeskCall) (old mid new : Part) → HasCalled (Among IsKeeping ns) old mid → HasCalled (Among IsKeeping ms) mid new → HasCalled (Among IsKeeping (ns ++ ms)) old new
+pub called_behind : (ns ms : List DeskCall) (old mid new : Part) → HasCalled (Among IsKeeperCall ns) old mid → HasCalled (Among IsKeeperCall ms) mid new → HasCalled (Among IsKeeperCall (ns ++ ms)) old new
 called_behind ns ms old mid new a b = record {
   calls = a.calls ++ b.calls;
   made = b.made ∙ ap (λ (l : List DeskCall). l ++ b.calls) a.made ∙ append_assoc old.own a.calls b.calls;
-  are_so = Among-append IsKeeping ns a.calls ms b.calls a.are_so b.are_so;
+  are_so = Among-append IsKeeperCall ns a.calls ms b.calls a.are_so b.are_so;
 }
 
 -- the calls of a visit
-pub called_so : (calls : List DeskCall) (old new : Part) → new.own ≡ old.own ++ calls → HasCalled (Among IsKeeping calls) old new
-called_so calls old new made = record { calls = calls; made = made; are_so = Among-same IsKeeping calls }
+pub called_so : (calls : List DeskCall) (old new : Part) → new.own ≡ old.own ++ calls → HasCalled (Among IsKeeperCall calls) old new
+called_so calls old new made = record { calls = calls; made = made; are_so = Among-same IsKeeperCall calls }

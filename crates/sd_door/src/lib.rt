@@ -5,8 +5,8 @@
 //! takes no memory. It waits for the door and for the desk's turn.
 #![tactic(auto)]
 
-mod keeping;
+mod door_keeper;
 mod visitor;
 
-pub use keeping::keep_door;
+pub use door_keeper::keep_door;
 pub use visitor::Visitor;

@@ -95,7 +95,7 @@ impl Client {
         self.is_ending = self.is_ending || is_closed;
     }
 
-    /// Reads what it has sent to the front of a piece, and answers how many bytes these are.
+    /// Reads what it has sent to the start of a piece, and answers how many bytes these are.
     ///
     /// # Errors
     ///
@@ -143,7 +143,7 @@ impl Client {
         taken
     }
 
-    /// Tells it bytes from the front of those given: they are held for it, where so much room is left, until they make a large piece
+    /// Tells it bytes from the start of those given: they are held for it, where so much room is left, until they make a large piece
     /// or the rest is told. Answers how many these are: none where it is cut off.
     pub(crate) fn tell(&mut self, bytes: &[u8], room: usize) -> usize
         ensures { result ≤ length bytes.now }

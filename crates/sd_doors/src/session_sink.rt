@@ -13,11 +13,11 @@ pub struct SessionSink {
 
 impl SessionSink {
     ghost use Rattle.std.specs.Prelude.{◌≡◌, ◌<◌, ◌↔◌, IsTrue};
-    ghost use Rattle.sd_model_outside.specs.Outside.{Untold, fresh};
+    ghost use Rattle.sd_model_outside.specs.Outside.{Unknown, fresh};
 
     /// A sink to a client, whose connection doesn't block, and for whom so many bytes may be held.
     pub(crate) fn new(client: Client, room: usize) -> SessionSink
-        ensures { ⟦<SessionSink as Faulty>⟧.seen result ≡ fresh Untold }
+        ensures { ⟦<SessionSink as Faulty>⟧.seen result ≡ fresh Unknown }
     {
         SessionSink {
             client,
@@ -37,9 +37,9 @@ impl SessionSink {
 impl Faulty for SessionSink {
     ghost use Rattle.std.specs.Prelude.{min, None};
     ghost use Rattle.std.proofs.Common.{arith};
-    ghost use Rattle.sd_model_outside.specs.Outside.{Untold, last_count, object_of};
+    ghost use Rattle.sd_model_outside.specs.Outside.{Unknown, last_count, object_of};
 
-    ghost seen = { λ s. object_of Untold (min s.faults last_count) None };
+    ghost seen = { λ s. object_of Unknown (min s.faults last_count) None };
 
     ghost faults_fit = { λ s. omega arith };
 }

@@ -16,11 +16,11 @@ pub struct SessionSource {
 
 impl SessionSource {
     ghost use Rattle.std.specs.Prelude.{◌≡◌, ◌<◌, ◌↔◌, IsTrue};
-    ghost use Rattle.sd_model_outside.specs.Outside.{Untold, fresh};
+    ghost use Rattle.sd_model_outside.specs.Outside.{Unknown, fresh};
 
     /// So much of what the client at a place has sent.
     pub(crate) fn new(place: usize, lines: LineBuffer, share: Share) -> SessionSource
-        ensures { ⟦<SessionSource as Faulty>⟧.seen result ≡ fresh Untold }
+        ensures { ⟦<SessionSource as Faulty>⟧.seen result ≡ fresh Unknown }
     {
         let left = match share {
             Share::Line => lines.first_line(),
@@ -46,9 +46,9 @@ impl SessionSource {
 impl Faulty for SessionSource {
     ghost use Rattle.std.specs.Prelude.{min, None};
     ghost use Rattle.std.proofs.Common.{arith};
-    ghost use Rattle.sd_model_outside.specs.Outside.{Untold, last_count, object_of};
+    ghost use Rattle.sd_model_outside.specs.Outside.{Unknown, last_count, object_of};
 
-    ghost seen = { λ s. object_of Untold (min s.faults last_count) None };
+    ghost seen = { λ s. object_of Unknown (min s.faults last_count) None };
 
     ghost faults_fit = { λ s. omega arith };
 }

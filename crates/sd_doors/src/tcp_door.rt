@@ -45,7 +45,7 @@ pub struct TcpDoor<'a, R> {
 
 impl<'a, R> TcpDoor<'a, R> {
     ghost use Rattle.std.specs.Prelude.{◌≡◌};
-    ghost use Rattle.sd_model_outside.specs.Outside.{Untold, fresh};
+    ghost use Rattle.sd_model_outside.specs.Outside.{Unknown, fresh};
 
     /// A door that is opened later, and takes its room then. It is to stop once `stop` is set.
     pub fn new(
@@ -56,7 +56,7 @@ impl<'a, R> TcpDoor<'a, R> {
         sizes: DoorSizes,
         log: &'a RunLog<'a>,
     ) -> TcpDoor<'a, R>
-        ensures { ⟦<TcpDoor<'a, R> as Faulty>⟧.seen result ≡ fresh Untold }
+        ensures { ⟦<TcpDoor<'a, R> as Faulty>⟧.seen result ≡ fresh Unknown }
     {
         TcpDoor {
             host,
@@ -98,11 +98,11 @@ impl<'a, R> TcpDoor<'a, R> {
 impl<'a, R> Faulty for TcpDoor<'a, R> {
     ghost use Rattle.std.specs.Prelude.{min, None};
     ghost use Rattle.std.proofs.Common.{arith};
-    ghost use Rattle.sd_model_outside.specs.Outside.{Object, Untold, last_count};
+    ghost use Rattle.sd_model_outside.specs.Outside.{Object, Unknown, last_count};
     ghost use Rattle.sd_outside.specs.Places.{last_place};
 
     ghost seen = { λ s. record {
-      told = Untold;
+      content = Unknown;
       faults = min s.faults last_count;
       opened_at = last_place s.opened_at;
       turns = min s.turns last_count;

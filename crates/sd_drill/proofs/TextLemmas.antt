@@ -3,11 +3,12 @@ use Rattle.std.proofs.Common.{◌≡◌, ◌≢◌, ℕ, zero, suc, ◌+◌, ◌
 use Rattle.std.specs.Prelude.{flat_map}
 use Rattle.std.specs.List.{range_with_len}
 use Rattle.std.proofs.lemmas.Grind.{flat_map-append}
-use Rattle.sd_model_replay.specs.Script.{Command, Packet, Flush, Admin, script_text, spelled, end_word}
-use Rattle.sd_model_replay.specs.MadeScript.{made_datagram, made_moment, made_packet, flush_behind, made_commands, made_script}
+use Rattle.sd_model_replay.specs.Script.{ScriptCommand, Packet, Flush, Admin, script_text, spelled, end_word}
+use Rattle.sd_model_replay.specs.MadeScript.{made_datagram, made_moment, made_packet, flush_behind, made_commands}
 use Rattle.sd_drill.specs.Texts.{end_behind, text_at, text_from}
+use Rattle.sd_model_replay.proofs.Short.{made_script}
 
--- the text from a packet on, with the packet's own at its front
+-- the text from a packet on, with the packet's own at its start
 pub text_from_next : (n j : ℕ) → j < n → text_from n j ≡ text_at n j ++ text_from n (j + 1)
 unfolding text_from
 text_from_next n j left =
@@ -18,7 +19,7 @@ unfolding text_from
 text_from_end n j end =
     let none : n - j ≡ 0 = omega arith in ap (λ k. flat_map (text_at n) (range_with_len j k)) none
 
-spelled_some : (command : Command) (xs ys : List ℕ) → (spelled command ++ xs) ++ ys ≢ []
+spelled_some : (command : ScriptCommand) (xs ys : List ℕ) → (spelled command ++ xs) ++ ys ≢ []
 spelled_some (Packet who moment datagram) xs ys empty = cc
 spelled_some (Flush ts) xs ys empty = cc
 spelled_some (Admin moment line) xs ys empty = cc
@@ -28,7 +29,7 @@ unfolding text_at
 text_at_some n j = spelled_some (made_packet j) (script_text (flush_behind n j)) (end_behind n j)
 
 -- the records of packet j
-abbrev records_at : ℕ → ℕ → List Command
+abbrev records_at : ℕ → ℕ → List ScriptCommand
 records_at n j = made_packet j ∷ flush_behind n j
 
 text_at_is : (n j : ℕ) → text_at n j ≡ script_text (records_at n j) ++ end_behind n j

@@ -17,7 +17,7 @@ left_of d = at_hand d ++ text_from d.packets d.next
 abbrev pub seen_of : Drill → Object
 seen_of d = object_of (Left (left_of d)) 0 (last_place d.opened_at)
 
--- A read put the next n bytes into the front of a buffer: none only at the end.
+-- A read put the next n bytes into the start of a buffer: none only at the end.
 pub record Gives (old new : Drill) (buf filled : List ℕ) (n : ℕ) : Type 0 where
   pub within : n ≤ length filled
   pub content : HasRead (take n filled) (seen_of old) (seen_of new)

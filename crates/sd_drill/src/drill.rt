@@ -1,7 +1,8 @@
-ghost use Rattle.std.specs.Prelude.{◌≡◌, ◌*◌, ◌<◌, ◌≤◌};
+ghost use Rattle.std.specs.Prelude.{◌≡◌, ◌*◌, ◌<◌, ◌≤◌, ◌++◌};
 ghost use Rattle.arrayvec.specs.ArrayVec.{array_vec_len};
-ghost use Rattle.sd_model_replay.specs.MadeScript.{made_number};
+ghost use Rattle.sd_model_replay.specs.MadeScript.{made_number, made_commands};
 ghost use Rattle.sd_drill.specs.declared.numbers.TheConstants.{MODULUS};
+ghost use Rattle.sd_model_replay.specs.Script.{script_text, end_word};
 
 use crate::numbers::Numbers;
 use crate::records::{push_end_behind, push_flush_behind, push_packet};
@@ -34,7 +35,6 @@ pub struct Drill {
 impl Drill {
     ghost use Rattle.std.specs.Prelude.{◌≡◌, ◌<◌, ◌≤◌, None, []};
     ghost use Rattle.sd_model_outside.specs.Outside.{Left, fresh};
-    ghost use Rattle.sd_model_replay.specs.MadeScript.{made_script};
     ghost use Rattle.sd_drill.specs.Drill.{at_hand, left_of};
     ghost use Rattle.sd_drill.specs.Texts.{text_at};
 
@@ -42,7 +42,7 @@ impl Drill {
     pub fn new(n: u32) -> Drill
         requires some { 0 < n }
         requires most { n ≤ MOST_PACKETS }
-        ensures { ⟦<Drill as Faulty>⟧.seen result ≡ fresh (Left (made_script n)) }
+        ensures { ⟦<Drill as Faulty>⟧.seen result ≡ fresh (Left (script_text (made_commands n) ++ end_word)) }
     {
         Drill {
             packets: n,

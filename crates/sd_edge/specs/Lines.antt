@@ -29,7 +29,7 @@ abbrev pub behind_lines : List ℕ → List ℕ
 behind_lines [] = []
 behind_lines (x ∷ xs) = if has_newline xs then behind_lines xs else if x == 10 then xs else x ∷ xs
 
--- What is held of a client: what a session has of it, and the front of a line whose newline hasn't come, of which so many bytes
+-- What is held of a client: what a session has of it, and the start of a line whose newline hasn't come, of which so many bytes
 -- are kept; and whether a longer line is cut, or else given in pieces.
 pub record Held : Type 0 where
   pub ready : List ℕ
@@ -54,7 +54,7 @@ none_held line long_lines = held_of [] [] line (cuts long_lines)
 abbrev pub going_on : Held → List ℕ → List ℕ
 going_on h piece = if h.is_cut && nat_le h.line (length h.rest) then from_newline piece else piece
 
--- bytes without a newline, behind what is held: a line that is cut keeps its front, and one that is split is ready once it is
+-- bytes without a newline, behind what is held: a line that is cut keeps its prefix, and one that is split is ready once it is
 -- as long as what is kept of one
 abbrev pub with_rest : Held → List ℕ → Held
 with_rest h bytes =

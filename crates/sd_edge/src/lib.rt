@@ -1,9 +1,9 @@
 //! What is decided at the edge of the system, apart from what calls it: machines over plain values, each with a whole contract.
 //!
-//! `sd_net` tells it what a clock showed, which bytes came, and what came of a call, and does what it answers. For the clients of a
-//! door: what each has sent and nobody has taken, what it was told and hasn't read, who is next, and who is let go. For a link: what is
-//! left of a time, which address of a name is tried and when the name is looked up anew, and which seconds flushes have. For a log: which
-//! failures and how many lines are told, and how a line is written. Times are
+//! `sd_doors`, `sd_peers` and `sd_log` tell it what a clock showed, which bytes came, and what came of a call, and do what it
+//! answers. For the clients of a door: what each has sent and nobody has taken, what it was told and hasn't read, who is next,
+//! and who is let go. For a link: what is left of a time, which address of a name is tried and when the name is looked up anew,
+//! and which seconds flushes have. For a log: which failures and how many lines are told, and how a line is written. Times are
 //! milliseconds of a clock that never goes back, unless they are called Unix seconds. It calls nothing.
 #![tactic(auto)]
 

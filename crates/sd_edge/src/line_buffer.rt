@@ -25,7 +25,7 @@ pub struct LineBuffer {
     ready: Vec<u8>,
     /// How many bytes of that were taken.
     taken: usize,
-    /// The front of a line whose newline hasn't come.
+    /// The start of a line whose newline hasn't come.
     rest: Vec<u8>,
     /// How many bytes are kept of such a line.
     line: usize,
@@ -59,10 +59,10 @@ fn end_line(ready: &mut Vec<u8>, rest: &mut Vec<u8>, bytes: &[u8])
 }
 
 /// Puts bytes behind what is held of a line, and keeps so many of them all.
-fn keep_front(rest: &mut Vec<u8>, line: usize, bytes: &[u8])
+fn keep_start(rest: &mut Vec<u8>, line: usize, bytes: &[u8])
     requires few { vec_len rest.old ≤ line }
     requires room { line ≤ vec_capacity rest.old }
-    ensures front { rest.new.items ≡ take line (rest.old.items ++ bytes.now) }
+    ensures prefix { rest.new.items ≡ take line (rest.old.items ++ bytes.now) }
     ensures few { vec_len rest.new ≤ line }
     ensures room { line ≤ vec_capacity rest.new }
 {
@@ -81,7 +81,7 @@ fn go_on(ready: &mut Vec<u8>, rest: &mut Vec<u8>, line: usize, is_cut: bool, byt
     ensures rest_room { line ≤ vec_capacity rest.new }
 {
     if is_cut {
-        keep_front(rest, line, bytes);
+        keep_start(rest, line, bytes);
     } else if bytes.len() < line - rest.len() {
         rest.extend_from_slice(bytes).unwrap();
     } else {
@@ -200,7 +200,7 @@ impl LineBuffer {
         );
     }
 
-    /// Takes bytes that a session has to the front of those given, and answers their number.
+    /// Takes bytes that a session has to the start of those given, and answers their number.
     pub fn take(&mut self, buf: &mut [u8]) -> usize
         ensures count { result ≡ min (length self.old.ready) (length buf.old) }
         ensures bytes { take result buf.new ≡ take result self.old.ready }

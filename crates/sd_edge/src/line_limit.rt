@@ -13,38 +13,38 @@ const SECOND: u64 = 1_000;
 /// a clock that never goes back, from the oldest on, and how many lines were left out since they were last counted.
 #[derive(Clone, Debug, Drop)]
 pub struct LineLimit {
-    pub told: ArrayVec<u64, 20>,
+    pub logged: ArrayVec<u64, 20>,
     pub suppressed: u64,
 }
 
 impl LineLimit {
     /// None was told yet.
     pub fn new() -> LineLimit
-        ensures told { result.told.items ≡ [] }
+        ensures logged { result.logged.items ≡ [] }
         ensures suppressed { result.suppressed ≡ 0 }
     {
         LineLimit {
-            told: ArrayVec::new(),
+            logged: ArrayVec::new(),
             suppressed: 0,
         }
     }
 
     /// Whether a line that comes at this moment is told. One that isn't is counted.
     pub fn pass(&mut self, now: u64) -> bool
-        ensures told { self.new.told.items ≡ moments_after now self.old.told.items }
-        ensures suppressed { self.new.suppressed ≡ suppressed_after now self.old.told.items self.old.suppressed }
-        ensures answer { result ≡ may_tell now self.old.told.items }
+        ensures logged { self.new.logged.items ≡ moments_after now self.old.logged.items }
+        ensures suppressed { self.new.suppressed ≡ suppressed_after now self.old.logged.items self.old.suppressed }
+        ensures answer { result ≡ may_tell now self.old.logged.items }
     {
-        if self.told.len() < MOST_LINES {
-            self.told.push(now);
+        if self.logged.len() < MOST_LINES {
+            self.logged.push(now);
             return true;
         }
-        if now.saturating_sub(self.told[0]) < SECOND {
+        if now.saturating_sub(self.logged[0]) < SECOND {
             self.suppressed = self.suppressed.saturating_add(1);
             return false;
         }
-        self.told.remove(0);
-        self.told.push(now);
+        self.logged.remove(0);
+        self.logged.push(now);
         true
     }
 
@@ -52,7 +52,7 @@ impl LineLimit {
     pub fn take_suppressed(&mut self) -> u64
         ensures answer { result ≡ self.old.suppressed }
         ensures suppressed { self.new.suppressed ≡ 0 }
-        ensures told { self.new.told ≡ self.old.told }
+        ensures logged { self.new.logged ≡ self.old.logged }
     {
         let suppressed = self.suppressed;
         self.suppressed = 0;

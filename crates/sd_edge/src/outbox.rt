@@ -55,7 +55,7 @@ impl Outbox {
         &self.bytes[self.read..]
     }
 
-    /// Moves what isn't read to the front of its memory.
+    /// Moves what isn't read to the start of its memory.
     fn settle(&mut self)
         ensures { self.new ≡ self.old }
     {

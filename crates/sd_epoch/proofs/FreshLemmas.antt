@@ -2,13 +2,12 @@
 use Rattle.std.proofs.Common.{◌≡◌, ◌≢◌, ℕ, ◌+◌, List, [], ◌∷◌, length, set, get_or, Option, Some, None, inl, inr, refl, sym, ap, subst, ◌∙◌, arith}
 use Rattle.std.proofs.lemmas.Bool.{cases_eq}
 use Rattle.std.proofs.lemmas.List.{get_or-set_other, nil_from_length}
-use Rattle.sd_model_shard.specs.Rows.{Summary}
-use Rattle.sd_model_shard.specs.Summaries.{is_listed, no_samples}
+use Rattle.sd_model_shard.specs.Rows.{Summary, is_listed}
 use Rattle.sd_key.specs.Kind.{kind_of}
 use Rattle.sd_rows.specs.Rows.{row_at}
 use Rattle.sd_rows.specs.declared.row.Row.{Row}
 use Rattle.sd_rows.proofs.IndexLemmas.{some_of}
-use Rattle.sd_epoch.specs.Places.{id_in, kept_as, kept_in, told_in, AllLive, AreSince, IsSince}
+use Rattle.sd_epoch.specs.Places.{id_in, kept_as, kept_in, reported_in, AllLive, AreSince, IsSince}
 use Rattle.sd_epoch.specs.Since.{no_tally, since_of, since_at, values_at, members_at, IsFresh}
 use Rattle.sd_epoch.specs.Table.{fresh, freshened}
 use Rattle.sd_epoch.specs.TableInside.{since_in, IsTable}
@@ -19,8 +18,9 @@ use Rattle.sd_epoch.specs.declared.values.TimerValue.{TimerValue}
 use Rattle.sd_epoch.proofs.CountLemmas.{unset_none}
 use Rattle.sd_epoch.proofs.OrderLemmas.{ranked_different}
 use Rattle.sd_epoch.proofs.SinceLemmas.{fresh_is, since_none}
-use Rattle.sd_epoch.proofs.SumLemmas.{entries_are, none_told}
+use Rattle.sd_epoch.proofs.SumLemmas.{entries_are, none_reported}
 use Rattle.sd_epoch.proofs.TableLemmas.{few_samples}
+use Rattle.sd_model_shard.proofs.Short.{no_samples}
 
 module _ (t : Inside) (w : IsTable t) (none : t.held ≡ 0) where
   pub no_row_samples : (p : ℕ) → row_at t.rows.rows p ≢ None → (since_in t p).samples ≡ 0
@@ -31,7 +31,7 @@ module _ (t : Inside) (w : IsTable t) (none : t.held ≡ 0) where
   no_items =
       let order = t.order.places.items in
       let are = entries_are t.rows.rows t.rows.tallies t.values.items.items t.members.items.items order w.rows (ranked_different order t.order.rank.items w.ranked) w.since w.owned_values w.owned_members in
-      omega (arith, are, none_told (λ id. is_listed id.kind) t.rows.rows (since_in t) order w.rows no_row_samples)
+      omega (arith, are, none_reported (λ id. is_listed id.kind) t.rows.rows (since_in t) order w.rows no_row_samples)
 
   pub no_values : t.values.items.items ≡ []
   no_values = nil_from_length t.values.items.items (omega (arith, no_items))
@@ -41,9 +41,9 @@ module _ (t : Inside) (w : IsTable t) (none : t.held ≡ 0) where
 
 -- a row that goes leaves what came to the others
 pub since_emptied : (rows : List (Option Row)) (at : ℕ) (since : ℕ → Summary) → AreSince rows since → AreSince (set rows at None) since
-since_emptied rows at since told p row is = elim (cases_eq p at) as (λ _. IsSince (kind_of row.kind) row.base.0 (since p)) [
+since_emptied rows at since reported p row is = elim (cases_eq p at) as (λ _. IsSince (kind_of row.kind) row.base.0 (since p)) [
   | inl e ↦ absurd (cc (is, ap (row_at (set rows at None)) e, unset_none rows at))
-  | inr ne ↦ told p row (sym (get_or-set_other rows at p None None ne) ∙ is)
+  | inr ne ↦ reported p row (sym (get_or-set_other rows at p None None ne) ∙ is)
 ]
 
 -- where there was a row before another went, it is there
@@ -69,7 +69,7 @@ fresh_samples rows since none p l = let row = some_of (row_at rows p) l in ap (�
 
 -- rows whose samples were taken out are those rows without them
 pub freshened_are : (rows : List (Option Row)) (since since' : ℕ → Summary) (order : List ℕ) → AllLive rows order → ((p : ℕ) (row : Row) → row_at rows p ≡ Some row → since' p ≡ no_samples row.base.0)
-    → told_in rows since' order ≡ freshened (told_in rows since order)
+    → reported_in rows since' order ≡ freshened (reported_in rows since order)
 freshened_are rows since since' [] l none = refl
 freshened_are rows since since' (p ∷ order) l none =
     let row = some_of (row_at rows p) l.0 in
@@ -78,12 +78,12 @@ freshened_are rows since since' (p ∷ order) l none =
     let rest = freshened_are rows since since' order l.1 none in
     λ i. (id_in rows p, here i) ∷ rest i
 
--- A table without samples into which a row was carried.
+-- A table without samples in which a row was kept.
 module _ (t : Inside) (w : IsTable t) (none : t.held ≡ 0) (rows : List (Option Row)) (at : ℕ) (row : Row) (tallies : List Tally)
     (here : row_at rows at ≡ Some row) (others : (p : ℕ) → p ≢ at → row_at rows p ≡ row_at t.rows.rows p)
     (tally : IsFresh row.base.0 (get_or tallies at no_tally)) (other_tallies : (p : ℕ) → p ≢ at → get_or tallies p no_tally ≡ get_or t.rows.tallies p no_tally) where
-  pub carried_fresh : (p : ℕ) (r : Row) → row_at rows p ≡ Some r → since_at tallies t.values.items.items t.members.items.items p ≡ no_samples r.base.0
-  carried_fresh p r is = elim (cases_eq p at) as (λ _. since_at tallies t.values.items.items t.members.items.items p ≡ no_samples r.base.0) [
+  pub kept_fresh : (p : ℕ) (r : Row) → row_at rows p ≡ Some r → since_at tallies t.values.items.items t.members.items.items p ≡ no_samples r.base.0
+  kept_fresh p r is = elim (cases_eq p at) as (λ _. since_at tallies t.values.items.items t.members.items.items p ≡ no_samples r.base.0) [
     | inl e ↦
         let same : r ≡ row = cc (is, ap (row_at rows) e, here) in
         (λ i. since_at tallies (no_values t w none i) (no_members t w none i) (e i)) ∙ fresh_is row.base.0 (get_or tallies at no_tally) tally ∙ ap (λ (x : Row). no_samples x.base.0) (sym same)

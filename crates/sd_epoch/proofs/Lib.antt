@@ -15,6 +15,6 @@ pub mod SampleLemmas
 pub mod SinceLemmas
 pub mod SumLemmas
 pub mod TableLemmas
-pub mod ToldLemmas
+pub mod ReportedLemmas
 pub mod TurnLemmas
 pub mod ValueLemmas

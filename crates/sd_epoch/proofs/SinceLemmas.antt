@@ -4,12 +4,11 @@ use Rattle.std.proofs.lemmas.Int.{ints}
 use Rattle.std.specs.Prelude.{unsigned_abs}
 use Rattle.sd_model_text.specs.Names.{Kind, Counter, Timer, Gauge, Set}
 use Rattle.sd_model_text.specs.Lines.{Sample}
-use Rattle.sd_model_shard.specs.Rows.{Summary}
-use Rattle.sd_model_shard.specs.Statistics.{sample_weight}
-use Rattle.sd_model_shard.specs.Summaries.{no_samples, summary_after}
+use Rattle.sd_model_shard.specs.Rows.{Summary, sample_weight, summary_after}
 use Rattle.sd_epoch.specs.Places.{IsSince}
 use Rattle.sd_epoch.specs.Since.{gauge_by, values_with, members_with, IsFresh}
 use Rattle.sd_rows.specs.declared.tally.Tally.{Tally}
+use Rattle.sd_model_shard.proofs.Short.{no_samples}
 
 add_none : (z : ℤ) → z +ℤ pos 0 ≡ z
 add_none z = omega (arith, ints)

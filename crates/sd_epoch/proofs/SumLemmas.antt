@@ -10,8 +10,7 @@ use Rattle.std.proofs.lemmas.Bool.{cases_eq, eq-eqb, ne_eqb}
 use Rattle.std.proofs.lemmas.List.{length-map}
 use Rattle.std.proofs.lemmas.List.Sums.{sum_by-append, sum_by-cons}
 use Rattle.sd_model_shard.specs.Rows as model
-use Rattle.sd_model_shard.specs.Rows.{RowId, row_cmp, Kept, Summary, is_same_row}
-use Rattle.sd_model_shard.specs.Summaries.{is_listed, row_in, without_samples, samples_in, samples_where, listed_in as samples_listed}
+use Rattle.sd_model_shard.specs.Rows.{RowId, row_cmp, Kept, Summary, is_same_row, is_listed, row_in, without_samples, samples_in, samples_where, listed_in as samples_listed}
 use Rattle.sd_model_shard.proofs.OrderLemmas.{sum_by-map}
 use Rattle.sd_model_shard.proofs.RowLemmas.{rows_exact, rows_total}
 use Rattle.sd_rows.specs.Rows.{row_at}
@@ -19,7 +18,7 @@ use Rattle.sd_rows.specs.declared.row.Row.{Row}
 use Rattle.sd_rows.proofs.IndexLemmas.{some_of}
 use Rattle.sd_epoch.specs.Members.{member_places}
 use Rattle.sd_epoch.specs.Order.{AreDifferent}
-use Rattle.sd_epoch.specs.Places.{id_in, listed_in, kept_in, told_in, told_live, AllLive, is_among, AreRows, AreSince}
+use Rattle.sd_epoch.specs.Places.{id_in, listed_in, kept_in, reported_in, reported_live, AllLive, is_among, AreRows, AreSince}
 use Rattle.sd_epoch.specs.Since.{since_at, values_at, members_at}
 use Rattle.sd_epoch.specs.Table.{AreApart, listed_with}
 use Rattle.sd_epoch.specs.Values.{value_places}
@@ -71,19 +70,19 @@ pub samples_found : (live : model.Rows) (id : RowId) (kept : Kept) → get live 
 samples_found live id kept is = sum_found (λ row. cond true row.1.since.samples 0) id kept (entries live) (sym (get-entries live id) ∙ is) (λ q. refl)
 
 -- rows are told apart as they are listed
-same_listed : (rows : List (Option Row)) (since : ℕ → Summary) (order : List ℕ) (id : RowId) → listed_with id (told_in rows since order) ≡ listed_with id (listed_in rows order)
+same_listed : (rows : List (Option Row)) (since : ℕ → Summary) (order : List ℕ) (id : RowId) → listed_with id (reported_in rows since order) ≡ listed_with id (listed_in rows order)
 same_listed rows since [] id = refl
 same_listed rows since (p ∷ order) id = ap (λ b. is_same_row id (id_in rows p) || b) (same_listed rows since order id)
 
-pub told_apart : (rows : List (Option Row)) (since : ℕ → Summary) (order : List ℕ) → AreApart (listed_in rows order) → AreApart (told_in rows since order)
-told_apart rows since [] apart = tt
-told_apart rows since (p ∷ order) apart = (same_listed rows since order (id_in rows p) ∙ apart.0, told_apart rows since order apart.1)
+pub reported_apart : (rows : List (Option Row)) (since : ℕ → Summary) (order : List ℕ) → AreApart (listed_in rows order) → AreApart (reported_in rows since order)
+reported_apart rows since [] apart = tt
+reported_apart rows since (p ∷ order) apart = (same_listed rows since order (id_in rows p) ∙ apart.0, reported_apart rows since order apart.1)
 
 -- the samples of rows, place by place
-pub samples_told : (test : RowId → Bool) (rows : List (Option Row)) (since : ℕ → Summary) (order : List ℕ) → AreRows rows order
-    → samples_where test (told_live rows since order) ≡ sum_by (λ p. cond (test (id_in rows p)) (since p).samples 0) order
-samples_told test rows since order w =
-    sum_listed (λ row. cond (test row.0) row.1.since.samples 0) (told_in rows since order) (told_apart rows since order w.listed)
+pub samples_reported : (test : RowId → Bool) (rows : List (Option Row)) (since : ℕ → Summary) (order : List ℕ) → AreRows rows order
+    → samples_where test (reported_live rows since order) ≡ sum_by (λ p. cond (test (id_in rows p)) (since p).samples 0) order
+samples_reported test rows since order w =
+    sum_listed (λ row. cond (test row.0) row.1.since.samples 0) (reported_in rows since order) (reported_apart rows since order w.listed)
     ∙ sum_by-map (λ (row : RowId × Kept). cond (test row.0) row.1.since.samples 0) (λ p. (id_in rows p, kept_in rows since p)) order
 
 sum_alike : (f g : ℕ → ℕ) (rows : List (Option Row)) (order : List ℕ) → AllLive rows order → ((p : ℕ) → row_at rows p ≢ None → f p ≡ g p) → sum_by f order ≡ sum_by g order
@@ -144,13 +143,13 @@ module _ {A : Type 0} (place_of : A → ℕ) where
       omega (arith, one_more e items order, one_there order (place_of e) d (all (place_of e) l.0), parts_summed rows order d all items l.1)
 
 -- the samples that are listed, by what each row has of them
-pub listed_told : (rows : List (Option Row)) (since : ℕ → Summary) (order : List ℕ) → AreRows rows order → AreSince rows since
-    → samples_listed (told_live rows since order) ≡ sum_by (λ p. length (since p).values) order + sum_by (λ p. length (since p).members) order
-listed_told rows since order w told =
-    samples_told (λ id. is_listed id.kind) rows since order w
+pub listed_reported : (rows : List (Option Row)) (since : ℕ → Summary) (order : List ℕ) → AreRows rows order → AreSince rows since
+    → samples_listed (reported_live rows since order) ≡ sum_by (λ p. length (since p).values) order + sum_by (λ p. length (since p).members) order
+listed_reported rows since order w reported =
+    samples_reported (λ id. is_listed id.kind) rows since order w
     ∙ sum_alike (λ p. cond (is_listed (id_in rows p).kind) (since p).samples 0) (λ p. length (since p).values + length (since p).members) rows order w.live (λ p l.
     let row = some_of (row_at rows p) l in
-    ap (λ (id : RowId). cond (is_listed id.kind) (since p).samples 0) (id_here rows p row.0 row.1) ∙ sym (told p row.0 row.1).counted)
+    ap (λ (id : RowId). cond (is_listed id.kind) (since p).samples 0) (id_here rows p row.0 row.1) ∙ sym (reported p row.0 row.1).counted)
     ∙ sum_plus (λ p. length (since p).values) (λ p. length (since p).members) order
 
 sum_same : (f g : ℕ → ℕ) (order : List ℕ) → ((p : ℕ) → f p ≡ g p) → sum_by f order ≡ sum_by g order
@@ -160,14 +159,14 @@ sum_same f g (p ∷ order) same = omega (arith, same p, sum_same f g order same,
 -- as many samples are listed as there are values and members
 pub entries_are : (rows : List (Option Row)) (tallies : List Tally) (values : List TimerValue) (members : List SetMember) (order : List ℕ) → AreRows rows order → AreDifferent order
     → AreSince rows (since_at tallies values members) → AllLive rows (value_places values) → AllLive rows (member_places members)
-    → samples_listed (told_live rows (since_at tallies values members) order) ≡ length values + length members
-entries_are rows tallies values members order w d told mine named =
+    → samples_listed (reported_live rows (since_at tallies values members) order) ≡ length values + length members
+entries_are rows tallies values members order w d reported mine named =
     let since = since_at tallies values members in
     let of_values = sum_same (λ p. length (since p).values) (λ p. length (values_at p values)) order (λ p. length-map (values_at p values) (λ (v : TimerValue). v.value.0)) in
     let of_members = sum_same (λ p. length (since p).members) (λ p. length (members_at p members)) order (λ p. length-map (members_at p members) (λ (m : SetMember). m.member.items)) in
     omega (
       arith,
-      listed_told rows since order w told,
+      listed_reported rows since order w reported,
       of_values,
       of_members,
       parts_summed (λ (v : TimerValue). v.place) rows order d w.all values mine,
@@ -194,10 +193,10 @@ pub samples_of_none : samples_in (from_entries {R = row_cmp} []) ≡ 0
 samples_of_none = sum_listed (λ row. cond true row.1.since.samples 0) [] tt
 
 -- rows of which each has no samples have none together, and none of them is listed
-pub none_told : (test : RowId → Bool) (rows : List (Option Row)) (since : ℕ → Summary) (order : List ℕ) → AreRows rows order → ((p : ℕ) → row_at rows p ≢ None → (since p).samples ≡ 0)
-    → samples_where test (told_live rows since order) ≡ 0
-none_told test rows since order w none =
-    samples_told test rows since order w
+pub none_reported : (test : RowId → Bool) (rows : List (Option Row)) (since : ℕ → Summary) (order : List ℕ) → AreRows rows order → ((p : ℕ) → row_at rows p ≢ None → (since p).samples ≡ 0)
+    → samples_where test (reported_live rows since order) ≡ 0
+none_reported test rows since order w none =
+    samples_reported test rows since order w
     ∙ sum_alike (λ p. cond (test (id_in rows p)) (since p).samples 0) (λ p. 0) rows order w.live (λ p l. by_test (test (id_in rows p)) (since p).samples (none p l))
     ∙ sum_zero order where
       by_test : (b : Bool) (n : ℕ) → n ≡ 0 → cond b n 0 ≡ 0
@@ -205,13 +204,13 @@ none_told test rows since order w none =
       by_test false n h = refl
 
 -- one row more, without samples
-pub added_told : (rows later : List (Option Row)) (since since' : ℕ → Summary) (order : List ℕ) (at : ℕ) → AreRows rows order → AreRows later (order ++ at ∷ [])
-    → ((p : ℕ) → row_at rows p ≢ None → since' p ≡ since p) → (since' at).samples ≡ 0 → samples_in (told_live later since' (order ++ at ∷ [])) ≡ samples_in (told_live rows since order)
-added_told rows later since since' order at w w' same none =
+pub added_reported : (rows later : List (Option Row)) (since since' : ℕ → Summary) (order : List ℕ) (at : ℕ) → AreRows rows order → AreRows later (order ++ at ∷ [])
+    → ((p : ℕ) → row_at rows p ≢ None → since' p ≡ since p) → (since' at).samples ≡ 0 → samples_in (reported_live later since' (order ++ at ∷ [])) ≡ samples_in (reported_live rows since order)
+added_reported rows later since since' order at w w' same none =
     omega (
       arith,
-      samples_told (λ id. true) later since' (order ++ at ∷ []) w',
-      samples_told (λ id. true) rows since order w,
+      samples_reported (λ id. true) later since' (order ++ at ∷ []) w',
+      samples_reported (λ id. true) rows since order w,
       sum_by-append (λ p. (since' p).samples) order (at ∷ []),
       sum_by-cons (λ p. (since' p).samples) at [],
       sum_alike (λ p. (since' p).samples) (λ p. (since p).samples) rows order w.live (λ p l. ap (λ (x : Summary). x.samples) (same p l)),

@@ -5,16 +5,15 @@ use Rattle.std.proofs.lemmas.List.Elements.{All-nil, All-cons, All-head, All-tai
 use Rattle.std.proofs.lemmas.Option.{slice_get-map, slice_get_read}
 use Rattle.std.specs.List.{slice_get}
 use Rattle.std.specs.FinMap.{contains_key, get, len}
-use Rattle.sd_model_shard.specs.Rows.{RowId, Kept, Summary}
-use Rattle.sd_model_shard.specs.Summaries.{samples_in}
+use Rattle.sd_model_shard.specs.Rows.{RowId, Kept, Summary, samples_in}
 use Rattle.sd_key.specs.Kind.{kind_of}
 use Rattle.sd_key.specs.declared.kind.Kind.{Kind}
 use Rattle.sd_rows.specs.Rows.{row_at, Holds, IsAbsent}
 use Rattle.sd_rows.specs.declared.row.Row.{Row}
 use Rattle.sd_rows.proofs.IndexLemmas.{present_within, replicate_at}
-use Rattle.sd_epoch.specs.Places.{listed_as, id_in, listed_in, live_in, kept_as, kept_in, told_in, told_live, AllLive, AreRows, AreSince, IsSince}
+use Rattle.sd_epoch.specs.Places.{listed_as, id_in, listed_in, live_in, kept_as, kept_in, reported_in, reported_live, AllLive, AreRows, AreSince, IsSince}
 use Rattle.sd_epoch.specs.Scratch.{micros, AreTimerValues}
-use Rattle.sd_epoch.specs.Since.{no_tally, told_values}
+use Rattle.sd_epoch.specs.Since.{no_tally, reported_values}
 use Rattle.sd_epoch.specs.Table.{Listing, Tells, id_of, row_view}
 use Rattle.sd_epoch.specs.TableInside.{listing_of, since_in, IsTable}
 use Rattle.sd_epoch.specs.Values.{IsTimed}
@@ -27,8 +26,8 @@ use Rattle.sd_decimal.specs.declared.number.Sum.{Sum}
 use Rattle.sd_epoch.proofs.ChainLemmas.{own}
 use Rattle.sd_epoch.proofs.ListingLemmas.{len-apart}
 use Rattle.sd_epoch.proofs.PlaceLemmas.{holds_id, id_here, listed_absent}
-use Rattle.sd_epoch.proofs.SumLemmas.{samples_found, samples_of_none, told_apart}
-use Rattle.sd_epoch.proofs.ToldLemmas.{told_at, told_none}
+use Rattle.sd_epoch.proofs.SumLemmas.{samples_found, samples_of_none, reported_apart}
+use Rattle.sd_epoch.proofs.ReportedLemmas.{reported_at, reported_none}
 
 -- empty places
 pub no_rows : (n : ℕ) → AreRows (replicate n None) []
@@ -42,26 +41,26 @@ no_rows n = record {
 pub no_since_yet : (n : ℕ) (since : ℕ → Summary) → AreSince (replicate n None) since
 no_since_yet n since p row is = absurd (cc (is, replicate_at {X = Option Row} n p None))
 
-pub no_samples_yet : (rows : List (Option Row)) (since : ℕ → Summary) (order : List ℕ) → order ≡ [] → samples_in (told_live rows since order) ≡ 0
-no_samples_yet rows since order none = ap (λ ps. samples_in (told_live rows since ps)) none ∙ samples_of_none
+pub no_samples_yet : (rows : List (Option Row)) (since : ℕ → Summary) (order : List ℕ) → order ≡ [] → samples_in (reported_live rows since order) ≡ 0
+no_samples_yet rows since order none = ap (λ ps. samples_in (reported_live rows since ps)) none ∙ samples_of_none
 
 pub holds_live : (o : Option Row) (kind : Kind) (key : List ℕ) → Holds kind key o → o ≢ None
 holds_live o kind key h e = subst (Holds kind key) e h
 
 -- what is found says whether the map has the row
 pub find_tells : (rows : List (Option Row)) (since : ℕ → Summary) (order : List ℕ) (kind : Kind) (key : List ℕ) (found : Option ℕ) → AreRows rows order
-    → MatchOption found (IsAbsent kind key rows) (λ at. Holds kind key (row_at rows at)) → is_some found ≡ contains_key (told_live rows since order) (id_of kind key)
-find_tells rows since order kind key None w h = sym (ap is_some (told_none rows order w since (id_of kind key) (listed_absent rows order kind key h w.live)))
+    → MatchOption found (IsAbsent kind key rows) (λ at. Holds kind key (row_at rows at)) → is_some found ≡ contains_key (reported_live rows since order) (id_of kind key)
+find_tells rows since order kind key None w h = sym (ap is_some (reported_none rows order w since (id_of kind key) (listed_absent rows order kind key h w.live)))
 find_tells rows since order kind key (Some at) w h =
-    sym (ap (λ (id : RowId). contains_key (told_live rows since order) id) (sym (holds_id rows at kind key h))
-    ∙ ap is_some (told_at rows order w since at (holds_live (row_at rows at) kind key h)))
+    sym (ap (λ (id : RowId). contains_key (reported_live rows since order) id) (sym (holds_id rows at kind key h))
+    ∙ ap is_some (reported_at rows order w since at (holds_live (row_at rows at) kind key h)))
 
 -- there are as many rows as places in the order
 pub live_count : (rows : List (Option Row)) (order : List ℕ) → AreRows rows order → len (live_in rows order) ≡ length order
 live_count rows order w = len-apart (listed_in rows order) w.listed ∙ length-map order (λ p. listed_as (row_at rows p))
 
-pub told_count : (rows : List (Option Row)) (since : ℕ → Summary) (order : List ℕ) → AreRows rows order → len (told_live rows since order) ≡ length order
-told_count rows since order w = len-apart (told_in rows since order) (told_apart rows since order w.listed) ∙ length-map {B = RowId × Kept} order (λ p. (id_in rows p, kept_in rows since p))
+pub reported_count : (rows : List (Option Row)) (since : ℕ → Summary) (order : List ℕ) → AreRows rows order → len (reported_live rows since order) ≡ length order
+reported_count rows since order w = len-apart (reported_in rows since order) (reported_apart rows since order w.listed) ∙ length-map {B = RowId × Kept} order (λ p. (id_in rows p, kept_in rows since p))
 
 live_order : (rows : List (Option Row)) (order : List ℕ) (i : ℕ) → AllLive rows order → i < length order → row_at rows (get_or order i 0) ≢ None
 live_order rows [] i l lt = absurd (omega arith)
@@ -82,7 +81,7 @@ module _ (t : Inside) (w : IsTable t) where
   pub few_samples : (place : ℕ) → row_at t.rows.rows place ≢ None → (since_in t place).samples ≤ t.held
   few_samples place live =
       let order = t.order.places.items in
-      let found = samples_found (told_live t.rows.rows (since_in t) order) (id_in t.rows.rows place) (kept_in t.rows.rows (since_in t) place) (told_at t.rows.rows order w.rows (since_in t) place live) in
+      let found = samples_found (reported_live t.rows.rows (since_in t) order) (id_in t.rows.rows place) (kept_in t.rows.rows (since_in t) place) (reported_at t.rows.rows order w.rows (since_in t) place live) in
       omega (arith, found, w.held)
 
   module _ (self : Listing) (view : listing_of t ≡ self) (i place : ℕ) (below : i < length self.listed) (read : place ≡ get_or t.order.places.items i place) where
@@ -128,7 +127,7 @@ few_own {A} place_of place (e ∷ items) = elim (place_of e == place) as (λ b. 
   | false ↦ omega (arith, few_own place_of place items)
 ]
 
-pub values_same : (own : List TimerValue) → micros (map (λ (v : TimerValue). v.value) own) ≡ told_values own
+pub values_same : (own : List TimerValue) → micros (map (λ (v : TimerValue). v.value) own) ≡ reported_values own
 values_same [] = refl
 values_same (v ∷ own) = ap (λ vs. v.value.0 ∷ vs) (values_same own)
 
@@ -138,8 +137,8 @@ timed_values (v ∷ own) timed =
     All-cons (λ (x : Micro). (pos 0 ≤ℤ x.0) × (x.0 ≤ℤ pos (10 ^ 16))) v.value (map (λ (x : TimerValue). x.value) own) (All-head IsTimed v own timed) (timed_values own (All-tail IsTimed v own timed))
 
 -- the row of a place is in the map
-pub found_here : (t : Inside) → IsTable t → (p : ℕ) (row : Row) → row_at t.rows.rows p ≡ Some row → get (told_live t.rows.rows (since_in t) t.order.places.items) (row_view row).0 ≡ Some (kept_as (Some row) (since_in t p))
+pub found_here : (t : Inside) → IsTable t → (p : ℕ) (row : Row) → row_at t.rows.rows p ≡ Some row → get (reported_live t.rows.rows (since_in t) t.order.places.items) (row_view row).0 ≡ Some (kept_as (Some row) (since_in t p))
 found_here t w p row is =
-    let m = told_live t.rows.rows (since_in t) t.order.places.items in
-    ap (get m) (sym (id_here t.rows.rows p row is)) ∙ told_at t.rows.rows t.order.places.items w.rows (since_in t) p (λ none. absurd (cc (is, none)))
+    let m = reported_live t.rows.rows (since_in t) t.order.places.items in
+    ap (get m) (sym (id_here t.rows.rows p row is)) ∙ reported_at t.rows.rows t.order.places.items w.rows (since_in t) p (λ none. absurd (cc (is, none)))
     ∙ ap (λ (o : Option Row). Some (kept_as o (since_in t p))) is

@@ -1,11 +1,10 @@
--- Rows that are carried into a place, and the map that the places make.
+-- Rows that are kept in a place, and the map that the places make.
 use Rattle.std.proofs.Common.{◌≡◌, ◌≢◌, ℕ, ◌<◌, Bool, true, false, ◌||◌, ◌==◌, List, [], ◌∷◌, length, set, Option, Some, None, MatchOption, is_some, option_map, inl, inr, refl, sym, ap, subst, ◌∙◌, arith}
 use Rattle.std.proofs.lemmas.Bool.{cases_eq, eq-eqb}
 use Rattle.std.proofs.lemmas.List.{set-set, length-set, get_or-set_other}
 use Rattle.std.specs.FinMap.{find, get, len, from_entries, get-from_entries, same_map}
 use Rattle.sd_model_shard.specs.Rows as model
 use Rattle.sd_model_shard.specs.Rows.{RowId, row_cmp, Kept, Summary, is_same_row}
-use Rattle.sd_model_shard.specs.Summaries.{no_samples}
 use Rattle.sd_model_shard.proofs.RowLemmas.{rows_exact, rows_total}
 use Rattle.sd_rows.specs.Index.{taken_count}
 use Rattle.sd_rows.specs.Rows as places
@@ -17,7 +16,7 @@ use Rattle.sd_rows.proofs.IndexLemmas.{set_differs, some_of, present_within}
 use Rattle.sd_rows.proofs.MapLemmas.{not_true, map-get, map-found, map-count, find-absent}
 use Rattle.sd_rows.proofs.RowsLemmas.{fill_apart, empty_apart, copy_absent}
 use Rattle.sd_epoch.specs.Order.{AreDifferent, IsWithout}
-use Rattle.sd_epoch.specs.Places.{listed_as, id_in, listed_in, live_in, kept_as, kept_in, told_in, told_live, AllLive, is_among, AreRows}
+use Rattle.sd_epoch.specs.Places.{listed_as, id_in, listed_in, live_in, kept_as, kept_in, reported_in, reported_live, AllLive, is_among, AreRows}
 use Rattle.sd_epoch.specs.Table.{AreApart, HasPlaces, fresh, listed_with}
 use Rattle.sd_epoch.specs.TableInside.{listing_of, since_in, IsTable}
 use Rattle.sd_decimal.specs.declared.number.Micro.{Micro}
@@ -26,9 +25,10 @@ use Rattle.sd_epoch.proofs.FreshLemmas.{no_row_samples}
 use Rattle.sd_epoch.proofs.ListingLemmas.{same_row, not_found}
 use Rattle.sd_epoch.proofs.PlaceLemmas.{id_here, has_in, test_place, listed_among, live_among, find_among, unwritten, live_at, or_left, or_right}
 use Rattle.sd_epoch.proofs.TableLemmas.{live_count}
-use Rattle.sd_epoch.proofs.ToldLemmas.{listed_place, told_at, told_none}
+use Rattle.sd_epoch.proofs.ReportedLemmas.{listed_place, reported_at, reported_none}
 use Rattle.sd_epoch.proofs.OrderLemmas.{different_head, different_tail}
 use Rattle.sd_epoch.proofs.CountLemmas.{unset_none}
+use Rattle.sd_model_shard.proofs.Short.{no_samples}
 
 both : (b : Bool) → b ≡ true → b ≡ false → ⊥
 both true t f = absurd (cc)
@@ -52,31 +52,31 @@ module _ (old later : List (Option Row)) (wo : places.AreApart old) (wl : places
 
 -- A row comes to a place, whose kind and key no other place has.
 module _ (rows : List (Option Row)) (at : ℕ) (row : Row) (within : at < length rows) (nowhere : StandsNowhereElse (Some row) at rows) where
-  pub carried_apart : places.AreApart rows → places.AreApart (set rows at (Some row))
-  carried_apart w =
+  pub kept_apart : places.AreApart rows → places.AreApart (set rows at (Some row))
+  kept_apart w =
       subst places.AreApart (set-set rows at None (Some row))
       (fill_apart (set rows at None) at row (empty_apart rows at w within) (copy_absent rows at row within nowhere) (omega (arith, within, length-set rows at None)))
 
   -- the place had a row
-  pub carried_over : (order : List ℕ) → AreRows rows order → row_at rows at ≢ None → AreRows (set rows at (Some row)) order
-  carried_over order w here =
+  pub kept_over : (order : List ℕ) → AreRows rows order → row_at rows at ≢ None → AreRows (set rows at (Some row)) order
+  kept_over order w here =
       let stay : (p : ℕ) → row_at rows p ≢ None → row_at (set rows at (Some row)) p ≢ None = λ p l none.
       elim (cases_eq p at) as (λ _. ⊥) [
         | inl e ↦ live_at rows at row within (ap (row_at (set rows at (Some row))) (sym e) ∙ none)
         | inr ne ↦ l (sym (unwritten rows at row within p ne) ∙ none)
       ] in record {
-        apart = carried_apart w.apart;
-        live = still_live rows (set rows at (Some row)) w.apart (carried_apart w.apart) stay order w.live;
+        apart = kept_apart w.apart;
+        live = still_live rows (set rows at (Some row)) w.apart (kept_apart w.apart) stay order w.live;
         all = λ p l. w.all p (λ none. elim (cases_eq p at) as (λ _. ⊥) [
           | inl e ↦ here (ap (row_at rows) (sym e) ∙ none)
           | inr ne ↦ l (unwritten rows at row within p ne ∙ none)
         ]);
-        listed = still_apart rows (set rows at (Some row)) w.apart (carried_apart w.apart) stay order w.live w.listed;
+        listed = still_apart rows (set rows at (Some row)) w.apart (kept_apart w.apart) stay order w.live w.listed;
       }
 
   -- the place was empty
-  pub carried_new : row_at rows at ≡ None → IsAbsent row.kind row.key rows
-  carried_new empty p h = subst (Holds row.kind row.key) (ap (row_at rows) (nowhere p h) ∙ empty) h
+  pub kept_new : row_at rows at ≡ None → IsAbsent row.kind row.key rows
+  kept_new empty p h = subst (Holds row.kind row.key) (ap (row_at rows) (nowhere p h) ∙ empty) h
 
 -- the order lists the rows that the places have
 pub map_of_places : (rows : List (Option Row)) (order : List ℕ) → AreRows rows order → live_in rows order ≡ rows_of rows
@@ -97,27 +97,27 @@ map_of_places rows order w =
           (ap (λ (i : RowId). listed_with i (listed_in rows order)) (same_row q (id_in rows p) (sym (has_in rows p q live) ∙ t)) ∙ listed_among rows order p (w.all p live)) h)))
 
 -- rows with what came to them are those of the places
-pub told_places : (rows : List (Option Row)) (since : ℕ → Summary) (order : List ℕ) → AreRows rows order
-    → (id : RowId) → option_map fresh (get (told_live rows since order) id) ≡ get (rows_of rows) id
-told_places rows since order w id =
+pub reported_places : (rows : List (Option Row)) (since : ℕ → Summary) (order : List ℕ) → AreRows rows order
+    → (id : RowId) → option_map fresh (get (reported_live rows since order) id) ≡ get (rows_of rows) id
+reported_places rows since order w id =
     by_test (listed_with id (listed_in rows order)) refl ∙ ap (λ (m : model.Rows). get m id) (map_of_places rows order w) where
       fresh_is : (o : Option Row) (s : Summary) → fresh (kept_as o s) ≡ (listed_as o).1
       fresh_is None s = refl
       fresh_is (Some row) s = refl
 
-      by_test : (b : Bool) → listed_with id (listed_in rows order) ≡ b → option_map fresh (get (told_live rows since order) id) ≡ get (live_in rows order) id
+      by_test : (b : Bool) → listed_with id (listed_in rows order) ≡ b → option_map fresh (get (reported_live rows since order) id) ≡ get (live_in rows order) id
       by_test true h =
           let at = listed_place rows order id w.live h in
-          ap (λ (i : RowId). option_map fresh (get (told_live rows since order) i)) at.3 ∙ ap (option_map fresh) (told_at rows order w since at.0 at.1)
+          ap (λ (i : RowId). option_map fresh (get (reported_live rows since order) i)) at.3 ∙ ap (option_map fresh) (reported_at rows order w since at.0 at.1)
           ∙ ap Some (fresh_is (row_at rows at.0) (since at.0))
           ∙ sym (get-from_entries rows_total (listed_in rows order) (id_in rows at.0) ∙ find_among rows order at.0 w.apart at.1 w.live at.2)
           ∙ ap (get (live_in rows order)) (sym at.3)
       by_test false h =
-          ap (option_map fresh) (told_none rows order w since id h) ∙ sym (get-from_entries rows_total (listed_in rows order) id ∙ not_found id (listed_in rows order) h)
+          ap (option_map fresh) (reported_none rows order w since id h) ∙ sym (get-from_entries rows_total (listed_in rows order) id ∙ not_found id (listed_in rows order) h)
 
 -- and just those where no sample came to them
 fresh_listed : (rows : List (Option Row)) (since : ℕ → Summary) (order : List ℕ) → AllLive rows order → ((p : ℕ) (row : Row) → row_at rows p ≡ Some row → since p ≡ no_samples row.base.0)
-    → told_in rows since order ≡ listed_in rows order
+    → reported_in rows since order ≡ listed_in rows order
 fresh_listed rows since [] l none = refl
 fresh_listed rows since (p ∷ order) l none =
     let row = some_of (row_at rows p) l.0 in
@@ -126,7 +126,7 @@ fresh_listed rows since (p ∷ order) l none =
     λ i. (id_in rows p, here i) ∷ rest i
 
 pub fresh_places : (rows : List (Option Row)) (since : ℕ → Summary) (order : List ℕ) → AreRows rows order → ((p : ℕ) (row : Row) → row_at rows p ≡ Some row → since p ≡ no_samples row.base.0)
-    → told_live rows since order ≡ rows_of rows
+    → reported_live rows since order ≡ rows_of rows
 fresh_places rows since order w none = ap (λ (es : List (RowId × Kept)). from_entries {R = row_cmp} es) (fresh_listed rows since order w.live none) ∙ map_of_places rows order w
 
 -- a table has its places
@@ -134,7 +134,7 @@ pub has_places : (t : Inside) → IsTable t → HasPlaces (listing_of t)
 has_places t w = record {
   len = w.places;
   apart = w.rows.apart;
-  rows = told_places t.rows.rows (since_in t) t.order.places.items w.rows;
+  rows = reported_places t.rows.rows (since_in t) t.order.places.items w.rows;
   fresh_rows = λ none.
       fresh_places t.rows.rows (since_in t) t.order.places.items w.rows
       (λ p row is. (w.since p row is).none (no_row_samples t w none p (λ gone. absurd (cc (is, gone)))));
@@ -179,8 +179,8 @@ emptied_rows rows at order left w here without =
     }
 
 -- a place takes another's row, and then its base and swaps
-pub carried_are : (rows mid new : List (Option Row)) (o : Option Row) (at : ℕ) (base : Micro) (swaps : ℕ) → at < length rows → mid ≡ set rows at o → new ≡ set mid at (reset (row_at mid at) base swaps) → new ≡ set rows at (reset o base swaps)
-carried_are rows mid new o at base swaps within m n =
+pub kept_are : (rows mid new : List (Option Row)) (o : Option Row) (at : ℕ) (base : Micro) (swaps : ℕ) → at < length rows → mid ≡ set rows at o → new ≡ set mid at (reset (row_at mid at) base swaps) → new ≡ set rows at (reset o base swaps)
+kept_are rows mid new o at base swaps within m n =
     n ∙ ap (λ (xs : List (Option Row)). set xs at (reset (row_at xs at) base swaps)) m
     ∙ ap (λ (x : Option Row). set (set rows at o) at (reset x base swaps)) (set_differs rows at o None within).at ∙ set-set rows at o (reset o base swaps)
 

@@ -4,13 +4,13 @@ use Rattle.std.specs.FinMap.{from_entries}
 use Rattle.std.specs.List.{list_any}
 use Rattle.sd_model_text.specs.Names as text
 use Rattle.sd_model_shard.specs.Rows as model
-use Rattle.sd_model_shard.specs.Rows.{RowId, Kept, Summary}
-use Rattle.sd_model_shard.specs.Summaries.{is_listed, no_samples, without_samples}
+use Rattle.sd_model_shard.specs.Rows.{RowId, Kept, Summary, is_listed, without_samples}
 use Rattle.sd_key.specs.Kind.{kind_of}
 use Rattle.sd_rows.specs.Rows as places
 use Rattle.sd_rows.specs.Rows.{row_at}
 use Rattle.sd_rows.specs.declared.row.Row.{Row}
 use Rattle.sd_epoch.specs.Table.{AreApart, row_view}
+use Rattle.sd_model_text.specs.Numbers.{weight}
 
 -- the row of a place without samples, where there is one
 abbrev pub listed_as : Option Row → RowId × Kept
@@ -38,12 +38,12 @@ abbrev pub kept_in : List (Option Row) → (ℕ → Summary) → ℕ → Kept
 kept_in rows since place = kept_as (row_at rows place) (since place)
 
 -- rows in an order of their places, each with what came to it
-abbrev pub told_in : List (Option Row) → (ℕ → Summary) → List ℕ → List (RowId × Kept)
-told_in rows since order = map (λ place. (id_in rows place, kept_in rows since place)) order
+abbrev pub reported_in : List (Option Row) → (ℕ → Summary) → List ℕ → List (RowId × Kept)
+reported_in rows since order = map (λ place. (id_in rows place, kept_in rows since place)) order
 
 -- the map that they make
-abbrev pub told_live : List (Option Row) → (ℕ → Summary) → List ℕ → model.Rows
-told_live rows since order = from_entries (told_in rows since order)
+abbrev pub reported_live : List (Option Row) → (ℕ → Summary) → List ℕ → model.Rows
+reported_live rows since order = from_entries (reported_in rows since order)
 
 -- each of these places has a row
 abbrev pub AllLive : List (Option Row) → List ℕ → Type 0
@@ -66,7 +66,7 @@ pub record AreRows (rows : List (Option Row)) (order : List ℕ) : Type 0 where
 pub record IsSince (kind : text.Kind) (base : ℤ) (since : Summary) : Type 0 where
   pub bound : unsigned_abs since.weight ≤ since.samples * 10 ^ 24
   pub counted : length since.values + length since.members ≡ (if is_listed kind then since.samples else 0)
-  pub none : since.samples ≡ 0 → since ≡ no_samples base
+  pub none : since.samples ≡ 0 → since ≡ record { samples = 0; weight = pos 0; gauge = base; values = []; members = [] }
 
 -- the same of each row in a place
 abbrev pub AreSince : List (Option Row) → (ℕ → Summary) → Type 0

@@ -2,8 +2,7 @@
 use Rattle.std.specs.Prelude.{◌≡◌, ℕ, ◌==◌, ℤ, pos, List, [], ◌∷◌, ◌++◌, map, filter, get_or}
 use Rattle.sd_model_text.specs.Names.{Kind, Counter, Timer, Gauge, Set}
 use Rattle.sd_model_text.specs.Lines.{Sample}
-use Rattle.sd_model_shard.specs.Rows.{Summary, Kept}
-use Rattle.sd_model_shard.specs.Statistics.{gauge_after}
+use Rattle.sd_model_shard.specs.Rows.{Summary, Kept, gauge_after}
 use Rattle.sd_epoch.specs.declared.members.SetMember.{SetMember}
 use Rattle.sd_rows.specs.declared.tally.Tally.{Tally}
 pub use Rattle.sd_rows.specs.Rows.{no_tally}
@@ -29,17 +28,17 @@ abbrev pub members_at : ℕ → List SetMember → List SetMember
 members_at place members = filter (λ m. m.place == place) members
 
 -- the values as whole millionths
-abbrev pub told_values : List TimerValue → List ℤ
-told_values values = map (λ v. v.value.0) values
+abbrev pub reported_values : List TimerValue → List ℤ
+reported_values values = map (λ v. v.value.0) values
 
 -- the members as their bytes
-abbrev pub told_members : List SetMember → List (List ℕ)
-told_members members = map (λ m. m.member.items) members
+abbrev pub reported_members : List SetMember → List (List ℕ)
+reported_members members = map (λ m. m.member.items) members
 
 -- what a tally, values and members come to
 abbrev pub since_of : Tally → List TimerValue → List SetMember → Summary
 since_of t values members =
-    record { samples = t.samples; weight = t.weight.0; gauge = t.gauge.0; values = told_values values; members = told_members members }
+    record { samples = t.samples; weight = t.weight.0; gauge = t.gauge.0; values = reported_values values; members = reported_members members }
 
 -- what came to the row of a place
 abbrev pub since_at : List Tally → List TimerValue → List SetMember → ℕ → Summary

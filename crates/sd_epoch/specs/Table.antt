@@ -4,8 +4,7 @@ use Rattle.std.specs.Prelude.{◌≡◌, ℕ, ◌+◌, ◌^◌, Bool, false, Lis
 use Rattle.std.specs.List.{list_any}
 use Rattle.std.specs.FinMap.{from_entries, get}
 use Rattle.sd_model_shard.specs.Shard as model
-use Rattle.sd_model_shard.specs.Rows.{RowId, Rows, Kept, is_same_row}
-use Rattle.sd_model_shard.specs.Summaries.{without_samples}
+use Rattle.sd_model_shard.specs.Rows.{RowId, Rows, Kept, is_same_row, without_samples}
 use Rattle.sd_key.specs.Kind.{kind_of}
 use Rattle.sd_key.specs.declared.kind.Kind.{Kind}
 use Rattle.sd_rows.specs.Rows as in_places

@@ -1,11 +1,10 @@
 -- What a table keeps of its fields.
 use Rattle.std.specs.Prelude.{◌≡◌, ℕ, ◌+◌, ◌≤◌, length, vec_len, vec_capacity}
-use Rattle.sd_model_shard.specs.Rows.{Summary}
-use Rattle.sd_model_shard.specs.Summaries.{samples_in}
+use Rattle.sd_model_shard.specs.Rows.{Summary, samples_in}
 use Rattle.sd_epoch.specs.Limits.{limits_of, AreLimits}
 use Rattle.sd_epoch.specs.Members.{AreMembers, member_places}
 use Rattle.sd_epoch.specs.Order.{IsRanked}
-use Rattle.sd_epoch.specs.Places.{told_in, told_live, AllLive, AreRows, AreSince}
+use Rattle.sd_epoch.specs.Places.{reported_in, reported_live, AllLive, AreRows, AreSince}
 use Rattle.sd_epoch.specs.Since.{since_at}
 use Rattle.sd_epoch.specs.Table.{Listing, most_held}
 use Rattle.sd_epoch.specs.Values.{AreValues, value_places}
@@ -20,7 +19,7 @@ listing_of t =
     record {
       limits = limits_of t.limits;
       places = t.rows.rows;
-      listed = told_in t.rows.rows (since_in t) t.order.places.items;
+      listed = reported_in t.rows.rows (since_in t) t.order.places.items;
       held = t.held;
       entries = length t.values.items.items + length t.members.items.items;
     }
@@ -33,7 +32,7 @@ pub record IsTable (t : Inside) : Type 0 where
   pub ranked : IsRanked t.order.places.items t.order.rank.items
   pub ranks : length t.order.rank.items ≡ t.limits.rows
   pub since : AreSince t.rows.rows (since_in t)
-  pub held : t.held ≡ samples_in (told_live t.rows.rows (since_in t) t.order.places.items)
+  pub held : t.held ≡ samples_in (reported_live t.rows.rows (since_in t) t.order.places.items)
   pub few_held : t.held ≤ most_held
   pub values : AreValues t.values
   pub owned_values : AllLive t.rows.rows (value_places t.values.items.items)

@@ -30,5 +30,5 @@ pub record AreValues (v : Values) : Type 0 where
 pub record IsValuePushed (old : List TimerValue) (place : ℕ) (value : Micro) (new : List TimerValue) : Type 0 where
   pub more : TimerValue
   pub named : more.place ≡ place
-  pub told : more.value ≡ value
+  pub reported : more.value ≡ value
   pub items : new ≡ old ++ more ∷ []

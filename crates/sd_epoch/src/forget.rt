@@ -1,6 +1,5 @@
 ghost use Rattle.std.specs.Prelude.{◌≡◌, ◌+◌, ◌^◌, ◌<◌, ◌≤◌, is_some, None, vec_len, vec_capacity, length, get_or, set, sum_by};
-ghost use Rattle.sd_model_shard.specs.Rows.{is_same_row};
-ghost use Rattle.sd_model_shard.specs.Commands.{is_hit};
+ghost use Rattle.sd_model_shard.specs.Rows.{is_same_row, is_hit};
 ghost use Rattle.sd_key.specs.Kind.{kind_of};
 ghost use Rattle.sd_rows.specs.Rows.{row_at};
 ghost use Rattle.sd_epoch.specs.Forget.{IsClosedUp};

@@ -7,7 +7,7 @@ ghost use Rattle.sd_rows.specs.Rows.{row_at};
 ghost use Rattle.sd_epoch.specs.Chain.{IsChain, links_of};
 ghost use Rattle.sd_epoch.specs.Members.{AreMembers, IsPushed, member_places, members_before, placed_members};
 ghost use Rattle.sd_epoch.specs.Scratch.{texts};
-ghost use Rattle.sd_epoch.specs.Since.{members_at, told_members};
+ghost use Rattle.sd_epoch.specs.Since.{members_at, reported_members};
 
 use crate::chain::{Chain, Link};
 use crate::forget::is_live;
@@ -133,7 +133,7 @@ impl Members {
         requires within { place < length self.now.chain.last.items }
         requires empty { vec_len out.old ≡ 0 }
         requires room { length self.now.items.items ≤ vec_capacity out.old }
-        ensures members { texts out.new.items ≡ reverse (told_members (members_at place self.now.items.items)) }
+        ensures members { texts out.new.items ≡ reverse (reported_members (members_at place self.now.items.items)) }
         ensures capacity { vec_capacity out.new ≡ vec_capacity out.old }
     {
         let mut next = self.chain.last_at(place);
@@ -149,7 +149,7 @@ impl Members {
         requires within { at < length self.now.items.items }
         requires place { get_or (member_places self.now.items.items) at 0 ≡ place }
         ensures { (d : SetMember) → result ≡ list_any (λ other. is_eq (slice_cmp nat_cmp (get_or self.now.items.items at d).member.items other))
-            (told_members (members_at place (take at self.now.items.items))) }
+            (reported_members (members_at place (take at self.now.items.items))) }
     {
         let member = self.member(at);
         let mut next = self.before(at);
@@ -167,7 +167,7 @@ impl Members {
         requires members { AreMembers self.now }
         requires within { place < length self.now.chain.last.items }
         requires few { length self.now.items.items ≤ 2 ^ 20 }
-        ensures count { result ≡ distinct (told_members (members_at place self.now.items.items)) }
+        ensures count { result ≡ distinct (reported_members (members_at place self.now.items.items)) }
         ensures bound { result ≤ 2 ^ 20 }
     {
         let mut count = 0;
@@ -186,7 +186,7 @@ impl Members {
         requires members { AreMembers self.now }
         requires within { place < length self.now.chain.last.items }
         requires few { length self.now.items.items ≤ 2 ^ 20 }
-        ensures { result.0 ≡ pos (distinct (told_members (members_at place self.now.items.items)) * 1000000) }
+        ensures { result.0 ≡ pos (distinct (reported_members (members_at place self.now.items.items)) * 1000000) }
     {
         Sum(i128::from(self.distinct_at(place)) * 1_000_000)
     }

@@ -1,13 +1,13 @@
 ghost use Rattle.std.specs.Prelude.{◌≡◌, ◌≢◌, ℕ, ◌+◌, ◌^◌, ◌<◌, ◌≤◌, ◌==◌, [], ◌∷◌, ◌++◌, true, if◌then◌else◌, List, length, get_or, set, Option, Some, None, vec_len, vec_capacity};
 ghost use Rattle.std.specs.FinMap.{insert};
-ghost use Rattle.sd_model_shard.specs.Summaries.{is_listed, row_in};
+ghost use Rattle.sd_model_shard.specs.Rows.{is_listed, row_in};
 ghost use Rattle.sd_rows.specs.Rows.{row_at, row_seen, Holds, IsAbsent, StandsNowhereElse, reset};
 ghost use Rattle.sd_rows.specs.RowMap.{copy_steps};
 ghost use Rattle.sd_rows.specs.declared.row.Row.{Row};
 ghost use Rattle.sd_epoch.specs.Members.{AreMembers, member_places};
 ghost use Rattle.sd_epoch.specs.Order.{IsRanked};
-ghost use Rattle.sd_epoch.specs.Places.{told_live, AllLive, AreRows, AreSince, StayAt};
-ghost use Rattle.sd_epoch.specs.Since.{no_tally, since_at, values_at, members_at, told_values, told_members, values_with, members_with, IsFresh, without_swaps};
+ghost use Rattle.sd_epoch.specs.Places.{reported_live, AllLive, AreRows, AreSince, StayAt};
+ghost use Rattle.sd_epoch.specs.Since.{no_tally, since_at, values_at, members_at, reported_values, reported_members, values_with, members_with, IsFresh, without_swaps};
 ghost use Rattle.sd_epoch.specs.Table.{id_of};
 ghost use Rattle.sd_epoch.specs.Values.{AreValues, value_places};
 ghost use Rattle.sd_epoch.specs.declared.members.SetMember.{SetMember};
@@ -83,9 +83,9 @@ pub(crate) fn touch(rows: &mut Rows, order: &mut Order, kind: Kind, key: &Key) -
     ensures ranked { IsRanked order.new.places.items order.new.rank.items }
     ensures ranks { length order.new.rank.items ≡ length order.old.rank.items }
     ensures live { (values : List TimerValue) (members : List SetMember) → AllLive rows.old.rows (value_places values) → AllLive rows.old.rows (member_places members)
-        → told_live rows.new.rows (since_at rows.new.tallies values members) order.new.places.items
-        ≡ insert (told_live rows.old.rows (since_at rows.old.tallies values members) order.old.places.items) (id_of kind key.now)
-        (without_swaps (row_in (told_live rows.old.rows (since_at rows.old.tallies values members) order.old.places.items) (id_of kind key.now))) }
+        → reported_live rows.new.rows (since_at rows.new.tallies values members) order.new.places.items
+        ≡ insert (reported_live rows.old.rows (since_at rows.old.tallies values members) order.old.places.items) (id_of kind key.now)
+        (without_swaps (row_in (reported_live rows.old.rows (since_at rows.old.tallies values members) order.old.places.items) (id_of kind key.now))) }
     ensures since { (values : List TimerValue) (members : List SetMember) → AllLive rows.old.rows (value_places values) → AllLive rows.old.rows (member_places members)
         → AreSince rows.old.rows (since_at rows.old.tallies values members) → AreSince rows.new.rows (since_at rows.new.tallies values members) }
     ensures stay { StayAt rows.old.rows rows.new.rows }
@@ -105,7 +105,7 @@ pub(crate) fn touch(rows: &mut Rows, order: &mut Order, kind: Kind, key: &Key) -
 }
 
 /// Makes a place as that of other rows is, with this base and these swaps, and without samples. Nothing else is held.
-pub(crate) fn carry_in<L: Ledger>(
+pub(crate) fn keep_in<L: Ledger>(
     rows: &mut Rows,
     order: &mut Order,
     from: &Rows,
@@ -177,10 +177,10 @@ pub(crate) fn list(values: &mut Values, members: &mut Members, place: u32, s: &S
     requires member_room { is_listed s.now.kind ≡ true → vec_len members.old.items < vec_capacity members.old.items }
     requires few_values { is_listed s.now.kind ≡ true → vec_len values.old.items < 2 ^ 20 }
     requires few_members { is_listed s.now.kind ≡ true → vec_len members.old.items < 2 ^ 20 }
-    ensures values { (p : ℕ) → told_values (values_at p values.new.items.items)
-        ≡ (if place == p then values_with s.now.kind (told_values (values_at p values.old.items.items)) s.now else told_values (values_at p values.old.items.items)) }
-    ensures members { (p : ℕ) → told_members (members_at p members.new.items.items)
-        ≡ (if place == p then members_with s.now.kind (told_members (members_at p members.old.items.items)) s.now else told_members (members_at p members.old.items.items)) }
+    ensures values { (p : ℕ) → reported_values (values_at p values.new.items.items)
+        ≡ (if place == p then values_with s.now.kind (reported_values (values_at p values.old.items.items)) s.now else reported_values (values_at p values.old.items.items)) }
+    ensures members { (p : ℕ) → reported_members (members_at p members.new.items.items)
+        ≡ (if place == p then members_with s.now.kind (reported_members (members_at p members.old.items.items)) s.now else reported_members (members_at p members.old.items.items)) }
     ensures are_values { AreValues values.new }
     ensures are_members { AreMembers members.new }
     ensures owned_values { (rows : List (Option Row)) → row_at rows place ≢ None → AllLive rows (value_places values.old.items.items) → AllLive rows (value_places values.new.items.items) }

@@ -3,7 +3,7 @@ ghost use Rattle.std.specs.Borrow.{sem};
 ghost use Rattle.sd_epoch.specs.Limits.{limits_of, AreLimits};
 ghost use Rattle.sd_epoch.specs.Members.{AreMembers};
 ghost use Rattle.sd_epoch.specs.Scratch.{texts};
-ghost use Rattle.sd_epoch.specs.Since.{values_at, members_at, told_members};
+ghost use Rattle.sd_epoch.specs.Since.{values_at, members_at, reported_members};
 ghost use Rattle.sd_epoch.specs.Values.{AreValues};
 
 use crate::limits::Limits;
@@ -84,7 +84,7 @@ impl Scratch {
         requires room { length members.now.items.items ≤ self.old.room }
         requires members { AreMembers members.now }
         requires within { place < length members.now.chain.last.items }
-        ensures members { texts self.new.members ≡ told_members (members_at place members.now.items.items) }
+        ensures members { texts self.new.members ≡ reported_members (members_at place members.now.items.items) }
         ensures values { self.new.values ≡ self.old.values }
         ensures room { self.new.room ≡ self.old.room }
     {

@@ -1,9 +1,7 @@
 ghost use Rattle.std.specs.Prelude.{◌≡◌, ◌+◌, ◌-◌, ◌*◌, ◌^◌, ◌<◌, ◌≤◌, ◌≢◌, unsigned_abs, slice_get, true, false, if◌then◌else◌, [], length, map, set, option_map, IfOk, IfSome, MatchOption, Some, None};
 ghost use Rattle.std.specs.FinMap.{len, contains_key, get, insert, remove};
 ghost use Rattle.sd_model_text.specs.Names.{Timer};
-ghost use Rattle.sd_model_shard.specs.Rows.{RowId, row_of};
-ghost use Rattle.sd_model_shard.specs.Commands.{rows_left, rows_taken_out};
-ghost use Rattle.sd_model_shard.specs.Summaries.{amount_by, is_listed, listed_in, row_in, samples_in, touched, without_samples};
+ghost use Rattle.sd_model_shard.specs.Rows.{RowId, row_of, rows_left, rows_taken_out, amount_by, is_listed, listed_in, row_in, samples_in, touched, without_samples};
 ghost use Rattle.sd_key.specs.Kind.{kind_of};
 ghost use Rattle.sd_rows.specs.Rows.{row_at, row_seen, StandsNowhereElse, reset};
 ghost use Rattle.sd_rows.specs.RowMap.{copy_steps};
@@ -15,7 +13,7 @@ use crate::forget::{close_up, drop_hits, drop_row, empty_at, samples_at};
 use crate::limits::Limits;
 use crate::members::Members;
 use crate::order::Order;
-use crate::placing::{add_row, carry_in, clear_tallies, list, live_row, touch};
+use crate::placing::{add_row, clear_tallies, keep_in, list, live_row, touch};
 use crate::scratch::Scratch;
 use crate::tally::{gauge_sum, with_sample};
 use crate::values::Values;
@@ -297,7 +295,7 @@ impl Table {
         requires { at < self.now.limits.rows }
         ensures place { MatchOption result (row_at self.now.places at ≡ None)
             (λ row. row_at self.now.places at ≡ Some (record { kind = row.kind; key = row.key; base = row.base; swaps = row.swaps })) }
-        ensures told { IfSome result (λ row. IfSome (get (live_of self.now) (id_of row.kind row.key)) (λ kept. Tells row (id_of row.kind row.key, kept))) }
+        ensures reported { IfSome result (λ row. IfSome (get (live_of self.now) (id_of row.kind row.key)) (λ kept. Tells row (id_of row.kind row.key, kept))) }
         ensures bound { IfSome result (λ row. unsigned_abs row.weight.0 ≤ most_held * 10 ^ 24) }
     {
         match self.rows.row(at) {
@@ -341,7 +339,7 @@ impl Table {
         ensures limits { self.new.limits ≡ self.old.limits }
         ensures steps { steps.new ≤ steps.old + copy_steps (row_at from.now.places at) (row_at self.old.places at) }
     {
-        carry_in(
+        keep_in(
             &mut self.rows,
             &mut self.order,
             &from.rows,

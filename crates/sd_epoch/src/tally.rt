@@ -1,5 +1,5 @@
 ghost use Rattle.std.specs.Prelude.{◌≡◌, ◌+◌, ◌*◌, ◌^◌, ◌<◌, ◌≤◌, ◌+ℤ◌, pos, unsigned_abs};
-ghost use Rattle.sd_model_shard.specs.Statistics.{sample_weight, gauge_after};
+ghost use Rattle.sd_model_shard.specs.Rows.{sample_weight, gauge_after};
 ghost use Rattle.sd_epoch.specs.Since.{gauge_by};
 
 use sd_decimal::{Micro, Sum, weigh};

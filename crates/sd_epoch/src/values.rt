@@ -2,7 +2,7 @@ ghost use Rattle.std.specs.Prelude.{◌≡◌, ℕ, ◌+◌, ◌^◌, ◌<◌, �
 ghost use Rattle.sd_model_shard.specs.Values.{total};
 ghost use Rattle.sd_rows.specs.Rows.{row_at};
 ghost use Rattle.sd_epoch.specs.Chain.{IsChain, links_of};
-ghost use Rattle.sd_epoch.specs.Since.{values_at, told_values};
+ghost use Rattle.sd_epoch.specs.Since.{values_at, reported_values};
 ghost use Rattle.sd_epoch.specs.Values.{AreValues, IsValuePushed, value_places, values_before, placed_values};
 
 use crate::chain::{Chain, Link};
@@ -103,7 +103,7 @@ impl Values {
         requires values { AreValues self.now }
         requires within { place < length self.now.chain.last.items }
         requires few { length self.now.items.items ≤ 2 ^ 20 }
-        ensures { result.0 ≡ total (told_values (values_at place self.now.items.items)) }
+        ensures { result.0 ≡ total (reported_values (values_at place self.now.items.items)) }
     {
         let mut sum = Sum(0);
         let mut next = self.chain.last_at(place);

@@ -5,11 +5,11 @@ const SHOWN: usize = 80;
 
 /// A piece of a datagram, or a line, isn't a good one. Its first bytes are told.
 pub fn bad_line<L: Log>(log: &L, cause: &str, line: &[u8]) {
-    let front = match line.get(..SHOWN) {
-        Some(front) => front,
+    let prefix = match line.get(..SHOWN) {
+        Some(prefix) => prefix,
         None => line,
     };
-    let line = front.escape_ascii();
+    let line = prefix.escape_ascii();
     warn!(log; cause, line:%; "bad");
 }
 

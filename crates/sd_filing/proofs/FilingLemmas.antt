@@ -1,30 +1,31 @@
 -- The samples of a datagram, one after another.
 use Rattle.std.proofs.Common.{◌≡◌, ℕ, ◌+◌, ◌*◌, ◌≤◌, ◌^◌, List, [], ◌∷◌, ◌++◌, length, cond, refl, sym, ap, ◌∙◌, arith, append_assoc, append-nil, length-append}
 use Rattle.std.specs.Prelude.{⊤, filter_map, count_by, All, Result, Ok, Err}
+use Rattle.std.specs.Result.{result_ok, is_err}
 use Rattle.std.specs.List.{cons_option}
 use Rattle.std.proofs.lemmas.List.Elements.{All-nil, All-append}
 use Rattle.std.proofs.lemmas.List.Sums.{sum_by-cons}
-use Rattle.sd_model_text.specs.Lines.{Sample, pieces, bad_of, good, is_bad, reading, samples_of}
+use Rattle.sd_model_text.specs.Lines.{Sample, pieces, bad_of, reading, samples_of}
 use Rattle.sd_law_text.proofs.PieceCounts.{length-pieces}
 use Rattle.sd_model_shard.specs.History.{Act, History}
 use Rattle.sd_model_shard.specs.Whereabouts.{dropped_in}
 use Rattle.sd_law_shard.specs.Sums.{taken_in}
-use Rattle.sd_model_serve.specs.Receiving.{asks, events_of, told_in}
+use Rattle.sd_model_serve.specs.Receiving.{asks, events_of, summed_in}
 use Rattle.sd_model_serve.proofs.ActsLemmas.{asks-append}
 use Rattle.sd_line.specs.Piece.{cause_of}
 use Rattle.sd_line.specs.declared.piece.Bad.{Bad}
 use Rattle.sd_batch.specs.Batch.{Reads, Waiting}
 use Rattle.sd_filing.specs.declared.filing.Filed.{Filed}
 use Rattle.sd_filing.specs.Filing.{FilesDatagram, ReadsDatagram, SubmitsWaiting, bad_in}
-use Rattle.sd_filing.proofs.ToldLemmas.{ArePlaced, ArePlaced-append, events_of-append, told_in-append, told_in-none}
+use Rattle.sd_filing.proofs.ReportedLemmas.{ArePlaced, ArePlaced-append, events_of-append, summed_in-append, summed_in-none}
 
 -- the samples of pieces
 abbrev pub goods : List (List ℕ) → List Sample
-goods left = filter_map (λ piece. good (reading piece)) left
+goods left = filter_map (λ piece. result_ok (reading piece)) left
 
 -- how many of pieces are bad
 abbrev pub bads : List (List ℕ) → ℕ
-bads left = count_by (λ piece. is_bad (reading piece)) left
+bads left = count_by (λ piece. is_err (reading piece)) left
 
 -- the samples that were submitted, those that wait and those that are left are those that waited before, and the datagram's
 pub record Files (adds : (ℕ → History) → Type 0) (shards caller : ℕ) (datagram : List ℕ) (before : List Sample) (left : List (List ℕ)) (waiting : List Sample) (filed : Filed) : Type 0 where
@@ -37,8 +38,8 @@ pub record Files (adds : (ℕ → History) → Type 0) (shards caller : ℕ) (da
   pub placed : (i : ℕ) → ArePlaced (acts i)
   pub count : filed.lines + length left ≡ length (pieces datagram)
   pub flawed : filed.bad + bads left ≡ bad_of datagram
-  pub dropped : filed.dropped ≡ told_in dropped_in shards acts
-  pub taken : filed.taken ≡ told_in taken_in shards acts
+  pub dropped : filed.dropped ≡ summed_in dropped_in shards acts
+  pub taken : filed.taken ≡ summed_in taken_in shards acts
   pub whole : filed.taken + filed.dropped + filed.bad + length waiting ≡ filed.lines + length before
 
 -- so far none
@@ -54,8 +55,8 @@ none_filed adds shards caller datagram waiting added = record {
   placed = λ i. refl;
   count = omega arith;
   flawed = omega arith;
-  dropped = sym (told_in-none dropped_in shards);
-  taken = sym (told_in-none taken_in shards);
+  dropped = sym (summed_in-none dropped_in shards);
+  taken = sym (summed_in-none taken_in shards);
   whole = omega arith;
 }
 
@@ -101,9 +102,9 @@ piece_filed adds shards caller datagram before left rest old new (Ok u) filed re
     let s = reads.sample in
     let read : reading piece ≡ Ok s = reads.answers.read in
     let waits : new.items ≡ old.items ++ s ∷ [] = ap (λ (w : Waiting). w.items) reads.left in
-    let goods_are : goods left ≡ s ∷ goods rest = ap goods reads.next ∙ ap (λ r. cons_option (good r) (goods rest)) read in
-    let isnt : ◌≡◌ {A = ℕ} (cond (is_bad (reading piece)) 1 0) 0 = ap {B = ℕ} (λ r. cond (is_bad r) 1 0) read in
-    let bads_are : bads left ≡ bads rest = ap bads reads.next ∙ omega (arith, isnt, sum_by-cons (λ (p : List ℕ). cond (is_bad (reading p)) 1 0) piece rest) in
+    let goods_are : goods left ≡ s ∷ goods rest = ap goods reads.next ∙ ap (λ r. cons_option (result_ok r) (goods rest)) read in
+    let isnt : ◌≡◌ {A = ℕ} (cond (is_err (reading piece)) 1 0) 0 = ap {B = ℕ} (λ r. cond (is_err r) 1 0) read in
+    let bads_are : bads left ≡ bads rest = ap bads reads.next ∙ omega (arith, isnt, sum_by-cons (λ (p : List ℕ). cond (is_err (reading p)) 1 0) piece rest) in
     let long : length new.items ≡ length old.items + 1 = ap length waits ∙ length-append old.items (s ∷ []) in
     record {
       sent = h.sent;
@@ -125,9 +126,9 @@ piece_filed adds shards caller datagram before left rest old new (Err bad) filed
     let piece = reads.piece in
     let read : reading piece ≡ Err (cause_of bad) = reads.answers.read in
     let waits : new.items ≡ old.items = ap (λ (w : Waiting). w.items) reads.left in
-    let goods_are : goods left ≡ goods rest = ap goods reads.next ∙ ap (λ r. cons_option (good r) (goods rest)) read in
-    let isnt : ◌≡◌ {A = ℕ} (cond (is_bad (reading piece)) 1 0) 1 = ap {B = ℕ} (λ r. cond (is_bad r) 1 0) read in
-    let bads_are : bads left ≡ 1 + bads rest = ap bads reads.next ∙ omega (arith, isnt, sum_by-cons (λ (p : List ℕ). cond (is_bad (reading p)) 1 0) piece rest) in
+    let goods_are : goods left ≡ goods rest = ap goods reads.next ∙ ap (λ r. cons_option (result_ok r) (goods rest)) read in
+    let isnt : ◌≡◌ {A = ℕ} (cond (is_err (reading piece)) 1 0) 1 = ap {B = ℕ} (λ r. cond (is_err r) 1 0) read in
+    let bads_are : bads left ≡ 1 + bads rest = ap bads reads.next ∙ omega (arith, isnt, sum_by-cons (λ (p : List ℕ). cond (is_err (reading p)) 1 0) piece rest) in
     record {
       sent = h.sent;
       split = h.split ∙ ap (λ (w : List Sample). h.sent ++ w) (λ k. sym waits k ++ goods_are k);
@@ -165,8 +166,8 @@ submitted_filed before one adds shards caller datagram first left waiting waitin
   placed = λ i. ArePlaced-append (h.acts i) (o.acts i) (h.placed i) (o.placed i);
   count = omega (arith, h.count, o.lines);
   flawed = omega (arith, h.flawed, o.bad);
-  dropped = omega (arith, o.dropped, h.dropped, told_in-append dropped_in shards h.acts o.acts);
-  taken = omega (arith, o.taken, h.taken, told_in-append taken_in shards h.acts o.acts);
+  dropped = omega (arith, o.dropped, h.dropped, summed_in-append dropped_in shards h.acts o.acts);
+  taken = omega (arith, o.taken, h.taken, summed_in-append taken_in shards h.acts o.acts);
   whole = omega (arith, h.whole, o.whole, o.lines, o.bad);
 }
 
@@ -186,8 +187,8 @@ all_filed before one adds shards caller datagram first waiting old new next none
       placed = λ i. ArePlaced-append (h.acts i) (o.acts i) (h.placed i) (o.placed i);
       lines = o.lines ∙ h.lines;
       bad = o.bad ∙ h.bad;
-      dropped = omega (arith, o.dropped, h.dropped, told_in-append dropped_in shards h.acts o.acts);
-      taken = omega (arith, o.taken, h.taken, told_in-append taken_in shards h.acts o.acts);
+      dropped = omega (arith, o.dropped, h.dropped, summed_in-append dropped_in shards h.acts o.acts);
+      taken = omega (arith, o.taken, h.taken, summed_in-append taken_in shards h.acts o.acts);
       whole = omega (arith, h.whole, o.whole, o.lines, o.bad, n);
       small = omega (arith, h.small, o.lines);
     }

@@ -1,4 +1,4 @@
 pub mod SumLemmas
-pub mod ToldLemmas
+pub mod ReportedLemmas
 pub mod WaitingLemmas
 pub mod FilingLemmas

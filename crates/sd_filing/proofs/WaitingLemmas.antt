@@ -13,13 +13,13 @@ use Rattle.sd_model_shard.specs.History.{Act, History}
 use Rattle.sd_model_shard.specs.Whereabouts.{dropped_in}
 use Rattle.sd_law_shard.specs.Sums.{taken_in}
 use Rattle.sd_model_shard.proofs.OrderLemmas.{weighed_once}
-use Rattle.sd_model_serve.specs.Receiving.{asks, events_of, told_in}
+use Rattle.sd_model_serve.specs.Receiving.{asks, events_of, summed_in}
 use Rattle.sd_batch.specs.Runs.{run_at}
 use Rattle.sd_batch.specs.declared.counts.Counts.{Counts}
 use Rattle.sd_filing.specs.declared.filing.Filed.{Filed}
 use Rattle.sd_filing.specs.Filing.{SubmitsRun, SubmitsWaiting, waiting_at}
 use Rattle.sd_filing.proofs.SumLemmas.{sum_by-none, sum_by-plus}
-use Rattle.sd_filing.proofs.ToldLemmas.{ArePlaced, ArePlaced-append, run_by, run_placed, told_in-none, told_in-run}
+use Rattle.sd_filing.proofs.ReportedLemmas.{ArePlaced, ArePlaced-append, run_by, run_placed, summed_in-none, summed_in-run}
 
 -- each sample waits for one of the shards
 waiting_once : (shards : ℕ) → 0 < shards → (waiting : List Sample) → sum_by (λ i. length (waiting_at shards i waiting)) (range_with_len 0 shards) ≡ length waiting
@@ -55,8 +55,8 @@ pub record Submits (adds : (ℕ → History) → Type 0) (shards caller : ℕ) (
   pub others : (i : ℕ) → home ≤ i → acts i ≡ []
   pub whose : (i : ℕ) → All (λ a. a.who ≡ caller) (acts i)
   pub placed : (i : ℕ) → ArePlaced (acts i)
-  pub taken : new.taken ≡ old.taken + told_in taken_in shards acts
-  pub dropped : new.dropped ≡ old.dropped + told_in dropped_in shards acts
+  pub taken : new.taken ≡ old.taken + summed_in taken_in shards acts
+  pub dropped : new.dropped ≡ old.dropped + summed_in dropped_in shards acts
   pub whole : (left : ℕ) → home + left ≡ shards → new.taken + new.dropped + behind shards home waiting left ≡ old.taken + old.dropped + length waiting
   pub lines : new.lines ≡ old.lines
   pub bad : new.bad ≡ old.bad
@@ -70,8 +70,8 @@ none_submitted adds shards caller waiting filed some added = record {
   others = λ i past. refl;
   whose = λ i. All-nil (λ (a : Act). a.who ≡ caller);
   placed = λ i. refl;
-  taken = let none = told_in-none taken_in shards in omega (arith, none);
-  dropped = let none = told_in-none dropped_in shards in omega (arith, none);
+  taken = let none = summed_in-none taken_in shards in omega (arith, none);
+  dropped = let none = summed_in-none dropped_in shards in omega (arith, none);
   whole = λ left is. let all = waiting_once shards some waiting in let same : left ≡ shards = omega (arith, is) in
       ap (λ n. filed.taken + filed.dropped + behind shards 0 waiting n) same ∙ omega (arith, all);
   lines = refl;
@@ -134,8 +134,8 @@ run_submitted before one adds shards caller waiting home counts old mid new next
           ∙ ap (λ b. cond b o.made []) (ne_eqb i home (λ same. omega (arith, same, past)));
       whose = λ i. All-append (λ (a : Act). a.who ≡ caller) (h.acts i) (run_at home o.made i) (h.whose i) (run_by caller home o.made i o.whose);
       placed = λ i. ArePlaced-append (h.acts i) (run_at home o.made i) (h.placed i) (run_placed home o.made i placed);
-      taken = let run = told_in-run taken_in shards home o.made h.acts below in omega (arith, taken, h.taken, o.counted.taken, run);
-      dropped = let run = told_in-run dropped_in shards home o.made h.acts below in omega (arith, dropped, h.dropped, o.counted.dropped, run);
+      taken = let run = summed_in-run taken_in shards home o.made h.acts below in omega (arith, taken, h.taken, o.counted.taken, run);
+      dropped = let run = summed_in-run dropped_in shards home o.made h.acts below in omega (arith, dropped, h.dropped, o.counted.dropped, run);
       whole = λ left sum.
           let whole = h.whole (suc left) (omega (arith, sum)) in
           let first = sum_by-cons (λ i. length (waiting_at shards i waiting)) home (range_with_len (home + 1) left) in
@@ -186,8 +186,8 @@ left_waiting adds shards caller waiting filed added = record {
   asked = λ i. refl;
   whose = λ i. All-nil (λ (a : Act). a.who ≡ caller);
   placed = λ i. refl;
-  taken = let none = told_in-none taken_in shards in omega (arith, none);
-  dropped = let none = told_in-none dropped_in shards in omega (arith, none);
+  taken = let none = summed_in-none taken_in shards in omega (arith, none);
+  dropped = let none = summed_in-none dropped_in shards in omega (arith, none);
   whole = refl;
   lines = refl;
   bad = refl;

@@ -4,9 +4,9 @@ use Rattle.sd_model_text.specs.Names.{shard}
 use Rattle.sd_model_text.specs.Lines.{Sample, pieces, samples_of, bad_of}
 use Rattle.sd_model_shard.specs.Shard.{Submit}
 use Rattle.sd_model_shard.specs.History.{History, part_of}
-use Rattle.sd_model_shard.specs.Whereabouts.{dropped_in, told_by}
+use Rattle.sd_model_shard.specs.Whereabouts.{dropped_in, summed_by}
 use Rattle.sd_law_shard.specs.Sums.{taken_in}
-use Rattle.sd_model_serve.specs.Receiving.{asks, events_of, told_in}
+use Rattle.sd_model_serve.specs.Receiving.{asks, events_of, summed_in}
 use Rattle.sd_line.specs.declared.piece.Bad.{Bad}
 use Rattle.sd_batch.specs.Batch.{Waiting}
 use Rattle.sd_batch.specs.declared.counts.Counts.{Counts}
@@ -34,9 +34,9 @@ pub record SubmitsWaiting (adds : (ℕ → History) → Type 0) (shards caller :
   pub added : adds acts
   pub asked : (i : ℕ) → events_of (acts i) ≡ asks shards i sent
   pub whose : (i : ℕ) → All (λ a. a.who ≡ caller) (acts i)
-  pub placed : (i : ℕ) → told_by taken_in (acts i) + told_by dropped_in (acts i) ≡ length (acts i)
-  pub taken : new.taken ≡ old.taken + told_in taken_in shards acts
-  pub dropped : new.dropped ≡ old.dropped + told_in dropped_in shards acts
+  pub placed : (i : ℕ) → summed_by taken_in (acts i) + summed_by dropped_in (acts i) ≡ length (acts i)
+  pub taken : new.taken ≡ old.taken + summed_in taken_in shards acts
+  pub dropped : new.dropped ≡ old.dropped + summed_in dropped_in shards acts
   pub whole : new.taken + new.dropped + length waiting_now ≡ old.taken + old.dropped + length waiting
   pub lines : new.lines ≡ old.lines
   pub bad : new.bad ≡ old.bad
@@ -67,11 +67,11 @@ pub record ReadsDatagram (adds : (ℕ → History) → Type 0) (shards caller : 
   pub added : adds acts
   pub asked : (i : ℕ) → events_of (acts i) ≡ asks shards i sent
   pub whose : (i : ℕ) → All (λ a. a.who ≡ caller) (acts i)
-  pub placed : (i : ℕ) → told_by taken_in (acts i) + told_by dropped_in (acts i) ≡ length (acts i)
+  pub placed : (i : ℕ) → summed_by taken_in (acts i) + summed_by dropped_in (acts i) ≡ length (acts i)
   pub lines : filed.lines ≡ length (pieces datagram)
   pub bad : filed.bad ≡ bad_of datagram
-  pub dropped : filed.dropped ≡ told_in dropped_in shards acts
-  pub taken : filed.taken ≡ told_in taken_in shards acts
+  pub dropped : filed.dropped ≡ summed_in dropped_in shards acts
+  pub taken : filed.taken ≡ summed_in taken_in shards acts
   pub whole : filed.taken + filed.dropped + filed.bad + length waiting_now ≡ filed.lines + length waiting
   pub small : filed.lines ≤ 65528
   pub few : filed.taken + filed.dropped < 2 ^ 48
@@ -83,10 +83,10 @@ pub record FilesDatagram (adds : (ℕ → History) → Type 0) (shards caller : 
   pub added : adds acts
   pub asked : (i : ℕ) → events_of (acts i) ≡ asks shards i (samples_of datagram)
   pub whose : (i : ℕ) → All (λ a. a.who ≡ caller) (acts i)
-  pub placed : (i : ℕ) → told_by taken_in (acts i) + told_by dropped_in (acts i) ≡ length (acts i)
+  pub placed : (i : ℕ) → summed_by taken_in (acts i) + summed_by dropped_in (acts i) ≡ length (acts i)
   pub lines : filed.lines ≡ length (pieces datagram)
   pub bad : filed.bad ≡ bad_of datagram
-  pub dropped : filed.dropped ≡ told_in dropped_in shards acts
-  pub taken : filed.taken ≡ told_in taken_in shards acts
+  pub dropped : filed.dropped ≡ summed_in dropped_in shards acts
+  pub taken : filed.taken ≡ summed_in taken_in shards acts
   pub whole : filed.taken + filed.dropped + filed.bad ≡ filed.lines
   pub small : filed.lines ≤ 65528

@@ -4,26 +4,26 @@ use Rattle.std.specs.Prelude.{Some, None}
 use Rattle.std.proofs.lemmas.List.{map-append, length_push}
 use Rattle.std.proofs.lemmas.Grind.{flat_map-append}
 use Rattle.std.proofs.lemmas.List.Sums.{sum_by-append, sum_by-cons}
-use Rattle.sd_model_outside.specs.Outside.{Object, Told, Ticks}
+use Rattle.sd_model_outside.specs.Outside.{Object, Content, Ticks}
 use Rattle.sd_outside.specs.Turns.{raised, GivesTick, turned}
-use Rattle.sd_model_outside.specs.Turns.{with_ticks}
-use Rattle.sd_model_outside.specs.Deliveries.{Delivery, AfterDeliveries}
+use Rattle.sd_model_outside.specs.Uses.{with_ticks, Delivery, AfterDeliveries}
 use Rattle.sd_model_outside.proofs.DeliveryLemmas.{AfterDeliveries-push}
 use Rattle.sd_model_outside.proofs.TurnLemmas.{with_ticks-append}
 use Rattle.sd_model_shard.specs.History.{History}
 use Rattle.sd_model_record.specs.Desk.{Marks, counted}
-use Rattle.sd_model_record.specs.Counts.{Count, Amounts}
+use Rattle.sd_model_record.specs.Totals.{Count, Amounts}
 use Rattle.sd_shared_desk.specs.Counts.{Part, HasCounted, nothing, plus, share}
 use Rattle.sd_model_record.specs.DeskHistory.{DeskCall}
 use Rattle.sd_model_record.specs.Backends.{Backend, Graphite, Console, mark_of}
 use Rattle.sd_shared_desk.proofs.CountLemmas.{counted_none, counted_next}
 use Rattle.sd_pool.specs.Adding.{Adds}
-use Rattle.sd_model_serve.specs.Rounds.{Round, Form, MarksFit, last_second, round_calls, round_deliveries, round_text, swap_of, swaps_at}
+use Rattle.sd_model_serve.specs.Rounds.{Round, RecordForm, MarksFit, last_second, round_calls, round_deliveries, round_text, swaps_at}
 use Rattle.sd_flush.specs.Made.{MakesRound, MakesRounds, of_round, of_rounds}
 use Rattle.sd_pool.proofs.ActsLemmas.{Adds-none, Adds-next}
 use Rattle.sd_rows.specs.declared.row.Row.{Row}
 use Rattle.sd_pool.proofs.AlongLemmas.{AllByRecursion-append}
 use Rattle.sd_flush.specs.Flushing.{MakesRoundAt, uses_by}
+use Rattle.sd_model_serve.proofs.Short.{swap_of}
 
 -- what holds at each backend
 pub at_both : (P : Backend → Type 0) → P Graphite → P Console → (b : Backend) → P b
@@ -39,7 +39,7 @@ counted_as a b old new same h = record {
 }
 
 -- the same round, by other words for the two flags
-pub round_by : (form : Form) (graphite console graphite_is console_is : Bool) (ts : ℕ) (marks : Marks) (own own_now : ℕ → History) (part part_now : Part) (back back_now : Backend → Object) (waiting : List (List (Option Row)))
+pub round_by : (form : RecordForm) (graphite console graphite_is console_is : Bool) (ts : ℕ) (marks : Marks) (own own_now : ℕ → History) (part part_now : Part) (back back_now : Backend → Object) (waiting : List (List (Option Row)))
     → graphite ≡ graphite_is → console ≡ console_is → MakesRoundAt form (uses_by graphite console) ts marks own own_now part part_now back back_now waiting
     → MakesRoundAt form (uses_by graphite_is console_is) ts marks own own_now part part_now back back_now waiting
 round_by form graphite console graphite_is console_is ts marks own own_now part part_now back back_now waiting g c h =
@@ -47,17 +47,17 @@ round_by form graphite console graphite_is console_is ts marks own own_now part 
     (subst (λ (x : Bool). MakesRoundAt form (uses_by graphite x) ts marks own own_now part part_now back back_now waiting) c h)
 
 -- no ticks before those that are left
-pub ticks_none : (told : Told) → told ≡ with_ticks [] told
+pub ticks_none : (content : Content) → content ≡ with_ticks [] content
 ticks_none (Ticks left) = refl
-ticks_none told = refl
+ticks_none content = refl
 
 -- Rounds were made at the ticks that were read, as many, the last of them at this second.
-pub record SoFar (form : Form) (used : Backend → Bool) (own own_now : ℕ → History) (part part_now : Part) (back back_now : Backend → Object) (beat beat_now : Object) (made : ℕ) (last : Option ℕ) : Type 0 where
+pub record SoFar (form : RecordForm) (used : Backend → Bool) (own own_now : ℕ → History) (part part_now : Part) (back back_now : Backend → Object) (beat beat_now : Object) (made : ℕ) (last : Option ℕ) : Type 0 where
   pub rounds : List Round
   pub are_made : MakesRounds form used rounds own own_now part part_now back back_now
   pub count : length rounds ≡ made
-  pub given : beat.told ≡ with_ticks (map (λ r. r.ts) rounds) beat_now.told
-  pub same : beat_now ≡ record beat { told = beat_now.told; turns = beat.turns + made }
+  pub given : beat.content ≡ with_ticks (map (λ r. r.ts) rounds) beat_now.content
+  pub same : beat_now ≡ record beat { content = beat_now.content; turns = beat.turns + made }
   pub last_is : last ≡ last_second rounds
 
 -- the second of a round behind rounds
@@ -98,39 +98,39 @@ round_called part part_mid part_now rounds r first second =
     second ∙ ap (λ (l : List DeskCall). l ++ round_calls r) first ∙ append_assoc part.own (flat_map round_calls rounds) (round_calls r) ∙ ap (λ (l : List DeskCall). part.own ++ l) (sym all)
 
 -- a beat of which no tick was read
-pub none_read : (beat : Object) → beat ≡ record beat { told = beat.told; turns = beat.turns + 0 }
+pub none_read : (beat : Object) → beat ≡ record beat { content = beat.content; turns = beat.turns + 0 }
 none_read beat = ap (λ (n : ℕ). record beat { turns = n }) (let none : beat.turns ≡ beat.turns + 0 = omega arith in none)
 
 -- ticks that a beat gave, and one more
-pub given_next : (beat beat_mid beat_now : Object) (rounds : List Round) (r : Round) (ts : ℕ) → r.ts ≡ ts → beat.told ≡ with_ticks (map (λ q. q.ts) rounds) beat_mid.told → GivesTick ts beat_mid beat_now
-    → beat.told ≡ with_ticks (map (λ q. q.ts) (rounds ++ r ∷ [])) beat_now.told
+pub given_next : (beat beat_mid beat_now : Object) (rounds : List Round) (r : Round) (ts : ℕ) → r.ts ≡ ts → beat.content ≡ with_ticks (map (λ q. q.ts) rounds) beat_mid.content → GivesTick ts beat_mid beat_now
+    → beat.content ≡ with_ticks (map (λ q. q.ts) (rounds ++ r ∷ [])) beat_now.content
 given_next beat beat_mid beat_now rounds r ts second first tick =
-    first ∙ ap (with_ticks (map (λ (q : Round). q.ts) rounds)) told
-    ∙ with_ticks-append beat_now.told (map (λ (q : Round). q.ts) rounds) (ts ∷ [])
-    ∙ ap (λ (ticks : List ℕ). with_ticks ticks beat_now.told) (sym times) where
-      told : beat_mid.told ≡ with_ticks (ts ∷ []) beat_now.told
-      told = ap (λ (o : Object). o.told) tick
+    first ∙ ap (with_ticks (map (λ (q : Round). q.ts) rounds)) content
+    ∙ with_ticks-append beat_now.content (map (λ (q : Round). q.ts) rounds) (ts ∷ [])
+    ∙ ap (λ (ticks : List ℕ). with_ticks ticks beat_now.content) (sym times) where
+      content : beat_mid.content ≡ with_ticks (ts ∷ []) beat_now.content
+      content = ap (λ (o : Object). o.content) tick
 
       times : map (λ (q : Round). q.ts) (rounds ++ r ∷ []) ≡ map (λ (q : Round). q.ts) rounds ++ ts ∷ []
       times = map-append (λ (q : Round). q.ts) rounds (r ∷ []) ∙ ap (λ (t : ℕ). map (λ (q : Round). q.ts) rounds ++ t ∷ []) second
 
 -- nothing else of the beat changes
-pub read_next : (beat beat_mid beat_now : Object) (made ts : ℕ) → beat.turns + made < 2 ^ 63 → beat_mid ≡ record beat { told = beat_mid.told; turns = beat.turns + made } → GivesTick ts beat_mid beat_now
-    → beat_now ≡ record beat { told = beat_now.told; turns = beat.turns + (made + 1) }
+pub read_next : (beat beat_mid beat_now : Object) (made ts : ℕ) → beat.turns + made < 2 ^ 63 → beat_mid ≡ record beat { content = beat_mid.content; turns = beat.turns + made } → GivesTick ts beat_mid beat_now
+    → beat_now ≡ record beat { content = beat_now.content; turns = beat.turns + (made + 1) }
 read_next beat beat_mid beat_now made ts few first tick =
-    sym (ap (λ (o : Object). record o { told = beat_now.told }) tick)
-    ∙ ap (λ (o : Object). record (turned o) { told = beat_now.told }) first
-    ∙ ap (λ (n : ℕ). record beat { told = beat_now.told; turns = n }) once where
+    sym (ap (λ (o : Object). record o { content = beat_now.content }) tick)
+    ∙ ap (λ (o : Object). record (turned o) { content = beat_now.content }) first
+    ∙ ap (λ (n : ℕ). record beat { content = beat_now.content; turns = n }) once where
       once : raised (beat.turns + made) ≡ beat.turns + (made + 1)
       once = omega (arith, few)
 
-module _ (form : Form) (used : Backend → Bool) where
+module _ (form : RecordForm) (used : Backend → Bool) where
   pub no_rounds : (own : ℕ → History) (part : Part) (back : Backend → Object) (beat : Object) → SoFar form used own own part part back back beat beat 0 None
   no_rounds own part back beat = record {
     rounds = [];
     are_made = record { swapped = Adds-none form.shards own; used = tt; delivered = λ b. refl; counted = none_counted part; called = sym (append-nil part.own) };
     count = refl;
-    given = ticks_none beat.told;
+    given = ticks_none beat.content;
     same = none_read beat;
     last_is = refl;
   }

@@ -3,12 +3,12 @@ use Rattle.std.proofs.Common.{◌≡◌, ℕ, ◌+◌, ◌<◌, ◌^◌, List, [
 use Rattle.std.specs.Prelude.{Some, None}
 use Rattle.std.proofs.lemmas.List.{map-append, length_push}
 use Rattle.sd_model_outside.specs.Outside.{Object}
-use Rattle.sd_model_outside.specs.Turns.{with_ticks}
+use Rattle.sd_model_outside.specs.Uses.{with_ticks}
 use Rattle.sd_outside.specs.Turns.{GivesTick}
 use Rattle.sd_model_shard.specs.History.{History}
 use Rattle.sd_model_record.specs.Backends.{Backend}
 use Rattle.sd_shared_desk.specs.Counts.{Part}
-use Rattle.sd_model_serve.specs.Rounds.{Round, Form, last_second, round_text}
+use Rattle.sd_model_serve.specs.Rounds.{Round, RecordForm, last_second, round_text}
 use Rattle.sd_pool.proofs.ActsLemmas.{Adds-none}
 use Rattle.sd_rows.specs.declared.row.Row.{Row}
 use Rattle.sd_pool.proofs.AlongLemmas.{AllByRecursion-append}
@@ -23,23 +23,23 @@ use Rattle.sd_flush.proofs.OfferLemmas.{none_offered, texts_next}
 use Rattle.sd_flush.proofs.RoundLemmas.{given_next, last_of, none_counted, none_read, read_next, round_called, round_counted, swapped_next, ticks_none}
 
 -- Rounds were made at the ticks that were read, as many, the last of them at this second, and their texts went this way.
-pub record SoFarOut (form : Form) (went : Backend → List (List ℕ) → Type 0) (own own_now : ℕ → History) (part part_now : Part) (beat beat_now : Object) (made : ℕ) (last : Option ℕ) : Type 0 where
+pub record SoFarOut (form : RecordForm) (went : Backend → List (List ℕ) → Type 0) (own own_now : ℕ → History) (part part_now : Part) (beat beat_now : Object) (made : ℕ) (last : Option ℕ) : Type 0 where
   pub rounds : List Round
   pub taken : TakesRounds form rounds own own_now part part_now
   pub texts : (b : Backend) → went b (map (round_text form b) rounds)
   pub count : length rounds ≡ made
-  pub given : beat.told ≡ with_ticks (map (λ r. r.ts) rounds) beat_now.told
-  pub same : beat_now ≡ record beat { told = beat_now.told; turns = beat.turns + made }
+  pub given : beat.content ≡ with_ticks (map (λ r. r.ts) rounds) beat_now.content
+  pub same : beat_now ≡ record beat { content = beat_now.content; turns = beat.turns + made }
   pub last_is : last ≡ last_second rounds
 
-module _ (form : Form) where
+module _ (form : RecordForm) where
   pub no_rounds_out : (own : ℕ → History) (part : Part) (beat : Object) (outs : Outs) → SoFarOut form (offered_by (record { graphite = 0; console = 0 }) outs outs) own own part part beat beat 0 None
   no_rounds_out own part beat outs = record {
     rounds = [];
     taken = record { swapped = Adds-none form.shards own; unused = tt; counted = none_counted part; called = sym (append-nil part.own) };
     texts = none_offered outs;
     count = refl;
-    given = ticks_none beat.told;
+    given = ticks_none beat.content;
     same = none_read beat;
     last_is = refl;
   }

@@ -8,11 +8,11 @@ use Rattle.std.proofs.lemmas.List.{map-append, length-map, same_lists, get_or_ap
 use Rattle.std.proofs.lemmas.List.FromFn.{length-map-range_with_len, get_or-map-range_with_len}
 use Rattle.sd_model_shard.specs.Shard.{Table}
 use Rattle.sd_model_shard.specs.History.{History}
-use Rattle.sd_model_serve.specs.Rounds.{swap_of}
 use Rattle.sd_flush.specs.Made.{table_at}
 use Rattle.sd_epoch.specs.Table.{Listing, table_of}
 use Rattle.sd_spares.specs.Spares.{Stock}
 use Rattle.sd_flush.specs.Swapping.{swap_at}
+use Rattle.sd_model_serve.proofs.Short.{swap_of}
 
 -- a table where none is told
 abbrev no_table : Table

@@ -2,15 +2,15 @@
 use Rattle.std.specs.Prelude.{◌≡◌, ℕ, ◌+◌, Bool, List, length, map, Option}
 use Rattle.std.specs.List.{range_with_len}
 use Rattle.sd_model_outside.specs.Outside.{Object}
-use Rattle.sd_model_outside.specs.Turns.{with_ticks}
+use Rattle.sd_model_outside.specs.Uses.{with_ticks}
 use Rattle.sd_model_settings.specs.Settings.{Names}
 use Rattle.sd_model_shard.specs.History.{History}
 use Rattle.sd_model_record.specs.Desk.{Marks}
 use Rattle.sd_shared_desk.specs.Counts.{Part}
 use Rattle.sd_model_record.specs.Backends.{Backend, Graphite, Console}
-use Rattle.sd_model_serve.specs.Ends as model
-use Rattle.sd_model_serve.specs.Ends.{EndsFlusher, Spent, Enough, WornOut}
-use Rattle.sd_model_serve.specs.Rounds.{Round, Form, last_second}
+use Rattle.sd_model_serve.specs.Receiving as model
+use Rattle.sd_model_serve.specs.Receiving.{EndsFlusher, Spent, Enough, LimitReached}
+use Rattle.sd_model_serve.specs.Rounds.{Round, RecordForm, last_second}
 use Rattle.sd_flush.specs.Made.{MakesRound, MakesRounds}
 use Rattle.sd_outside.specs.declared.backend.Backs.{Backs}
 use Rattle.sd_outside.specs.declared.datagrams.Ended.{Ended}
@@ -24,7 +24,7 @@ use Rattle.sd_pool.specs.declared.pool.Pool.{Pool}
 use Rattle.sd_flush.specs.declared.flushed.Flushed.{Flushed}
 
 -- how the records of a pool's shards are made and written
-abbrev pub form_of : Pool → Reckoning → Names → Form
+abbrev pub form_of : Pool → Reckoning → Names → RecordForm
 form_of pool plan names = record { shards = shards_of pool; plan = plan_view plan; names = names }
 
 -- whether a backend is used, by the two flags
@@ -44,7 +44,7 @@ module _ {B : Type 0} where
 
 -- A round was made at this second, with these marks, and the tables that the shards handed out are the next spares, in the order
 -- of the shards, with their rows in their places.
-pub record MakesRoundAt (form : Form) (uses_it : Backend → Bool) (ts : ℕ) (marks : Marks) (own own_now : ℕ → History) (part part_now : Part) (back back_now : Backend → Object) (waiting : List (List (Option Row))) : Type 0 where
+pub record MakesRoundAt (form : RecordForm) (uses_it : Backend → Bool) (ts : ℕ) (marks : Marks) (own own_now : ℕ → History) (part part_now : Part) (back back_now : Backend → Object) (waiting : List (List (Option Row))) : Type 0 where
   pub round : Round
   pub second : round.ts ≡ ts
   pub marks_are : round.marks ≡ marks
@@ -58,15 +58,15 @@ abbrev pub EndsSo : ℕ → Ended → Object → Object → ℕ → Type 0
 EndsSo run_flushes End old new made = EndsFlusher run_flushes Spent old new made
 EndsSo run_flushes Failed old new made = EndsFlusher run_flushes model.Failed old new made
 EndsSo run_flushes (Stopped rounds) old new made = EndsFlusher run_flushes (Enough rounds) old new made
-EndsSo run_flushes (Worn turns) old new made = EndsFlusher run_flushes (WornOut turns) old new made
+EndsSo run_flushes (Worn turns) old new made = EndsFlusher run_flushes (LimitReached turns) old new made
 
 -- The flusher made a round at each tick that the beat gave, which is otherwise as it was, and ended so, with the second of the last
 -- round.
-pub record Flushes (form : Form) (uses_it : Backend → Bool) (run_flushes : ℕ) (own own_now : ℕ → History) (part part_now : Part) (back back_now : Backend → Object) (beat beat_now : Object) (flushed : Flushed) : Type 0 where
+pub record Flushes (form : RecordForm) (uses_it : Backend → Bool) (run_flushes : ℕ) (own own_now : ℕ → History) (part part_now : Part) (back back_now : Backend → Object) (beat beat_now : Object) (flushed : Flushed) : Type 0 where
   pub rounds : List Round
   pub made : MakesRounds form uses_it rounds own own_now part part_now back back_now
-  pub given : beat.told ≡ with_ticks (map (λ r. r.ts) rounds) beat_now.told
+  pub given : beat.content ≡ with_ticks (map (λ r. r.ts) rounds) beat_now.content
   pub turns : beat_now.turns ≡ beat.turns + length rounds
-  pub same : beat_now ≡ record beat { told = beat_now.told; faults = beat_now.faults; turns = beat_now.turns }
+  pub same : beat_now ≡ record beat { content = beat_now.content; faults = beat_now.faults; turns = beat_now.turns }
   pub ends : EndsSo run_flushes flushed.ended beat beat_now (length rounds)
   pub last : flushed.last ≡ last_second rounds

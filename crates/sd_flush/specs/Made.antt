@@ -3,15 +3,15 @@ use Rattle.std.specs.Prelude.{◌≡◌, ℕ, Bool, true, List, [], ◌∷◌, �
 use Rattle.std.specs.FinMap.{empty}
 use Rattle.std.specs.List.{AllByRecursion}
 use Rattle.sd_model_outside.specs.Outside.{Object, Rose}
-use Rattle.sd_model_outside.specs.Deliveries.{Written, AfterMark, AfterDeliveries}
+use Rattle.sd_model_outside.specs.Uses.{Written, AfterMark, AfterDeliveries}
 use Rattle.sd_model_shard.specs.Shard.{Table}
 use Rattle.sd_model_shard.specs.History.{History}
-use Rattle.sd_model_record.specs.Counts.{Amounts}
+use Rattle.sd_model_record.specs.Totals.{Amounts}
 use Rattle.sd_shared_desk.specs.Counts.{Part, HasCounted, plus, of_taken, of_marks}
 use Rattle.sd_model_record.specs.Backends.{Backend, mark_of}
 use Rattle.sd_pool.specs.Adding.{Adds}
 use Rattle.sd_model_shard.specs.Whereabouts.{tables}
-use Rattle.sd_model_serve.specs.Rounds.{Form, MarksFit, Round, round_calls, round_deliveries, round_text, swaps_at}
+use Rattle.sd_model_serve.specs.Rounds.{RecordForm, MarksFit, Round, round_calls, round_deliveries, round_text, swaps_at}
 
 -- the table of shard i among tables in the order of the shards, and an empty one past their end
 abbrev pub table_at : List Table → ℕ → Table
@@ -28,7 +28,7 @@ of_rounds rounds count = sum_by (λ r. of_round r count) rounds
 -- A round was made: each shard was swapped once, the desk's tally was taken, each backend that is used was given the text of
 -- the record of both, and the desk was given the marks. A backend that is used and whose count of faults didn't rise was
 -- given the whole text.
-pub record MakesRound (form : Form) (uses : Backend → Bool) (round : Round) (own own_now : ℕ → History) (part part_now : Part) (back back_now : Backend → Object) : Type 0 where
+pub record MakesRound (form : RecordForm) (uses : Backend → Bool) (round : Round) (own own_now : ℕ → History) (part part_now : Part) (back back_now : Backend → Object) : Type 0 where
   pub swapped : Adds form.shards (swaps_at (round ∷ [])) own own_now
   pub used : MarksFit uses round
   pub delivered : (b : Backend) → AfterMark (mark_of b round.marks) (round_text form b round) (back b) (back_now b)
@@ -37,7 +37,7 @@ pub record MakesRound (form : Form) (uses : Backend → Bool) (round : Round) (o
   pub called : part_now.own ≡ part.own ++ round_calls round
 
 -- Rounds were made, one after another.
-pub record MakesRounds (form : Form) (uses : Backend → Bool) (rounds : List Round) (own own_now : ℕ → History) (part part_now : Part) (back back_now : Backend → Object) : Type 0 where
+pub record MakesRounds (form : RecordForm) (uses : Backend → Bool) (rounds : List Round) (own own_now : ℕ → History) (part part_now : Part) (back back_now : Backend → Object) : Type 0 where
   pub swapped : Adds form.shards (swaps_at rounds) own own_now
   pub used : AllByRecursion (MarksFit uses) rounds
   pub delivered : (b : Backend) → AfterDeliveries (round_deliveries form b rounds) (back b) (back_now b)

@@ -3,7 +3,6 @@ use Rattle.std.specs.Prelude.{◌≡◌, ℕ, ◌+◌, List, [], ◌∷◌, ◌+
 use Rattle.sd_model_shard.specs.Shard.{Swap, Swapped}
 use Rattle.sd_model_shard.specs.History.{History}
 use Rattle.sd_pool.specs.Adding.{Adds}
-use Rattle.sd_model_serve.specs.Rounds.{swap_of}
 use Rattle.sd_flush.specs.Made.{table_at}
 use Rattle.sd_epoch.specs.Table.{Listing, live_of, table_of}
 use Rattle.sd_record.specs.Rows.{AreDisjoint}
@@ -12,6 +11,7 @@ use Rattle.sd_pool.specs.Setup.{OnlyOf}
 use Rattle.sd_pool.specs.Pool.{Acts, act_by, own_at, shards_of}
 use Rattle.sd_pool.specs.declared.pool.Pool.{Pool}
 use Rattle.sd_pool.specs.declared.seat.Seat.{Seat}
+use Rattle.sd_model_serve.specs.Receiving.{flusher}
 
 -- Shard i was swapped for a spare table, and the table that it gave, with rows of its own keys alone, was kept.
 pub record SwapsOne (pool : Pool) (i : ℕ) (seat seat_now : Seat) (stock stock_now : Stock) : Type 0 where
@@ -23,7 +23,7 @@ pub record SwapsOne (pool : Pool) (i : ℕ) (seat seat_now : Seat) (stock stock_
 
 -- the swap of shard i, which handed out the i-th of these tables
 abbrev pub swap_at : List Listing → ℕ → History
-swap_at tables i = swap_of (table_at (map table_of tables) i) ∷ []
+swap_at tables i = record { who = flusher; event = Swap; reply = Swapped (table_at (map table_of tables) i) } ∷ []
 
 -- Each shard was swapped once, in order, and the tables that they gave were kept, with no row in two of them. No table is
 -- spare.

@@ -1,6 +1,6 @@
 ghost use Rattle.std.specs.Prelude.{◌≡◌, ◌*◌, ◌≤◌, IsTrue, length, map, sum_by, All};
 ghost use Rattle.sd_model_outside.specs.Outside.{Rose};
-ghost use Rattle.sd_model_outside.specs.Deliveries.{AfterMark, FitsUse};
+ghost use Rattle.sd_model_outside.specs.Uses.{AfterMark, FitsUse};
 ghost use Rattle.sd_model_record.specs.Backends.{console_text, graphite_text};
 ghost use Rattle.sd_model_record.specs.Record.{record_of};
 ghost use Rattle.sd_plan.specs.Plan.{plan_view};

@@ -4,16 +4,16 @@ use Rattle.sd_model_text.specs.Numbers.{number_text}
 use Rattle.sd_model_settings.specs.Settings.{Names}
 use Rattle.sd_model_settings.specs.Entries.{sends}
 use Rattle.sd_model_record.specs.Record.{Row, CounterRow, TimerRow, GaugeRow, SetRow, Record, Figure, figures_of}
-use Rattle.sd_model_record.specs.Backends.{front, line, counter_back, figure_line, row_lines, own_counter, rows_front, tail_lines}
+use Rattle.sd_model_record.specs.Backends.{path_prefix, graphite_line, counter_back, figure_line, row_lines, own_counter, tail_lines, dotted}
 use Rattle.sd_graphite.specs.declared.path.Path.{Path}
 
 -- the text of a path
 unfoldable pub path_text : Names → Path → List ℕ
-path_text names p = front names p.legacy.now p.prefix.now ++ p.key.now ++ p.back.now
+path_text names p = path_prefix names p.legacy.now p.prefix.now ++ p.key.now ++ p.back.now
 
 -- what the path of each figure of a timer begins with
-unfoldable pub timer_front : Names → List ℕ → List ℕ
-timer_front names key = front names (codes "stats.timers.") names.namespace.prefix_timer ++ key ++ 46 ∷ []
+unfoldable pub timer_prefix : Names → List ℕ → List ℕ
+timer_prefix names key = path_prefix names (codes "stats.timers.") names.namespace.prefix_timer ++ key ++ 46 ∷ []
 
 -- a text begins with another
 abbrev pub BeginsWith : List ℕ → List ℕ → Type 0
@@ -22,22 +22,22 @@ BeginsWith start text = take (length start) text ≡ start
 -- the line of a counter's count per second
 abbrev pub rate_line : Names → ℕ → List ℕ → ℤ → List ℕ
 rate_line names ts key rate =
-    line names (front names (codes "stats.") names.namespace.prefix_counter ++ key ++ counter_back names (codes ".rate")) (number_text rate) ts
+    graphite_line names (path_prefix names (codes "stats.") names.namespace.prefix_counter ++ key ++ counter_back names (codes ".rate")) (number_text rate) ts
 
 -- the line of a counter's count
 abbrev pub count_line : Names → ℕ → List ℕ → ℤ → List ℕ
 count_line names ts key count =
-    line names (front names (codes "stats_counts.") names.namespace.prefix_counter ++ key ++ counter_back names (codes ".count")) (number_text count) ts
+    graphite_line names (path_prefix names (codes "stats_counts.") names.namespace.prefix_counter ++ key ++ counter_back names (codes ".count")) (number_text count) ts
 
 -- the line of a gauge
 abbrev pub gauge_line : Names → ℕ → List ℕ → ℤ → List ℕ
 gauge_line names ts key value =
-    line names (front names (codes "stats.gauges.") names.namespace.prefix_gauge ++ key) (number_text value) ts
+    graphite_line names (path_prefix names (codes "stats.gauges.") names.namespace.prefix_gauge ++ key) (number_text value) ts
 
 -- the line of a set
 abbrev pub set_line : Names → ℕ → List ℕ → ℕ → List ℕ
 set_line names ts key count =
-    line names (front names (codes "stats.sets.") names.namespace.prefix_set ++ key ++ codes ".count") (decimal count) ts
+    graphite_line names (path_prefix names (codes "stats.sets.") names.namespace.prefix_set ++ key ++ codes ".count") (decimal count) ts
 
 -- the line of a timer's figure, or nothing where its class isn't sent
 abbrev pub sent_line : Names → List (List ℕ) → ℕ → List ℕ → Figure → List ℕ
@@ -60,7 +60,7 @@ own_text names r name number = own_counter names r name number
 
 -- the line of the number of rows
 unfoldable pub rows_line : Names → ℕ → ℕ → List ℕ
-rows_line names rows ts = line names (rows_front names ++ names.prefix_stats ++ codes ".numStats") (decimal rows) ts
+rows_line names rows ts = graphite_line names ((if names.namespace.legacy then [] else dotted names.namespace.global_prefix) ++ names.prefix_stats ++ codes ".numStats") (decimal rows) ts
 
 -- the lines at the end of a record
 unfoldable pub tail_text : Names → Record → List ℕ

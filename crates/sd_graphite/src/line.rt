@@ -1,7 +1,7 @@
 ghost use Rattle.std.specs.Prelude.{◌≡◌, ◌+◌, ◌≤◌, ◌++◌, length};
 ghost use Rattle.arrayvec.specs.ArrayVec.{array_vec_len};
 ghost use Rattle.sd_model_text.specs.Numbers.{number_text};
-ghost use Rattle.sd_model_record.specs.Backends.{dotted, suffix, front, line as line_text};
+ghost use Rattle.sd_model_record.specs.Backends.{dotted, suffix, path_prefix, graphite_line as line_text};
 ghost use Rattle.sd_graphite.specs.Texts.{path_text, BeginsWith};
 
 use crate::path::Path;
@@ -25,11 +25,11 @@ fn push_dotted(part: &[u8], line: &mut Line)
 }
 
 /// Appends what stands before a key.
-fn push_front(names: &Names, legacy: &[u8], prefix: &[u8], line: &mut Line)
+fn push_path_prefix(names: &Names, legacy: &[u8], prefix: &[u8], line: &mut Line)
     requires legacy { length legacy.now ≤ 64 }
     requires prefix { length prefix.now ≤ 64 }
     requires room { array_vec_len line.old ≤ 256 }
-    ensures text { line.new.items ≡ line.old.items ++ front names.now legacy.now prefix.now }
+    ensures text { line.new.items ≡ line.old.items ++ path_prefix names.now legacy.now prefix.now }
     ensures len { array_vec_len line.new ≤ array_vec_len line.old + 130 }
 {
     let namespace = names.namespace();
@@ -61,7 +61,7 @@ pub(crate) fn begin(names: &Names, path: &Path<'_>, line: &mut Line)
     ensures len { array_vec_len line.new ≤ 450 }
 {
     line.clear();
-    push_front(names, path.legacy, path.prefix, line);
+    push_path_prefix(names, path.legacy, path.prefix, line);
     push_text(path.key, line);
     push_text(path.back, line);
 }
@@ -76,10 +76,10 @@ fn dotted_len(part: &[u8]) -> usize
 }
 
 /// How many bytes stand before a key.
-fn front_len(names: &Names, legacy: &[u8], prefix: &[u8]) -> usize
+fn path_prefix_len(names: &Names, legacy: &[u8], prefix: &[u8]) -> usize
     requires legacy { length legacy.now ≤ 64 }
     requires prefix { length prefix.now ≤ 64 }
-    ensures len { result ≡ length (front names.now legacy.now prefix.now) }
+    ensures len { result ≡ length (path_prefix names.now legacy.now prefix.now) }
     ensures few { result ≤ 130 }
 {
     let namespace = names.namespace();
@@ -95,8 +95,8 @@ pub(crate) fn keep(names: &Names, path: &Path<'_>, line: &mut Line)
     ensures text { line.new.items ≡ path_text names.now path.now }
     ensures len { array_vec_len line.new ≤ 450 }
 {
-    let front = front_len(names, path.legacy, path.prefix);
-    line.truncate(front + path.key.len() + path.back.len());
+    let path_prefix = path_prefix_len(names, path.legacy, path.prefix);
+    line.truncate(path_prefix + path.key.len() + path.back.len());
 }
 
 /// Ends a line behind its path with the suffix, a number and the second.

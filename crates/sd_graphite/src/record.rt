@@ -16,7 +16,7 @@ use sd_text::write_rows;
 ///
 /// # Errors
 ///
-/// `WriteFault` where the sink failed. Then a front of the text was appended.
+/// `WriteFault` where the sink failed. Then a prefix of the text was appended.
 pub fn write_record<K: Sink>(
     rec: &mut Record<'_>,
     names: &Names,

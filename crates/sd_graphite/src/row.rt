@@ -1,7 +1,7 @@
 ghost use Rattle.std.specs.Prelude.{◌≡◌, ◌≢◌, ◌<◌, ◌≤◌, [], length, IsTrue};
 ghost use Rattle.arrayvec.specs.ArrayVec.{array_vec_len};
 ghost use Rattle.sd_model_record.specs.Backends.{counter_back, figure_line};
-ghost use Rattle.sd_graphite.specs.Texts.{path_text, timer_front, BeginsWith, rate_line, count_line, sent_line, gauge_line, set_line};
+ghost use Rattle.sd_graphite.specs.Texts.{path_text, timer_prefix, BeginsWith, rate_line, count_line, sent_line, gauge_line, set_line};
 
 use crate::line::{begin, end, keep, put_path};
 use crate::path::Path;
@@ -108,7 +108,7 @@ fn is_begun(place: usize, line: &Line) -> bool
 
 /// What the path of each figure of a timer begins with.
 fn timer_path<'a>(key: &'a Key, names: &'a Names) -> Path<'a>
-    ensures { path_text names.now result ≡ timer_front names.now key.now }
+    ensures { path_text names.now result ≡ timer_prefix names.now key.now }
 {
     Path {
         legacy: b"stats.timers.",
@@ -121,8 +121,8 @@ fn timer_path<'a>(key: &'a Key, names: &'a Names) -> Path<'a>
 /// Puts what the path of each figure of a timer begins with into `line`, in place of what it has: where it begins with that
 /// already, the rest goes.
 fn begin_figure(key: &Key, names: &Names, is_begun: bool, line: &mut Line)
-    requires { IsTrue is_begun → BeginsWith (timer_front names.now key.now) line.old.items }
-    ensures text { line.new.items ≡ timer_front names.now key.now }
+    requires { IsTrue is_begun → BeginsWith (timer_prefix names.now key.now) line.old.items }
+    ensures text { line.new.items ≡ timer_prefix names.now key.now }
     ensures len { array_vec_len line.new ≤ 450 }
 {
     let path = timer_path(key, names);
@@ -142,7 +142,7 @@ fn put_figure(
     is_begun: bool,
     line: &mut Line,
 )
-    requires { IsTrue is_begun → BeginsWith (timer_front names.now key.now) line.old.items }
+    requires { IsTrue is_begun → BeginsWith (timer_prefix names.now key.now) line.old.items }
     ensures { line.new.items ≡ figure_line names.now second.now key.now figure.now }
 {
     begin_figure(key, names, is_begun, line);
@@ -159,7 +159,7 @@ fn put_sent(
     is_begun: bool,
     line: &mut Line,
 )
-    requires { IsTrue is_begun → BeginsWith (timer_front form.now.names.now key.now) line.old.items }
+    requires { IsTrue is_begun → BeginsWith (timer_prefix form.now.names.now key.now) line.old.items }
     ensures { line.new.items ≡ sent_line form.now.names.now form.now.calculated.now form.now.second.now key.now figure.now }
 {
     if form.calculated.sends(figure.class()) {

@@ -7,13 +7,14 @@ use Rattle.std.proofs.lemmas.List.{map-append, take_all, take-append-le, length_
 use Rattle.std.proofs.lemmas.List.Elements.{filter-append}
 use Rattle.std.proofs.lemmas.List.Sums.{AllPass-from_list_all, fold_push}
 use Rattle.sd_model_text.specs.Lists.{is_white_space}
-use Rattle.sd_model_text.specs.Names.{as_key, clean, is_name_byte, underscored, dashed, cleaned}
+use Rattle.sd_model_text.specs.Names.{as_key, clean, is_name_byte, underscored, cleaned}
 use Rattle.sd_model_text.proofs.NamesLemmas.{as_key-fits, cleaned-names}
 use Rattle.sd_key.specs.Clean.{ends_blank}
+use Rattle.sd_model_text.proofs.Short.{dashed}
 
 -- what that byte adds
 abbrev pub piece : List ℕ → ℕ → List ℕ
-piece front b = cond (is_white_space b) (cond (ends_blank front) [] (95 ∷ [])) (b ∷ [])
+piece prefix b = cond (is_white_space b) (cond (ends_blank prefix) [] (95 ∷ [])) (b ∷ [])
 
 -- one byte and then another, where v and w say whether they are white space
 two_bytes :
@@ -33,7 +34,7 @@ before_more true false x old more new h = ap (λ xs. 95 ∷ xs) h
 before_more false w x old more new h = ap (λ xs. x ∷ xs) h
 
 -- one more byte at the end of a name, as far as white space goes
-pub underscored-push : (front : List ℕ) (b : ℕ) → underscored (front ++ b ∷ []) ≡ underscored front ++ piece front b
+pub underscored-push : (prefix : List ℕ) (b : ℕ) → underscored (prefix ++ b ∷ []) ≡ underscored prefix ++ piece prefix b
 underscored-push [] b = refl
 underscored-push (x ∷ []) b = two_bytes (is_white_space x) (is_white_space b) x b
 underscored-push (x ∷ y ∷ ys) b =
@@ -41,20 +42,20 @@ underscored-push (x ∷ y ∷ ys) b =
 
 -- what one more byte of a name adds to its key
 pub cleaned-push :
-    (front : List ℕ) (b : ℕ) → cleaned (front ++ b ∷ []) ≡ cleaned front ++ filter is_name_byte (dashed (piece front b))
-cleaned-push front b =
-    rw (underscored-push front b, map-append, filter-append) refl
+    (prefix : List ℕ) (b : ℕ) → cleaned (prefix ++ b ∷ []) ≡ cleaned prefix ++ filter is_name_byte (dashed (piece prefix b))
+cleaned-push prefix b =
+    rw (underscored-push prefix b, map-append, filter-append) refl
 
 -- white space adds a `_`, unless white space stands before it
 pub cleaned-push_blank :
-    (front : List ℕ) (b : ℕ) (after_blank : Bool) → ends_blank front ≡ after_blank → is_white_space b ≡ true →
-    cleaned (front ++ b ∷ []) ≡ cleaned front ++ option_to_list (then_some (not after_blank) 95)
-cleaned-push_blank front b true after blank = rw (cleaned-push front b, blank, after) refl
-cleaned-push_blank front b false after blank = rw (cleaned-push front b, blank, after) refl
+    (prefix : List ℕ) (b : ℕ) (after_blank : Bool) → ends_blank prefix ≡ after_blank → is_white_space b ≡ true →
+    cleaned (prefix ++ b ∷ []) ≡ cleaned prefix ++ option_to_list (then_some (not after_blank) 95)
+cleaned-push_blank prefix b true after blank = rw (cleaned-push prefix b, blank, after) refl
+cleaned-push_blank prefix b false after blank = rw (cleaned-push prefix b, blank, after) refl
 
 -- a slash adds `-`
-pub cleaned-push_slash : (front : List ℕ) (b : ℕ) → b ≡ 47 → cleaned (front ++ b ∷ []) ≡ cleaned front ++ 45 ∷ []
-cleaned-push_slash front b slash = rw (slash, cleaned-push front 47) refl
+pub cleaned-push_slash : (prefix : List ℕ) (b : ℕ) → b ≡ 47 → cleaned (prefix ++ b ∷ []) ≡ cleaned prefix ++ 45 ∷ []
+cleaned-push_slash prefix b slash = rw (slash, cleaned-push prefix 47) refl
 
 -- a list of one element or none
 one_or_none : (keeps : Bool) (b : ℕ) → cond keeps (b ∷ []) [] ≡ option_to_list (then_some keeps b)
@@ -63,14 +64,14 @@ one_or_none false b = refl
 
 -- another byte adds itself where it is a byte of names
 pub cleaned-push_other :
-    (front : List ℕ) (b : ℕ) → is_white_space b ≡ false → b == 47 ≡ false →
-    cleaned (front ++ b ∷ []) ≡ cleaned front ++ option_to_list (then_some (is_name_byte b) b)
-cleaned-push_other front b other no_slash =
-    rw (cleaned-push front b, other, no_slash) (ap (λ xs. cleaned front ++ xs) (one_or_none (is_name_byte b) b))
+    (prefix : List ℕ) (b : ℕ) → is_white_space b ≡ false → b == 47 ≡ false →
+    cleaned (prefix ++ b ∷ []) ≡ cleaned prefix ++ option_to_list (then_some (is_name_byte b) b)
+cleaned-push_other prefix b other no_slash =
+    rw (cleaned-push prefix b, other, no_slash) (ap (λ xs. cleaned prefix ++ xs) (one_or_none (is_name_byte b) b))
 
--- whether the front ends with white space, after one more byte
-pub ends_blank-push : (front : List ℕ) (b : ℕ) → ends_blank (front ++ b ∷ []) ≡ is_white_space b
-ends_blank-push front b = fold_push (λ _ x. is_white_space x) false front b
+-- whether the prefix ends with white space, after one more byte
+pub ends_blank-push : (prefix : List ℕ) (b : ℕ) → ends_blank (prefix ++ b ∷ []) ≡ is_white_space b
+ends_blank-push prefix b = fold_push (λ _ x. is_white_space x) false prefix b
 
 -- one more element goes on the end while there is room
 pub take-push_room : (n : ℕ) (xs : List ℕ) (x : ℕ) → length (take n xs) < n → take n (xs ++ x ∷ []) ≡ take n xs ++ x ∷ []

@@ -81,8 +81,8 @@ fn clean_each(name: &[u8]) -> Result<Key, KeyFault>
 
 /// What a byte of a name leaves in its key, where `after_blank` says whether white space stands before it.
 fn kept(b: u8, after_blank: bool) -> Option<u8>
-    ensures { (front : List ℕ) → ends_blank front ≡ after_blank
-        → cleaned (front ++ b ∷ []) ≡ cleaned front ++ option_to_list result }
+    ensures { (prefix : List ℕ) → ends_blank prefix ≡ after_blank
+        → cleaned (prefix ++ b ∷ []) ≡ cleaned prefix ++ option_to_list result }
 {
     if is_white_space(b) {
         (!after_blank).then_some(b'_')

@@ -7,15 +7,16 @@ use Rattle.std.proofs.lemmas.Bool.{cond-true}
 use Rattle.std.proofs.lemmas.Bool.Decides.{nat_tests}
 use Rattle.std.proofs.Math.ListN.{get_or-map}
 use Rattle.std.proofs.Math.Seq.{map-set_same}
-use Rattle.sd_model_outside.specs.Outside.{File, HasRead, Interval, IsAtEnd, Left, Object, Place, Rose, Told, Untold, fresh, left_in, opened, put_back, telling}
-use Rattle.sd_model_outside.specs.Turns.{with_interval}
+use Rattle.sd_model_outside.specs.Outside.{File, HasRead, Interval, IsAtEnd, Left, Object, Place, Rose, Content, Unknown, fresh, left_in, opened, put_back, telling}
 use Rattle.sd_model_settings.specs.Settings.{Settings, OutOfRange, SettingsFlaw, settings, settings_by}
-use Rattle.sd_model_call.specs.Opening.{World, Opening, Part, OfSettings, OfScript, OfSource, OfBeat, OfWire, OfGraphite, OfConsole, OfDoor, OfStreams, AreRead, IsAccepted, IsFlawed, IsNotOpenedAt, longest_file, numbered, opened_all, opened_part, part_in, settled, with_part}
+use Rattle.sd_model_call.specs.Opening.{World, Opening, Part, OfSettings, OfScript, OfSource, OfBeat, OfWire, OfGraphite, OfConsole, OfDoor, OfStreams, AreRead, IsAccepted, IsFlawed, IsNotOpenedAt, longest_file, numbered, opened_all, part_in, settled, with_part}
 use Rattle.sd_model_call.specs.Call.{Answer, Done, NoMemory, NoForm, Misset, BadScript, NotOpened, NotRead, NotWritten, Worn, IsNotTaken, NotBegun, NotTaken, StopsAmong, cut_answer}
 use Rattle.sd_model_call.specs.Server.{begun_with}
 use Rattle.sd_law_call.specs.ServerCompleteness.{HasFaultOf, IsReadToRun, RunsFreely}
 use Rattle.sd_law_call.proofs.Openings.{all_behind}
 use Rattle.sd_law_call.proofs.ReplayEnds.{LeftBehind, left_behind}
+use Rattle.sd_model_call.proofs.Short.{opened_part}
+use Rattle.sd_model_outside.proofs.Short.{with_interval}
 
 -- a file that is too long has that flaw
 too_long : (bytes : List ℕ) → longest_file < length bytes → settings bytes ≡ Err (OutOfRange (codes "file"))
@@ -23,15 +24,15 @@ unfolding settings settings_by
 too_long bytes long = cond-true (nat_lt 65536 (length bytes)) _ _ (grind (arith, nat_tests))
 
 -- what was read of settings that tell their bytes says what these say
-says_so : (place : Place) (bytes read : List ℕ) (old new : Object) → old.told ≡ Left bytes → AreRead place read old new → settings read ≡ settings bytes
-says_so place bytes read old new told h = by_decided h.decided where
-  rest : LeftBehind read bytes new.told
-  rest = left_behind read bytes new.told (sym told ∙ ap (λ (o : Object). o.told) h.read)
+says_so : (place : Place) (bytes read : List ℕ) (old new : Object) → old.content ≡ Left bytes → AreRead place read old new → settings read ≡ settings bytes
+says_so place bytes read old new content h = by_decided h.decided where
+  rest : LeftBehind read bytes new.content
+  rest = left_behind read bytes new.content (sym content ∙ ap (λ (o : Object). o.content) h.read)
 
-  at_end : IsAtEnd new.told → rest.bytes ≡ []
-  at_end ended = subst (λ (t : Told). IfSome (left_in t) (λ bs. bs ≡ [])) rest.is ended
+  at_end : IsAtEnd new.content → rest.bytes ≡ []
+  at_end ended = subst (λ (t : Content). IfSome (left_in t) (λ bs. bs ≡ [])) rest.is ended
 
-  by_decided : IsAtEnd new.told ⊎ (longest_file < length read) → settings read ≡ settings bytes
+  by_decided : IsAtEnd new.content ⊎ (longest_file < length read) → settings read ≡ settings bytes
   by_decided (inl ended) = ap settings (sym (rest.stands ∙ ap (λ more. read ++ more) (at_end ended) ∙ append-nil read))
   by_decided (inr long) = too_long read long ∙ sym (too_long bytes (omega (arith, long, ap length rest.stands, length-append read rest.bytes)))
 
@@ -49,9 +50,9 @@ pub record Same {X : Type 0} (f : Object → X) (a b : World) : Type 0 where
   pub output : a.seen.output ≡ b.seen.output
 
 module _ {X : Type 0} (f : Object → X) where
-  pub at_same : (i : ℕ) (xs ys : List Object) → map f xs ≡ map f ys → f (get_or xs i (fresh Untold)) ≡ f (get_or ys i (fresh Untold))
+  pub at_same : (i : ℕ) (xs ys : List Object) → map f xs ≡ map f ys → f (get_or xs i (fresh Unknown)) ≡ f (get_or ys i (fresh Unknown))
   at_same i xs ys same =
-      sym (get_or-map f xs i (fresh Untold)) ∙ ap (λ ns. get_or ns i (f (fresh Untold))) same ∙ get_or-map f ys i (fresh Untold)
+      sym (get_or-map f xs i (fresh Unknown)) ∙ ap (λ ns. get_or ns i (f (fresh Unknown))) same ∙ get_or-map f ys i (fresh Unknown)
 
   pub same_part : (a b : World) → Same f a b → (part : Part) → f (part_in a part) ≡ f (part_in b part)
   same_part a b h OfSettings = h.settings
@@ -85,9 +86,9 @@ module _ {X : Type 0} (f : Object → X) where
     same_opened : (w : World) (place : Place) (part : Part) → Same f (with_part part (opened place (part_in w part)) w) w
     same_opened w place OfSettings = record { settings = keeps place w.settings; script = refl; sources = refl; beat = refl; wires = refl; graphite = refl; console = refl; door = refl; streams = refl; output = refl }
     same_opened w place OfScript = record { settings = refl; script = keeps place w.seen.script; sources = refl; beat = refl; wires = refl; graphite = refl; console = refl; door = refl; streams = refl; output = refl }
-    same_opened w place (OfSource i) = record { settings = refl; script = refl; sources = map-set_same f w.served.sources i _ (fresh Untold) (keeps place _); beat = refl; wires = refl; graphite = refl; console = refl; door = refl; streams = refl; output = refl }
+    same_opened w place (OfSource i) = record { settings = refl; script = refl; sources = map-set_same f w.served.sources i _ (fresh Unknown) (keeps place _); beat = refl; wires = refl; graphite = refl; console = refl; door = refl; streams = refl; output = refl }
     same_opened w place OfBeat = record { settings = refl; script = refl; sources = refl; beat = keeps place w.served.beat; wires = refl; graphite = refl; console = refl; door = refl; streams = refl; output = refl }
-    same_opened w place (OfWire i) = record { settings = refl; script = refl; sources = refl; beat = refl; wires = map-set_same f w.seen.wires i _ (fresh Untold) (keeps place _); graphite = refl; console = refl; door = refl; streams = refl; output = refl }
+    same_opened w place (OfWire i) = record { settings = refl; script = refl; sources = refl; beat = refl; wires = map-set_same f w.seen.wires i _ (fresh Unknown) (keeps place _); graphite = refl; console = refl; door = refl; streams = refl; output = refl }
     same_opened w place OfGraphite = record { settings = refl; script = refl; sources = refl; beat = refl; wires = refl; graphite = keeps place w.seen.graphite; console = refl; door = refl; streams = refl; output = refl }
     same_opened w place OfConsole = record { settings = refl; script = refl; sources = refl; beat = refl; wires = refl; graphite = refl; console = keeps place w.seen.console; door = refl; streams = refl; output = refl }
     same_opened w place OfDoor = record { settings = refl; script = refl; sources = refl; beat = refl; wires = refl; graphite = refl; console = refl; door = keeps place w.served.door; streams = refl; output = refl }
@@ -110,9 +111,9 @@ all_numbered P part are i [] = tt
 all_numbered P part are i (p ∷ places) = (are i, all_numbered P part are (i + 1) places)
 
 -- reading settings keeps a count that opening keeps, and that what is told doesn't touch
-module _ {X : Type 0} (f : Object → X) (opens : (place : Place) (o : Object) → f (opened place o) ≡ f o) (tells : (told : Told) (o : Object) → f (telling told o) ≡ f o) where
+module _ {X : Type 0} (f : Object → X) (opens : (place : Place) (o : Object) → f (opened place o) ≡ f o) (tells : (content : Content) (o : Object) → f (telling content o) ≡ f o) where
   read_same : (bytes : List ℕ) (place : Place) (o n : Object) → HasRead bytes (opened place o) n → f n ≡ f o
-  read_same bytes place o n read = sym (tells (put_back bytes n.told) n) ∙ sym (ap f read) ∙ opens place o
+  read_same bytes place o n read = sym (tells (put_back bytes n.content) n) ∙ sym (ap f read) ∙ opens place o
 
   pub same_settled : (values : Settings) (settings : Object) (name : List ℕ) (w : World) → IsAccepted values (File name) w.settings settings → Same f (settled values settings w) w
   same_settled values settings name w taken = record {
@@ -129,7 +130,7 @@ module _ {X : Type 0} (f : Object → X) (opens : (place : Place) (o : Object) �
   }
 
 -- so does what comes before workers begin, where starting the beat keeps it too
-module _ {X : Type 0} (f : Object → X) (opens : (place : Place) (o : Object) → f (opened place o) ≡ f o) (tells : (told : Told) (o : Object) → f (telling told o) ≡ f o) (starts : (interval : Interval) (o : Object) → f (with_interval interval o) ≡ f o) where
+module _ {X : Type 0} (f : Object → X) (opens : (place : Place) (o : Object) → f (opened place o) ≡ f o) (tells : (content : Content) (o : Object) → f (telling content o) ≡ f o) (starts : (interval : Interval) (o : Object) → f (with_interval interval o) ≡ f o) where
   same_begun : (parts : List Opening) (interval : Interval) (w : World) → Same f (begun_with parts interval w) w
   same_begun parts interval w =
       let all = same_all f opens parts w in
@@ -154,7 +155,7 @@ module _ (name : List ℕ) (old new : World) (values : Settings) (settings : Obj
   settled_part : (part : Part) (os : List Opening) → (part_in (opened_all (settled values settings old) os) part).faults ≡ (part_in old part).faults
   settled_part part os =
       same_part (λ o. o.faults) _ old
-      (same_next (λ o. o.faults) _ _ old (same_all (λ o. o.faults) (λ place o. refl) os (settled values settings old)) (same_settled (λ o. o.faults) (λ place o. refl) (λ told o. refl) values settings name old taken)) part
+      (same_next (λ o. o.faults) _ _ old (same_all (λ o. o.faults) (λ place o. refl) os (settled values settings old)) (same_settled (λ o. o.faults) (λ place o. refl) (λ content o. refl) values settings name old taken)) part
 
   -- a part whose opening failed is of the kind of all, and a fault of it was counted
   not_opened : (P : Part → Type 0) (parts : List Opening) → AllByRecursion (λ o. P o.part) parts → (part : Part) → IsNotOpenedAt parts part (settled values settings old) new → P part × HasFaultOf part old new
@@ -164,12 +165,12 @@ module _ (name : List ℕ) (old new : World) (values : Settings) (settings : Obj
   )
 
 -- what was read of settings that tell these bytes is what these say
-module _ (name : List ℕ) (bytes : List ℕ) (old : World) (told : old.settings.told ≡ Left bytes) where
+module _ (name : List ℕ) (bytes : List ℕ) (old : World) (content : old.settings.content ≡ Left bytes) where
   pub has_flaw : (flaw : SettingsFlaw) (now : Object) → IsFlawed flaw (File name) old.settings now → settings bytes ≡ Err flaw
-  has_flaw flaw now has = sym (says_so (File name) bytes has.bytes old.settings now told has.read) ∙ has.refused
+  has_flaw flaw now has = sym (says_so (File name) bytes has.bytes old.settings now content has.read) ∙ has.refused
 
   pub accepted_so : (values : Settings) (now : Object) → IsAccepted values (File name) old.settings now → settings bytes ≡ Ok values
-  accepted_so values now taken = sym (says_so (File name) bytes taken.bytes old.settings now told taken.read) ∙ taken.accepted
+  accepted_so values now taken = sym (says_so (File name) bytes taken.bytes old.settings now content taken.read) ∙ taken.accepted
 
 -- What holds of an answer where a call didn't begin what it was asked for, by its cause.
 module _ (name : List ℕ) (old new : World) (Says : Answer → Type 0) (lacks : Says NoMemory) where

@@ -4,33 +4,30 @@ use Rattle.std.specs.Prelude.{if◌then◌else◌, flat_map, sum_by}
 use Rattle.std.specs.List.{AllByRecursion, range_with_len}
 use Rattle.std.proofs.lemmas.List.Sums.{sum_by-cons}
 use Rattle.sd_model_outside.specs.Outside.{Number, Object, Rose, HasFailedBehind, appended, begun, ended, given, last_count}
-use Rattle.sd_model_outside.specs.Deliveries.{Mark, NotUsed, Written, Fault, Delivery, AfterMark, AfterDeliveries}
-use Rattle.sd_model_replay.specs.Settings.{bounds_of, is_used}
+use Rattle.sd_model_outside.specs.Uses.{Mark, NotUsed, Written, Fault, Delivery, AfterMark, AfterDeliveries}
+use Rattle.sd_model_replay.specs.Replay.{bounds_of, is_used, Played, Run, first_run, play, deliveries, moments}
 use Rattle.sd_model_record.specs.Backends.{Backend, Graphite, Console}
-use Rattle.sd_model_replay.specs.Script.{Command, Packet, Flush, Admin, end_word}
+use Rattle.sd_model_replay.specs.Script.{ScriptCommand, Packet, Flush, Admin, end_word}
 use Rattle.sd_model_replay.specs.MadeScript.{made_commands, made_moment, made_packet, flush_behind}
-use Rattle.sd_model_replay.specs.Replay.{Played, Run, first_run, play, deliveries, moments}
 use Rattle.sd_model_settings.specs.Settings.{default_settings, Settings}
 use Rattle.sd_model_settings.proofs.OnLiterals.{defaults_on_literals}
-use Rattle.sd_model_call.specs.Drill.{well, well_mark, bytes_counted, drill_start, drilled}
-use Rattle.sd_model_replay.specs.Asked.{output_in, output_of}
+use Rattle.sd_model_call.specs.Drill.{well, bytes_counted, drill_start, drilled}
+use Rattle.sd_model_replay.specs.AccountingTheorem.{output_in, output_of, totals_after, Seen, ReplayTrace, AccountingTheorem, seen_at, End, Complete, EndsAs}
 use Rattle.sd_model_record.specs.Totals.{totals_text}
-use Rattle.sd_model_replay.specs.Totals.{totals_after}
-use Rattle.sd_model_replay.specs.AccountingTheorem.{Seen, Course, AccountingTheorem, seen_at}
-use Rattle.sd_model_replay.specs.Ends.{End, Complete, EndsAs, most_records}
-use Rattle.sd_model_call.specs.Words.{most_packets}
 use Rattle.sd_law_call.specs.Completeness.{IsSteady, NoneMissed}
 use Rattle.sd_model_replay.proofs.MadeLemmas.{legal_commands}
 use Rattle.sd_model_outside.proofs.WriteLemmas.{behind-later}
-use Rattle.sd_law_call.proofs.ReplayEnds.{IsSilent, all_carried_out, commands_of, deliveries_from, ends_whole, no_reply, played_well, silent_in}
+use Rattle.sd_law_call.proofs.ReplayEnds.{IsSilent, all_executed, commands_of, deliveries_from, ends_whole, no_reply, played_well, silent_in}
 use Rattle.sd_model_call.proofs.DrillEnds.{DrillEnd, drill_totals}
+use Rattle.sd_model_serve.specs.Receiving.{most_turns}
+use Rattle.sd_model_call.proofs.Short.{well_mark, most_packets}
 
 -- the flush behind a packet, before others: one record more at most, to which nothing is replied
-flush_by_length : (b : Bool) (ts n : ℕ) (behind : List Command) → length behind ≤ n → length ((if b then Flush ts ∷ [] else []) ++ behind) ≤ n + 1
+flush_by_length : (b : Bool) (ts n : ℕ) (behind : List ScriptCommand) → length behind ≤ n → length ((if b then Flush ts ∷ [] else []) ++ behind) ≤ n + 1
 flush_by_length true ts n behind few = omega (arith, few)
 flush_by_length false ts n behind few = omega (arith, few)
 
-flush_by_silent : (b : Bool) (ts : ℕ) (behind : List Command) → AllByRecursion IsSilent behind → AllByRecursion IsSilent ((if b then Flush ts ∷ [] else []) ++ behind)
+flush_by_silent : (b : Bool) (ts : ℕ) (behind : List ScriptCommand) → AllByRecursion IsSilent behind → AllByRecursion IsSilent ((if b then Flush ts ∷ [] else []) ++ behind)
 flush_by_silent true ts behind all = (tt, all)
 flush_by_silent false ts behind all = all
 
@@ -74,24 +71,24 @@ IsWritten d = d.mark ≡ Written
 min_min : (a b c : ℕ) → min (min (a + b) last_count + c) last_count ≡ min (a + (b + c)) last_count
 min_min a b c = omega arith
 
-count_one : (mark : Mark) (text : List ℕ) (k : ℕ) (old new : Object) → mark ≡ Written → old.told ≡ Number k → AfterMark mark text old new → new.told ≡ Number (min (k + length text) last_count)
-count_one Written text k old new is told h = ap (λ (o : Object). o.told) h ∙ ap (λ w. ended (appended (begun w) text)) told
-count_one NotUsed text k old new is told h = absurd (cc)
-count_one Fault text k old new is told h = absurd (cc)
+count_one : (mark : Mark) (text : List ℕ) (k : ℕ) (old new : Object) → mark ≡ Written → old.content ≡ Number k → AfterMark mark text old new → new.content ≡ Number (min (k + length text) last_count)
+count_one Written text k old new is content h = ap (λ (o : Object). o.content) h ∙ ap (λ w. ended (appended (begun w) text)) content
+count_one NotUsed text k old new is content h = absurd (cc)
+count_one Fault text k old new is content h = absurd (cc)
 
 abbrev length_of : Delivery → ℕ
 length_of d = length d.text
 
-count_all : (ds : List Delivery) (k : ℕ) (old new : Object) → k ≤ last_count → AllByRecursion IsWritten ds → old.told ≡ Number k → AfterDeliveries ds old new → new.told ≡ Number (min (k + sum_by length_of ds) last_count)
-count_all [] k old new fits all told h = ap (λ (o : Object). o.told) h ∙ told ∙ ap Number (omega (arith, fits))
-count_all (d ∷ ds) k old new fits all told (mid, one, others) =
-    let first = count_one d.mark d.text k old mid all.0 told one in
+count_all : (ds : List Delivery) (k : ℕ) (old new : Object) → k ≤ last_count → AllByRecursion IsWritten ds → old.content ≡ Number k → AfterDeliveries ds old new → new.content ≡ Number (min (k + sum_by length_of ds) last_count)
+count_all [] k old new fits all content h = ap (λ (o : Object). o.content) h ∙ content ∙ ap Number (omega (arith, fits))
+count_all (d ∷ ds) k old new fits all content (mid, one, others) =
+    let first = count_one d.mark d.text k old mid all.0 content one in
     count_all ds (min (k + length d.text) last_count) mid new (omega arith) all.1 first others
     ∙ ap Number (min_min k (length d.text) (sum_by length_of ds) ∙ ap (λ n. min (k + n) last_count) (sym (sum_by-cons length_of d ds)))
 
--- flushes of records that are carried out well are written where Graphite is used
+-- flushes of records that are executed well are written where Graphite is used
 module _ (s : Settings) (used : is_used s Graphite ≡ true) where
-  all_written : (run : Run) (cs : List Command) → AllByRecursion IsWritten (deliveries_from s run Graphite (map (well s) cs))
+  all_written : (run : Run) (cs : List ScriptCommand) → AllByRecursion IsWritten (deliveries_from s run Graphite (map (well s) cs))
   all_written run [] = tt
   all_written run (Packet who moment datagram ∷ cs) = all_written (play (bounds_of s) run (well s (Packet who moment datagram))) cs
   all_written run (Flush ts ∷ cs) = (ap well_mark used, all_written (play (bounds_of s) run (well s (Flush ts))) cs)
@@ -101,13 +98,13 @@ uses_graphite : is_used default_settings Graphite ≡ true
 unfolding defaults_on_literals
 uses_graphite = refl
 
-module _ (n : ℕ) (few : n ≤ most_packets) (output : Object) (new : Seen) (script_faults : new.script.faults ≡ 0) (graphite_faults : new.graphite.faults ≡ 0) (course : Course)
-    (theorem : AccountingTheorem default_settings course (drill_start n output) new) where
+module _ (n : ℕ) (few : n ≤ most_packets) (output : Object) (new : Seen) (script_faults : new.script.faults ≡ 0) (graphite_faults : new.graphite.faults ≡ 0) (trace : ReplayTrace)
+    (theorem : AccountingTheorem default_settings trace (drill_start n output) new) where
   steady : IsSteady default_settings (drill_start n output) new (made_commands n) (end_word ++ [])
   unfolding defaults_on_literals
   steady = record { script = refl; legal = legal_commands n (omega (arith, few)); script_faults = λ rose. absurd (omega (arith, rose, script_faults)) }
 
-  few_records : length (made_commands n) < most_records
+  few_records : length (made_commands n) < most_turns
   few_records = omega (arith, few, length-made n)
 
   none_missed : NoneMissed default_settings (drill_start n output) new
@@ -117,26 +114,26 @@ module _ (n : ℕ) (few : n ≤ most_packets) (output : Object) (new : Seen) (sc
     backends Graphite used rose = absurd (omega (arith, rose, graphite_faults))
     backends Console used rose = absurd (cc)
 
-  all_played : commands_of course.played ≡ made_commands n → course.played ≡ drilled n
+  all_played : commands_of trace.played ≡ made_commands n → trace.played ≡ drilled n
   unfolding drilled
-  all_played is = played_well default_settings (drill_start n output) new course theorem none_missed ∙ ap (map (well default_settings)) is
+  all_played is = played_well default_settings (drill_start n output) new trace theorem none_missed ∙ ap (map (well default_settings)) is
 
   all_silent : AllByRecursion IsSilent (commands_of (drilled n))
   unfolding drilled
   all_silent = subst (AllByRecursion IsSilent) (commands_well (made_commands n)) (made_silent n) where
-    command_well : (c : Command) → c ≡ (well default_settings c).command
+    command_well : (c : ScriptCommand) → c ≡ (well default_settings c).command
     command_well (Packet who moment datagram) = refl
     command_well (Flush ts) = refl
     command_well (Admin moment line) = refl
 
-    commands_well : (cs : List Command) → cs ≡ commands_of (map (well default_settings) cs)
+    commands_well : (cs : List ScriptCommand) → cs ≡ commands_of (map (well default_settings) cs)
     commands_well [] = refl
     commands_well (c ∷ cs) = λ i. command_well c i ∷ commands_well cs i
 
   nothing : output_of default_settings (drilled n) ≡ []
   nothing = nothing_written default_settings (drilled n) all_silent
 
-  counts : course.played ≡ drilled n → new.graphite.told ≡ Number (bytes_counted default_settings (drilled n))
+  counts : trace.played ≡ drilled n → new.graphite.content ≡ Number (bytes_counted default_settings (drilled n))
   unfolding drilled
   counts is =
       count_all (deliveries default_settings Graphite (drilled n)) 0 (drill_start n output).graphite new.graphite (omega arith)
@@ -144,11 +141,11 @@ module _ (n : ℕ) (few : n ≤ most_packets) (output : Object) (new : Seen) (sc
       (subst (λ ps. AfterDeliveries (deliveries default_settings Graphite ps) (drill_start n output).graphite new.graphite) is (theorem.texts Graphite))
       ∙ ap Number (omega arith)
 
-  pub drill_ends : (end : End) → EndsAs default_settings end course (drill_start n output) new → DrillEnd n end course output new
-  drill_ends end ends = elim (ends_whole default_settings (drill_start n output) new (made_commands n) [] steady few_records course theorem end ends) [
+  pub drill_ends : (end : End) → EndsAs default_settings end trace (drill_start n output) new → DrillEnd n end trace output new
+  drill_ends end ends = elim (ends_whole default_settings (drill_start n output) new (made_commands n) [] steady few_records trace theorem end ends) [
     | inl complete ↦
-        let h = subst (λ (e : End). EndsAs default_settings e course (drill_start n output) new) complete.1 ends in
-        let is = all_played (all_carried_out default_settings (drill_start n output) new (made_commands n) [] steady few_records course theorem h.read.1) in
+        let h = subst (λ (e : End). EndsAs default_settings e trace (drill_start n output) new) complete.1 ends in
+        let is = all_played (all_executed default_settings (drill_start n output) new (made_commands n) [] steady few_records trace theorem h.read.1) in
         let totals = h.read.2 ∙ ap (totals_after default_settings) is in
         record {
           played = is;
@@ -159,10 +156,10 @@ module _ (n : ℕ) (few : n ≤ most_packets) (output : Object) (new : Seen) (sc
           );
         }
     | inr failed ↦
-        let h = (subst (λ (e : End). EndsAs default_settings e course (drill_start n output) new) failed ends).output in
+        let h = (subst (λ (e : End). EndsAs default_settings e trace (drill_start n output) new) failed ends).output in
         elim h.writing [
           | inl totals ↦
-              let is = all_played (all_carried_out default_settings (drill_start n output) new (made_commands n) [] steady few_records course theorem totals.ends) in
+              let is = all_played (all_executed default_settings (drill_start n output) new (made_commands n) [] steady few_records trace theorem totals.ends) in
               let text = totals.totals ∙ ap (λ ps. totals_text (totals_after default_settings ps)) is in
               let before = ap (output_of default_settings) (totals.all ∙ is) ∙ nothing in
               record {
@@ -174,6 +171,6 @@ module _ (n : ℕ) (few : n ≤ most_packets) (output : Object) (new : Seen) (sc
                       (subst (λ t. HasFailedBehind t (given [] output) new.output) text (subst (λ out. HasFailedBehind h.text (given out output) new.output) before h.failed)),
                 );
               }
-          | inr reply ↦ absurd (no_reply default_settings (drill_start n output) new (made_commands n) [] steady few_records course theorem (made_silent n) h reply)
+          | inr reply ↦ absurd (no_reply default_settings (drill_start n output) new (made_commands n) [] steady few_records trace theorem (made_silent n) h reply)
         ]
   ]

@@ -1,21 +1,20 @@
 -- What a call keeps of each object: its count of faults doesn't fall.
 use Rattle.std.proofs.Common.{◌≡◌, ℕ, zero, suc, ◌≤◌, List, [], ◌∷◌, set, refl, sym, ap, subst, ◌∙◌, arith, Option, Some, None, inl, inr}
-use Rattle.sd_model_outside.specs.Outside.{Place, File, Object, Used, HasRead, opened}
+use Rattle.sd_model_outside.specs.Outside.{Place, File, Object, Used, HasRead, opened, object_at}
 use Rattle.sd_model_record.specs.Backends.{Graphite, Console}
-use Rattle.sd_model_record.specs.WireSends.{wire_at, sends_on}
 use Rattle.sd_model_replay.specs.Replay.{deliveries, sendings}
-use Rattle.sd_model_replay.specs.AccountingTheorem.{Course, AccountingTheorem}
-use Rattle.sd_model_replay.specs.Ends.{End, Complete, Faulted, ReadFailed, WriteFailed, WornOut, OutputAfter}
+use Rattle.sd_model_replay.specs.AccountingTheorem.{ReplayTrace, AccountingTheorem, End, Complete, Faulted, ReadFailed, WriteFailed, LimitReached, OutputAfter}
 use Rattle.sd_model_call.specs.Drill.{drill_text}
-use Rattle.sd_model_call.specs.Words.{Form, Replay, Serve, Proxy, Drill, form}
-use Rattle.sd_model_call.specs.Opening.{World, Opening, Part, OfSettings, OfScript, OfSource, OfBeat, OfWire, OfGraphite, OfConsole, OfDoor, OfStreams, IsAccepted, IsLeftOff, OnlySettings, opened_all, part_in, replay_openings, settled, with_part}
-use Rattle.sd_model_call.specs.Call.{Account, Answer, Done, Answers, AnswersReplay, Accounts, HasReplayed, IsNotTaken, NotBegun, NotTaken, OnlyOutput, StopsAmong, WritesTotals}
+use Rattle.sd_model_call.specs.Call.{Form, Replay, Serve, Proxy, Drill, form, Account, Answer, Done, Answers, Accounts, HasReplayed, IsNotTaken, NotBegun, NotTaken, StopsAmong, WritesTotals}
+use Rattle.sd_model_call.specs.Opening.{World, Opening, Part, OfSettings, OfScript, OfSource, OfBeat, OfWire, OfGraphite, OfConsole, OfDoor, OfStreams, IsAccepted, OnlySettings, opened_all, part_in, replay_openings, settled, with_part}
 use Rattle.sd_law_call.specs.Completeness.{IsScripted, start_of}
 use Rattle.sd_model_outside.proofs.DeliveryLemmas.{all_counts}
 use Rattle.sd_law_record.proofs.SendLemmas.{sends_count}
 use Rattle.sd_law_call.proofs.BegunLemmas.{Same, at_same, same_faults}
 use Rattle.sd_law_call.proofs.CallEnds.{replayed}
 use Rattle.sd_model_settings.specs.Settings.{Settings}
+use Rattle.sd_model_call.proofs.Short.{OnlyOutput, IsLeftOff, AnswersReplay}
+use Rattle.sd_model_outside.proofs.Short.{sends_on}
 
 pub record Kept (old new : World) : Type 0 where
   pub settings : old.settings.faults ≤ new.settings.faults
@@ -23,7 +22,7 @@ pub record Kept (old new : World) : Type 0 where
   pub graphite : old.seen.graphite.faults ≤ new.seen.graphite.faults
   pub console : old.seen.console.faults ≤ new.seen.console.faults
   pub output : Used old.seen.output new.seen.output
-  pub wires : (i : ℕ) → (wire_at i old.seen.wires).faults ≤ (wire_at i new.seen.wires).faults
+  pub wires : (i : ℕ) → (object_at i old.seen.wires).faults ≤ (object_at i new.seen.wires).faults
 
 used_same : (old new : Object) → new ≡ old → Used old new
 used_same old new same = let faults = ap (λ (o : Object). o.faults) same in record { faults = omega (arith, faults); opened_at = ap (λ (o : Object). o.opened_at) same }
@@ -32,18 +31,18 @@ used_next : (a b c : Object) → Used a b → Used b c → Used a c
 used_next a b c one two = record { faults = omega (arith, one.faults, two.faults); opened_at = two.opened_at ∙ one.opened_at }
 
 -- the output is used, however a replay ends
-output_used : (settings : Settings) (end : End) (course : Course) (old new : Object) → OutputAfter settings end course old new → Used old new
-output_used settings (Complete totals) course old new h = let faults = ap (λ (o : Object). o.faults) h in record { faults = omega (arith, faults); opened_at = ap (λ (o : Object). o.opened_at) h }
-output_used settings WriteFailed course old new h = record { faults = h.failed.used.faults; opened_at = h.failed.used.opened_at }
-output_used settings (Faulted at flaw) course old new h = let faults = ap (λ (o : Object). o.faults) h in record { faults = omega (arith, faults); opened_at = ap (λ (o : Object). o.opened_at) h }
-output_used settings ReadFailed course old new h = let faults = ap (λ (o : Object). o.faults) h in record { faults = omega (arith, faults); opened_at = ap (λ (o : Object). o.opened_at) h }
-output_used settings (WornOut turns) course old new h = let faults = ap (λ (o : Object). o.faults) h in record { faults = omega (arith, faults); opened_at = ap (λ (o : Object). o.opened_at) h }
+output_used : (settings : Settings) (end : End) (trace : ReplayTrace) (old new : Object) → OutputAfter settings end trace old new → Used old new
+output_used settings (Complete totals) trace old new h = let faults = ap (λ (o : Object). o.faults) h in record { faults = omega (arith, faults); opened_at = ap (λ (o : Object). o.opened_at) h }
+output_used settings WriteFailed trace old new h = record { faults = h.failed.used.faults; opened_at = h.failed.used.opened_at }
+output_used settings (Faulted at flaw) trace old new h = let faults = ap (λ (o : Object). o.faults) h in record { faults = omega (arith, faults); opened_at = ap (λ (o : Object). o.opened_at) h }
+output_used settings ReadFailed trace old new h = let faults = ap (λ (o : Object). o.faults) h in record { faults = omega (arith, faults); opened_at = ap (λ (o : Object). o.opened_at) h }
+output_used settings (LimitReached turns) trace old new h = let faults = ap (λ (o : Object). o.faults) h in record { faults = omega (arith, faults); opened_at = ap (λ (o : Object). o.opened_at) h }
 
 read_faults : (bytes : List ℕ) (place : Place) (old new : Object) → HasRead bytes (opened place old) new → old.faults ≤ new.faults
 read_faults bytes place old new h = let faults = ap (λ (o : Object). o.faults) h in omega (arith, faults)
 
 -- a wire in the place of another whose count isn't higher
-set_rises : (wires : List Object) (i j : ℕ) (o : Object) → (wire_at i wires).faults ≤ o.faults → (wire_at j wires).faults ≤ (wire_at j (set wires i o)).faults
+set_rises : (wires : List Object) (i j : ℕ) (o : Object) → (object_at i wires).faults ≤ o.faults → (object_at j wires).faults ≤ (object_at j (set wires i o)).faults
 set_rises [] i j o rises = omega arith
 set_rises (w ∷ wires) zero zero o rises = rises
 set_rises (w ∷ wires) zero (suc j) o rises = omega arith
@@ -125,13 +124,13 @@ module _ (old new : World) where
         let before = opened_all (settled h.values h.settings old) stops.before in
         subst (Kept old) (sym stops.others) (kept_next old before (with_part part (part_in new part) before) (kept_opened h.values h.settings name stops.before h.taken) (kept_part part (part_in new part) before stops.failed.used.faults))
 
-  kept_run : (name script : List ℕ) (answer : Answer) (a : Account) → AccountingTheorem a.force a.course a.start a.end → HasReplayed name script answer a old new → Kept old new
+  kept_run : (name script : List ℕ) (answer : Answer) (a : Account) → AccountingTheorem a.force a.trace a.start a.end → HasReplayed name script answer a old new → Kept old new
   kept_run name script answer a theorem h =
       let r = replayed name script answer a old new theorem h in
       let begin = start_of h.values script old new in
       let same = same_faults (replay_openings script h.values) (settled h.values new.settings old) in
-      let graphite = all_counts (deliveries h.values Graphite r.course.played) begin.graphite new.seen.graphite (r.theorem.texts Graphite) in
-      let console = all_counts (deliveries h.values Console r.course.played) begin.console new.seen.console (r.theorem.texts Console) in
+      let graphite = all_counts (deliveries h.values Graphite r.trace.played) begin.graphite new.seen.graphite (r.theorem.texts Graphite) in
+      let console = all_counts (deliveries h.values Console r.trace.played) begin.console new.seen.console (r.theorem.texts Console) in
       let read = read_faults h.taken.bytes (File name) old.settings h.settings h.taken.read.read in
       let left = ap (λ (w : World). w.settings.faults) h.others in
       record {
@@ -139,11 +138,11 @@ module _ (old new : World) where
         script = omega (arith, same.script, r.ends.script.faults);
         graphite = omega (arith, same.graphite, graphite.used.faults);
         console = omega (arith, same.console, console.used.faults);
-        output = used_next old.seen.output begin.output new.seen.output (used_same old.seen.output begin.output same.output) (output_used h.values h.end r.course begin.output new.seen.output r.ends.output);
-        wires = λ i. omega (arith, at_same (λ o. o.faults) i begin.wires old.seen.wires same.wires, (sends_count (sends_on i (sendings r.course.played)) (wire_at i begin.wires) (wire_at i new.seen.wires) (r.theorem.sends.each i)).used.faults);
+        output = used_next old.seen.output begin.output new.seen.output (used_same old.seen.output begin.output same.output) (output_used h.values h.end r.trace begin.output new.seen.output r.ends.output);
+        wires = λ i. omega (arith, at_same (λ o. o.faults) i begin.wires old.seen.wires same.wires, (sends_count (sends_on i (sendings r.trace.played)) (object_at i begin.wires) (object_at i new.seen.wires) (r.theorem.sends.each i)).used.faults);
       }
 
-  kept_by : (name script : List ℕ) (answer : Answer) (a : Account) → AccountingTheorem a.force a.course a.start a.end → AnswersReplay name script answer a old new → Kept old new
+  kept_by : (name script : List ℕ) (answer : Answer) (a : Account) → AccountingTheorem a.force a.trace a.start a.end → AnswersReplay name script answer a old new → Kept old new
   kept_by name script answer a theorem (inl (inl taken, idle)) = kept_not_taken name answer taken
   kept_by name script answer a theorem (inl (inr not, idle)) = kept_not_begun (replay_openings script) name answer not
   kept_by name script answer a theorem (inr h) = kept_run name script answer a theorem h
@@ -160,7 +159,7 @@ module _ (old new : World) where
   drill_output text answer (inl (is, written)) = let faults = ap (λ (o : Object). o.faults) written in record { faults = omega (arith, faults); opened_at = ap (λ (o : Object). o.opened_at) written }
   drill_output text answer (inr (is, failed)) = failed.used
 
-  kept_form : (f : Option Form) (answer : Answer) (a : Account) → IsScripted f → AccountingTheorem a.force a.course a.start a.end → Answers f answer a old new → Kept old new
+  kept_form : (f : Option Form) (answer : Answer) (a : Account) → IsScripted f → AccountingTheorem a.force a.trace a.start a.end → Answers f answer a old new → Kept old new
   kept_form None answer a asks theorem (is, nothing) = kept_all nothing.0
   kept_form (Some (Replay name script)) answer a asks theorem h = kept_by name script answer a theorem h
   kept_form (Some (Serve name)) answer a asks theorem h = absurd asks

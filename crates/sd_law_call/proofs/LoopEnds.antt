@@ -4,13 +4,14 @@ use Rattle.std.proofs.Common.{◌≡◌, ◌⊎◌, ℕ, zero, suc, ◌+◌, ◌
 use Rattle.std.specs.Prelude.{◌||◌, min, if◌then◌else◌, ⊤}
 use Rattle.std.specs.List.{list_any}
 use Rattle.std.proofs.lemmas.List.Folds.{list_any-append}
-use Rattle.sd_model_outside.specs.Outside.{Object, Rose, last_count}
-use Rattle.sd_model_outside.specs.Turns.{IsSpent}
-use Rattle.sd_model_serve.specs.Ends.{LoopEnd, Spent, Failed, Enough, WornOut, EndsReceiver, EndsFlusher, IsShort, most_turns}
-use Rattle.sd_model_call.specs.Opening.{OfSource, OfBeat, source_at}
+use Rattle.sd_model_outside.specs.Outside.{Object, Rose, last_count, object_at}
+use Rattle.sd_model_outside.specs.Uses.{IsSpent}
+use Rattle.sd_model_serve.specs.Receiving.{LoopEnd, Spent, Failed, Enough, LimitReached, EndsReceiver, EndsFlusher, IsShort, most_turns}
+use Rattle.sd_model_call.specs.Opening.{OfSource, OfBeat}
 use Rattle.sd_model_call.specs.Call.{Answer, Done, NotRead, NotWritten, Worn}
-use Rattle.sd_model_call.specs.Server.{by_beat, by_receivers, ends_answer, is_worn, turns_answer}
+use Rattle.sd_model_call.specs.Server.{by_beat, by_receivers, ends_answer, reached_limit}
 use Rattle.sd_law_call.specs.ServerCompleteness.{SourceTookMost}
+use Rattle.sd_model_call.proofs.Short.{turns_answer}
 
 -- how a loop over a source ended, which has seen at most so many flushes
 pub record EndedSo (asked most : ℕ) (ended : LoopEnd) (source source_now : Object) : Type 0 where
@@ -29,7 +30,7 @@ AreEnded asked most (e ∷ es) (s ∷ sources) (n ∷ sources_now) = EndedSo ask
 
 -- a receiver that failed, or the answer is another's
 abbrev pub ByReceiver : ℕ → Answer → List Object → List Object → Type 0
-ByReceiver k answer ss ns = (i : ℕ) × (answer ≡ NotRead (OfSource (k + i))) × Rose (source_at i ss).faults (source_at i ns).faults
+ByReceiver k answer ss ns = (i : ℕ) × (answer ≡ NotRead (OfSource (k + i))) × Rose (object_at i ss).faults (object_at i ns).faults
 
 module _ (asked most : ℕ) (answer other : Answer) where
   behind_one : (k : ℕ) (s n : Object) (ss ns : List Object) → ByReceiver (k + 1) answer ss ns ⊎ (other ≡ answer) → ByReceiver k answer (s ∷ ss) (n ∷ ns) ⊎ (other ≡ answer)
@@ -43,42 +44,42 @@ module _ (asked most : ℕ) (answer other : Answer) where
   by_one k (Spent ∷ es) (s ∷ ss) (n ∷ ns) h is = behind_one k s n ss ns (by_one (k + 1) es ss ns h.1 is)
   by_one k (Failed ∷ es) (s ∷ ss) (n ∷ ns) h is = inl (0, sym is ∙ ap (λ j. NotRead (OfSource j)) (omega arith), h.0.ends.0)
   by_one k (Enough flushes ∷ es) (s ∷ ss) (n ∷ ns) h is = behind_one k s n ss ns (by_one (k + 1) es ss ns h.1 is)
-  by_one k (WornOut turns ∷ es) (s ∷ ss) (n ∷ ns) h is = behind_one k s n ss ns (by_one (k + 1) es ss ns h.1 is)
+  by_one k (LimitReached turns ∷ es) (s ∷ ss) (n ∷ ns) h is = behind_one k s n ss ns (by_one (k + 1) es ss ns h.1 is)
 
 by_flusher : (asked made : ℕ) (answer other : Answer) (ended : LoopEnd) (beat beat_now : Object) → EndsFlusher asked ended beat beat_now made → by_beat ended other ≡ answer
     → (answer ≡ NotRead OfBeat) × Rose beat.faults beat_now.faults ⊎ (other ≡ answer)
 by_flusher asked made answer other Spent beat beat_now h is = inr is
 by_flusher asked made answer other Failed beat beat_now h is = inl (sym is, h.0)
 by_flusher asked made answer other (Enough flushes) beat beat_now h is = inr is
-by_flusher asked made answer other (WornOut turns) beat beat_now h is = inr is
+by_flusher asked made answer other (LimitReached turns) beat beat_now h is = inr is
 
-by_turns : (es : List LoopEnd) (answer : Answer) → turns_answer es ≡ answer → (answer ≡ Worn most_turns) × (list_any is_worn es ≡ true) ⊎ (answer ≡ Done) × (list_any is_worn es ≡ false)
-by_turns es answer is = by_test (list_any is_worn es) refl where
-  by_test : (worn : Bool) → list_any is_worn es ≡ worn → (answer ≡ Worn most_turns) × (list_any is_worn es ≡ true) ⊎ (answer ≡ Done) × (list_any is_worn es ≡ false)
+by_turns : (es : List LoopEnd) (answer : Answer) → turns_answer es ≡ answer → (answer ≡ Worn most_turns) × (list_any reached_limit es ≡ true) ⊎ (answer ≡ Done) × (list_any reached_limit es ≡ false)
+by_turns es answer is = by_test (list_any reached_limit es) refl where
+  by_test : (limit_reached : Bool) → list_any reached_limit es ≡ limit_reached → (answer ≡ Worn most_turns) × (list_any reached_limit es ≡ true) ⊎ (answer ≡ Done) × (list_any reached_limit es ≡ false)
   by_test true found = inl (sym is ∙ ap (λ (b : Bool). if b then Worn most_turns else Done) found, found)
   by_test false found = inr (sym is ∙ ap (λ (b : Bool). if b then Worn most_turns else Done) found, found)
 
 -- which loop took the most turns
 abbrev pub OneSourceTookMost : List Object → List Object → Type 0
-OneSourceTookMost ss ns = (i : ℕ) × SourceTookMost (source_at i ss) (source_at i ns)
+OneSourceTookMost ss ns = (i : ℕ) × SourceTookMost (object_at i ss) (object_at i ns)
 
 module _ (rest : List LoopEnd) where
-  worn_behind : (s n : Object) (ss ns : List Object) → OneSourceTookMost ss ns ⊎ (list_any is_worn rest ≡ true) → OneSourceTookMost (s ∷ ss) (n ∷ ns) ⊎ (list_any is_worn rest ≡ true)
-  worn_behind s n ss ns (inl (i, most)) = inl (suc i, most)
-  worn_behind s n ss ns (inr is) = inr is
+  limit_after : (s n : Object) (ss ns : List Object) → OneSourceTookMost ss ns ⊎ (list_any reached_limit rest ≡ true) → OneSourceTookMost (s ∷ ss) (n ∷ ns) ⊎ (list_any reached_limit rest ≡ true)
+  limit_after s n ss ns (inl (i, most)) = inl (suc i, most)
+  limit_after s n ss ns (inr is) = inr is
 
-  pub worn_one : (asked most : ℕ) (es : List LoopEnd) (ss ns : List Object) → AreEnded asked most es ss ns → list_any is_worn (es ++ rest) ≡ true → OneSourceTookMost ss ns ⊎ (list_any is_worn rest ≡ true)
-  worn_one asked most [] ss ns h is = inr is
-  worn_one asked most (e ∷ es) [] ns h is = absurd h
-  worn_one asked most (e ∷ es) (s ∷ ss) [] h is = absurd h
-  worn_one asked most (Spent ∷ es) (s ∷ ss) (n ∷ ns) h is = worn_behind s n ss ns (worn_one asked most es ss ns h.1 is)
-  worn_one asked most (Failed ∷ es) (s ∷ ss) (n ∷ ns) h is = worn_behind s n ss ns (worn_one asked most es ss ns h.1 is)
-  worn_one asked most (Enough flushes ∷ es) (s ∷ ss) (n ∷ ns) h is = worn_behind s n ss ns (worn_one asked most es ss ns h.1 is)
-  worn_one asked most (WornOut turns ∷ es) (s ∷ ss) (n ∷ ns) h is = inl (0, h.0.turns ∙ ap (λ k. min (s.turns + k) last_count) h.0.ends.1)
+  pub limit_at_one : (asked most : ℕ) (es : List LoopEnd) (ss ns : List Object) → AreEnded asked most es ss ns → list_any reached_limit (es ++ rest) ≡ true → OneSourceTookMost ss ns ⊎ (list_any reached_limit rest ≡ true)
+  limit_at_one asked most [] ss ns h is = inr is
+  limit_at_one asked most (e ∷ es) [] ns h is = absurd h
+  limit_at_one asked most (e ∷ es) (s ∷ ss) [] h is = absurd h
+  limit_at_one asked most (Spent ∷ es) (s ∷ ss) (n ∷ ns) h is = limit_after s n ss ns (limit_at_one asked most es ss ns h.1 is)
+  limit_at_one asked most (Failed ∷ es) (s ∷ ss) (n ∷ ns) h is = limit_after s n ss ns (limit_at_one asked most es ss ns h.1 is)
+  limit_at_one asked most (Enough flushes ∷ es) (s ∷ ss) (n ∷ ns) h is = limit_after s n ss ns (limit_at_one asked most es ss ns h.1 is)
+  limit_at_one asked most (LimitReached turns ∷ es) (s ∷ ss) (n ∷ ns) h is = inl (0, h.0.turns ∙ ap (λ k. min (s.turns + k) last_count) h.0.ends.1)
 
 -- where enough flushes can't have been seen, and no loop failed or took the most turns, all sources are spent
-spent_all : (asked most : ℕ) → IsShort asked most → (k : ℕ) (es : List LoopEnd) (other : Answer) (ss ns : List Object) → by_receivers k es other ≡ Done → list_any is_worn es ≡ false → AreEnded asked most es ss ns
-    → (i : ℕ) → i < length es → IsSpent (source_at i ns).told
+spent_all : (asked most : ℕ) → IsShort asked most → (k : ℕ) (es : List LoopEnd) (other : Answer) (ss ns : List Object) → by_receivers k es other ≡ Done → list_any reached_limit es ≡ false → AreEnded asked most es ss ns
+    → (i : ℕ) → i < length es → IsSpent (object_at i ns).content
 spent_all asked most short k [] other ss ns done none h i below = absurd (omega (arith, below))
 spent_all asked most short k (e ∷ es) other [] ns done none h i below = absurd h
 spent_all asked most short k (e ∷ es) other (s ∷ ss) [] done none h i below = absurd h
@@ -87,14 +88,14 @@ spent_all asked most short k (Spent ∷ es) other (s ∷ ss) (n ∷ ns) done non
 spent_all asked most short k (Failed ∷ es) other (s ∷ ss) (n ∷ ns) done none h i below = absurd (cc)
 spent_all asked most short k (Enough flushes ∷ es) other (s ∷ ss) (n ∷ ns) done none h i below =
     let enough = h.0.ends.1 in let is = h.0.ends.2 in let few = short h.0.ends.0 in let known = h.0.known in absurd (omega (arith, enough, is, few, known))
-spent_all asked most short k (WornOut turns ∷ es) other (s ∷ ss) (n ∷ ns) done none h i below = absurd (cc)
+spent_all asked most short k (LimitReached turns ∷ es) other (s ∷ ss) (n ∷ ns) done none h i below = absurd (cc)
 
 -- the worker of the beat ended since nothing was left, or with all flushes that were asked for, where it did no more than that
-pub flusher_done : (asked made : ℕ) (f : LoopEnd) (other : Answer) (beat beat_now : Object) → EndsFlusher asked f beat beat_now made → by_beat f other ≡ Done → is_worn f ≡ false → (0 < asked) × (made ≡ asked) ⊎ IsSpent beat_now.told
+pub flusher_done : (asked made : ℕ) (f : LoopEnd) (other : Answer) (beat beat_now : Object) → EndsFlusher asked f beat beat_now made → by_beat f other ≡ Done → reached_limit f ≡ false → (0 < asked) × (made ≡ asked) ⊎ IsSpent beat_now.content
 flusher_done asked made Spent other beat beat_now h done none = inr h.0
 flusher_done asked made Failed other beat beat_now h done none = absurd (cc)
 flusher_done asked made (Enough n) other beat beat_now h done none = inl (h.0, h.2 ∙ h.1)
-flusher_done asked made (WornOut n) other beat beat_now h done none = absurd (cc)
+flusher_done asked made (LimitReached n) other beat beat_now h done none = absurd (cc)
 
 pub both_false : (a b : Bool) → (a || b) ≡ false → (a ≡ false) × (b ≡ false)
 both_false true b h = absurd (cc)
@@ -105,8 +106,8 @@ abbrev pub ComesFrom : (received : List LoopEnd) (ticker : LoopEnd) (others : Li
 ComesFrom received ticker others ss ns beat beat_now a =
     ByReceiver 0 a ss ns
     ⊎ (a ≡ NotRead OfBeat) × Rose beat.faults beat_now.faults
-    ⊎ (a ≡ Worn most_turns) × (list_any is_worn (received ++ ticker ∷ others) ≡ true)
-    ⊎ (a ≡ Done) × (list_any is_worn (received ++ ticker ∷ others) ≡ false)
+    ⊎ (a ≡ Worn most_turns) × (list_any reached_limit (received ++ ticker ∷ others) ≡ true)
+    ⊎ (a ≡ Done) × (list_any reached_limit (received ++ ticker ∷ others) ≡ false)
 
 module _ (asked most made : ℕ) (received : List LoopEnd) (ticker : LoopEnd) (others : List LoopEnd) (ss ns : List Object) (beat beat_now : Object) (loops : AreEnded asked most received ss ns) (ticked : EndsFlusher asked ticker beat beat_now made) where
   abbrev From : Answer → Type 0
@@ -129,12 +130,12 @@ module _ (asked most made : ℕ) (received : List LoopEnd) (ticker : LoopEnd) (o
 -- where the answer is that all was done, the beat has nothing left or gave all flushes that were asked for, none of the others took the
 -- most turns, and where enough flushes can't have been seen, the sources have nothing left
 pub record AllDone (asked most made : ℕ) (received others : List LoopEnd) (ns : List Object) (beat_now : Object) : Type 0 where
-  pub sources : IsShort asked most → (i : ℕ) → i < length received → IsSpent (source_at i ns).told
-  pub beat : (0 < asked) × (made ≡ asked) ⊎ IsSpent beat_now.told
-  pub none_worn : list_any is_worn others ≡ false
+  pub sources : IsShort asked most → (i : ℕ) → i < length received → IsSpent (object_at i ns).content
+  pub beat : (0 < asked) × (made ≡ asked) ⊎ IsSpent beat_now.content
+  pub none_reached_limit : list_any reached_limit others ≡ false
 
 -- a beat that didn't give all flushes that were asked for has nothing left
-pub beat_spent : (asked made : ℕ) (beat_now : Object) → IsShort asked made → (0 < asked) × (made ≡ asked) ⊎ IsSpent beat_now.told → IsSpent beat_now.told
+pub beat_spent : (asked made : ℕ) (beat_now : Object) → IsShort asked made → (0 < asked) × (made ≡ asked) ⊎ IsSpent beat_now.content → IsSpent beat_now.content
 beat_spent asked made beat_now short (inl (some, is)) = let few = short some in absurd (omega (arith, few, is))
 beat_spent asked made beat_now short (inr spent) = spent
 
@@ -146,18 +147,18 @@ module _ (asked most made : ℕ) (received : List LoopEnd) (ticker : LoopEnd) (o
   abbrev All : Type 0
   All = AllDone asked most made received others ns beat_now
 
-  by_tests : list_any is_worn every ≡ false → by_beat ticker (turns_answer every) ≡ Done → All
+  by_tests : list_any reached_limit every ≡ false → by_beat ticker (turns_answer every) ≡ Done → All
   by_tests none by =
-      let one = both_false (list_any is_worn received) _ (sym (list_any-append is_worn received (ticker ∷ others)) ∙ none) in
-      let two = both_false (is_worn ticker) (list_any is_worn others) one.1 in
+      let one = both_false (list_any reached_limit received) _ (sym (list_any-append reached_limit received (ticker ∷ others)) ∙ none) in
+      let two = both_false (reached_limit ticker) (list_any reached_limit others) one.1 in
       record {
         sources = λ short i below. spent_all asked most short 0 received _ ss ns done one.0 loops i below;
         beat = flusher_done asked made ticker _ beat beat_now ticked by two.0;
-        none_worn = two.1;
+        none_reached_limit = two.1;
       }
 
-  by_end : (Done ≡ Worn most_turns) × (list_any is_worn every ≡ true) ⊎ (Done ≡ Done) × (list_any is_worn every ≡ false) → by_beat ticker (turns_answer every) ≡ Done → All
-  by_end (inl (is, worn)) by = absurd (cc)
+  by_end : (Done ≡ Worn most_turns) × (list_any reached_limit every ≡ true) ⊎ (Done ≡ Done) × (list_any reached_limit every ≡ false) → by_beat ticker (turns_answer every) ≡ Done → All
+  by_end (inl (is, limit_reached)) by = absurd (cc)
   by_end (inr (is, none)) by = by_tests none by
 
   by_flush : (Done ≡ NotRead OfBeat) × Rose beat.faults beat_now.faults ⊎ (turns_answer every ≡ Done) → by_beat ticker (turns_answer every) ≡ Done → All

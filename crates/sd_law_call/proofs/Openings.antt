@@ -4,10 +4,11 @@ use Rattle.std.specs.Prelude.{⊤}
 use Rattle.std.specs.List.{AllByRecursion}
 use Rattle.std.proofs.lemmas.List.{length-map}
 use Rattle.sd_model_outside.specs.Outside.{File, Place}
-use Rattle.sd_model_replay.specs.Settings.{targets_of, is_used}
-use Rattle.sd_model_call.specs.Opening.{Opening, Part, OfScript, OfWire, OfGraphite, OfConsole, numbered, opening_where, repeated, replay_openings, target_place, wire_openings}
+use Rattle.sd_model_replay.specs.Replay.{targets_of, is_used}
+use Rattle.sd_model_call.specs.Opening.{Opening, Part, OfScript, OfWire, OfGraphite, OfConsole, numbered, opening_where, repeated, replay_openings, wire_openings}
 use Rattle.sd_model_settings.specs.Settings.{Settings}
 use Rattle.sd_model_record.specs.Backends.{Graphite, Console}
+use Rattle.sd_model_call.proofs.Short.{target_place}
 
 pub all_append : (P : Opening → Type 0) (before behind : List Opening) → AllByRecursion P before → AllByRecursion P behind → AllByRecursion P (before ++ behind)
 all_append P [] behind first rest = rest

@@ -3,23 +3,24 @@ use Rattle.std.proofs.Common.{◌≡◌, ◌⊎◌, ℕ, ◌+◌, ◌*◌, List,
 use Rattle.std.specs.Prelude.{min}
 use Rattle.std.specs.List.{AllByRecursion, list_any}
 use Rattle.std.proofs.lemmas.List.{length-map}
-use Rattle.sd_model_outside.specs.Outside.{File, Host, Datagrams, Object, Rose, last_count}
+use Rattle.sd_model_outside.specs.Outside.{File, Host, Datagrams, Object, Rose, last_count, object_at}
 use Rattle.sd_model_settings.specs.Entries.{Node}
 use Rattle.sd_model_settings.specs.Settings.{Settings, SettingsFlaw, settings}
-use Rattle.sd_model_serve.specs.Ends.{LoopEnd, Spent, Failed, Enough, WornOut, EndsFlusher, most_turns}
-use Rattle.sd_model_proxy.specs.Relays.{Relay, AreRelays}
-use Rattle.sd_model_live.specs.Checks.{EndsChecker}
+use Rattle.sd_model_serve.specs.Receiving.{LoopEnd, Spent, Failed, Enough, LimitReached, EndsFlusher, most_turns}
+use Rattle.sd_model_proxy.specs.Relays.{Relay}
+use Rattle.sd_model_live.specs.Proxy.{EndsChecker}
 use Rattle.sd_model_live.specs.Port.{has_port}
-use Rattle.sd_model_call.specs.Words.{Form, Proxy, form}
-use Rattle.sd_model_call.specs.Opening.{World, Opening, Part, OfSettings, OfScript, OfSource, OfBeat, OfWire, OfGraphite, OfConsole, OfDoor, OfStreams, IsAccepted, IsFlawed, numbered, repeated, settled, source_at}
-use Rattle.sd_model_call.specs.Call.{Answer, Done, NoMemory, NoForm, Misset, BadScript, NotOpened, NotRead, NotWritten, Worn, WritesTotals}
+use Rattle.sd_model_call.specs.Call.{Form, Proxy, form, Answer, Done, NoMemory, NoForm, Misset, BadScript, NotOpened, NotRead, NotWritten, Worn, WritesTotals}
+use Rattle.sd_model_call.specs.Opening.{World, Opening, Part, OfSettings, OfScript, OfSource, OfBeat, OfWire, OfGraphite, OfConsole, OfDoor, OfStreams, IsAccepted, IsFlawed, numbered, repeated, settled}
 use Rattle.sd_law_call.specs.Completeness.{IsBlocked, IsWhole}
-use Rattle.sd_model_call.specs.Server.{has_streams, is_worn, source_openings, stream_openings}
-use Rattle.sd_law_call.specs.ServerCompleteness.{AsksFor, HasFaultOf, SourceTookMost, AreRelaysSpent, IsBesideProxy, IsOpenedToRelay, IsProxyCauseOf, IsRelayed, IsUnhinderedProxy, NoneBesideFailed, OneLoopTookMost}
-use Rattle.sd_model_call.specs.Proxy.{AnswersProxy, HasProxied, check_interval, IsUnfit, ProxyAccounts, line_readers, node_place, port_openings, proxy_answer, proxy_begun, proxy_flaw, proxy_openings, relay_openings, relay_text}
+use Rattle.sd_model_call.specs.Server.{has_streams, reached_limit, source_openings, stream_openings}
+use Rattle.sd_law_call.specs.ServerCompleteness.{AsksFor, HasFaultOf, SourceTookMost, AreRelaysSpent, IsOtherOfProxy, IsOpenedToRelay, IsProxyCauseOf, IsRelayed, IsUnhinderedProxy, NoOtherFailed, OneLoopTookMost}
+use Rattle.sd_model_call.specs.Proxy.{AnswersProxy, HasProxied, IsUnfit, ProxyAccounts, line_readers, port_openings, proxy_flaw, proxy_openings, relay_openings, relay_text}
 use Rattle.sd_law_call.proofs.BegunLemmas.{Same, all_numbered, accepted_so, at_same, has_flaw, none_failed, not_begun, not_taken, same_start, uncut}
-use Rattle.sd_law_call.proofs.LoopEnds.{AreEnded, ComesFrom, OneSourceTookMost, all_done, beat_spent, comes_from, worn_one}
+use Rattle.sd_law_call.proofs.LoopEnds.{AreEnded, ComesFrom, OneSourceTookMost, all_done, beat_spent, comes_from, limit_at_one}
 use Rattle.sd_law_call.proofs.Openings.{all_append, all_where}
+use Rattle.sd_model_call.proofs.Short.{node_place, check_interval, proxy_begun, proxy_answer}
+use Rattle.sd_model_proxy.proofs.Short.{AreRelays}
 
 all_relayed : (s : Settings) → AllByRecursion (λ (o : Opening). IsOpenedToRelay o.part) (proxy_openings s)
 all_relayed s =
@@ -48,14 +49,14 @@ as_flusher : (made : ℕ) (ended : LoopEnd) (beat beat_now : Object) → EndsChe
 as_flusher made Spent beat beat_now h = (h.0, h.1, λ some. absurd (omega (arith, some)))
 as_flusher made Failed beat beat_now h = (h.0, λ some. absurd (omega (arith, some)))
 as_flusher made (Enough flushes) beat beat_now h = absurd h
-as_flusher made (WornOut turns) beat beat_now h = (h.0, h.1 ∙ sym h.0, h.2, λ some. absurd (omega (arith, some)))
+as_flusher made (LimitReached turns) beat beat_now h = (h.0, h.1 ∙ sym h.0, h.2, λ some. absurd (omega (arith, some)))
 
 -- a beat whose checker took the most turns
-beat_worn : (made : ℕ) (ended : LoopEnd) (beat beat_now : Object) → EndsChecker ended beat beat_now made → beat_now.turns ≡ min (beat.turns + made) last_count → list_any is_worn (ended ∷ []) ≡ true → SourceTookMost beat beat_now
-beat_worn made Spent beat beat_now h turns is = absurd (cc)
-beat_worn made Failed beat beat_now h turns is = absurd (cc)
-beat_worn made (Enough flushes) beat beat_now h turns is = absurd h
-beat_worn made (WornOut n) beat beat_now h turns is = turns ∙ ap (λ k. min (beat.turns + k) last_count) h.1
+beat_reached_limit : (made : ℕ) (ended : LoopEnd) (beat beat_now : Object) → EndsChecker ended beat beat_now made → beat_now.turns ≡ min (beat.turns + made) last_count → list_any reached_limit (ended ∷ []) ≡ true → SourceTookMost beat beat_now
+beat_reached_limit made Spent beat beat_now h turns is = absurd (cc)
+beat_reached_limit made Failed beat beat_now h turns is = absurd (cc)
+beat_reached_limit made (Enough flushes) beat beat_now h turns is = absurd h
+beat_reached_limit made (LimitReached n) beat beat_now h turns is = turns ∙ ap (λ k. min (beat.turns + k) last_count) h.1
 
 module _ (name : List ℕ) (answer : Answer) (old new : World) (h : HasProxied name answer old new) where
   abbrev start : World
@@ -65,10 +66,10 @@ module _ (name : List ℕ) (answer : Answer) (old new : World) (h : HasProxied n
   received = map (λ r. r.ended) h.relays
 
   faults : Same (λ o. o.faults) start old
-  faults = same_start (λ o. o.faults) (λ place o. refl) (λ told o. refl) (λ interval o. refl) (proxy_openings h.values) (check_interval h.values) h.values h.settings name old h.taken
+  faults = same_start (λ o. o.faults) (λ place o. refl) (λ content o. refl) (λ interval o. refl) (proxy_openings h.values) (check_interval h.values) h.values h.settings name old h.taken
 
   turns : Same (λ o. o.turns) start old
-  turns = same_start (λ o. o.turns) (λ place o. refl) (λ told o. refl) (λ interval o. refl) (proxy_openings h.values) (check_interval h.values) h.values h.settings name old h.taken
+  turns = same_start (λ o. o.turns) (λ place o. refl) (λ content o. refl) (λ interval o. refl) (proxy_openings h.values) (check_interval h.values) h.values h.settings name old h.taken
 
   loops : AreEnded 0 0 received start.served.sources new.served.sources
   loops =
@@ -92,18 +93,18 @@ module _ (name : List ℕ) (answer : Answer) (old new : World) (h : HasProxied n
         beat = beat_spent 0 (length h.checks) new.served.beat (λ some. absurd (omega (arith, some))) all.beat;
       }
 
-  one_worn : OneSourceTookMost start.served.sources new.served.sources ⊎ (list_any is_worn (h.checker_ended ∷ []) ≡ true) → OneLoopTookMost old new
-  one_worn (inl (i, most)) = inl (i, most ∙ ap (λ n. min (n + most_turns) last_count) (at_same (λ o. o.turns) i start.served.sources old.served.sources turns.sources))
-  one_worn (inr is) =
-      inr (beat_worn (length h.checks) h.checker_ended start.served.beat new.served.beat h.theorem.checked.ends h.theorem.checked.turns is ∙ ap (λ n. min (n + most_turns) last_count) turns.beat)
+  one_reached_limit : OneSourceTookMost start.served.sources new.served.sources ⊎ (list_any reached_limit (h.checker_ended ∷ []) ≡ true) → OneLoopTookMost old new
+  one_reached_limit (inl (i, most)) = inl (i, most ∙ ap (λ n. min (n + most_turns) last_count) (at_same (λ o. o.turns) i start.served.sources old.served.sources turns.sources))
+  one_reached_limit (inr is) =
+      inr (beat_reached_limit (length h.checks) h.checker_ended start.served.beat new.served.beat h.theorem.checked.ends h.theorem.checked.turns is ∙ ap (λ n. min (n + most_turns) last_count) turns.beat)
 
   cause : (a : Answer) → proxy_answer h.relays h.checker_ended ≡ a → ComesFrom received h.checker_ended [] start.served.sources new.served.sources start.served.beat new.served.beat a → IsProxyCauseOf name a old new
   cause a whole (inl (i, is, rose)) =
-      let from = subst (λ (n : ℕ). Rose n (source_at i new.served.sources).faults) (at_same (λ o. o.faults) i start.served.sources old.served.sources faults.sources) rose in
+      let from = subst (λ (n : ℕ). Rose n (object_at i new.served.sources).faults) (at_same (λ o. o.faults) i start.served.sources old.served.sources faults.sources) rose in
       subst (λ (b : Answer). IsProxyCauseOf name b old new) (sym (is ∙ ap (λ j. NotRead (OfSource j)) (omega arith))) (tt, from)
   cause a whole (inr (inl (is, rose))) = subst (λ (b : Answer). IsProxyCauseOf name b old new) (sym is) (tt, subst (λ (n : ℕ). Rose n new.served.beat.faults) faults.beat rose)
-  cause a whole (inr (inr (inl (is, worn)))) =
-      subst (λ (b : Answer). IsProxyCauseOf name b old new) (sym is) (refl, one_worn (worn_one (h.checker_ended ∷ []) 0 0 received start.served.sources new.served.sources loops worn))
+  cause a whole (inr (inr (inl (is, limit_reached)))) =
+      subst (λ (b : Answer). IsProxyCauseOf name b old new) (sym is) (refl, one_reached_limit (limit_at_one (h.checker_ended ∷ []) 0 0 received start.served.sources new.served.sources loops limit_reached))
   cause a whole (inr (inr (inr (is, none)))) = subst (λ (b : Answer). IsProxyCauseOf name b old new) (sym is) (done (whole ∙ is))
 
   ended : proxy_answer h.relays h.checker_ended ≡ answer → IsProxyCauseOf name answer old new
@@ -116,7 +117,7 @@ module _ (name : List ℕ) (answer : Answer) (old new : World) (h : HasProxied n
     by_uncut rose (inl is) = subst (λ (a : Answer). IsProxyCauseOf name a old new) (sym is) rose
     by_uncut rose (inr is) = ended is
 
-    by_written : WritesTotals (relay_text h.values.lists.nodes (h.relays ++ h.lined) h.checks) (proxy_answer h.relays h.checker_ended) answer old.seen.output new.seen.output → IsProxyCauseOf name answer old new
+    by_written : WritesTotals (relay_text h.values.lists.nodes (h.relays ++ h.line_relays) h.checks) (proxy_answer h.relays h.checker_ended) answer old.seen.output new.seen.output → IsProxyCauseOf name answer old new
     by_written (inl (is, text)) = ended (sym is)
     by_written (inr (is, failed)) = by_uncut failed.rose (uncut (proxy_answer h.relays h.checker_ended) answer is)
 
@@ -140,11 +141,11 @@ module _ (words : List (List ℕ)) (bytes : List ℕ) (old new : World) (asks : 
 
   module _ (values : Settings) (accepted : settings bytes ≡ Ok values) where
     not_flawed : (flaw : SettingsFlaw) → IsFlawed flaw (File asks.name) old.settings new.settings → ⊥
-    not_flawed flaw has = let same : Err flaw ≡ Ok values = sym (has_flaw asks.name bytes old asks.told flaw new.settings has) ∙ accepted in absurd (cc)
+    not_flawed flaw has = let same : Err flaw ≡ Ok values = sym (has_flaw asks.name bytes old asks.content flaw new.settings has) ∙ accepted in absurd (cc)
 
     same_values : (others : Settings) (now : Object) → IsAccepted others (File asks.name) old.settings now → others ≡ values
     same_values others now taken =
-        let same : Ok others ≡ Ok values = sym (accepted_so asks.name bytes old asks.told others now taken) ∙ accepted in
+        let same : Ok others ≡ Ok values = sym (accepted_so asks.name bytes old asks.content others now taken) ∙ accepted in
         let one : others ≡ values = cc in
         one
 
@@ -178,21 +179,21 @@ module _ (words : List (List ℕ)) (bytes : List ℕ) (old new : World) (asks : 
       pub relays : (answer : Answer) → AnswersProxy (form words) answer old new → IsRelayed answer
       relays answer h = by_cause answer (caused answer h)
 
-      module _ (none : NoneBesideFailed old new) where
-        not_beside : (part : Part) → IsBesideProxy part → HasFaultOf part old new → ⊥
-        not_beside (OfWire i) beside rose = none.wires i rose
-        not_beside OfDoor beside rose = none.door rose
-        not_beside OfStreams beside rose = none.streams rose
-        not_beside OfSettings beside rose = absurd beside
-        not_beside OfScript beside rose = absurd beside
-        not_beside (OfSource i) beside rose = absurd beside
-        not_beside OfBeat beside rose = absurd beside
-        not_beside OfGraphite beside rose = absurd beside
-        not_beside OfConsole beside rose = absurd beside
+      module _ (none : NoOtherFailed old new) where
+        not_another : (part : Part) → IsOtherOfProxy part → HasFaultOf part old new → ⊥
+        not_another (OfWire i) is_other rose = none.wires i rose
+        not_another OfDoor is_other rose = none.door rose
+        not_another OfStreams is_other rose = none.streams rose
+        not_another OfSettings is_other rose = absurd is_other
+        not_another OfScript is_other rose = absurd is_other
+        not_another (OfSource i) is_other rose = absurd is_other
+        not_another OfBeat is_other rose = absurd is_other
+        not_another OfGraphite is_other rose = absurd is_other
+        not_another OfConsole is_other rose = absurd is_other
 
         is_whole : (answer : Answer) → IsProxyCauseOf asks.name answer old new → IsRelayed answer → IsWhole Done answer
         is_whole answer h (inl done) = done
-        is_whole answer h (inr (part, beside, is)) = absurd (not_beside part beside (subst (λ (a : Answer). IsProxyCauseOf asks.name a old new) is h).1)
+        is_whole answer h (inr (part, is_other, is)) = absurd (not_another part is_other (subst (λ (a : Answer). IsProxyCauseOf asks.name a old new) is h).1)
 
         pub relays_whole : (answer : Answer) → AnswersProxy (form words) answer old new → IsWhole Done answer
         relays_whole answer h = is_whole answer (caused answer h) (relays answer h)
@@ -216,13 +217,13 @@ module _ (words : List (List ℕ)) (bytes : List ℕ) (old new : World) (asks : 
 
   module _ (flaw : SettingsFlaw) (refused : settings bytes ≡ Err flaw) where
     not_accepted : (values : Settings) (now : Object) → IsAccepted values (File asks.name) old.settings now → ⊥
-    not_accepted values now taken = let same : Ok values ≡ Err flaw = sym (accepted_so asks.name bytes old asks.told values now taken) ∙ refused in absurd (cc)
+    not_accepted values now taken = let same : Ok values ≡ Err flaw = sym (accepted_so asks.name bytes old asks.content values now taken) ∙ refused in absurd (cc)
 
     by_flaw : (answer : Answer) → ProxyAccounts asks.name answer old new → IsBlocked (Misset flaw) answer
     by_flaw answer (inl taken) = not_taken asks.name old new (IsBlocked (Misset flaw)) (inl (inr refl)) answer taken (λ rose. inr (inl refl)) (λ rose. inr (inr refl)) same_flaw where
       same_flaw : (other : SettingsFlaw) → IsFlawed other (File asks.name) old.settings new.settings → IsBlocked (Misset flaw) (Misset other)
       same_flaw other has =
-          let same : Err other ≡ Err flaw = sym (has_flaw asks.name bytes old asks.told other new.settings has) ∙ refused in
+          let same : Err other ≡ Err flaw = sym (has_flaw asks.name bytes old asks.content other new.settings has) ∙ refused in
           let one : other ≡ flaw = cc in
           inl (inl (ap (λ f. Misset f) one))
     by_flaw answer (inr (inl (other, is, h))) = absurd (not_accepted h.values new.settings h.taken)

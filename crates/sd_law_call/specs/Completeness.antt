@@ -1,24 +1,19 @@
 -- What a call has to come to, by its words, what its objects tell, and where no fault was counted.
 use Rattle.std.specs.Prelude.{Option, Some, ⊤, ◌≡◌, ◌⊎◌, ℕ, ◌<◌, IsTrue, List, [], ◌++◌, length, map, None, Result, Ok, Err}
-use Rattle.sd_model_call.specs.Words.{Form, Serve, Proxy, Replay, form}
+use Rattle.sd_model_call.specs.Call.{Form, Serve, Proxy, Replay, form, Answer, NoMemory, Misset, NotOpened, NotRead, NotWritten}
 use Rattle.std.specs.List.{AllByRecursion}
-use Rattle.sd_model_outside.specs.Outside.{Left, Rose, given}
-use Rattle.sd_model_outside.specs.Deliveries.{AfterDeliveries}
-use Rattle.sd_model_replay.specs.Settings.{is_used, targets_of}
+use Rattle.sd_model_outside.specs.Outside.{Left, Rose, given, object_at}
+use Rattle.sd_model_outside.specs.Uses.{AfterDeliveries, AreRepeated}
+use Rattle.sd_model_replay.specs.Replay.{is_used, targets_of, deliveries, sendings}
 use Rattle.sd_model_record.specs.Backends.{Backend}
-use Rattle.sd_model_replay.specs.Script.{Command, end_word, script_text, IsLegal, ScriptFlaw, Faulty, Begins}
-use Rattle.sd_model_record.specs.WireSends.{wire_at, AreRepeated}
-use Rattle.sd_model_replay.specs.Replay.{deliveries, sendings}
+use Rattle.sd_model_replay.specs.Script.{ScriptCommand, end_word, script_text, IsLegal, ScriptFlaw, Faulty, Begins}
 use Rattle.sd_model_call.specs.Drill.{well}
-use Rattle.sd_model_replay.specs.Asked.{output_of}
+use Rattle.sd_model_replay.specs.AccountingTheorem.{output_of, totals_after, Seen, ReplayTrace, AccountingTheorem, seen_at, End, WriteFailed}
 use Rattle.sd_model_record.specs.Totals.{totals_text}
-use Rattle.sd_model_replay.specs.Totals.{totals_after}
-use Rattle.sd_model_replay.specs.AccountingTheorem.{Seen, Course, AccountingTheorem, seen_at}
-use Rattle.sd_model_replay.specs.Ends.{End, WriteFailed, most_records}
 use Rattle.sd_law_call.specs.Behind.{behind}
 use Rattle.sd_model_settings.specs.Settings.{SettingsFlaw, settings, Settings}
-use Rattle.sd_model_call.specs.Opening.{World, Part, OfSettings, OfWire, OfGraphite, OfConsole, settled, started}
-use Rattle.sd_model_call.specs.Call.{Answer, NoMemory, Misset, NotOpened, NotRead, NotWritten}
+use Rattle.sd_model_call.specs.Opening.{World, Part, OfSettings, OfWire, OfGraphite, OfConsole, settled, replay_openings, opened_all}
+use Rattle.sd_model_serve.specs.Receiving.{most_turns}
 
 -- the words are none that ask for the server or the proxy
 abbrev pub IsScripted : Option Form → Type 0
@@ -27,28 +22,28 @@ IsScripted (Some (Proxy name)) = ⊥
 IsScripted asked = ⊤
 
 -- The script tells that it has these legal records and then these bytes, and no fault was counted of it.
-pub record IsSteady (settings : Settings) (old new : Seen) (commands : List Command) (bytes : List ℕ) : Type 0 where
-  pub script : old.script.told ≡ Left (script_text commands ++ bytes)
+pub record IsSteady (settings : Settings) (old new : Seen) (commands : List ScriptCommand) (bytes : List ℕ) : Type 0 where
+  pub script : old.script.content ≡ Left (script_text commands ++ bytes)
   pub legal : AllByRecursion (IsLegal settings.sizes.receivers) commands
   pub script_faults : ¬ Rose old.script.faults new.script.faults
 
 -- nothing hinders a replay of these records: they are fewer than there may be, behind them stands the word that ends the
 -- script, and then the rest, and no fault was counted of the output
-pub record IsUnhindered (settings : Settings) (old new : Seen) (commands : List Command) (rest : List ℕ) : Type 0 where
+pub record IsUnhindered (settings : Settings) (old new : Seen) (commands : List ScriptCommand) (rest : List ℕ) : Type 0 where
   pub steady : IsSteady settings old new commands (end_word ++ rest)
-  pub few : length commands < most_records
+  pub few : length commands < most_turns
   pub output_faults : ¬ Rose old.output.faults new.output.faults
 
 -- fewer records than there may be, and behind them this flaw stands next in all that the script has left
-pub record IsCutOff (settings : Settings) (old new : Seen) (commands : List Command) (flaw : ScriptFlaw) (bytes : List ℕ) : Type 0 where
+pub record IsCutOff (settings : Settings) (old new : Seen) (commands : List ScriptCommand) (flaw : ScriptFlaw) (bytes : List ℕ) : Type 0 where
   pub steady : IsSteady settings old new commands bytes
-  pub few : length commands < most_records
+  pub few : length commands < most_turns
   pub begins : Begins settings.sizes.receivers (Faulty flaw) bytes (Left [])
 
 -- as many records as there may be
-pub record IsLongest (settings : Settings) (old new : Seen) (commands : List Command) (bytes : List ℕ) : Type 0 where
+pub record IsLongest (settings : Settings) (old new : Seen) (commands : List ScriptCommand) (bytes : List ℕ) : Type 0 where
   pub steady : IsSteady settings old new commands bytes
-  pub most : length commands ≡ most_records
+  pub most : length commands ≡ most_turns
 
 -- a replay ends so, or a write failed
 abbrev pub EndsSo : End → End → Type 0
@@ -59,7 +54,7 @@ pub record Asks (words : List (List ℕ)) (old new : World) (bytes : List ℕ) :
   pub settings : List ℕ
   pub script : List ℕ
   pub form : form words ≡ Some (Replay settings script)
-  pub told : old.settings.told ≡ Left bytes
+  pub content : old.settings.content ≡ Left bytes
 
 -- such a call whose settings are accepted with these values, and no fault was counted of them
 pub record AsksPlainly (words : List (List ℕ)) (values : Settings) (old new : World) : Type 0 where
@@ -70,12 +65,12 @@ pub record AsksPlainly (words : List (List ℕ)) (values : Settings) (old new : 
 
 -- what is seen where a replay by settings that were accepted begins
 abbrev pub start_of : Settings → List ℕ → World → World → Seen
-start_of values script old new = started script values (settled values new.settings old)
+start_of values script old new = (opened_all (settled values new.settings old) (replay_openings script values)).seen
 
 -- no fault was counted of a backend that is used, nor of the wire of a target
 pub record NoneMissed (settings : Settings) (old new : Seen) : Type 0 where
   pub backends : (back : Backend) → IsTrue (is_used settings back) → ¬ Rose (seen_at back old).faults (seen_at back new).faults
-  pub wires : (i : ℕ) → i < length (targets_of settings) → ¬ Rose (wire_at i old.wires).faults (wire_at i new.wires).faults
+  pub wires : (i : ℕ) → i < length (targets_of settings) → ¬ Rose (object_at i old.wires).faults (object_at i new.wires).faults
 
 -- the answer that is expected, or that no memory was left
 abbrev pub IsWhole : Answer → Answer → Type 0
@@ -93,8 +88,8 @@ abbrev pub IsFull : Answer → Answer → Type 0
 IsFull ended answer = IsWhole ended answer ⊎ ((part : Part) × IsOutward part × (answer ≡ NotOpened part))
 
 -- besides, that the output failed
-abbrev pub IsTold : Answer → Answer → Type 0
-IsTold ended answer = IsFull ended answer ⊎ (answer ≡ NotWritten)
+abbrev pub IsReported : Answer → Answer → Type 0
+IsReported ended answer = IsFull ended answer ⊎ (answer ≡ NotWritten)
 
 -- what a call has to answer whose settings have a flaw; with nothing told, all else
 abbrev pub refusal : Result Settings SettingsFlaw → Option Answer
@@ -105,17 +100,17 @@ refusal (Ok values) = None
 abbrev pub IsBlocked : Answer → Answer → Type 0
 IsBlocked refused answer = IsWhole refused answer ⊎ (answer ≡ NotOpened OfSettings) ⊎ (answer ≡ NotRead OfSettings)
 
--- these records were carried out, all and no others, the rest wasn't, and the output has the replies and then the totals
-pub record CarriedOut (settings : Settings) (old new : Seen) (commands : List Command) (rest : List ℕ) : Type 0 where
-  pub course : Course
-  pub theorem : AccountingTheorem settings course old new
-  pub all : map (λ p. p.command) course.played ≡ commands
-  pub left : behind course new ≡ Left (end_word ++ rest)
-  pub output : new.output ≡ given (output_of settings course.played ++ totals_text (totals_after settings course.played)) old.output
+-- these records were executed, all and no others, the rest wasn't, and the output has the replies and then the totals
+pub record WasExecuted (settings : Settings) (old new : Seen) (commands : List ScriptCommand) (rest : List ℕ) : Type 0 where
+  pub trace : ReplayTrace
+  pub theorem : AccountingTheorem settings trace old new
+  pub all : map (λ p. p.command) trace.played ≡ commands
+  pub left : behind trace new ≡ Left (end_word ++ rest)
+  pub output : new.output ≡ given (output_of settings trace.played ++ totals_text (totals_after settings trace.played)) old.output
 
 -- each backend that is used got the whole text of each flush of these records, each other one is untouched, the wire of each
 -- target got each packet, and the output got their replies and then their totals
-pub record CarriedOutWell (settings : Settings) (old new : Seen) (commands : List Command) : Type 0 where
+pub record WasExecutedWell (settings : Settings) (old new : Seen) (commands : List ScriptCommand) : Type 0 where
   pub backends : (back : Backend) → AfterDeliveries (deliveries settings back (map (well settings) commands)) (seen_at back old) (seen_at back new)
   pub wires : AreRepeated (sendings (map (well settings) commands)) old.wires new.wires
   pub output : (let played = map (well settings) commands in new.output ≡ given (output_of settings played ++ totals_text (totals_after settings played)) old.output)

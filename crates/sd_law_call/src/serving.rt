@@ -1,13 +1,12 @@
 //! What the answers to a call that is asked to serve say.
 ghost use Rattle.std.specs.Prelude.{◌≡◌, ◌⊎◌, ℕ, ◌+◌, ◌<◌, List, length, Ok, Err};
-ghost use Rattle.sd_model_outside.specs.Turns.{IsSpent};
+ghost use Rattle.sd_model_outside.specs.Uses.{IsSpent};
 ghost use Rattle.sd_model_settings.specs.Settings as file;
 ghost use Rattle.sd_model_settings.specs.Settings.{SettingsFlaw, settings};
-ghost use Rattle.sd_model_serve.specs.Ends.{IsShort};
+ghost use Rattle.sd_model_serve.specs.Receiving.{IsShort};
 ghost use Rattle.sd_model_run.specs.Run.{rounds_in};
-ghost use Rattle.sd_model_call.specs.Words.{Serve, form};
+ghost use Rattle.sd_model_call.specs.Call.{Serve, form, Answer, Done, Misset};
 ghost use Rattle.sd_model_call.specs.Opening.{World};
-ghost use Rattle.sd_model_call.specs.Call.{Answer, Done, Misset};
 ghost use Rattle.sd_law_call.specs.Completeness.{IsBlocked, IsWhole};
 ghost use Rattle.sd_model_call.specs.Server.{AnswersServer, HasServed, ServerAccounts, has_streams};
 ghost use Rattle.sd_law_call.specs.ServerCompleteness.{AStreamTookMost, AreAllSpent, AsksFor, IsCauseOf, IsServed, IsUnhinderedServer, NoneFailed};
@@ -33,9 +32,9 @@ pub fn unhindered_servers_serve<T: Clock>(clock: &T)
     ensures spent { (name : List ℕ) (old new : World) (served : HasServed name (T.may_say clock.now) Done old new)
         → served.values.sizes.run_flushes ≡ 0 → AreAllSpent served.values.sizes.receivers (has_streams served.values) new }
     ensures short { (name : List ℕ) (old new : World) (served : HasServed name (T.may_say clock.now) Done old new)
-        → IsShort served.values.sizes.run_flushes (length (rounds_in served.course))
+        → IsShort served.values.sizes.run_flushes (length (rounds_in served.trace))
         → AreAllSpent served.values.sizes.receivers (has_streams served.values) new }
     ensures rounds { (name : List ℕ) (old new : World) (served : HasServed name (T.may_say clock.now) Done old new)
         → 0 < served.values.sizes.run_flushes
-        → (length (rounds_in served.course) ≡ served.values.sizes.run_flushes + 1) ⊎ IsSpent new.served.beat.told }
+        → (length (rounds_in served.trace) ≡ served.values.sizes.run_flushes + 1) ⊎ IsSpent new.served.beat.content }
 {}

@@ -4,14 +4,14 @@ use Rattle.std.specs.List.{AllByRecursion, range_with_len}
 use Rattle.std.proofs.lemmas.List.{get_or-map, length-map}
 use Rattle.sd_model_shard.specs.Shard.{Limits, Policy, Table}
 use Rattle.sd_model_shard.specs.History.{History, Legal}
-use Rattle.sd_model_shard.specs.Summaries.{Tell}
+use Rattle.sd_model_shard.specs.Rows.{Tell}
 use Rattle.sd_model_shard.specs.Whereabouts.{AreDocumented, Flushed, flushes, tables}
-use Rattle.sd_law_shard.proofs.HistoryLemmas.{accounted, are_documented, rows_carried}
-use Rattle.sd_model_record.specs.Record.{record_rows}
-use Rattle.sd_model_record.specs.Documented.{documented_rows}
+use Rattle.sd_law_shard.proofs.HistoryLemmas.{accounted, are_documented, rows_kept}
+use Rattle.sd_model_record.specs.Record.{record_rows, documented_rows}
 use Rattle.sd_law_record.specs.Tell.{AllTell}
 use Rattle.sd_law_record.proofs.DocumentedLemmas.{documented}
-use Rattle.sd_model_serve.specs.Rounds.{AreAccounted, Form, Round, round_record, no_flush, flushed_at}
+use Rattle.sd_model_serve.specs.Rounds.{AreAccounted, RecordForm, Round, round_record, flushed_at}
+use Rattle.sd_model_serve.proofs.Short.{no_flush}
 
 at_place : {X : Type 0} (P : X → Type 0) (xs : List X) (k : ℕ) (d : X) → AllByRecursion P xs → k < length xs → P (get_or xs k d)
 at_place P [] k d all below = absurd (omega arith)
@@ -33,15 +33,15 @@ map_map : {X Y Z : Type 0} (f : Y → Z) (g : X → Y) (xs : List X) → map f (
 map_map f g [] = refl
 map_map f g (x ∷ xs) = ap (λ ys. f (g x) ∷ ys) (map_map f g xs)
 
-module _ (limits : Limits) (policy : Policy) (form : Form) (histories : ℕ → History) (rounds : List Round)
-    (told : (i : ℕ) → i < form.shards → AreDocumented limits policy (histories i))
+module _ (limits : Limits) (policy : Policy) (form : RecordForm) (histories : ℕ → History) (rounds : List Round)
+    (reported : (i : ℕ) → i < form.shards → AreDocumented limits policy (histories i))
     (handed_out : (i : ℕ) → i < form.shards → tables (histories i) ≡ map (λ r. r.tables i) rounds) where
   as_many : (i : ℕ) → i < form.shards → length (flushes (histories i)) ≡ length rounds
   as_many i below =
       omega (
         arith,
         length-map (flushes (histories i)) (λ (f : Flushed). f.table),
-        ap length ((told i below).handed_out ∙ handed_out i below),
+        ap length ((reported i below).handed_out ∙ handed_out i below),
         length-map rounds (λ (r : Round). r.tables i),
       )
 
@@ -49,7 +49,7 @@ module _ (limits : Limits) (policy : Policy) (form : Form) (histories : ℕ → 
   own_table k other within i below =
       let few : k < length (flushes (histories i)) = omega (arith, as_many i below) in
       sym (get_or-map (λ (f : Flushed). f.table) (flushes (histories i)) k no_flush no_flush.table few)
-      ∙ ap (λ (ts : List Table). get_or ts k no_flush.table) ((told i below).handed_out ∙ handed_out i below)
+      ∙ ap (λ (ts : List Table). get_or ts k no_flush.table) ((reported i below).handed_out ∙ handed_out i below)
       ∙ get_or-map (λ (r : Round). r.tables i) rounds k other no_flush.table within
 
   -- the record of a round is that of the journals
@@ -59,21 +59,21 @@ module _ (limits : Limits) (policy : Policy) (form : Form) (histories : ℕ → 
       let range = range_with_len 0 form.shards in
       let tell : AllTell (map flushed range) = all_in (λ f. Tell f.table.live f.journal) flushed 0 form.shards (λ i low high.
       let below : i < form.shards = omega arith in
-      at_place (λ (f : Flushed). Tell f.table.live f.journal) (flushes (histories i)) k no_flush (told i below).tables (omega (arith, as_many i below))) in
+      at_place (λ (f : Flushed). Tell f.table.live f.journal) (flushes (histories i)) k no_flush (reported i below).tables (omega (arith, as_many i below))) in
       let same : map (λ (f : Flushed). f.table) (map flushed range) ≡ map (get_or rounds k other).tables range =
       map_map (λ (f : Flushed). f.table) flushed range
       ∙ map_alike (λ i. (flushed i).table) (get_or rounds k other).tables 0 form.shards (λ i low high. own_table k other within i (omega arith)) in
       sym (ap (record_rows form.plan) same) ∙ documented form.plan (map flushed range) tell
 
-pub account : (limits : Limits) (policy : Policy) (form : Form) (histories : ℕ → History) (rounds : List Round) → ((i : ℕ) → i < form.shards → Legal limits policy (histories i))
+pub account : (limits : Limits) (policy : Policy) (form : RecordForm) (histories : ℕ → History) (rounds : List Round) → ((i : ℕ) → i < form.shards → Legal limits policy (histories i))
     → ((i : ℕ) → i < form.shards → tables (histories i) ≡ map (λ r. r.tables i) rounds) → AreAccounted limits policy form histories rounds
 account limits policy form histories rounds legal handed_out =
-    let told : (i : ℕ) → i < form.shards → AreDocumented limits policy (histories i) = λ i below. are_documented limits policy (histories i) (legal i below) in
+    let reported : (i : ℕ) → i < form.shards → AreDocumented limits policy (histories i) = λ i below. are_documented limits policy (histories i) (legal i below) in
     record {
       legal = legal;
       places = λ i below. accounted limits policy (histories i) (legal i below);
       handed_out = handed_out;
-      carried = λ i below. rows_carried limits policy (histories i) (legal i below);
-      documented = told;
-      statistics = round_documented limits policy form histories rounds told handed_out;
+      kept_rows = λ i below. rows_kept limits policy (histories i) (legal i below);
+      documented = reported;
+      statistics = round_documented limits policy form histories rounds reported handed_out;
     }

@@ -2,8 +2,7 @@
 use Rattle.std.proofs.Common.{List}
 use Rattle.sd_model_serve.specs.Rounds.{AreAccounted}
 use Rattle.sd_law_record.proofs.AccountLemmas.{account}
-use Rattle.sd_model_replay.specs.Settings.{bounds_of, limits_of, policy_of}
-use Rattle.sd_model_replay.specs.Replay.{Played, form_of, history_at, rounds}
+use Rattle.sd_model_replay.specs.Replay.{bounds_of, limits_of, policy_of, Played, form_of, history_at, rounds}
 use Rattle.sd_model_replay.proofs.HistoryLemmas.{tables-history_at}
 use Rattle.sd_model_settings.specs.Settings.{Settings}
 use Rattle.sd_model_replay.proofs.AccountingLemmas.{legal}

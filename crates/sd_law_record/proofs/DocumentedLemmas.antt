@@ -7,14 +7,14 @@ use Rattle.std.specs.FinMap.Entries.{below_all}
 use Rattle.std.specs.Ordering.{eq_by_cmp, is_eq}
 use Rattle.sd_model_text.specs.Names.{Kind, Counter, Timer, Gauge, Set}
 use Rattle.sd_model_settings.specs.Settings.{Plan}
-use Rattle.sd_model_shard.specs.Rows.{RowId, row_cmp, Summary, Kept, Entry}
-use Rattle.sd_model_shard.specs.Summaries.{statistics_of, Tell}
+use Rattle.sd_model_shard.specs.Rows.{RowId, row_cmp, Summary, Kept, Entry, Tell}
 use Rattle.sd_model_shard.specs.Whereabouts.{Flushed}
 use Rattle.sd_model_shard.proofs.RowLemmas.{rows_total}
 use Rattle.sd_model_shard.proofs.EntryLemmas.{and_second, found_behind}
-use Rattle.sd_model_record.specs.Record.{Row, row_of_kind, row_value, table_rows, record_rows}
-use Rattle.sd_model_record.specs.Documented.{documented_by, documented_in, documented_rows}
+use Rattle.sd_model_record.specs.Record.{Row, row_of_kind, record_rows, documented_by, documented_rows}
 use Rattle.sd_law_record.specs.Tell.{AllTell}
+use Rattle.sd_model_record.proofs.Short.{table_rows, row_value, documented_in}
+use Rattle.sd_model_shard.proofs.Short.{statistics_of}
 
 module _ (plan : Plan) where
   by_kind : (kind : Kind) (key : List ℕ) (base : ℤ) (journal : List Entry)
@@ -25,14 +25,14 @@ module _ (plan : Plan) where
   by_kind Set key base journal = refl
 
   one_row : (journal : List Entry) (id : RowId) (kept : Kept) → kept.since ≡ statistics_of id kept.base journal → row_value plan id kept ≡ documented_by id.kind plan journal id kept.base
-  one_row journal id kept told = ap (row_of_kind id.kind plan id.key) told ∙ by_kind id.kind id.key kept.base journal
+  one_row journal id kept reported = ap (row_of_kind id.kind plan id.key) reported ∙ by_kind id.kind id.key kept.base journal
 
   each_row : (journal : List Entry) (es : List (RowId × Kept)) → T (is_sorted row_cmp es) → ((q : RowId) (kept : Kept) → find row_cmp q es ≡ Some kept → kept.since ≡ statistics_of q kept.base journal)
       → map {B = RowId × Row} (λ (e : RowId × Kept). (e.0, row_value plan e.0 e.1)) es ≡ map {B = RowId × Row} (λ (e : RowId × Kept). (e.0, documented_by e.0.kind plan journal e.0 e.1.base)) es
-  each_row journal [] h told = refl
-  each_row journal (e ∷ es) h told =
-      let here = one_row journal e.0 e.1 (told e.0 e.1 (ap (λ o. cond (is_eq o) (Some e.1) (find row_cmp e.0 es)) (tied_itself rows_total e.0))) in
-      let rest = each_row journal es (and_second (below_all row_cmp e.0 es) (is_sorted row_cmp es) h) (λ q kept is. told q kept (found_behind rows_total q e es h kept is)) in
+  each_row journal [] h reported = refl
+  each_row journal (e ∷ es) h reported =
+      let here = one_row journal e.0 e.1 (reported e.0 e.1 (ap (λ o. cond (is_eq o) (Some e.1) (find row_cmp e.0 es)) (tied_itself rows_total e.0))) in
+      let rest = each_row journal es (and_second (below_all row_cmp e.0 es) (is_sorted row_cmp es) h) (λ q kept is. reported q kept (found_behind rows_total q e es h kept is)) in
       λ i. (e.0, here i) ∷ rest i
 
   one_table : (f : Flushed) → Tell f.table.live f.journal → table_rows plan f.table ≡ documented_in plan f

@@ -3,9 +3,10 @@ use Rattle.std.proofs.Common.{◌≡◌, ◌∙◌, ℕ, zero, suc, ◌+◌, Boo
 use Rattle.std.proofs.lemmas.List.Sums.{sum_by-cons}
 use Rattle.sd_model_outside.specs.Outside.{Object, Packets}
 use Rattle.sd_model_outside.proofs.DeliveryLemmas.{Counts, joined_counts, same_counts}
-use Rattle.sd_model_record.specs.WireSends.{AfterSends, WireSend, Sending, sends_on}
+use Rattle.sd_model_outside.specs.Uses.{AfterSends, WireSend, Sending}
 use Rattle.sd_law_record.specs.Sends.{failed_among, packets_of}
-use Rattle.sd_model_record.proofs.WireLemmas.{before, one_count, one_told, packets_by}
+use Rattle.sd_model_record.proofs.WireLemmas.{before, one_count, one_content, packets_by}
+use Rattle.sd_model_outside.proofs.Short.{sends_on}
 
 packets_of-cons : (s : WireSend) (sends : List WireSend) → packets_of (s ∷ sends) ≡ packets_by s.is_failed s.packet ++ packets_of sends
 packets_of-cons s sends = go s.is_failed refl
@@ -15,10 +16,10 @@ packets_of-cons s sends = go s.is_failed refl
     go false is = ap (λ f. map (λ (x : WireSend). x.packet) (cond (not f) (s ∷ filter (λ (x : WireSend). not x.is_failed) sends) (filter (λ (x : WireSend). not x.is_failed) sends))) is
 
 -- what a wire tells after sends
-pub sends_told : (sends : List WireSend) (packets : List (List ℕ)) (old new : Object) → old.told ≡ Packets packets → AfterSends sends old new → new.told ≡ Packets (packets ++ packets_of sends)
-sends_told [] packets old new told h = ap (λ (o : Object). o.told) h ∙ told ∙ ap Packets (sym (append-nil packets))
-sends_told (s ∷ sends) packets old new told h =
-    sends_told sends (packets ++ packets_by s.is_failed s.packet) h.0 new (one_told s.packet s.is_failed packets old h.0 told h.1) h.2
+pub sends_content : (sends : List WireSend) (packets : List (List ℕ)) (old new : Object) → old.content ≡ Packets packets → AfterSends sends old new → new.content ≡ Packets (packets ++ packets_of sends)
+sends_content [] packets old new content h = ap (λ (o : Object). o.content) h ∙ content ∙ ap Packets (sym (append-nil packets))
+sends_content (s ∷ sends) packets old new content h =
+    sends_content sends (packets ++ packets_by s.is_failed s.packet) h.0 new (one_content s.packet s.is_failed packets old h.0 content h.1) h.2
     ∙ ap Packets (append_assoc packets (packets_by s.is_failed s.packet) (packets_of sends) ∙ ap (λ ps. packets ++ ps) (sym (packets_of-cons s sends)))
 
 -- what sends do to a wire's count of faults, and that it stays where it was opened

@@ -1,6 +1,6 @@
 -- The packets of sends on a wire, and how many failed.
 use Rattle.std.specs.Prelude.{ℕ, not, List, map, filter, count_by}
-use Rattle.sd_model_record.specs.WireSends.{WireSend}
+use Rattle.sd_model_outside.specs.Uses.{WireSend}
 
 -- the packets of the sends that didn't fail
 abbrev pub packets_of : List WireSend → List (List ℕ)

@@ -1,7 +1,7 @@
 -- Swaps whose rows tell their journals.
 use Rattle.std.specs.Prelude.{List}
 use Rattle.std.specs.List.{AllByRecursion}
-use Rattle.sd_model_shard.specs.Summaries.{Tell}
+use Rattle.sd_model_shard.specs.Rows.{Tell}
 use Rattle.sd_model_shard.specs.Whereabouts.{Flushed}
 
 -- each table tells its journal

@@ -1,8 +1,7 @@
 ghost use Rattle.std.specs.Prelude.{◌≡◌, List, map};
 ghost use Rattle.sd_model_settings.specs.Settings.{Plan};
 ghost use Rattle.sd_model_shard.specs.Whereabouts.{Flushed};
-ghost use Rattle.sd_model_record.specs.Record.{record_rows};
-ghost use Rattle.sd_model_record.specs.Documented.{documented_rows};
+ghost use Rattle.sd_model_record.specs.Record.{record_rows, documented_rows};
 ghost use Rattle.sd_law_record.specs.Tell.{AllTell};
 
 /// A record of tables that tell their journals has the documented statistics of the journals.

@@ -7,23 +7,25 @@ use Rattle.std.proofs.lemmas.List.Elements.{filter-append}
 use Rattle.std.proofs.lemmas.List.FromFn.{get_or-map-range_with_len, length-range_with_len}
 use Rattle.sd_model_text.specs.Lines.{Sample, samples_of}
 use Rattle.sd_model_shard.specs.Shard.{State, Limits, Policy, Event, Submit, Swap, step}
-use Rattle.sd_model_shard.specs.History.{Act, History, Asked, act_of, answered, part_of}
+use Rattle.sd_model_shard.specs.History.{Act, History, Asked, answered, part_of}
 use Rattle.sd_model_shard.specs.Whereabouts.{Arrival}
 use Rattle.sd_model_shard.proofs.AnsweredLemmas.{answered-append}
 use Rattle.sd_model_record.specs.Admin as admin
-use Rattle.sd_model_serve.specs.Receiving.{flusher, administrator, acts_by, asks, events_by, events_of}
+use Rattle.sd_model_serve.specs.Receiving.{flusher, administrator, acts_by, asks, events_of}
 use Rattle.sd_model_record.specs.Replies.{admin_events}
 use Rattle.sd_model_serve.specs.Rounds.{Round, swaps_at, Ran}
 use Rattle.sd_model_serve.specs.Sessions as sessions
 use Rattle.sd_model_serve.specs.Sessions.{Broadcast}
 use Rattle.sd_model_serve.proofs.ActsLemmas.{asks-append}
-use Rattle.sd_model_replay.specs.Settings.{Bounds}
-use Rattle.sd_model_replay.specs.Script.{Command, Packet, Flush, Admin, IsLegal}
-use Rattle.sd_model_replay.specs.Replay.{Outcome, Played, Run, acts_in, events_at, events_in, first_run, history_at, home_of, play, round_by, rounds, rounds_from, samples_at, samples_in}
-use Rattle.sd_model_replay.specs.Asked.{broadcasts, broadcasts_in}
+use Rattle.sd_model_replay.specs.Replay.{Bounds, Outcome, Played, Run, acts_of_record, events_of_record, first_run, history_at, home_of, play, round_by, rounds, samples_at, samples_of_record}
+use Rattle.sd_model_replay.specs.Script.{ScriptCommand, Packet, Flush, Admin, IsLegal}
+use Rattle.sd_model_replay.specs.AccountingTheorem.{broadcasts, broadcasts_in}
 use Rattle.sd_law_run.specs.Asked.{asked_from, asked_in, brought_by, brought_in}
 use Rattle.sd_model_replay.proofs.AccountingLemmas.{legal}
 use Rattle.sd_model_replay.proofs.HistoryLemmas.{tables-history_at}
+use Rattle.sd_model_replay.proofs.Short.{events_at, rounds_from}
+use Rattle.sd_model_serve.proofs.Short.{events_by}
+use Rattle.sd_model_shard.proofs.Short.{act_of}
 
 apart : (a b : ℕ) → a ≢ b → eqb a b ≡ false
 apart a b other = by_test (eqb_tells a b) where
@@ -88,13 +90,13 @@ module _ (bounds : Bounds) (receivers i : ℕ) where
   line_events line = admin_events (admin.command line)
 
   -- one record
-  of_receiver : (r : ℕ) → r < flusher → (run : Run) (c : Command)
-      → events_by r (acts_in bounds run.shards i c) ≡ asks bounds.shards i (map (λ a. a.sample) (part_of (λ a. a.who) r (samples_in c)))
+  of_receiver : (r : ℕ) → r < flusher → (run : Run) (c : ScriptCommand)
+      → events_by r (acts_of_record bounds run.shards i c) ≡ asks bounds.shards i (map (λ a. a.sample) (part_of (λ a. a.who) r (samples_of_record c)))
   of_receiver r small run (Packet who moment datagram) = by_test (eqb_tells r who) where
     samples : List Sample
     samples = samples_of datagram
 
-    by_test : (eqb r who ≡ true) × (r ≡ who) ⊎ (eqb r who ≡ false) × (r ≢ who) → events_by r (acts_in bounds run.shards i (Packet who moment datagram)) ≡ asks bounds.shards i (brought_of r who (samples_of datagram))
+    by_test : (eqb r who ≡ true) × (r ≡ who) ⊎ (eqb r who ≡ false) × (r ≢ who) → events_by r (acts_of_record bounds run.shards i (Packet who moment datagram)) ≡ asks bounds.shards i (brought_of r who (samples_of datagram))
     by_test (inl (same, is)) =
         ap events_of (all_by Submit who r bounds.limits bounds.policy same (run.shards i) (own_samples samples))
         ∙ events_asked Submit who r bounds.limits bounds.policy (run.shards i) (own_samples samples) ∙ ap (asks bounds.shards i) (sym (brought_all r who same samples))
@@ -105,16 +107,16 @@ module _ (bounds : Bounds) (receivers i : ℕ) where
   of_receiver r small run (Admin moment line) =
       ap events_of (none_by (λ e. e) administrator r bounds.limits bounds.policy (apart r administrator (λ is. omega (arith, is, small))) (run.shards i) (line_events line))
 
-  of_flusher : (run : Run) (c : Command) (outcome : Outcome) (rest : List Round) → IsLegal receivers c
-      → acts_by flusher (acts_in bounds run.shards i c) ++ swaps_at rest i ≡ swaps_at (cons_option (round_by run c outcome) rest) i
+  of_flusher : (run : Run) (c : ScriptCommand) (outcome : Outcome) (rest : List Round) → IsLegal receivers c
+      → acts_by flusher (acts_of_record bounds run.shards i c) ++ swaps_at rest i ≡ swaps_at (cons_option (round_by run c outcome) rest) i
   of_flusher run (Packet who moment datagram) outcome rest is =
       let small = is.0.1 in
-      ap (λ front. front ++ swaps_at rest i) (none_by Submit who flusher bounds.limits bounds.policy (apart flusher who (λ same. omega (arith, same, small))) (run.shards i) (own_samples (samples_of datagram)))
+      ap (λ prefix. prefix ++ swaps_at rest i) (none_by Submit who flusher bounds.limits bounds.policy (apart flusher who (λ same. omega (arith, same, small))) (run.shards i) (own_samples (samples_of datagram)))
   of_flusher run (Flush ts) outcome rest is = refl
   of_flusher run (Admin moment line) outcome rest is =
-      ap (λ front. front ++ swaps_at rest i) (none_by (λ e. e) administrator flusher bounds.limits bounds.policy refl (run.shards i) (line_events line))
+      ap (λ prefix. prefix ++ swaps_at rest i) (none_by (λ e. e) administrator flusher bounds.limits bounds.policy refl (run.shards i) (line_events line))
 
-  of_administrator : (run : Run) (c : Command) → IsLegal receivers c → acts_by administrator (acts_in bounds run.shards i c) ≡ sessions.acts_in (broadcasts_in bounds run.shards c) i
+  of_administrator : (run : Run) (c : ScriptCommand) → IsLegal receivers c → acts_by administrator (acts_of_record bounds run.shards i c) ≡ sessions.acts_in (broadcasts_in bounds run.shards c) i
   of_administrator run (Packet who moment datagram) is =
       let small = is.0.1 in
       none_by Submit who administrator bounds.limits bounds.policy (apart administrator who (λ same. omega (arith, same, small))) (run.shards i) (own_samples (samples_of datagram))
@@ -123,7 +125,7 @@ module _ (bounds : Bounds) (receivers i : ℕ) where
       all_by (λ e. e) administrator administrator bounds.limits bounds.policy refl (run.shards i) (line_events line)
       ∙ broadcast_acts bounds i run.shards (line_events line)
 
-  of_nobody : (w : ℕ) → receivers ≤ w → w ≢ flusher → w ≢ administrator → (run : Run) (c : Command) → IsLegal receivers c → acts_by w (acts_in bounds run.shards i c) ≡ []
+  of_nobody : (w : ℕ) → receivers ≤ w → w ≢ flusher → w ≢ administrator → (run : Run) (c : ScriptCommand) → IsLegal receivers c → acts_by w (acts_of_record bounds run.shards i c) ≡ []
   of_nobody w many no_flusher no_administrator run (Packet who moment datagram) is =
       let small = is.0.0 in
       none_by Submit who w bounds.limits bounds.policy (apart w who (λ same. omega (arith, same, small, many))) (run.shards i) (own_samples (samples_of datagram))
@@ -140,29 +142,29 @@ module _ (bounds : Bounds) (receivers i : ℕ) where
 
   -- the acts of a caller in a record's acts, and in those behind them
   parted : (w : ℕ) (run : Run) (p : Played) (played : List Played)
-      → acts_by w (history_from run (p ∷ played)) ≡ acts_by w (acts_in bounds run.shards i p.command) ++ acts_by w (history_from (play bounds run p) played)
+      → acts_by w (history_from run (p ∷ played)) ≡ acts_by w (acts_of_record bounds run.shards i p.command) ++ acts_by w (history_from (play bounds run p) played)
   parted w run p played =
-      ap (acts_by w) (answered-append bounds.limits bounds.policy (run.shards i) (events_in bounds.shards i p.command) (events_at bounds.shards i played))
-      ∙ filter-append (λ (a : Act). eqb w a.who) (acts_in bounds run.shards i p.command) (history_from (play bounds run p) played)
+      ap (acts_by w) (answered-append bounds.limits bounds.policy (run.shards i) (events_of_record bounds.shards i p.command) (events_at bounds.shards i played))
+      ∙ filter-append (λ (a : Act). eqb w a.who) (acts_of_record bounds run.shards i p.command) (history_from (play bounds run p) played)
 
-  brought-cons : (r : ℕ) (p : Played) (played : List Played) → brought_by r (p ∷ played) ≡ map (λ a. a.sample) (part_of (λ a. a.who) r (samples_in p.command)) ++ brought_by r played
+  brought-cons : (r : ℕ) (p : Played) (played : List Played) → brought_by r (p ∷ played) ≡ map (λ a. a.sample) (part_of (λ a. a.who) r (samples_of_record p.command)) ++ brought_by r played
   brought-cons r p played =
-      ap (map (λ (a : Arrival). a.sample)) (filter-append (λ (a : Arrival). eqb r a.who) (samples_in p.command) (samples_at played))
-      ∙ map-append (λ (a : Arrival). a.sample) (part_of (λ a. a.who) r (samples_in p.command)) (part_of (λ a. a.who) r (samples_at played))
+      ap (map (λ (a : Arrival). a.sample)) (filter-append (λ (a : Arrival). eqb r a.who) (samples_of_record p.command) (samples_at played))
+      ∙ map-append (λ (a : Arrival). a.sample) (part_of (λ a. a.who) r (samples_of_record p.command)) (part_of (λ a. a.who) r (samples_at played))
 
   receiver_from : (r : ℕ) → r < flusher → (run : Run) (played : List Played) → events_by r (history_from run played) ≡ asks bounds.shards i (brought_by r played)
   receiver_from r small run [] = refl
   receiver_from r small run (p ∷ played) =
-      let here = map (λ (a : Arrival). a.sample) (part_of (λ a. a.who) r (samples_in p.command)) in
+      let here = map (λ (a : Arrival). a.sample) (part_of (λ a. a.who) r (samples_of_record p.command)) in
       ap events_of (parted r run p played)
-      ∙ map-append (λ (a : Act). a.event) (acts_by r (acts_in bounds run.shards i p.command)) (acts_by r (history_from (play bounds run p) played))
+      ∙ map-append (λ (a : Act). a.event) (acts_by r (acts_of_record bounds run.shards i p.command)) (acts_by r (history_from (play bounds run p) played))
       ∙ (λ j. of_receiver r small run p.command j ++ receiver_from r small (play bounds run p) played j)
       ∙ sym (asks-append bounds.shards i here (brought_by r played)) ∙ ap (asks bounds.shards i) (sym (brought-cons r p played))
 
   flusher_from : (run : Run) (played : List Played) → AreLegal played → acts_by flusher (history_from run played) ≡ swaps_at (rounds_from bounds run played) i
   flusher_from run [] are = refl
   flusher_from run (p ∷ played) are =
-      parted flusher run p played ∙ ap (λ rest. acts_by flusher (acts_in bounds run.shards i p.command) ++ rest) (flusher_from (play bounds run p) played are.1)
+      parted flusher run p played ∙ ap (λ rest. acts_by flusher (acts_of_record bounds run.shards i p.command) ++ rest) (flusher_from (play bounds run p) played are.1)
       ∙ of_flusher run p.command p.outcome (rounds_from bounds (play bounds run p) played) are.0
 
   administrator_from : (run : Run) (played : List Played) → AreLegal played → acts_by administrator (history_from run played) ≡ sessions.acts_in (asked_from bounds run played) i

@@ -9,12 +9,13 @@ use Rattle.std.proofs.lemmas.List.{get_or-take}
 use Rattle.sd_model_text.specs.Lists.{Lacks}
 use Rattle.sd_model_text.proofs.Cuts.{same_cut}
 use Rattle.sd_model_text.proofs.Digits.{Lacks-decimal}
-use Rattle.sd_model_outside.specs.Outside.{Told, IsAtEnd}
-use Rattle.sd_model_replay.specs.Script.{Head, PacketHead, FlushHead, AdminHead, EndHead, Body, head_line, body_of, IsReceiver, IsMoment, IsCount, IsForm, BadWord, BadLength, CutShort, Next, Faulty, HasBody, IsOver, IsPart, IsWrong, IsUndecided, Begins}
+use Rattle.sd_model_outside.specs.Outside.{Content, IsAtEnd}
+use Rattle.sd_model_replay.specs.Script.{Head, PacketHead, FlushHead, AdminHead, EndHead, Body, head_line, body_of, IsReceiver, IsMoment, IsForm, BadWord, BadLength, CutShort, Next, Faulty, HasBody, IsPart, IsWrong, IsUndecided, Begins}
 use Rattle.sd_script.specs.Next.{IsWhole}
 use Rattle.sd_model_replay.proofs.LineLemmas.{Lacks-cons, uncut, first_byte}
-use Rattle.sd_script.proofs.NextLemmas.{whole_next, body_stands, line_stands, begins_in_front}
+use Rattle.sd_script.proofs.NextLemmas.{whole_next, body_stands, line_stands, begins_before}
 use Rattle.sd_model_replay.proofs.Numbers.{IsWritten, IsWritten-from, number_written}
+use Rattle.sd_model_replay.proofs.Short.{IsOver, IsCount}
 
 -- a list that is cut at the first of a byte
 record Split (byte : ℕ) (xs : List ℕ) : Type 0 where
@@ -247,9 +248,9 @@ body_so len most is_line rest = elim (cases_lt most len) [
 
 module _ (receivers : ℕ) (bytes : List ℕ) where
   abbrev Decided : Type 0
-  Decided = IsUndecided receivers bytes ⊎ ((next : Next) × ((left : Told) → Begins receivers next bytes left))
+  Decided = IsUndecided receivers bytes ⊎ ((next : Next) × ((left : Content) → Begins receivers next bytes left))
 
-  by_body : (body : Body) (rest : List ℕ) (whole : Next) → ((IsSo : Body → List ℕ → Type 0) → IsSo body rest → HasBody receivers IsSo bytes) → (IsWhole body rest → (left : Told) → Begins receivers whole bytes left) → OfBody body rest → Decided
+  by_body : (body : Body) (rest : List ℕ) (whole : Next) → ((IsSo : Body → List ℕ → Type 0) → IsSo body rest → HasBody receivers IsSo bytes) → (IsWhole body rest → (left : Content) → Begins receivers whole bytes left) → OfBody body rest → Decided
   by_body body rest whole has stands (inl over) = inr (Faulty BadLength, λ left. inl (has IsOver over))
   by_body body rest whole has stands (inr (inl part)) = inl (inr (has IsPart part))
   by_body body rest whole has stands (inr (inr (inl wrong))) = inr (Faulty BadLength, λ left. inr (has IsWrong wrong))
@@ -257,12 +258,12 @@ module _ (receivers : ℕ) (bytes : List ℕ) where
 
   by_head : (head : Head) (announced : Option Body) (rest : List ℕ) → body_of head ≡ announced → IsForm receivers head → bytes ≡ head_line head ++ 10 ∷ rest → Decided
   by_head head None rest none form whole =
-      inr (whole_next head [], λ left. begins_in_front receivers (whole_next head []) bytes rest left (line_stands receivers head bytes rest none form whole))
+      inr (whole_next head [], λ left. begins_before receivers (whole_next head []) bytes rest left (line_stands receivers head bytes rest none form whole))
   by_head head (Some body) rest some form whole =
       let next = whole_next head (take body.len rest) in
       by_body body rest next
       (λ IsSo so. record { head = head; body = body; rest = rest; form = form; whole = whole; announced = some; so = so })
-      (λ is left. begins_in_front receivers next bytes (drop (body.len + 1) rest) left (body_stands receivers head body bytes rest some form whole is))
+      (λ is left. begins_before receivers next bytes (drop (body.len + 1) rest) left (body_stands receivers head body bytes rest some form whole is))
       (body_so body.len body.most body.is_line rest)
 
   pub decided : Decided
@@ -278,7 +279,7 @@ module _ (receivers : ℕ) (bytes : List ℕ) where
   ]
 
   -- at the source's end they decide it
-  pub decided_at_end : (left : Told) → IsAtEnd left → (next : Next) × Begins receivers next bytes left
+  pub decided_at_end : (left : Content) → IsAtEnd left → (next : Next) × Begins receivers next bytes left
   decided_at_end left end = elim decided [
     | inl cut ↦ (Faulty CutShort, (cut, end))
     | inr one ↦ (one.0, one.1 left)

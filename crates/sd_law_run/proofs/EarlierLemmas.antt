@@ -15,13 +15,14 @@ use Rattle.std.proofs.lemmas.Slice.Eq.{bytes_eq-Decides}
 use Rattle.std.proofs.lemmas.Result.{IfOk-at_ok}
 use Rattle.toml.specs.Data.{Data, integer, Members, no_members, member, get_member}
 use Rattle.sd_model_settings.specs.Values.{members}
-use Rattle.sd_model_settings.specs.Kinds.{Whole, Share, Value, read_as}
-use Rattle.sd_model_settings.specs.Table.{Table, Values, Then, FlushRules, Transport, Sizes, setting_names, sizes_by, sizes, flush_rules, transport}
-use Rattle.sd_model_settings.specs.Settings.{names, first_unknown, unknown_inside, unknown, top_names, SettingsFlaw, ◌>>=◌, in_force, Section, found, read, Tables, tables, top, inside_graphite, Settings, settings_in, unless_unknown, document, settings_by, settings}
+use Rattle.sd_model_settings.specs.Entries.{Whole, Share, Value, read_as}
+use Rattle.sd_model_settings.specs.Table.{SettingTable, Values, Then, FlushRules, Transport, Sizes, setting_names, sizes_by, sizes, flush_rules, transport}
+use Rattle.sd_model_settings.specs.Settings.{names, first_unknown, unknown_inside, unknown, top_names, SettingsFlaw, ◌>>=◌, in_force, Section, found, read, Tables, setting_tables, top, Settings, settings_in, unless_unknown, document, settings_by, settings}
 use Rattle.sd_law_run.specs.Earlier.{earlier_rules, earlier_transport, without, names_since_ttl, names_since_outlets, names_since_sums, names_since_batches, tables_without, earlier_settings, settings_before_outlets, settings_before_sums, settings_before_batches}
 use Rattle.sd_law_settings.specs.Ranges.{IsWithin}
 use Rattle.sd_law_settings.proofs.ValuesInRange.{bind_in_range, found_in_range, whole_in_range}
 use Rattle.sd_law_settings.proofs.SettingsInRange.{value_then}
+use Rattle.sd_model_settings.proofs.Short.{inside_graphite}
 
 -- the second gives what the first gives, where that gives a value
 abbrev Gives : {A : Type 0} → Result A SettingsFlaw → Result A SettingsFlaw → Type 0
@@ -95,7 +96,7 @@ module _ (unset : List (List ℕ)) where
   abbrev AreAbsent : Members → Type 0
   AreAbsent ms = (name : List ℕ) → IsAmong name unset → get_member name ms ≡ None
 
-  without_kept : {A : Type 0} (t : Table A) (s : Section) → AreAbsent s.members → read (without unset t) s ≡ read t s
+  without_kept : {A : Type 0} (t : SettingTable A) (s : Section) → AreAbsent s.members → read (without unset t) s ≡ read t s
   unfolding read
   without_kept (Values v) s absent = refl
   without_kept {A} (Then x rest) s absent = by_test (list_any (λ k. bytes_eq k x.name) unset) refl (λ y. without_kept (rest y) s absent) where
@@ -106,7 +107,7 @@ module _ (unset : List (List ℕ)) where
     by_test false apart others = same_bind (found s x.name (read_as x.kind) x.default) (λ y. read (without unset (rest y)) s) (λ y. read (rest y) s) others
 
   -- what is among the names that are left is among all
-  among_all : {A : Type 0} (t : Table A) (name : List ℕ) → IsAmong name (setting_names (without unset t)) → IsAmong name (setting_names t)
+  among_all : {A : Type 0} (t : SettingTable A) (name : List ℕ) → IsAmong name (setting_names (without unset t)) → IsAmong name (setting_names t)
   among_all (Values v) name among = among
   among_all (Then x rest) name among = by_test (list_any (λ k. bytes_eq k x.name) unset) among (among_all (rest x.default) name) where
     by_test : (b : Bool) → IsAmong name (setting_names (cond b (without unset (rest x.default)) (Then x (λ y. without unset (rest y)))))
@@ -122,11 +123,11 @@ module _ (unset : List (List ℕ)) where
       by_name true h = refl
       by_name false h = others h
 
--- what is among some is among them and more, in front or behind
+-- what is among some is among them and more, before or behind
 among_more : (name : List ℕ) (xs ys xs' ys' : List (List ℕ)) → (IsAmong name xs → IsAmong name xs') → (IsAmong name ys → IsAmong name ys') → IsAmong name (xs ++ ys) → IsAmong name (xs' ++ ys')
-among_more name xs ys xs' ys' front back among =
+among_more name xs ys xs' ys' first back among =
     list_any-append (λ k. bytes_eq k name) xs' ys'
-    ∙ either (list_any (λ k. bytes_eq k name) xs) (list_any (λ k. bytes_eq k name) ys) (list_any (λ k. bytes_eq k name) xs') _ front back (sym (list_any-append (λ k. bytes_eq k name) xs ys) ∙ among)
+    ∙ either (list_any (λ k. bytes_eq k name) xs) (list_any (λ k. bytes_eq k name) ys) (list_any (λ k. bytes_eq k name) xs') _ first back (sym (list_any-append (λ k. bytes_eq k name) xs ys) ∙ among)
   where
     either : (a b c d : Bool) → (a ≡ true → c ≡ true) → (b ≡ true → d ≡ true) → (a || b) ≡ true → (c || d) ≡ true
     either true b c d f g h = ap (λ v. v || d) (f refl)
@@ -134,11 +135,11 @@ among_more name xs ys xs' ys' front back among =
     either false b false d f g h = g h
 
 -- the names that a table of settings without some knows are known today
-known_more : (unset : List (List ℕ)) (name : List ℕ) → IsAmong name (top_names (tables_without unset)) → IsAmong name (top_names tables)
+known_more : (unset : List (List ℕ)) (name : List ℕ) → IsAmong name (top_names (tables_without unset)) → IsAmong name (top_names setting_tables)
 known_more unset name =
-    let front = (codes "graphite" ∷ []) ++ setting_names tables.server ++ setting_names tables.deletions ++ setting_names tables.addresses ++ setting_names tables.lists ++ setting_names tables.sizes in
-    among_more name (front ++ setting_names (without unset flush_rules)) (setting_names (without unset transport)) (front ++ setting_names flush_rules) (setting_names transport)
-    (among_more name front (setting_names (without unset flush_rules)) front (setting_names flush_rules) (λ h. h) (among_all unset flush_rules name)) (among_all unset transport name)
+    let first = (codes "graphite" ∷ []) ++ setting_names setting_tables.server ++ setting_names setting_tables.deletions ++ setting_names setting_tables.addresses ++ setting_names setting_tables.lists ++ setting_names setting_tables.sizes in
+    among_more name (first ++ setting_names (without unset flush_rules)) (setting_names (without unset transport)) (first ++ setting_names flush_rules) (setting_names transport)
+    (among_more name first (setting_names (without unset flush_rules)) first (setting_names flush_rules) (λ h. h) (among_all unset flush_rules name)) (among_all unset transport name)
 
 none_of_both : {A : Type 0} (a b : Option A) → option_or a b ≡ None → (a ≡ None) × (b ≡ None)
 none_of_both None b h = (refl, h)
@@ -191,15 +192,15 @@ module _ (fewer : List (List ℕ)) (name : List ℕ) (other : list_any (λ k. by
     by_test false known rest others = absurd (cc)
 
 -- the files that were accepted by an earlier table set what their values were
-module _ (t : Tables) (known : (name : List ℕ) → IsAmong name (top_names t) → IsAmong name (top_names tables))
-    (same_values : (doc : Members) → first_unknown [] (top_names t) (names doc) ≡ None → Gives (settings_in t (top doc)) (settings_in tables (top doc))) where
-  file_kept : (doc : Members) (name : Option (List ℕ)) → unknown t doc ≡ name → Gives (unless_unknown name (settings_in t (top doc))) (unless_unknown (unknown tables doc) (settings_in tables (top doc)))
+module _ (t : Tables) (known : (name : List ℕ) → IsAmong name (top_names t) → IsAmong name (top_names setting_tables))
+    (same_values : (doc : Members) → first_unknown [] (top_names t) (names doc) ≡ None → Gives (settings_in t (top doc)) (settings_in setting_tables (top doc))) where
+  file_kept : (doc : Members) (name : Option (List ℕ)) → unknown t doc ≡ name → Gives (unless_unknown name (settings_in t (top doc))) (unless_unknown (unknown setting_tables doc) (settings_in setting_tables (top doc)))
   unfolding unknown
   file_kept doc (Some name) is = tt
   file_kept doc None is =
       let parts = none_of_both (first_unknown [] (top_names t) (names doc)) (unknown_inside doc) is in
-      let none : unknown tables doc ≡ None =
-      ap (λ o. option_or o (unknown_inside doc)) (all_known (top_names t) (top_names tables) (names doc) known parts.0) ∙ parts.1 in
+      let none : unknown setting_tables doc ≡ None =
+      ap (λ o. option_or o (unknown_inside doc)) (all_known (top_names t) (top_names setting_tables) (names doc) known parts.0) ∙ parts.1 in
       rw none (same_values doc parts.0)
 
   all_kept : (bytes : List ℕ) → Gives (settings_by t bytes) (settings bytes)
@@ -210,16 +211,16 @@ module _ (t : Tables) (known : (name : List ℕ) → IsAmong name (top_names t) 
   ]
 
 -- the values, where sizes, rules and transport are kept
-values_kept : (t : Table Sizes) (unset : List (List ℕ)) (s : Section) → Gives (read t s) (read sizes s) → AreAbsent unset s.members
-    → Gives (settings_in (record (tables_without unset) { sizes = t }) s) (settings_in tables s)
+values_kept : (t : SettingTable Sizes) (unset : List (List ℕ)) (s : Section) → Gives (read t s) (read sizes s) → AreAbsent unset s.members
+    → Gives (settings_in (record (tables_without unset) { sizes = t }) s) (settings_in setting_tables s)
 unfolding settings_in
 values_kept t unset s sizes-same absent =
-    same_then (read tables.server s) _ _ (λ of-server _.
-    same_then (read tables.deletions s) _ _ (λ of-deletions _.
-    same_then (read tables.addresses s) _ _ (λ of-addresses _.
+    same_then (read setting_tables.server s) _ _ (λ of-server _.
+    same_then (read setting_tables.deletions s) _ _ (λ of-deletions _.
+    same_then (read setting_tables.addresses s) _ _ (λ of-addresses _.
     same_then (found s (codes "graphite") members no_members) _ _ (λ graphite _.
-    same_then (read tables.namespace (inside_graphite graphite)) _ _ (λ of-namespace _.
-    same_then (read tables.lists s) _ _ (λ of-lists _.
+    same_then (read setting_tables.namespace (inside_graphite graphite)) _ _ (λ of-namespace _.
+    same_then (read setting_tables.lists s) _ _ (λ of-lists _.
     given_then (read t s) (read sizes s) _ _ sizes-same (λ of-sizes.
     given_then (read (without unset flush_rules) s) (read flush_rules s) _ _ (as_given (without_kept unset flush_rules s absent)) (λ of-rules.
     given_then (read (without unset transport) s) (read transport s) _ _ (as_given (without_kept unset transport s absent)) (λ of-transport. refl)))))))))
@@ -227,11 +228,11 @@ values_kept t unset s sizes-same absent =
     as_given : {A : Type 0} {r q : Result A SettingsFlaw} → r ≡ q → Gives r q
     as_given {A} {r} {q} e = subst (λ p. Gives r p) e (same r)
 
-module _ (t : Table Sizes) (names_as_today : setting_names t ≡ setting_names sizes) (sizes_same : (s : Section) → Gives (read t s) (read sizes s))
+module _ (t : SettingTable Sizes) (names_as_today : setting_names t ≡ setting_names sizes) (sizes_same : (s : Section) → Gives (read t s) (read sizes s))
     (unset : List (List ℕ)) (are_apart : AreApart unset (top_names (tables_without unset))) where
   same_names : top_names (record (tables_without unset) { sizes = t }) ≡ top_names (tables_without unset)
   same_names =
-      ap (λ n. (codes "graphite" ∷ []) ++ setting_names tables.server ++ setting_names tables.deletions ++ setting_names tables.addresses ++ setting_names tables.lists ++ n ++ setting_names (without unset flush_rules) ++ setting_names (without unset transport)) names_as_today
+      ap (λ n. (codes "graphite" ∷ []) ++ setting_names setting_tables.server ++ setting_names setting_tables.deletions ++ setting_names setting_tables.addresses ++ setting_names setting_tables.lists ++ n ++ setting_names (without unset flush_rules) ++ setting_names (without unset transport)) names_as_today
 
   kept_without : (bytes : List ℕ) → Gives (settings_by (record (tables_without unset) { sizes = t }) bytes) (settings bytes)
   kept_without =
@@ -256,11 +257,11 @@ unfolding settings_before_batches
 settings_kept_before_batches = kept_without sizes refl (λ s. same (read sizes s)) names_since_batches refl
 
 -- what holds of a table's values, whatever is set
-abbrev Ends : {A : Type 0} → Table A → (A → Type 0) → Type 0
+abbrev Ends : {A : Type 0} → SettingTable A → (A → Type 0) → Type 0
 Ends (Values v) P = P v
 Ends (Then x rest) P = (y : Value x.kind) → Ends (rest y) P
 
-in_the_end : {A : Type 0} (t : Table A) (P : A → Type 0) (s : Section) → Ends t P → IfOk (read t s) P
+in_the_end : {A : Type 0} (t : SettingTable A) (P : A → Type 0) (s : Section) → Ends t P → IfOk (read t s) P
 unfolding read
 in_the_end (Values v) P s h = h
 in_the_end (Then x rest) P s h = value_then (found s x.name (read_as x.kind) x.default) (λ y. read (rest y) s) P (λ y. in_the_end (rest y) P s (h y))

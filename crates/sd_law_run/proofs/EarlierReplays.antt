@@ -3,16 +3,15 @@ use Rattle.std.proofs.Common.{◌≡◌, ℕ, List, [], ◌∷◌, map, Result, 
 use Rattle.std.specs.List.{AllByRecursion}
 use Rattle.sd_law_run.specs.Earlier.{earlier_settings, earlier_rules}
 use Rattle.sd_law_run.proofs.EarlierLemmas.{earlier_rules_in_force}
-use Rattle.sd_model_serve.specs.Rounds.{Round, Form, round_record}
-use Rattle.sd_model_replay.specs.Settings.{bounds_of, policy_of}
-use Rattle.sd_model_replay.specs.Replay.{Played, form_of, rounds}
+use Rattle.sd_model_serve.specs.Rounds.{Round, RecordForm, round_record}
+use Rattle.sd_model_replay.specs.Replay.{bounds_of, policy_of, Played, form_of, rounds}
 use Rattle.sd_law_shards.specs.Records.{records}
 
 weaker : {A E : Type 0} (P Q : A → Type 0) (r : Result A E) → ((x : A) → P x → Q x) → IfOk r P → IfOk r Q
 weaker P Q (Ok x) h p = h x p
 weaker P Q (Err e) h p = tt
 
-none_chosen : (form : Form) → form.plan.calculated ≡ [] → (rs : List Round) → AllByRecursion (λ r. r.calculated ≡ []) (map (round_record form) rs)
+none_chosen : (form : RecordForm) → form.plan.calculated ≡ [] → (rs : List Round) → AllByRecursion (λ r. r.calculated ≡ []) (map (round_record form) rs)
 none_chosen form none [] = tt
 none_chosen form none (r ∷ rs) = (none, none_chosen form none rs)
 

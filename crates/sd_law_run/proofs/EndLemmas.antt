@@ -7,15 +7,17 @@ use Rattle.std.proofs.lemmas.List.Folds.{list_any-append}
 use Rattle.sd_law_text.specs.Bytes.{has_byte}
 use Rattle.sd_model_text.specs.Names.{Kind}
 use Rattle.sd_model_settings.specs.Settings as file
-use Rattle.sd_model_settings.specs.ConfigText.{line, config_lines, front_lines, entry_lines, back_lines, histogram_line, repeater_line, node_line}
-use Rattle.sd_model_shard.specs.Commands.{DumpRow}
+use Rattle.sd_model_settings.specs.ConfigText.{config_line, config_lines, first_lines, back_lines, histogram_line, repeater_line, node_line}
+use Rattle.sd_model_shard.specs.Rows.{DumpRow}
 use Rattle.sd_model_shard.specs.Shard as shard
 use Rattle.sd_model_shard.specs.Shard.{Numbers}
 use Rattle.sd_model_record.specs.Admin as admin
 use Rattle.sd_model_record.specs.Admin.{AdminFault, UnknownWord, MissingName, TooLong}
 use Rattle.sd_model_record.specs.Desk.{Facts}
-use Rattle.sd_model_record.specs.Totals.{added, known_before_end, total_line, totals_of}
-use Rattle.sd_model_record.specs.Replies.{Finish, end_lines, stats_lines, shard_line, shard_lines, totals_lines, row_line, row_value, gone_lines, health_line, fault_line, reply_lines, replies_by, names_replied, rows_told, keys_told, numbers_told, health_after}
+use Rattle.sd_model_record.specs.Totals.{known_before_end, total_line, totals_of}
+use Rattle.sd_model_record.specs.Replies.{Finish, end_lines, stats_lines, shard_lines, shown_value, gone_lines, fault_line, reply_lines, replies_by, names_replied, health_after}
+use Rattle.sd_model_settings.proofs.Short.{entry_lines}
+use Rattle.sd_model_record.proofs.Short.{health_line, row_line, numbers_reported, added, shard_line, keys_reported, rows_reported, totals_lines}
 
 -- a line isn't `END`
 abbrev IsOther : List ℕ → Type 0
@@ -40,9 +42,9 @@ colon_behind (b ∷ name) rest = or_true (b == 58) (has_byte 58 (name ++ 58 ∷ 
     or_true false y h = h
 
 -- what has a colon behind a name
-of_line : (name value : List ℕ) → IsOther (line name value)
+of_line : (name value : List ℕ) → IsOther (config_line name value)
 of_line name value =
-    by_byte 58 (line name value)
+    by_byte 58 (config_line name value)
     (list_any-append (λ x. x == 58) (name ++ 58 ∷ 32 ∷ value) (10 ∷ []) ∙ ap (λ b. b || has_byte 58 (10 ∷ [])) (colon_behind name (32 ∷ value)))
     refl
 
@@ -71,11 +73,11 @@ others-map text other [] = tt
 others-map text other (x ∷ xs) = (other x, others-map text other xs)
 
 -- where no line is `END`, it stands nowhere
-stands_nowhere : (lines front back : List (List ℕ)) → AreOthers lines → lines ≡ front ++ codes "END\n" ∷ back → ⊥
+stands_nowhere : (lines prefix back : List (List ℕ)) → AreOthers lines → lines ≡ prefix ++ codes "END\n" ∷ back → ⊥
 stands_nowhere [] [] back others same = absurd (cc)
-stands_nowhere [] (f ∷ front) back others same = absurd (cc)
+stands_nowhere [] (f ∷ prefix) back others same = absurd (cc)
 stands_nowhere (l ∷ lines) [] back others same = others.0 (cc)
-stands_nowhere (l ∷ lines) (f ∷ front) back others same = stands_nowhere lines front back others.1 (cc)
+stands_nowhere (l ∷ lines) (f ∷ prefix) back others same = stands_nowhere lines prefix back others.1 (cc)
 
 empty_line : IsOther (codes "\n")
 empty_line same = absurd (bool_clash (ap (has_byte 69) same))
@@ -84,35 +86,35 @@ empty_line same = absurd (bool_clash (ap (has_byte 69) same))
     bool_clash h = absurd (cc)
 
 -- where no line before the end is `END`, the one at the end has the empty line alone behind it
-stands_last : (lines front back : List (List ℕ)) → AreOthers lines → lines ++ end_lines ≡ front ++ codes "END\n" ∷ back → back ≡ codes "\n" ∷ []
+stands_last : (lines prefix back : List (List ℕ)) → AreOthers lines → lines ++ end_lines ≡ prefix ++ codes "END\n" ∷ back → back ≡ codes "\n" ∷ []
 stands_last [] [] back others same = cc
-stands_last [] (f ∷ front) back others same = absurd (stands_nowhere (codes "\n" ∷ []) front back (empty_line, tt) (cc))
+stands_last [] (f ∷ prefix) back others same = absurd (stands_nowhere (codes "\n" ∷ []) prefix back (empty_line, tt) (cc))
 stands_last (l ∷ lines) [] back others same = absurd (others.0 (cc))
-stands_last (l ∷ lines) (f ∷ front) back others same = stands_last lines front back others.1 (cc)
+stands_last (l ∷ lines) (f ∷ prefix) back others same = stands_last lines prefix back others.1 (cc)
 
 abbrev StandsLast : List (List ℕ) → Type 0
-StandsLast lines = (front back : List (List ℕ)) → lines ≡ front ++ codes "END\n" ∷ back → back ≡ codes "\n" ∷ []
+StandsLast lines = (prefix back : List (List ℕ)) → lines ≡ prefix ++ codes "END\n" ∷ back → back ≡ codes "\n" ∷ []
 
 -- a reply with an end, alone
 with_end : (lines : List (List ℕ)) → AreOthers lines → StandsLast ((lines ++ end_lines) ++ [])
-with_end lines others front back same = stands_last lines front back others (sym (append-nil (lines ++ end_lines)) ∙ same)
+with_end lines others prefix back same = stands_last lines prefix back others (sym (append-nil (lines ++ end_lines)) ∙ same)
 
 -- a reply of one line
 without_end : (text : List ℕ) → IsOther text → StandsLast ((text ∷ []) ++ [])
-without_end text other front back same = absurd (stands_nowhere (text ∷ []) front back (other, tt) same)
+without_end text other prefix back same = absurd (stands_nowhere (text ∷ []) prefix back (other, tt) same)
 
 others_of_gone : (name : List ℕ) (keys : List (List ℕ)) → AreOthers (gone_lines name keys)
 others_of_gone name [] = (by_byte 109 (codes "metric " ++ name ++ codes " not found" ++ 10 ∷ []) refl refl, tt)
-others_of_gone name (key ∷ keys) = others-map (line (codes "deleted")) (of_line (codes "deleted")) (key ∷ keys)
+others_of_gone name (key ∷ keys) = others-map (config_line (codes "deleted")) (of_line (codes "deleted")) (key ∷ keys)
 
 others_of_names : (answers : ℕ → List shard.Reply) (names : List (List ℕ)) → AreOthers (flat_map reply_lines (names_replied answers names))
 others_of_names answers [] = tt
 others_of_names answers (name ∷ names) =
-    others-append (gone_lines name (keys_told (answers 0))) (flat_map reply_lines (names_replied (λ n. answers (n + 1)) names))
-    (others_of_gone name (keys_told (answers 0))) (others_of_names (λ n. answers (n + 1)) names)
+    others-append (gone_lines name (keys_reported (answers 0))) (flat_map reply_lines (names_replied (λ n. answers (n + 1)) names))
+    (others_of_gone name (keys_reported (answers 0))) (others_of_names (λ n. answers (n + 1)) names)
 
 others_of_row : (kind : Kind) (row : DumpRow) → IsOther (row_line kind row)
-others_of_row kind row = of_line row.key (row_value kind row)
+others_of_row kind row = of_line row.key (shown_value kind row)
 
 others_of_entries : (s : file.Settings) → AreOthers (entry_lines s)
 others_of_entries s =
@@ -140,14 +142,14 @@ others_of_totals false facts shards =
     others-append totals (shard_lines 0 shards) (with_bytes 32 refl totals refl) (others_of_shards 0 shards)
 
 of_names : (answers : ℕ → List shard.Reply) (names : List (List ℕ)) → StandsLast (flat_map reply_lines (names_replied answers names ++ Finish ∷ []))
-of_names answers names front back same =
-    with_end (flat_map reply_lines (names_replied answers names)) (others_of_names answers names) front back
+of_names answers names prefix back same =
+    with_end (flat_map reply_lines (names_replied answers names)) (others_of_names answers names) prefix back
     (append_assoc (flat_map reply_lines (names_replied answers names)) end_lines [] ∙ (sym (flat_map-append reply_lines (names_replied answers names) (Finish ∷ [])) ∙ same))
 
 others_of_config : (s : file.Settings) → AreOthers (config_lines s)
 others_of_config s =
-    others-append (front_lines s ++ entry_lines s) (back_lines s)
-    (others-append (front_lines s) (entry_lines s) (with_colons (front_lines s) refl) (others_of_entries s))
+    others-append (first_lines s ++ entry_lines s) (back_lines s)
+    (others-append (first_lines s) (entry_lines s) (with_colons (first_lines s) refl) (others_of_entries s))
     (with_colons (back_lines s) refl)
 
 others_of_fault : (fault : AdminFault) → IsOther (fault_line fault)
@@ -156,11 +158,11 @@ others_of_fault fault = by_byte 82 (fault_line fault) refl refl
 -- behind `END` the empty line stands alone, whatever is replied to a line
 pub ends-last : (outlets : Bool) (answers : ℕ → List shard.Reply) (facts : Facts) (settings : file.Settings) (now : ℕ) (asked : Result admin.Command AdminFault) → StandsLast (flat_map reply_lines (replies_by outlets answers facts settings now asked))
 ends-last outlets answers facts settings now (Ok admin.Stats) = with_end (stats_lines facts now) (others_of_stats facts now)
-ends-last outlets answers facts settings now (Ok admin.Totals) = with_end (totals_lines outlets facts (numbers_told (answers 0))) (others_of_totals outlets facts (numbers_told (answers 0)))
+ends-last outlets answers facts settings now (Ok admin.Totals) = with_end (totals_lines outlets facts (numbers_reported (answers 0))) (others_of_totals outlets facts (numbers_reported (answers 0)))
 ends-last outlets answers facts settings now (Ok admin.Config) = with_end (config_lines settings) (others_of_config settings)
-ends-last outlets answers facts settings now (Ok admin.Quit) = λ front back same. absurd (stands_nowhere [] front back tt same)
+ends-last outlets answers facts settings now (Ok admin.Quit) = λ prefix back same. absurd (stands_nowhere [] prefix back tt same)
 ends-last outlets answers facts settings now (Ok (admin.Show kind)) =
-    with_end (map (row_line kind) (rows_told (answers 0))) (others-map (row_line kind) (others_of_row kind) (rows_told (answers 0)))
+    with_end (map (row_line kind) (rows_reported (answers 0))) (others-map (row_line kind) (others_of_row kind) (rows_reported (answers 0)))
 ends-last outlets answers facts settings now (Ok (admin.Delete kind names)) = of_names answers names
 ends-last outlets answers facts settings now (Ok (admin.Health word)) = without_end (health_line (health_after word facts.up)) (of_line (codes "health") (if health_after word facts.up then codes "up" else codes "down"))
 ends-last outlets answers facts settings now (Err fault) = without_end (fault_line fault) (others_of_fault fault)

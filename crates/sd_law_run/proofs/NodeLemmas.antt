@@ -4,10 +4,11 @@ use Rattle.std.specs.Prelude.{nat_le}
 use Rattle.std.specs.Option.{option_or, option_and_then}
 use Rattle.std.proofs.lemmas.List.Elements.{All-contains, Contains-append_left, Contains-append_right, Contains-append_cases}
 use Rattle.sd_model_settings.specs.Entries.{Node}
-use Rattle.sd_model_ring.specs.Ring.{Point, comes_first, least, points_not_below, next_point, points_up, points_at, points_of, numbers_of_node, points_from, points, is_up, number_of_key}
+use Rattle.sd_model_ring.specs.Ring.{Point, least, next_point, numbers_of_node, points_from, is_up}
 use Rattle.sd_law_run.specs.Nodes.{owning_node, IsUpAmong, ShareANumber}
 use Rattle.sd_model_ring.proofs.Least.{Contains-head, Contains-none, is-least, none-least, not_greater}
 use Rattle.sd_model_ring.proofs.Owners.{Contains-filter, Contains-filtered, Contains-next, none-next}
+use Rattle.sd_model_ring.proofs.Short.{points_not_below, points_of, points, points_up, points_at, number_of_key, comes_first}
 
 -- each number of these is one of those
 abbrev Covers : List Point → List Point → Type 0

@@ -9,14 +9,15 @@ use Rattle.sd_model_text.specs.Lines.{Sample}
 use Rattle.sd_model_text.specs.Names.{shard}
 use Rattle.sd_model_shard.specs.Shard.{Cause, Limits, Policy, State, Event, Reply, Submit, Swap, Delete, Dump, Look, admitted, refusal, step}
 use Rattle.sd_model_shard.specs.History.{Act, History, LegalFrom, after, part_of}
-use Rattle.sd_model_shard.specs.Whereabouts.{dropped_in, told_by}
+use Rattle.sd_model_shard.specs.Whereabouts.{dropped_in, summed_by}
 use Rattle.sd_law_shard.specs.Sums.{taken_in}
 use Rattle.sd_model_shard.proofs.OrderLemmas.{sum_by-map, weighed_once}
-use Rattle.sd_model_serve.specs.Receiving.{acts_by, administrator, asks, events_by, events_of, flusher, told_in}
+use Rattle.sd_model_serve.specs.Receiving.{acts_by, administrator, asks, events_of, flusher, summed_in}
 use Rattle.sd_model_serve.specs.Rounds.{Ran, Round, swaps_at}
 use Rattle.sd_session.specs.Commands.{AreCommands}
 use Rattle.sd_model_serve.specs.Sessions.{Broadcast, acts_in}
 use Rattle.sd_model_run.proofs.CountedLemmas.{sum_by-across, sum_by-alike, sum_by-nothing, sum_by-range}
+use Rattle.sd_model_serve.proofs.Short.{events_by}
 
 -- 1 for a sample that is submitted
 abbrev submit_in : Event → ℕ
@@ -42,7 +43,7 @@ by_event limits policy state (Delete kind pattern) = refl
 by_event limits policy state (Dump kind) = refl
 by_event limits policy state Look = refl
 
-each_submit : (limits : Limits) (policy : Policy) (state : State) (acts : History) → LegalFrom limits policy state acts → told_by taken_in acts + told_by dropped_in acts ≡ submits_in acts
+each_submit : (limits : Limits) (policy : Policy) (state : State) (acts : History) → LegalFrom limits policy state acts → summed_by taken_in acts + summed_by dropped_in acts ≡ submits_in acts
 each_submit limits policy state [] legal = refl
 each_submit limits policy state (a ∷ acts) legal =
     let rest = each_submit limits policy (after limits policy state a) acts legal.1 in
@@ -172,18 +173,18 @@ module _ (limits : Limits) (policy : Policy) (shards : ℕ) (brought : List (Lis
       by_test (inl below) = submits_of_events (acts_by who acts) ∙ ap (sum_by submit_in) (ran.submitted who below) ∙ asked_submits shards i (get_or brought who [])
       by_test (inr past) = none past (by_other past (cases_eq who flusher) (cases_eq who administrator))
 
-    at_shard : told_by taken_in acts + told_by dropped_in acts ≡ sum_by (λ who. length (part_of (λ (s : Sample). shard s.key shards) i (get_or brought who []))) (range_with_len 0 callers)
+    at_shard : summed_by taken_in acts + summed_by dropped_in acts ≡ sum_by (λ who. length (part_of (λ (s : Sample). shard s.key shards) i (get_or brought who []))) (range_with_len 0 callers)
     at_shard =
         each_submit limits policy _ acts ran.legal ∙ by_callers (λ (a : Act). submit_in a.event) callers acts nobody
         ∙ sum_by-alike (λ who. submits_in (acts_by who acts)) (λ who. length (part_of (λ (s : Sample). shard s.key shards) i (get_or brought who []))) (range_with_len 0 callers) of_caller
 
   -- all that was brought was taken or dropped, by histories of all shards
   pub all_brought : (histories : ℕ → History) → 0 < shards → ((i : ℕ) → i < shards → Ran limits policy shards brought rounds asked i (histories i)) → ((i : ℕ) → AreCommands (events_of (acts_in asked i)))
-      → told_in taken_in shards histories + told_in dropped_in shards histories ≡ sum_by length brought
+      → summed_in taken_in shards histories + summed_in dropped_in shards histories ≡ sum_by length brought
   all_brought histories some ran commands =
-      let both = plus_all (λ i. told_by taken_in (histories i)) (λ i. told_by dropped_in (histories i)) (range_with_len 0 shards) in
+      let both = plus_all (λ i. summed_by taken_in (histories i)) (λ i. summed_by dropped_in (histories i)) (range_with_len 0 shards) in
       sym both
-      ∙ sum_by-range (λ i. told_by taken_in (histories i) + told_by dropped_in (histories i)) (λ i. sum_by (λ who. length (part_of (λ (s : Sample). shard s.key shards) i (get_or brought who []))) (range_with_len 0 callers)) 0 shards
+      ∙ sum_by-range (λ i. summed_by taken_in (histories i) + summed_by dropped_in (histories i)) (λ i. sum_by (λ who. length (part_of (λ (s : Sample). shard s.key shards) i (get_or brought who []))) (range_with_len 0 callers)) 0 shards
       (λ i below. at_shard i (histories i) (ran i (omega (arith, below))) (commands i))
       ∙ sum_by-across (λ i who. length (part_of (λ (s : Sample). shard s.key shards) i (get_or brought who []))) (range_with_len 0 shards) (range_with_len 0 callers)
       ∙ sum_by-alike (λ who. sum_by (λ i. length (part_of (λ (s : Sample). shard s.key shards) i (get_or brought who []))) (range_with_len 0 shards)) (λ who. length (get_or brought who [])) (range_with_len 0 callers) (λ who. all_parts shards some (get_or brought who []))

@@ -4,9 +4,8 @@ use Rattle.std.specs.List.{range_with_len}
 use Rattle.sd_model_text.specs.Lines.{Sample}
 use Rattle.sd_model_shard.specs.History.{part_of}
 use Rattle.sd_model_serve.specs.Sessions.{Broadcast}
-use Rattle.sd_model_replay.specs.Settings.{Bounds}
-use Rattle.sd_model_replay.specs.Replay.{Played, Run, first_run, moments, samples_at}
-use Rattle.sd_model_replay.specs.Asked.{broadcasts_in}
+use Rattle.sd_model_replay.specs.Replay.{Bounds, Played, Run, first_run, moments, samples_at}
+use Rattle.sd_model_replay.specs.AccountingTheorem.{broadcasts_in}
 
 -- the good samples that a receiver brought, in order
 abbrev pub brought_by : ℕ → List Played → List Sample

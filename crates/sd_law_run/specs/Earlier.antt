@@ -5,8 +5,8 @@
 use Rattle.std.specs.Prelude.{ℕ, if◌then◌else◌, List, [], ◌∷◌, ◌++◌, false, codes, Result}
 use Rattle.std.specs.List.{list_any}
 use Rattle.std.specs.Str.{bytes_eq}
-use Rattle.sd_model_settings.specs.Table.{Table, Values, Then, FlushRules, Transport, sizes_by}
-use Rattle.sd_model_settings.specs.Settings.{SettingsFlaw, Settings, Tables, tables, settings_by}
+use Rattle.sd_model_settings.specs.Table.{SettingTable, Values, Then, FlushRules, Transport, sizes_by}
+use Rattle.sd_model_settings.specs.Settings.{SettingsFlaw, Settings, Tables, setting_tables, settings_by}
 
 -- a gauge that goes when idle goes at the first swap, and no class of lines is chosen
 abbrev pub earlier_rules : FlushRules
@@ -18,7 +18,7 @@ abbrev pub earlier_transport : Transport
 earlier_transport = record { outlets = 0; outlet_bytes = 4194304; tcp_port = 0; sums_on_arrival = false; proxy_mgmt_port = 0; align_flushes = false; batch_bytes = 0; receive_buffer = 0 }
 
 -- a table without the settings of some names, which have their defaults
-abbrev pub without : {A : Type 0} → List (List ℕ) → Table A → Table A
+abbrev pub without : {A : Type 0} → List (List ℕ) → SettingTable A → SettingTable A
 without unset (Values v) = Values v
 without unset (Then s rest) =
     if list_any (λ name. bytes_eq name s.name) unset then without unset (rest s.default) else Then s (λ x. without unset (rest x))
@@ -38,7 +38,7 @@ names_since_ttl = codes "gaugesMaxTTL" ∷ codes "calculatedTimerMetrics" ∷ na
 
 -- a table of settings without those of some names, which stand in the last two groups
 abbrev pub tables_without : List (List ℕ) → Tables
-tables_without unset = record tables { rules = without unset tables.rules; transport = without unset tables.transport }
+tables_without unset = record setting_tables { rules = without unset setting_tables.rules; transport = without unset setting_tables.transport }
 
 -- before gauges could live longer, where a shard had at most 65,536 entries, which fit 16 shards
 unfoldable pub earlier_settings : List ℕ → Result Settings SettingsFlaw

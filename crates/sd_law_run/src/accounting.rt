@@ -2,14 +2,12 @@ ghost use Rattle.std.specs.Prelude.{◌≡◌, ◌<◌, ◌≤◌, ℕ, List, ma
 ghost use Rattle.std.specs.List.{AllByRecursion, range_with_len};
 ghost use Rattle.sd_model_shard.specs.History.{part_of, state_after};
 ghost use Rattle.sd_model_shard.specs.Whereabouts.{arrivals};
-ghost use Rattle.sd_model_record.specs.Record.{record_rows};
-ghost use Rattle.sd_model_record.specs.Documented.{documented_rows};
+ghost use Rattle.sd_model_record.specs.Record.{record_rows, documented_rows};
 ghost use Rattle.sd_model_serve.specs.Receiving.{flusher};
 ghost use Rattle.sd_model_serve.specs.Rounds.{AreAccounted, Ran, Round, flushed_at, round_record};
-ghost use Rattle.sd_model_replay.specs.Settings.{Bounds, bounds_of, limits_of, policy_of};
+ghost use Rattle.sd_model_replay.specs.Replay.{Bounds, bounds_of, limits_of, policy_of, Played, first_run, form_of, history_at, home_of, rounds, run_of, samples_at};
 ghost use Rattle.sd_model_replay.specs.Script.{IsLegal};
 ghost use Rattle.sd_law_run.specs.Asked.{asked_in, brought_in};
-ghost use Rattle.sd_model_replay.specs.Replay.{Played, first_run, form_of, history_at, home_of, rounds, run_of, samples_at};
 ghost use Rattle.sd_law_shards.specs.Records.{records};
 ghost use Rattle.sd_model_settings.specs.Settings.{Settings, plan_of};
 

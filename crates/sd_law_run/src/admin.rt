@@ -29,7 +29,7 @@ pub fn deletions_have_names()
 /// Among the lines of what is replied to an admin line, behind `END` stands the empty line alone. So who reads a reply knows
 /// its end, and it has one end at most.
 pub fn ends_stand_last()
-    ensures { (outlets : Bool) (answers : ℕ → List Reply) (facts : Facts) (settings : Settings) (now : ℕ) (asked : Result Command AdminFault) (front back : List (List ℕ))
-        → flat_map reply_lines (replies_by outlets answers facts settings now asked) ≡ front ++ codes "END\n" ∷ back
+    ensures { (outlets : Bool) (answers : ℕ → List Reply) (facts : Facts) (settings : Settings) (now : ℕ) (asked : Result Command AdminFault) (prefix back : List (List ℕ))
+        → flat_map reply_lines (replies_by outlets answers facts settings now asked) ≡ prefix ++ codes "END\n" ∷ back
         → back ≡ codes "\n" ∷ [] }
 {}

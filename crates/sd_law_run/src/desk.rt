@@ -1,10 +1,11 @@
 ghost use Rattle.std.specs.Prelude.{◌≡◌, ℕ, min, Bool, true};
 ghost use Rattle.sd_model_record.specs.Record.{Tally};
-ghost use Rattle.sd_model_record.specs.DeskHistory.{DeskHistory, IsDeskHistory, TellsFrom, desk_after};
-ghost use Rattle.sd_model_record.specs.Desk.{Desk, Marks, last_counted, new_desk, with_tally, taken, marked, with_round, with_health, with_admin_fault, with_repeater_faults, IsBalanced};
+ghost use Rattle.sd_model_record.specs.DeskHistory.{DeskHistory, TellsFrom, desk_after, AnswersFrom};
+ghost use Rattle.sd_model_record.specs.Desk.{Desk, Marks, new_desk, with_tally, taken, marked, with_health, with_admin_fault, with_repeater_faults, IsBalanced};
 ghost use Rattle.sd_desk.specs.Sums.{AddsUp, IsInRange};
-ghost use Rattle.sd_model_record.specs.Counts.{Amounts, Count, number_of};
+ghost use Rattle.sd_model_record.specs.Totals.{Amounts, Count, number_of};
 ghost use Rattle.sd_shared_desk.specs.Counts.{GrewBy, HasCounted, KeepsCounts, Part, nothing, of_history, plus, of_tally, of_taken, of_marks, of_sessions, of_sends};
+ghost use Rattle.sd_model_shard.specs.Shard.{last_number};
 
 /// The totals of a new desk are the tallies taken and the tally, and its counts are in range. Each change of a desk
 /// keeps both, and lets no count fall.
@@ -13,7 +14,7 @@ pub fn desks_keep_counts()
     ensures tally { (d : Desk) (t : Tally) (now : ℕ) → KeepsCounts d (with_tally d t now) }
     ensures taken { (d : Desk) → KeepsCounts d (taken d) }
     ensures marks { (d : Desk) (m : Marks) → KeepsCounts d (marked d m) }
-    ensures round { (d : Desk) (m : Marks) → KeepsCounts d (with_round d m) }
+    ensures round { (d : Desk) (m : Marks) → KeepsCounts d (marked (taken d) m) }
     ensures health { (d : Desk) (up : Bool) → KeepsCounts d (with_health d up) }
     ensures admin { (d : Desk) → KeepsCounts d (with_admin_fault d) }
     ensures repeater { (d : Desk) (n : ℕ) → KeepsCounts d (with_repeater_faults d n) }
@@ -43,7 +44,7 @@ pub fn parts_add_up()
 /// What a legal history leaves: each number of the desk is the sum of what its calls added, up to the last count. The facts that
 /// it tells have the start, the health that was set last before, and the moment of the last message before.
 pub fn desk_histories_add_up()
-    ensures numbers { (start : ℕ) (acts : DeskHistory) → IsDeskHistory start acts → (count : Count)
-        → number_of (desk_after start acts) count ≡ min (of_history acts count) last_counted }
-    ensures told { (start : ℕ) (acts : DeskHistory) → IsDeskHistory start acts → TellsFrom start true start acts }
+    ensures numbers { (start : ℕ) (acts : DeskHistory) → AnswersFrom (new_desk start) acts → (count : Count)
+        → number_of (desk_after start acts) count ≡ min (of_history acts count) last_number }
+    ensures reported { (start : ℕ) (acts : DeskHistory) → AnswersFrom (new_desk start) acts → TellsFrom start true start acts }
 {}

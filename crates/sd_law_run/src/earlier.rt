@@ -1,12 +1,11 @@
 ghost use Rattle.std.specs.Prelude.{◌≡◌, ℕ, List, [], IfOk, false, Ok};
 ghost use Rattle.std.specs.List.{AllByRecursion};
 ghost use Rattle.sd_law_run.specs.Earlier.{earlier_settings, settings_before_outlets, settings_before_sums, settings_before_batches, earlier_rules, earlier_transport};
-ghost use Rattle.sd_model_replay.specs.Settings.{policy_of};
-ghost use Rattle.sd_model_replay.specs.Replay.{Played};
+ghost use Rattle.sd_model_replay.specs.Replay.{policy_of, Played};
 ghost use Rattle.sd_law_shards.specs.Records.{records};
 ghost use Rattle.sd_model_settings.specs.Settings.{settings};
 
-/// A file that was accepted before gauges could live longer and lines of timers were chosen has its scripts carried out as
+/// A file that was accepted before gauges could live longer and lines of timers were chosen has its scripts executed as
 /// before: a gauge that goes when idle goes at the first swap, and no record has a class of lines chosen, so both backends get
 /// all lines of its timers.
 pub fn earlier_files_play_as_before()

@@ -2,8 +2,8 @@ ghost use Rattle.std.specs.Prelude.{◌≡◌, ℕ, false, List, [], ◌∷◌, 
 ghost use Rattle.std.specs.List.{concat};
 ghost use Rattle.sd_model_text.specs.Lists.{split};
 ghost use Rattle.sd_law_text.specs.Bytes.{has_byte};
-ghost use Rattle.sd_model_stream.specs.Streams.{Cut, but_last, cut_of, samples_in, stream_lines, Stream, bytes_in, lines_in};
-ghost use Rattle.sd_model_proxy.specs.LineRelays.{lines_ended};
+ghost use Rattle.sd_model_stream.specs.Streams.{StreamLine, but_last, cut_of, samples_of_line, stream_lines, Stream, bytes_in, lines_in};
+ghost use Rattle.sd_model_proxy.specs.Relays.{lines_ended};
 ghost use Rattle.sd_tcp.specs.Cutting.{rest_of, Cutting, CutsOn, HasCut, nothing_cut};
 ghost use Rattle.sd_law_run.specs.Samples.{stream_samples};
 
@@ -28,15 +28,15 @@ pub fn streams_are_their_parts()
 /// A cutter that has none ready has given the lines of what it was given, in whatever pieces that came.
 pub fn cutters_give_all_lines()
     ensures none { HasCut [] [] nothing_cut }
-    ensures all { (given : List Cut) (stream : List ℕ) (c : Cutting) → HasCut given stream c → c.is_ready ≡ false → given ≡ stream_lines stream }
+    ensures all { (given : List StreamLine) (stream : List ℕ) (c : Cutting) → HasCut given stream c → c.is_ready ≡ false → given ≡ stream_lines stream }
     ensures stays { (c : Cutting) → CutsOn [] [] c c }
-    ensures pieces { (xs ys : List Cut) (before behind : List ℕ) (old mid new : Cutting) → CutsOn xs before old mid → CutsOn ys behind mid new
+    ensures pieces { (xs ys : List StreamLine) (before behind : List ℕ) (old mid new : Cutting) → CutsOn xs before old mid → CutsOn ys behind mid new
         → CutsOn (xs ++ ys) (before ++ behind) old new }
 {}
 
 /// Streams one after another have the samples of each.
 pub fn streams_have_samples()
-    ensures { (streams : List Stream) → flat_map samples_in (lines_in streams) ≡ flat_map (λ s. stream_samples (bytes_in s)) streams }
+    ensures { (streams : List Stream) → flat_map samples_of_line (lines_in streams) ≡ flat_map (λ s. stream_samples (bytes_in s)) streams }
 {}
 
 /// The lines that the reads of a stream ended, one read after another, are the lines of the stream, however it is cut into reads.

@@ -9,11 +9,12 @@ use Rattle.std.specs.List.{list_any, list_all, AllPass}
 use Rattle.std.specs.Str.{bytes_eq}
 use Rattle.toml.specs.Data.{Data, array, Items, Members, get_member}
 use Rattle.sd_model_text.specs.Names.{is_name_byte}
-use Rattle.sd_model_settings.specs.Values.{text, whole, is_prefix, is_filled_prefix, is_host, is_host_byte, is_metric, decimal, each, are_at_most, listed, one_or_list, are_distinct, ranged, both, required}
+use Rattle.sd_model_settings.specs.Values.{text, whole_read, is_prefix, is_filled_prefix, is_host, is_metric, decimal, each, are_at_most, listed, one_or_list, are_distinct, ranged, both, required}
 use Rattle.sd_model_text.specs.Numbers.{Limit}
-use Rattle.sd_model_settings.specs.Entries.{is_threshold, are_thresholds, thresholds, is_backend, backends, limit, is_limit, are_limits, has_early_inf, bins_of, bins, classes, place, target, node, class_name, timer_classes, is_class_name, class_names}
+use Rattle.sd_model_settings.specs.Entries.{are_thresholds, thresholds, is_backend, is_limit, are_limits, has_early_inf, bins_of, bins_read, classes, host_and_port, node, class_name, timer_classes, is_class_name}
 use Rattle.sd_law_settings.specs.Ranges.{IsWithin, IsPrefix, IsHost, IsThreshold, AreThresholds, AreBackends, AreClassNames, AreLimits, IsClasses, AreHistograms, IsTarget, AreTargets, IsNode, AreNodes}
 use Rattle.sd_law_settings.proofs.ValuesInRange.{anything_in_range, ranged_in_range, mapped_in_range, both_in_range, whole_in_range, text_in_range, each_in_range, few, listed_in_range, entry_in_range, required_in_range, optional_in_range}
+use Rattle.sd_model_settings.proofs.Short.{backends, class_names, is_threshold, limit, target, is_host_byte}
 
 pub is_prefix-prefix : (s : List ℕ) → is_prefix s ≡ true → IsPrefix s
 is_prefix-prefix s e =
@@ -82,7 +83,7 @@ bins_of_in_range ds = elim (cases_Bool (has_early_inf ds)) [
   | inr e ↦ rw e (late_inf_in_range ds)
 ]
 
-bins_in_range : (d : Data) → IfOk (bins d) AreLimits
+bins_in_range : (d : Data) → IfOk (bins_read d) AreLimits
 bins_in_range (array ds) = bins_of_in_range ds
 bins_in_range _ = tt
 
@@ -96,22 +97,22 @@ classes_in_range = entry_in_range _ IsClasses (λ ms.
     mapped_in_range _ _ (λ p. ((length p.0 ≤ 255) × AllPass is_name_byte p.0) × AreLimits p.1) IsClasses
     (both_in_range _ _ (λ s. (length s ≤ 255) × AllPass is_name_byte s) AreLimits
     (required_in_range (text is_metric) (λ s. (length s ≤ 255) × AllPass is_name_byte s) metric_in_range (get_member (codes "metric") ms))
-    (required_in_range bins AreLimits bins_in_range (get_member (codes "bins") ms)))
+    (required_in_range bins_read AreLimits bins_in_range (get_member (codes "bins") ms)))
     (λ p q. record { short = q.0.0; bytes = q.0.1; limits = q.1 }))
 
-place_in_range : (ms : Members) → IfOk (place ms) (λ p. IsHost p.0 × IsWithin 1 65535 p.1)
+place_in_range : (ms : Members) → IfOk (host_and_port ms) (λ p. IsHost p.0 × IsWithin 1 65535 p.1)
 place_in_range ms =
     both_in_range _ _ IsHost (IsWithin 1 65535) (required_in_range (text is_host) IsHost host_in_range (get_member (codes "host") ms))
-    (required_in_range (whole 1 65535) (IsWithin 1 65535) (whole_in_range 1 65535) (get_member (codes "port") ms))
+    (required_in_range (whole_read 1 65535) (IsWithin 1 65535) (whole_in_range 1 65535) (get_member (codes "port") ms))
 
 target_in_range : (d : Data) → IfOk (target d) IsTarget
-target_in_range = entry_in_range _ IsTarget (λ ms. mapped_in_range _ (place ms) (λ p. IsHost p.0 × IsWithin 1 65535 p.1) IsTarget (place_in_range ms) (λ p q. record { host = q.0; port = q.1 }))
+target_in_range = entry_in_range _ IsTarget (λ ms. mapped_in_range _ (host_and_port ms) (λ p. IsHost p.0 × IsWithin 1 65535 p.1) IsTarget (place_in_range ms) (λ p q. record { host = q.0; port = q.1 }))
 
 node_in_range : (d : Data) → IfOk (node d) IsNode
 node_in_range = entry_in_range _ IsNode (λ ms.
     mapped_in_range _ _ (λ p. (IsHost p.0.0 × IsWithin 1 65535 p.0.1) × IsWithin 1 65535 p.1) IsNode
     (both_in_range _ _ (λ p. IsHost p.0 × IsWithin 1 65535 p.1) (IsWithin 1 65535) (place_in_range ms)
-    (optional_in_range (whole 1 65535) 8126 (IsWithin 1 65535) (omega arith, omega arith) (whole_in_range 1 65535) (get_member (codes "adminport") ms)))
+    (optional_in_range (whole_read 1 65535) 8126 (IsWithin 1 65535) (omega arith, omega arith) (whole_in_range 1 65535) (get_member (codes "adminport") ms)))
     (λ p q. record { host = q.0.0; port = q.0.1; adminport = q.1 }))
 
 pub histogram_in_range : (d : Data) → IfOk (listed 16 classes d) AreHistograms

@@ -4,19 +4,20 @@ use Rattle.std.specs.Prelude.{⊤}
 use Rattle.std.proofs.lemmas.Bool.{cases_Bool}
 use Rattle.std.proofs.lemmas.Bool.Decides.{nat_tests}
 use Rattle.toml.specs.Data.{Data, no_members}
-use Rattle.sd_model_settings.specs.Values.{flag, whole, members}
-use Rattle.sd_model_settings.specs.Kinds.{Kind, Whole, Share, Flag, Prefix, FilledPrefix, Host, Thresholds, Backends, ClassNames, Histograms, Targets, Nodes, Value, read_as}
-use Rattle.sd_model_settings.specs.Table.{Table, Values, Then, server, deletions, addresses, namespace, entry_lists, sizes, flush_rules, transport}
-use Rattle.sd_model_settings.specs.Settings.{unknown, SettingsFlaw, ◌>>=◌, Section, found, read, top, inside_graphite, Settings, tables, settings_in, unless_unknown, document, settings_by, settings}
+use Rattle.sd_model_settings.specs.Values.{flag, whole_read, members}
+use Rattle.sd_model_settings.specs.Entries.{SettingKind, Whole, Share, Flag, Prefix, FilledPrefix, Host, Thresholds, Backends, ClassNames, Histograms, Targets, Nodes, Value, read_as}
+use Rattle.sd_model_settings.specs.Table.{SettingTable, Values, Then, server, deletion_rules, addresses, namespace, entry_lists, sizes, flush_rules, transport}
+use Rattle.sd_model_settings.specs.Settings.{unknown, SettingsFlaw, ◌>>=◌, Section, found, read, top, Settings, setting_tables, settings_in, unless_unknown, document, settings_by, settings}
 use Rattle.sd_law_settings.specs.Ranges.{IsWithin, IsHost, AreThresholds, AreBackends, AreClassNames, AreHistograms, AreTargets, AreNodes, IsInRange, AreInRange, InRange}
 use Rattle.sd_law_settings.proofs.ValuesInRange.{anything_in_range, bind_in_range, found_in_range, ranged_in_range, whole_in_range}
 use Rattle.sd_law_settings.proofs.EntriesInRange.{is_prefix-prefix, is_host-host, prefix_in_range, filled_prefix_in_range, host_in_range, thresholds_in_range, backends_in_range, class_names_in_range, histogram_in_range, repeater_in_range, nodes_in_range}
+use Rattle.sd_model_settings.proofs.Short.{inside_graphite}
 
 -- what is read as a kind is in its range
-read_as_in_range : (kind : Kind) (d : Data) → IfOk (read_as kind d) (IsInRange kind)
+read_as_in_range : (kind : SettingKind) (d : Data) → IfOk (read_as kind d) (IsInRange kind)
 read_as_in_range (Whole least most) d = whole_in_range least most d
 read_as_in_range (Share least most all earlier) d =
-    ranged_in_range (λ n. nat_le (earlier * n) all) (whole least most d) (IsWithin least most) (λ n. IsWithin least most n × (earlier * n ≤ all)) (whole_in_range least most d)
+    ranged_in_range (λ n. nat_le (earlier * n) all) (whole_read least most d) (IsWithin least most) (λ n. IsWithin least most n × (earlier * n ≤ all)) (whole_in_range least most d)
     (λ n within e. (within, grind (arith, nat_tests)))
 read_as_in_range Flag d = anything_in_range (flag d)
 read_as_in_range Prefix d = prefix_in_range d
@@ -30,16 +31,16 @@ read_as_in_range Targets d = repeater_in_range d
 read_as_in_range Nodes d = nodes_in_range d
 
 -- each default of a table is in its range, where what was set before it is
-abbrev pub AreDefaultsInRange : {A : Type 0} → Table A → Type 0
+abbrev pub AreDefaultsInRange : {A : Type 0} → SettingTable A → Type 0
 AreDefaultsInRange (Values v) = Unit {0}
 AreDefaultsInRange (Then s rest) = IsInRange s.kind s.default × ((x : Value s.kind) → IsInRange s.kind x → AreDefaultsInRange (rest x))
 
 -- what holds of a table's values, whatever is set, where each value is in its range
-abbrev pub AtEnd : {A : Type 0} → Table A → (A → Type 0) → Type 0
+abbrev pub AtEnd : {A : Type 0} → SettingTable A → (A → Type 0) → Type 0
 AtEnd (Values v) P = P v
 AtEnd (Then s rest) P = (x : Value s.kind) → IsInRange s.kind x → AtEnd (rest x) P
 
-pub at_end : {A : Type 0} (t : Table A) (P : A → Type 0) (section : Section) → AreDefaultsInRange t → AtEnd t P → IfOk (read t section) P
+pub at_end : {A : Type 0} (t : SettingTable A) (P : A → Type 0) (section : Section) → AreDefaultsInRange t → AtEnd t P → IfOk (read t section) P
 unfolding read
 at_end (Values v) P section defaults h = h
 at_end (Then s rest) P section defaults h =
@@ -54,46 +55,46 @@ one_backend : AreBackends (codes "graphite" ∷ [])
 one_backend = record { few = omega arith; known = λ k d l. grind arith; distinct = refl }
 
 -- a default, and those behind it
-front : {P Q : Type 0} → P → Q → P × Q
-front p q = (p, q)
+both : {P Q : Type 0} → P → Q → P × Q
+both p q = (p, q)
 
 server_defaults : AreDefaultsInRange server
 server_defaults =
-    front (omega arith, omega arith) (λ _ _. front (omega arith, omega arith) (λ _ _. front (omega arith, omega arith) (λ _ _. front one_threshold (λ _ _. tt))))
+    both (omega arith, omega arith) (λ _ _. both (omega arith, omega arith) (λ _ _. both (omega arith, omega arith) (λ _ _. both one_threshold (λ _ _. tt))))
 
 addresses_defaults : AreDefaultsInRange addresses
 addresses_defaults =
-    front (is_prefix-prefix (codes "statsd") refl, omega arith) (λ _ _. front (is_host-host (codes "0.0.0.0") refl) (λ _ _.
-    front (is_host-host (codes "0.0.0.0") refl) (λ _ _. front one_backend (λ _ _.
-    front (is_host-host (codes "127.0.0.1") refl) (λ _ _. front (omega arith, omega arith) (λ _ _. tt))))))
+    both (is_prefix-prefix (codes "statsd") refl, omega arith) (λ _ _. both (is_host-host (codes "0.0.0.0") refl) (λ _ _.
+    both (is_host-host (codes "0.0.0.0") refl) (λ _ _. both one_backend (λ _ _.
+    both (is_host-host (codes "127.0.0.1") refl) (λ _ _. both (omega arith, omega arith) (λ _ _. tt))))))
 
 namespace_defaults : AreDefaultsInRange namespace
 namespace_defaults =
-    front tt (λ _ _. front (is_prefix-prefix (codes "stats") refl) (λ _ _. front (is_prefix-prefix (codes "counters") refl) (λ _ _.
-    front (is_prefix-prefix (codes "timers") refl) (λ _ _. front (is_prefix-prefix (codes "gauges") refl) (λ _ _.
-    front (is_prefix-prefix (codes "sets") refl) (λ _ _. front (is_prefix-prefix [] refl) (λ _ _. tt)))))))
+    both tt (λ _ _. both (is_prefix-prefix (codes "stats") refl) (λ _ _. both (is_prefix-prefix (codes "counters") refl) (λ _ _.
+    both (is_prefix-prefix (codes "timers") refl) (λ _ _. both (is_prefix-prefix (codes "gauges") refl) (λ _ _.
+    both (is_prefix-prefix (codes "sets") refl) (λ _ _. both (is_prefix-prefix [] refl) (λ _ _. tt)))))))
 
 entry_lists_defaults : AreDefaultsInRange entry_lists
 entry_lists_defaults =
-    front (record { few = omega arith; range = λ k d l. absurd (omega arith) }) (λ _ _.
-    front (record { few = omega arith; range = λ k d l. absurd (omega arith) }) (λ _ _.
-    front (record { few = omega arith; range = λ k d l. absurd (omega arith) }) (λ _ _. tt)))
+    both (record { few = omega arith; range = λ k d l. absurd (omega arith) }) (λ _ _.
+    both (record { few = omega arith; range = λ k d l. absurd (omega arith) }) (λ _ _.
+    both (record { few = omega arith; range = λ k d l. absurd (omega arith) }) (λ _ _. tt)))
 
 sizes_defaults : AreDefaultsInRange sizes
 sizes_defaults =
-    front (omega arith, omega arith) (λ _ _. front (omega arith, omega arith) (λ _ _. front (omega arith, omega arith) (λ shards few.
-    front (omega arith, omega arith) (λ _ _. front ((omega arith, omega arith), omega arith) (λ _ _.
-    front (omega arith, omega arith) (λ _ _. front (omega arith, omega arith) (λ _ _. tt)))))))
+    both (omega arith, omega arith) (λ _ _. both (omega arith, omega arith) (λ _ _. both (omega arith, omega arith) (λ shards few.
+    both (omega arith, omega arith) (λ _ _. both ((omega arith, omega arith), omega arith) (λ _ _.
+    both (omega arith, omega arith) (λ _ _. both (omega arith, omega arith) (λ _ _. tt)))))))
 
 flush_rules_defaults : AreDefaultsInRange flush_rules
 flush_rules_defaults =
-    front (omega arith, omega arith) (λ _ _. front (record { few = omega arith; known = λ k d l. absurd (omega arith); distinct = refl }) (λ _ _. tt))
+    both (omega arith, omega arith) (λ _ _. both (record { few = omega arith; known = λ k d l. absurd (omega arith); distinct = refl }) (λ _ _. tt))
 
 transport_defaults : AreDefaultsInRange transport
 transport_defaults =
-    front (omega arith, omega arith) (λ outlets few. front ((omega arith, omega arith), omega arith) (λ _ _.
-    front (omega arith, omega arith) (λ _ _. front tt (λ _ _. front (omega arith, omega arith) (λ _ _. front tt (λ _ _.
-    front (omega arith, omega arith) (λ _ _. front (omega arith, omega arith) (λ _ _. tt))))))))
+    both (omega arith, omega arith) (λ outlets few. both ((omega arith, omega arith), omega arith) (λ _ _.
+    both (omega arith, omega arith) (λ _ _. both tt (λ _ _. both (omega arith, omega arith) (λ _ _. both tt (λ _ _.
+    both (omega arith, omega arith) (λ _ _. both (omega arith, omega arith) (λ _ _. tt))))))))
 
 pub server_in_range : (s : Section) → IfOk (read server s) (AreInRange server)
 server_in_range s = at_end server (AreInRange server) s server_defaults (λ _ p _ m _ f _ t. (p, (m, (f, (t, tt)))))
@@ -120,11 +121,11 @@ transport_in_range s = at_end transport (AreInRange transport) s transport_defau
 pub value_then : {A B : Type 0} (r : Result A SettingsFlaw) (f : A → Result B SettingsFlaw) (Q : B → Type 0) → ((x : A) → IfOk (f x) Q) → IfOk (r >>= f) Q
 value_then r f Q h = bind_in_range r f (λ x. ⊤) Q (anything_in_range r) (λ x p. h x)
 
-pub settings_in_in_range : (s : Section) → IfOk (settings_in tables s) InRange
+pub settings_in_in_range : (s : Section) → IfOk (settings_in setting_tables s) InRange
 unfolding settings_in
 settings_in_in_range s =
     bind_in_range (read server s) _ (AreInRange server) InRange (server_in_range s) (λ server r.
-    value_then (read deletions s) _ InRange (λ deletions.
+    value_then (read deletion_rules s) _ InRange (λ deletion_rules.
     bind_in_range (read addresses s) _ (AreInRange addresses) InRange (addresses_in_range s) (λ addresses a.
     value_then (found s (codes "graphite") members no_members) _ InRange (λ graphite.
     bind_in_range (read namespace (inside_graphite graphite)) _ (AreInRange namespace) InRange (namespace_in_range (inside_graphite graphite)) (λ namespace n.
@@ -142,5 +143,5 @@ pub settings_in_range : (bytes : List ℕ) → IfOk (settings bytes) InRange
 unfolding settings settings_by
 settings_in_range bytes = elim (cases_Bool (nat_lt 65536 (length bytes))) [
   | inl e ↦ rw e tt
-  | inr e ↦ rw e (value_then (document bytes) _ InRange (λ doc. known_in_range (unknown tables doc) (settings_in tables (top doc)) (settings_in_in_range (top doc))))
+  | inr e ↦ rw e (value_then (document bytes) _ InRange (λ doc. known_in_range (unknown setting_tables doc) (settings_in setting_tables (top doc)) (settings_in_in_range (top doc))))
 ]

@@ -4,8 +4,8 @@ use Rattle.std.specs.Prelude.{⊤}
 use Rattle.std.proofs.lemmas.Bool.{cases_Bool}
 use Rattle.std.proofs.lemmas.Bool.Decides.{nat_tests}
 use Rattle.toml.specs.Data.{Data, string, integer, array, table, Items, no_items, item, Members}
-use Rattle.sd_model_settings.specs.Values.{ValueFlaw, OtherKind, OutsideRange, both, mapped, ranged, whole, text, each, are_at_most, listed, entry, required, optional}
-use Rattle.sd_model_settings.specs.Settings.{SettingsFlaw, ◌>>=◌, named, in_force, Section, found}
+use Rattle.sd_model_settings.specs.Values.{ValueFlaw, OtherKind, OutsideRange, both, mapped, ranged, whole_read, text, each, are_at_most, listed, entry, required, optional}
+use Rattle.sd_model_settings.specs.Settings.{SettingsFlaw, ◌>>=◌, with_name, in_force, Section, found}
 use Rattle.sd_law_settings.specs.Ranges.{IsWithin}
 
 -- nothing is asked of a value
@@ -20,7 +20,7 @@ bind_in_range (Ok x) f P Q p h = h x p
 bind_in_range (Err flaw) f P Q p h = tt
 
 -- a value read with its name
-named_in_range : {A : Type 0} (name : List ℕ) (r : Result A ValueFlaw) (P : A → Type 0) → IfOk r P → IfOk (named name r) P
+named_in_range : {A : Type 0} (name : List ℕ) (r : Result A ValueFlaw) (P : A → Type 0) → IfOk r P → IfOk (with_name name r) P
 named_in_range name (Ok x) P p = p
 named_in_range name (Err OtherKind) P p = tt
 named_in_range name (Err OutsideRange) P p = tt
@@ -57,7 +57,7 @@ both_in_range (Err OtherKind) s P Q p q = tt
 both_in_range (Err OutsideRange) (Ok y) P Q p q = tt
 both_in_range (Err OutsideRange) (Err flaw) P Q p q = tt
 
-pub whole_in_range : (least most : ℕ) (d : Data) → IfOk (whole least most d) (IsWithin least most)
+pub whole_in_range : (least most : ℕ) (d : Data) → IfOk (whole_read least most d) (IsWithin least most)
 whole_in_range least most (integer (pos n)) = elim (cases_Bool (nat_le least n && nat_le n most)) [
   | inl e ↦ rw e (grind (arith, nat_tests))
   | inr e ↦ rw e tt

@@ -1,14 +1,13 @@
 -- The ranges that the values of every accepted file are in, as those rely on them who use the values.
-use Rattle.std.specs.Prelude.{◌≡◌, ◌≢◌, ℕ, ◌*◌, ◌<◌, ◌≤◌, true, ℤ, pos, unsigned_abs, List, length, All}
+use Rattle.std.specs.Prelude.{◌≡◌, ◌≢◌, ℕ, ◌*◌, ◌<◌, ◌≤◌, true, ℤ, pos, unsigned_abs, List, length, All, nat_le, ◌&&◌}
 use Rattle.std.specs.List.{AllPass}
 use Rattle.std.specs.Ordering.{int_eq}
 use Rattle.std.specs.Str.{bytes_eq}
 use Rattle.sd_model_text.specs.Names.{is_name_byte}
-use Rattle.sd_model_settings.specs.Values.{is_host_byte, are_distinct}
+use Rattle.sd_model_settings.specs.Values.{are_distinct}
 use Rattle.sd_model_text.specs.Numbers.{Limit, ascends}
-use Rattle.sd_model_settings.specs.Entries.{is_backend, is_limit, Classes, Target, Node, is_class_name}
-use Rattle.sd_model_settings.specs.Kinds.{Kind, Whole, Share, Flag, Prefix, FilledPrefix, Host, Thresholds, Backends, ClassNames, Histograms, Targets, Nodes, Value}
-use Rattle.sd_model_settings.specs.Table.{Table, Values, Then, Namespace, server, addresses, namespace, entry_lists, sizes, flush_rules, transport}
+use Rattle.sd_model_settings.specs.Entries.{is_backend, is_limit, Classes, Target, Node, is_class_name, SettingKind, Whole, Share, Flag, Prefix, FilledPrefix, Host, Thresholds, Backends, ClassNames, Histograms, Targets, Nodes, Value}
+use Rattle.sd_model_settings.specs.Table.{SettingTable, Values, Then, Namespace, server, addresses, namespace, entry_lists, sizes, flush_rules, transport}
 use Rattle.sd_model_settings.specs.Settings.{Settings}
 
 -- a number from least to most
@@ -24,7 +23,7 @@ pub record IsPrefix (s : List ℕ) : Type 0 where
 pub record IsHost (s : List ℕ) : Type 0 where
   pub some : 0 < length s
   pub short : length s ≤ 64
-  pub bytes : AllPass is_host_byte s
+  pub bytes : AllPass (λ b. nat_le 33 b && nat_le b 126) s
 
 -- a threshold in millionths
 abbrev pub IsThreshold : ℤ → Type 0
@@ -87,7 +86,7 @@ pub record AreNodes (entries : List Node) : Type 0 where
   pub range : All IsNode entries
 
 -- a value of a kind is in its range
-abbrev pub IsInRange : (kind : Kind) → Value kind → Type 0
+abbrev pub IsInRange : (kind : SettingKind) → Value kind → Type 0
 IsInRange (Whole least most) n = IsWithin least most n
 IsInRange (Share least most all earlier) n = IsWithin least most n × (earlier * n ≤ all)
 IsInRange Flag b = Unit {0}
@@ -102,7 +101,7 @@ IsInRange Targets entries = AreTargets entries
 IsInRange Nodes entries = AreNodes entries
 
 -- each value of a group is in the range that its table has for it
-abbrev pub AreInRange : {A : Type 0} → Table A → A → Type 0
+abbrev pub AreInRange : {A : Type 0} → SettingTable A → A → Type 0
 AreInRange (Values v) values = Unit {0}
 AreInRange (Then s rest) values = IsInRange s.kind (s.value values) × AreInRange (rest (s.value values)) values
 

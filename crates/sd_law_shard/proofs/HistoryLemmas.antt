@@ -9,21 +9,20 @@ use Rattle.sd_model_shard.proofs.OrderLemmas.{Rises, Rises-append, Rises-filter,
 use Rattle.std.specs.FinMap.{empty}
 use Rattle.sd_model_text.specs.Names.{Kind}
 use Rattle.sd_model_text.specs.Lines.{Sample}
-use Rattle.sd_model_shard.specs.Commands.{DumpRow, is_hit, rows_left, entries_taken_out, entries_left, dump_of}
-use Rattle.sd_model_shard.specs.Rows.{Rows, Entry, row_of}
-use Rattle.sd_model_shard.specs.Summaries.{is_listed, Tell}
-use Rattle.sd_model_shard.specs.Shard.{State, empty_state, Cause, Limits, Policy, Taken, Dropped, Event, Submit, Swap, Delete, Dump, Look, step, admitted, refusal, with_sample, with_drop, carried, after_swap, after_delete, deletion_of, Table, table_of, Answered, Swapped, Dumped, Numbers, numbers_of, Looked, last_number}
-use Rattle.sd_model_shard.specs.History.{History, Act, Asked, after, after_all, state_after, LegalFrom, Legal, act_of, answered, held_from, held_after}
+use Rattle.sd_model_shard.specs.Rows.{DumpRow, is_hit, rows_left, dump_of, Rows, Entry, row_of, is_listed, Tell}
+use Rattle.sd_model_shard.specs.Shard.{State, empty_state, Cause, Limits, Policy, Taken, Dropped, Event, Submit, Swap, Delete, Dump, Look, step, admitted, refusal, with_sample, kept_rows, after_swap, after_delete, deletion_of, Table, table_of, Answered, Swapped, Dumped, Numbers, numbers_of, Looked, last_number}
+use Rattle.sd_model_shard.specs.History.{History, Act, Asked, after, after_all, state_after, LegalFrom, Legal, answered, held_after}
 use Rattle.sd_law_shard.specs.Sums.{StandsAt, flushed_in, StandsOnce}
-use Rattle.sd_model_shard.specs.Whereabouts.{arrivals, fates, filed, causes, journaled, Flushed, ActOver, acts_over, flushes, flushes_from, deleted_from, deletions, taken_out, told_by, tables as handed_out, AreDocumented, RowsAreCarried, Accounted}
-use Rattle.sd_law_shard.specs.Told.{IsToldBy, AreToldBy}
-use Rattle.sd_law_shard.proofs.OverLemmas.{told_by_entries}
-use Rattle.sd_model_shard.proofs.CarriedLemmas.{Stands, Stands-empty, Stands-sample, Stands-drop, Stands-swap, Stands-delete, Stands-tell, samples_told, deleted_told}
+use Rattle.sd_model_shard.specs.Whereabouts.{arrivals, fates, filed, causes, journaled, Flushed, ActOver, acts_over, flushes, deletions, taken_out, summed_by, tables as handed_out, AreDocumented, RowsAreKept}
+use Rattle.sd_law_shard.specs.Reported.{IsReportedBy, AreReportedBy}
+use Rattle.sd_law_shard.proofs.OverLemmas.{summed_by_entries}
+use Rattle.sd_model_shard.proofs.KeptRowLemmas.{Stands, Stands-empty, Stands-sample, Stands-drop, Stands-swap, Stands-delete, Stands-tell, samples_reported, deleted_reported}
 use Rattle.sd_model_shard.proofs.HistoryLemmas.{LegalFrom-push, asked_in, legal_is_answered}
+use Rattle.sd_model_shard.proofs.Short.{held_from, with_drop, deleted_from, flushes_from, act_of, Accounted, entries_taken_out, entries_left}
 
-pub LegalFrom-front : (limits : Limits) (policy : Policy) (state : State) (front back : History) → LegalFrom limits policy state (front ++ back) → LegalFrom limits policy state front
-LegalFrom-front limits policy state [] back h = tt
-LegalFrom-front limits policy state (a ∷ front) back h = (h.0, LegalFrom-front limits policy (after limits policy state a) front back h.1)
+pub LegalFrom-prefix : (limits : Limits) (policy : Policy) (state : State) (prefix back : History) → LegalFrom limits policy state (prefix ++ back) → LegalFrom limits policy state prefix
+LegalFrom-prefix limits policy state [] back h = tt
+LegalFrom-prefix limits policy state (a ∷ prefix) back h = (h.0, LegalFrom-prefix limits policy (after limits policy state a) prefix back h.1)
 
 pub StandsAt-push : (limits : Limits) (policy : Policy) (acts : History) (state : State) (who : ℕ) (event : Event) → StandsAt limits policy acts state
     → StandsAt limits policy (acts ++ act_of limits policy state who event ∷ []) (step limits policy state event).state
@@ -41,7 +40,7 @@ abbrev journals : List Entry → History → List Entry
 journals held acts = flat_map (λ f. f.journal) (flushes_from held acts)
 
 -- what acts do between two states, of which the first stands on these rows and entries
-record Goes (limits : Limits) (policy : Policy) (carried_in : Rows) (journal : List Entry) (old new : State) (acts : History) : Type 0 where
+record Goes (limits : Limits) (policy : Policy) (kept_before : Rows) (journal : List Entry) (old new : State) (acts : History) : Type 0 where
   one_fate : map (λ f. f.arrival) (fates acts) ≡ arrivals acts
   numbers : map (λ e. e.number) (filed acts) ≡ range_with_len old.taken (length (filed acts))
   order : (low : ℕ) → Rises low journal old.taken → Rises low (journals journal acts ++ held_from journal acts) new.taken
@@ -52,18 +51,18 @@ record Goes (limits : Limits) (policy : Policy) (carried_in : Rows) (journal : L
   dropped : old.dropped ≤ last_number → new.dropped ≡ min (old.dropped + length (causes acts)) last_number
   held : new.held ≡ length (held_from journal acts)
   listed : new.listed ≡ count_by (λ e. is_listed e.sample.kind) (held_from journal acts)
-  told : told_by flushed_in acts ≡ length (journals journal acts)
+  reported : summed_by flushed_in acts ≡ length (journals journal acts)
   handed : map (λ f. f.table) (flushes_from journal acts) ≡ handed_out acts
   tables : AllByRecursion (λ f. Tell f.table.live f.journal) (flushes_from journal acts)
   last : Tell new.live (held_from journal acts)
-  answers : IsToldBy limits policy new (held_from journal acts)
-  carries : RowsAreCarried policy carried_in journal acts
+  answers : IsReportedBy limits policy new (held_from journal acts)
+  keeps_rows : RowsAreKept policy kept_before journal acts
 
 -- a sample before them, by its answer
-sample_goes : (limits : Limits) (policy : Policy) (carried_in : Rows) (journal : List Entry) (old new : State) (who : ℕ) (s : Sample) (acts : History)
-    → Goes limits policy carried_in (journal ++ record { who = who; number = old.taken; sample = s } ∷ []) (with_sample old s) new acts
-    → Goes limits policy carried_in journal old new (record { who = who; event = Submit s; reply = Answered (Taken old.taken) } ∷ acts)
-sample_goes limits policy carried_in journal old new who s acts h =
+sample_goes : (limits : Limits) (policy : Policy) (kept_before : Rows) (journal : List Entry) (old new : State) (who : ℕ) (s : Sample) (acts : History)
+    → Goes limits policy kept_before (journal ++ record { who = who; number = old.taken; sample = s } ∷ []) (with_sample old s) new acts
+    → Goes limits policy kept_before journal old new (record { who = who; event = Submit s; reply = Answered (Taken old.taken) } ∷ acts)
+sample_goes limits policy kept_before journal old new who s acts h =
     let e : Entry = record { who = who; number = old.taken; sample = s } in
     let more = journal ++ e ∷ [] in
     record {
@@ -77,19 +76,19 @@ sample_goes limits policy carried_in journal old new who s acts h =
       dropped = λ below. omega (arith, h.dropped below);
       held = h.held;
       listed = h.listed;
-      told = h.told;
+      reported = h.reported;
       handed = h.handed;
       tables = h.tables;
       last = h.last;
       answers = h.answers;
-      carries = (tt, h.carries);
+      keeps_rows = (tt, h.keeps_rows);
     }
 
 -- a drop before them
-drop_goes : (limits : Limits) (policy : Policy) (carried_in : Rows) (journal : List Entry) (old new : State) (who : ℕ) (s : Sample) (cause : Cause) (acts : History)
-    → Goes limits policy carried_in journal (with_drop old) new acts
-    → Goes limits policy carried_in journal old new (record { who = who; event = Submit s; reply = Answered (Dropped cause) } ∷ acts)
-drop_goes limits policy carried_in journal old new who s cause acts h = record {
+drop_goes : (limits : Limits) (policy : Policy) (kept_before : Rows) (journal : List Entry) (old new : State) (who : ℕ) (s : Sample) (cause : Cause) (acts : History)
+    → Goes limits policy kept_before journal (with_drop old) new acts
+    → Goes limits policy kept_before journal old new (record { who = who; event = Submit s; reply = Answered (Dropped cause) } ∷ acts)
+drop_goes limits policy kept_before journal old new who s cause acts h = record {
   one_fate = ap (λ rest. record { who = who; sample = s } ∷ rest) h.one_fate;
   numbers = h.numbers;
   order = h.order;
@@ -100,23 +99,23 @@ drop_goes limits policy carried_in journal old new who s cause acts h = record {
   dropped = λ below. omega (arith, h.dropped (omega arith));
   held = h.held;
   listed = h.listed;
-  told = h.told;
+  reported = h.reported;
   handed = h.handed;
   tables = h.tables;
   last = h.last;
   answers = h.answers;
-  carries = (tt, h.carries);
+  keeps_rows = (tt, h.keeps_rows);
 }
 
-joined : (front a b c : List Entry) → front ++ (a ++ b ++ c) ≡ front ++ a ++ b ++ c
-joined front a b c = simp append_assoc
+joined : (prefix a b c : List Entry) → prefix ++ (a ++ b ++ c) ≡ prefix ++ a ++ b ++ c
+joined prefix a b c = simp append_assoc
 
 -- a swap before them
-swap_goes : (limits : Limits) (policy : Policy) (carried_in : Rows) (journal : List Entry) (old new : State) (who : ℕ) (acts : History)
-    → Stands carried_in old journal
-    → Goes limits policy (carried policy old.live) [] (after_swap policy old) new acts
-    → Goes limits policy carried_in journal old new (record { who = who; event = Swap; reply = Swapped (table_of old) } ∷ acts)
-swap_goes limits policy carried_in journal old new who acts stands h =
+swap_goes : (limits : Limits) (policy : Policy) (kept_before : Rows) (journal : List Entry) (old new : State) (who : ℕ) (acts : History)
+    → Stands kept_before old journal
+    → Goes limits policy (kept_rows policy old.live) [] (after_swap policy old) new acts
+    → Goes limits policy kept_before journal old new (record { who = who; event = Swap; reply = Swapped (table_of old) } ∷ acts)
+swap_goes limits policy kept_before journal old new who acts stands h =
     let later = journals [] acts in
     let gone = deleted_from [] acts in
     let last = held_from [] acts in
@@ -133,21 +132,21 @@ swap_goes limits policy carried_in journal old new who acts stands h =
       dropped = h.dropped;
       held = h.held;
       listed = h.listed;
-      told = omega (
+      reported = omega (
         arith,
-        h.told,
-        samples_told carried_in old journal stands,
+        h.reported,
+        samples_reported kept_before old journal stands,
         length-append journal later,
         sum_by-cons (λ (b : Act). flushed_in b.reply) (record { who = who; event = Swap; reply = Swapped (table_of old) }) acts,
       );
       handed = ap (λ (ts : List Table). table_of old ∷ ts) h.handed;
-      tables = (Stands-tell carried_in old journal stands, h.tables);
+      tables = (Stands-tell kept_before old journal stands, h.tables);
       last = h.last;
       answers = h.answers;
-      carries = (stands.rows, h.carries);
+      keeps_rows = (stands.rows, h.keeps_rows);
     }
 
--- entries that go out in front stand behind those of the journals
+-- entries that go out first stand behind those of the journals
 moved_behind : (held left out entries journals gone last : List Entry) → IsPermutation held (out ++ left) → IsPermutation (left ++ entries) (journals ++ gone ++ last) → IsPermutation (held ++ entries) (journals ++ (out ++ gone) ++ last)
 moved_behind held left out entries journals gone last parts h =
     let one : IsPermutation (held ++ entries) ((out ++ left) ++ entries) = IsPermutation-append_left entries held (out ++ left) parts in
@@ -161,11 +160,11 @@ moved_behind held left out entries journals gone last parts h =
     (subst (IsPermutation ((out ++ journals) ++ (gone ++ last))) end three)))
 
 -- a deletion before them
-delete_goes : (limits : Limits) (policy : Policy) (kind : Kind) (pattern : List ℕ) (carried_in : Rows) (journal : List Entry) (old new : State) (who : ℕ) (acts : History)
-    → Stands carried_in old journal
-    → Goes limits policy (rows_left kind pattern carried_in) (entries_left kind pattern journal) (after_delete kind pattern old) new acts
-    → Goes limits policy carried_in journal old new (record { who = who; event = Delete kind pattern; reply = deletion_of kind pattern old } ∷ acts)
-delete_goes limits policy kind pattern carried_in journal old new who acts stands h =
+delete_goes : (limits : Limits) (policy : Policy) (kind : Kind) (pattern : List ℕ) (kept_before : Rows) (journal : List Entry) (old new : State) (who : ℕ) (acts : History)
+    → Stands kept_before old journal
+    → Goes limits policy (rows_left kind pattern kept_before) (entries_left kind pattern journal) (after_delete kind pattern old) new acts
+    → Goes limits policy kept_before journal old new (record { who = who; event = Delete kind pattern; reply = deletion_of kind pattern old } ∷ acts)
+delete_goes limits policy kind pattern kept_before journal old new who acts stands h =
     let out = entries_taken_out kind pattern journal in
     let left = entries_left kind pattern journal in
     let parts : IsPermutation journal (out ++ left) = IsPermutation-filter_both (λ e. is_hit kind pattern (row_of e.sample)) (λ e. not (is_hit kind pattern (row_of e.sample))) (λ e. refl) journal in
@@ -176,23 +175,23 @@ delete_goes limits policy kind pattern carried_in journal old new who acts stand
       places = moved_behind journal left out (filed acts) (journals left acts) (deleted_from left acts) (held_from left acts) parts h.places;
       taken = h.taken;
       flushed = h.flushed;
-      deleted = omega (arith, h.deleted, deleted_told kind pattern carried_in old journal stands, length-append out (deleted_from left acts));
+      deleted = omega (arith, h.deleted, deleted_reported kind pattern kept_before old journal stands, length-append out (deleted_from left acts));
       dropped = h.dropped;
       held = h.held;
       listed = h.listed;
-      told = h.told;
+      reported = h.reported;
       handed = h.handed;
       tables = h.tables;
       last = h.last;
       answers = h.answers;
-      carries = (tt, h.carries);
+      keeps_rows = (tt, h.keeps_rows);
     }
 
 -- a dump before them
-dump_goes : (limits : Limits) (policy : Policy) (kind : Kind) (carried_in : Rows) (journal : List Entry) (old new : State) (who : ℕ) (rows : List DumpRow) (acts : History)
-    → Goes limits policy carried_in journal old new acts
-    → Goes limits policy carried_in journal old new (record { who = who; event = Dump kind; reply = Dumped rows } ∷ acts)
-dump_goes limits policy kind carried_in journal old new who rows acts h = record {
+dump_goes : (limits : Limits) (policy : Policy) (kind : Kind) (kept_before : Rows) (journal : List Entry) (old new : State) (who : ℕ) (rows : List DumpRow) (acts : History)
+    → Goes limits policy kept_before journal old new acts
+    → Goes limits policy kept_before journal old new (record { who = who; event = Dump kind; reply = Dumped rows } ∷ acts)
+dump_goes limits policy kind kept_before journal old new who rows acts h = record {
   one_fate = h.one_fate;
   numbers = h.numbers;
   order = h.order;
@@ -203,19 +202,19 @@ dump_goes limits policy kind carried_in journal old new who rows acts h = record
   dropped = h.dropped;
   held = h.held;
   listed = h.listed;
-  told = h.told;
+  reported = h.reported;
   handed = h.handed;
   tables = h.tables;
   last = h.last;
   answers = h.answers;
-  carries = (tt, h.carries);
+  keeps_rows = (tt, h.keeps_rows);
 }
 
 -- a look before them
-look_goes : (limits : Limits) (policy : Policy) (carried_in : Rows) (journal : List Entry) (old new : State) (who : ℕ) (numbers : Numbers) (acts : History)
-    → Goes limits policy carried_in journal old new acts
-    → Goes limits policy carried_in journal old new (record { who = who; event = Look; reply = Looked numbers } ∷ acts)
-look_goes limits policy carried_in journal old new who numbers acts h = record {
+look_goes : (limits : Limits) (policy : Policy) (kept_before : Rows) (journal : List Entry) (old new : State) (who : ℕ) (numbers : Numbers) (acts : History)
+    → Goes limits policy kept_before journal old new acts
+    → Goes limits policy kept_before journal old new (record { who = who; event = Look; reply = Looked numbers } ∷ acts)
+look_goes limits policy kept_before journal old new who numbers acts h = record {
   one_fate = h.one_fate;
   numbers = h.numbers;
   order = h.order;
@@ -226,39 +225,39 @@ look_goes limits policy carried_in journal old new who numbers acts h = record {
   dropped = h.dropped;
   held = h.held;
   listed = h.listed;
-  told = h.told;
+  reported = h.reported;
   handed = h.handed;
   tables = h.tables;
   last = h.last;
   answers = h.answers;
-  carries = (tt, h.carries);
+  keeps_rows = (tt, h.keeps_rows);
 }
 
 -- events with the replies of the step, from a state that stands on some entries
 abbrev GoesOn : Limits → Policy → State → List Asked → Type 0
 GoesOn limits policy state asked =
-    (carried_in : Rows) (journal : List Entry) → Stands carried_in state journal
-    → Goes limits policy carried_in journal state (after_all limits policy state (answered limits policy state asked)) (answered limits policy state asked)
+    (kept_before : Rows) (journal : List Entry) → Stands kept_before state journal
+    → Goes limits policy kept_before journal state (after_all limits policy state (answered limits policy state asked)) (answered limits policy state asked)
 
 -- a sample before events, by its answer
 submit_goes : (limits : Limits) (policy : Policy) (state : State) (who : ℕ) (s : Sample) (answer : Option Cause) (asked : List Asked)
     → GoesOn limits policy (admitted state s answer).state asked
-    → (carried_in : Rows) (journal : List Entry) → Stands carried_in state journal
+    → (kept_before : Rows) (journal : List Entry) → Stands kept_before state journal
     → (let next = (admitted state s answer).state in
     let acts = answered limits policy next asked in
-    Goes limits policy carried_in journal state (after_all limits policy next acts) (record { who = who; event = Submit s; reply = (admitted state s answer).reply } ∷ acts))
-submit_goes limits policy state who s None asked rest carried_in journal stands =
+    Goes limits policy kept_before journal state (after_all limits policy next acts) (record { who = who; event = Submit s; reply = (admitted state s answer).reply } ∷ acts))
+submit_goes limits policy state who s None asked rest kept_before journal stands =
     let next = with_sample state s in
     let acts = answered limits policy next asked in
-    sample_goes limits policy carried_in journal state (after_all limits policy next acts) who s acts
-    (rest carried_in (journal ++ record { who = who; number = state.taken; sample = s } ∷ []) (Stands-sample carried_in state journal who s stands))
-submit_goes limits policy state who s (Some cause) asked rest carried_in journal stands =
+    sample_goes limits policy kept_before journal state (after_all limits policy next acts) who s acts
+    (rest kept_before (journal ++ record { who = who; number = state.taken; sample = s } ∷ []) (Stands-sample kept_before state journal who s stands))
+submit_goes limits policy state who s (Some cause) asked rest kept_before journal stands =
     let next = with_drop state in
     let acts = answered limits policy next asked in
-    drop_goes limits policy carried_in journal state (after_all limits policy next acts) who s cause acts (rest carried_in journal (Stands-drop carried_in state journal s cause stands))
+    drop_goes limits policy kept_before journal state (after_all limits policy next acts) who s cause acts (rest kept_before journal (Stands-drop kept_before state journal s cause stands))
 
 goes : (limits : Limits) (policy : Policy) (state : State) (asked : List Asked) → GoesOn limits policy state asked
-goes limits policy state [] carried_in journal stands = record {
+goes limits policy state [] kept_before journal stands = record {
   one_fate = refl;
   numbers = refl;
   order = λ low rises. rises;
@@ -269,32 +268,32 @@ goes limits policy state [] carried_in journal stands = record {
   dropped = λ below. omega arith;
   held = stands.held;
   listed = stands.listed;
-  told = refl;
+  reported = refl;
   handed = refl;
   tables = tt;
-  last = Stands-tell carried_in state journal stands;
-  answers = told_by_entries limits policy carried_in state journal stands;
-  carries = tt;
+  last = Stands-tell kept_before state journal stands;
+  answers = summed_by_entries limits policy kept_before state journal stands;
+  keeps_rows = tt;
 }
-goes limits policy state (q ∷ asked) carried_in journal stands = goes_by limits policy state q.who q.event asked (goes limits policy (step limits policy state q.event).state asked) carried_in journal stands where
+goes limits policy state (q ∷ asked) kept_before journal stands = goes_by limits policy state q.who q.event asked (goes limits policy (step limits policy state q.event).state asked) kept_before journal stands where
   goes_by : (limits : Limits) (policy : Policy) (state : State) (who : ℕ) (event : Event) (asked : List Asked)
       → GoesOn limits policy (step limits policy state event).state asked → GoesOn limits policy state (record { who = who; event = event } ∷ asked)
-  goes_by limits policy state who (Submit s) asked rest carried_in journal stands = submit_goes limits policy state who s (refusal limits state s) asked rest carried_in journal stands
-  goes_by limits policy state who Swap asked rest carried_in journal stands =
+  goes_by limits policy state who (Submit s) asked rest kept_before journal stands = submit_goes limits policy state who s (refusal limits state s) asked rest kept_before journal stands
+  goes_by limits policy state who Swap asked rest kept_before journal stands =
       let next = after_swap policy state in
       let acts = answered limits policy next asked in
-      swap_goes limits policy carried_in journal state (after_all limits policy next acts) who acts stands (rest (carried policy state.live) [] (Stands-swap policy state))
-  goes_by limits policy state who (Delete kind pattern) asked rest carried_in journal stands =
+      swap_goes limits policy kept_before journal state (after_all limits policy next acts) who acts stands (rest (kept_rows policy state.live) [] (Stands-swap policy state))
+  goes_by limits policy state who (Delete kind pattern) asked rest kept_before journal stands =
       let next = after_delete kind pattern state in
       let acts = answered limits policy next asked in
-      delete_goes limits policy kind pattern carried_in journal state (after_all limits policy next acts) who acts stands
-      (rest (rows_left kind pattern carried_in) (entries_left kind pattern journal) (Stands-delete kind pattern carried_in state journal stands))
-  goes_by limits policy state who (Dump kind) asked rest carried_in journal stands =
+      delete_goes limits policy kind pattern kept_before journal state (after_all limits policy next acts) who acts stands
+      (rest (rows_left kind pattern kept_before) (entries_left kind pattern journal) (Stands-delete kind pattern kept_before state journal stands))
+  goes_by limits policy state who (Dump kind) asked rest kept_before journal stands =
       let acts = answered limits policy state asked in
-      dump_goes limits policy kind carried_in journal state (after_all limits policy state acts) who (dump_of kind state.live) acts (rest carried_in journal stands)
-  goes_by limits policy state who Look asked rest carried_in journal stands =
+      dump_goes limits policy kind kept_before journal state (after_all limits policy state acts) who (dump_of kind state.live) acts (rest kept_before journal stands)
+  goes_by limits policy state who Look asked rest kept_before journal stands =
       let acts = answered limits policy state asked in
-      look_goes limits policy carried_in journal state (after_all limits policy state acts) who (numbers_of state) acts (rest carried_in journal stands)
+      look_goes limits policy kept_before journal state (after_all limits policy state acts) who (numbers_of state) acts (rest kept_before journal stands)
 
 abbrev GoesAll : Limits → Policy → History → Type 0
 GoesAll limits policy acts = Goes limits policy empty [] empty_state (state_after limits policy acts) acts
@@ -331,16 +330,16 @@ are_documented limits policy acts legal =
     record { handed_out = h.handed; tables = h.tables; last = h.last; listed = h.listed }
 
 -- what is answered next is told by the entries held
-pub are_told_by : (limits : Limits) (policy : Policy) (acts : History) → Legal limits policy acts → AreToldBy limits policy acts
-are_told_by limits policy acts legal = (legal_goes limits policy acts legal).answers
+pub are_reported_by : (limits : Limits) (policy : Policy) (acts : History) → Legal limits policy acts → AreReportedBy limits policy acts
+are_reported_by limits policy acts legal = (legal_goes limits policy acts legal).answers
 
-pub rows_carried : (limits : Limits) (policy : Policy) (acts : History) → Legal limits policy acts → RowsAreCarried policy empty [] acts
-rows_carried limits policy acts legal = (legal_goes limits policy acts legal).carries
+pub rows_kept : (limits : Limits) (policy : Policy) (acts : History) → Legal limits policy acts → RowsAreKept policy empty [] acts
+rows_kept limits policy acts legal = (legal_goes limits policy acts legal).keeps_rows
 
-pub flushes_told : (limits : Limits) (policy : Policy) (acts : History) → Legal limits policy acts → (state_after limits policy acts).flushed ≡ told_by flushed_in acts
-flushes_told limits policy acts legal =
+pub flushes_reported : (limits : Limits) (policy : Policy) (acts : History) → Legal limits policy acts → (state_after limits policy acts).flushed ≡ summed_by flushed_in acts
+flushes_reported limits policy acts legal =
     let h = legal_goes limits policy acts legal in
-    omega (arith, h.flushed, h.told)
+    omega (arith, h.flushed, h.reported)
 
 -- each number below those given stands once
 pub stands_once : (limits : Limits) (policy : Policy) (acts : History) → Legal limits policy acts → (n : ℕ) → n < (state_after limits policy acts).taken → StandsOnce acts n

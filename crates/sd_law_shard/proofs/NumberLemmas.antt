@@ -5,8 +5,8 @@ use Rattle.std.proofs.lemmas.List.Sums.{sum_by-cons}
 use Rattle.sd_model_text.specs.Lines.{Sample}
 use Rattle.sd_model_shard.specs.Shard.{State, Cause, Limits, Policy, Event, Submit, Swap, Delete, Dump, Look, Reply, empty_state, step, admitted, refusal, last_number}
 use Rattle.sd_model_shard.specs.History.{Act, History, LegalFrom, Legal, after, after_all, state_after}
-use Rattle.sd_law_shard.proofs.HistoryLemmas.{flushes_told}
-use Rattle.sd_model_shard.specs.Whereabouts.{dropped_in, told_by}
+use Rattle.sd_law_shard.proofs.HistoryLemmas.{flushes_reported}
+use Rattle.sd_model_shard.specs.Whereabouts.{dropped_in, summed_by}
 use Rattle.sd_law_shard.specs.Sums.{taken_in, deleted_in, AreSums}
 
 -- the numbers of a state grew by these
@@ -34,11 +34,11 @@ by_step limits policy state (Dump kind) most = record { taken_is = omega arith; 
 by_step limits policy state Look most = record { taken_is = omega arith; deleted_is = omega arith; dropped_is = same state.dropped most }
 
 -- one reply before others
-told_by-cons : (weigh : Reply → ℕ) (a : Act) (acts : History) → told_by weigh (a ∷ acts) ≡ weigh a.reply + told_by weigh acts
-told_by-cons weigh a acts = sum_by-cons (λ (b : Act). weigh b.reply) a acts
+summed_by-cons : (weigh : Reply → ℕ) (a : Act) (acts : History) → summed_by weigh (a ∷ acts) ≡ weigh a.reply + summed_by weigh acts
+summed_by-cons weigh a acts = sum_by-cons (λ (b : Act). weigh b.reply) a acts
 
 grew_from : (limits : Limits) (policy : Policy) (state : State) (acts : History) → state.dropped ≤ last_number → LegalFrom limits policy state acts
-    → Grew state (after_all limits policy state acts) (told_by taken_in acts) (told_by deleted_in acts) (told_by dropped_in acts)
+    → Grew state (after_all limits policy state acts) (summed_by taken_in acts) (summed_by deleted_in acts) (summed_by dropped_in acts)
 grew_from limits policy state [] most legal = record { taken_is = omega arith; deleted_is = omega arith; dropped_is = same state.dropped most }
 grew_from limits policy state (a ∷ acts) most legal =
     let one = by_step limits policy state a.event most in
@@ -46,12 +46,12 @@ grew_from limits policy state (a ∷ acts) most legal =
     let within : next.dropped ≤ last_number = omega (arith, one.dropped_is) in
     let rest = grew_from limits policy next acts within legal.1 in
     record {
-      taken_is = omega (arith, one.taken_is, rest.taken_is, ap taken_in legal.0, told_by-cons taken_in a acts);
-      deleted_is = omega (arith, one.deleted_is, rest.deleted_is, ap deleted_in legal.0, told_by-cons deleted_in a acts);
-      dropped_is = omega (arith, one.dropped_is, rest.dropped_is, ap dropped_in legal.0, told_by-cons dropped_in a acts);
+      taken_is = omega (arith, one.taken_is, rest.taken_is, ap taken_in legal.0, summed_by-cons taken_in a acts);
+      deleted_is = omega (arith, one.deleted_is, rest.deleted_is, ap deleted_in legal.0, summed_by-cons deleted_in a acts);
+      dropped_is = omega (arith, one.dropped_is, rest.dropped_is, ap dropped_in legal.0, summed_by-cons dropped_in a acts);
     }
 
-pub sums_are_told : (limits : Limits) (policy : Policy) (acts : History) → Legal limits policy acts → AreSums acts (state_after limits policy acts)
-sums_are_told limits policy acts legal =
+pub sums_are_reported : (limits : Limits) (policy : Policy) (acts : History) → Legal limits policy acts → AreSums acts (state_after limits policy acts)
+sums_are_reported limits policy acts legal =
     let g = grew_from limits policy empty_state acts (omega arith) legal in
-    record { taken = omega (arith, g.taken_is); flushed = flushes_told limits policy acts legal; deleted = omega (arith, g.deleted_is); dropped = omega (arith, g.dropped_is) }
+    record { taken = omega (arith, g.taken_is); flushed = flushes_reported limits policy acts legal; deleted = omega (arith, g.deleted_is); dropped = omega (arith, g.dropped_is) }

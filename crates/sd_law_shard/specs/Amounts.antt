@@ -1,9 +1,8 @@
 -- What entries come to, as a dump tells it.
 use Rattle.std.specs.Prelude.{◌*◌, ℤ, pos, List}
 use Rattle.sd_model_text.specs.Names.{Kind, Counter, Timer, Gauge, Set}
-use Rattle.sd_model_shard.specs.Rows.{RowId, Entry}
+use Rattle.sd_model_shard.specs.Rows.{RowId, Entry, gauge_value, members_of, values_of, weight_of}
 use Rattle.sd_model_shard.specs.Values.{total, distinct}
-use Rattle.sd_model_shard.specs.Statistics.{gauge_value, members_of, values_of, weight_of}
 
 -- what the samples of a row of a kind come to: a counter's count, the sum of a timer's values, a gauge's value, or how many
 -- members of a set differ, as whole units

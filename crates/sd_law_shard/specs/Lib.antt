@@ -1,3 +1,3 @@
 pub mod Amounts
 pub mod Sums
-pub mod Told
+pub mod Reported

@@ -2,9 +2,8 @@
 use Rattle.std.specs.Prelude.{◌≡◌, ℕ, ◌+◌, ◌==◌, min, sum_by, count_by, List, []}
 use Rattle.sd_model_shard.specs.Shard.{State, Limits, Policy, Taken, Reply, Answered, Swapped, Deleted, last_number}
 use Rattle.sd_model_shard.specs.History.{History, Legal, state_after, held_after}
-use Rattle.sd_model_shard.specs.Rows.{Entry}
-use Rattle.sd_model_shard.specs.Summaries.{samples_in}
-use Rattle.sd_model_shard.specs.Whereabouts.{acts_over, dropped_in, flushes, taken_out, told_by}
+use Rattle.sd_model_shard.specs.Rows.{Entry, samples_in}
+use Rattle.sd_model_shard.specs.Whereabouts.{acts_over, dropped_in, flushes, taken_out, summed_by}
 
 -- A shard stands at the end of a history where the history is legal and leaves its state.
 pub record StandsAt (limits : Limits) (policy : Policy) (acts : History) (state : State) : Type 0 where
@@ -28,10 +27,10 @@ deleted_in reply = 0
 
 -- The numbers of the state after a history are what its replies add up to; drops are counted up to the last number.
 pub record AreSums (acts : History) (last : State) : Type 0 where
-  pub taken : last.taken ≡ told_by taken_in acts
-  pub flushed : last.flushed ≡ told_by flushed_in acts
-  pub deleted : last.deleted ≡ told_by deleted_in acts
-  pub dropped : last.dropped ≡ min (told_by dropped_in acts) last_number
+  pub taken : last.taken ≡ summed_by taken_in acts
+  pub flushed : last.flushed ≡ summed_by flushed_in acts
+  pub deleted : last.deleted ≡ summed_by deleted_in acts
+  pub dropped : last.dropped ≡ min (summed_by dropped_in acts) last_number
 
 -- how often a number stands among entries
 abbrev pub times : ℕ → List Entry → ℕ

@@ -7,6 +7,6 @@
 mod history;
 
 pub use history::{
-    answers_are_told, histories_are_accounted, histories_grow, numbers_are_sums,
+    answers_are_reported, histories_are_accounted, histories_grow, numbers_are_sums,
     summaries_are_documented,
 };

@@ -9,24 +9,23 @@ use Rattle.std.proofs.lemmas.List.Sums.{sum_by-cons}
 use Rattle.std.proofs.Math.Nat.{mod-lt}
 use Rattle.sd_model_text.specs.Names.{Kind, fnv1a}
 use Rattle.sd_model_text.specs.Lines.{Sample, samples_of}
-use Rattle.sd_model_shard.specs.Rows.{Rows, Entry, row_of}
-use Rattle.sd_model_shard.specs.Commands.{is_hit, rows_left, entries_taken_out, entries_left}
-use Rattle.sd_model_shard.specs.Shard.{State, Cause, Limits, Policy, Event, Submit, Swap, Delete, Dump, Look, step, admitted, refusal, carried, after_swap, after_delete}
-use Rattle.sd_model_shard.specs.History.{Asked, act_of, answered, part_of}
+use Rattle.sd_model_shard.specs.Rows.{Rows, Entry, row_of, is_hit, rows_left}
+use Rattle.sd_model_shard.specs.Shard.{State, Cause, Limits, Policy, Event, Submit, Swap, Delete, Dump, Look, step, admitted, refusal, kept_rows, after_swap, after_delete}
+use Rattle.sd_model_shard.specs.History.{Asked, answered, part_of}
 use Rattle.sd_model_shard.specs.Whereabouts.{causes}
-use Rattle.sd_model_shard.proofs.CarriedLemmas.{Stands, Stands-empty, Stands-sample, Stands-swap, Stands-delete, deleted_told}
+use Rattle.sd_model_shard.proofs.KeptRowLemmas.{Stands, Stands-empty, Stands-sample, Stands-swap, Stands-delete, deleted_reported}
 use Rattle.sd_model_shard.proofs.OrderLemmas.{weighed_once}
 use Rattle.sd_model_record.specs.Admin as admin
 use Rattle.sd_model_record.specs.Admin.{AdminFault}
-use Rattle.sd_model_replay.specs.Settings.{Bounds}
-use Rattle.sd_model_replay.specs.Script.{Command, Packet, Flush, Admin}
+use Rattle.sd_model_replay.specs.Replay.{Bounds, Played, Run, first_run, home_of, events_of_record, play, run_of}
+use Rattle.sd_model_replay.specs.Script.{ScriptCommand, Packet, Flush, Admin}
 use Rattle.sd_model_record.specs.Replies.{admin_events}
-use Rattle.sd_model_replay.specs.Replay.{Played, Run, first_run, home_of, events_in, play, run_of}
-use Rattle.sd_model_replay.specs.Totals.{summed}
+use Rattle.sd_model_replay.specs.AccountingTheorem.{summed}
 use Rattle.sd_law_shards.specs.Shards.{NoneDropped}
 use Rattle.sd_law_shards.proofs.ViewLemmas.{after_asked}
 use Rattle.sd_law_shards.proofs.EventsLemmas.{submits, asks, events_of}
 use Rattle.sd_law_shards.proofs.ShownLemmas.{NoneFrom, none_first, none_behind, none_summed}
+use Rattle.sd_model_shard.proofs.Short.{act_of, entries_taken_out, entries_left}
 
 -- the samples that came, and where they are
 pub record Books : Type 0 where
@@ -57,9 +56,9 @@ record Tells (state : State) (b : Books) : Type 0 where
   dropped : state.dropped ≡ 0
   flushed : state.flushed ≡ length b.flushed
   deleted : state.deleted ≡ length b.deleted
-  carried_in : Rows
+  kept_before : Rows
   journal : List Entry
-  stands : Stands carried_in state journal
+  stands : Stands kept_before state journal
   held : map (λ e. e.sample) journal ≡ b.held
 
 abbrev sample_in : Entry → Sample
@@ -80,9 +79,9 @@ sample_tells state b who s h =
       dropped = h.dropped;
       flushed = h.flushed;
       deleted = h.deleted;
-      carried_in = h.carried_in;
+      kept_before = h.kept_before;
       journal = h.journal ++ e ∷ [];
-      stands = Stands-sample h.carried_in state h.journal who s h.stands;
+      stands = Stands-sample h.kept_before state h.journal who s h.stands;
       held = map-append sample_in h.journal (e ∷ []) ∙ ap (λ (held : List Sample). held ++ s ∷ []) h.held;
     }
 
@@ -92,7 +91,7 @@ swap_tells policy state b h = record {
   dropped = h.dropped;
   flushed = omega (arith, h.flushed, h.stands.held, length-append b.flushed b.held, ap length h.held, length-map h.journal sample_in);
   deleted = h.deleted;
-  carried_in = carried policy state.live;
+  kept_before = kept_rows policy state.live;
   journal = [];
   stands = Stands-swap policy state;
   held = refl;
@@ -108,14 +107,14 @@ delete_tells kind pattern state b h =
       deleted = omega (
         arith,
         h.deleted,
-        deleted_told kind pattern h.carried_in state h.journal h.stands,
+        deleted_reported kind pattern h.kept_before state h.journal h.stands,
         length-append b.deleted (filter (is_hit_by kind pattern) b.held),
         ap length gone,
         length-map (entries_taken_out kind pattern h.journal) sample_in,
       );
-      carried_in = rows_left kind pattern h.carried_in;
+      kept_before = rows_left kind pattern h.kept_before;
       journal = entries_left kind pattern h.journal;
-      stands = Stands-delete kind pattern h.carried_in state h.journal h.stands;
+      stands = Stands-delete kind pattern h.kept_before state h.journal h.stands;
       held = filter-samples (is_left_by kind pattern) h.journal ∙ ap (filter (is_left_by kind pattern)) h.held;
     }
 
@@ -200,7 +199,7 @@ module _ (bounds : Bounds) (i : ℕ) where
   part-line b (Ok (admin.Health word)) = refl
   part-line b (Err fault) = refl
 
-  part-command : (b : Books) (c : Command) → fold books_step (part bounds i b) (events_in bounds.shards i c) ≡ part bounds i (fold books_step b (events_of c))
+  part-command : (b : Books) (c : ScriptCommand) → fold books_step (part bounds i b) (events_of_record bounds.shards i c) ≡ part bounds i (fold books_step b (events_of c))
   part-command b (Packet who moment datagram) = part-packet b who (samples_of datagram)
   part-command b (Flush ts) = same_books refl (sym (filter-append here b.flushed b.held)) refl refl
   part-command b (Admin moment line) = part-line b (admin.command line)
@@ -216,8 +215,8 @@ shares_after : (bounds : Bounds) (run : Run) (b : Books) (played : List Played) 
 shares_after bounds run b [] h none = h
 shares_after bounds run b (p ∷ played) h none =
     shares_after bounds (play bounds run p) (fold books_step b (events_of p.command)) played
-    (λ i below. subst (Tells (after_asked bounds.limits bounds.policy (run.shards i) (events_in bounds.shards i p.command))) (part-command bounds i b p.command)
-    (tells_asked bounds.limits bounds.policy (run.shards i) (part bounds i b) (events_in bounds.shards i p.command) (h i below) (none_first bounds run p played none i below)))
+    (λ i below. subst (Tells (after_asked bounds.limits bounds.policy (run.shards i) (events_of_record bounds.shards i p.command))) (part-command bounds i b p.command)
+    (tells_asked bounds.limits bounds.policy (run.shards i) (part bounds i b) (events_of_record bounds.shards i p.command) (h i below) (none_first bounds run p played none i below)))
     (none_behind bounds run p played none)
 
 -- sums over all shards
@@ -267,7 +266,7 @@ pub books_summed : (bounds : Bounds) → 1 ≤ bounds.shards → (played : List 
 books_summed bounds some played none =
     let b = books_of no_books played in
     let last = (run_of bounds (first_run played) played).shards in
-    let h = shares_after bounds (first_run played) no_books played (λ i below. record { taken = refl; dropped = refl; flushed = refl; deleted = refl; carried_in = empty; journal = []; stands = Stands-empty; held = refl }) none in
+    let h = shares_after bounds (first_run played) no_books played (λ i below. record { taken = refl; dropped = refl; flushed = refl; deleted = refl; kept_before = empty; journal = []; stands = Stands-empty; held = refl }) none in
     record {
       taken = sum_of_parts bounds some (λ i. (last i).taken) b.came (λ i below. (h i below).taken);
       dropped = none_summed (λ i. (last i).dropped) bounds.shards 0 bounds.shards (omega arith) (λ i below. (h i below).dropped);

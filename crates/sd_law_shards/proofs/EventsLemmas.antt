@@ -4,8 +4,7 @@ use Rattle.std.specs.Prelude.{not, fold, filter_map, Result, Ok, Err}
 use Rattle.std.proofs.lemmas.List.Elements.{filter_map-append}
 use Rattle.sd_model_text.specs.Names.{Kind, shard}
 use Rattle.sd_model_text.specs.Lines.{Sample, samples_of}
-use Rattle.sd_model_shard.specs.Rows.{RowId, row_of, is_same_row}
-use Rattle.sd_model_shard.specs.Commands.{is_hit}
+use Rattle.sd_model_shard.specs.Rows.{RowId, row_of, is_same_row, is_hit}
 use Rattle.sd_model_shard.specs.Shard.{State, Cause, Limits, Policy, Event, Submit, Swap, Delete, after_delete}
 use Rattle.sd_model_shard.specs.History.{Act, History, Asked, answered, part_of}
 use Rattle.sd_model_shard.specs.Whereabouts.{Fate, causes, cause_in, fate_in, fates}
@@ -13,11 +12,10 @@ use Rattle.sd_model_shard.proofs.AnsweredLemmas.{answered-append}
 use Rattle.sd_model_shard.proofs.DeletionLemmas.{same_row, get-rows_left}
 use Rattle.sd_model_record.specs.Admin as admin
 use Rattle.sd_model_record.specs.Admin.{AdminFault}
-use Rattle.sd_model_replay.specs.Settings.{Bounds}
-use Rattle.sd_model_replay.specs.Script.{Command, Packet, Flush, Admin}
+use Rattle.sd_model_replay.specs.Replay.{Bounds, home_of, events_of_record, acts_of_record, Run}
+use Rattle.sd_model_replay.specs.Script.{ScriptCommand, Packet, Flush, Admin}
 use Rattle.sd_model_record.specs.Replies.{admin_events}
 use Rattle.sd_model_serve.specs.Receiving.{administrator, flusher}
-use Rattle.sd_model_replay.specs.Replay.{home_of, events_in, acts_in, Run}
 use Rattle.sd_law_shards.proofs.ViewLemmas.{View, nothing, view, row_event, row_step, view-asked, after_asked}
 
 abbrev pub submits : ℕ → List Sample → List Asked
@@ -28,7 +26,7 @@ abbrev pub asks : List Event → List Asked
 asks events = map (λ event. record { who = administrator; event = event }) events
 
 -- what a record asks of all shards as one
-abbrev pub events_of : Command → List Asked
+abbrev pub events_of : ScriptCommand → List Asked
 events_of (Packet who moment datagram) = submits who (samples_of datagram)
 events_of (Flush ts) = record { who = flusher; event = Swap } ∷ []
 events_of (Admin moment line) = asks (admin_events (admin.command line))
@@ -75,7 +73,7 @@ module _ (bounds : Bounds) (i : ℕ) (id : RowId) where
       by_test true here rest = ap (λ (w : View). fold (row_step policy id) w (submits who (part_of (home_of bounds.shards) i samples))) (unmoved s v (other_row bounds.shards i id s false mine here)) ∙ rest
       by_test false here rest = rest
 
-    command_mine : (c : Command) (v : View) → eqb i (shard id.key bounds.shards) ≡ true → fold (row_step policy id) v (events_in bounds.shards i c) ≡ fold (row_step policy id) v (events_of c)
+    command_mine : (c : ScriptCommand) (v : View) → eqb i (shard id.key bounds.shards) ≡ true → fold (row_step policy id) v (events_of_record bounds.shards i c) ≡ fold (row_step policy id) v (events_of c)
     command_mine (Packet who moment datagram) v mine = packet_mine who (samples_of datagram) v mine
     command_mine (Flush ts) v mine = refl
     command_mine (Admin moment line) v mine = refl
@@ -96,7 +94,7 @@ module _ (bounds : Bounds) (i : ℕ) (id : RowId) where
     line_other (Ok (admin.Health word)) = refl
     line_other (Err fault) = refl
 
-    command_other : (c : Command) → eqb i (shard id.key bounds.shards) ≡ false → fold (row_step policy id) nothing (events_in bounds.shards i c) ≡ nothing
+    command_other : (c : ScriptCommand) → eqb i (shard id.key bounds.shards) ≡ false → fold (row_step policy id) nothing (events_of_record bounds.shards i c) ≡ nothing
     command_other (Packet who moment datagram) mine = packet_other who (samples_of datagram) nothing mine
     command_other (Flush ts) mine = refl
     command_other (Admin moment line) mine = line_other (admin.command line)
@@ -106,20 +104,20 @@ abbrev pub Reflects : ℕ → (ℕ → State) → (RowId → View) → Type 0
 Reflects shards states seen = (i : ℕ) → i < shards → (id : RowId) → view (states i) id ≡ cond (eqb i (shard id.key shards)) (seen id) nothing
 
 -- what is seen of a row after a record
-abbrev pub seen_after : Policy → (RowId → View) → Command → RowId → View
+abbrev pub seen_after : Policy → (RowId → View) → ScriptCommand → RowId → View
 seen_after policy seen c id = fold (row_step policy id) (seen id) (events_of c)
 
 -- no shard drops a sample of a record
-abbrev pub NoneIn : Bounds → Run → Command → Type 0
-NoneIn bounds run c = (i : ℕ) → i < bounds.shards → causes (acts_in bounds run.shards i c) ≡ []
+abbrev pub NoneIn : Bounds → Run → ScriptCommand → Type 0
+NoneIn bounds run c = (i : ℕ) → i < bounds.shards → causes (acts_of_record bounds run.shards i c) ≡ []
 
-pub Reflects-command : (bounds : Bounds) (run : Run) (seen : RowId → View) (c : Command) → NoneIn bounds run c → Reflects bounds.shards run.shards seen
-    → Reflects bounds.shards (λ i. after_asked bounds.limits bounds.policy (run.shards i) (events_in bounds.shards i c)) (seen_after bounds.policy seen c)
+pub Reflects-command : (bounds : Bounds) (run : Run) (seen : RowId → View) (c : ScriptCommand) → NoneIn bounds run c → Reflects bounds.shards run.shards seen
+    → Reflects bounds.shards (λ i. after_asked bounds.limits bounds.policy (run.shards i) (events_of_record bounds.shards i c)) (seen_after bounds.policy seen c)
 Reflects-command bounds run seen c none h i below id =
-    view-asked bounds.limits bounds.policy (run.shards i) id (events_in bounds.shards i c) (none i below)
-    ∙ ap (λ (v : View). fold (row_step bounds.policy id) v (events_in bounds.shards i c)) (h i below id)
+    view-asked bounds.limits bounds.policy (run.shards i) id (events_of_record bounds.shards i c) (none i below)
+    ∙ ap (λ (v : View). fold (row_step bounds.policy id) v (events_of_record bounds.shards i c)) (h i below id)
     ∙ by_shard (eqb i (shard id.key bounds.shards)) refl where
-      by_shard : (b : Bool) → eqb i (shard id.key bounds.shards) ≡ b → fold (row_step bounds.policy id) (cond b (seen id) nothing) (events_in bounds.shards i c) ≡ cond b (seen_after bounds.policy seen c id) nothing
+      by_shard : (b : Bool) → eqb i (shard id.key bounds.shards) ≡ b → fold (row_step bounds.policy id) (cond b (seen id) nothing) (events_of_record bounds.shards i c) ≡ cond b (seen_after bounds.policy seen c id) nothing
       by_shard true mine = command_mine bounds i id bounds.policy c (seen id) mine
       by_shard false mine = command_other bounds i id bounds.policy c mine
 
@@ -147,6 +145,6 @@ none_either (x ∷ xs) ys h = absurd (cc)
 pub none_cut : (limits : Limits) (policy : Policy) (state : State) (xs ys : List Asked) → causes (answered limits policy state (xs ++ ys)) ≡ []
     → (causes (answered limits policy state xs) ≡ []) × (causes (answered limits policy (after_asked limits policy state xs) ys) ≡ [])
 none_cut limits policy state xs ys none =
-    let front = answered limits policy state xs in
+    let prefix = answered limits policy state xs in
     let back = answered limits policy (after_asked limits policy state xs) ys in
-    none_either (causes front) (causes back) (sym (causes-append front back) ∙ sym (ap causes (answered-append limits policy state xs ys)) ∙ none)
+    none_either (causes prefix) (causes back) (sym (causes-append prefix back) ∙ sym (ap causes (answered-append limits policy state xs ys)) ∙ none)

@@ -11,29 +11,28 @@ use Rattle.std.proofs.lemmas.Bool.{eqb-true}
 use Rattle.std.proofs.lemmas.List.{map-append}
 use Rattle.sd_model_text.specs.Names.{Kind, shard}
 use Rattle.sd_model_text.specs.Lines.{Sample, samples_of}
-use Rattle.sd_model_shard.specs.Rows.{RowId, row_cmp, Kept, row_of, is_same_row}
-use Rattle.sd_model_shard.specs.Summaries.{sampled, row_in}
-use Rattle.sd_model_shard.specs.Commands.{DumpRow, dump_of, dump_row, is_hit, is_of_kind, keys_of, rows_taken_out}
+use Rattle.sd_model_shard.specs.Rows.{RowId, row_cmp, Kept, row_of, is_same_row, row_in, DumpRow, dump_of, dump_row, is_hit, is_of_kind, keys_of, rows_taken_out}
 use Rattle.sd_model_shard.specs.Shard.{State, Cause, Limits, Policy, Event, Submit, Swap, Delete, Dump, Look, step, admitted, refusal, left_of, after_swap, after_delete, empty_state, Table}
 use Rattle.sd_model_shard.specs.History.{Asked, part_of}
 use Rattle.sd_model_shard.proofs.RowLemmas.{rows_total}
-use Rattle.sd_model_shard.proofs.SummaryLemmas.{get-carried, get-touched}
+use Rattle.sd_model_shard.proofs.SummaryLemmas.{get-kept_rows, get-touched}
 use Rattle.sd_model_shard.proofs.DeletionLemmas.{get-rows_left}
 use Rattle.sd_model_shard.proofs.EntryLemmas.{StandApart, StandApart-sorted}
 use Rattle.sd_model_record.specs.Admin as admin
 use Rattle.sd_model_record.specs.Admin.{AdminFault}
 use Rattle.sd_model_serve.specs.Rounds.{Round}
-use Rattle.sd_model_replay.specs.Settings.{Bounds}
-use Rattle.sd_model_replay.specs.Script.{Command, Packet, Flush, Admin}
+use Rattle.sd_model_replay.specs.Replay.{Bounds, Outcome, Played, Run, first_run, events_of_record, states_after, play, run_of, moments, rounds}
+use Rattle.sd_model_replay.specs.Script.{ScriptCommand, Packet, Flush, Admin}
 use Rattle.sd_model_record.specs.Replies.{admin_events}
-use Rattle.sd_model_replay.specs.Replay.{Outcome, Played, Run, first_run, events_in, states_after, play, run_of, moments, rounds, rounds_from}
-use Rattle.sd_model_shard.proofs.ToldLemmas.{by_key}
+use Rattle.sd_model_shard.proofs.ReportedLemmas.{by_key}
 use Rattle.sd_model_record.proofs.OrderLemmas.{StandOnce, StandOnce-shards, StandApart-shards, keys_once, rows_once, hit_of_kind}
 use Rattle.sd_law_shards.specs.Shards.{AtHome, rows_taken}
 use Rattle.sd_law_shards.proofs.ViewLemmas.{after_asked}
 use Rattle.sd_law_shards.proofs.EventsLemmas.{asks, submits, other_row}
-use Rattle.sd_law_shards.proofs.ToldLemmas.{find_retained}
+use Rattle.sd_law_shards.proofs.ReportedLemmas.{find_retained}
 use Rattle.sd_law_shards.proofs.ShownLemmas.{rounds_with}
+use Rattle.sd_model_replay.proofs.Short.{rounds_from}
+use Rattle.sd_model_shard.proofs.Short.{sampled}
 
 -- an event that isn't a sample of this row
 abbrev pub IsForeign : RowId → Event → Type 0
@@ -57,7 +56,7 @@ absent_delete kind pattern state id none = get-rows_left kind pattern state.live
 
 absent_step : (limits : Limits) (policy : Policy) (state : State) (event : Event) (id : RowId) → IsForeign id event → get state.live id ≡ None → get (step limits policy state event).state.live id ≡ None
 absent_step limits policy state (Submit s) id foreign none = absent_sample state s (refusal limits state s) id foreign none
-absent_step limits policy state Swap id foreign none = get-carried policy state.live id ∙ ap (option_and_then (left_of policy id)) none
+absent_step limits policy state Swap id foreign none = get-kept_rows policy state.live id ∙ ap (option_and_then (left_of policy id)) none
 absent_step limits policy state (Delete kind pattern) id foreign none = absent_delete kind pattern state id none
 absent_step limits policy state (Dump kind) id foreign none = none
 absent_step limits policy state Look id foreign none = none
@@ -90,14 +89,14 @@ module _ (bounds : Bounds) (i : ℕ) (id : RowId) (away : eqb i (shard id.key bo
   foreign_line (Ok (admin.Health word)) = tt
   foreign_line (Err fault) = tt
 
-  foreign_command : (c : Command) → AreForeign id (events_in bounds.shards i c)
+  foreign_command : (c : ScriptCommand) → AreForeign id (events_of_record bounds.shards i c)
   foreign_command (Packet who moment datagram) = foreign_samples bounds.shards i id away who (samples_of datagram)
   foreign_command (Flush ts) = (tt, tt)
   foreign_command (Admin moment line) = foreign_line (admin.command line)
 
 -- nor does one get such a row by a record
-pub AtHome-after : (bounds : Bounds) (states : ℕ → State) (c : Command) → AtHome bounds.shards states → AtHome bounds.shards (states_after bounds states c)
-AtHome-after bounds states c h i id away = absent_asked bounds.limits bounds.policy (states i) (events_in bounds.shards i c) id (foreign_command bounds i id away c) (h i id away)
+pub AtHome-after : (bounds : Bounds) (states : ℕ → State) (c : ScriptCommand) → AtHome bounds.shards states → AtHome bounds.shards (states_after bounds states c)
+AtHome-after bounds states c h i id away = absent_asked bounds.limits bounds.policy (states i) (events_of_record bounds.shards i c) id (foreign_command bounds i id away c) (h i id away)
 
 pub AtHome-first : (shards : ℕ) (played : List Played) → AtHome shards (first_run played).shards
 AtHome-first shards played i id away = get-empty row_cmp id
@@ -113,7 +112,7 @@ pub AtHome-delete : (kind : Kind) (name : List ℕ) (shards : ℕ) (states : ℕ
 AtHome-delete kind name shards states h i id away = absent_delete kind name (states i) id (h i id away)
 
 pub AtHome-swap : (policy : Policy) (shards : ℕ) (states : ℕ → State) → AtHome shards states → AtHome shards (λ i. after_swap policy (states i))
-AtHome-swap policy shards states h i id away = get-carried policy (states i).live id ∙ ap (option_and_then (left_of policy id)) (h i id away)
+AtHome-swap policy shards states h i id away = get-kept_rows policy (states i).live id ∙ ap (option_and_then (left_of policy id)) (h i id away)
 
 -- a row stands in the shard of its key
 pub home_of_row : (shards : ℕ) (states : ℕ → State) → AtHome shards states → (i : ℕ) (id : RowId) → contains_key (states i).live id ≡ true → shard id.key shards ≡ i
@@ -130,8 +129,8 @@ any_key p (e ∷ es) = ap (λ b. p e.0 || b) (any_key p es)
 is_found : {X : Type 0} (q : RowId) (es : List (RowId × X)) → list_any (λ other. eq_by_cmp row_cmp q other.0) es ≡ true → is_some (find row_cmp q es) ≡ true
 is_found q es has = is_some-find row_cmp q es ∙ any_key (eq_by_cmp row_cmp q) es ∙ has
 
-is_told : {X : Type 0} (q : List ℕ) (es : List (List ℕ × X)) → list_any (λ other. eq_by_cmp (slice_cmp nat_cmp) q other.0) es ≡ true → is_some (find (slice_cmp nat_cmp) q es) ≡ true
-is_told q es has = is_some-find (slice_cmp nat_cmp) q es ∙ any_key (eq_by_cmp (slice_cmp nat_cmp) q) es ∙ has
+is_reported : {X : Type 0} (q : List ℕ) (es : List (List ℕ × X)) → list_any (λ other. eq_by_cmp (slice_cmp nat_cmp) q other.0) es ≡ true → is_some (find (slice_cmp nat_cmp) q es) ≡ true
+is_reported q es has = is_some-find (slice_cmp nat_cmp) q es ∙ any_key (eq_by_cmp (slice_cmp nat_cmp) q) es ∙ has
 
 some_mapped : {X Y : Type 0} (f : X → Y) (o : Option X) → is_some (option_map f o) ≡ true → is_some o ≡ true
 some_mapped f None h = absurd (cc)
@@ -150,25 +149,25 @@ module _ (shards : ℕ) (states : ℕ → State) (h : AtHome shards states) wher
       (λ i below q has. home_of_row shards states h i q (ap is_some (get-entries (states i).live q) ∙ is_found q (entries (states i).live) has))
 
   -- no key stands twice in what all shards tell of rows of one kind
-  told_apart : {X : Type 0} (key : X → List ℕ) (kind : Kind) (p : RowId → Bool) → ((id : RowId) → p id ≡ true → is_of_kind kind id ≡ true) → (f : State → RowId × Kept → X)
+  reported_apart : {X : Type 0} (key : X → List ℕ) (kind : Kind) (p : RowId → Bool) → ((id : RowId) → p id ≡ true → is_of_kind kind id ≡ true) → (f : State → RowId × Kept → X)
       → ((state : State) (e : RowId × Kept) → key (f state e) ≡ e.0.key) → ((i : ℕ) → i < shards → StandOnce key (map (f (states i)) (entries (retain_keys (states i).live p))))
       → StandOnce key (flat_map (λ i. map (f (states i)) (entries (retain_keys (states i).live p))) (range_with_len 0 shards))
-  told_apart key kind p tells f same once =
+  reported_apart key kind p tells f same once =
       StandOnce-shards key (λ q. shard q shards) (λ i. map (f (states i)) (entries (retain_keys (states i).live p))) shards once
       (λ i below q has.
       let id : RowId = record { kind = kind; key = q } in
       home_of_row shards states h i id
       (some_passed (p id) (get (states i).live id)
       (some_mapped (λ kept. f (states i) (id, kept)) (cond (p id) (get (states i).live id) None)
-      (ap is_some (sym (find_retained key kind p tells (f (states i)) (same (states i)) (states i).live q)) ∙ is_told q (by_key key (map (f (states i)) (entries (retain_keys (states i).live p)))) has))))
+      (ap is_some (sym (find_retained key kind p tells (f (states i)) (same (states i)) (states i).live q)) ∙ is_reported q (by_key key (map (f (states i)) (entries (retain_keys (states i).live p)))) has))))
 
   pub all_keys_once : (kind : Kind) (name : List ℕ) → StandOnce (λ key. key) (flat_map (λ i. keys_of (rows_taken_out kind name (states i).live)) (range_with_len 0 shards))
   all_keys_once kind name =
-      told_apart (λ (key : List ℕ). key) kind (is_hit kind name) (hit_of_kind kind name) (λ state row. row.0.key) (λ state e. refl) (λ i below. keys_once kind name (states i).live)
+      reported_apart (λ (key : List ℕ). key) kind (is_hit kind name) (hit_of_kind kind name) (λ state row. row.0.key) (λ state e. refl) (λ i below. keys_once kind name (states i).live)
 
   pub all_rows_once : (kind : Kind) → StandOnce (λ (row : DumpRow). row.key) (flat_map (λ i. dump_of kind (states i).live) (range_with_len 0 shards))
   all_rows_once kind =
-      told_apart (λ (row : DumpRow). row.key) kind (is_of_kind kind) (λ id is. is) (λ state. dump_row) (λ state e. refl) (λ i below. rows_once kind (states i).live)
+      reported_apart (λ (row : DumpRow). row.key) kind (is_of_kind kind) (λ id is. is) (λ state. dump_row) (λ state e. refl) (λ i below. rows_once kind (states i).live)
 
 -- the tables of a round are at home, as states are
 abbrev pub TablesAtHome : ℕ → (ℕ → Table) → Type 0
@@ -178,7 +177,7 @@ TablesAtHome shards tables = AtHome shards (λ i. record empty_state { live = (t
 rounds_at_home : (bounds : Bounds) (run : Run) (played : List Played) → AtHome bounds.shards run.shards → AllByRecursion (λ r. TablesAtHome bounds.shards r.tables) (rounds_from bounds run played)
 rounds_at_home bounds run [] h = tt
 rounds_at_home bounds run (p ∷ played) h = by_command p.command p.outcome (rounds_at_home bounds (play bounds run p) played (AtHome-after bounds run.shards p.command h)) where
-  by_command : (c : Command) (outcome : Outcome) → AllByRecursion (λ r. TablesAtHome bounds.shards r.tables) (rounds_from bounds (play bounds run p) played)
+  by_command : (c : ScriptCommand) (outcome : Outcome) → AllByRecursion (λ r. TablesAtHome bounds.shards r.tables) (rounds_from bounds (play bounds run p) played)
       → AllByRecursion (λ r. TablesAtHome bounds.shards r.tables) (rounds_with run c outcome (moments bounds (play bounds run p) played))
   by_command (Packet who moment datagram) outcome rest = rest
   by_command (Flush ts) outcome rest = (h, rest)

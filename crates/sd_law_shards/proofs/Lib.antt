@@ -4,5 +4,5 @@ pub mod HomeLemmas
 pub mod MergedLemmas
 pub mod PremiseLemmas
 pub mod ShownLemmas
-pub mod ToldLemmas
+pub mod ReportedLemmas
 pub mod ViewLemmas

@@ -6,10 +6,9 @@ use Rattle.std.specs.List.{range_with_len}
 use Rattle.std.proofs.lemmas.List.Sums.{sum_by-cons}
 use Rattle.sd_model_shard.specs.Shard.{State, Cause}
 use Rattle.sd_model_shard.specs.Whereabouts.{causes}
-use Rattle.sd_model_replay.specs.Settings.{bounds_of}
-use Rattle.sd_model_replay.specs.Replay.{Played, first_run, run_of, history_at}
+use Rattle.sd_model_replay.specs.Replay.{bounds_of, Played, first_run, run_of, history_at}
 use Rattle.sd_model_record.specs.Totals.{number_in}
-use Rattle.sd_model_replay.specs.Totals.{totals_after}
+use Rattle.sd_model_replay.specs.AccountingTheorem.{totals_after}
 use Rattle.sd_law_record.proofs.AccountingLemmas.{are_accounted}
 use Rattle.sd_model_replay.proofs.HistoryLemmas.{state-history_at}
 use Rattle.sd_law_shards.specs.Shards.{NoneDropped}
@@ -25,9 +24,9 @@ no_causes : (cs : List Cause) → length cs ≡ 0 → cs ≡ []
 no_causes [] h = refl
 no_causes (c ∷ cs) h = absurd (omega arith)
 
-pub none_told : (settings : Settings) (played : List Played) → number_in (totals_after settings played) (codes "dropped") ≡ 0 → NoneDropped (bounds_of settings) played
-none_told settings played told i below =
+pub none_reported : (settings : Settings) (played : List Played) → number_in (totals_after settings played) (codes "dropped") ≡ 0 → NoneDropped (bounds_of settings) played
+none_reported settings played reported i below =
     let places = (are_accounted settings played).places i below in
-    let zero_here = none_of_sum (λ j. ((run_of (bounds_of settings) (first_run played) played).shards j).dropped) i 0 settings.sizes.shards told (omega arith) (omega arith) in
+    let zero_here = none_of_sum (λ j. ((run_of (bounds_of settings) (first_run played) played).shards j).dropped) i 0 settings.sizes.shards reported (omega arith) (omega arith) in
     let dropped = ap (λ (s : State). s.dropped) (state-history_at (bounds_of settings) i played) in
     no_causes (causes (history_at (bounds_of settings) i played)) (omega (arith, zero_here, dropped, places.dropped))

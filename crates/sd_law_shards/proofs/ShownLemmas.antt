@@ -8,33 +8,33 @@ use Rattle.std.proofs.lemmas.List.Sums.{sum_by-cons}
 use Rattle.std.proofs.lemmas.Simd.{map-map}
 use Rattle.sd_model_text.specs.Names.{Kind, shard}
 use Rattle.sd_model_text.specs.Lines.{Sample}
-use Rattle.sd_model_shard.specs.Rows.{RowId, row_cmp}
-use Rattle.sd_model_shard.specs.Commands.{dump_of, in_key_order}
+use Rattle.sd_model_shard.specs.Rows.{RowId, row_cmp, dump_of, in_key_order}
 use Rattle.sd_model_shard.specs.Shard as at_shard
 use Rattle.sd_model_shard.specs.Shard.{State, Cause, Limits, Policy, Event, Submit, Swap, Delete, Dump, Look, step, admitted, refusal, deletion_of, after_delete, table_of, Dumped}
-use Rattle.sd_model_shard.specs.History.{Act, Asked, act_of, answered}
+use Rattle.sd_model_shard.specs.History.{Act, Asked, answered}
 use Rattle.sd_model_shard.specs.Whereabouts.{causes, dropped_in}
 use Rattle.sd_model_shard.proofs.OrderLemmas.{sum_by-flat_map}
 use Rattle.sd_model_record.specs.Admin as admin
 use Rattle.sd_model_record.specs.Admin.{AdminFault}
-use Rattle.sd_model_record.specs.Desk.{Desk, Marks, with_tally, with_repeater_faults, with_round}
-use Rattle.sd_model_record.specs.Record.{Record, record_rows, table_rows}
-use Rattle.sd_model_record.specs.Replies.{Reply, Stats, Rows, Gone, Finish, Health, reply_text, admin_events, health_after, keys_in, rows_in, keys_told, rows_told, names_replied, replies_by}
-use Rattle.sd_model_replay.specs.Settings.{Bounds, bounds_of, policy_of, limits_of}
-use Rattle.sd_model_replay.specs.Script.{Command, Packet, Flush, Admin}
-use Rattle.sd_model_outside.specs.Deliveries.{Delivery}
+use Rattle.sd_model_record.specs.Desk.{Desk, Marks, with_tally, with_repeater_faults}
+use Rattle.sd_model_record.specs.Record.{Record, record_rows}
+use Rattle.sd_model_record.specs.Replies.{AdminReply, Stats, Rows, Gone, Finish, Health, reply_text, admin_events, health_after, keys_in, rows_in, names_replied, replies_by}
+use Rattle.sd_model_replay.specs.Replay.{Bounds, bounds_of, policy_of, limits_of, Outcome, Played, Run, first_run, events_of_record, acts_of_record, replies_to, packet_tally, desk_after_record, desk_after_line, play, run_of, Moment, moments, form_of, round_by, rounds, deliveries}
+use Rattle.sd_model_replay.specs.Script.{ScriptCommand, Packet, Flush, Admin}
+use Rattle.sd_model_outside.specs.Uses.{Delivery, failures}
 use Rattle.sd_model_record.specs.Backends.{Backend, text_of, mark_of}
-use Rattle.sd_model_record.specs.WireSends.{failures}
 use Rattle.sd_model_serve.specs.Rounds.{Round, round_record}
 use Rattle.sd_model_serve.specs.Sessions.{replies_at}
-use Rattle.sd_model_replay.specs.Replay.{Outcome, Played, Run, first_run, events_in, events_at, acts_in, replies_to, packet_tally, desk_after, desk_after_line, play, run_of, Moment, moments, form_of, round_by, rounds, rounds_from, deliveries}
 use Rattle.sd_law_shards.specs.Records.{records}
-use Rattle.sd_model_replay.specs.Asked.{broadcasts, replies_in, output_in, output_of}
+use Rattle.sd_model_replay.specs.AccountingTheorem.{broadcasts, replies_in, output_in, output_of}
 use Rattle.sd_law_shards.specs.Shards.{NoneDropped, with_shards, ShowsNone, ShowsNoShards, ShowNone}
 use Rattle.sd_law_shards.proofs.ViewLemmas.{View, nothing, view-empty}
 use Rattle.sd_law_shards.proofs.EventsLemmas.{Reflects, Reflects-command, Reflects-delete, seen_after, seen_left, NoneIn, none_cut}
-use Rattle.sd_law_shards.proofs.ToldLemmas.{keys_alike, rows_alike, values_alike}
+use Rattle.sd_law_shards.proofs.ReportedLemmas.{keys_alike, rows_alike, values_alike}
 use Rattle.sd_model_settings.specs.Settings.{Settings, plan_of, names_of}
+use Rattle.sd_model_record.proofs.Short.{table_rows, with_round, keys_reported, rows_reported}
+use Rattle.sd_model_replay.proofs.Short.{events_at, rounds_from}
+use Rattle.sd_model_shard.proofs.Short.{act_of}
 
 -- events of which none is dropped are answered with no drop
 sample_answered : (limits : Limits) (policy : Policy) (state : State) (who : ℕ) (s : Sample) (answer : Option Cause) (asked : List Asked)
@@ -67,11 +67,11 @@ none_summed f shards start zero within none = refl
 none_summed f shards start (suc count) within none =
     omega (arith, none start (omega arith), none_summed f shards (start + 1) count (omega arith) none, sum_by-cons f start (range_with_len (start + 1) count))
 
-none_replied : (bounds : Bounds) (run : Run) (c : Command) → NoneIn bounds run c → sum_by dropped_in (replies_to bounds run.shards c) ≡ 0
+none_replied : (bounds : Bounds) (run : Run) (c : ScriptCommand) → NoneIn bounds run c → sum_by dropped_in (replies_to bounds run.shards c) ≡ 0
 none_replied bounds run c none =
-    sum_by-flat_map dropped_in (λ i. map (λ (a : Act). a.reply) (acts_in bounds run.shards i c)) (range_with_len 0 bounds.shards)
-    ∙ none_summed (λ i. sum_by dropped_in (map (λ (a : Act). a.reply) (acts_in bounds run.shards i c))) bounds.shards 0 bounds.shards (omega arith)
-    (λ i below. none_answered bounds.limits bounds.policy (run.shards i) (events_in bounds.shards i c) (none i below))
+    sum_by-flat_map dropped_in (λ i. map (λ (a : Act). a.reply) (acts_of_record bounds run.shards i c)) (range_with_len 0 bounds.shards)
+    ∙ none_summed (λ i. sum_by dropped_in (map (λ (a : Act). a.reply) (acts_of_record bounds run.shards i c))) bounds.shards 0 bounds.shards (omega arith)
+    (λ i below. none_answered bounds.limits bounds.policy (run.shards i) (events_of_record bounds.shards i c) (none i below))
 
 -- the answers of all shards to the n-th of events
 abbrev pub answers_at : Bounds → (ℕ → State) → List Event → ℕ → List at_shard.Reply
@@ -83,7 +83,7 @@ module _ (limits : Limits) (policy : Policy) (n m : ℕ) (some_n : 1 ≤ n) (som
 
   -- what a name deletes in all shards
   names_alike : (states others : ℕ → State) (seen : RowId → View) → Reflects n states seen → Reflects m others seen → (kind : Kind) (names : List (List ℕ)) (k : ℕ)
-      → keys_told (answers n states (map (Delete kind) names) k) ≡ keys_told (answers m others (map (Delete kind) names) k)
+      → keys_reported (answers n states (map (Delete kind) names) k) ≡ keys_reported (answers m others (map (Delete kind) names) k)
   names_alike states others seen h g kind [] k = refl
   names_alike states others seen h g kind (name ∷ names) zero =
       ap (in_key_order (λ (key : List ℕ). key)) (flat_map-map keys_in (λ i. deletion_of kind name (states i)) (range_with_len 0 n))
@@ -114,13 +114,13 @@ NoneFrom bounds run played = (i : ℕ) → i < bounds.shards → causes (answere
 
 -- no drop in a record and those behind it
 pub none_first : (bounds : Bounds) (run : Run) (p : Played) (played : List Played) → NoneFrom bounds run (p ∷ played) → NoneIn bounds run p.command
-none_first bounds run p played none i below = (none_cut bounds.limits bounds.policy (run.shards i) (events_in bounds.shards i p.command) (events_at bounds.shards i played) (none i below)).0
+none_first bounds run p played none i below = (none_cut bounds.limits bounds.policy (run.shards i) (events_of_record bounds.shards i p.command) (events_at bounds.shards i played) (none i below)).0
 
 pub none_behind : (bounds : Bounds) (run : Run) (p : Played) (played : List Played) → NoneFrom bounds run (p ∷ played) → NoneFrom bounds (play bounds run p) played
-none_behind bounds run p played none i below = (none_cut bounds.limits bounds.policy (run.shards i) (events_in bounds.shards i p.command) (events_at bounds.shards i played) (none i below)).1
+none_behind bounds run p played none i below = (none_cut bounds.limits bounds.policy (run.shards i) (events_of_record bounds.shards i p.command) (events_at bounds.shards i played) (none i below)).1
 
 -- the rounds among a record and the moments behind it
-abbrev pub rounds_with : Run → Command → Outcome → List Moment → List Round
+abbrev pub rounds_with : Run → ScriptCommand → Outcome → List Moment → List Round
 rounds_with run c outcome ms = filter_map (λ (m : Moment). round_by m.before m.played.command m.played.outcome) (record { before = run; played = record { command = c; outcome = outcome } } ∷ ms)
 
 module _ (settings : Settings) (n m : ℕ) (some_n : 1 ≤ n) (some_m : 1 ≤ m) where
@@ -130,8 +130,8 @@ module _ (settings : Settings) (n m : ℕ) (some_n : 1 ≤ n) (some_m : 1 ≤ m)
   abbrev T : Settings
   T = with_shards m settings
 
-  desk_alike : (one another : Run) (c : Command) (outcome : Outcome) → one.desk ≡ another.desk → NoneIn (bounds_of S) one c → NoneIn (bounds_of T) another c
-      → desk_after one.desk c (replies_to (bounds_of S) one.shards c) outcome ≡ desk_after another.desk c (replies_to (bounds_of T) another.shards c) outcome
+  desk_alike : (one another : Run) (c : ScriptCommand) (outcome : Outcome) → one.desk ≡ another.desk → NoneIn (bounds_of S) one c → NoneIn (bounds_of T) another c
+      → desk_after_record one.desk c (replies_to (bounds_of S) one.shards c) outcome ≡ desk_after_record another.desk c (replies_to (bounds_of T) another.shards c) outcome
   desk_alike one another (Packet who moment datagram) outcome same none_n none_m =
       let drops = none_replied (bounds_of S) one (Packet who moment datagram) none_n ∙ sym (none_replied (bounds_of T) another (Packet who moment datagram) none_m) in
       λ k. with_repeater_faults (with_tally (same k) (packet_tally datagram (drops k)) moment) (failures outcome.failed)
@@ -173,7 +173,7 @@ module _ (settings : Settings) (n m : ℕ) (some_n : 1 ≤ n) (some_m : 1 ≤ m)
       by_command p.command p.outcome
       (rounds_alike (play (bounds_of S) one p) (play (bounds_of T) another p) (seen_after (policy_of settings) seen p.command) played (alike_after one another seen p h (none_first (bounds_of S) one p played none_n) (none_first (bounds_of T) another p played none_m))
       (none_behind (bounds_of S) one p played none_n) (none_behind (bounds_of T) another p played none_m)) where
-        by_command : (c : Command) (outcome : Outcome)
+        by_command : (c : ScriptCommand) (outcome : Outcome)
             → map (recorded S) (rounds_from (bounds_of S) (play (bounds_of S) one p) played) ≡ map (recorded T) (rounds_from (bounds_of T) (play (bounds_of T) another p) played)
             → map (recorded S) (rounds_with one c outcome (moments (bounds_of S) (play (bounds_of S) one p) played)) ≡ map (recorded T) (rounds_with another c outcome (moments (bounds_of T) (play (bounds_of T) another p) played))
         by_command (Packet who moment datagram) outcome rest = rest
@@ -194,11 +194,11 @@ module _ (settings : Settings) (n m : ℕ) (some_n : 1 ≤ n) (some_m : 1 ≤ m)
       ∙ map-map (deliver T) (recorded T) (rounds (bounds_of T) played)
 
   -- the replies to a line, by its command
-  names_told : (names : List (List ℕ)) (answers others : ℕ → List at_shard.Reply) → ((k : ℕ) → keys_told (answers k) ≡ keys_told (others k)) → names_replied answers names ≡ names_replied others names
-  names_told [] answers others same = refl
-  names_told (name ∷ names) answers others same = λ k. Gone name (same 0 k) ∷ names_told names (λ j. answers (j + 1)) (λ j. others (j + 1)) (λ j. same (j + 1)) k
+  names_reported : (names : List (List ℕ)) (answers others : ℕ → List at_shard.Reply) → ((k : ℕ) → keys_reported (answers k) ≡ keys_reported (others k)) → names_replied answers names ≡ names_replied others names
+  names_reported [] answers others same = refl
+  names_reported (name ∷ names) answers others same = λ k. Gone name (same 0 k) ∷ names_reported names (λ j. answers (j + 1)) (λ j. others (j + 1)) (λ j. same (j + 1)) k
 
-  abbrev line_replied : Settings → Run → ℕ → List ℕ → Result admin.Command AdminFault → List Reply
+  abbrev line_replied : Settings → Run → ℕ → List ℕ → Result admin.Command AdminFault → List AdminReply
   line_replied s run moment line answer = replies_by false (answers_at (bounds_of s) run.shards (admin_events (admin.command line))) run.desk.facts s moment answer
 
   line_alike : (one another : Run) (seen : RowId → View) (moment : ℕ) (line : List ℕ) (answer : Result admin.Command AdminFault) → admin.command line ≡ answer → ShowsNoShards answer → AreAlike n m one another seen
@@ -208,20 +208,20 @@ module _ (settings : Settings) (n m : ℕ) (some_n : 1 ≤ n) (some_m : 1 ≤ m)
   line_alike one another seen moment line (Ok admin.Config) is shows h = absurd (shows.0 refl)
   line_alike one another seen moment line (Ok admin.Quit) is shows h = refl
   line_alike one another seen moment line (Ok (admin.Show kind)) is shows h = ap (λ rows. Rows kind rows ∷ []) (
-      ap (λ answer. rows_told (answers_at (bounds_of S) one.shards (admin_events answer) 0)) is
+      ap (λ answer. rows_reported (answers_at (bounds_of S) one.shards (admin_events answer) 0)) is
       ∙ ap (in_key_order (λ row. row.key)) (flat_map-map rows_in (λ i. Dumped (dump_of kind (one.shards i).live)) (range_with_len 0 n))
       ∙ rows_alike n m some_n some_m one.shards another.shards seen h.left h.right kind
       ∙ sym (ap (in_key_order (λ row. row.key)) (flat_map-map rows_in (λ i. Dumped (dump_of kind (another.shards i).live)) (range_with_len 0 m)))
-      ∙ sym (ap (λ answer. rows_told (answers_at (bounds_of T) another.shards (admin_events answer) 0)) is))
+      ∙ sym (ap (λ answer. rows_reported (answers_at (bounds_of T) another.shards (admin_events answer) 0)) is))
   line_alike one another seen moment line (Ok (admin.Delete kind names)) is shows h = ap (λ replies. replies ++ Finish ∷ []) (
-      names_told names (answers_at (bounds_of S) one.shards (admin_events (admin.command line))) (answers_at (bounds_of T) another.shards (admin_events (admin.command line))) (λ k.
-      ap (λ answer. keys_told (answers_at (bounds_of S) one.shards (admin_events answer) k)) is
+      names_reported names (answers_at (bounds_of S) one.shards (admin_events (admin.command line))) (answers_at (bounds_of T) another.shards (admin_events (admin.command line))) (λ k.
+      ap (λ answer. keys_reported (answers_at (bounds_of S) one.shards (admin_events answer) k)) is
       ∙ names_alike (limits_of settings) (policy_of settings) n m some_n some_m one.shards another.shards seen h.left h.right kind names k
-      ∙ sym (ap (λ answer. keys_told (answers_at (bounds_of T) another.shards (admin_events answer) k)) is)))
+      ∙ sym (ap (λ answer. keys_reported (answers_at (bounds_of T) another.shards (admin_events answer) k)) is)))
   line_alike one another seen moment line (Ok (admin.Health word)) is shows h = ap (λ (desk : Desk). Health (health_after word desk.facts.up) ∷ []) h.desk
   line_alike one another seen moment line (Err fault) is shows h = refl
 
-  replies_alike : (one another : Run) (seen : RowId → View) (c : Command) → ShowsNone c → AreAlike n m one another seen → replies_in S one c ≡ replies_in T another c
+  replies_alike : (one another : Run) (seen : RowId → View) (c : ScriptCommand) → ShowsNone c → AreAlike n m one another seen → replies_in S one c ≡ replies_in T another c
   replies_alike one another seen (Packet who moment datagram) shows h = refl
   replies_alike one another seen (Flush ts) shows h = refl
   replies_alike one another seen (Admin moment line) shows h = line_alike one another seen moment line (admin.command line) refl shows h

@@ -3,14 +3,13 @@ use Rattle.std.proofs.Common.{◌≡◌, ℕ, Bool, true, false, cond, List, [],
 use Rattle.std.specs.Prelude.{Option, Some, None, not, option_and_then, unwrap_or, pos, fold}
 use Rattle.std.specs.FinMap.{get, get-empty}
 use Rattle.sd_model_text.specs.Lines.{Sample}
-use Rattle.sd_model_shard.specs.Rows.{RowId, row_cmp, Kept, row_of, is_same_row}
-use Rattle.sd_model_shard.specs.Summaries.{without_samples, sampled, row_in}
-use Rattle.sd_model_shard.specs.Commands.{is_hit}
+use Rattle.sd_model_shard.specs.Rows.{RowId, row_cmp, Kept, row_of, is_same_row, without_samples, row_in, is_hit}
 use Rattle.sd_model_shard.specs.Shard.{State, empty_state, Cause, Limits, Policy, Event, Submit, Swap, Delete, Dump, Look, step, admitted, refusal, with_sample, left_of}
-use Rattle.sd_model_shard.specs.History.{Asked, act_of, after_all, answered}
+use Rattle.sd_model_shard.specs.History.{Asked, after_all, answered}
 use Rattle.sd_model_shard.specs.Whereabouts.{causes}
-use Rattle.sd_model_shard.proofs.SummaryLemmas.{get-carried, get-touched}
+use Rattle.sd_model_shard.proofs.SummaryLemmas.{get-kept_rows, get-touched}
 use Rattle.sd_model_shard.proofs.DeletionLemmas.{same_row, get-rows_left}
+use Rattle.sd_model_shard.proofs.Short.{act_of, sampled}
 
 -- What a shard has of one row, where it is live.
 abbrev pub View : Type 0
@@ -65,7 +64,7 @@ view-asked limits policy state id (q ∷ asked) none =
           → causes (act_of limits policy state who event ∷ answered limits policy (step limits policy state event).state asked) ≡ []
           → view (after_asked limits policy (step limits policy state event).state asked) id ≡ fold (row_step policy id) (row_event policy id (view state id) event) asked
       by_event who (Submit s) rest none = sample_taken limits policy state who s (refusal limits state s) id asked rest none
-      by_event who Swap rest none = rest none ∙ ap (λ (v : View). fold (row_step policy id) v asked) (get-carried policy state.live id)
+      by_event who Swap rest none = rest none ∙ ap (λ (v : View). fold (row_step policy id) v asked) (get-kept_rows policy state.live id)
       by_event who (Delete kind pattern) rest none = rest none ∙ ap (λ (v : View). fold (row_step policy id) v asked) (get-rows_left kind pattern state.live id)
       by_event who (Dump kind) rest none = rest none
       by_event who Look rest none = rest none

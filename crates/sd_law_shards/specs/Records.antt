@@ -2,9 +2,8 @@
 use Rattle.std.specs.Prelude.{List, map}
 use Rattle.sd_model_record.specs.Record.{Record}
 use Rattle.sd_model_serve.specs.Rounds.{round_record}
-use Rattle.sd_model_replay.specs.Settings.{bounds_of}
+use Rattle.sd_model_replay.specs.Replay.{bounds_of, Played, form_of, rounds}
 use Rattle.sd_model_settings.specs.Settings.{Settings}
-use Rattle.sd_model_replay.specs.Replay.{Played, form_of, rounds}
 
 -- the records of the rounds of a replay
 abbrev pub records : Settings → List Played → List Record

@@ -9,13 +9,11 @@ use Rattle.sd_model_shard.specs.Whereabouts.{causes}
 use Rattle.sd_model_record.specs.Admin as admin
 use Rattle.sd_model_record.specs.Admin.{AdminFault}
 use Rattle.sd_model_serve.specs.Rounds.{Round}
-use Rattle.sd_model_replay.specs.Settings.{Bounds}
-use Rattle.sd_model_replay.specs.Script.{Command, Admin}
+use Rattle.sd_model_replay.specs.Replay.{Bounds, Played, history_at, deliveries}
+use Rattle.sd_model_replay.specs.Script.{ScriptCommand, Admin}
 use Rattle.sd_model_record.specs.Backends.{Backend}
-use Rattle.sd_model_replay.specs.Replay.{Played, history_at, deliveries}
 use Rattle.sd_law_shards.specs.Records.{records}
-use Rattle.sd_model_replay.specs.Asked.{output_of}
-use Rattle.sd_model_replay.specs.Totals.{totals_after}
+use Rattle.sd_model_replay.specs.AccountingTheorem.{output_of, totals_after}
 use Rattle.sd_model_settings.specs.Settings.{Settings}
 
 -- settings with another number of shards
@@ -31,7 +29,7 @@ abbrev pub ShowsNoShards : Result admin.Command AdminFault → Type 0
 ShowsNoShards answer = (answer ≢ Ok admin.Config) × (answer ≢ Ok admin.Totals)
 
 -- a record that doesn't ask for them
-abbrev pub ShowsNone : Command → Type 0
+abbrev pub ShowsNone : ScriptCommand → Type 0
 ShowsNone (Admin moment line) = ShowsNoShards (admin.command line)
 ShowsNone c = ⊤
 

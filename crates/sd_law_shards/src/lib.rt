@@ -7,4 +7,4 @@
 
 mod shards;
 
-pub use shards::{no_drop_is_told, rows_are_at_home, shards_are_not_shown};
+pub use shards::{no_drop_is_reported, rows_are_at_home, shards_are_not_shown};

@@ -3,10 +3,9 @@ ghost use Rattle.std.specs.FinMap.{contains_key};
 ghost use Rattle.std.specs.List.{AllByRecursion, IsDistinct};
 ghost use Rattle.sd_model_text.specs.Names.{shard};
 ghost use Rattle.sd_model_shard.specs.Rows.{RowId, is_same_row};
-ghost use Rattle.sd_model_replay.specs.Settings.{Bounds, bounds_of};
-ghost use Rattle.sd_model_replay.specs.Replay.{Played, first_run, rounds, run_of};
+ghost use Rattle.sd_model_replay.specs.Replay.{Bounds, bounds_of, Played, first_run, rounds, run_of};
 ghost use Rattle.sd_model_record.specs.Totals.{number_in};
-ghost use Rattle.sd_model_replay.specs.Totals.{totals_after};
+ghost use Rattle.sd_model_replay.specs.AccountingTheorem.{totals_after};
 ghost use Rattle.sd_law_shards.specs.Shards.{NoneDropped, ShowTheSame, rows_taken, with_shards};
 ghost use Rattle.sd_model_settings.specs.Settings.{Settings};
 
@@ -19,7 +18,7 @@ pub fn shards_are_not_shown()
 {}
 
 /// Totals that tell no drop say that no shard drops a sample.
-pub fn no_drop_is_told()
+pub fn no_drop_is_reported()
     ensures { (settings : Settings) (played : List Played) → number_in (totals_after settings played) (codes "dropped") ≡ 0 → NoneDropped (bounds_of settings) played }
 {}
 

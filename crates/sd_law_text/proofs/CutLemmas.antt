@@ -1,8 +1,9 @@
 -- A cut at the first separator: what it leaves, and when there is one.
 use Rattle.std.proofs.Common.{◌≡◌, ℕ, Bool, true, false, cond, ◌||◌, eqb, List, [], ◌∷◌, ◌++◌, refl, sym, ap, ◌∙◌, Option, Some, None, option_map, is_some, eqb-true, eq-eqb}
-use Rattle.sd_model_text.specs.Lists.{cut_at, split, Cut, before_part}
+use Rattle.sd_model_text.specs.Lists.{cut_at, split, Cut}
 use Rattle.sd_law_text.specs.Bytes.{has_byte}
 use Rattle.sd_model_text.proofs.ListLemmas.{split-cut, parts_of}
+use Rattle.sd_model_text.proofs.Short.{before_part}
 
 is_some-before : (x : ℕ) (c : Option Cut) → is_some (option_map (before_part x) c) ≡ is_some c
 is_some-before x None = refl

@@ -5,11 +5,12 @@ use Rattle.std.proofs.lemmas.Bool.Decides.{nat_tests}
 use Rattle.sd_model_text.specs.Lists.{split, cut_at, Cut}
 use Rattle.sd_model_text.specs.Names.{Kind, Counter, Timer, Gauge, Set, KeyFault, clean}
 use Rattle.sd_model_text.specs.Numbers.{NumberFlaw}
-use Rattle.sd_model_text.specs.Lines.{Sample, Flaw, NoType, UnknownType, BadRate, NegativeTimer, LongMember, ExtraField, ◌>>=◌, type_text, kind_named, typed, valued, named, unless_so, field, value_of, rate_of, sample, is_below_zero, is_long_member, is_over, reading_behind, reading_cut, reading}
+use Rattle.sd_model_text.specs.Lines.{Sample, Flaw, NoType, UnknownType, BadRate, NegativeTimer, LongMember, ExtraField, ◌>>=◌, type_text, kind_named, typed, unless_so, field, value_of, rate_of, sample, is_below_zero, is_long_member, reading_behind, reading}
 use Rattle.sd_law_text.specs.Bytes.{has_byte}
 use Rattle.sd_law_text.specs.Grammar.{Good, IsPiece, third}
 use Rattle.sd_model_text.proofs.ListLemmas.{split-cut, parts_of}
 use Rattle.sd_law_text.proofs.CutLemmas.{has-cut, cut-leaves, cut-first, split-none, split-first}
+use Rattle.sd_model_text.proofs.Short.{reading_cut, named, valued, is_over}
 
 -- what a sample that was read has passed
 record Passed (name : List ℕ) (fields : List (List ℕ)) (s : Sample) : Type 0 where

@@ -3,10 +3,11 @@ use Rattle.std.proofs.Common.{◌≡◌, ℕ, ℤ, Bool, true, false, not, List,
 use Rattle.sd_model_text.specs.Lists.{split, cut_at, Cut}
 use Rattle.sd_model_text.specs.Names.{Kind, KeyFault, clean}
 use Rattle.sd_model_text.specs.Numbers.{NumberFlaw}
-use Rattle.sd_model_text.specs.Lines.{Sample, Flaw, NoValue, NoType, UnknownType, BadNumber, BadRate, NegativeTimer, BadKey, LongMember, ExtraField, ◌>>=◌, kind_named, typed, valued, named, unless_so, field, value_of, rate_of, sample, is_below_zero, is_long_member, is_over, is_empty, reading_behind, reading_cut, reading}
+use Rattle.sd_model_text.specs.Lines.{Sample, Flaw, NoValue, NoType, UnknownType, BadNumber, BadRate, NegativeTimer, BadKey, LongMember, ExtraField, ◌>>=◌, kind_named, typed, unless_so, field, value_of, rate_of, sample, is_below_zero, is_long_member, is_empty, reading_behind, reading}
 use Rattle.sd_law_text.specs.Bytes.{has_byte}
 use Rattle.sd_law_text.specs.Grammar.{err_of, where_, is_below, number_flaw, is_negative, is_long, flaws_behind, flaws, first_of, parted}
 use Rattle.sd_law_text.proofs.CutLemmas.{has-cut}
+use Rattle.sd_model_text.proofs.Short.{reading_cut, named, valued, is_over}
 
 -- the flaws behind a key, in order
 abbrev behind_key : Bool → Bool → List (Option Flaw)

@@ -4,9 +4,10 @@ use Rattle.std.specs.Prelude.{sum_by, flat_map}
 use Rattle.std.proofs.lemmas.List.{length-map}
 use Rattle.std.proofs.lemmas.List.Sums.{sum_by-cons}
 use Rattle.sd_model_text.specs.Lists.{split, onto_first, cut_at, Cut, trim_end, is_white_space}
-use Rattle.sd_model_text.specs.Lines.{pieces, pieces_cut, pieces_in, is_empty}
+use Rattle.sd_model_text.specs.Lines.{pieces, pieces_in, is_empty}
 use Rattle.sd_law_text.proofs.CutLemmas.{cut-leaves}
 use Rattle.sd_model_text.proofs.Trims.{length-trim_end}
+use Rattle.sd_model_text.proofs.Short.{pieces_cut}
 
 length-onto : (x : ℕ) (parts : List (List ℕ)) (n : ℕ) → length parts ≤ n + 1 → length (onto_first x parts) ≤ suc n + 1
 length-onto x [] n h = omega arith

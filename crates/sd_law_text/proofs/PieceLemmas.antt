@@ -3,10 +3,11 @@ use Rattle.std.proofs.Common.{◌≡◌, ℕ, Bool, true, false, cond, ◌||◌,
 use Rattle.std.specs.Prelude.{All, flat_map}
 use Rattle.std.proofs.lemmas.List.Elements.{All-nil, All-cons, All-head, All-tail, All-append, All-map, All-weaker}
 use Rattle.sd_model_text.specs.Lists.{split, onto_first, cut_at, Cut}
-use Rattle.sd_model_text.specs.Lines.{lines, pieces, pieces_cut, pieces_in}
+use Rattle.sd_model_text.specs.Lines.{lines, pieces, pieces_in}
 use Rattle.sd_law_text.specs.Bytes.{has_byte}
 use Rattle.sd_law_text.specs.Grammar.{IsPiece, parted}
 use Rattle.sd_law_text.proofs.CutLemmas.{cut-leaves, cut-first, split-none}
+use Rattle.sd_model_text.proofs.Short.{pieces_cut}
 
 -- a list lacks a byte
 abbrev pub LacksByte : ℕ → List ℕ → Type 0

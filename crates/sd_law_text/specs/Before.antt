@@ -1,12 +1,13 @@
 -- How a piece was read before numbers had exponents and lines several values. Only the law `plain_lines_stay` cites it.
-use Rattle.std.specs.Prelude.{ℕ, ◌+◌, ◌*◌, ◌^◌, ◌==◌, ◌&&◌, ◌||◌, Bool, not, nat_lt, ℤ, pos, List, [], ◌∷◌, ◌++◌, length, if◌then◌else◌, Option, Some, None, Result, Ok, Err, ok_or}
+use Rattle.std.specs.Prelude.{ℕ, ◌*◌, ◌^◌, ◌==◌, ◌&&◌, ◌||◌, Bool, not, nat_lt, ℤ, pos, List, [], ◌∷◌, ◌++◌, length, if◌then◌else◌, Option, Some, None, Result, Ok, Err, ok_or}
 use Rattle.std.specs.List.{before_first, after_first}
 use Rattle.std.specs.Str.Parse.{digits_value}
 use Rattle.sd_model_text.specs.Lists.{split, cut_at, Cut}
 use Rattle.sd_model_text.specs.Names.{Kind, Counter, Timer, Gauge, Set, clean}
 use Rattle.sd_model_text.specs.Numbers.{NumberFlaw, BadShape, rounded, is_point, is_digits, within_range, has_minus, has_sign, without_sign, with_sign}
-use Rattle.sd_model_text.specs.Lines.{Sample, Flaw, NoValue, BadRate, NegativeTimer, LongMember, ExtraField, ◌>>=◌, typed, valued, named, unless_so, field, timer_value, within_rate, sample, is_below_zero, is_long_member}
+use Rattle.sd_model_text.specs.Lines.{Sample, Flaw, NoValue, BadRate, NegativeTimer, LongMember, ExtraField, ◌>>=◌, typed, unless_so, field, timer_value, within_rate, sample, is_below_zero, is_long_member, BadKey, BadNumber}
 use Rattle.sd_law_text.specs.Bytes.{has_byte}
+use Rattle.std.specs.Result.{result_map_both}
 
 -- the magnitude of the two sides of a point
 abbrev pub sides_before : List ℕ → List ℕ → Result ℕ NumberFlaw
@@ -40,10 +41,10 @@ is_over_before fields rest = nat_lt 3 (length fields) || has_byte 58 rest
 unfoldable pub behind_before : List ℕ → List ℕ → List (List ℕ) → Result Sample Flaw
 behind_before name rest fields = do
   kind ← typed (field 1 fields)
-  v ← valued (number_before kind (field 0 fields))
+  v ← result_map_both (λ v. v) BadNumber (number_before kind (field 0 fields))
   rate ← ok_or (rate_before (field 2 fields)) BadRate
   above ← unless_so (is_below_zero kind v) NegativeTimer
-  key ← named (clean name)
+  key ← result_map_both (λ key. key) BadKey (clean name)
   short ← unless_so (is_long_member kind (field 0 fields)) LongMember
   whole ← unless_so (is_over_before fields rest) ExtraField
   Ok (sample kind key (field 0 fields) v rate)

@@ -9,7 +9,7 @@ has_byte byte xs = list_any (λ x. x == byte) xs
 
 -- a part stands somewhere in a key
 abbrev pub HasPart : List ℕ → List ℕ → Type 0
-HasPart key part = (front : List ℕ) × (back : List ℕ) × (key ≡ front ++ part ++ back)
+HasPart key part = (prefix : List ℕ) × (back : List ℕ) × (key ≡ prefix ++ part ++ back)
 
 -- a text has no mark of an exponent
 abbrev pub HasNoMark : List ℕ → Type 0

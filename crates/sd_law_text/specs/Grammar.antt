@@ -4,7 +4,7 @@ use Rattle.std.specs.Prelude.{◌≡◌, ℕ, ◌==◌, ◌&&◌, Bool, true, fa
 use Rattle.sd_model_text.specs.Lists.{split, cut_at, Cut}
 use Rattle.sd_model_text.specs.Names.{Kind, Counter, Timer, Gauge, Set, KeyFault, clean}
 use Rattle.sd_model_text.specs.Numbers.{NumberFlaw}
-use Rattle.sd_model_text.specs.Lines.{Sample, Flaw, NoValue, NoType, UnknownType, BadNumber, BadRate, NegativeTimer, BadKey, LongMember, ExtraField, type_text, kind_named, field, value_of, rate_of, sample, is_below_zero, is_long_member, is_over, is_empty}
+use Rattle.sd_model_text.specs.Lines.{Sample, Flaw, NoValue, NoType, UnknownType, BadNumber, BadRate, NegativeTimer, BadKey, LongMember, ExtraField, type_text, kind_named, field, value_of, rate_of, sample, is_below_zero, is_long_member, is_empty}
 use Rattle.sd_law_text.specs.Bytes.{has_byte}
 
 -- a third field behind its bar, where there is one
@@ -82,7 +82,7 @@ flaws_behind name fields =
     ∷ where_ (is_negative (kind_named (field 1 fields)) (field 0 fields)) NegativeTimer
     ∷ option_map BadKey (err_of (clean name))
     ∷ where_ (is_long (kind_named (field 1 fields)) (field 0 fields)) LongMember
-    ∷ where_ (is_over fields) ExtraField
+    ∷ where_ (nat_lt 3 (length fields)) ExtraField
     ∷ []
 
 -- those of a piece

@@ -8,4 +8,4 @@ mod grammar;
 mod names;
 
 pub use grammar::{pieces_are_good_or_bad, pieces_have_one_colon, plain_lines_stay};
-pub use names::parts_are_told;
+pub use names::parts_are_reported;

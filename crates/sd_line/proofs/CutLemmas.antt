@@ -3,23 +3,24 @@ use Rattle.std.proofs.Common.{◌≡◌, ℕ, ◌+◌, ◌<◌, Bool, true, fals
 use Rattle.std.proofs.lemmas.List.{get_or-take}
 use Rattle.std.proofs.Math.Seq.{split_at}
 use Rattle.memchr.specs.Find.{IsFirstByte, is_byte}
-use Rattle.sd_model_text.specs.Lists.{cut_at, Cut, before_part}
+use Rattle.sd_model_text.specs.Lists.{cut_at, Cut}
 use Rattle.sd_law_text.specs.Bytes.{has_byte}
 use Rattle.sd_law_text.proofs.CutLemmas.{cut-first, cut-none}
+use Rattle.sd_model_text.proofs.Short.{before_part}
 
--- a cut of what stands behind the front
+-- a cut of what stands behind the prefix
 abbrev pub cut_behind : List ℕ → Option Cut → Option Cut
-cut_behind front c = option_map (λ c. record { part = front ++ c.part; rest = c.rest }) c
+cut_behind prefix c = option_map (λ c. record { part = prefix ++ c.part; rest = c.rest }) c
 
-pub at_separator : (separator x : ℕ) (front xs : List ℕ) → x ≡ separator → cut_behind front (cut_at separator (x ∷ xs)) ≡ Some (record { part = front ++ []; rest = xs })
-at_separator separator x front xs h = rw (eq-eqb x separator h) refl
+pub at_separator : (separator x : ℕ) (prefix xs : List ℕ) → x ≡ separator → cut_behind prefix (cut_at separator (x ∷ xs)) ≡ Some (record { part = prefix ++ []; rest = xs })
+at_separator separator x prefix xs h = rw (eq-eqb x separator h) refl
 
-behind_part : (front : List ℕ) (x : ℕ) (c : Option Cut) → cut_behind front (option_map (before_part x) c) ≡ cut_behind (front ++ x ∷ []) c
-behind_part front x None = refl
-behind_part front x (Some c) = ap (λ part. Some (record { part = part; rest = c.rest })) (sym (append_assoc front (x ∷ []) c.part))
+behind_part : (prefix : List ℕ) (x : ℕ) (c : Option Cut) → cut_behind prefix (option_map (before_part x) c) ≡ cut_behind (prefix ++ x ∷ []) c
+behind_part prefix x None = refl
+behind_part prefix x (Some c) = ap (λ part. Some (record { part = part; rest = c.rest })) (sym (append_assoc prefix (x ∷ []) c.part))
 
-pub past_other : (separator x : ℕ) (front xs : List ℕ) → eqb x separator ≡ false → cut_behind front (cut_at separator (x ∷ xs)) ≡ cut_behind (front ++ x ∷ []) (cut_at separator xs)
-past_other separator x front xs h = rw h (behind_part front x (cut_at separator xs))
+pub past_other : (separator x : ℕ) (prefix xs : List ℕ) → eqb x separator ≡ false → cut_behind prefix (cut_at separator (x ∷ xs)) ≡ cut_behind (prefix ++ x ∷ []) (cut_at separator xs)
+past_other separator x prefix xs h = rw h (behind_part prefix x (cut_at separator xs))
 
 -- no byte up to the end is the separator
 lacks : (s : ℕ) (xs : List ℕ) → ((k : ℕ) → k < length xs → get_or xs k 0 == s ≡ true → ⊥) → has_byte s xs ≡ false

@@ -13,9 +13,9 @@ use Rattle.sd_law_text.specs.Bytes.{has_byte}
 use Rattle.sd_model_text.proofs.NamesLemmas.{as_key-fits, cleaned-names}
 use Rattle.sd_law_text.proofs.CutLemmas.{cut-first}
 
--- the bytes that pass from the front on are bytes of names
-front_passes : (xs : List ℕ) → AllPass is_name_byte (take (prefix_len is_name_byte xs) xs)
-front_passes xs =
+-- the bytes that pass from the start on are bytes of names
+prefix_passes : (xs : List ℕ) → AllPass is_name_byte (take (prefix_len is_name_byte xs) xs)
+prefix_passes xs =
     All-from_get_or (λ y. is_name_byte y ≡ true) (take (prefix_len is_name_byte xs) xs) 0 (λ i h.
     let inside : i < prefix_len is_name_byte xs = omega (arith, h, length-prefix_len is_name_byte xs) in
     ap is_name_byte (get_or-take (prefix_len is_name_byte xs) xs i 0 inside) ∙ prefix_len_passes is_name_byte xs i 0 inside)
@@ -32,7 +32,7 @@ names_lack (x ∷ xs) h =
 cut-plain : (xs : List ℕ) (k d : ℕ) → k ≡ prefix_len is_name_byte xs → k < length xs → get_or xs k d ≡ 58 → cut_at 58 xs ≡ Some (record { part = take k xs; rest = drop (k + 1) xs })
 cut-plain xs k d is inside colon =
     let next : suc k ≡ k + 1 = omega arith in
-    let lacks = subst (λ n. has_byte 58 (take n xs) ≡ false) (sym is) (names_lack (take (prefix_len is_name_byte xs) xs) (front_passes xs)) in
+    let lacks = subst (λ n. has_byte 58 (take n xs) ≡ false) (sym is) (names_lack (take (prefix_len is_name_byte xs) xs) (prefix_passes xs)) in
     ap (cut_at 58) (split_at xs k d inside ∙ ap (λ b. take k xs ++ b ∷ drop (suc k) xs) colon)
     ∙ cut-first 58 (take k xs) (drop (suc k) xs) lacks
     ∙ ap (λ n. Some (record { part = take k xs; rest = drop n xs })) next
@@ -46,6 +46,6 @@ cuts-plain xs part rest k d is inside colon part-is rest-is =
 -- their key
 pub key-plain : (xs : List ℕ) (k : ℕ) → k ≡ prefix_len is_name_byte xs → 0 < k → k ≤ 255 → clean (take k xs) ≡ Ok (take k xs)
 key-plain xs k is some short =
-    let names : AllPass is_name_byte (take k xs) = subst (λ n. AllPass is_name_byte (take n xs)) (sym is) (front_passes xs) in
+    let names : AllPass is_name_byte (take k xs) = subst (λ n. AllPass is_name_byte (take n xs)) (sym is) (prefix_passes xs) in
     let long : length (take k xs) ≡ k = subst (λ n. length (take n xs) ≡ n) (sym is) (length-prefix_len is_name_byte xs) in
     ap as_key (cleaned-names (take k xs) names) ∙ as_key-fits (take k xs) (omega (arith, long)) (omega (arith, long))

@@ -3,7 +3,7 @@ use Rattle.std.proofs.Common.{◌≡◌, ℕ, false, List, [], ◌∷◌, ◌++�
 use Rattle.std.specs.Prelude.{All, flat_map, IsTrue, ◌↔◌}
 use Rattle.std.proofs.lemmas.List.Elements.{All-head}
 use Rattle.sd_model_text.specs.Lists.{split, cut_at, Cut}
-use Rattle.sd_model_text.specs.Lines.{Sample, lines, pieces, pieces_in, pieces_cut, reading, reading_behind, reading_cut}
+use Rattle.sd_model_text.specs.Lines.{Sample, lines, pieces, pieces_in, reading, reading_behind}
 use Rattle.sd_law_text.specs.Bytes.{has_byte}
 use Rattle.sd_law_text.specs.Grammar.{IsPiece, err_of}
 use Rattle.sd_law_text.proofs.CutLemmas.{cut-first}
@@ -15,6 +15,7 @@ use Rattle.sd_line.specs.Cut.{parts_in}
 use Rattle.sd_line.specs.Piece.{Gives, Answers}
 use Rattle.sd_line.specs.declared.piece.Bad.{Bad}
 use Rattle.sd_line.specs.declared.piece.Bad.TheVariants.{NoValue as no_value}
+use Rattle.sd_model_text.proofs.Short.{pieces_cut, reading_cut}
 
 answers : (piece : List ℕ) (answer : Result Sample Bad) → IsPiece piece → Gives (λ s. s) answer (reading piece) → Answers piece answer
 answers piece (Ok s) alone h = record { read = h; grammar = reading-good piece s alone h }

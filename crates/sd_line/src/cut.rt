@@ -97,11 +97,11 @@ pub(crate) fn trimmed(bytes: &[u8]) -> &[u8]
     ensures { result.now ≡ trim_end is_white_space bytes.now }
 {
     let mut rest = bytes;
-    while let [front @ .., last] = rest {
+    while let [prefix @ .., last] = rest {
         if !is_white_space(*last) {
             break;
         }
-        rest = front;
+        rest = prefix;
     }
     rest
 }

@@ -1,6 +1,7 @@
 ghost use Rattle.std.specs.Prelude.{◌≡◌, ◌<◌, [], ◌∷◌, length, IsNone, IfSome, MatchOption, option_map};
-ghost use Rattle.sd_model_text.specs.Lines.{lines, name_in_line};
+ghost use Rattle.sd_model_text.specs.Lines.{lines};
 ghost use Rattle.sd_line.specs.Lines.{with_line};
+ghost use Rattle.sd_model_text.specs.Lists.{cut_at};
 
 use crate::cut::{Cut, far_cut, trimmed};
 use std::marker::Model;
@@ -84,7 +85,7 @@ impl<'a> Parts<'a> {
 
 /// The name of a line: what stands before its first colon, where it has one.
 pub fn name_before_colon(line: &[u8]) -> Option<&[u8]>
-    ensures { option_map (λ name. name.now) result ≡ name_in_line line.now }
+    ensures { option_map (λ name. name.now) result ≡ option_map (λ c. c.part) (cut_at 58 line.now) }
 {
     let cut = far_cut(line, b':')?;
     Some(cut.part)

@@ -8,6 +8,7 @@ ghost use Rattle.sd_key.specs.Kind.{kind_of as kind_view};
 ghost use Rattle.sd_line.specs.Piece.{Gives};
 ghost use Rattle.sd_line.specs.Reading.{key_view, IsHashed};
 ghost use Rattle.sd_line.specs.Values.{key_by};
+ghost use Rattle.std.specs.Result.{result_map_both};
 
 use crate::fields::Fields;
 use crate::reading::{KeyBytes, Reading, has_sign};
@@ -80,7 +81,7 @@ fn timer_value(text: &[u8]) -> Result<Micro, NumberFault>
 
 /// The number of a value; a set's is 0.
 fn value_of(kind: Kind, text: &[u8]) -> Result<Micro, Bad>
-    ensures value { Gives (λ v. v.0) result (model.valued (model.value_of (kind_view kind) text.now)) }
+    ensures value { Gives (λ v. v.0) result (result_map_both (λ v. v) model.BadNumber (model.value_of (kind_view kind) text.now)) }
     ensures bound { IfOk result (λ v. unsigned_abs v.0 ≤ 10 ^ 18) }
     ensures timer { kind_view kind ≡ names.Timer → IfOk result (λ v. unsigned_abs v.0 ≤ 10 ^ 16) }
 {
@@ -137,7 +138,7 @@ fn key_of<'a>(
 ) -> Result<KeyBytes<'a>, Bad>
     requires cleaned { names.clean name.now ≡ key_by name.now cleaned.now }
     requires hash { cleaned.now ≡ None → hash ≡ names.fnv1a name.now }
-    ensures key { Gives key_view result (model.named (names.clean name.now)) }
+    ensures key { Gives key_view result (result_map_both (λ key. key) model.BadKey (names.clean name.now)) }
     ensures some { IfOk result (λ k. 0 < length (key_view k)) }
     ensures short { IfOk result (λ k. length (key_view k) ≤ 255) }
     ensures hashed { IfOk result IsHashed }

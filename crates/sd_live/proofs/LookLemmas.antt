@@ -4,13 +4,13 @@ use Rattle.std.specs.Prelude.{slice_get}
 use Rattle.std.specs.List.{last_or}
 use Rattle.sd_live.specs.Looks.{Begins, last_place, NeverFall, HaveAnswered}
 
-get_front : (xs ys : List ℕ) (k x : ℕ) → slice_get xs k ≡ Some x → slice_get (xs ++ ys) k ≡ Some x
-get_front [] ys k x e = absurd (cc)
-get_front (y ∷ xs) ys zero x e = e
-get_front (y ∷ xs) ys (suc k) x e = get_front xs ys k x e
+get_prefix : (xs ys : List ℕ) (k x : ℕ) → slice_get xs k ≡ Some x → slice_get (xs ++ ys) k ≡ Some x
+get_prefix [] ys k x e = absurd (cc)
+get_prefix (y ∷ xs) ys zero x e = e
+get_prefix (y ∷ xs) ys (suc k) x e = get_prefix xs ys k x e
 
 pub begun : (old now : List ℕ) → Begins old now → (k x : ℕ) → slice_get old k ≡ Some x → slice_get now k ≡ Some x
-begun old now b k x e = ap (λ l. slice_get l k) b.1 ∙ get_front old b.0 k x e
+begun old now b k x e = ap (λ l. slice_get l k) b.1 ∙ get_prefix old b.0 k x e
 
 pub last_at : (up : ℕ) (xs : List ℕ) → last_or None xs ≡ Some up → slice_get xs (last_place xs) ≡ Some up
 last_at up [] e = absurd (cc)

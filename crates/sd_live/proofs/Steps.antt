@@ -9,7 +9,7 @@ use Rattle.atomic_table.proofs.Lists.{at_set, at_snoc}
 use Rattle.sd_live.specs.declared.rule.SetView.{SetView}
 use Rattle.sd_live.specs.Looks.{Begins}
 use Rattle.sd_live.proofs.LookLemmas.{begins_itself}
-use Rattle.sd_live.specs.Views.{set_view, first_view, told, nothing, gathered}
+use Rattle.sd_live.specs.Views.{set_view, first_view, informed, nothing, gathered}
 use Rattle.sd_live.specs.Rule.{EachBegins, Fits, InStep, Looked, Published}
 
 -- no pass of which all was moved away publishes
@@ -90,7 +90,7 @@ publishes id v new mine more words views k at =
     )
 
 -- a pass's view is cut in two: it keeps what it had or less, and the other is told what it has seen
-cuts : (id : ℕ) (v left : SetView) → (((published : List ℕ) → Fits published v → Fits published left) × (left.publishes ≡ true → v.publishes ≡ true)) → Forks InStep id v left (told v)
+cuts : (id : ℕ) (v left : SetView) → (((published : List ℕ) → Fits published v → Fits published left) × (left.publishes ≡ true → v.publishes ≡ true)) → Forks InStep id v left (informed v)
 cuts id v left less words views k at =
     let f = k.fits id v at in
     record {
@@ -98,18 +98,18 @@ cuts id v left less words views k at =
       count = k.count;
       newest = k.newest;
       fits = λ j u e. ⊎_elim (set_each (λ _. Fits k.published) views id left (λ j u _. k.fits j u) (less.0 k.published f) j u)
-          (λ same. subst (Fits k.published) same (record { seen = f.seen; joined = tt; own = λ p. absurd (off p) })) (at_snoc (set views id left) (told v) u j e);
+          (λ same. subst (Fits k.published) same (record { seen = f.seen; joined = tt; own = λ p. absurd (off p) })) (at_snoc (set views id left) (informed v) u j e);
       checker = k.checker;
       alone = λ j u e. ⊎_elim (set_each (λ j u. u.publishes ≡ true → j ≡ k.checker) views id left (λ j u _. k.alone j u) (λ p. k.alone id v at (less.1 p)) j u)
-          (λ same p. absurd (off (ap (λ (x : SetView). x.publishes) same ∙ p))) (at_snoc (set views id left) (told v) u j e);
+          (λ same p. absurd (off (ap (λ (x : SetView). x.publishes) same ∙ p))) (at_snoc (set views id left) (informed v) u j e);
     }
 
 -- a new pass
-pub tells : (id : ℕ) (v : SetView) → Forks InStep id v v (told v)
+pub tells : (id : ℕ) (v : SetView) → Forks InStep id v v (informed v)
 tells id v = cuts id v v ((λ published f. f), (λ p. p))
 
 -- all goes to a new pass
-pub moves : (id : ℕ) (v : SetView) → Forks InStep id v nothing (told v)
+pub moves : (id : ℕ) (v : SetView) → Forks InStep id v nothing (informed v)
 moves id v = cuts id v nothing ((λ published f. record { seen = (published, refl); joined = tt; own = λ p. absurd (off p) }), (λ p. absurd (off p)))
 
 -- a pass is joined into another

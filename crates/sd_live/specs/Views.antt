@@ -10,8 +10,8 @@ abbrev pub first_view : SetView
 first_view = set_view true [] [] []
 
 -- a pass that was told what another has seen, and hasn't looked
-abbrev pub told : SetView → SetView
-told v = set_view false v.published [] []
+abbrev pub informed : SetView → SetView
+informed v = set_view false v.published [] []
 
 -- a pass of which all was moved away
 abbrev pub nothing : SetView

@@ -1,5 +1,5 @@
 //! The rule of the cell of sets, and what its steps tell. No value of these types is made.
-ghost use Rattle.sd_live.specs.Views.{first_view, told, nothing, gathered};
+ghost use Rattle.sd_live.specs.Views.{first_view, informed, nothing, gathered};
 ghost use Rattle.sd_live.specs.Rule.{InStep, Looked, Published};
 
 use atomic_table::{Join, Split};
@@ -48,7 +48,7 @@ pub(crate) struct Another;
 impl Split<SetView> for Another {
     ghost left = { λ v. v };
 
-    ghost right = { told };
+    ghost right = { informed };
 }
 
 // All that a pass has seen goes to a new one, which has taken no step.
@@ -57,7 +57,7 @@ pub(crate) struct Whole;
 impl Split<SetView> for Whole {
     ghost left = { λ v. nothing };
 
-    ghost right = { told };
+    ghost right = { informed };
 }
 
 // What another pass had seen is kept.

@@ -105,7 +105,7 @@ impl Counted {
     }
 }
 
-/// The front of a line.
+/// The start of a line.
 fn begun(level: Level, word: &[u8]) -> LogLine {
     let mut line = LogLine::new();
     let level: &[u8] = match level {

@@ -21,7 +21,7 @@ first_fresh left s fresh some first = subst HasNoFaults (sym first) (fresh 0 s s
 -- what is seen of a door with these sessions left
 abbrev pub door_seen : List (MemSource × MemSink) → List Session → ℕ → Option Place → ℕ → Bool → Object
 door_seen left back faults place turns is_out =
-    record { told = Sessions (map session_in left) back; faults = faults; opened_at = place; turns = min turns last_count; is_out = is_out; interval = None }
+    record { content = Sessions (map session_in left) back; faults = faults; opened_at = place; turns = min turns last_count; is_out = is_out; interval = None }
 
 -- it gave its first session
 pub gives_first : (left rest : List (MemSource × MemSink)) (s : MemSource × MemSink) (back : List Session) (faults turns now : ℕ) (place : Option Place) (is_out : Bool) → left ≡ s ∷ rest → HasNoFaults s → now ≡ min (turns + 1) last_count → GivesSession (source.seen_of s.0) (sink.seen_of s.1) (door_seen left back faults place turns is_out) (door_seen rest back faults place now true)

@@ -2,7 +2,7 @@
 use Rattle.std.proofs.Common.{◌≡◌, ℕ, suc, true, ◌-◌, ◌<◌, ◌≤◌, List, [], ◌∷◌, ◌++◌, Option, None, Some, IsNone, unwrap_or, All, length, map, drop, refl, ap, ◌∙◌, arith, length-drop, length-append}
 use Rattle.std.specs.Option.{ForSome, option_map}
 use Rattle.std.proofs.lemmas.List.{map-append, drop-append-le, take-append-le, take_all, drop_at}
-use Rattle.sd_model_outside.specs.Outside.{Told, Rounds, appended, lists_of}
+use Rattle.sd_model_outside.specs.Outside.{Content, Rounds, appended, lists_of}
 use Rattle.sd_memory.specs.declared.round_store.Span.{Span}
 use Rattle.sd_memory.specs.RoundStore.{round_at}
 
@@ -11,8 +11,8 @@ abbrev pub IsWithin : ℕ → Span → Type 0
 IsWithin n span = (span.start ≤ span.end) × (span.end ≤ n)
 
 -- what a store of these parts tells
-abbrev pub told_at : List ℕ → List Span → Option ℕ → Told
-told_at bytes spans open_from = Rounds (map (round_at bytes) spans) (option_map (λ start. drop start bytes) open_from)
+abbrev pub content_at : List ℕ → List Span → Option ℕ → Content
+content_at bytes spans open_from = Rounds (map (round_at bytes) spans) (option_map (λ start. drop start bytes) open_from)
 
 -- a list before what was appended
 round_at-append : (bytes xs : List ℕ) (span : Span) → IsWithin (length bytes) span → round_at (bytes ++ xs) span ≡ round_at bytes span
@@ -29,17 +29,17 @@ map-round_at-append bytes xs (span ∷ spans) within =
     cc
 
 -- a write to the list that is open, or that starts one
-told_at-write : (bytes xs : List ℕ) (spans : List Span) (open_from : Option ℕ) → All (IsWithin (length bytes)) spans → ForSome open_from (λ start. start ≤ length bytes) → 0 < length xs → told_at (bytes ++ xs) spans (Some (unwrap_or open_from (length bytes))) ≡ appended (told_at bytes spans open_from) xs
-told_at-write bytes xs spans (Some start) within fits some =
+content_at-write : (bytes xs : List ℕ) (spans : List Span) (open_from : Option ℕ) → All (IsWithin (length bytes)) spans → ForSome open_from (λ start. start ≤ length bytes) → 0 < length xs → content_at (bytes ++ xs) spans (Some (unwrap_or open_from (length bytes))) ≡ appended (content_at bytes spans open_from) xs
+content_at-write bytes xs spans (Some start) within fits some =
     rw (map-round_at-append bytes xs spans within, drop-append-le start bytes xs (fits start refl)) refl
-told_at-write bytes [] spans None within fits some = absurd (omega arith)
-told_at-write bytes (x ∷ xs) spans None within fits some =
+content_at-write bytes [] spans None within fits some = absurd (omega arith)
+content_at-write bytes (x ∷ xs) spans None within fits some =
     rw (map-round_at-append bytes (x ∷ xs) spans within, drop_at bytes (x ∷ xs) (length bytes) refl) refl
 
 -- the same, where the bytes and the start are known by equations
-pub told_at-append : (now bytes xs : List ℕ) (spans : List Span) (open_from : Option ℕ) (start : ℕ) → now ≡ bytes ++ xs → start ≡ unwrap_or open_from (length bytes) → All (IsWithin (length bytes)) spans → ForSome open_from (λ start. start ≤ length bytes) → 0 < length xs → told_at now spans (Some start) ≡ appended (told_at bytes spans open_from) xs
-told_at-append now bytes xs spans open_from start is from within fits some =
-    rw (is, from) (told_at-write bytes xs spans open_from within fits some)
+pub content_at-append : (now bytes xs : List ℕ) (spans : List Span) (open_from : Option ℕ) (start : ℕ) → now ≡ bytes ++ xs → start ≡ unwrap_or open_from (length bytes) → All (IsWithin (length bytes)) spans → ForSome open_from (λ start. start ≤ length bytes) → 0 < length xs → content_at now spans (Some start) ≡ appended (content_at bytes spans open_from) xs
+content_at-append now bytes xs spans open_from start is from within fits some =
+    rw (is, from) (content_at-write bytes xs spans open_from within fits some)
 
 -- a list behind all others
 round_at-last : (bytes xs : List ℕ) → round_at (bytes ++ xs) (record { start = length bytes; end = length (bytes ++ xs); is_ended = true }) ≡ record { bytes = xs; is_ended = true }

@@ -1,6 +1,6 @@
 -- What a backend in memory has, and what its calls leave.
 use Rattle.std.specs.Prelude.{◌≡◌, ℕ, ◌+◌, ◌<◌, ◌⊎◌, List, Option, IsNone, OnSome, IfNone, length, take, min}
-use Rattle.sd_model_outside.specs.Outside.{Round, Object, begun, ended, fresh, given, telling}
+use Rattle.sd_model_outside.specs.Outside.{BackendText, Object, begun, ended, fresh, given, telling}
 use Rattle.sd_memory.specs.RoundStore as store
 use Rattle.sd_outside.specs.Answers as answers
 use Rattle.sd_memory.specs.MemObject.{SameFailures, content_of, seen_by}
@@ -13,7 +13,7 @@ MemBackend = MemObject ListsGiven
 
 -- what is seen of a backend that was given the lists, was never opened and never failed
 abbrev pub bare : ListsGiven → Object
-bare given = fresh (store.told_by given.store)
+bare given = fresh (store.content_by given.store)
 
 -- what is seen of it
 abbrev pub seen_of : MemBackend → Object
@@ -24,7 +24,7 @@ abbrev pub open_in : MemBackend → Option (List ℕ)
 open_in b = store.open_in (content_of b).store
 
 -- its lists, with the one that is open
-abbrev pub lists_in : MemBackend → List Round
+abbrev pub lists_in : MemBackend → List BackendText
 lists_in b = store.lists_in (content_of b).store
 
 -- how many bytes more it has room for
@@ -49,7 +49,7 @@ pub record Calls : Type 0 where
 abbrev pub calls_of : MemBackend → Calls
 calls_of b = record { openings = b.openings; writes = b.calls; begins = (content_of b).begins; finishes = (content_of b).finishes }
 
--- a write of xs took the n bytes at its front, as many as there was room for and as a write takes
+-- a write of xs took the n bytes at its start, as many as there was room for and as a write takes
 pub record Takes (old new : MemBackend) (xs : List ℕ) (n : ℕ) : Type 0 where
   pub count : n ≡ min (min (length xs) (content_of old).most) (byte_room_in old)
   pub some : 0 < n
@@ -60,13 +60,13 @@ pub record Takes (old new : MemBackend) (xs : List ℕ) (n : ℕ) : Type 0 where
 
 -- a list was started
 pub record Begins (old new : MemBackend) : Type 0 where
-  pub content : seen_of new ≡ telling (begun (seen_of old).told) (seen_of old)
+  pub content : seen_of new ≡ telling (begun (seen_of old).content) (seen_of old)
   pub byte_room : byte_room_in new ≡ byte_room_in old
   pub list_room : list_room_in new + 1 ≡ list_room_in old
 
 -- the open list was ended
 pub record Finishes (old new : MemBackend) : Type 0 where
-  pub content : seen_of new ≡ telling (ended (seen_of old).told) (seen_of old)
+  pub content : seen_of new ≡ telling (ended (seen_of old).content) (seen_of old)
   pub byte_room : byte_room_in new ≡ byte_room_in old
   pub list_room : list_room_in new ≡ list_room_in old
 

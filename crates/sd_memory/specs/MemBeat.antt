@@ -13,7 +13,7 @@ left_of b = drop b.taken b.ticks.items
 abbrev pub seen_of : MemBeat → Object
 seen_of b =
     record {
-      told = Ticks (left_of b);
+      content = Ticks (left_of b);
       faults = min b.faults last_count;
       opened_at = None;
       turns = min b.turns last_count;

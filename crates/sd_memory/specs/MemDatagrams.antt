@@ -26,7 +26,7 @@ bare left = record (fresh (Datagrams (packets_of left))) { turns = min left.turn
 abbrev pub seen_of : MemDatagrams → Object
 seen_of = seen_by bare
 
--- the next datagram was put into the front of a buffer, as n bytes
+-- the next datagram was put into the start of a buffer, as n bytes
 pub record Gives (old new : MemDatagrams) (buf filled : List ℕ) (n : ℕ) : Type 0 where
   pub size : n ≤ most_datagram
   pub content : GivesDatagram (take n filled) (seen_of old) (seen_of new)

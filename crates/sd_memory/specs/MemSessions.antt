@@ -1,7 +1,7 @@
 -- The sessions of a door in memory.
 use Rattle.std.specs.Prelude.{◌≡◌, ℕ, Bool, true, false}
 use Rattle.sd_model_outside.specs.Outside.{Session}
-use Rattle.sd_model_outside.specs.Turns.{session_of}
+use Rattle.sd_model_outside.specs.Uses.{session_of}
 use Rattle.sd_memory.specs.MemSource as source
 use Rattle.sd_memory.specs.MemSource.{MemSource}
 use Rattle.sd_memory.specs.MemSink as sink

@@ -17,7 +17,7 @@ room_in s = store.room_in s.store
 abbrev pub writes_of : MemSink → ℕ
 writes_of s = s.writes
 
--- a write of xs took the n bytes at its front, as many as there was room for and as a write takes
+-- a write of xs took the n bytes at its start, as many as there was room for and as a write takes
 pub record Takes (old new : MemSink) (xs : List ℕ) (n : ℕ) : Type 0 where
   pub count : n ≡ min (min (length xs) old.most) (room_in old)
   pub some : 0 < n

@@ -29,7 +29,7 @@ bare left = fresh (Left (bytes_of left))
 abbrev pub seen_of : MemSource → Object
 seen_of = seen_by bare
 
--- a read put the next n bytes into the front of a buffer, as many as there were, as it had room for, and as a read gives
+-- a read put the next n bytes into the start of a buffer, as many as there were, as it had room for, and as a read gives
 pub record Gives (old new : MemSource) (buf filled : List ℕ) (n : ℕ) : Type 0 where
   pub count : n ≡ min (min (length buf) (length (left_of old))) (most_of old)
   pub within : n ≤ length filled

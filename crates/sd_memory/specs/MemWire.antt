@@ -1,6 +1,6 @@
 -- What a wire in memory has, and what its calls leave.
 use Rattle.std.specs.Prelude.{◌≡◌, ℕ, ◌+◌, ◌<◌, ◌⊎◌, List, length}
-use Rattle.sd_model_outside.specs.Outside.{Object, Packets, fresh, sent}
+use Rattle.sd_model_outside.specs.Outside.{Object, Packets, fresh, telling, with_packet}
 use Rattle.sd_memory.specs.RoundStore as store
 use Rattle.sd_outside.specs.Answers as answers
 use Rattle.sd_memory.specs.MemObject.{content_of, seen_by}
@@ -37,7 +37,7 @@ HasNoRoomFor w len = (byte_room_in w < len) ⊎ (packet_room_in w ≡ 0)
 
 -- a packet was sent
 pub record Sends (old new : MemWire) (packet : List ℕ) : Type 0 where
-  pub content : seen_of new ≡ sent packet (seen_of old)
+  pub content : seen_of new ≡ telling (with_packet (seen_of old).content packet) (seen_of old)
   pub byte_room : byte_room_in new + length packet ≡ byte_room_in old
   pub packet_room : packet_room_in new + 1 ≡ packet_room_in old
 

@@ -1,4 +1,4 @@
-ghost use Rattle.std.specs.Prelude.{◌≤◌, vec_len};
+ghost use Rattle.std.specs.Prelude.{◌≤◌, vec_len, Some};
 ghost use Rattle.std.proofs.Common.{arith};
 
 use crate::calls::next_call_fails;
@@ -44,7 +44,7 @@ impl MemBeat {
 
     /// The ticks that it has left.
     pub fn remaining(&self) -> &[u64]
-        ensures { (⟦<MemBeat as Faulty>⟧.seen self.now).told ≡ Ticks result.now }
+        ensures { (⟦<MemBeat as Faulty>⟧.seen self.now).content ≡ Ticks result.now }
     {
         &self.ticks[self.taken..]
     }
@@ -82,13 +82,12 @@ impl Faulty for MemBeat {
 impl Beat for MemBeat {
     ghost use Rattle.std.specs.Prelude.{◌≡◌};
     ghost use Rattle.sd_outside.specs.Turns.{raised};
-    ghost use Rattle.sd_model_outside.specs.Turns.{with_interval};
     ghost use Rattle.sd_outside.specs.Answers.{Fails, HasEnded, MatchTick};
     ghost use Rattle.sd_outside.specs.Intervals.{interval_view};
     ghost use Rattle.sd_memory.specs.MemBeat.{Gives, IsToFail, calls_of, left_of, seen_of};
 
     fn start(&mut self, interval: Interval)
-        ensures started { seen_of self.new ≡ with_interval (interval_view interval) (seen_of self.old) }
+        ensures started { seen_of self.new ≡ record (seen_of self.old) { interval = Some (interval_view interval) } }
         ensures no_call { calls_of self.new ≡ calls_of self.old }
         ensures failures_stay { self.new.fail_call ≡ self.old.fail_call }
     {

@@ -50,7 +50,7 @@ impl MemDatagrams {
 
     /// The datagrams that it has left.
     pub fn remaining(&self) -> &[Vec<u8>]
-        ensures { (⟦<MemDatagrams as Faulty>⟧.seen self.now).told ≡ Datagrams (map (λ packet. packet.items) result.now) }
+        ensures { (⟦<MemDatagrams as Faulty>⟧.seen self.now).content ≡ Datagrams (map (λ packet. packet.items) result.now) }
     {
         &self.content.packets[self.content.taken..]
     }

@@ -1,5 +1,5 @@
 ghost use Rattle.std.specs.Prelude.{◌≡◌, ◌≤◌, length, vec_len, vec_capacity};
-ghost use Rattle.sd_model_outside.specs.Probes.{first_line_of};
+ghost use Rattle.sd_model_outside.specs.Uses.{first_line_of};
 
 use crate::calls::next_call_fails;
 use arrayvec::ArrayVec;
@@ -115,15 +115,15 @@ impl Faulty for MemProbe {
 
 impl Probe for MemProbe {
     ghost use Rattle.std.specs.Prelude.{◌≡◌, ◌<◌, ◌↔◌, ◌⊎◌, length, OnOk, OnErr, IsErr, Contains, Some, None};
-    ghost use Rattle.sd_model_outside.specs.Outside.{Untold};
+    ghost use Rattle.sd_model_outside.specs.Outside.{Unknown};
     ghost use Rattle.sd_outside.specs.Turns.{raised};
-    ghost use Rattle.sd_model_outside.specs.Probes.{HasAsked, Tells};
+    ghost use Rattle.sd_model_outside.specs.Uses.{HasAsked, Tells};
     ghost use Rattle.sd_memory.specs.MemProbe.{Fails, calls_of, left_of, room_in, seen_of};
     ghost use Rattle.sd_outside.specs.Places.{place_of};
 
     fn ask(&mut self, at: &Address, out: &mut ArrayVec<u8, 1024>) -> Result<(), Failed>
         ensures ok { OnOk result (HasAsked (place_of at.now) (Some out.new.items) (seen_of self.old) (seen_of self.new)) }
-        ensures told { OnOk result (Tells (place_of at.now) (Some out.new.items) (seen_of self.old).told (seen_of self.new).told) }
+        ensures content { OnOk result (Tells (place_of at.now) (Some out.new.items) (seen_of self.old).content (seen_of self.new).content) }
         ensures fails { OnErr result (Fails (place_of at.now) self.old self.new) }
         ensures out { OnErr result (out.new ≡ out.old) }
         ensures cause { IsErr result

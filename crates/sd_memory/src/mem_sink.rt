@@ -47,7 +47,7 @@ impl MemSink {
 
     /// The bytes that it was given.
     pub fn bytes(&self) -> &[u8]
-        ensures { (⟦<MemSink as Faulty>⟧.seen self.now).told ≡ Bytes result.now }
+        ensures { (⟦<MemSink as Faulty>⟧.seen self.now).content ≡ Bytes result.now }
     {
         self.store.as_slice()
     }

@@ -51,7 +51,7 @@ impl MemSource {
 
     /// The bytes that it has left.
     pub fn remaining(&self) -> &[u8]
-        ensures { (⟦<MemSource as Faulty>⟧.seen self.now).told ≡ Left result.now }
+        ensures { (⟦<MemSource as Faulty>⟧.seen self.now).content ≡ Left result.now }
     {
         &self.content.bytes[self.content.taken..]
     }

@@ -30,7 +30,7 @@ impl RoundStore {
     ghost use Rattle.std.specs.Prelude.{◌≡◌, ◌+◌, ◌<◌, ◌≤◌, ◌↔◌, length, IfOk, IsTrue, IsNone, IsSome, OnSome, IfNone, None, Some, [], ◌∷◌, ◌++◌, ◌⊎◌, slice_get};
     ghost use Rattle.std.specs.Option.{option_map};
     ghost use Rattle.sd_model_outside.specs.Outside.{Rounds, appended, begun, ended, lists_of};
-    ghost use Rattle.sd_memory.specs.RoundStore.{round_at, closed, rounds_in, open_in, told_by, lists_in, bytes_of_lists, byte_room_in, list_room_in};
+    ghost use Rattle.sd_memory.specs.RoundStore.{round_at, closed, rounds_in, open_in, content_by, lists_in, bytes_of_lists, byte_room_in, list_room_in};
 
     /// A store with no list, and room for that many bytes and that many lists.
     ///
@@ -38,7 +38,7 @@ impl RoundStore {
     ///
     /// Where no memory is left for the room.
     pub(crate) fn open(alloc: Global, bytes: usize, lists: usize) -> Result<RoundStore, AllocError>
-        ensures empty { IfOk result (λ s. told_by s ≡ Rounds [] None) }
+        ensures empty { IfOk result (λ s. content_by s ≡ Rounds [] None) }
         ensures byte_room { IfOk result (λ s. byte_room_in s ≡ bytes) }
         ensures list_room { IfOk result (λ s. list_room_in s ≡ lists) }
     {
@@ -115,7 +115,7 @@ impl RoundStore {
     /// Starts a list. One that is open stays as it is.
     pub(crate) fn begin(&mut self)
         requires { 0 < list_room_in self.old }
-        ensures told { told_by self.new ≡ begun (told_by self.old) }
+        ensures content { content_by self.new ≡ begun (content_by self.old) }
         ensures byte_room { byte_room_in self.new ≡ byte_room_in self.old }
         ensures list_room { list_room_in self.new + 1 ≡ list_room_in self.old }
     {
@@ -125,7 +125,7 @@ impl RoundStore {
 
     /// Ends the open list. Where none is open it changes nothing.
     pub(crate) fn finish(&mut self)
-        ensures told { told_by self.new ≡ ended (told_by self.old) }
+        ensures content { content_by self.new ≡ ended (content_by self.old) }
         ensures byte_room { byte_room_in self.new ≡ byte_room_in self.old }
         ensures list_room { list_room_in self.new ≡ list_room_in self.old }
     {
@@ -137,7 +137,7 @@ impl RoundStore {
         requires some { 0 < length bytes.now }
         requires byte_room { length bytes.now ≤ byte_room_in self.old }
         requires list_room { IsSome (open_in self.old) ⊎ (0 < list_room_in self.old) }
-        ensures told { told_by self.new ≡ appended (told_by self.old) bytes.now }
+        ensures content { content_by self.new ≡ appended (content_by self.old) bytes.now }
         ensures byte_room { byte_room_in self.new + length bytes.now ≡ byte_room_in self.old }
         ensures list_room { OnSome (open_in self.old) (list_room_in self.new ≡ list_room_in self.old) }
         ensures new_list { IfNone (open_in self.old) (list_room_in self.new + 1 ≡ list_room_in self.old) }

@@ -10,7 +10,8 @@ use Rattle.std.proofs.lemmas.Bool.Decides.{Decides-eqb, nat_tests}
 use Rattle.std.proofs.lemmas.Fmt.{decimal-digits_value, decimal_digit, digits_decimal, digits_value-decimal, first_decimal}
 use Rattle.std.proofs.lemmas.Slice.Eq.{slice_eq-Decides}
 use Rattle.sd_model_text.proofs.Digits.{numerals}
-use Rattle.sd_model_call.specs.Words.{Replay, Serve, Proxy, Drill, drill_form, form, is_file_word, is_number_word, most_packets, packets_in, replay_form, run_form}
+use Rattle.sd_model_call.specs.Call.{Replay, Serve, Proxy, Drill, form, is_file_word, is_number_word, packets_in, run_form}
+use Rattle.sd_model_call.proofs.Short.{drill_form, replay_form, most_packets}
 
 -- a choice that gives something only where its test is passed
 chosen : {A : Type 0} (b : Bool) (x : Option A) (y : A) → (if b then x else None) ≡ Some y → (b ≡ true) × (x ≡ Some y)

@@ -1,24 +1,17 @@
--- The objects of a call, and how they are opened and read before anything is carried out.
-use Rattle.std.specs.Prelude.{◌≡◌, ◌⊎◌, ℕ, zero, suc, ◌+◌, ◌<◌, Bool, List, [], ◌∷◌, ◌++◌, length, map, fold, set, get_or, if◌then◌else◌, Ok, Err}
-use Rattle.sd_model_outside.specs.Outside.{Place, File, Host, Object, Untold, fresh, HasFailed, HasRead, FailedBehind, IsAtEnd, opened}
+-- The objects of a call, and how they are opened and read before anything is executed.
+use Rattle.std.specs.Prelude.{◌≡◌, ◌⊎◌, ℕ, zero, suc, ◌+◌, ◌<◌, Bool, List, [], ◌∷◌, ◌++◌, length, map, fold, set, if◌then◌else◌, Ok, Err}
+use Rattle.sd_model_outside.specs.Outside.{Place, File, Host, Object, HasFailed, HasRead, IsAtEnd, opened, object_at}
 use Rattle.sd_model_settings.specs.Settings.{SettingsFlaw, settings, Settings}
-use Rattle.sd_model_settings.specs.Entries.{Target}
-use Rattle.sd_model_replay.specs.Settings.{targets_of, is_used}
-use Rattle.sd_model_record.specs.WireSends.{wire_at}
-use Rattle.sd_model_replay.specs.AccountingTheorem.{Seen}
+use Rattle.sd_model_replay.specs.{Replay.{targets_of, is_used}, AccountingTheorem.{Seen}}
 use Rattle.sd_model_record.specs.Backends.{Graphite, Console}
 
 -- an object of a call; a receiver's source and a wire by their numbers
 pub data Part : Type 0 where
-  OfSettings : Part
-  OfScript : Part
+  OfSettings OfScript : Part
   OfSource : (i : ℕ) → Part
   OfBeat : Part
   OfWire : (i : ℕ) → Part
-  OfGraphite : Part
-  OfConsole : Part
-  OfDoor : Part
-  OfStreams : Part
+  OfGraphite OfConsole OfDoor OfStreams : Part
 
 -- Which backends are flagged as used.
 pub record Flags : Type 0 where
@@ -36,8 +29,8 @@ pub record Served : Type 0 where
   pub door : Object
   pub streams : Object
 
--- What is seen of a call's objects: the settings, what a replay uses, what a server alone or the proxy uses, and the probe, which is
--- the proxy's alone; and which backends are flagged as used.
+-- What is seen of a call's objects: the settings, what a replay uses, what a server alone or the proxy uses, and the probe, which
+-- is the proxy's alone; and which backends are flagged as used.
 pub record World : Type 0 where
   pub settings : Object
   pub seen : Seen
@@ -49,11 +42,10 @@ pub record World : Type 0 where
 abbrev pub longest_file : ℕ
 longest_file = 65536
 
--- Bytes were read of a settings file, once it was opened, and they decide what it says: it is at its end, or the bytes are
--- more than it may have.
+-- The bytes of an opened settings file that were read decide what it says: it is at its end, or they are more than it may have.
 pub record AreRead (place : Place) (bytes : List ℕ) (old new : Object) : Type 0 where
   pub read : HasRead bytes (opened place old) new
-  pub decided : IsAtEnd new.told ⊎ (longest_file < length bytes)
+  pub decided : IsAtEnd new.content ⊎ (longest_file < length bytes)
 
 -- a settings file has this flaw
 pub record IsFlawed (flaw : SettingsFlaw) (place : Place) (old new : Object) : Type 0 where
@@ -67,29 +59,17 @@ pub record IsAccepted (values : Settings) (place : Place) (old new : Object) : T
   pub read : AreRead place bytes old new
   pub accepted : settings bytes ≡ Ok values
 
--- a read of a settings file failed behind bytes that don't decide yet what it says
-abbrev pub FailsBehind : Place → Object → Object → Type 0
-FailsBehind place old new = FailedBehind (longest_file + 1) (opened place old) new
-
--- a settings file wasn't opened, or it was, and some of its bytes were read
-abbrev pub IsLeftOff : Place → Object → Object → Type 0
-IsLeftOff place old new = (new ≡ old) ⊎ ((bytes : List ℕ) × HasRead bytes (opened place old) new)
-
 -- nothing but the settings changed
 abbrev pub OnlySettings : World → World → Type 0
 OnlySettings old new = new ≡ record old { settings = new.settings }
-
--- what is seen of a source by its number, and of one that isn't there
-abbrev pub source_at : ℕ → List Object → Object
-source_at i sources = get_or sources i (fresh Untold)
 
 -- what is seen of a part
 abbrev pub part_in : World → Part → Object
 part_in world OfSettings = world.settings
 part_in world OfScript = world.seen.script
-part_in world (OfSource i) = source_at i world.served.sources
+part_in world (OfSource i) = object_at i world.served.sources
 part_in world OfBeat = world.served.beat
-part_in world (OfWire i) = wire_at i world.seen.wires
+part_in world (OfWire i) = object_at i world.seen.wires
 part_in world OfGraphite = world.seen.graphite
 part_in world OfConsole = world.seen.console
 part_in world OfDoor = world.served.door
@@ -112,13 +92,9 @@ pub record Opening : Type 0 where
   pub part : Part
   pub place : Place
 
--- once a part was opened at its place
-abbrev pub opened_part : World → Opening → World
-opened_part w o = with_part o.part (opened o.place (part_in w o.part)) w
-
 -- once parts were, in their order
 abbrev pub opened_all : World → List Opening → World
-opened_all w os = fold opened_part w os
+opened_all w os = fold (λ v o. with_part o.part (opened o.place (part_in v o.part)) v) w os
 
 -- parts of one kind, each at its place, with the numbers from this one on
 abbrev pub numbered : (ℕ → Part) → ℕ → List Place → List Opening
@@ -129,10 +105,6 @@ numbered part i (p ∷ places) = record { part = part i; place = p } ∷ numbere
 abbrev pub opening_where : Bool → Opening → List Opening
 opening_where used o = if used then o ∷ [] else []
 
--- where the wire of a target is opened
-abbrev pub target_place : Target → Place
-target_place t = Host t.host t.port
-
 -- places, so many times over
 abbrev pub repeated : ℕ → List Place → List Place
 repeated zero places = []
@@ -140,13 +112,12 @@ repeated (suc n) places = places ++ repeated n places
 
 -- so many runs of wires, each with a wire to each target of the repeater
 abbrev pub wire_openings : ℕ → Settings → List Opening
-wire_openings runs s = numbered OfWire 0 (repeated runs (map target_place (targets_of s)))
+wire_openings runs s = numbered OfWire 0 (repeated runs (map (λ t. Host t.host t.port) (targets_of s)))
 
 -- What the replay of a script opens once the settings are read, in this order: the script; a wire for each target of the repeater;
 -- and Graphite and the console, where they are used, at the empty name.
 abbrev pub replay_openings : List ℕ → Settings → List Opening
-replay_openings script s =
-    record { part = OfScript; place = File script }
+replay_openings script s = record { part = OfScript; place = File script }
     ∷ (wire_openings 1 s
     ++ (opening_where (is_used s Graphite) (record { part = OfGraphite; place = File [] })
     ++ opening_where (is_used s Console) (record { part = OfConsole; place = File [] })))
@@ -154,10 +125,6 @@ replay_openings script s =
 -- A world once settings were read and accepted with these values, and the flags say which backends they name.
 abbrev pub settled : Settings → Object → World → World
 settled values settings w = record w { settings = settings; flags = flags_of values }
-
--- what is seen where the replay of a script begins, by settings that were read and accepted
-abbrev pub started : List ℕ → Settings → World → Seen
-started script s w = (opened_all w (replay_openings script s)).seen
 
 -- Some of these parts were opened, in their order, and nothing else that is seen changed.
 pub record IsPartlyOpened (parts : List Opening) (old new : World) : Type 0 where

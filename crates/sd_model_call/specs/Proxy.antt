@@ -1,22 +1,13 @@
 -- What the program answers where it is asked for the proxy, and what was done by then.
-use Rattle.std.specs.Prelude.{◌≡◌, ◌⊎◌, ℕ, ◌+◌, ◌*◌, ◌^◌, ◌==◌, nat_lt, min, false, if◌then◌else◌, List, [], ◌∷◌, ◌++◌, length, map, codes, Option, Some, None, ⊤}
-use Rattle.sd_model_outside.specs.Outside.{Interval, Object, Place, File, Host}
-use Rattle.sd_model_settings.specs.Entries.{Node}
-use Rattle.sd_model_settings.specs.Settings.{Settings, SettingsFlaw, OutOfRange}
-use Rattle.sd_model_serve.specs.Ends.{LoopEnd}
+use Rattle.std.specs.{Prelude.{◌≡◌, ◌⊎◌, ℕ, ◌+◌, ◌*◌, ◌==◌, nat_lt, min, false, if◌then◌else◌, List, [], ◌∷◌, ◌++◌, length, map, codes, Option, Some, None, ⊤, count_by}, Option.{is_none}}
+use Rattle.sd_model_outside.specs.Outside.{Object, File, Host}
+use Rattle.sd_model_settings.specs.{Entries.{Node}, Settings.{Settings, SettingsFlaw, OutOfRange}}
+use Rattle.sd_model_shard.specs.Shard.{last_number}
+use Rattle.sd_model_serve.specs.Receiving.{LoopEnd}
 use Rattle.sd_model_record.specs.Totals.{totals_text}
 use Rattle.sd_model_proxy.specs.Relays.{Relay, relays_totals}
-use Rattle.sd_model_live.specs.Checks.{Check, failed_in}
-use Rattle.sd_model_live.specs.Port.{has_port}
-use Rattle.sd_model_live.specs.Proxy.{ProxyObjects, ProxyTheorem}
-use Rattle.sd_model_call.specs.Words.{Form, Proxy}
-use Rattle.sd_model_call.specs.Opening.{Opening, OfDoor, OfWire, World, IsAccepted, OnlySettings, numbered, opening_where, repeated, settled}
-use Rattle.sd_model_call.specs.Call.{Answer, Misset, NotBegun, NotTaken, WritesTotals}
-use Rattle.sd_model_call.specs.Server.{begun_with, ends_answer, has_streams, source_openings, stream_openings}
-
--- where the wire of a node is opened
-abbrev pub node_place : Node → Place
-node_place n = Host n.host n.port
+use Rattle.sd_model_live.specs.{Proxy.{Check, ProxyObjects, ProxyTheorem, answers_of}, Port.{has_port}}
+use Rattle.sd_model_call.specs.{Call.{Form, Proxy, Answer, Misset, NotBegun, NotTaken, WritesTotals}, Opening.{Opening, OfDoor, OfWire, World, IsAccepted, OnlySettings, numbered, opening_where, repeated, settled}, Server.{begun_with, ends_answer, has_streams, source_openings, stream_openings}}
 
 -- the door of the proxy's port, where it has one
 abbrev pub port_openings : Settings → List Opening
@@ -26,13 +17,12 @@ port_openings s = opening_where (has_port s) (record { part = OfDoor; place = Ho
 abbrev pub line_readers : Settings → ℕ
 line_readers s = if has_streams s then 1 else 0
 
--- a source for each receiver, as a server has; and a run of wires, with a wire to each node, for each receiver and for the reader of
--- lines, where there is one
+-- a source for each receiver, and a run of wires, one to each node, for each receiver and for the reader of lines, if there is one
 abbrev pub relay_openings : Settings → List Opening
-relay_openings s = source_openings s ++ numbered OfWire 0 (repeated (s.sizes.receivers + line_readers s) (map node_place s.lists.nodes))
+relay_openings s = source_openings s ++ numbered OfWire 0 (repeated (s.sizes.receivers + line_readers s) (map (λ n. Host n.host n.port) s.lists.nodes))
 
--- What the proxy opens once the settings are read, in this order: what its receivers use; the door of lines, where they have a port;
--- and the door of its own port, where it has one, which comes last: where it is open, all parts of the proxy are.
+-- What the proxy opens once the settings are read, in this order: what its receivers use; the door of lines, where they have a
+-- port; and the door of its own port, where it has one, which comes last: where it is open, all parts of the proxy are.
 abbrev pub proxy_openings : Settings → List Opening
 proxy_openings s = relay_openings s ++ (stream_openings s ++ port_openings s)
 
@@ -41,24 +31,11 @@ abbrev pub proxy_objects : World → ProxyObjects
 proxy_objects w =
     record { sources = w.served.sources; wires = w.seen.wires; lines = w.served.streams; beat = w.served.beat; probe = w.probe; door = w.served.door }
 
--- how far the checks of a proxy are apart
-abbrev pub check_interval : Settings → Interval
-check_interval s = record { ms = s.sizes.check_interval; is_aligned = false }
-
--- once all parts of the proxy were opened, and the beat was started with the interval of its checks
-abbrev pub proxy_begun : Settings → World → World
-proxy_begun s w = begun_with (proxy_openings s) (check_interval s) w
-
--- how many wires the proxy has at most
-abbrev pub most_wires : ℕ
-most_wires = 256
-
--- what keeps the proxy from values that were accepted: they name no node, or their receivers, with the reader of lines, have more wires
--- to the nodes than there may be
+-- what keeps the proxy from accepted values: they name no node, or want more than 256 wires to the nodes
 abbrev pub proxy_flaw : Settings → Option SettingsFlaw
 proxy_flaw s =
     if length s.lists.nodes == 0 then Some (OutOfRange (codes "nodes"))
-    else (if nat_lt most_wires ((s.sizes.receivers + line_readers s) * length s.lists.nodes) then Some (OutOfRange (codes "receivers")) else None)
+    else (if nat_lt 256 ((s.sizes.receivers + line_readers s) * length s.lists.nodes) then Some (OutOfRange (codes "receivers")) else None)
 
 -- Settings were read and accepted, but this keeps the proxy from them. Nothing else was opened.
 pub record IsUnfit (name : List ℕ) (flaw : SettingsFlaw) (old new : World) : Type 0 where
@@ -72,18 +49,14 @@ pub record ProxyNotBegun (name : List ℕ) (answer : Answer) (old new : World) :
   pub not_begun : NotBegun proxy_openings name answer old new
   pub fits : proxy_flaw not_begun.values ≡ None
 
--- how a proxy is answered whose receivers and whose checker ended so, and whose totals could be written
-abbrev pub proxy_answer : List Relay → LoopEnd → Answer
-proxy_answer relays checker_ended = ends_answer (map (λ r. r.ended) relays) checker_ended []
-
--- the text of its totals: those of its receivers and its reader of lines, added up, the number of checks, and that of the questions that failed, up to 2^63
+-- the text of its totals: those of its receivers and its reader of lines, added up, the number of checks, and that of the questions
+-- that failed, up to 2^63
 abbrev pub relay_text : List Node → List Relay → List Check → List ℕ
 relay_text nodes relays checks =
-    totals_text (relays_totals nodes relays ++ (codes "checks", length checks) ∷ (codes "probe_faults", min (failed_in checks) (2 ^ 63)) ∷ [])
+    totals_text (relays_totals nodes relays ++ (codes "checks", length checks) ∷ (codes "probe_faults", min (count_by is_none (answers_of checks)) last_number) ∷ [])
 
--- The proxy of settings that were read and accepted was begun, and its theorem holds of what its receivers, its reader of lines and its
--- checker did; its totals were written, and the answer says how receivers and checker ended, or that the output failed. Nothing else
--- that is seen changed.
+-- The proxy of accepted settings was begun, and its theorem holds of what its workers did. Its totals were written, and the answer
+-- says how receivers and checker ended, or that the output failed. Nothing else that is seen changed.
 pub record HasProxied (name : List ℕ) (answer : Answer) (old new : World) : Type 0 where
   pub values : Settings
   pub settings : Object
@@ -91,12 +64,12 @@ pub record HasProxied (name : List ℕ) (answer : Answer) (old new : World) : Ty
   pub fits : proxy_flaw values ≡ None
   pub relays : List Relay
   pub count : length relays ≡ values.sizes.receivers
-  pub lined : List Relay
-  pub one : length lined ≡ line_readers values
+  pub line_relays : List Relay
+  pub one : length line_relays ≡ line_readers values
   pub checks : List Check
   pub checker_ended : LoopEnd
-  pub theorem : ProxyTheorem values relays lined checks checker_ended (proxy_objects (proxy_begun values (settled values settings old))) (proxy_objects new)
-  pub written : WritesTotals (relay_text values.lists.nodes (relays ++ lined) checks) (proxy_answer relays checker_ended) answer old.seen.output new.seen.output
+  pub theorem : ProxyTheorem values relays line_relays checks checker_ended (proxy_objects (begun_with (proxy_openings values) (record { ms = values.sizes.check_interval; is_aligned = false }) (settled values settings old))) (proxy_objects new)
+  pub written : WritesTotals (relay_text values.lists.nodes (relays ++ line_relays) checks) (ends_answer (map (λ r. r.ended) relays) checker_ended []) answer old.seen.output new.seen.output
   pub others : new ≡ record (settled values settings old) {
     seen = record old.seen { wires = new.seen.wires; output = new.seen.output };
     served = record old.served { sources = new.served.sources; beat = new.served.beat; door = new.served.door; streams = new.served.streams };

@@ -1,20 +1,13 @@
 -- What a server opens and begins with, what the program answers where it is asked to serve, and what was done by then.
-use Rattle.std.specs.Prelude.{◌≡◌, ◌⊎◌, ℕ, ◌+◌, nat_lt, Bool, true, false, List, [], ◌∷◌, ◌++◌, length, codes, map, min, if◌then◌else◌, Option, Some, ⊤}
-use Rattle.std.specs.List.{list_any}
-use Rattle.sd_model_outside.specs.Outside.{File, Host, Datagrams, Interval, Object, last_count}
-use Rattle.sd_model_outside.specs.Deliveries.{missed}
-use Rattle.sd_model_outside.specs.Turns.{with_interval}
+use Rattle.std.specs.{Prelude.{◌≡◌, ◌⊎◌, ℕ, ◌+◌, nat_lt, Bool, true, false, List, [], ◌∷◌, ◌++◌, length, codes, map, min, if◌then◌else◌, Option, Some, ⊤}, List.{list_any}}
+use Rattle.sd_model_outside.specs.{Outside.{File, Host, Datagrams, Interval, Object, last_count}, Uses.{missed}}
 use Rattle.sd_model_settings.specs.Settings.{plan_of, names_of, Settings}
 use Rattle.sd_model_shard.specs.History.{state_after}
-use Rattle.sd_model_record.specs.Backends.{Backend, Graphite, Console}
-use Rattle.sd_model_serve.specs.Ends.{LoopEnd, Failed, WornOut, most_turns}
-use Rattle.sd_model_run.specs.Run.{Course, Terms, Objects, ServerTheorem}
-use Rattle.sd_model_replay.specs.Settings.{is_used, limits_of, policy_of, targets_of}
-use Rattle.sd_model_record.specs.Totals.{Total, totals_of, totals_text}
-use Rattle.sd_model_replay.specs.Totals.{summed}
-use Rattle.sd_model_call.specs.Words.{Form, Serve}
-use Rattle.sd_model_call.specs.Opening.{Opening, OfSource, OfBeat, OfGraphite, OfConsole, OfDoor, OfStreams, World, IsAccepted, flags_of, numbered, opened_all, opening_where, repeated, settled, wire_openings}
-use Rattle.sd_model_call.specs.Call.{Answer, Done, NotRead, Worn, NotBegun, NotTaken, WritesTotals}
+use Rattle.sd_model_record.specs.{Backends.{Backend, Graphite, Console}, Totals.{Total, totals_of, totals_text}}
+use Rattle.sd_model_serve.specs.Receiving.{LoopEnd, Failed, LimitReached, most_turns}
+use Rattle.sd_model_run.specs.Run.{ServerTrace, RunSettings, Objects, ServerTheorem}
+use Rattle.sd_model_replay.specs.{Replay.{is_used, limits_of, policy_of, targets_of}, AccountingTheorem.{summed}}
+use Rattle.sd_model_call.specs.{Call.{Form, Serve, Answer, Done, NotRead, Worn, NotBegun, NotTaken, WritesTotals}, Opening.{Opening, OfSource, OfBeat, OfGraphite, OfConsole, OfDoor, OfStreams, World, IsAccepted, flags_of, numbered, opened_all, opening_where, repeated, settled, wire_openings}}
 
 -- a source for each receiver, at the address that the server listens at, with the room that the settings ask for
 abbrev pub source_openings : Settings → List Opening
@@ -23,10 +16,6 @@ source_openings s = numbered OfSource 0 (repeated s.sizes.receivers (Datagrams s
 -- whether lines of streams are read: where they have a port
 abbrev pub has_streams : Settings → Bool
 has_streams s = nat_lt 0 s.transport.tcp_port
-
--- whether there are outlets before the backends
-abbrev pub has_outlets : Settings → Bool
-has_outlets s = nat_lt 0 s.transport.outlets
 
 -- the door of streams, where it is used
 abbrev pub stream_openings : Settings → List Opening
@@ -50,8 +39,8 @@ server_openings s =
     ++ door_openings s)))
 
 -- what a server goes by, as a file's settings say it
-abbrev pub serves_by : Settings → Terms
-serves_by s =
+abbrev pub run_settings_of : Settings → RunSettings
+run_settings_of s =
     record {
       limits = limits_of s;
       policy = policy_of s;
@@ -76,20 +65,12 @@ objects_in w = record { sources = w.served.sources; wires = w.seen.wires; beat =
 
 -- once these parts were opened, in their order, and then the beat was started, once, with this interval
 abbrev pub begun_with : List Opening → Interval → World → World
-begun_with parts interval w = let all = opened_all w parts in record all { served = record all.served { beat = with_interval interval all.served.beat } }
-
--- how far the flushes of a server are apart, and whether they come at multiples of that of the clock
-abbrev pub flush_interval : Settings → Interval
-flush_interval s = record { ms = s.server.flush_interval; is_aligned = s.transport.align_flushes }
-
--- once all parts of a server were opened, and the beat was started with the interval of the settings
-abbrev pub begun : Settings → World → World
-begun s w = begun_with (server_openings s) (flush_interval s) w
+begun_with parts interval w = let all = opened_all w parts in record all { served = record all.served { beat = record all.served.beat { interval = Some interval } } }
 
 -- a loop that took the most turns
-abbrev pub is_worn : LoopEnd → Bool
-is_worn (WornOut turns) = true
-is_worn ended = false
+abbrev pub reached_limit : LoopEnd → Bool
+reached_limit (LimitReached turns) = true
+reached_limit ended = false
 
 -- what is answered by the receiver of least number that failed, the first of these having this number; where none did, this
 abbrev pub by_receivers : ℕ → List LoopEnd → Answer → Answer
@@ -102,43 +83,31 @@ abbrev pub by_beat : LoopEnd → Answer → Answer
 by_beat Failed other = NotRead OfBeat
 by_beat ended other = other
 
--- what is answered by the turns that loops took which ended so: one took the most, or all was done
-abbrev pub turns_answer : List LoopEnd → Answer
-turns_answer ends = if list_any is_worn ends then Worn most_turns else Done
-
 -- What is answered after a run whose receivers ended so, and the worker of the beat, and the others, and whose totals could be
--- written: the receiver of least number that failed, then the beat, then a loop that took the most turns, and else that all was done.
+-- written: the receiver of least number that failed, then the beat, then a loop that took the most turns, and else that all was
+-- done.
 abbrev pub ends_answer : (receivers : List LoopEnd) → (ticker : LoopEnd) → (others : List LoopEnd) → Answer
-ends_answer receivers ticker others = by_receivers 0 receivers (by_beat ticker (turns_answer (receivers ++ ticker ∷ others)))
+ends_answer receivers ticker others = by_receivers 0 receivers (by_beat ticker (if list_any reached_limit (receivers ++ ticker ∷ others) then Worn most_turns else Done))
 
--- what is answered after this run
-abbrev pub run_answer : Course → Answer
-run_answer c = ends_answer (map (λ r. r.ended) c.receptions) c.flusher_ended (c.keeper_ended ∷ map (λ l. l.ended) c.linings)
-
--- how many of the texts that went through a backend's outlet were missed, up to the last count
-abbrev pub outlet_faults : Backend → Course → ℕ
-outlet_faults back c = min (missed (c.outflows back).queued) last_count
-
--- the totals of a run: of its shards and its desk, with what was missed of texts that went through outlets, and behind them how many
+-- the totals of a run: of its shards and its desk, with what was missed of texts that went through outlets, and after them how many
 -- texts each outlet skipped, where there are outlets
-abbrev pub run_totals : Settings → Course → List Total
+abbrev pub run_totals : Settings → ServerTrace → List Total
 run_totals s c =
     totals_of (summed s.sizes.shards (λ i. state_after (limits_of s) (policy_of s) (c.histories i))) (record c.desk.facts {
-      graphite_faults = c.desk.facts.graphite_faults + outlet_faults Graphite c;
-      console_faults = c.desk.facts.console_faults + outlet_faults Console c;
+      graphite_faults = c.desk.facts.graphite_faults + min (missed (c.outlet_traces Graphite).queued) last_count;
+      console_faults = c.desk.facts.console_faults + min (missed (c.outlet_traces Console).queued) last_count;
     })
-    ++ (if has_outlets s then (codes "graphite_skipped", (c.outflows Graphite).skipped) ∷ (codes "console_skipped", (c.outflows Console).skipped) ∷ [] else [])
+    ++ (if nat_lt 0 s.transport.outlets then (codes "graphite_skipped", (c.outlet_traces Graphite).skipped) ∷ (codes "console_skipped", (c.outlet_traces Console).skipped) ∷ [] else [])
 
--- A server by settings that were read and accepted was begun; it ran between then and now, and the accounting theorem holds of its
--- course; its totals were written, and the answer says how its workers ended, or that the output failed. Nothing else that is seen
--- changed.
+-- A server by accepted settings was begun, and the accounting theorem holds of its trace. Its totals were written, and the answer
+-- says how its workers ended, or that the output failed. Nothing else that is seen changed.
 pub record HasServed (name : List ℕ) (says : ℕ → Type 0) (answer : Answer) (old new : World) : Type 0 where
   pub values : Settings
   pub settings : Object
   pub taken : IsAccepted values (File name) old.settings settings
-  pub course : Course
-  pub theorem : (let start = begun values (settled values settings old) in ServerTheorem (serves_by values) says course (objects_in start) (objects_in new))
-  pub written : WritesTotals (totals_text (run_totals values course)) (run_answer course) answer old.seen.output new.seen.output
+  pub trace : ServerTrace
+  pub theorem : (let start = begun_with (server_openings values) (record { ms = values.server.flush_interval; is_aligned = values.transport.align_flushes }) (settled values settings old) in ServerTheorem (run_settings_of values) says trace (objects_in start) (objects_in new))
+  pub written : WritesTotals (totals_text (run_totals values trace)) (ends_answer (map (λ r. r.ended) trace.receiver_traces) trace.flusher_ended (trace.keeper_ended ∷ map (λ l. l.ended) trace.line_traces)) answer old.seen.output new.seen.output
   pub script : new.seen.script ≡ old.seen.script
   pub probe : new.probe ≡ old.probe
   pub flags : new.flags ≡ flags_of values

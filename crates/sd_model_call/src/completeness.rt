@@ -1,5 +1,5 @@
 ghost use Rattle.std.specs.Prelude.{◌≡◌, ◌<◌, ◌≤◌, ℕ, List, [], ◌∷◌, codes, decimal, Some};
-ghost use Rattle.sd_model_call.specs.Words.{Drill, form};
+ghost use Rattle.sd_model_call.specs.Call.{Drill, form};
 
 /// A drill is asked for by just these words: `drill`, and the decimal text of a number from 1 to 100,000.
 pub fn drill_words_are_decimal()

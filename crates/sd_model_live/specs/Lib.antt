@@ -1,4 +1,2 @@
-pub mod Checks
-pub mod Desk
-pub mod Port
 pub mod Proxy
+pub mod Port

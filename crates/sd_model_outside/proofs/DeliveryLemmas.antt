@@ -2,7 +2,7 @@
 use Rattle.std.proofs.Common.{◌≡◌, ◌+◌, ◌≢◌, ℕ, zero, suc, List, [], ◌∷◌, ◌++◌, refl, sym, ap, subst, ◌∙◌, arith}
 use Rattle.std.proofs.lemmas.List.Sums.{sum_by-cons}
 use Rattle.sd_model_outside.specs.Outside.{Object, Used, Rose, RoseBy}
-use Rattle.sd_model_outside.specs.Deliveries.{Mark, NotUsed, Written, Fault, fault_of, Delivery, AfterMark, AfterDeliveries, missed}
+use Rattle.sd_model_outside.specs.Uses.{Mark, NotUsed, Written, Fault, fault_of, Delivery, AfterMark, AfterDeliveries, missed}
 
 -- what flushes do to a backend's count of faults, and that it stays where it was opened
 pub record Counts (n : ℕ) (old new : Object) : Type 0 where
@@ -18,7 +18,7 @@ one_count Written text old new h = same_counts old new 0 refl (ap (λ (o : Objec
 one_count NotUsed text old new h = same_counts old new 0 refl (ap (λ (o : Object). o.faults) h) (ap (λ (o : Object). o.opened_at) h)
 one_count Fault text old new h = record { used = h.used; rose = h.rose; steady = λ none. absurd (omega (arith, none)) }
 
--- one change behind another
+-- one change after another
 pub joined_counts : (n m : ℕ) (old mid new : Object) → Counts n old mid → Counts m mid new → Counts (n + m) old new
 joined_counts n m old mid new first rest = record {
   used = record { faults = omega (arith, first.used.faults, rest.used.faults); opened_at = rest.used.opened_at ∙ first.used.opened_at };

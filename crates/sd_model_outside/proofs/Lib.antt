@@ -3,3 +3,4 @@ pub mod LineWrites
 pub mod OutsideLemmas
 pub mod TurnLemmas
 pub mod WriteLemmas
+pub mod Short

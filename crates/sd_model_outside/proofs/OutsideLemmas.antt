@@ -1,14 +1,14 @@
 -- Laws of what objects tell.
 use Rattle.std.proofs.Common.{◌≡◌, ℕ, ◌+◌, List, [], ◌∷◌, ◌++◌, length, Some, None, refl, sym, ap, ◌∙◌, arith, append_assoc, length-append, min}
-use Rattle.sd_model_outside.specs.Outside.{Told, Untold, Left, Number, Bytes, Buffer, Rounds, Packets, Datagrams, Ticks, Sessions, Replies, Reads, put_back, appended, last_count}
+use Rattle.sd_model_outside.specs.Outside.{Content, Unknown, Left, Number, Bytes, Buffer, Rounds, Packets, Datagrams, Ticks, Sessions, Replies, Reads, put_back, appended, last_count}
 
 -- a count that stops at its end, after two rises
 min-add-min : (n a b : ℕ) → min (min (n + a) last_count + b) last_count ≡ min (n + (a + b)) last_count
 min-add-min n a b = omega arith
 
 -- two writes one after the other are one write
-pub appended-appended : (w : Told) (xs ys : List ℕ) → appended (appended w xs) ys ≡ appended w (xs ++ ys)
-appended-appended Untold xs ys = refl
+pub appended-appended : (w : Content) (xs ys : List ℕ) → appended (appended w xs) ys ≡ appended w (xs ++ ys)
+appended-appended Unknown xs ys = refl
 appended-appended (Left bytes) xs ys = refl
 appended-appended (Number n) xs ys = ap Number (rw length-append (min-add-min n (length xs) (length ys)))
 appended-appended (Bytes zs) xs ys = ap Bytes (append_assoc zs xs ys)
@@ -23,8 +23,8 @@ appended-appended (Sessions left back) xs ys = refl
 appended-appended (Replies left questions) xs ys = refl
 
 -- nothing was read
-pub Reads-nil : (told : Told) → Reads told [] told
-Reads-nil Untold = refl
+pub Reads-nil : (content : Content) → Reads content [] content
+Reads-nil Unknown = refl
 Reads-nil (Left bytes) = refl
 Reads-nil (Number n) = refl
 Reads-nil (Bytes bytes) = refl
@@ -37,8 +37,8 @@ Reads-nil (Sessions left back) = refl
 Reads-nil (Replies left questions) = refl
 
 -- bytes before other bytes before what is left
-pub put_back-append : (xs ys : List ℕ) (told : Told) → put_back xs (put_back ys told) ≡ put_back (xs ++ ys) told
-put_back-append xs ys Untold = refl
+pub put_back-append : (xs ys : List ℕ) (content : Content) → put_back xs (put_back ys content) ≡ put_back (xs ++ ys) content
+put_back-append xs ys Unknown = refl
 put_back-append xs ys (Left rest) = ap Left (sym (append_assoc xs ys rest))
 put_back-append xs ys (Number n) = refl
 put_back-append xs ys (Bytes bytes) = refl
@@ -51,5 +51,5 @@ put_back-append xs ys (Sessions left back) = refl
 put_back-append xs ys (Replies left questions) = refl
 
 -- two texts were read one after the other
-pub Reads-append : (old mid new : Told) (xs ys : List ℕ) → Reads old xs mid → Reads mid ys new → Reads old (xs ++ ys) new
+pub Reads-append : (old mid new : Content) (xs ys : List ℕ) → Reads old xs mid → Reads mid ys new → Reads old (xs ++ ys) new
 Reads-append old mid new xs ys first then = first ∙ ap (put_back xs) then ∙ put_back-append xs ys new

@@ -1,5 +1,2 @@
 pub mod Outside
-pub mod Wires
-pub mod Turns
-pub mod Probes
-pub mod Deliveries
+pub mod Uses

@@ -1,9 +1,9 @@
--- What the program may know of the objects outside it: what they tell of their content, how often they failed, where
--- they were opened, and what else they always tell.
-use Rattle.std.specs.Prelude.{◌≡◌, ℕ, ◌+◌, ◌-◌, ◌^◌, ◌<◌, ◌≤◌, min, take, Bool, true, false, List, [], ◌∷◌, ◌++◌, length, Option, Some, None, IfSome}
+-- What the program may know of the objects outside it: what they tell of their content, how often they failed, where they were
+-- opened, and what else they always tell.
+use Rattle.std.specs.Prelude.{◌≡◌, ℕ, ◌+◌, ◌-◌, ◌^◌, ◌<◌, ◌≤◌, min, take, Bool, true, false, List, [], ◌∷◌, ◌++◌, length, Option, Some, None, IfSome, get_or}
 
--- Where an object is opened: at a file by its name; at a host and a port; or where datagrams come: a host, a port, and
--- how many bytes of room are asked for.
+-- Where an object is opened: at a file by its name; at a host and a port; or where datagrams come: a host, a port, and how many
+-- bytes of room are asked for.
 pub data Place : Type 0 where
   File : (name : List ℕ) → Place
   Host : (host : List ℕ) (port : ℕ) → Place
@@ -13,16 +13,16 @@ pub data Place : Type 0 where
 abbrev pub last_count : ℕ
 last_count = 2 ^ 64 - 1
 
--- a count of faults has risen by n or more, or stands at its end
+-- a count of faults has risen by n or more, or is at its end
 abbrev pub RoseBy : ℕ → ℕ → ℕ → Type 0
 RoseBy n before now = min (before + n) last_count ≤ now
 
--- a count of faults has risen, or stands at its end
+-- a count of faults has risen, or is at its end
 abbrev pub Rose : ℕ → ℕ → Type 0
 Rose before now = RoseBy 1 before now
 
--- one list of bytes that a backend was given, and whether it was ended
-pub record Round : Type 0 where
+-- one text that a backend was given, and whether it was ended
+pub record BackendText : Type 0 where
   pub bytes : List ℕ
   pub is_ended : Bool
 
@@ -36,34 +36,33 @@ pub record Question : Type 0 where
   pub place : Place
   pub is_answered : Bool
 
--- What an object tells of its content: nothing; of a source the bytes that it has left; of a sink how many bytes it was
--- given, up to the last count, or which, and of one with a size that size too; of a backend a list of bytes for each
--- round, those that no write goes to any more and then the open one; of a wire the packets that were sent; of a source of
--- datagrams those that it has left; of a beat the Unix seconds of the flushes that it has left; of a door the sessions
--- that it has left, and those that were given back; of a probe the replies that it has left, and the questions.
-pub data Told : Type 0 where
-  Untold : Told
-  Left : (bytes : List ℕ) → Told
-  Number : (n : ℕ) → Told
-  Bytes : (bytes : List ℕ) → Told
-  Buffer : (size : ℕ) (bytes : List ℕ) → Told
-  Rounds : (rounds : List Round) (open_list : Option (List ℕ)) → Told
-  Packets : (packets : List (List ℕ)) → Told
-  Datagrams : (left : List (List ℕ)) → Told
-  Ticks : (left : List ℕ) → Told
-  Sessions : (left back : List Session) → Told
-  Replies : (left : List (List ℕ)) (questions : List Question) → Told
+-- What an object tells of its content: nothing; of a source the bytes that it has left; of a sink how many bytes it was given, up
+-- to the last count, or which, and of one with a size that size too; of a backend a list of bytes for each round, those that no
+-- write goes to any more and then the open one; of a wire the packets that were sent; of a source of datagrams those that it has
+-- left; of a beat the Unix seconds of the flushes that it has left; of a door the sessions that it has left, and those that were
+-- given back; of a probe the replies that it has left, and the questions.
+pub data Content : Type 0 where
+  Unknown : Content
+  Left : (bytes : List ℕ) → Content
+  Number : (n : ℕ) → Content
+  Bytes : (bytes : List ℕ) → Content
+  Buffer : (size : ℕ) (bytes : List ℕ) → Content
+  Rounds : (rounds : List BackendText) (open_list : Option (List ℕ)) → Content
+  Packets : (packets : List (List ℕ)) → Content
+  Datagrams : (left : List (List ℕ)) → Content
+  Ticks : (left : List ℕ) → Content
+  Sessions : (left back : List Session) → Content
+  Replies : (left : List (List ℕ)) (questions : List Question) → Content
 
 -- How far the ticks of a beat are apart, in milliseconds, and whether they come where the system's clock is at a multiple of that.
 pub record Interval : Type 0 where
   pub ms : ℕ
   pub is_aligned : Bool
 
--- What is seen of an object: what it tells, how often it failed, and where it was last opened, if it was; of a source of
--- datagrams, a beat or a door the turns that it took; of a door whether a session is out; and of a beat the interval of
--- its last start, if it was started.
+-- What is seen of an object: what it tells, how often it failed, and where it was last opened. A source of datagrams, a beat and a
+-- door have turns that they took, a door whether a session is out, and a beat the interval of its last start.
 pub record Object : Type 0 where
-  pub told : Told
+  pub content : Content
   pub faults : ℕ
   pub opened_at : Option Place
   pub turns : ℕ
@@ -71,17 +70,20 @@ pub record Object : Type 0 where
   pub interval : Option Interval
 
 -- an object that takes no turns
-abbrev pub object_of : Told → ℕ → Option Place → Object
-object_of told faults opened_at =
-    record { told = told; faults = faults; opened_at = opened_at; turns = 0; is_out = false; interval = None }
+abbrev pub object_of : Content → ℕ → Option Place → Object
+object_of content faults opened_at = record { content = content; faults = faults; opened_at = opened_at; turns = 0; is_out = false; interval = None }
 
 -- an object that tells this, has never failed, and was neither opened nor started
-abbrev pub fresh : Told → Object
-fresh told = object_of told 0 None
+abbrev pub fresh : Content → Object
+fresh content = object_of content 0 None
+
+-- what is seen of one of several objects by its number, and of one that isn't there
+abbrev pub object_at : ℕ → List Object → Object
+object_at i objects = get_or objects i (fresh Unknown)
 
 -- an object that tells this instead
-abbrev pub telling : Told → Object → Object
-telling told o = record o { told = told }
+abbrev pub telling : Content → Object → Object
+telling content o = record o { content = content }
 
 -- an object that was opened here
 abbrev pub opened : Place → Object → Object
@@ -99,22 +101,22 @@ pub record HasFailed (old new : Object) : Type 0 where
   pub same : new ≡ record old { faults = new.faults }
 
 -- the bytes that a source has left, where it tells them
-abbrev pub left_in : Told → Option (List ℕ)
+abbrev pub left_in : Content → Option (List ℕ)
 left_in (Left bytes) = Some bytes
-left_in told = None
+left_in content = None
 
 -- these bytes before what a source has left
-abbrev pub put_back : List ℕ → Told → Told
+abbrev pub put_back : List ℕ → Content → Content
 put_back bytes (Left rest) = Left (bytes ++ rest)
-put_back bytes told = told
+put_back bytes content = content
 
 -- a source that had old left gave these bytes, and has new left
-abbrev pub Reads : Told → List ℕ → Told → Type 0
+abbrev pub Reads : Content → List ℕ → Content → Type 0
 Reads old bytes new = old ≡ put_back bytes new
 
 -- these bytes were read of a source, and nothing else of it changed
 abbrev pub HasRead : List ℕ → Object → Object → Type 0
-HasRead bytes old new = old ≡ telling (put_back bytes new.told) new
+HasRead bytes old new = old ≡ telling (put_back bytes new.content) new
 
 -- A read of a source failed, once fewer than so many bytes were read of it.
 pub record FailedBehind (most : ℕ) (old new : Object) : Type 0 where
@@ -125,53 +127,49 @@ pub record FailedBehind (most : ℕ) (old new : Object) : Type 0 where
   pub failed : HasFailed before new
 
 -- a source that tells what it has left has nothing left
-abbrev pub IsAtEnd : Told → Type 0
-IsAtEnd told = IfSome (left_in told) (λ bytes. bytes ≡ [])
+abbrev pub IsAtEnd : Content → Type 0
+IsAtEnd content = IfSome (left_in content) (λ bytes. bytes ≡ [])
 
 -- after a write of these bytes, which begins a list where none is open
-abbrev pub appended : Told → List ℕ → Told
+abbrev pub appended : Content → List ℕ → Content
 appended (Number n) xs = Number (min (n + length xs) last_count)
 appended (Bytes ys) xs = Bytes (ys ++ xs)
 appended (Buffer size ys) xs = Buffer size (ys ++ xs)
 appended (Rounds rounds (Some ys)) xs = Rounds rounds (Some (ys ++ xs))
 appended (Rounds rounds None) [] = Rounds rounds None
 appended (Rounds rounds None) (x ∷ xs) = Rounds rounds (Some (x ∷ xs))
-appended told xs = told
+appended content xs = content
 
 -- an object after a write of these bytes
 abbrev pub given : List ℕ → Object → Object
-given bytes o = telling (appended o.told bytes) o
+given bytes o = telling (appended o.content bytes) o
 
--- a front of the bytes was appended, and not all of them
-abbrev pub AppendsFront : Told → List ℕ → Told → Type 0
-AppendsFront old bytes new = (n : ℕ) × (n < length bytes) × (new ≡ appended old (take n bytes))
+-- a prefix of the bytes was appended, and not all of them
+abbrev pub AppendsPrefix : Content → List ℕ → Content → Type 0
+AppendsPrefix old bytes new = (n : ℕ) × (n < length bytes) × (new ≡ appended old (take n bytes))
 
--- An object was used and failed, once it was given a front of these bytes, and not all of them.
+-- An object was used and failed, once it was given a prefix of these bytes, and not all of them.
 pub record HasFailedBehind (bytes : List ℕ) (old new : Object) : Type 0 where
   pub used : Used old new
   pub rose : Rose old.faults new.faults
-  pub front : AppendsFront old.told bytes new.told
+  pub prefix : AppendsPrefix old.content bytes new.content
 
 -- the lists of a backend, with one that is open
-abbrev pub lists_of : List Round → Option (List ℕ) → List Round
+abbrev pub lists_of : List BackendText → Option (List ℕ) → List BackendText
 lists_of rounds None = rounds
 lists_of rounds (Some bytes) = rounds ++ record { bytes = bytes; is_ended = false } ∷ []
 
--- after `begin`, which leaves an open list as it stands
-abbrev pub begun : Told → Told
+-- after `begin`, which leaves an open list as it is
+abbrev pub begun : Content → Content
 begun (Rounds rounds open_list) = Rounds (lists_of rounds open_list) (Some [])
-begun told = told
+begun content = content
 
 -- after `finish`, which ends the open list, if there is one
-abbrev pub ended : Told → Told
+abbrev pub ended : Content → Content
 ended (Rounds rounds (Some bytes)) = Rounds (rounds ++ record { bytes = bytes; is_ended = true } ∷ []) None
-ended told = told
+ended content = content
 
 -- after this packet was sent
-abbrev pub with_packet : Told → List ℕ → Told
+abbrev pub with_packet : Content → List ℕ → Content
 with_packet (Packets packets) packet = Packets (packets ++ packet ∷ [])
-with_packet told packet = told
-
--- an object after this packet was sent
-abbrev pub sent : List ℕ → Object → Object
-sent packet o = telling (with_packet o.told packet) o
+with_packet content packet = content

@@ -1,6 +1,6 @@
 ghost use Rattle.std.specs.Prelude.{◌≡◌, ◌≢◌, ℕ, List};
 ghost use Rattle.sd_model_outside.specs.Outside.{Object, Rose};
-ghost use Rattle.sd_model_outside.specs.Deliveries.{AfterDeliveries, AfterMark, Delivery, Mark, NotUsed, Written, missed};
+ghost use Rattle.sd_model_outside.specs.Uses.{AfterDeliveries, AfterMark, Delivery, Mark, NotUsed, Written, missed};
 
 /// No fault, no failure. Of a flush: where a backend is used and its count of faults doesn't rise in that flush, the
 /// flush is marked as written. Of several: where the count doesn't rise, none is missed.

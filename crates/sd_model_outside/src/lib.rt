@@ -10,5 +10,5 @@ mod outside;
 mod turns;
 
 pub use deliveries::no_fault_no_failure;
-pub use outside::{fronts_join, reads_join, whole_round, writes_join};
+pub use outside::{prefixes_join, reads_join, whole_round, writes_join};
 pub use turns::steps_join;

@@ -1,31 +1,31 @@
 ghost use Rattle.std.specs.Prelude.{◌≡◌, ℕ, ◌+◌, List, [], ◌∷◌, ◌++◌, length, Option, min, true};
-ghost use Rattle.sd_model_outside.specs.Outside.{AppendsFront, Round, Told, Untold, Number, Bytes, Rounds, Reads, appended, begun, ended, lists_of, last_count};
+ghost use Rattle.sd_model_outside.specs.Outside.{AppendsPrefix, BackendText, Content, Unknown, Number, Bytes, Rounds, Reads, appended, begun, ended, lists_of, last_count};
 
 /// Two writes one after the other are one write.
 pub fn writes_join()
-    ensures { (w : Told) (xs ys : List ℕ) → appended (appended w xs) ys ≡ appended w (xs ++ ys) }
+    ensures { (w : Content) (xs ys : List ℕ) → appended (appended w xs) ys ≡ appended w (xs ++ ys) }
 {}
 
 /// `begin`, the writes of a text and `finish` add one ended list, which is that text. A list that was open
 /// stays before it, not ended.
 pub fn whole_round()
-    ensures rounds { (rounds : List Round) (open_list : Option (List ℕ)) (text : List ℕ)
+    ensures rounds { (rounds : List BackendText) (open_list : Option (List ℕ)) (text : List ℕ)
         → ended (appended (begun (Rounds rounds open_list)) text)
         ≡ Rounds (lists_of rounds open_list ++ record { bytes = text; is_ended = true } ∷ []) None }
     ensures bytes { (ys text : List ℕ) → ended (appended (begun (Bytes ys)) text) ≡ Bytes (ys ++ text) }
     ensures number { (n : ℕ) (text : List ℕ)
         → ended (appended (begun (Number n)) text) ≡ Number (min (n + length text) last_count) }
-    ensures untold { (text : List ℕ) → ended (appended (begun Untold) text) ≡ Untold }
+    ensures unknown { (text : List ℕ) → ended (appended (begun Unknown) text) ≡ Unknown }
 {}
 
 /// Two reads one after the other are one read.
 pub fn reads_join()
-    ensures { (old mid new : Told) (xs ys : List ℕ) → Reads old xs mid → Reads mid ys new → Reads old (xs ++ ys) new }
+    ensures { (old mid new : Content) (xs ys : List ℕ) → Reads old xs mid → Reads mid ys new → Reads old (xs ++ ys) new }
 {}
 
 /// What a write of two texts one after the other leaves, where one of the two fails.
-pub fn fronts_join()
-    ensures longer { (w v : Told) (xs ys : List ℕ) → AppendsFront w xs v → AppendsFront w (xs ++ ys) v }
-    ensures later { (w v : Told) (xs ys : List ℕ)
-        → AppendsFront (appended w xs) ys v → AppendsFront w (xs ++ ys) v }
+pub fn prefixes_join()
+    ensures longer { (w v : Content) (xs ys : List ℕ) → AppendsPrefix w xs v → AppendsPrefix w (xs ++ ys) v }
+    ensures later { (w v : Content) (xs ys : List ℕ)
+        → AppendsPrefix (appended w xs) ys v → AppendsPrefix w (xs ++ ys) v }
 {}

@@ -5,8 +5,8 @@ use Rattle.std.proofs.lemmas.List.Concat.{flat_map-append}
 use Rattle.std.proofs.lemmas.List.Elements.{All-nil, All-cons}
 use Rattle.std.proofs.lemmas.List.Folds.{flat_map-map}
 use Rattle.sd_model_settings.specs.Entries.{Node}
-use Rattle.sd_model_proxy.specs.Batches.{AreBatched, Batch, Batched, batches, batches_from, fits, joined}
-use Rattle.sd_model_proxy.specs.Routes.{Read, lines_to}
+use Rattle.sd_model_proxy.specs.Routes.{AreBatched, Batch, Batched, batches, batches_from, joined, Read}
+use Rattle.sd_model_proxy.proofs.Short.{fits, lines_to}
 
 -- the lines of packets
 abbrev pub lines_in : List (List (List ℕ)) → List (List ℕ)

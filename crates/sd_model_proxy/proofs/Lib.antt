@@ -1,3 +1,4 @@
+pub mod Short
 pub mod RouteLemmas
 pub mod BatchLemmas
 pub mod SendLemmas

@@ -3,7 +3,8 @@ use Rattle.std.proofs.Common.{◌≡◌, ◌≢◌, ◌↔◌, ℕ, ◌<◌, fal
 use Rattle.sd_model_settings.specs.Entries.{Node}
 use Rattle.sd_model_ring.specs.Ring.{is_up, owner}
 use Rattle.sd_model_ring.proofs.Owners.{owner-node, owner-up, owner-none, none-owner}
-use Rattle.sd_model_proxy.specs.Routes.{Bad, Unowned, To, key_of_line, route, route_of_key, to_owner}
+use Rattle.sd_model_proxy.specs.Routes.{Bad, Unowned, To, key_of_line, route}
+use Rattle.sd_model_proxy.proofs.Short.{to_owner, route_of_key}
 
 to_owner-to : (o : Option ℕ) (place : ℕ) → to_owner o ≡ To place → o ≡ Some place
 to_owner-to None place goes = cc

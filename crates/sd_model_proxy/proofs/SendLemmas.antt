@@ -1,13 +1,14 @@
--- Packets to nodes, some behind others, and their sends on wires.
+-- Packets to nodes, some after others, and their sends on wires.
 use Rattle.std.proofs.Common.{◌≡◌, ◌≢◌, ◌∙◌, ℕ, ◌<◌, Bool, true, false, cond, List, [], ◌∷◌, ◌++◌, length, map, refl, sym, ap, subst, arith, set, get_or, eq-eqb, ne_eqb}
 use Rattle.std.specs.Prelude.{◌==◌}
 use Rattle.std.proofs.lemmas.List.{map-append, length-set, get_or-set_same, set-get_or, set-set}
 use Rattle.sd_model_outside.specs.Outside.{Object}
-use Rattle.sd_model_record.specs.WireSends.{AfterSends, AfterSendsOn, WireSend}
+use Rattle.sd_model_outside.specs.Uses.{AfterSends, AfterSendsOn, WireSend}
 use Rattle.sd_model_record.proofs.WireLemmas.{AfterSendsOn-next, AfterSendsOn-none, AfterSendsOn-one}
-use Rattle.sd_model_proxy.specs.Batches.{AreForwarded, Batch, Batched, send_of}
+use Rattle.sd_model_proxy.specs.Routes.{Batch, Batched, send_of}
+use Rattle.sd_model_proxy.proofs.Short.{AreForwarded}
 
--- packets, and behind them others to the same nodes
+-- packets, and after them others to the same nodes
 abbrev pub behind : Batched → Batched → Batched
 behind first second = λ place. first place ++ second place
 
@@ -21,7 +22,7 @@ only-here place batches = ap (λ here. cond here batches []) (eq-eqb place place
 pub only-elsewhere : (place : ℕ) (batches : List Batch) (at : ℕ) → at ≢ place → only place batches at ≡ []
 only-elsewhere place batches at other = ap (λ here. cond here batches []) (ne_eqb place at (λ same. other (sym same)))
 
--- sends behind sends
+-- sends after sends
 pub AreForwarded-next : (first second : Batched) (old mid new : List Object) → AreForwarded first old mid → AreForwarded second mid new → AreForwarded (behind first second) old new
 AreForwarded-next first second old mid new sends more =
     AfterSendsOn-next (λ place. map send_of (first place)) (λ place. map send_of (second place)) (λ place. map send_of (first place ++ second place)) old mid new (λ place. map-append send_of (first place) (second place)) sends more

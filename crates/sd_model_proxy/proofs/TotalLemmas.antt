@@ -1,4 +1,4 @@
--- What lines and packets count for: each line was bad, had no owner, or stands in one packet.
+-- What lines and packets count for: each line was bad, had no owner, or is in one packet.
 use Rattle.std.proofs.Common.{◌≡◌, ◌∙◌, ℕ, zero, suc, ◌+◌, ◌<◌, ◌≤◌, Bool, true, false, cond, List, [], ◌∷◌, ◌++◌, length, map, flat_map, codes, refl, sym, ap, arith, length-append, sum_by, eq-eqb, ne_eqb}
 use Rattle.std.specs.Prelude.{count_by}
 use Rattle.std.specs.List.{AllByRecursion, range_with_len}
@@ -6,13 +6,14 @@ use Rattle.std.specs.Str.{bytes_eq}
 use Rattle.std.proofs.lemmas.List.Concat.{length-flat_map}
 use Rattle.std.proofs.lemmas.List.Sums.{length-filter, sum_by-append, sum_by-cons}
 use Rattle.sd_model_settings.specs.Entries.{Node}
-use Rattle.sd_model_record.specs.Desk.{counted, last_counted}
+use Rattle.sd_model_record.specs.Desk.{counted}
 use Rattle.sd_model_record.specs.Totals.{Total, number_in}
-use Rattle.sd_model_proxy.specs.Batches.{AreBatched, Batch, Batched, add_totals, lines_not_sent, lines_sent, long_in, no_totals, over_nodes, sums_of_totals, totals_by}
-use Rattle.sd_model_proxy.specs.Routes.{Bad, Read, Route, To, Unowned, goes_to, is_bad, is_unowned, lines_to, route, routes_of}
+use Rattle.sd_model_proxy.specs.Routes.{AreBatched, Batch, Batched, add_totals, lines_not_sent, lines_sent, no_totals, over_nodes, sums_of_totals, totals_by, Bad, Read, Route, To, Unowned, goes_to, is_bad, is_unowned, route}
 use Rattle.sd_model_proxy.proofs.BatchLemmas.{packets-lines}
 use Rattle.sd_model_proxy.proofs.RouteLemmas.{goes-node}
 use Rattle.sd_model_proxy.proofs.SendLemmas.{behind, only, only-elsewhere, only-here}
+use Rattle.sd_model_proxy.proofs.Short.{long_in, routes_of, lines_to}
+use Rattle.sd_model_shard.specs.Shard.{last_number}
 
 pub both_sums : {X : Type 0} (f g h : X → ℕ) → ((x : X) → h x ≡ f x + g x) → (xs : List X) → sum_by h xs ≡ sum_by f xs + sum_by g xs
 both_sums f g h both [] = refl
@@ -120,14 +121,14 @@ pub all_fates : (most : ℕ) (nodes : List Node) (reads : List Read) (batched : 
 all_fates most nodes reads batched are = omega (arith, all_ends (routes_of nodes reads), all_packed most nodes reads batched are)
 
 -- a number of lines that hasn't reached the last count is the sum of its parts
-pub counted_fates : (n a b c d : ℕ) → n ≡ a + b + c + d → counted 0 n < last_counted → counted 0 n ≡ counted 0 a + counted 0 b + counted 0 c + counted 0 d
+pub counted_fates : (n a b c d : ℕ) → n ≡ a + b + c + d → counted 0 n < last_number → counted 0 n ≡ counted 0 a + counted 0 b + counted 0 c + counted 0 d
 counted_fates n a b c d is few = omega arith
 
--- a number of packets behind others
+-- a number of packets after others
 over-behind : (number : List Batch → ℕ) → ((xs ys : List Batch) → number (xs ++ ys) ≡ number xs + number ys) → (nodes : List Node) (first second : Batched) → over_nodes nodes (behind first second) number ≡ over_nodes nodes first number + over_nodes nodes second number
 over-behind number adds nodes first second = both_sums (λ place. number (first place)) (λ place. number (second place)) (λ place. number (first place ++ second place)) (λ place. adds (first place) (second place)) (range_with_len 0 (length nodes))
 
--- what lines and packets count for under a name, and what others behind them do
+-- what lines and packets count for under a name, and what others after them do
 number_in-lines : (nodes : List Node) (m n j k : ℕ) (xs ys : List Route) (first second : Batched) (name : List ℕ)
     → number_in (totals_by nodes (m + n) (j + k) (xs ++ ys) (behind first second)) name ≡ number_in (totals_by nodes m j xs first) name + number_in (totals_by nodes n k ys second) name
 number_in-lines nodes m n j k xs ys first second name =
@@ -150,7 +151,7 @@ add-twice one other all sum (t ∷ ts) = λ i. (t.0, next (number_in one t.0) (n
     next : (a b c : ℕ) → c ≡ a + b → counted (counted t.1 a) b ≡ counted t.1 c
     next a b c is = omega (arith, is)
 
--- totals of lines and packets behind totals of others
+-- totals of lines and packets after totals of others
 pub add_totals-next : (nodes : List Node) (m n j k : ℕ) (xs ys : List Route) (first second : Batched) (t : List Total)
     → add_totals (add_totals t (totals_by nodes m j xs first)) (totals_by nodes n k ys second) ≡ add_totals t (totals_by nodes (m + n) (j + k) (xs ++ ys) (behind first second))
 add_totals-next nodes m n j k xs ys first second =

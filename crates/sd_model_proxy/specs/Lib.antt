@@ -1,4 +1,2 @@
 pub mod Routes
-pub mod Batches
 pub mod Relays
-pub mod LineRelays

@@ -1,18 +1,16 @@
--- What the receivers of a proxy do: each sends the lines of the datagrams of its source on its own run of wires.
-use Rattle.std.specs.Prelude.{◌≡◌, ℕ, ◌+◌, ◌≤◌, min, List, length, map}
-use Rattle.std.specs.List.{AllZip}
+-- What the workers of a proxy do that send lines on, each on its own run of wires: its receivers with the datagrams of their
+-- sources, and its reader of lines with the sessions of its door, those together that one read ended.
+use Rattle.std.specs.{Prelude.{◌≡◌, ℕ, ◌+◌, ◌≤◌, min, List, length, map, Bool, true, false, [], ◌∷◌, ◌++◌, drop, flat_map, count_by}, List.{AllZip}}
 use Rattle.sd_model_text.specs.Lines.{lines}
-use Rattle.sd_model_outside.specs.Outside.{Object, last_count}
-use Rattle.sd_model_outside.specs.Turns.{with_datagrams}
+use Rattle.sd_model_outside.specs.{Outside.{Object, last_count}, Uses.{with_datagrams, IsSpent, AfterSendsOn}}
 use Rattle.sd_model_settings.specs.Entries.{Node}
-use Rattle.sd_model_serve.specs.Ends.{LoopEnd, EndsReceiver}
-use Rattle.sd_model_serve.specs.Receiving.{HaveRun}
-use Rattle.sd_model_proxy.specs.Routes.{Read}
-use Rattle.sd_model_proxy.specs.Batches.{AreBatched, AreForwarded, Batched, add_totals, no_totals, sums_of_totals, totals_of}
+use Rattle.sd_model_serve.specs.{Receiving.{LoopEnd, EndsReceiver, Spent, Failed, Enough, LimitReached, most_turns}, Doors.{ServesDoor, Visit}}
+use Rattle.sd_model_proxy.specs.Routes.{Read, AreBatched, Batched, add_totals, no_totals, sums_of_totals, relay_counts, send_of}
 use Rattle.sd_model_record.specs.Totals.{Total}
+use Rattle.sd_model_stream.specs.Streams.{AreStreamsOf, StreamLine, Line, Long, Stream, stream_lines}
 
--- What a receiver of a proxy did, or its reader of lines: the datagrams that it read, of which a reader of lines has none; its reads,
--- each with the nodes that were up; the packets of their lines to each node; and how it ended.
+-- What a receiver of a proxy did, or its reader of lines: the datagrams that it read, of which a reader of lines has none; its
+-- reads, each with the nodes that were up; the packets of their lines to each node; and how it ended.
 pub record Relay : Type 0 where
   pub datagrams : List (List ℕ)
   pub reads : List Read
@@ -24,33 +22,64 @@ pub record Relay : Type 0 where
 pub record HasForwarded (most : ℕ) (nodes : List Node) (r : Relay) (wires wires_now : List Object) : Type 0 where
   pub packets : AreBatched most nodes r.reads r.batched
   pub each : length wires ≡ length nodes
-  pub sends : AreForwarded r.batched wires wires_now
+  pub sends : AfterSendsOn (λ place. map send_of (r.batched place)) wires wires_now
 
--- the lines of a datagram were read together, and none was too long
-abbrev pub IsReadOf : List ℕ → Read → Type 0
-IsReadOf datagram r = (r.lines ≡ lines datagram) × (r.long ≡ 0)
-
--- A receiver's datagrams are those that its source has given since, in order, and their lines, datagram by datagram, are what it read
--- and sent on its wires. It ended so once its source had taken so many turns, counted up to the last count; no flushes end it. Nothing
--- else of the source changed.
+-- A receiver's datagrams are those that its source has given since, in order, and their lines, datagram by datagram, are what it
+-- read and sent on its wires. It ended so once its source had taken so many turns, counted up to the last count; no flushes end it.
+-- Nothing else of the source changed.
 pub record IsRelay (most : ℕ) (nodes : List Node) (r : Relay) (source source_now : Object) (wires wires_now : List Object) : Type 0 where
-  pub given : source.told ≡ with_datagrams r.datagrams source_now.told
-  pub read : AllZip IsReadOf r.datagrams r.reads
+  pub given : source.content ≡ with_datagrams r.datagrams source_now.content
+  pub read : AllZip (λ datagram r. (r.lines ≡ lines datagram) × (r.long ≡ 0)) r.datagrams r.reads
   pub forwarded : HasForwarded most nodes r wires wires_now
   pub turned : ℕ
   pub turns : source_now.turns ≡ min (source.turns + turned) last_count
   pub many : length r.reads ≤ turned
   pub ends : EndsReceiver 0 r.ended source source_now 0 turned
-  pub same : source_now ≡ record source { told = source_now.told; faults = source_now.faults; turns = source_now.turns }
+  pub same : source_now ≡ record source { content = source_now.content; faults = source_now.faults; turns = source_now.turns }
 
 -- what a receiver, or a reader of lines, counted
 abbrev pub relay_totals : List Node → Relay → List Total
-relay_totals nodes r = add_totals no_totals (totals_of nodes (length r.datagrams) r.reads r.batched)
+relay_totals nodes r = add_totals no_totals (relay_counts nodes (length r.datagrams) r.reads r.batched)
 
 -- the totals of these, added up
 abbrev pub relays_totals : List Node → List Relay → List Total
 relays_totals nodes relays = sums_of_totals (map (relay_totals nodes) relays)
 
--- each receiver did so with a source of its own, and a run of wires with one for each node
-abbrev pub AreRelays : (most : ℕ) → List Node → List Relay → (sources sources_now wires wires_now : List Object) → Type 0
-AreRelays most nodes = HaveRun (IsRelay most nodes) (length nodes)
+-- the lines of a line of a stream: those of a datagram of its bytes; one that is too long has none
+abbrev pub lines_of_cut : StreamLine → List (List ℕ)
+lines_of_cut (Line bytes) = lines bytes
+lines_of_cut Long = []
+
+-- whether a line of a stream is too long
+abbrev pub is_long : StreamLine → Bool
+is_long (Line bytes) = false
+is_long Long = true
+
+-- the lines that each of these reads of a stream ended, where bytes were read before them
+abbrev pub lines_ended : (before : List ℕ) → (reads : List (List ℕ)) → List (List StreamLine)
+lines_ended before [] = []
+lines_ended before (bytes ∷ reads) = drop (length (stream_lines before)) (stream_lines (before ++ bytes)) ∷ lines_ended (before ++ bytes) reads
+
+-- the lines that one read ended were read together
+abbrev pub IsReadOfLines : List StreamLine → Read → Type 0
+IsReadOfLines cuts r = (r.lines ≡ flat_map lines_of_cut cuts) × (r.long ≡ count_by is_long cuts)
+
+-- Why the serving of a door ended: it has nothing left; or it took so many turns, which are the most. Its failures don't end it.
+abbrev pub EndsServing : LoopEnd → (door door_now : Object) → Type 0
+EndsServing Spent door door_now = IsSpent door_now.content
+EndsServing Failed door door_now = ⊥
+EndsServing (Enough flushes) door door_now = ⊥
+EndsServing (LimitReached turns) door door_now = (turns ≡ most_turns) × (door_now.turns ≡ door.turns + turns)
+
+-- The sessions of a door were read as streams, one after another, and given back. The lines that each read ended were sent on its
+-- wires; it read no datagram; and it ended so.
+pub record IsLineRelay (most : ℕ) (nodes : List Node) (r : Relay) (door door_now : Object) (wires wires_now : List Object) : Type 0 where
+  pub visits : List Visit
+  pub failures : ℕ
+  pub streams : List Stream
+  pub served : ServesDoor visits failures door door_now
+  pub went : AreStreamsOf visits streams
+  pub none : r.datagrams ≡ []
+  pub read : AllZip IsReadOfLines (flat_map (λ s. lines_ended [] s.reads) streams) r.reads
+  pub forwarded : HasForwarded most nodes r wires wires_now
+  pub ends : EndsServing r.ended door door_now

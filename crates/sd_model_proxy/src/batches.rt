@@ -1,7 +1,6 @@
-ghost use Rattle.std.specs.Prelude.{◌≡◌, ℕ, ◌<◌, ◌≤◌, List, [], ◌∷◌, All, flat_map, length, map};
+ghost use Rattle.std.specs.Prelude.{◌≡◌, ℕ, ◌<◌, ◌≤◌, List, [], ◌∷◌, All, flat_map, length, map, filter};
 ghost use Rattle.sd_model_settings.specs.Entries.{Node};
-ghost use Rattle.sd_model_proxy.specs.Batches.{AreBatched, Batched, batches, joined};
-ghost use Rattle.sd_model_proxy.specs.Routes.{Read, lines_to};
+ghost use Rattle.sd_model_proxy.specs.Routes.{AreBatched, Batched, batches, joined, Read, route, goes_to};
 
 /// The lines of packets are the lines, in order. A packet of two lines or more has at most so many bytes, and where there are to be
 /// none, each line goes alone.
@@ -14,5 +13,5 @@ pub fn packets_hold_lines()
 /// The lines of the packets to a node are those of the datagrams that go there, in order, however many fit a packet.
 pub fn nodes_get_their_lines()
     ensures { (most : ℕ) (nodes : List Node) (reads : List Read) (batched : Batched) → AreBatched most nodes reads batched
-        → (place : ℕ) → flat_map (λ b. b.lines) (batched place) ≡ flat_map (lines_to nodes place) reads }
+        → (place : ℕ) → flat_map (λ b. b.lines) (batched place) ≡ flat_map (λ r. filter (λ line. goes_to place (route line nodes r.up)) r.lines) reads }
 {}

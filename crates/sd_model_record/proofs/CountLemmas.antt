@@ -2,7 +2,7 @@
 use Rattle.std.proofs.Common.{◌≡◌, ℕ, zero, suc, get_or, refl}
 use Rattle.std.specs.Prelude.{replicate}
 use Rattle.sd_model_record.specs.Desk.{new_desk}
-use Rattle.sd_model_record.specs.Counts.{numbers_in}
+use Rattle.sd_model_record.specs.Totals.{numbers_in}
 
 -- zeros alone
 none_in : (n k : ℕ) → get_or {A = ℕ} (replicate n 0) k 0 ≡ 0

@@ -1,3 +1,4 @@
+pub mod Short
 pub mod CountLemmas
 pub mod DeskLemmas
 pub mod OrderLemmas

@@ -11,11 +11,11 @@ pub appended-text : (text : List ℕ) (totals : List Total) → appended text to
 appended-text text [] = sym (append-nil text)
 appended-text text (t ∷ totals) = appended-text (text ++ total_line t) totals ∙ append_assoc text (total_line t) (totals_text totals)
 
--- the lines of totals behind others
+-- the lines of totals after others
 pub totals_text-append : (xs ys : List Total) → totals_text (xs ++ ys) ≡ totals_text xs ++ totals_text ys
 totals_text-append [] ys = refl
 totals_text-append (x ∷ xs) ys = ap (λ text. total_line x ++ text) (totals_text-append xs ys) ∙ sym (append_assoc (total_line x) (totals_text xs) (totals_text ys))
 
--- a line behind others
+-- a line after others
 pub totals_text-snoc : (xs : List Total) (t : Total) → totals_text (xs ++ t ∷ []) ≡ totals_text xs ++ total_line t
 totals_text-snoc xs t = totals_text-append xs (t ∷ []) ∙ ap (λ text. totals_text xs ++ text) (append-nil (total_line t))

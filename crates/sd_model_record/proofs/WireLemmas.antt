@@ -1,22 +1,22 @@
--- Sends on a wire, and on several, one list of them behind another.
+-- Sends on a wire, and on several, one list of them after another.
 use Rattle.std.proofs.Common.{◌≡◌, ◌≢◌, ◌∙◌, ℕ, ◌<◌, Bool, true, false, cond, List, [], ◌∷◌, ◌++◌, length, set, get_or, refl, sym, ap, subst, arith, append-nil, inl, inr}
 use Rattle.std.specs.Prelude.{option_map, slice_get}
 use Rattle.std.specs.List.{cons_option}
 use Rattle.std.proofs.lemmas.Bool.{cases_eq}
 use Rattle.std.proofs.lemmas.List.{length-set, get_or-set_same, get_or-set_other, get_or_default}
 use Rattle.std.proofs.lemmas.List.Elements.{filter_map-append}
-use Rattle.sd_model_outside.specs.Outside.{Object, Packets, Told, Untold, fresh, sent}
-use Rattle.sd_model_outside.specs.Wires.{HasSent}
+use Rattle.sd_model_outside.specs.Outside.{Object, Packets, Content, Unknown, fresh, object_at}
+use Rattle.sd_model_outside.specs.Uses.{HasSent, AfterSends, AfterSendsOn, WireSend, AreRepeated, Sending}
 use Rattle.sd_model_outside.proofs.DeliveryLemmas.{Counts, same_counts}
-use Rattle.sd_model_record.specs.WireSends.{AfterSends, AfterSendsOn, WireSend, wire_at, AreRepeated, Sending, sends_on}
+use Rattle.sd_model_outside.proofs.Short.{sent, sends_on}
 
 -- the packets of one send
 abbrev pub packets_by : Bool → List ℕ → List (List ℕ)
 packets_by is_failed packet = cond is_failed [] (packet ∷ [])
 
-pub one_told : (packet : List ℕ) (is_failed : Bool) (packets : List (List ℕ)) (old new : Object) → old.told ≡ Packets packets → HasSent packet is_failed old new → new.told ≡ Packets (packets ++ packets_by is_failed packet)
-one_told packet true packets old new told h = ap (λ (o : Object). o.told) h.same ∙ told ∙ ap Packets (sym (append-nil packets))
-one_told packet false packets old new told h = ap (λ (o : Object). o.told) h ∙ ap (λ (t : Told). (sent packet (record old { told = t })).told) told
+pub one_content : (packet : List ℕ) (is_failed : Bool) (packets : List (List ℕ)) (old new : Object) → old.content ≡ Packets packets → HasSent packet is_failed old new → new.content ≡ Packets (packets ++ packets_by is_failed packet)
+one_content packet true packets old new content h = ap (λ (o : Object). o.content) h.same ∙ content ∙ ap Packets (sym (append-nil packets))
+one_content packet false packets old new content h = ap (λ (o : Object). o.content) h ∙ ap (λ (t : Content). (sent packet (record old { content = t })).content) content
 
 pub one_count : (packet : List ℕ) (is_failed : Bool) (old new : Object) → HasSent packet is_failed old new → Counts (cond is_failed 1 0) old new
 one_count packet true old new h = record { used = h.used; rose = h.rose; steady = λ none. absurd (omega (arith, none)) }
@@ -29,15 +29,15 @@ AfterSends-next (x ∷ xs) ys old mid new first second = (first.0, first.1, Afte
 -- no sends leave wires as they are
 pub AfterSendsOn-none : (sends : ℕ → List WireSend) (wires : List Object) → ((i : ℕ) → sends i ≡ []) → AfterSendsOn sends wires wires
 AfterSendsOn-none sends wires none = record {
-  each = λ i. subst (λ ss. AfterSends ss (wire_at i wires) (wire_at i wires)) (sym (none i)) refl;
+  each = λ i. subst (λ ss. AfterSends ss (object_at i wires) (object_at i wires)) (sym (none i)) refl;
   no_others = λ i past. none i;
   count = refl;
 }
 
--- sends behind sends
+-- sends after sends
 pub AfterSendsOn-next : (xs ys both : ℕ → List WireSend) (old mid new : List Object) → ((i : ℕ) → both i ≡ xs i ++ ys i) → AfterSendsOn xs old mid → AfterSendsOn ys mid new → AfterSendsOn both old new
 AfterSendsOn-next xs ys both old mid new are first second = record {
-  each = λ i. subst (λ ss. AfterSends ss (wire_at i old) (wire_at i new)) (sym (are i)) (AfterSends-next (xs i) (ys i) (wire_at i old) (wire_at i mid) (wire_at i new) (first.each i) (second.each i));
+  each = λ i. subst (λ ss. AfterSends ss (object_at i old) (object_at i new)) (sym (are i)) (AfterSends-next (xs i) (ys i) (object_at i old) (object_at i mid) (object_at i new) (first.each i) (second.each i));
   no_others = λ i past. are i ∙ (λ t. first.no_others i past t ++ second.no_others i (omega (arith, past, first.count)) t);
   count = second.count ∙ first.count;
 }
@@ -51,15 +51,15 @@ AfterSendsOn-one sends place s wires old new here elsewhere inside there has = r
   count = length-set wires place new;
 }
   where
-    by_place : (i : ℕ) → AfterSends (sends i) (wire_at i wires) (wire_at i (set wires place new))
+    by_place : (i : ℕ) → AfterSends (sends i) (object_at i wires) (object_at i (set wires place new))
     by_place i = elim (cases_eq i place) [
       | inl same ↦
-          let was : wire_at place wires ≡ old = get_or_default wires place (fresh Untold) old inside ∙ there in
-          let is : wire_at place (set wires place new) ≡ new = get_or-set_same wires place new (fresh Untold) inside in
-          let one : AfterSends (s ∷ []) (wire_at place wires) (wire_at place (set wires place new)) = (new, subst (λ (w : Object). HasSent s.packet s.is_failed w new) (sym was) has, is) in
-          subst (λ k. AfterSends (sends k) (wire_at k wires) (wire_at k (set wires place new))) (sym same)
-          (subst (λ ss. AfterSends ss (wire_at place wires) (wire_at place (set wires place new))) (sym here) one)
-      | inr other ↦ subst (λ ss. AfterSends ss (wire_at i wires) (wire_at i (set wires place new))) (sym (elsewhere i other)) (get_or-set_other wires place i new (fresh Untold) other)
+          let was : object_at place wires ≡ old = get_or_default wires place (fresh Unknown) old inside ∙ there in
+          let is : object_at place (set wires place new) ≡ new = get_or-set_same wires place new (fresh Unknown) inside in
+          let one : AfterSends (s ∷ []) (object_at place wires) (object_at place (set wires place new)) = (new, subst (λ (w : Object). HasSent s.packet s.is_failed w new) (sym was) has, is) in
+          subst (λ k. AfterSends (sends k) (object_at k wires) (object_at k (set wires place new))) (sym same)
+          (subst (λ ss. AfterSends ss (object_at place wires) (object_at place (set wires place new))) (sym here) one)
+      | inr other ↦ subst (λ ss. AfterSends ss (object_at i wires) (object_at i (set wires place new))) (sym (elsewhere i other)) (get_or-set_other wires place i new (fresh Unknown) other)
     ]
 
 -- the send of a packet on a wire, where it has one, before others

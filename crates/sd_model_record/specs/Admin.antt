@@ -1,34 +1,23 @@
 -- Admin commands: what a line asks for, or why it asks for nothing. The commands but `totals`, `config` and `quit` are those of
 -- StatsD's admin interface (docs/admin_interface.md).
-use Rattle.std.specs.Prelude.{ℕ, not, nat_le, if◌then◌else◌, List, [], ◌∷◌, length, filter, Result, Ok, Err, codes}
-use Rattle.std.specs.List.{slice_split}
-use Rattle.std.specs.Str.{bytes_eq}
-use Rattle.sd_model_text.specs.Lists.{is_white_space}
-use Rattle.sd_model_text.specs.Names.{Kind, Counter, Timer, Gauge}
-use Rattle.sd_model_text.specs.Lines.{is_empty}
+use Rattle.std.specs.{Prelude.{ℕ, not, nat_le, if◌then◌else◌, List, [], ◌∷◌, length, filter, Result, Ok, Err, codes}, List.{slice_split}, Str.{bytes_eq}}
+use Rattle.sd_model_text.specs.{Lists.{is_white_space}, Names.{Kind, Counter, Timer, Gauge}, Lines.{is_empty}}
 
 -- What a command does with the health: sets it, or asks for it.
 pub data HealthWord : Type 0 where
-  Up : HealthWord
-  Down : HealthWord
-  Ask : HealthWord
+  Up Down Ask : HealthWord
 
 -- A command: it asks for what the server counts of itself, for the totals so far, for the settings, or for the end of the session;
 -- shows the rows of a kind; deletes the rows of a kind that the names match; or is about the health.
 pub data Command : Type 0 where
-  Stats : Command
-  Totals : Command
-  Config : Command
-  Quit : Command
+  Stats Totals Config Quit : Command
   Show : (kind : Kind) → Command
   Delete : (kind : Kind) (names : List (List ℕ)) → Command
   Health : (word : HealthWord) → Command
 
 -- Why a line is no command: its first word is that of none, or it has no word; a deletion has no name; it is too long.
 pub data AdminFault : Type 0 where
-  UnknownWord : AdminFault
-  MissingName : AdminFault
-  TooLong : AdminFault
+  UnknownWord MissingName TooLong : AdminFault
 
 -- the words of a line: its parts between white space, without the empty ones
 abbrev pub words : List ℕ → List (List ℕ)
@@ -39,14 +28,14 @@ abbrev pub deletion : Kind → List (List ℕ) → Result Command AdminFault
 deletion kind [] = Err MissingName
 deletion kind (name ∷ names) = Ok (Delete kind (name ∷ names))
 
--- what the words behind `health` say; neither `up` nor `down` asks
+-- what the words after `health` say; neither `up` nor `down` asks
 abbrev pub health_word : List (List ℕ) → HealthWord
 health_word [] = Ask
 health_word (word ∷ rest) =
     if bytes_eq word (codes "up") then Up
     else (if bytes_eq word (codes "down") then Down else Ask)
 
--- the command that a first word names, with the words behind it; those that a command doesn't use have no effect
+-- the command that a first word names, with the words after it; those that a command doesn't use have no effect
 abbrev pub command_named : List ℕ → List (List ℕ) → Result Command AdminFault
 command_named word rest =
     if bytes_eq word (codes "stats") then Ok Stats

@@ -1,11 +1,10 @@
--- The backends that records are written to, and the text of a record for each. Graphite's has lines of a path, a value and a Unix second
--- (Graphite's plaintext protocol), under StatsD's names, the legacy ones or those of its namespace (docs/namespacing.md); the
--- console's has the flush, its rows, the server's own counts, and the end.
+-- The backends that records are written to, and the text of a record for each. Graphite's has lines of a path, a value and a Unix
+-- second (Graphite's plaintext protocol), under StatsD's names, the legacy ones or those of its namespace (docs/namespacing.md);
+-- the console's has the flush, its rows, the server's own counts, and the end.
 use Rattle.std.specs.Prelude.{ℕ, List, ℤ, [], ◌∷◌, ◌++◌, length, flat_map, if◌then◌else◌, codes, decimal}
-use Rattle.sd_model_outside.specs.Deliveries.{Mark}
+use Rattle.sd_model_outside.specs.Uses.{Mark}
 use Rattle.sd_model_settings.specs.Settings.{Names}
-use Rattle.sd_model_record.specs.Record.{Record, Row, CounterRow, TimerRow, GaugeRow, SetRow, Figure, whole_number, sent_figures}
-use Rattle.sd_model_record.specs.Desk.{Marks}
+use Rattle.sd_model_record.specs.{Record.{Record, Row, CounterRow, TimerRow, GaugeRow, SetRow, Figure, whole_number, sent_figures}, Desk.{Marks}}
 use Rattle.sd_model_text.specs.Numbers.{number_text, per_second}
 
 -- the line of a timer's figure
@@ -35,12 +34,12 @@ console_text r =
     ++ console_count (codes "numStats") (length r.rows)
     ++ codes "end " ++ decimal r.ts ++ 10 ∷ []
 
--- a part of a path, with the point behind it; an empty one is left out with its point
+-- a part of a path, with the point after it; an empty one is left out with its point
 abbrev pub dotted : List ℕ → List ℕ
 dotted [] = []
 dotted (b ∷ part) = (b ∷ part) ++ codes "."
 
--- what stands behind each path: the suffix behind a point, where there is one
+-- what is after each path: the suffix after a point, where there is one
 abbrev pub suffix : Names → List ℕ
 suffix names = suffix_of names.namespace.global_suffix
   where
@@ -48,48 +47,43 @@ suffix names = suffix_of names.namespace.global_suffix
     suffix_of [] = []
     suffix_of (b ∷ text) = 46 ∷ b ∷ text
 
--- what stands before the key in a path: in the legacy namespace this, and otherwise the prefix of all, and this prefix
-abbrev pub front : Names → List ℕ → List ℕ → List ℕ
-front names legacy prefix =
-    if names.namespace.legacy then legacy else dotted names.namespace.global_prefix ++ dotted prefix
+-- what is before the key in a path: in the legacy namespace this, and otherwise the prefix of all, and this prefix
+abbrev pub path_prefix : Names → List ℕ → List ℕ → List ℕ
+path_prefix names legacy prefix = if names.namespace.legacy then legacy else dotted names.namespace.global_prefix ++ dotted prefix
 
 -- a line: path and suffix, value and second
-abbrev pub line : Names → List ℕ → List ℕ → ℕ → List ℕ
-line names path value ts = path ++ suffix names ++ 32 ∷ value ++ 32 ∷ decimal ts ++ 10 ∷ []
+abbrev pub graphite_line : Names → List ℕ → List ℕ → ℕ → List ℕ
+graphite_line names path value ts = path ++ suffix names ++ 32 ∷ value ++ 32 ∷ decimal ts ++ 10 ∷ []
 
--- what stands behind a counter's key outside of the legacy namespace
+-- what is after a counter's key outside of the legacy namespace
 abbrev pub counter_back : Names → List ℕ → List ℕ
 counter_back names back = if names.namespace.legacy then [] else back
 
 -- a counter's two lines
 abbrev pub counter_lines : Names → ℕ → List ℕ → ℤ → ℤ → List ℕ
 counter_lines names ts key count rate =
-    line names (front names (codes "stats.") names.namespace.prefix_counter ++ key ++ counter_back names (codes ".rate")) (number_text rate) ts
-    ++ line names (front names (codes "stats_counts.") names.namespace.prefix_counter ++ key ++ counter_back names (codes ".count")) (number_text count) ts
+    graphite_line names (path_prefix names (codes "stats.") names.namespace.prefix_counter ++ key ++ counter_back names (codes ".rate")) (number_text rate) ts
+    ++ graphite_line names (path_prefix names (codes "stats_counts.") names.namespace.prefix_counter ++ key ++ counter_back names (codes ".count")) (number_text count) ts
 
 -- the line of a timer's figure
 abbrev pub figure_line : Names → ℕ → List ℕ → Figure → List ℕ
 figure_line names ts key f =
-    line names (front names (codes "stats.timers.") names.namespace.prefix_timer ++ key ++ 46 ∷ f.name) (number_text f.value) ts
+    graphite_line names (path_prefix names (codes "stats.timers.") names.namespace.prefix_timer ++ key ++ 46 ∷ f.name) (number_text f.value) ts
 
 -- the lines of a row, by the names of the classes of timers' lines that are chosen
 abbrev pub row_lines : Names → List (List ℕ) → ℕ → Row → List ℕ
 row_lines names calculated ts (CounterRow key count rate) = counter_lines names ts key count rate
 row_lines names calculated ts (TimerRow key timer) = flat_map (figure_line names ts key) (sent_figures calculated timer)
 row_lines names calculated ts (GaugeRow key value) =
-    line names (front names (codes "stats.gauges.") names.namespace.prefix_gauge ++ key) (number_text value) ts
+    graphite_line names (path_prefix names (codes "stats.gauges.") names.namespace.prefix_gauge ++ key) (number_text value) ts
 row_lines names calculated ts (SetRow key count) =
-    line names (front names (codes "stats.sets.") names.namespace.prefix_set ++ key ++ codes ".count") (decimal count) ts
+    graphite_line names (path_prefix names (codes "stats.sets.") names.namespace.prefix_set ++ key ++ codes ".count") (decimal count) ts
 
 -- one of the server's own counters, by its name and number
 abbrev pub own_counter : Names → Record → List ℕ → ℕ → List ℕ
 own_counter names r name number =
     let count = whole_number number in
     counter_lines names r.ts (names.prefix_stats ++ 46 ∷ name) count (per_second count r.interval_ms)
-
--- what stands before the number of rows
-abbrev pub rows_front : Names → List ℕ
-rows_front names = if names.namespace.legacy then [] else dotted names.namespace.global_prefix
 
 -- the lines at the end of a record: the server's own counters, and the number of rows
 abbrev pub tail_lines : Names → Record → List ℕ
@@ -98,7 +92,7 @@ tail_lines names r =
     ++ own_counter names r (codes "packets_received") r.tally.packets
     ++ own_counter names r (codes "metrics_received") r.tally.lines
     ++ own_counter names r (codes "samples_dropped") r.tally.dropped
-    ++ line names (rows_front names ++ names.prefix_stats ++ codes ".numStats") (decimal (length r.rows)) r.ts
+    ++ graphite_line names ((if names.namespace.legacy then [] else dotted names.namespace.global_prefix) ++ names.prefix_stats ++ codes ".numStats") (decimal (length r.rows)) r.ts
 
 -- the text of a record
 abbrev pub graphite_text : Names → Record → List ℕ
@@ -106,8 +100,7 @@ graphite_text names r = flat_map (row_lines names r.calculated r.ts) r.rows ++ t
 
 -- a backend
 pub data Backend : Type 0 where
-  Graphite : Backend
-  Console : Backend
+  Graphite Console : Backend
 
 -- the text of a flush's record for a backend, with Graphite's names
 abbrev pub text_of : Names → Backend → Record → List ℕ

@@ -1,15 +1,12 @@
 -- The desk: what the server counts of itself.
-use Rattle.std.specs.Prelude.{◌≡◌, ℕ, ◌+◌, ◌^◌, ◌<◌, min, Bool, true}
-use Rattle.sd_model_outside.specs.Deliveries.{Mark, fault_of}
+use Rattle.std.specs.Prelude.{◌≡◌, ℕ, ◌+◌, ◌<◌, min, Bool, true}
+use Rattle.sd_model_outside.specs.Uses.{Mark, fault_of}
 use Rattle.sd_model_record.specs.Record.{Tally}
-
--- where the desk's counts stop
-abbrev pub last_counted : ℕ
-last_counted = 2 ^ 63
+use Rattle.sd_model_shard.specs.Shard.{last_number}
 
 -- a count after so many more
 abbrev pub counted : ℕ → ℕ → ℕ
-counted n more = min (n + more) last_counted
+counted n more = min (n + more) last_number
 
 -- nothing was counted
 abbrev pub no_tally : Tally
@@ -49,14 +46,9 @@ pub record Desk : Type 0 where
   pub tally : Tally
   pub taken_so_far : Tally
 
--- the facts of a server that starts, is well, and has counted nothing
-abbrev pub new_facts : ℕ → Facts
-new_facts start =
-    record { start = start; last = start; totals = no_tally; up = true; rounds = 0; graphite_faults = 0; console_faults = 0; repeater_faults = 0; admin_faults = 0 }
-
 -- its desk
 abbrev pub new_desk : ℕ → Desk
-new_desk start = record { facts = new_facts start; tally = no_tally; taken_so_far = no_tally }
+new_desk start = record { facts = record { start = start; last = start; totals = no_tally; up = true; rounds = 0; graphite_faults = 0; console_faults = 0; repeater_faults = 0; admin_faults = 0 }; tally = no_tally; taken_so_far = no_tally }
 
 -- after a datagram was counted, which came now
 abbrev pub with_tally : Desk → Tally → ℕ → Desk
@@ -77,10 +69,6 @@ marked d m =
       };
     }
 
--- after a flush, which takes the tally and leaves its marks
-abbrev pub with_round : Desk → Marks → Desk
-with_round d m = marked (taken d) m
-
 -- after the server was said to be well, or not
 abbrev pub with_health : Desk → Bool → Desk
 with_health d up = record d { facts = record d.facts { up = up } }
@@ -95,7 +83,7 @@ with_repeater_faults d n = record d { facts = record d.facts { repeater_faults =
 
 -- a total that hasn't reached the last count is what was taken and what was counted since
 abbrev pub IsWhole : ℕ → ℕ → ℕ → Type 0
-IsWhole total taken since = total < last_counted → total ≡ taken + since
+IsWhole total taken since = total < last_number → total ≡ taken + since
 
 -- each total that hasn't reached the last count is what was taken and what was counted since
 pub record IsBalanced (d : Desk) : Type 0 where

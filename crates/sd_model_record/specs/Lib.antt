@@ -1,10 +1,7 @@
 pub mod Record
-pub mod Documented
 pub mod Desk
 pub mod DeskHistory
 pub mod Totals
 pub mod Admin
 pub mod Replies
-pub mod Counts
 pub mod Backends
-pub mod WireSends

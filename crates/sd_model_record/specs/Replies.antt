@@ -1,77 +1,52 @@
 -- Replies to admin commands, line by line; what a line asks of each shard, and what is replied to it.
-use Rattle.std.specs.Prelude.{ℕ, ◌-◌, Bool, if◌then◌else◌, List, [], ◌∷◌, ◌++◌, map, codes, decimal, ◌+◌, true, false, flat_map, Result, Ok, Err}
-use Rattle.std.specs.List.{concat}
-use Rattle.sd_model_text.specs.Names.{Kind, Timer}
-use Rattle.sd_model_text.specs.Numbers.{number_text}
+use Rattle.std.specs.{Prelude.{ℕ, ◌-◌, Bool, if◌then◌else◌, List, [], ◌∷◌, ◌++◌, map, codes, decimal, ◌+◌, true, false, flat_map, Result, Ok, Err, sum_by}, List.{concat}}
+use Rattle.sd_model_text.specs.{Names.{Kind, Timer}, Numbers.{number_text}}
+use Rattle.sd_model_settings.specs.ConfigText.{config_line, config_lines}
+use Rattle.sd_model_shard.specs.{Rows.{DumpRow, in_key_order}, Shard.{Numbers}}
+use Rattle.sd_model_record.specs.{Desk.{Facts}, Admin.{AdminFault, UnknownWord, MissingName, TooLong, HealthWord, Up, Down, Ask}, Totals.{known_before_end, total_line, totals_of}}
 use Rattle.sd_model_settings.specs.Settings as file
-use Rattle.sd_model_settings.specs.ConfigText.{line, config_lines}
-use Rattle.sd_model_shard.specs.Commands.{DumpRow, in_key_order}
-use Rattle.sd_model_record.specs.Desk.{Facts}
-use Rattle.sd_model_record.specs.Admin.{AdminFault, UnknownWord, MissingName, TooLong, HealthWord, Up, Down, Ask}
-use Rattle.sd_model_record.specs.Totals.{added, known_before_end, total_line, totals_of}
 use Rattle.sd_model_shard.specs.Shard as shard
-use Rattle.sd_model_shard.specs.Shard.{Numbers}
 use Rattle.sd_model_record.specs.Admin as admin
 
--- What a reply tells: the facts of the desk at a moment; these with the numbers of each shard, in order, where backends have outlets
--- or none; the rows of a kind; the keys that a name of a deletion deleted; that a deletion has no further name; the health; the
--- settings; why a line is no command.
-pub data Reply : Type 0 where
-  Stats : (facts : Facts) (now : ℕ) → Reply
-  Totals : (outlets : Bool) (facts : Facts) (shards : List Numbers) → Reply
-  Rows : (kind : Kind) (rows : List DumpRow) → Reply
-  Gone : (name : List ℕ) (keys : List (List ℕ)) → Reply
-  Finish : Reply
-  Health : (up : Bool) → Reply
-  Config : (settings : file.Settings) → Reply
-  Fault : (fault : AdminFault) → Reply
+-- What a reply tells: the facts of the desk at a moment; these with the numbers of each shard, in order, where backends have
+-- outlets or none; the rows of a kind; the keys that a name of a deletion deleted; that a deletion has no further name; the health;
+-- the settings; why a line is no command.
+pub data AdminReply : Type 0 where
+  Stats : (facts : Facts) (now : ℕ) → AdminReply
+  Totals : (outlets : Bool) (facts : Facts) (shards : List Numbers) → AdminReply
+  Rows : (kind : Kind) (rows : List DumpRow) → AdminReply
+  Gone : (name : List ℕ) (keys : List (List ℕ)) → AdminReply
+  Finish : AdminReply
+  Health : (up : Bool) → AdminReply
+  Config : (settings : file.Settings) → AdminReply
+  Fault : (fault : AdminFault) → AdminReply
 
 -- the end of a reply: the line `END`, and an empty line
 abbrev pub end_lines : List (List ℕ)
 end_lines = (codes "END" ++ 10 ∷ []) ∷ (10 ∷ []) ∷ []
 
--- the seconds from a moment to now, and 0 where the clock went back
-abbrev pub seconds_since : ℕ → ℕ → ℕ
-seconds_since moment now = now - moment
-
--- the seconds since the start and since the last datagram, which is at the start where none came; and the bad pieces
+-- the seconds since the start and since the last datagram, or the start where none came, 0 where the clock went back; the bad pieces
 abbrev pub stats_lines : Facts → ℕ → List (List ℕ)
 stats_lines facts now =
-    line (codes "uptime") (decimal (seconds_since facts.start now))
-    ∷ line (codes "messages.last_msg_seen") (decimal (seconds_since facts.last now))
-    ∷ line (codes "messages.bad_lines_seen") (decimal facts.totals.bad)
+    config_line (codes "uptime") (decimal (now - facts.start))
+    ∷ config_line (codes "messages.last_msg_seen") (decimal (now - facts.last))
+    ∷ config_line (codes "messages.bad_lines_seen") (decimal facts.totals.bad)
     ∷ []
-
--- the line of shard i: how many rows it has, and how many samples it holds
-abbrev pub shard_line : ℕ → Numbers → List ℕ
-shard_line i n = codes "shard " ++ decimal i ++ codes " rows " ++ decimal n.rows ++ codes " held " ++ decimal n.held ++ 10 ∷ []
 
 -- the lines of shards, from number i on
 abbrev pub shard_lines : ℕ → List Numbers → List (List ℕ)
 shard_lines i [] = []
-shard_lines i (n ∷ shards) = shard_line i n ∷ shard_lines (i + 1) shards
+shard_lines i (n ∷ shards) = (codes "shard " ++ decimal i ++ codes " rows " ++ decimal n.rows ++ codes " held " ++ decimal n.held ++ 10 ∷ []) ∷ shard_lines (i + 1) shards
 
--- the totals so far that are known before the end, and a line for each shard
-abbrev pub totals_lines : (outlets : Bool) → Facts → List Numbers → List (List ℕ)
-totals_lines outlets facts shards = map total_line (known_before_end outlets (totals_of (added shards) facts)) ++ shard_lines 0 shards
-
--- what stands behind a row's key: what its samples come to, and of a timer their number before it
-abbrev pub row_value : Kind → DumpRow → List ℕ
-row_value Timer row = decimal row.samples ++ 32 ∷ number_text row.amount
-row_value kind row = number_text row.amount
-
--- the line of a row
-abbrev pub row_line : Kind → DumpRow → List ℕ
-row_line kind row = line row.key (row_value kind row)
+-- what is after a row's key: what its samples come to, and of a timer their number before it
+abbrev pub shown_value : Kind → DumpRow → List ℕ
+shown_value Timer row = decimal row.samples ++ 32 ∷ number_text row.amount
+shown_value kind row = number_text row.amount
 
 -- a line for each key that a name deleted, or the one that says that there is none
 abbrev pub gone_lines : List ℕ → List (List ℕ) → List (List ℕ)
 gone_lines name [] = (codes "metric " ++ name ++ codes " not found" ++ 10 ∷ []) ∷ []
-gone_lines name (key ∷ keys) = map (line (codes "deleted")) (key ∷ keys)
-
--- the line of the health
-abbrev pub health_line : Bool → List ℕ
-health_line up = line (codes "health") (if up then codes "up" else codes "down")
+gone_lines name (key ∷ keys) = map (config_line (codes "deleted")) (key ∷ keys)
 
 -- what a fault is called
 abbrev pub fault_text : AdminFault → List ℕ
@@ -84,18 +59,18 @@ abbrev pub fault_line : AdminFault → List ℕ
 fault_line fault = codes "ERROR " ++ fault_text fault ++ 10 ∷ []
 
 -- the lines of a reply; health and faults have one line and no end
-abbrev pub reply_lines : Reply → List (List ℕ)
+abbrev pub reply_lines : AdminReply → List (List ℕ)
 reply_lines (Stats facts now) = stats_lines facts now ++ end_lines
-reply_lines (Totals outlets facts shards) = totals_lines outlets facts shards ++ end_lines
-reply_lines (Rows kind rows) = map (row_line kind) rows ++ end_lines
+reply_lines (Totals outlets facts shards) = (map total_line (known_before_end outlets (totals_of (λ number. sum_by number shards) facts)) ++ shard_lines 0 shards) ++ end_lines
+reply_lines (Rows kind rows) = map (λ row. config_line row.key (shown_value kind row)) rows ++ end_lines
 reply_lines (Gone name keys) = gone_lines name keys
 reply_lines Finish = end_lines
-reply_lines (Health up) = health_line up ∷ []
+reply_lines (Health up) = config_line (codes "health") (if up then codes "up" else codes "down") ∷ []
 reply_lines (Config s) = config_lines s ++ end_lines
 reply_lines (Fault fault) = fault_line fault ∷ []
 
 -- the text of a reply
-abbrev pub reply_text : Reply → List ℕ
+abbrev pub reply_text : AdminReply → List ℕ
 reply_text reply = concat (reply_lines reply)
 
 -- what an admin line asks of each shard: a deletion for each name of its command, in their order, a dump, or its numbers; and
@@ -117,26 +92,14 @@ rows_in (shard.Dumped rows) = rows
 rows_in answer = []
 
 -- the numbers that an answer tells
-abbrev pub numbers_in : shard.Reply → List Numbers
-numbers_in (shard.Looked numbers) = numbers ∷ []
-numbers_in answer = []
-
--- the keys that all shards tell as deleted
-abbrev pub keys_told : List shard.Reply → List (List ℕ)
-keys_told answers = in_key_order (λ key. key) (flat_map keys_in answers)
-
--- the rows that all shards tell of a dump
-abbrev pub rows_told : List shard.Reply → List DumpRow
-rows_told answers = in_key_order (λ row. row.key) (flat_map rows_in answers)
-
--- the numbers that all shards tell, in their order
-abbrev pub numbers_told : List shard.Reply → List Numbers
-numbers_told answers = flat_map numbers_in answers
+abbrev pub numbers_looked : shard.Reply → List Numbers
+numbers_looked (shard.Looked numbers) = numbers ∷ []
+numbers_looked answer = []
 
 -- what is replied to the names of a deletion, each with the keys that all shards tell in the answers of its number
-abbrev pub names_replied : (ℕ → List shard.Reply) → List (List ℕ) → List Reply
+abbrev pub names_replied : (ℕ → List shard.Reply) → List (List ℕ) → List AdminReply
 names_replied answers [] = []
-names_replied answers (name ∷ names) = Gone name (keys_told (answers 0)) ∷ names_replied (λ n. answers (n + 1)) names
+names_replied answers (name ∷ names) = Gone name (in_key_order (λ key. key) (flat_map keys_in (answers 0))) ∷ names_replied (λ n. answers (n + 1)) names
 
 -- the health after a word that sets it, or asks for it
 abbrev pub health_after : HealthWord → Bool → Bool
@@ -148,16 +111,16 @@ health_after Ask up = up
 -- shards answer to each event that it asks for, by the event's number from 0: the facts of the desk; these with the numbers of each
 -- shard; the settings in force; nothing to `quit`; the rows of a dump; what each name deleted, and the end; the health, as the line
 -- leaves it; the fault.
-abbrev pub replies_by : (outlets : Bool) → (ℕ → List shard.Reply) → Facts → file.Settings → ℕ → Result admin.Command AdminFault → List Reply
+abbrev pub replies_by : (outlets : Bool) → (ℕ → List shard.Reply) → Facts → file.Settings → ℕ → Result admin.Command AdminFault → List AdminReply
 replies_by outlets answers facts settings now (Ok admin.Stats) = Stats facts now ∷ []
-replies_by outlets answers facts settings now (Ok admin.Totals) = Totals outlets facts (numbers_told (answers 0)) ∷ []
+replies_by outlets answers facts settings now (Ok admin.Totals) = Totals outlets facts (flat_map numbers_looked (answers 0)) ∷ []
 replies_by outlets answers facts settings now (Ok admin.Config) = Config settings ∷ []
 replies_by outlets answers facts settings now (Ok admin.Quit) = []
-replies_by outlets answers facts settings now (Ok (admin.Show kind)) = Rows kind (rows_told (answers 0)) ∷ []
+replies_by outlets answers facts settings now (Ok (admin.Show kind)) = Rows kind (in_key_order (λ row. row.key) (flat_map rows_in (answers 0))) ∷ []
 replies_by outlets answers facts settings now (Ok (admin.Delete kind names)) = names_replied answers names ++ Finish ∷ []
 replies_by outlets answers facts settings now (Ok (admin.Health word)) = Health (health_after word facts.up) ∷ []
 replies_by outlets answers facts settings now (Err fault) = Fault fault ∷ []
 
 -- the text of replies, one after another
-abbrev pub replies_text : List Reply → List ℕ
+abbrev pub replies_text : List AdminReply → List ℕ
 replies_text replies = flat_map reply_text replies

@@ -1,8 +1,7 @@
--- Totals: what was counted, by name, and the text of that.
-use Rattle.std.specs.Prelude.{ℕ, Bool, not, ◌||◌, if◌then◌else◌, List, [], ◌∷◌, ◌++◌, codes, decimal, filter, flat_map, sum_by}
-use Rattle.std.specs.Str.{bytes_eq}
+-- Totals: what was counted, by name, and the text of that; and the desk's numbers that only grow.
+use Rattle.std.specs.{Prelude.{ℕ, Bool, not, ◌||◌, if◌then◌else◌, List, [], ◌∷◌, ◌++◌, codes, decimal, filter, flat_map, ◌≡◌, ◌⊎◌, ⊤, slice_index}, Str.{bytes_eq}}
 use Rattle.sd_model_shard.specs.Shard.{Numbers}
-use Rattle.sd_model_record.specs.Desk.{Facts}
+use Rattle.sd_model_record.specs.{Desk.{Facts, Desk}, DeskHistory.{DeskCall, AdminFault, Look}}
 
 -- a name, and the number that was counted under it
 abbrev pub Total : Type 0
@@ -20,10 +19,6 @@ totals_text totals = flat_map total_line totals
 abbrev pub number_in : List Total → List ℕ → ℕ
 number_in [] name = 0
 number_in (t ∷ totals) name = if bytes_eq t.0 name then t.1 else number_in totals name
-
--- a number of shards, added up
-abbrev pub added : List Numbers → (Numbers → ℕ) → ℕ
-added shards number = sum_by number shards
 
 -- the totals of shards whose numbers are added up so, and of a desk with these facts
 abbrev pub totals_of : ((Numbers → ℕ) → ℕ) → Facts → List Total
@@ -43,10 +38,53 @@ totals_of all facts =
     ∷ (codes "admin_faults", facts.admin_faults)
     ∷ []
 
--- whether a total is known at the end alone, where backends have outlets: their workers tell then what failed
-abbrev pub is_late : Total → Bool
-is_late t = bytes_eq t.0 (codes "graphite_faults") || bytes_eq t.0 (codes "console_faults")
-
--- those of totals that are known before the end, where backends have outlets and where they have none
+-- those of totals that are known before the end: all, but where backends have outlets their faults, which their workers tell at the
+-- end
 abbrev pub known_before_end : (outlets : Bool) → List Total → List Total
-known_before_end outlets totals = if outlets then filter (λ t. not (is_late t)) totals else totals
+known_before_end outlets totals = if outlets then filter (λ t. not (bytes_eq t.0 (codes "graphite_faults") || bytes_eq t.0 (codes "console_faults"))) totals else totals
+
+-- The thirteen numbers: the four totals, the four sums of the tallies taken, the rounds, and the four counts of faults.
+pub data Count : Type 0 where
+  TotalPackets TotalLines TotalBad TotalDropped TakenPackets TakenLines TakenBad TakenDropped RoundsMade GraphiteFaults ConsoleFaults RepeaterFaults AdminFaults : Count
+
+-- so much of each number
+abbrev pub Amounts : Type 0
+Amounts = Count → ℕ
+
+-- the numbers of a desk, in order
+abbrev pub numbers_in : Desk → List ℕ
+numbers_in d =
+    d.facts.totals.packets ∷ d.facts.totals.lines ∷ d.facts.totals.bad ∷ d.facts.totals.dropped
+    ∷ d.taken_so_far.packets ∷ d.taken_so_far.lines ∷ d.taken_so_far.bad ∷ d.taken_so_far.dropped
+    ∷ d.facts.rounds ∷ d.facts.graphite_faults ∷ d.facts.console_faults ∷ d.facts.repeater_faults ∷ d.facts.admin_faults ∷ []
+
+-- the place of a number in that order
+abbrev pub place : Count → ℕ
+place TotalPackets = 0
+place TotalLines = 1
+place TotalBad = 2
+place TotalDropped = 3
+place TakenPackets = 4
+place TakenLines = 5
+place TakenBad = 6
+place TakenDropped = 7
+place RoundsMade = 8
+place GraphiteFaults = 9
+place ConsoleFaults = 10
+place RepeaterFaults = 11
+place AdminFaults = 12
+
+-- a number of a desk
+abbrev pub number_of : Desk → Amounts
+number_of d = λ count. slice_index (numbers_in d) (place count)
+
+-- a call asks for the facts, or counts an admin session that failed
+abbrev pub IsKeeperCall : DeskCall → Type 0
+IsKeeperCall call = (call.event ≡ Look) ⊎ (call.event ≡ AdminFault)
+
+-- among calls stand these, in order, and each other one is such
+abbrev pub Among : (DeskCall → Type 0) → List DeskCall → List DeskCall → Type 0
+Among Other [] [] = ⊤
+Among Other (n ∷ needed) [] = ⊥
+Among Other [] (c ∷ calls) = Other c × Among Other [] calls
+Among Other (n ∷ needed) (c ∷ calls) = ((c ≡ n) × Among Other needed calls) ⊎ (Other c × Among Other (n ∷ needed) calls)

@@ -7,8 +7,8 @@ use Rattle.sd_model_shard.specs.Shard.{empty_state}
 use Rattle.sd_model_shard.specs.History.{Legal}
 use Rattle.sd_model_shard.specs.Whereabouts.{Arrival}
 use Rattle.sd_model_shard.proofs.HistoryLemmas.{LegalFrom-answered}
-use Rattle.sd_model_replay.specs.Settings.{Bounds}
-use Rattle.sd_model_replay.specs.Replay.{Played, events_at, history_at, home_of}
+use Rattle.sd_model_replay.specs.Replay.{Bounds, Played, history_at, home_of}
+use Rattle.sd_model_replay.proofs.Short.{events_at}
 
 pub legal : (bounds : Bounds) (i : ℕ) (played : List Played) → Legal bounds.limits bounds.policy (history_at bounds i played)
 legal bounds i played = LegalFrom-answered bounds.limits bounds.policy empty_state (events_at bounds.shards i played)

@@ -12,11 +12,11 @@ use Rattle.sd_model_text.specs.Names.{Kind}
 use Rattle.sd_model_record.specs.Admin as admin
 use Rattle.sd_model_record.specs.Admin.{AdminFault}
 use Rattle.sd_model_serve.specs.Rounds.{Round}
-use Rattle.sd_model_replay.specs.Settings.{Bounds}
-use Rattle.sd_model_replay.specs.Script.{Command, Packet, Flush, Admin}
+use Rattle.sd_model_replay.specs.Replay.{Bounds, Outcome, Played, home_of, events_of_record, history_at, samples_of_record, samples_at, Run, first_run, acts_of_record, play, run_of, Moment, moments, round_by, rounds}
+use Rattle.sd_model_replay.specs.Script.{ScriptCommand, Packet, Flush, Admin}
 use Rattle.sd_model_serve.specs.Receiving.{administrator}
 use Rattle.sd_model_record.specs.Replies.{admin_events}
-use Rattle.sd_model_replay.specs.Replay.{Outcome, Played, home_of, events_in, events_at, history_at, samples_in, samples_at, Run, first_run, acts_in, play, run_of, Moment, moments, round_by, rounds_from, rounds}
+use Rattle.sd_model_replay.proofs.Short.{events_at, rounds_from}
 
 abbrev arrivals_asked : List Asked → List Arrival
 arrivals_asked asked = filter_map (λ q. arrival_in q.who q.event) asked
@@ -53,7 +53,7 @@ line_part (Ok (admin.Delete kind names)) = no_arrivals kind names
 line_part (Ok (admin.Health word)) = refl
 line_part (Err fault) = refl
 
-command_part : (bounds : Bounds) (i : ℕ) (c : Command) → arrivals_asked (events_in bounds.shards i c) ≡ part_of (at_shard bounds.shards) i (samples_in c)
+command_part : (bounds : Bounds) (i : ℕ) (c : ScriptCommand) → arrivals_asked (events_of_record bounds.shards i c) ≡ part_of (at_shard bounds.shards) i (samples_of_record c)
 command_part bounds i (Packet who moment datagram) = packet_part bounds i who (samples_of datagram)
 command_part bounds i (Flush ts) = refl
 command_part bounds i (Admin moment line) = line_part (admin.command line)
@@ -61,11 +61,11 @@ command_part bounds i (Admin moment line) = line_part (admin.command line)
 records_part : (bounds : Bounds) (i : ℕ) (played : List Played) → arrivals_asked (events_at bounds.shards i played) ≡ part_of (at_shard bounds.shards) i (samples_at played)
 records_part bounds i [] = refl
 records_part bounds i (p ∷ played) =
-    let here = arrivals_asked (events_in bounds.shards i p.command) in
-    filter_map-append (λ (q : Asked). arrival_in q.who q.event) (events_in bounds.shards i p.command) (events_at bounds.shards i played)
+    let here = arrivals_asked (events_of_record bounds.shards i p.command) in
+    filter_map-append (λ (q : Asked). arrival_in q.who q.event) (events_of_record bounds.shards i p.command) (events_at bounds.shards i played)
     ∙ ap (λ (rest : List Arrival). here ++ rest) (records_part bounds i played)
-    ∙ ap (λ (front : List Arrival). front ++ part_of (at_shard bounds.shards) i (samples_at played)) (command_part bounds i p.command)
-    ∙ sym (filter-append (λ (a : Arrival). eqb i (at_shard bounds.shards a)) (samples_in p.command) (samples_at played))
+    ∙ ap (λ (prefix : List Arrival). prefix ++ part_of (at_shard bounds.shards) i (samples_at played)) (command_part bounds i p.command)
+    ∙ sym (filter-append (λ (a : Arrival). eqb i (at_shard bounds.shards a)) (samples_of_record p.command) (samples_at played))
 
 -- the samples submitted to a shard are those of the records that belong there
 pub arrivals-history_at : (bounds : Bounds) (i : ℕ) (played : List Played) → arrivals (history_at bounds i played) ≡ part_of (at_shard bounds.shards) i (samples_at played)
@@ -101,11 +101,11 @@ no_line_tables limits policy state (Err fault) = refl
 abbrev pub tables_at : ℕ → List Round → List Table
 tables_at i rs = map (λ r. r.tables i) rs
 
-rounds_of : Run → Command → Outcome → List Moment → List Round
+rounds_of : Run → ScriptCommand → Outcome → List Moment → List Round
 rounds_of run c outcome ms = filter_map (λ (m : Moment). round_by m.before m.played.command m.played.outcome) (record { before = run; played = record { command = c; outcome = outcome } } ∷ ms)
 
-one_table : (bounds : Bounds) (i : ℕ) (run : Run) (c : Command) (outcome : Outcome) (ms : List Moment)
-    → tables (acts_in bounds run.shards i c) ++ tables_at i (filter_map (λ (m : Moment). round_by m.before m.played.command m.played.outcome) ms) ≡ tables_at i (rounds_of run c outcome ms)
+one_table : (bounds : Bounds) (i : ℕ) (run : Run) (c : ScriptCommand) (outcome : Outcome) (ms : List Moment)
+    → tables (acts_of_record bounds run.shards i c) ++ tables_at i (filter_map (λ (m : Moment). round_by m.before m.played.command m.played.outcome) ms) ≡ tables_at i (rounds_of run c outcome ms)
 unfolding rounds_of
 one_table bounds i run (Packet who moment datagram) outcome ms =
     ap (λ (ts : List Table). ts ++ tables_at i (filter_map (λ (m : Moment). round_by m.before m.played.command m.played.outcome) ms))
@@ -119,10 +119,10 @@ tables_from : (bounds : Bounds) (i : ℕ) (run : Run) (played : List Played) →
 unfolding rounds_of
 tables_from bounds i run [] = refl
 tables_from bounds i run (p ∷ played) =
-    let acts = acts_in bounds run.shards i p.command in
+    let acts = acts_of_record bounds run.shards i p.command in
     let next = play bounds run p in
     let rest = answered bounds.limits bounds.policy (next.shards i) (events_at bounds.shards i played) in
-    ap tables (answered-append bounds.limits bounds.policy (run.shards i) (events_in bounds.shards i p.command) (events_at bounds.shards i played))
+    ap tables (answered-append bounds.limits bounds.policy (run.shards i) (events_of_record bounds.shards i p.command) (events_at bounds.shards i played))
     ∙ filter_map-append (λ (a : Act). table_in a.reply) acts rest
     ∙ ap (λ (ts : List Table). tables acts ++ ts) (tables_from bounds i next played)
     ∙ one_table bounds i run p.command p.outcome (moments bounds next played)
@@ -136,12 +136,12 @@ state_from : (bounds : Bounds) (i : ℕ) (run : Run) (played : List Played)
     → (run_of bounds run played).shards i ≡ after_all bounds.limits bounds.policy (run.shards i) (answered bounds.limits bounds.policy (run.shards i) (events_at bounds.shards i played))
 state_from bounds i run [] = refl
 state_from bounds i run (p ∷ played) =
-    let acts = acts_in bounds run.shards i p.command in
+    let acts = acts_of_record bounds run.shards i p.command in
     let next = play bounds run p in
     let rest = answered bounds.limits bounds.policy (next.shards i) (events_at bounds.shards i played) in
     state_from bounds i next played
     ∙ sym (fold-append (after bounds.limits bounds.policy) (run.shards i) acts rest)
-    ∙ ap (after_all bounds.limits bounds.policy (run.shards i)) (sym (answered-append bounds.limits bounds.policy (run.shards i) (events_in bounds.shards i p.command) (events_at bounds.shards i played)))
+    ∙ ap (after_all bounds.limits bounds.policy (run.shards i)) (sym (answered-append bounds.limits bounds.policy (run.shards i) (events_of_record bounds.shards i p.command) (events_at bounds.shards i played)))
 
 pub state-history_at : (bounds : Bounds) (i : ℕ) (played : List Played) → (run_of bounds (first_run played) played).shards i ≡ state_after bounds.limits bounds.policy (history_at bounds i played)
 state-history_at bounds i played = state_from bounds i (first_run played) played

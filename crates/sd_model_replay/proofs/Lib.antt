@@ -1,3 +1,4 @@
+pub mod Short
 pub mod AccountingLemmas
 pub mod HistoryLemmas
 pub mod LineLemmas

@@ -13,13 +13,13 @@ Lacks-cons byte x xs other lacks zero inside = other
 Lacks-cons byte x xs other lacks (suc k) inside = lacks k (omega arith)
 
 Lacks-append : (byte : ℕ) (xs ys : List ℕ) → Lacks byte xs → Lacks byte ys → Lacks byte (xs ++ ys)
-Lacks-append byte xs ys front behind k inside =
+Lacks-append byte xs ys prefix behind k inside =
     ⊎_elim
-    (λ less. rw (get_or_append_left xs ys 0 k less) (front k less))
+    (λ less. rw (get_or_append_left xs ys 0 k less) (prefix k less))
     (λ most. rw (get_or-append_right xs ys (length xs) k 0 refl most) (behind (k - length xs) (omega (arith, length-append xs ys))))
     (cases_lt k (length xs))
 
--- the digits behind a space
+-- the digits after a space
 Lacks-field : (n : ℕ) → n < 2 ^ 64 → Lacks 10 (32 ∷ decimal n)
 Lacks-field n small = Lacks-cons 10 32 (decimal n) (λ same. absurd (omega (arith, same))) (Lacks-decimal 10 n (omega arith) small)
 
@@ -30,7 +30,7 @@ first_byte xs ys same = ap (λ zs. get_or zs 0 0) same
 pub inside_cut : (s : ℕ) (part rest : List ℕ) → length part < length (part ++ s ∷ rest)
 inside_cut s part rest = omega (arith, length-append part (s ∷ rest))
 
--- what stands behind bytes stands behind their first line
+-- what is after bytes is after their first line
 pub longer : (bytes line rest more : List ℕ) → bytes ≡ line ++ 10 ∷ rest → bytes ++ more ≡ line ++ 10 ∷ (rest ++ more)
 longer bytes line rest more whole = ap (λ xs. xs ++ more) whole ∙ append_assoc line (10 ∷ rest) more
 
@@ -38,21 +38,21 @@ longer bytes line rest more whole = ap (λ xs. xs ++ more) whole ∙ append_asso
 pub uncut : (s : ℕ) (xs part rest : List ℕ) → Lacks s xs → xs ≡ part ++ s ∷ rest → ⊥
 uncut s xs part rest lacks same = lacks (length part) (rw same (inside_cut s part rest)) (rw same (at_cut s part rest))
 
--- the newline behind a short line is seen among the first bytes
+-- the newline after a short line is seen among the first bytes
 pub newline_soon : (bytes line rest : List ℕ) → length line < 40 → bytes ≡ line ++ 10 ∷ rest → Lacks 10 (take 40 bytes) → ⊥
 newline_soon bytes line rest short whole lacks =
     let inside : length line < length bytes = subst (λ xs. length line < length xs) (sym whole) (inside_cut 10 line rest) in
     lacks (length line) (omega (arith, length-take 40 bytes))
     (get_or-take 40 bytes (length line) 0 short ∙ ap (λ xs. get_or xs (length line) 0) whole ∙ at_cut 10 line rest)
 
--- two numbers behind one another, with a space between
+-- two numbers after one another, with a space between
 two_numbers : (m n m' n' : ℕ) → m < 2 ^ 64 → n < 2 ^ 64 → m' < 2 ^ 64 → n' < 2 ^ 64 → decimal m ++ 32 ∷ decimal n ≡ decimal m' ++ 32 ∷ decimal n' → (m ≡ m') × (n ≡ n')
 two_numbers m n m' n' a b c d same =
     let cut = same_cut 32 (decimal m) (decimal n) (decimal m') (decimal n') (Lacks-decimal 32 m (omega arith) a) (Lacks-decimal 32 m' (omega arith) c) same in
     (decimal_injective m m' a c cut.0, decimal_injective n n' b d cut.1)
 
 module _ (receivers : ℕ) where
-  -- no newline stands in a first line, which has fewer than 40 bytes
+  -- no newline is in a first line, which has fewer than 40 bytes
   pub Lacks-line : (head : Head) → IsForm receivers head → Lacks 10 (head_line head)
   Lacks-line (PacketHead who moment len) form =
       Lacks-append 10 (80 ∷ 32 ∷ decimal who ++ 32 ∷ decimal moment) (32 ∷ decimal len)
@@ -124,8 +124,8 @@ module _ (receivers : ℕ) where
   same_head EndHead (FlushHead ts') first second same = absurd (omega (arith, first_byte _ _ same))
   same_head EndHead (AdminHead moment' len') first second same = absurd (omega (arith, first_byte _ _ same))
 
-  -- two first lines at the front of bytes are one
-  pub same_front : (bytes : List ℕ) (a b : Head) (rest other : List ℕ) → IsForm receivers a → IsForm receivers b → bytes ≡ head_line a ++ 10 ∷ rest → bytes ≡ head_line b ++ 10 ∷ other → (a ≡ b) × (rest ≡ other)
-  same_front bytes a b rest other first second one two =
+  -- two first lines at the start of bytes are one
+  pub same_prefix : (bytes : List ℕ) (a b : Head) (rest other : List ℕ) → IsForm receivers a → IsForm receivers b → bytes ≡ head_line a ++ 10 ∷ rest → bytes ≡ head_line b ++ 10 ∷ other → (a ≡ b) × (rest ≡ other)
+  same_prefix bytes a b rest other first second one two =
       let cut = same_cut 10 (head_line a) rest (head_line b) other (Lacks-line a first) (Lacks-line b second) (sym one ∙ two) in
       (same_head a b first second cut.0, cut.1)

@@ -3,15 +3,15 @@ use Rattle.std.proofs.Common.{ℕ, zero, suc, ◌+◌, ◌*◌, ◌/◌, ◌%◌
 use Rattle.std.specs.Prelude.{if◌then◌else◌, flat_map, codes}
 use Rattle.std.specs.List.{AllByRecursion, join_with_byte, range_with_len}
 use Rattle.std.proofs.lemmas.Fmt.{length-decimal-le}
-use Rattle.sd_model_replay.specs.Script.{Command, Flush, IsLegal}
+use Rattle.sd_model_replay.specs.Script.{ScriptCommand, Flush, IsLegal}
 use Rattle.sd_model_replay.specs.MadeScript.{made_number, made_line, made_datagram, made_moment, made_packet, flush_behind, made_commands}
 
 -- the texts of numbers below a thousand
 length-decimal-rest : (n : ℕ) → length (decimal (n % 1000)) ≤ 3
 length-decimal-rest n = length-decimal-le 3 (n % 1000) (omega arith) (omega arith) (omega arith)
 
-length-line_of : (front letter key value kind : List ℕ) → length front ≤ 6 → length letter ≤ 1 → length key ≤ 3 → length value ≤ 3 → length kind ≤ 2 → length (front ++ letter ++ key ++ 58 ∷ value ++ 124 ∷ kind) ≤ 17
-length-line_of front letter key value kind a b c d e = grind (arith, length-append)
+length-line_of : (prefix letter key value kind : List ℕ) → length prefix ≤ 6 → length letter ≤ 1 → length key ≤ 3 → length value ≤ 3 → length kind ≤ 2 → length (prefix ++ letter ++ key ++ 58 ∷ value ++ 124 ∷ kind) ≤ 17
+length-line_of prefix letter key value kind a b c d e = grind (arith, length-append)
 
 length-made_line : (letter kind : List ℕ) (x : ℕ) → length letter ≤ 1 → length kind ≤ 2 → length (made_line letter kind x) ≤ 17
 length-made_line letter kind x one two =
@@ -36,7 +36,7 @@ legal_packet : (j : ℕ) → j < 2 ^ 32 → IsLegal 2 (made_packet j)
 unfolding made_packet
 legal_packet j few = ((omega arith, omega arith), omega arith, omega (arith, length-made_datagram j))
 
-legal_flush_by : (b : Bool) (ts : ℕ) (behind : List Command) → ts < 10 ^ 18 → AllByRecursion (IsLegal 2) behind → AllByRecursion (IsLegal 2) ((if b then Flush ts ∷ [] else []) ++ behind)
+legal_flush_by : (b : Bool) (ts : ℕ) (behind : List ScriptCommand) → ts < 10 ^ 18 → AllByRecursion (IsLegal 2) behind → AllByRecursion (IsLegal 2) ((if b then Flush ts ∷ [] else []) ++ behind)
 legal_flush_by true ts behind moment rest = (moment, rest)
 legal_flush_by false ts behind moment rest = rest
 

@@ -7,15 +7,14 @@ use Rattle.std.proofs.lemmas.List.{map-append}
 use Rattle.std.proofs.lemmas.List.Elements.{filter_map-append}
 use Rattle.std.proofs.lemmas.List.Sums.{fold_push}
 use Rattle.sd_model_serve.specs.Rounds.{Round, round_text}
-use Rattle.sd_model_outside.specs.Deliveries.{Delivery}
+use Rattle.sd_model_outside.specs.Uses.{Delivery}
 use Rattle.sd_model_record.specs.Backends.{Backend, mark_of}
-use Rattle.sd_model_replay.specs.Settings.{Bounds, bounds_of}
-use Rattle.sd_model_replay.specs.Script.{Command, spelled, script_text}
-use Rattle.sd_model_replay.specs.Replay.{Played, Run, first_run, play, run_of, Moment, moments, form_of, round_by, rounds, deliveries, sending_by, sendings}
-use Rattle.sd_model_replay.specs.Asked.{output_in, output_of}
+use Rattle.sd_model_replay.specs.Replay.{Bounds, bounds_of, Played, Run, first_run, play, run_of, Moment, moments, form_of, round_by, rounds, deliveries, sending_by, sendings}
+use Rattle.sd_model_replay.specs.Script.{ScriptCommand, spelled, script_text}
+use Rattle.sd_model_replay.specs.AccountingTheorem.{output_in, output_of}
 use Rattle.sd_model_settings.specs.Settings.{Settings}
 
--- The state before a record that comes behind others, whose first one, or else itself, tells the start.
+-- The state before a record that comes after others, whose first one, or else itself, tells the start.
 abbrev pub run_before : Bounds → List Played → Played → Run
 run_before bounds played p = run_of bounds (first_run (played ++ p ∷ [])) played
 
@@ -26,7 +25,7 @@ moments-push : (bounds : Bounds) (run : Run) (played : List Played) (p : Played)
 moments-push bounds run [] p = refl
 moments-push bounds run (q ∷ played) p = ap (λ (ms : List Moment). record { before = run; played = q } ∷ ms) (moments-push bounds (play bounds run q) played p)
 
--- where records stand before it, it doesn't tell the start
+-- where records are before it, it doesn't tell the start
 same_moments : (bounds : Bounds) (played : List Played) (p : Played) → moments bounds (first_run (played ++ p ∷ [])) played ≡ moments bounds (first_run played) played
 same_moments bounds [] p = refl
 same_moments bounds (q ∷ played) p = refl
@@ -58,7 +57,7 @@ deliveries-push settings back played p =
     ap (map (delivery_of settings back)) (rounds-push (bounds_of settings) played p)
     ∙ map-append (delivery_of settings back) (rounds (bounds_of settings) played) (cons_option (round_at (run_before (bounds_of settings) played p) p) [])
 
--- what a record writes stands behind what those before it write
+-- what a record writes is after what those before it write
 pub output_of-push : (settings : Settings) (played : List Played) (p : Played) → output_of settings (played ++ p ∷ []) ≡ output_of settings played ++ output_in settings (run_before (bounds_of settings) played p) p.command
 output_of-push settings played p =
     ap (flat_map (λ (m : Moment). output_in settings m.before m.played.command)) (moments-more (bounds_of settings) played p)
@@ -68,7 +67,7 @@ output_of-push settings played p =
 pub sendings-push : (played : List Played) (p : Played) → sendings (played ++ p ∷ []) ≡ sendings played ++ cons_option (sending_by p.command p.outcome) []
 sendings-push played p = filter_map-append (λ (q : Played). sending_by q.command q.outcome) played (p ∷ [])
 
-pub script_text-end : (commands : List Command) (c : Command) → script_text (commands ++ c ∷ []) ≡ script_text commands ++ spelled c
+pub script_text-end : (commands : List ScriptCommand) (c : ScriptCommand) → script_text (commands ++ c ∷ []) ≡ script_text commands ++ spelled c
 script_text-end commands c = flat_map-append spelled commands (c ∷ []) ∙ ap (λ text. script_text commands ++ text) (append-nil (spelled c))
 
 pub AllByRecursion-push : {A : Type 0} (P : A → Type 0) (xs : List A) (x : A) → AllByRecursion P xs → P x → AllByRecursion P (xs ++ x ∷ [])

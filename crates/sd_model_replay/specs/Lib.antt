@@ -1,8 +1,4 @@
-pub mod Settings
+pub mod Replay
 pub mod Script
 pub mod MadeScript
-pub mod Replay
-pub mod Asked
-pub mod Totals
 pub mod AccountingTheorem
-pub mod Ends

@@ -1,10 +1,11 @@
--- Scripts: the first lines of records; the records that a replay carries out, and their text; and what stands next in a script.
+-- Scripts: the first lines of records; the records that a replay executes, and their text; and what is next in a script.
 use Rattle.std.specs.Prelude.{◌≡◌, ℕ, ◌≤◌, List, [], ◌∷◌, ◌++◌, length, flat_map, ◌^◌, ◌<◌, Bool, true, false, decimal, Option, Some, None, ⊤, ◌≢◌, ◌⊎◌, IsTrue, take, slice_index}
-use Rattle.sd_model_text.specs.Lists.{Lacks}
-use Rattle.sd_model_outside.specs.Outside.{Told, IsAtEnd}
+use Rattle.sd_model_text.specs.{Lists.{Lacks}, Lines.{longest_datagram}}
+use Rattle.sd_model_outside.specs.Outside.{Content, IsAtEnd}
+use Rattle.sd_model_record.specs.Admin.{longest_line}
 
--- A datagram of so many bytes that a receiver got at a moment; a flush at a Unix second; an admin command of so many
--- bytes at a moment; or the end of the script.
+-- A datagram of so many bytes that a receiver got at a moment; a flush at a Unix second; an admin command of so many bytes at a
+-- moment; or the end of the script.
 pub data Head : Type 0 where
   PacketHead : (who moment len : ℕ) → Head
   FlushHead : (ts : ℕ) → Head
@@ -26,27 +27,14 @@ IsReceiver receivers who = (who < receivers) × (who < 10 ^ 2)
 abbrev pub IsMoment : ℕ → Type 0
 IsMoment t = t < 10 ^ 18
 
--- a number of bytes has at most 5 digits, however many may stand there
-abbrev pub IsCount : ℕ → Type 0
-IsCount n = n < 10 ^ 5
-
 -- The numbers of a first line have their forms, where there are so many receivers.
 abbrev pub IsForm : ℕ → Head → Type 0
-IsForm receivers (PacketHead who moment len) = IsReceiver receivers who × IsMoment moment × IsCount len
+IsForm receivers (PacketHead who moment len) = IsReceiver receivers who × IsMoment moment × (len < 10 ^ 5)
 IsForm receivers (FlushHead ts) = IsMoment ts
-IsForm receivers (AdminHead moment len) = IsMoment moment × IsCount len
+IsForm receivers (AdminHead moment len) = IsMoment moment × (len < 10 ^ 5)
 IsForm receivers EndHead = ⊤
 
--- how many bytes a datagram has at most
-abbrev pub longest_datagram : ℕ
-longest_datagram = 65507
-
--- how many bytes an admin command has at most
-abbrev pub longest_command : ℕ
-longest_command = 1023
-
--- What stands behind a first line, before a newline: so many bytes; how many there may be at most; and whether they
--- are a line, which has no newline.
+-- What is between a first line and a newline: so many bytes, how many there may be, and whether they are a line, without a newline.
 pub record Body : Type 0 where
   pub len : ℕ
   pub most : ℕ
@@ -55,20 +43,19 @@ pub record Body : Type 0 where
 -- the body that a first line announces
 abbrev pub body_of : Head → Option Body
 body_of (PacketHead who moment len) = Some (record { len = len; most = longest_datagram; is_line = false })
-body_of (AdminHead moment len) = Some (record { len = len; most = longest_command; is_line = true })
+body_of (AdminHead moment len) = Some (record { len = len; most = longest_line; is_line = true })
 body_of (FlushHead ts) = None
 body_of EndHead = None
 
--- A datagram that a receiver got at a moment, a flush at a Unix second, or the line of an admin command that came at a
--- moment.
-pub data Command : Type 0 where
-  Packet : (who moment : ℕ) (datagram : List ℕ) → Command
-  Flush : (ts : ℕ) → Command
-  Admin : (moment : ℕ) (line : List ℕ) → Command
+-- A datagram that a receiver got at a moment, a flush at a Unix second, or the line of an admin command at a moment.
+pub data ScriptCommand : Type 0 where
+  Packet : (who moment : ℕ) (datagram : List ℕ) → ScriptCommand
+  Flush : (ts : ℕ) → ScriptCommand
+  Admin : (moment : ℕ) (line : List ℕ) → ScriptCommand
 
--- The text of a script's record: `P W T N` or `A T N`, a newline, the N bytes of the datagram or the line, and a newline;
--- or `F T` and a newline.
-abbrev pub spelled : Command → List ℕ
+-- The text of a record: `P W T N` or `A T N`, a newline, the N bytes of the datagram or the line, a newline; or `F T` and a
+-- newline.
+abbrev pub spelled : ScriptCommand → List ℕ
 spelled (Packet who moment datagram) = head_line (PacketHead who moment (length datagram)) ++ 10 ∷ datagram ++ 10 ∷ []
 spelled (Flush ts) = head_line (FlushHead ts) ++ 10 ∷ []
 spelled (Admin moment line) = head_line (AdminHead moment (length line)) ++ 10 ∷ line ++ 10 ∷ []
@@ -78,34 +65,27 @@ abbrev pub end_word : List ℕ
 end_word = head_line EndHead ++ 10 ∷ []
 
 -- the text of a script's records, one after another
-abbrev pub script_text : List Command → List ℕ
+abbrev pub script_text : List ScriptCommand → List ℕ
 script_text commands = flat_map spelled commands
 
 -- A record that is legal where there are so many receivers.
-abbrev pub IsLegal : ℕ → Command → Type 0
-IsLegal receivers (Packet who moment datagram) =
-    IsReceiver receivers who × IsMoment moment × (length datagram ≤ longest_datagram)
+abbrev pub IsLegal : ℕ → ScriptCommand → Type 0
+IsLegal receivers (Packet who moment datagram) = IsReceiver receivers who × IsMoment moment × (length datagram ≤ longest_datagram)
 IsLegal receivers (Flush ts) = IsMoment ts
-IsLegal receivers (Admin moment line) = IsMoment moment × (length line ≤ longest_command) × Lacks 10 line
+IsLegal receivers (Admin moment line) = IsMoment moment × (length line ≤ longest_line) × Lacks 10 line
 
 -- bytes that begin with the word that ends a script
 abbrev pub BeginsEnd : List ℕ → Type 0
 BeginsEnd bytes = (rest : List ℕ) × (bytes ≡ end_word ++ rest)
 
--- What is wrong with a record: its first line is of no form; its number of bytes is too great, or not that of its
--- bytes; or the script ends within it.
+-- What is wrong with a record: its first line is of no form; its number of bytes is too great, or not that of its bytes; or the
+-- script ends within it.
 pub data ScriptFlaw : Type 0 where
-  BadWord : ScriptFlaw
-  BadLength : ScriptFlaw
-  CutShort : ScriptFlaw
+  BadWord BadLength CutShort : ScriptFlaw
 
 -- fewer than 40 bytes without a newline
 abbrev pub IsPartOfLine : List ℕ → Type 0
 IsPartOfLine bytes = Lacks 10 bytes × (length bytes < 40)
-
--- no newline stands among the first 40 bytes
-abbrev pub HasNoLine : List ℕ → Type 0
-HasNoLine bytes = Lacks 10 (take 40 bytes) × (40 ≤ length bytes)
 
 -- the first line is none of the forms
 pub record HasNoForm (receivers : ℕ) (bytes : List ℕ) : Type 0 where
@@ -115,7 +95,7 @@ pub record HasNoForm (receivers : ℕ) (bytes : List ℕ) : Type 0 where
   pub first : Lacks 10 line
   pub other : (head : Head) → IsForm receivers head → line ≢ head_line head
 
--- Bytes that begin with a first line that announces a body, and with what stands behind it the body is so.
+-- Bytes that begin with a first line that announces a body, and with what is after it the body is so.
 pub record HasBody (receivers : ℕ) (IsSo : Body → List ℕ → Type 0) (bytes : List ℕ) : Type 0 where
   pub head : Head
   pub body : Body
@@ -125,42 +105,34 @@ pub record HasBody (receivers : ℕ) (IsSo : Body → List ℕ → Type 0) (byte
   pub announced : body_of head ≡ Some body
   pub so : IsSo body rest
 
--- the number of bytes is over its greatest value
-abbrev pub IsOver : Body → List ℕ → Type 0
-IsOver body rest = body.most < body.len
-
--- it isn't, and fewer bytes than these and one more stand there
+-- it isn't, and fewer bytes than these and one more are there
 abbrev pub IsPart : Body → List ℕ → Type 0
 IsPart body rest = (body.len ≤ body.most) × (length rest ≤ body.len)
 
--- the byte behind the bytes isn't a newline, or they hold one where they are to be a line
-abbrev pub IsMisfit : Body → List ℕ → Type 0
-IsMisfit body rest = (slice_index rest body.len ≢ 10) ⊎ (IsTrue body.is_line × ¬ Lacks 10 (take body.len rest))
-
--- as many bytes stand there as may, and one more, and they don't fit
+-- as many bytes are there as may, and one more, and they don't fit
 abbrev pub IsWrong : Body → List ℕ → Type 0
-IsWrong body rest = (body.len ≤ body.most) × (body.len < length rest) × IsMisfit body rest
+IsWrong body rest = (body.len ≤ body.most) × (body.len < length rest) × ((slice_index rest body.len ≢ 10) ⊎ (IsTrue body.is_line × ¬ Lacks 10 (take body.len rest)))
 
--- bytes that don't decide yet what stands next, so that more have to be read: a part of a line, or of a body
+-- bytes that don't decide yet what is next, so that more have to be read: a part of a line, or of a body
 abbrev pub IsUndecided : ℕ → List ℕ → Type 0
 IsUndecided receivers bytes = IsPartOfLine bytes ⊎ HasBody receivers IsPart bytes
 
--- The flaw of a record, by the bytes that were read from its place on and what the source has left behind them. It is the
--- first of these, each of which leaves out those before it: the source ends within the first line; there is no line, or
--- one of no form; its number of bytes is over its greatest value; the source ends within the body; the body is wrong.
-abbrev pub HasFlaw : ℕ → ScriptFlaw → List ℕ → Told → Type 0
-HasFlaw receivers BadWord bytes left = HasNoLine bytes ⊎ HasNoForm receivers bytes
-HasFlaw receivers BadLength bytes left = HasBody receivers IsOver bytes ⊎ HasBody receivers IsWrong bytes
+-- The flaw of a record, by the bytes that were read from its place on and what the source has left after them. It is the first of
+-- these, each of which leaves out those before it: the source ends within the first line; there is no line, or one of no form; its
+-- number of bytes is over its greatest value; the source ends within the body; the body is wrong.
+abbrev pub HasFlaw : ℕ → ScriptFlaw → List ℕ → Content → Type 0
+HasFlaw receivers BadWord bytes left = (Lacks 10 (take 40 bytes) × (40 ≤ length bytes)) ⊎ HasNoForm receivers bytes
+HasFlaw receivers BadLength bytes left = HasBody receivers (λ body rest. body.most < body.len) bytes ⊎ HasBody receivers IsWrong bytes
 HasFlaw receivers CutShort bytes left = IsUndecided receivers bytes × IsAtEnd left
 
--- What stands next in a script: a record, the word that ends it, or the flaw of a record.
+-- What is next in a script: a record, the word that ends it, or the flaw of a record.
 pub data Next : Type 0 where
-  Carried : (command : Command) → Next
+  Executed : (command : ScriptCommand) → Next
   Ending : Next
   Faulty : (flaw : ScriptFlaw) → Next
 
--- this stands next in bytes that were read, behind which a source has so much left
-abbrev pub Begins : ℕ → Next → List ℕ → Told → Type 0
-Begins receivers (Carried command) bytes left = IsLegal receivers command × ((rest : List ℕ) × (bytes ≡ spelled command ++ rest))
+-- this is next in bytes that were read, after which a source has so much left
+abbrev pub Begins : ℕ → Next → List ℕ → Content → Type 0
+Begins receivers (Executed command) bytes left = IsLegal receivers command × ((rest : List ℕ) × (bytes ≡ spelled command ++ rest))
 Begins receivers Ending bytes left = BeginsEnd bytes
 Begins receivers (Faulty flaw) bytes left = HasFlaw receivers flaw bytes left

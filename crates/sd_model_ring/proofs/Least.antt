@@ -4,7 +4,8 @@ use Rattle.std.specs.List.{All}
 use Rattle.std.specs.Option.{option_map_or}
 use Rattle.std.proofs.lemmas.Bool.{cases_Bool}
 use Rattle.std.proofs.lemmas.List.Elements.{All-nil, All-cons, All-weaker, All-contains, All-contains_itself, Contains-append_right}
-use Rattle.sd_model_ring.specs.Ring.{Point, comes_first, lesser, least}
+use Rattle.sd_model_ring.specs.Ring.{Point, least}
+use Rattle.sd_model_ring.proofs.Short.{lesser, comes_first}
 
 -- what it is that a point comes first
 abbrev pub Precedes : Point → Point → Type 0

@@ -1,3 +1,4 @@
+pub mod Short
 pub mod Least
 pub mod Owners
 pub mod Points

@@ -6,8 +6,9 @@ use Rattle.std.specs.Option.{option_or}
 use Rattle.std.proofs.lemmas.Bool.{cases_Bool}
 use Rattle.std.proofs.lemmas.List.Elements.{All-nil, All-map, All-append, All-head, All-tail, All-weaker, All-contains, All-contains_itself, All-filter, filter_passes, Contains-append_left, Contains-append_right}
 use Rattle.sd_model_settings.specs.Entries.{Node}
-use Rattle.sd_model_ring.specs.Ring.{Point, least, points_not_below, next_point, points_up, numbers_of_texts, numbers_of_node, points_at, points_of, points_from, points, is_up, owner, number_of_key}
+use Rattle.sd_model_ring.specs.Ring.{Point, least, next_point, numbers_of_node, points_from, is_up, owner}
 use Rattle.sd_model_ring.proofs.Least.{Among, none-among, Contains-head, Contains-none, least-among, no_least-among, least-same, is-least, none-least}
+use Rattle.sd_model_ring.proofs.Short.{numbers_of_texts, points_not_below, points_of, points, points_up, points_at, number_of_key}
 
 keeps : {X : Type 0} (t : X → Bool) (y : X) (ys : List X) (x : X) (b : Bool) → Contains (filter t ys) x → Contains (cond b (y ∷ filter t ys) (filter t ys)) x
 keeps t y ys x true k = Contains-append_right (y ∷ []) (filter t ys) x k

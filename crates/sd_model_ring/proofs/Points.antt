@@ -4,7 +4,8 @@ use Rattle.std.specs.List.{concat, range_with_len}
 use Rattle.std.proofs.lemmas.List.Folds.{concat-append}
 use Rattle.std.proofs.lemmas.List.FromFn.{map-range_with_len_more}
 use Rattle.sd_model_settings.specs.Entries.{Node}
-use Rattle.sd_model_ring.specs.Ring.{numbers_of, node_text, numbers_of_texts, numbers_of_node, points_at, points_of, points_from}
+use Rattle.sd_model_ring.specs.Ring.{numbers_of_node, points_from}
+use Rattle.sd_model_ring.proofs.Short.{numbers_of, numbers_of_texts, points_of, points_at, node_text}
 
 -- the numbers of one text more
 pub numbers_of_texts-more : (node : Node) (texts : ℕ) → numbers_of_texts node (texts + 1) ≡ numbers_of_texts node texts ++ numbers_of (node_text node texts)

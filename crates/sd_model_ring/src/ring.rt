@@ -1,6 +1,7 @@
 ghost use Rattle.std.specs.Prelude.{◌≡◌, ◌↔◌, ℕ, ◌<◌, List, length, Some, None, codes, true, false};
 ghost use Rattle.sd_model_settings.specs.Entries.{Node};
-ghost use Rattle.sd_model_ring.specs.Ring.{is_up, number_of_key, owner};
+ghost use Rattle.sd_model_ring.specs.Ring.{is_up, owner};
+ghost use Rattle.md5.specs.Md5.{md5, word_at};
 
 /// The owner is one of the nodes, and it is up. There is none exactly where no node is up.
 pub fn owners_are_up()
@@ -23,6 +24,6 @@ pub fn keys_stay()
 
 /// The numbers of two keys, which are the first words of their digests in RFC 1321.
 pub fn key_vectors()
-    ensures one { number_of_key (codes "a") ≡ 3111502092 }
-    ensures three { number_of_key (codes "abc") ≡ 2555380112 }
+    ensures one { word_at (md5 (codes "a")) 0 ≡ 3111502092 }
+    ensures three { word_at (md5 (codes "abc")) 0 ≡ 2555380112 }
 {}

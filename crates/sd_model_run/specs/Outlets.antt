@@ -1,7 +1,6 @@
 -- What goes to a backend through an outlet, between the ticks and the last round.
-use Rattle.std.specs.Prelude.{◌≡◌, ◌⊎◌, ℕ, ◌+◌, ◌<◌, ◌≤◌, ◌^◌, nat_lt, Bool, true, false, List, [], ◌∷◌, length, map, ⊤}
-use Rattle.std.specs.List.{AllByRecursion}
-use Rattle.sd_model_outside.specs.Deliveries.{Delivery, FitsUse}
+use Rattle.std.specs.{Prelude.{◌≡◌, ◌⊎◌, ℕ, ◌+◌, ◌<◌, ◌≤◌, ◌^◌, Bool, true, false, List, [], ◌∷◌, length, map, ⊤}, List.{AllByRecursion}}
+use Rattle.sd_model_outside.specs.Uses.{Delivery, FitsUse}
 use Rattle.sd_model_record.specs.Backends.{Backend}
 
 -- The room of an outlet: how many buffers it has, none where there is no outlet, and how many bytes each of them can hold.
@@ -9,26 +8,14 @@ pub record OutletRoom : Type 0 where
   pub buffers : ℕ
   pub bytes : ℕ
 
--- whether there is an outlet
-abbrev pub any_buffers : OutletRoom → Bool
-any_buffers room = nat_lt 0 room.buffers
-
--- how many texts an outlet takes at most
-abbrev pub most_texts : ℕ
-most_texts = 2 ^ 61
-
--- Why a text may be skipped before which so many were queued: it is longer than a buffer; as many were queued as there are buffers; or
--- as many as an outlet takes.
-abbrev pub MayBeSkipped : OutletRoom → (before : ℕ) → List ℕ → Type 0
-MayBeSkipped room before text = (room.bytes < length text) ⊎ (room.buffers ≤ before) ⊎ (most_texts ≤ before)
-
--- of texts behind so many that were queued, each that is chosen fits a buffer, and each other one may be skipped
+-- Of texts after so many that were queued, each that is chosen fits a buffer, and each other one is longer than a buffer, or as many
+-- were queued before it as there are buffers, or 2^61.
 abbrev pub AreChosen : OutletRoom → (before : ℕ) → List Bool → List (List ℕ) → Type 0
 AreChosen room before [] [] = ⊤
 AreChosen room before [] (text ∷ texts) = ⊥
 AreChosen room before (c ∷ choice) [] = ⊥
 AreChosen room before (true ∷ choice) (text ∷ texts) = (length text ≤ room.bytes) × AreChosen room (before + 1) choice texts
-AreChosen room before (false ∷ choice) (text ∷ texts) = MayBeSkipped room before text × AreChosen room before choice texts
+AreChosen room before (false ∷ choice) (text ∷ texts) = ((room.bytes < length text) ⊎ (room.buffers ≤ before) ⊎ (2 ^ 61 ≤ before)) × AreChosen room before choice texts
 
 -- of a list, what is chosen, place by place
 abbrev pub chosen : {X : Type 0} → List Bool → List X → List X
@@ -37,18 +24,15 @@ chosen (c ∷ choice) [] = []
 chosen (true ∷ choice) (x ∷ xs) = x ∷ chosen choice xs
 chosen (false ∷ choice) (x ∷ xs) = chosen choice xs
 
--- What became of a backend's texts at its outlet: those that were queued, each as it was written, in order; and how many were skipped.
-pub record Outflow : Type 0 where
+-- What became of a backend's texts at its outlet: those that were queued, each as it was written, in order; and how many were
+-- skipped.
+pub record OutletTrace : Type 0 where
   pub queued : List Delivery
   pub skipped : ℕ
 
--- no text went through an outlet
-abbrev pub no_outflow : Outflow
-no_outflow = record { queued = []; skipped = 0 }
-
--- Texts were offered at an outlet of such room, in order. Each that was queued was a round of the backend, in order, written whole or
--- missed; all others were skipped, each for a reason.
-pub record WentThrough (room : OutletRoom) (texts : List (List ℕ)) (o : Outflow) : Type 0 where
+-- Texts were offered at an outlet of such room, in order. Each that was queued was a round of the backend, in order, written whole
+-- or missed; all others were skipped, each for a reason.
+pub record WentThrough (room : OutletRoom) (texts : List (List ℕ)) (o : OutletTrace) : Type 0 where
   pub choice : List Bool
   pub chosen_so : AreChosen room 0 choice texts
   pub queued : map (λ d. d.text) o.queued ≡ chosen choice texts
@@ -56,9 +40,9 @@ pub record WentThrough (room : OutletRoom) (texts : List (List ℕ)) (o : Outflo
   pub others : length o.queued + o.skipped ≡ length texts
 
 -- by whether texts go through an outlet; where they don't, none does
-abbrev pub HasFlowed : Bool → OutletRoom → List (List ℕ) → Outflow → Type 0
-HasFlowed true room texts o = WentThrough room texts o
-HasFlowed false room texts o = o ≡ no_outflow
+abbrev pub IsOutletTrace : Bool → OutletRoom → List (List ℕ) → OutletTrace → Type 0
+IsOutletTrace true room texts o = WentThrough room texts o
+IsOutletTrace false room texts o = o ≡ record { queued = []; skipped = 0 }
 
 -- which backends have an outlet: where there are outlets, those that are used
 abbrev pub has_outlet : (outlets : Bool) → (Backend → Bool) → Backend → Bool

@@ -1,4 +1,4 @@
--- What acts behind acts ask for.
+-- What acts after acts ask for.
 use Rattle.std.proofs.Common.{◌≡◌, ℕ, eqb, List, ◌++◌, ap, ◌∙◌, map}
 use Rattle.std.proofs.lemmas.List.{map-append}
 use Rattle.std.proofs.lemmas.List.Elements.{filter-append}

@@ -1,18 +1,48 @@
--- Who did what at shards; what callers file there, and what a receiver does with the datagrams that it reads.
-use Rattle.std.specs.Prelude.{◌≡◌, ⊤, ℕ, min, List, [], ◌∷◌, length, map, take, drop, flat_map, sum_by, All}
-use Rattle.sd_model_text.specs.Lines.{Sample, samples_of, pieces, bad_of}
-use Rattle.sd_model_outside.specs.Outside.{Object}
-use Rattle.sd_model_outside.specs.Turns.{with_datagrams}
-use Rattle.sd_model_shard.specs.History.{History, part_of}
-use Rattle.sd_model_shard.specs.Whereabouts.{told_by}
-use Rattle.sd_model_record.specs.Record.{Tally}
-use Rattle.sd_model_record.specs.Desk.{last_counted}
-use Rattle.sd_model_record.specs.DeskHistory.{DeskCall, DeskEvent, Add, RepeaterFaults, Look}
-use Rattle.sd_model_serve.specs.Ends.{LoopEnd}
-use Rattle.sd_model_record.specs.WireSends.{Sending, AreRepeated, failures}
-use Rattle.std.specs.List.{AllByRecursion, AllZip, range_with_len}
-use Rattle.sd_model_text.specs.Names.{shard}
-use Rattle.sd_model_shard.specs.Shard.{Event, Submit, Reply}
+-- How the loops of a server's workers end; who did what at shards; what callers file there, and a receiver does with its datagrams.
+use Rattle.std.specs.{Prelude.{◌≡◌, ℕ, ◌<◌, ◌≤◌, ◌^◌, ⊤, min, List, [], ◌∷◌, length, map, take, drop, flat_map, sum_by, All}, List.{AllByRecursion, AllZip, range_with_len}}
+use Rattle.sd_model_outside.specs.{Outside.{Object, Rose}, Uses.{IsSpent, with_datagrams, Sending, AreRepeated, failures}}
+use Rattle.sd_model_text.specs.{Lines.{Sample, pieces, bad_of}, Names.{shard}}
+use Rattle.sd_model_shard.specs.{History.{History, part_of}, Whereabouts.{summed_by}, Shard.{Event, Submit, Reply, last_number}}
+use Rattle.sd_model_record.specs.{Record.{Tally}, DeskHistory.{DeskCall, DeskEvent, Add, RepeaterFaults, Look}}
+
+-- What ended a loop: nothing was left; a failure; so many flushes, which are enough; so many turns, which are the most.
+pub data LoopEnd : Type 0 where
+  Spent Failed : LoopEnd
+  Enough : (flushes : ℕ) → LoopEnd
+  LimitReached : (turns : ℕ) → LoopEnd
+
+-- how many turns a loop takes at most
+abbrev pub most_turns : ℕ
+most_turns = 2 ^ 62
+
+-- fewer flushes were seen than were asked for, where any were
+abbrev pub IsShort : ℕ → ℕ → Type 0
+IsShort asked seen = 0 < asked → seen < asked
+
+-- Why a receiver ended, of which so many flushes were asked, once it had seen so many, and its source had taken so many turns.
+abbrev pub EndsReceiver : (asked : ℕ) → LoopEnd → (source source_now : Object) → (seen turned : ℕ) → Type 0
+EndsReceiver asked Spent source source_now seen turned =
+    IsSpent source_now.content × (source_now.faults ≡ source.faults) × IsShort asked seen × (turned < most_turns)
+EndsReceiver asked Failed source source_now seen turned = Rose source.faults source_now.faults × IsShort asked seen × (turned < most_turns)
+EndsReceiver asked (Enough flushes) source source_now seen turned =
+    (0 < asked) × (asked ≤ flushes) × (flushes ≡ seen) × (source_now.faults ≡ source.faults) × (turned < most_turns)
+EndsReceiver asked (LimitReached turns) source source_now seen turned = (turns ≡ most_turns) × (turned ≡ most_turns) × (source_now.faults ≡ source.faults)
+
+-- Why the flusher ended, of which so many flushes were asked, once it had made so many.
+abbrev pub EndsFlusher : (asked : ℕ) → LoopEnd → (beat beat_now : Object) → (made : ℕ) → Type 0
+EndsFlusher asked Spent beat beat_now made = IsSpent beat_now.content × (beat_now.faults ≡ beat.faults) × IsShort asked made
+EndsFlusher asked Failed beat beat_now made = Rose beat.faults beat_now.faults × IsShort asked made
+EndsFlusher asked (Enough flushes) beat beat_now made = (0 < asked) × (flushes ≡ asked) × (made ≡ flushes) × (beat_now.faults ≡ beat.faults)
+EndsFlusher asked (LimitReached turns) beat beat_now made =
+    (turns ≡ most_turns) × (made ≡ turns) × (beat_now.faults ≡ beat.faults) × (0 < asked → made ≤ asked)
+
+-- Why the keeper of a door ended, of which so many flushes were asked, once it had seen so many, and the door had taken so many
+-- turns. A door's failures don't end it.
+abbrev pub EndsKeeper : (asked : ℕ) → LoopEnd → (door_now : Object) → (seen turned : ℕ) → Type 0
+EndsKeeper asked Spent door_now seen turned = IsSpent door_now.content × IsShort asked seen × (turned < most_turns)
+EndsKeeper asked Failed door_now seen turned = ⊥
+EndsKeeper asked (Enough flushes) door_now seen turned = (0 < asked) × (asked ≤ flushes) × (flushes ≡ seen) × (turned < most_turns)
+EndsKeeper asked (LimitReached turns) door_now seen turned = (turns ≡ most_turns) × (turned ≡ most_turns)
 
 -- the number of the caller that flushes; those of receivers are below it
 abbrev pub flusher : ℕ
@@ -30,28 +60,18 @@ acts_by who acts = part_of (λ a. a.who) who acts
 abbrev pub events_of : History → List Event
 events_of acts = map (λ a. a.event) acts
 
--- what a caller asked for, in order
-abbrev pub events_by : ℕ → History → List Event
-events_by who acts = events_of (acts_by who acts)
-
 -- what good samples ask of shard i of so many: that those whose keys belong there are taken, in order
 abbrev pub asks : ℕ → ℕ → List Sample → List Event
 asks shards i samples = map Submit (part_of (λ s. shard s.key shards) i samples)
 
 -- the replies at so many shards, each weighed, added up
-abbrev pub told_in : (Reply → ℕ) → ℕ → (ℕ → History) → ℕ
-told_in weigh shards acts = sum_by (λ i. told_by weigh (acts i)) (range_with_len 0 shards)
+abbrev pub summed_in : (Reply → ℕ) → ℕ → (ℕ → History) → ℕ
+summed_in weigh shards acts = sum_by (λ i. summed_by weigh (acts i)) (range_with_len 0 shards)
 
--- what so many packets and pieces count for, with the pieces that are bad and the samples that were dropped; each number
--- stops at the last count
+-- what so many packets and pieces count for, with bad pieces and dropped samples; each number stops at the last count
 abbrev pub tally_of : (packets lines bad drops : ℕ) → Tally
 tally_of packets lines bad drops =
-    record {
-      packets = min packets last_counted;
-      lines = min lines last_counted;
-      bad = min bad last_counted;
-      dropped = min drops last_counted;
-    }
+    record { packets = min packets last_number; lines = min lines last_number; bad = min bad last_number; dropped = min drops last_number }
 
 -- how many sends of packets failed
 abbrev pub failed_sends : List Sending → ℕ
@@ -59,7 +79,7 @@ failed_sends sendings = sum_by (λ s. failures s.failed) sendings
 
 -- The datagrams that a source has given since were sent on each of the wires, as they came.
 pub record PassesOn (read : List (List ℕ)) (sendings : List Sending) (source source_now : Object) (wires wires_now : List Object) : Type 0 where
-  pub given : source.told ≡ with_datagrams read source_now.told
+  pub given : source.content ≡ with_datagrams read source_now.content
   pub repeated : map (λ s. s.packet) sendings ≡ read
   pub every_wire : All (λ s. length s.failed ≡ length wires) sendings
   pub sends : AreRepeated sendings wires wires_now
@@ -97,17 +117,13 @@ pub record CountsDatagrams (says : ℕ → Type 0) (read : List (List ℕ)) (cal
   pub each : AllZip (IsCountOf says) read (additions_in calls)
 
 -- What a receiver did: the datagrams that it read, their sends on its wires, and how it ended.
-pub record Reception : Type 0 where
+pub record ReceiverTrace : Type 0 where
   pub read : List (List ℕ)
   pub sendings : List Sending
   pub ended : LoopEnd
 
--- the good samples that it brought
-abbrev pub brought_by : Reception → List Sample
-brought_by r = flat_map samples_of r.read
-
--- The first of receivers did what is told of it with the first source and the first so many wires, the next one with the next, and so
--- on; the sources and the wires behind theirs are as they were.
+-- The first of receivers did what is told of it with the first source and the first so many wires, the next one with the next, and
+-- so on; the sources and the wires after theirs are as they were.
 abbrev pub HaveRun : {R : Type 0} → (R → (source source_now : Object) → (wires wires_now : List Object) → Type 0) → (run : ℕ) → List R → (sources sources_now wires wires_now : List Object) → Type 0
 HaveRun Did run [] sources sources_now wires wires_now = (sources_now ≡ sources) × (wires_now ≡ wires)
 HaveRun Did run (r ∷ rs) [] sources_now wires wires_now = ⊥

@@ -1,24 +1,14 @@
--- The rounds of a flusher: what each took out of the shards and the desk, and what it wrote; the account of histories and rounds; and
--- the history of each shard that a run leaves, from the side of its callers.
-use Rattle.std.specs.Prelude.{◌≡◌, ℕ, Bool, Option, Some, None, List, [], ◌∷◌, map, get_or, ◌<◌, ◌≢◌, ◌≤◌, length}
-use Rattle.std.specs.FinMap.{empty}
-use Rattle.std.specs.List.{range_with_len}
-use Rattle.sd_model_outside.specs.Deliveries.{Delivery, FitsUse}
+-- The rounds of a flusher: what each took out of the shards and the desk, and what it wrote; the account of histories and rounds;
+-- and the history of each shard that a run leaves, from the side of its callers.
+use Rattle.std.specs.{Prelude.{◌≡◌, ℕ, Bool, Option, Some, None, List, [], ◌∷◌, map, get_or, ◌<◌, ◌≢◌, ◌≤◌, length}, FinMap.{empty}, List.{range_with_len}}
+use Rattle.sd_model_outside.specs.Uses.{Delivery, FitsUse}
 use Rattle.sd_model_settings.specs.Settings.{Plan, Names}
-use Rattle.sd_model_shard.specs.Shard.{Table, Swap, Swapped, Limits, Policy}
-use Rattle.sd_model_shard.specs.History.{Act, History, Legal}
-use Rattle.sd_model_record.specs.Record.{Tally, Record, record_of}
-use Rattle.sd_model_record.specs.Documented.{documented_rows}
-use Rattle.sd_model_record.specs.Desk.{Marks}
-use Rattle.sd_model_record.specs.DeskHistory.{DeskCall, Take, Mark, Took, Done}
-use Rattle.sd_model_record.specs.Backends.{Backend, mark_of, text_of}
-use Rattle.sd_model_serve.specs.Receiving.{flusher, administrator, acts_by, events_by, asks}
-use Rattle.sd_model_shard.specs.Whereabouts.{Accounted, AreDocumented, Flushed, flushes, RowsAreCarried, tables}
+use Rattle.sd_model_shard.specs.{Shard.{Table, Swap, Swapped, Limits, Policy}, History.{History, Legal, state_after}, Whereabouts.{AreDocumented, Flushed, flushes, RowsAreKept, tables, Places}}
+use Rattle.sd_model_record.specs.{Record.{Tally, Record, record_of, documented_rows}, Desk.{Marks}, DeskHistory.{DeskCall, Take, Mark, Took, Done}, Backends.{Backend, mark_of, text_of}}
+use Rattle.sd_model_serve.specs.{Receiving.{flusher, administrator, acts_by, asks, events_of}, Sessions.{Broadcast, acts_in}}
 use Rattle.sd_model_text.specs.Lines.{Sample}
-use Rattle.sd_model_serve.specs.Sessions.{Broadcast, acts_in}
 
--- A round: its Unix second, the tally that it took, the table that each shard handed out, by the shard's number, and how the
--- backends took part.
+-- A round: its Unix second, the tally that it took, each shard's table, by the shard's number, and how the backends took part.
 pub record Round : Type 0 where
   pub ts : ℕ
   pub tally : Tally
@@ -26,38 +16,30 @@ pub record Round : Type 0 where
   pub marks : Marks
 
 -- How records are made and written: how many shards there are, by which plan, and under which names for Graphite.
-pub record Form : Type 0 where
+pub record RecordForm : Type 0 where
   pub shards : ℕ
   pub plan : Plan
   pub names : Names
 
 -- the record of a round: of the tables of all shards, and of its tally
-abbrev pub round_record : Form → Round → Record
+abbrev pub round_record : RecordForm → Round → Record
 round_record form r = record_of form.plan (map r.tables (range_with_len 0 form.shards)) r.tally r.ts
 
 -- its text for a backend
-abbrev pub round_text : Form → Backend → Round → List ℕ
+abbrev pub round_text : RecordForm → Backend → Round → List ℕ
 round_text form back r = text_of form.names back (round_record form r)
 
 -- what rounds have for a backend: the text of each record, with its mark
-abbrev pub round_deliveries : Form → Backend → List Round → List Delivery
+abbrev pub round_deliveries : RecordForm → Backend → List Round → List Delivery
 round_deliveries form back rounds = map (λ r. record { text = round_text form back r; mark = mark_of back r.marks }) rounds
-
--- the flusher's swap of a shard, which handed out this table
-abbrev pub swap_of : Table → Act
-swap_of table = record { who = flusher; event = Swap; reply = Swapped table }
 
 -- the swaps that rounds made of shard i
 abbrev pub swaps_at : List Round → ℕ → History
-swaps_at rounds i = map (λ r. swap_of (r.tables i)) rounds
-
--- nothing was flushed
-abbrev pub no_flush : Flushed
-no_flush = record { table = record { live = empty }; journal = [] }
+swaps_at rounds i = map (λ r. record { who = flusher; event = Swap; reply = Swapped (r.tables i) }) rounds
 
 -- what the shards with these histories flushed in round k, in the order of the shards
 abbrev pub flushed_at : ℕ → (ℕ → History) → ℕ → List Flushed
-flushed_at shards histories k = map (λ i. get_or (flushes (histories i)) k no_flush) (range_with_len 0 shards)
+flushed_at shards histories k = map (λ i. get_or (flushes (histories i)) k (record { table = record { live = empty }; journal = [] })) (range_with_len 0 shards)
 
 -- a round's calls of the desk: it takes the tally, and leaves its marks
 abbrev pub round_calls : Round → List DeskCall
@@ -74,29 +56,29 @@ last_second (r ∷ []) = Some r.ts
 last_second (r ∷ q ∷ rounds) = last_second (q ∷ rounds)
 
 -- The account of shards with these histories, one a number, and of these rounds.
-pub record AreAccounted (limits : Limits) (policy : Policy) (form : Form) (histories : ℕ → History) (rounds : List Round) : Type 0 where
+pub record AreAccounted (limits : Limits) (policy : Policy) (form : RecordForm) (histories : ℕ → History) (rounds : List Round) : Type 0 where
   -- each history is one that a shard can have
   pub legal : (i : ℕ) → i < form.shards → Legal limits policy (histories i)
   -- each good sample that was submitted to a shard is in exactly one place: the journal of one round, what one deletion took out,
   -- the entries held, or a drop at the full shard
-  pub places : (i : ℕ) → i < form.shards → Accounted limits policy (histories i)
+  pub places : (i : ℕ) → i < form.shards → Places (histories i) (state_after limits policy (histories i))
   -- the swaps of each shard handed out the tables of the rounds, in order
   pub handed_out : (i : ℕ) → i < form.shards → tables (histories i) ≡ map (λ r. r.tables i) rounds
   -- the rows of these tables are those that the swap before left and those of their own journals
-  pub carried : (i : ℕ) → i < form.shards → RowsAreCarried policy empty [] (histories i)
+  pub kept_rows : (i : ℕ) → i < form.shards → RowsAreKept policy empty [] (histories i)
   -- the summaries of these rows are the documented statistics of the journals, and those of the state of the entries held
   pub documented : (i : ℕ) → i < form.shards → AreDocumented limits policy (histories i)
   -- the record of a round has the documented statistics of the journals that its swaps took
   pub statistics : (k : ℕ) (other : Round) → k < length rounds
       → (round_record form (get_or rounds k other)).rows ≡ documented_rows form.plan (flushed_at form.shards histories k)
 
--- The history of shard i of so many that a run left: it is legal; each receiver submitted the samples that it brought, those
--- with keys of that shard, in order; the flusher swapped once for each round, in order, and got the round's table; the admin
--- sessions asked for what they broadcast, in order, and got those replies; and nobody else asked for anything. So the tables
--- that the history hands out are those of the rounds.
+-- The history of shard i of so many that a run left: it is legal; each receiver submitted the samples that it brought, those with
+-- keys of that shard, in order; the flusher swapped once for each round, in order, and got the round's table; the admin sessions
+-- asked for what they broadcast, in order, and got those replies; and nobody else asked for anything. So the tables that the
+-- history hands out are those of the rounds.
 pub record Ran (limits : Limits) (policy : Policy) (shards : ℕ) (brought : List (List Sample)) (rounds : List Round) (asked : List Broadcast) (i : ℕ) (acts : History) : Type 0 where
   pub legal : Legal limits policy acts
-  pub submitted : (r : ℕ) → r < length brought → events_by r acts ≡ asks shards i (get_or brought r [])
+  pub submitted : (r : ℕ) → r < length brought → events_of (acts_by r acts) ≡ asks shards i (get_or brought r [])
   pub swapped : acts_by flusher acts ≡ swaps_at rounds i
   pub commanded : acts_by administrator acts ≡ acts_in asked i
   pub others : (who : ℕ) → length brought ≤ who → who ≢ flusher → who ≢ administrator → acts_by who acts ≡ []

@@ -1,17 +1,96 @@
--- The sessions of a server's admin port: what their lines asked of all shards and got replied.
-use Rattle.std.specs.Prelude.{◌≡◌, ℕ, ◌+◌, nat_lt, Bool, true, false, List, [], map, flat_map, take, get_or, slice_get, Some, Result, Ok}
-use Rattle.std.specs.List.{range_with_len}
-use Rattle.sd_model_outside.specs.Outside.{Object, HasFailedBehind, given}
+-- Sessions by lines, whatever a line asks for: the lines that were read, what was replied to them, and how a session ended; and
+-- those of a server's admin port: what their lines asked of all shards and got replied.
+use Rattle.std.specs.{Prelude.{◌≡◌, ◌≢◌, ℕ, ◌+◌, ◌<◌, List, [], ◌∷◌, ◌++◌, length, flat_map, nat_lt, Bool, true, false, map, take, get_or, slice_get, Some, Result, Ok}, List.{All, AllByRecursion, range_with_len}}
+use Rattle.sd_model_outside.specs.Outside.{Object, HasFailedBehind, Rose, Reads, IsAtEnd, given}
+use Rattle.sd_model_record.specs.{Admin.{TooLong, longest_line, AdminFault, command}, Replies.{fault_line, AdminReply, reply_text, admin_events, replies_by, replies_text}, Desk.{Facts}}
+use Rattle.sd_model_shard.specs.{Shard.{Event}, History.{History}}
+use Rattle.sd_model_serve.specs.Receiving.{administrator}
 use Rattle.sd_model_settings.specs.Settings as file
 use Rattle.sd_model_shard.specs.Shard as shard
-use Rattle.sd_model_shard.specs.Shard.{Event}
-use Rattle.sd_model_shard.specs.History.{History}
 use Rattle.sd_model_record.specs.Admin as admin
-use Rattle.sd_model_record.specs.Admin.{AdminFault, command}
-use Rattle.sd_model_serve.specs.Receiving.{administrator}
-use Rattle.sd_model_serve.specs.Talks.{Talk}
-use Rattle.sd_model_record.specs.Desk.{Facts}
-use Rattle.sd_model_record.specs.Replies.{Reply, reply_text, admin_events, replies_by, replies_text}
+
+-- What a session is about, where this is what is known of a line that was executed: the line itself; what is replied to it; that it
+-- was executed whole, and the session goes on; that it asks for the end; and that the reply to it was cut.
+pub record Talk (E : Type 0) : Type 1 where
+  pub line : E → List ℕ
+  pub text : E → List ℕ
+  pub goes_on : E → Type 0
+  pub quits : E → Type 0
+  pub is_cut : E → (sink sink_now : Object) → Type 0
+
+-- How a session ended: by the command; at its source's end; since source or output failed; by a line that is too long.
+pub data SessionEnd : Type 0 where
+  Quit AtEnd ReadFault WriteFault LineTooLong : SessionEnd
+
+-- A session as it went: the lines that were executed and replied to whole; the last one, at which it ended, if it did at one; the
+-- bytes that were read after these; and how it ended.
+pub record Dialogue (E : Type 0) : Type 0 where
+  pub exchanges : List E
+  pub last : List E
+  pub rest : List ℕ
+  pub ended : SessionEnd
+
+-- no newline is among bytes
+abbrev pub HasNoNewline : List ℕ → Type 0
+HasNoNewline bytes = All (λ b. b ≢ 10) bytes
+
+-- how many bytes without a newline are too many
+abbrev pub too_many : ℕ
+too_many = longest_line + 1
+
+-- what is replied to them
+abbrev pub too_long_text : List ℕ
+too_long_text = fault_line TooLong
+
+-- bytes that may be in one line: no newline is among them, and they aren't too many
+abbrev pub FitsLine : List ℕ → Type 0
+FitsLine bytes = HasNoNewline bytes × (length bytes < too_many)
+
+-- bytes without a newline that are too many
+abbrev pub IsTooLong : List ℕ → Type 0
+IsTooLong rest = HasNoNewline rest × (length rest ≡ too_many)
+
+module _ {E : Type 0} where
+  -- all the lines of a session that were executed
+  abbrev pub lines_in : Dialogue E → List E
+  lines_in d = d.exchanges ++ d.last
+
+  module _ (t : Talk E) where
+    -- the bytes of lines, each with the newline that ends it
+    abbrev pub bytes_of : List E → List ℕ
+    bytes_of exchanges = flat_map (λ e. t.line e ++ 10 ∷ []) exchanges
+
+    -- what is replied to lines
+    abbrev pub replied : List E → List ℕ
+    replied exchanges = flat_map t.text exchanges
+
+    -- the reply to a last line was cut, or the one to bytes that are too many
+    abbrev pub WasCut : (last : List E) → (rest : List ℕ) → (sink sink_now : Object) → Type 0
+    WasCut [] rest sink sink_now = IsTooLong rest × HasFailedBehind too_long_text sink sink_now
+    WasCut (e ∷ []) rest sink sink_now = t.is_cut e sink sink_now
+    WasCut (e ∷ next ∷ more) rest sink sink_now = ⊥
+
+    -- A session ended so, at its last line or after all lines, with these bytes read after them, and a source of so many faults
+    -- before.
+    abbrev pub EndsSession : SessionEnd → (last : List E) → (rest : List ℕ) → (faults : ℕ) → (source_now sink sink_now : Object) → Type 0
+    EndsSession Quit last rest faults source_now sink sink_now =
+        (e : E) × (last ≡ e ∷ []) × t.quits e × (source_now.faults ≡ faults) × (sink_now ≡ sink)
+    EndsSession AtEnd last rest faults source_now sink sink_now =
+        (last ≡ []) × FitsLine rest × IsAtEnd source_now.content × (source_now.faults ≡ faults) × (sink_now ≡ sink)
+    EndsSession ReadFault last rest faults source_now sink sink_now = (last ≡ []) × FitsLine rest × Rose faults source_now.faults × (sink_now ≡ sink)
+    EndsSession WriteFault last rest faults source_now sink sink_now = (source_now.faults ≡ faults) × WasCut last rest sink sink_now
+    EndsSession LineTooLong last rest faults source_now sink sink_now =
+        (last ≡ []) × IsTooLong rest × (source_now.faults ≡ faults) × (sink_now ≡ given too_long_text sink)
+
+    -- What is seen of the two ends of a session as it went so: its lines, none too long, and then the rest were read; the replies
+    -- to the lines that were executed whole were written, before its end; and both ends are where they were.
+    pub record HasTalked (d : Dialogue E) (source source_now sink sink_now : Object) : Type 0 where
+      pub lines : AllByRecursion t.goes_on d.exchanges
+      pub each : AllByRecursion (λ e. FitsLine (t.line e)) (lines_in d)
+      pub read : Reads source.content (bytes_of (lines_in d) ++ d.rest) source_now.content
+      pub source_place : source_now.opened_at ≡ source.opened_at
+      pub sink_place : sink_now.opened_at ≡ sink.opened_at
+      pub ends : EndsSession d.ended d.last d.rest source.faults source_now (given (replied d.exchanges) sink) sink_now
 
 -- An event that each shard was asked for, and what each replied, by the shard's number.
 pub record Broadcast : Type 0 where
@@ -26,15 +105,11 @@ events_in asked = map (λ b. b.event) asked
 abbrev pub acts_in : List Broadcast → ℕ → History
 acts_in asked i = map (λ b. record { who = administrator; event = b.event; reply = b.replies i }) asked
 
--- what all of so many shards replied, shard by shard
-abbrev pub all_replies : ℕ → Broadcast → List shard.Reply
-all_replies shards b = map b.replies (range_with_len 0 shards)
-
 -- what all shards replied to the n-th event, from 0
 abbrev pub replies_at : ℕ → List Broadcast → ℕ → List shard.Reply
-replies_at shards asked n = get_or (map (all_replies shards) asked) n []
+replies_at shards asked n = get_or (map (λ b. map b.replies (range_with_len 0 shards)) asked) n []
 
--- A line as it was carried out: when, what the desk told of itself then, and what was asked of the shards.
+-- A line as it was executed: when, what the desk told of itself then, and what was asked of the shards.
 pub record Exchange : Type 0 where
   pub line : List ℕ
   pub now : ℕ
@@ -42,32 +117,28 @@ pub record Exchange : Type 0 where
   pub asked : List Broadcast
 
 -- what is replied to it; backends have outlets where the settings say so
-abbrev pub replies_of : ℕ → file.Settings → Exchange → List Reply
+abbrev pub replies_of : ℕ → file.Settings → Exchange → List AdminReply
 replies_of shards settings e = replies_by (nat_lt 0 settings.transport.outlets) (replies_at shards e.asked) e.facts settings e.now (command e.line)
 
 -- what it asks for
 abbrev pub events_of_line : Exchange → List Event
 events_of_line e = admin_events (command e.line)
 
--- A reply was cut, since the output failed: those before it were written whole, and of it a front. Of the events just those
--- were asked for whose replies were written whole, and the one of the reply that was cut.
-pub record IsCut (replies : List Reply) (events asked : List Event) (old new : Object) : Type 0 where
+-- A reply was cut, since the output failed: those before it were written whole, and of it a prefix. Of the events just those were
+-- asked for whose replies were written whole, and the one of the reply that was cut.
+pub record IsCut (replies : List AdminReply) (events asked : List Event) (old new : Object) : Type 0 where
   pub whole : ℕ
-  pub cut : Reply
+  pub cut : AdminReply
   pub part : slice_get replies whole ≡ Some cut
-  pub front : asked ≡ take (whole + 1) events
+  pub prefix : asked ≡ take (whole + 1) events
   pub written : HasFailedBehind (reply_text cut) (given (replies_text (take whole replies)) old) new
-
--- what lines asked of all shards
-abbrev pub asked_in : List Exchange → List Broadcast
-asked_in exchanges = flat_map (λ e. e.asked) exchanges
 
 -- whether a line's command asks for the end
 abbrev pub is_quit : Result admin.Command AdminFault → Bool
 is_quit (Ok admin.Quit) = true
 is_quit answer = false
 
--- A line was carried out whole, at a moment that the clock may say, and doesn't ask for the end.
+-- A line was executed whole, at a moment that the clock may say, and doesn't ask for the end.
 pub record GoesOn (says : ℕ → Type 0) (e : Exchange) : Type 0 where
   pub all : events_in e.asked ≡ events_of_line e
   pub goes_on : is_quit (command e.line) ≡ false

@@ -1,19 +1,11 @@
 -- The reply to `config`: a line for each setting in force, in the order and under the names of the file.
-use Rattle.std.specs.Prelude.{ℕ, Bool, if◌then◌else◌, List, [], ◌∷◌, ◌++◌, map, codes, decimal}
-use Rattle.std.specs.List.{join_with_byte}
+use Rattle.std.specs.{Prelude.{ℕ, if◌then◌else◌, List, [], ◌∷◌, ◌++◌, map, codes, decimal}, List.{join_with_byte}}
 use Rattle.sd_model_text.specs.Numbers.{number_text, Limit, Below, Infinite}
-use Rattle.sd_model_settings.specs.Entries.{Classes, Target, Node}
-use Rattle.sd_model_settings.specs.Kinds.{Kind, Whole, Share, Flag, Prefix, FilledPrefix, Host, Thresholds, Backends, ClassNames, Histograms, Targets, Nodes, Value}
-use Rattle.sd_model_settings.specs.Table.{Table, Values, Then, server, deletions, addresses, namespace, entry_lists, sizes, flush_rules, transport}
-use Rattle.sd_model_settings.specs.Settings.{Settings}
+use Rattle.sd_model_settings.specs.{Entries.{Classes, Target, Node, SettingKind, Whole, Share, Flag, Prefix, FilledPrefix, Host, Thresholds, Backends, ClassNames, Histograms, Targets, Nodes, Value}, Table.{SettingTable, Values, Then, server, deletion_rules, addresses, namespace, entry_lists, sizes, flush_rules, transport}, Settings.{Settings}}
 
 -- a line: a name, a colon, a space and a value
-abbrev pub line : List ℕ → List ℕ → List ℕ
-line name value = name ++ 58 ∷ 32 ∷ value ++ 10 ∷ []
-
--- the line of a boolean
-abbrev pub flag_line : List ℕ → Bool → List ℕ
-flag_line name b = line name (if b then codes "true" else codes "false")
+abbrev pub config_line : List ℕ → List ℕ → List ℕ
+config_line name value = name ++ 58 ∷ 32 ∷ value ++ 10 ∷ []
 
 -- the text of a limit
 abbrev pub limit_text : Limit → List ℕ
@@ -21,55 +13,51 @@ limit_text (Below z) = number_text z
 limit_text Infinite = codes "inf"
 
 -- texts joined by commas
-abbrev pub joined : List (List ℕ) → List ℕ
-joined = join_with_byte 44
+abbrev pub with_commas : List (List ℕ) → List ℕ
+with_commas = join_with_byte 44
 
--- an entry of `histogram`: its metric, and its limits behind a space
+-- an entry of `histogram`: its metric, and its limits after a space
 abbrev pub histogram_line : List ℕ → Classes → List ℕ
-histogram_line name c = line name (c.metric ++ 32 ∷ joined (map limit_text c.limits))
+histogram_line name c = config_line name (c.metric ++ 32 ∷ with_commas (map limit_text c.limits))
 
 -- an entry of `repeater`
 abbrev pub repeater_line : List ℕ → Target → List ℕ
-repeater_line name t = line name (t.host ++ 58 ∷ decimal t.port)
+repeater_line name t = config_line name (t.host ++ 58 ∷ decimal t.port)
 
 -- an entry of `nodes`
 abbrev pub node_line : List ℕ → Node → List ℕ
-node_line name n = line name (n.host ++ 58 ∷ decimal n.port ++ 58 ∷ decimal n.adminport)
+node_line name n = config_line name (n.host ++ 58 ∷ decimal n.port ++ 58 ∷ decimal n.adminport)
 
 -- the lines of a value under its name: one, or one for each entry of a list of tables
-abbrev pub value_lines : List ℕ → (kind : Kind) → Value kind → List (List ℕ)
-value_lines name (Whole least most) n = line name (decimal n) ∷ []
-value_lines name (Share least most all earlier) n = line name (decimal n) ∷ []
-value_lines name Flag b = flag_line name b ∷ []
-value_lines name Prefix s = line name s ∷ []
-value_lines name FilledPrefix s = line name s ∷ []
-value_lines name Host s = line name s ∷ []
-value_lines name Thresholds zs = line name (joined (map number_text zs)) ∷ []
-value_lines name Backends names = line name (joined names) ∷ []
-value_lines name ClassNames names = line name (joined names) ∷ []
+abbrev pub value_lines : List ℕ → (kind : SettingKind) → Value kind → List (List ℕ)
+value_lines name (Whole least most) n = config_line name (decimal n) ∷ []
+value_lines name (Share least most all earlier) n = config_line name (decimal n) ∷ []
+value_lines name Flag b = config_line name (if b then codes "true" else codes "false") ∷ []
+value_lines name Prefix s = config_line name s ∷ []
+value_lines name FilledPrefix s = config_line name s ∷ []
+value_lines name Host s = config_line name s ∷ []
+value_lines name Thresholds zs = config_line name (with_commas (map number_text zs)) ∷ []
+value_lines name Backends names = config_line name (with_commas names) ∷ []
+value_lines name ClassNames names = config_line name (with_commas names) ∷ []
 value_lines name Histograms entries = map (histogram_line name) entries
 value_lines name Targets entries = map (repeater_line name) entries
 value_lines name Nodes entries = map (node_line name) entries
 
 -- the lines of a group's values, by its table, where its names have something before them
-abbrev pub group_lines : {A : Type 0} → List ℕ → Table A → A → List (List ℕ)
+abbrev pub group_lines : {A : Type 0} → List ℕ → SettingTable A → A → List (List ℕ)
 group_lines prefix (Values v) values = []
 group_lines prefix (Then s rest) values = value_lines (prefix ++ s.name) s.kind (s.value values) ++ group_lines prefix (rest (s.value values)) values
 
 -- the lines before those of entries
-abbrev pub front_lines : Settings → List (List ℕ)
-front_lines s =
-    group_lines [] server s.server ++ group_lines [] deletions s.deletions ++ group_lines [] addresses s.addresses
+abbrev pub first_lines : Settings → List (List ℕ)
+first_lines s =
+    group_lines [] server s.server ++ group_lines [] deletion_rules s.deletions ++ group_lines [] addresses s.addresses
     ++ group_lines (codes "graphite.") namespace s.namespace
 
--- a line for each entry of a list of tables, and none where it is empty
-abbrev pub entry_lines : Settings → List (List ℕ)
-entry_lines s = group_lines [] entry_lists s.lists
-
--- the lines behind those of entries
+-- the lines after those of entries
 abbrev pub back_lines : Settings → List (List ℕ)
 back_lines s = group_lines [] sizes s.sizes ++ group_lines [] flush_rules s.rules ++ group_lines [] transport s.transport
 
 -- the lines of all settings
 abbrev pub config_lines : Settings → List (List ℕ)
-config_lines s = front_lines s ++ entry_lines s ++ back_lines s
+config_lines s = first_lines s ++ group_lines [] entry_lists s.lists ++ back_lines s

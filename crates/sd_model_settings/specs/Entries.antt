@@ -1,21 +1,14 @@
--- Settings that are lists: thresholds, backends, the entries of `histogram`, `repeater` and `nodes`, and the classes of
--- timers' lines. The setting that chooses these has its name from StatsD (exampleConfig.js); the names that it lists are of this
--- project.
-use Rattle.std.specs.Prelude.{ℕ, ◌^◌, ◌==◌, ◌&&◌, ◌||◌, Bool, true, false, not, nat_le, if◌then◌else◌, ℤ, pos, unsigned_abs, int_lt, int_le, List, [], ◌∷◌, codes, Result, Ok, Err, map}
-use Rattle.std.specs.List.{list_any, list_all}
-use Rattle.std.specs.Str.{bytes_eq}
-use Rattle.std.specs.Ordering.{int_eq}
+-- The kinds of settings: of what type the values of each are, and what a value of the file is read as; and before them the settings
+-- that are lists: thresholds, backends, the entries of `histogram`, `repeater` and `nodes`, and the classes of timers' lines. The
+-- setting that chooses these has its name from StatsD (exampleConfig.js); the names that it lists are of this project.
+use Rattle.std.specs.{Prelude.{ℕ, ◌^◌, ◌==◌, ◌&&◌, ◌||◌, Bool, true, false, not, nat_le, if◌then◌else◌, ℤ, pos, unsigned_abs, int_lt, int_le, List, [], ◌∷◌, codes, Result, Ok, Err, map, ◌*◌}, List.{list_any, list_all}, Str.{bytes_eq}, Ordering.{int_eq}}
 use Rattle.toml.specs.Data.{Data, string, array, Items, no_items, item, Members, get_member}
 use Rattle.sd_model_text.specs.Numbers.{Limit, Below, Infinite, ascends}
-use Rattle.sd_model_settings.specs.Values.{ValueFlaw, OtherKind, both, mapped, ranged, whole, text, is_host, is_metric, decimal, each, are_at_most, listed, one_or_list, are_distinct, entry, required, optional}
-
--- a threshold in millionths: from -100 to 100, and not 0
-abbrev pub is_threshold : ℤ → Bool
-is_threshold z = nat_le (unsigned_abs z) 100000000 && not (unsigned_abs z == 0)
+use Rattle.sd_model_settings.specs.Values.{ValueFlaw, OtherKind, both, mapped, ranged, whole_read, text, is_host, is_metric, decimal, each, are_at_most, listed, one_or_list, are_distinct, entry, required, optional, flag, is_prefix, is_filled_prefix}
 
 -- thresholds, no two of them equal
 abbrev pub are_thresholds : List ℤ → Bool
-are_thresholds xs = list_all is_threshold xs && are_distinct int_eq xs
+are_thresholds xs = list_all (λ z. nat_le (unsigned_abs z) 100000000 && not (unsigned_abs z == 0)) xs && are_distinct int_eq xs
 
 -- at most 16 thresholds, in a list or one alone
 abbrev pub thresholds : Data → Result (List ℤ) ValueFlaw
@@ -24,10 +17,6 @@ thresholds d = ranged are_thresholds (ranged (are_at_most 16) (each decimal (one
 -- the name of a backend
 abbrev pub is_backend : List ℕ → Bool
 is_backend s = list_any (bytes_eq s) (codes "graphite" ∷ codes "console" ∷ codes "repeater" ∷ [])
-
--- a list of backends, each at most once
-abbrev pub backends : Data → Result (List (List ℕ)) ValueFlaw
-backends d = ranged (are_distinct bytes_eq) (listed 3 (text is_backend) d)
 
 -- The bins of the timers whose names have a part.
 pub record Classes : Type 0 where
@@ -39,11 +28,7 @@ abbrev pub is_inf : Data → Bool
 is_inf (string s) = bytes_eq s (codes "inf")
 is_inf _ = false
 
--- a limit: `inf`, or a decimal
-abbrev pub limit : Data → Result Limit ValueFlaw
-limit d = if is_inf d then Ok Infinite else mapped Below (decimal d)
-
--- `inf` stands before another item
+-- `inf` is before another item
 abbrev pub has_early_inf : Items → Bool
 has_early_inf no_items = false
 has_early_inf (item d no_items) = false
@@ -60,29 +45,25 @@ are_limits limits = list_all is_limit limits && ascends limits
 
 -- at most 64 limits, of which the last alone may be `inf`; elsewhere that is of another kind
 abbrev pub bins_of : Items → Result (List Limit) ValueFlaw
-bins_of ds = if has_early_inf ds then Err OtherKind else ranged are_limits (ranged (are_at_most 64) (each limit ds))
+bins_of ds = if has_early_inf ds then Err OtherKind else ranged are_limits (ranged (are_at_most 64) (each (λ d. if is_inf d then Ok Infinite else mapped Below (decimal d)) ds))
 
-abbrev pub bins : Data → Result (List Limit) ValueFlaw
-bins (array ds) = bins_of ds
-bins _ = Err OtherKind
+abbrev pub bins_read : Data → Result (List Limit) ValueFlaw
+bins_read (array ds) = bins_of ds
+bins_read _ = Err OtherKind
 
 -- an entry of `histogram`: a table with `metric` and `bins`
 abbrev pub classes : Data → Result Classes ValueFlaw
 classes = entry (λ ms. mapped (λ p. record { metric = p.0; limits = p.1 })
-    (both (required (text is_metric) (get_member (codes "metric") ms)) (required bins (get_member (codes "bins") ms))))
+    (both (required (text is_metric) (get_member (codes "metric") ms)) (required bins_read (get_member (codes "bins") ms))))
 
 -- the host and the port of an entry
-abbrev pub place : Members → Result (List ℕ × ℕ) ValueFlaw
-place ms = both (required (text is_host) (get_member (codes "host") ms)) (required (whole 1 65535) (get_member (codes "port") ms))
+abbrev pub host_and_port : Members → Result (List ℕ × ℕ) ValueFlaw
+host_and_port ms = both (required (text is_host) (get_member (codes "host") ms)) (required (whole_read 1 65535) (get_member (codes "port") ms))
 
 -- Where packets are repeated to.
 pub record Target : Type 0 where
   pub host : List ℕ
   pub port : ℕ
-
--- an entry of `repeater`: a table with `host` and `port`
-abbrev pub target : Data → Result Target ValueFlaw
-target = entry (λ ms. mapped (λ p. record { host = p.0; port = p.1 }) (place ms))
 
 -- A server behind the proxy, with the port at which it answers about itself.
 pub record Node : Type 0 where
@@ -93,13 +74,11 @@ pub record Node : Type 0 where
 -- an entry of `nodes`: a table with `host`, `port` and, by default 8126, `adminport`
 abbrev pub node : Data → Result Node ValueFlaw
 node = entry (λ ms. mapped (λ p. record { host = p.0.0; port = p.0.1; adminport = p.1 })
-    (both (place ms) (optional (whole 1 65535) 8126 (get_member (codes "adminport") ms))))
+    (both (host_and_port ms) (optional (whole_read 1 65535) 8126 (get_member (codes "adminport") ms))))
 
--- A class of lines: one of the statistics of all values, all bins, or one of the statistics of the parts that the
--- thresholds take.
+-- A class of lines: one of the statistics of all values, all bins, or one of the statistics of the parts of thresholds.
 pub data TimerClass : Type 0 where
-  Std Upper Lower Count CountPs Sum SumSquares Mean Median Histogram : TimerClass
-  CountPercent MeanPercent UpperPercent LowerPercent SumPercent SumSquaresPercent : TimerClass
+  Std Upper Lower Count CountPs Sum SumSquares Mean Median Histogram CountPercent MeanPercent UpperPercent LowerPercent SumPercent SumSquaresPercent : TimerClass
 
 -- the name of a class
 abbrev pub class_name : TimerClass → List ℕ
@@ -130,11 +109,44 @@ timer_classes =
 abbrev pub is_class_name : List ℕ → Bool
 is_class_name s = list_any (bytes_eq s) (map class_name timer_classes)
 
--- a list of names of classes, each at most once
-abbrev pub class_names : Data → Result (List (List ℕ)) ValueFlaw
-class_names d = ranged (are_distinct bytes_eq) (listed 16 (text is_class_name) d)
-
 -- whether the lines of a class are sent: where its name is among those chosen, and where none is chosen
 abbrev pub sends : List (List ℕ) → TimerClass → Bool
 sends [] c = true
 sends (name ∷ names) c = list_any (bytes_eq (class_name c)) (name ∷ names)
+
+-- What is set: a number from least to most, or one whose product with an earlier number is at most `all` besides; whether something
+-- is so; the text of a prefix, of one that isn't empty, or of a host; or a list.
+pub data SettingKind : Type 0 where
+  Whole : (least most : ℕ) → SettingKind
+  Share : (least most all earlier : ℕ) → SettingKind
+  Flag Prefix FilledPrefix Host Thresholds Backends ClassNames Histograms Targets Nodes : SettingKind
+
+-- the type of a kind's values
+abbrev pub Value : SettingKind → Type 0
+Value (Whole least most) = ℕ
+Value (Share least most all earlier) = ℕ
+Value Flag = Bool
+Value Prefix = List ℕ
+Value FilledPrefix = List ℕ
+Value Host = List ℕ
+Value Thresholds = List ℤ
+Value Backends = List (List ℕ)
+Value ClassNames = List (List ℕ)
+Value Histograms = List Classes
+Value Targets = List Target
+Value Nodes = List Node
+
+-- what a value of the file is as one of a kind
+abbrev pub read_as : (kind : SettingKind) → Data → Result (Value kind) ValueFlaw
+read_as (Whole least most) d = whole_read least most d
+read_as (Share least most all earlier) d = ranged (λ n. nat_le (earlier * n) all) (whole_read least most d)
+read_as Flag d = flag d
+read_as Prefix d = text is_prefix d
+read_as FilledPrefix d = text is_filled_prefix d
+read_as Host d = text is_host d
+read_as Thresholds d = thresholds d
+read_as Backends d = ranged (are_distinct bytes_eq) (listed 3 (text is_backend) d)
+read_as ClassNames d = ranged (are_distinct bytes_eq) (listed 16 (text is_class_name) d)
+read_as Histograms d = listed 16 classes d
+read_as Targets d = listed 16 (entry (λ ms. mapped (λ p. record { host = p.0; port = p.1 }) (host_and_port ms))) d
+read_as Nodes d = listed 64 node d

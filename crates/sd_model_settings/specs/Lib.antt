@@ -1,6 +1,5 @@
 pub mod Values
 pub mod Entries
-pub mod Kinds
 pub mod Table
 pub mod Settings
 pub mod ConfigText

@@ -1,16 +1,9 @@
--- What a settings file sets, or its first fault: the reading of a setting and of the table; the names that are known; the defaults; and
--- what is taken out of the values: what a record is reckoned by, and Graphite's names.
-use Rattle.std.specs.Prelude.{ℕ, nat_lt, if◌then◌else◌, List, length, take, codes, Option, Some, None, Result, Ok, Err, IfErr, [], ◌∷◌, ◌++◌, ℤ}
-use Rattle.std.specs.Str.{is_utf8, bytes_eq}
-use Rattle.std.specs.List.{list_any}
-use Rattle.std.specs.Option.{option_or}
-use Rattle.toml.specs.Data.{Members, Data, array, table, Items, no_items, item, no_members, member, get_member}
-use Rattle.toml.specs.Parse.{parse_document}
-use Rattle.sd_model_settings.specs.Values.{ValueFlaw, OtherKind, OutsideRange, members}
-use Rattle.sd_model_settings.specs.Entries.{Classes}
-use Rattle.sd_model_settings.specs.Kinds.{read_as}
-pub use Rattle.sd_model_settings.specs.Table.{Table, Values, Then, Server, Deletions, Addresses, Namespace, EntryLists, Sizes, FlushRules, Transport}
-use Rattle.sd_model_settings.specs.Table.{server, deletions, addresses, namespace, entry_lists, sizes, flush_rules, transport, setting_names}
+-- What a settings file sets, or its first fault: the reading of a setting and of the table; the names that are known; the defaults;
+-- and what is taken out of the values: what a record is made by, and Graphite's names.
+use Rattle.std.specs.{Prelude.{ℕ, nat_lt, if◌then◌else◌, List, length, take, codes, Option, Some, None, Result, Ok, Err, IfErr, [], ◌∷◌, ◌++◌, ℤ, ok_or}, Str.{is_utf8, bytes_eq}, List.{list_any}, Option.{option_or}}
+use Rattle.toml.specs.{Data.{Members, Data, array, table, Items, no_items, item, no_members, member, get_member}, Parse.{parse_document}}
+use Rattle.sd_model_settings.specs.{Values.{ValueFlaw, OtherKind, OutsideRange, members}, Entries.{Classes, read_as}, Table.{server, deletion_rules, addresses, namespace, entry_lists, sizes, flush_rules, transport, setting_names}}
+pub use Rattle.sd_model_settings.specs.Table.{SettingTable, Values, Then, Server, Deletions, Addresses, Namespace, EntryLists, Sizes, FlushRules, Transport}
 
 -- Why a file sets nothing, with the name of a setting.
 pub data SettingsFlaw : Type 0 where
@@ -28,12 +21,12 @@ abbrev pub shown : List ℕ → List ℕ
 shown name = take 64 name
 
 -- a value that was read, with the name of its setting beside what is wrong
-abbrev pub named : {A : Type 0} → List ℕ → Result A ValueFlaw → Result A SettingsFlaw
-named name (Ok x) = Ok x
-named name (Err OtherKind) = Err (WrongKind (shown name))
-named name (Err OutsideRange) = Err (OutOfRange (shown name))
+abbrev pub with_name : {A : Type 0} → List ℕ → Result A ValueFlaw → Result A SettingsFlaw
+with_name name (Ok x) = Ok x
+with_name name (Err OtherKind) = Err (WrongKind (shown name))
+with_name name (Err OutsideRange) = Err (OutOfRange (shown name))
 
--- The members of a table of the file, and what stands before their names in a fault.
+-- The members of a table of the file, and what is before their names in a fault.
 pub record Section : Type 0 where
   pub prefix : List ℕ
   pub members : Members
@@ -42,21 +35,17 @@ pub record Section : Type 0 where
 abbrev pub top : Members → Section
 top ms = record { prefix = []; members = ms }
 
--- its table `graphite`
-abbrev pub inside_graphite : Members → Section
-inside_graphite ms = record { prefix = codes "graphite."; members = ms }
-
 -- the value in force: the one that is given, as it is read, or else the default
 abbrev pub in_force : {A : Type 0} → List ℕ → (Data → Result A ValueFlaw) → A → Option Data → Result A SettingsFlaw
 in_force name read default None = Ok default
-in_force name read default (Some d) = named name (read d)
+in_force name read default (Some d) = with_name name (read d)
 
 -- the value in force of what has a name
 abbrev pub found : {A : Type 0} → Section → List ℕ → (Data → Result A ValueFlaw) → A → Result A SettingsFlaw
 found s name read default = in_force (s.prefix ++ name) read default (get_member name s.members)
 
 -- the values that a section sets by a table, or the first fault
-unfoldable pub read : {A : Type 0} → Table A → Section → Result A SettingsFlaw
+unfoldable pub read : {A : Type 0} → SettingTable A → Section → Result A SettingsFlaw
 read (Values v) section = Ok v
 read (Then s rest) section = found section s.name (read_as s.kind) s.default >>= (λ x. read (rest x) section)
 
@@ -73,18 +62,18 @@ pub record Settings : Type 0 where
 
 -- The table, group by group.
 pub record Tables : Type 0 where
-  pub server : Table Server
-  pub deletions : Table Deletions
-  pub addresses : Table Addresses
-  pub namespace : Table Namespace
-  pub lists : Table EntryLists
-  pub sizes : Table Sizes
-  pub rules : Table FlushRules
-  pub transport : Table Transport
+  pub server : SettingTable Server
+  pub deletions : SettingTable Deletions
+  pub addresses : SettingTable Addresses
+  pub namespace : SettingTable Namespace
+  pub lists : SettingTable EntryLists
+  pub sizes : SettingTable Sizes
+  pub rules : SettingTable FlushRules
+  pub transport : SettingTable Transport
 
 -- today's
-abbrev pub tables : Tables
-tables = record { server = server; deletions = deletions; addresses = addresses; namespace = namespace; lists = entry_lists; sizes = sizes; rules = flush_rules; transport = transport }
+abbrev pub setting_tables : Tables
+setting_tables = record { server = server; deletions = deletion_rules; addresses = addresses; namespace = namespace; lists = entry_lists; sizes = sizes; rules = flush_rules; transport = transport }
 
 -- the values that a file sets by a table; what `graphite` is decides before what it has
 unfoldable pub settings_in : Tables → Section → Result Settings SettingsFlaw
@@ -93,7 +82,7 @@ settings_in t s = do
   of-deletions ← read t.deletions s
   of-addresses ← read t.addresses s
   graphite ← found s (codes "graphite") members no_members
-  of-namespace ← read t.namespace (inside_graphite graphite)
+  of-namespace ← read t.namespace (record { prefix = codes "graphite."; members = graphite })
   of-lists ← read t.lists s
   of-sizes ← read t.sizes s
   of-rules ← read t.rules s
@@ -111,11 +100,10 @@ abbrev pub names : Members → List (List ℕ)
 names no_members = []
 names (member name d ms) = name ∷ names ms
 
--- the first of some names that isn't known, behind the name of its table
+-- the first of some names that isn't known, after the name of its table
 abbrev pub first_unknown : List ℕ → List (List ℕ) → List (List ℕ) → Option (List ℕ)
 first_unknown prefix known [] = None
-first_unknown prefix known (name ∷ rest) =
-    if list_any (λ k. bytes_eq k name) known then first_unknown prefix known rest else Some (prefix ++ name)
+first_unknown prefix known (name ∷ rest) = if list_any (λ k. bytes_eq k name) known then first_unknown prefix known rest else Some (prefix ++ name)
 
 -- the first unknown name in a value; what isn't a table is passed over
 abbrev pub unknown_in : List ℕ → List (List ℕ) → Option Data → Option (List ℕ)
@@ -149,14 +137,9 @@ abbrev pub unless_unknown : Option (List ℕ) → Result Settings SettingsFlaw �
 unless_unknown (Some name) rest = Err (Unknown (shown name))
 unless_unknown None rest = rest
 
--- a table of TOML, where there is one
-abbrev pub table_or_flaw : Option Members → Result Members SettingsFlaw
-table_or_flaw (Some ms) = Ok ms
-table_or_flaw None = Err NotToml
-
 -- the table that bytes are, which have to be UTF-8 and TOML
 unfoldable pub document : List ℕ → Result Members SettingsFlaw
-document bytes = if is_utf8 bytes then table_or_flaw (parse_document bytes) else Err NotToml
+document bytes = if is_utf8 bytes then ok_or (parse_document bytes) NotToml else Err NotToml
 
 -- the values that a file of at most 65,536 bytes sets by a table, or its first fault
 unfoldable pub settings_by : Tables → List ℕ → Result Settings SettingsFlaw
@@ -168,7 +151,7 @@ settings_by t bytes =
 
 -- the values that a file sets, or its first fault
 unfoldable pub settings : List ℕ → Result Settings SettingsFlaw
-settings bytes = settings_by tables bytes
+settings bytes = settings_by setting_tables bytes
 
 -- the value, where no flaw was read
 abbrev pub value_read : {A : Type 0} (r : Result A SettingsFlaw) → IfErr r (λ flaw. ⊥) → A
@@ -178,10 +161,10 @@ value_read (Err flaw) none = absurd none
 -- the settings of an empty file: the default of each
 unfoldable pub default_settings : Settings
 unfolding read settings_in
-default_settings = value_read (settings_in tables (top no_members)) tt
+default_settings = value_read (settings_in setting_tables (top no_members)) tt
 
--- What a record is reckoned by: the interval of rates in milliseconds, the thresholds, the bins, and the names of the
--- classes of timers' lines that are chosen.
+-- What a record is made by: the interval of rates in milliseconds, the thresholds, the bins, and the names of the classes of
+-- timers' lines that are chosen.
 pub record Plan : Type 0 where
   pub interval_ms : ℕ
   pub thresholds : List ℤ

@@ -1,28 +1,27 @@
--- The table of settings: a line for each, with its name, its kind and range, its default, and the value that it sets. The lines stand in
--- eight groups, in the order of the settings' numbers; a table of the file, as `graphite`, has a group of its own.
+-- The table of settings: a line for each, with its name, its kind and range, its default, and the value that it sets. The lines are
+-- in eight groups, in the order of the settings' numbers; a table of the file, as `graphite`, has a group of its own.
 use Rattle.std.specs.Prelude.{ℕ, Bool, true, false, ℤ, pos, List, [], ◌∷◌, codes}
-use Rattle.sd_model_settings.specs.Entries.{Classes, Target, Node}
-use Rattle.sd_model_settings.specs.Kinds.{Kind, Whole, Share, Flag, Prefix, FilledPrefix, Host, Thresholds, Backends, ClassNames, Histograms, Targets, Nodes, Value}
+use Rattle.sd_model_settings.specs.Entries.{Classes, Target, Node, SettingKind, Whole, Share, Flag, Prefix, FilledPrefix, Host, Thresholds, Backends, ClassNames, Histograms, Targets, Nodes, Value}
 
 -- A setting of a group: its name, its kind, its default, and which of the group's values it sets.
 pub record Setting (A : Type 0) : Type 0 where
   pub name : List ℕ
-  pub kind : Kind
+  pub kind : SettingKind
   pub default : Value kind
   pub value : A → Value kind
 
--- The settings of a group, in order, and behind them the group's values. What one sets may have a say in those behind it.
-pub data Table (A : Type 0) : Type 0 where
-  Values : A → Table A
-  Then : (s : Setting A) → (Value s.kind → Table A) → Table A
+-- The settings of a group, in order, and after them the group's values. What one sets may have a say in those after it.
+pub data SettingTable (A : Type 0) : Type 0 where
+  Values : A → SettingTable A
+  Then : (s : Setting A) → (Value s.kind → SettingTable A) → SettingTable A
 
 infixl 10 ◌>>=◌
--- a setting, and those behind it, which may use what it sets
-abbrev pub ◌>>=◌ : {A : Type 0} (s : Setting A) → (Value s.kind → Table A) → Table A
+-- a setting, and those after it, which may use what it sets
+abbrev pub ◌>>=◌ : {A : Type 0} (s : Setting A) → (Value s.kind → SettingTable A) → SettingTable A
 s >>= rest = Then s rest
 
 -- a line of the table
-abbrev pub setting : {A : Type 0} → List ℕ → (kind : Kind) → Value kind → (A → Value kind) → Setting A
+abbrev pub setting : {A : Type 0} → List ℕ → (kind : SettingKind) → Value kind → (A → Value kind) → Setting A
 setting name kind default value = record { name = name; kind = kind; default = default; value = value }
 
 -- Ports, the time between two flushes in milliseconds, and the thresholds of timers.
@@ -32,7 +31,7 @@ pub record Server : Type 0 where
   pub flush_interval : ℕ
   pub percent_threshold : List ℤ
 
-abbrev pub server : Table Server
+abbrev pub server : SettingTable Server
 server = do
   port ← setting (codes "port") (Whole 1 65535) 8125 (λ v. v.port)
   mgmt_port ← setting (codes "mgmt_port") (Whole 1 65535) 8126 (λ v. v.mgmt_port)
@@ -48,8 +47,8 @@ pub record Deletions : Type 0 where
   pub sets : Bool
   pub gauges : Bool
 
-abbrev pub deletions : Table Deletions
-deletions = do
+abbrev pub deletion_rules : SettingTable Deletions
+deletion_rules = do
   idle_stats ← setting (codes "deleteIdleStats") Flag false (λ v. v.idle_stats)
   counters ← setting (codes "deleteCounters") Flag idle_stats (λ v. v.counters)
   timers ← setting (codes "deleteTimers") Flag idle_stats (λ v. v.timers)
@@ -66,7 +65,7 @@ pub record Addresses : Type 0 where
   pub graphite_host : List ℕ
   pub graphite_port : ℕ
 
-abbrev pub addresses : Table Addresses
+abbrev pub addresses : SettingTable Addresses
 addresses = do
   prefix_stats ← setting (codes "prefixStats") FilledPrefix (codes "statsd") (λ v. v.prefix_stats)
   address ← setting (codes "address") Host (codes "0.0.0.0") (λ v. v.address)
@@ -76,7 +75,7 @@ addresses = do
   graphite_port ← setting (codes "graphitePort") (Whole 1 65535) 2003 (λ v. v.graphite_port)
   Values (record { prefix_stats = prefix_stats; address = address; mgmt_address = mgmt_address; backends = backends; graphite_host = graphite_host; graphite_port = graphite_port })
 
--- How Graphite's names are made; these settings stand in the file's table `graphite`.
+-- How Graphite's names are made; these settings are in the file's table `graphite`.
 pub record Namespace : Type 0 where
   pub legacy : Bool
   pub global_prefix : List ℕ
@@ -86,7 +85,7 @@ pub record Namespace : Type 0 where
   pub prefix_set : List ℕ
   pub global_suffix : List ℕ
 
-abbrev pub namespace : Table Namespace
+abbrev pub namespace : SettingTable Namespace
 namespace = do
   legacy ← setting (codes "legacyNamespace") Flag true (λ v. v.legacy)
   global_prefix ← setting (codes "globalPrefix") Prefix (codes "stats") (λ v. v.global_prefix)
@@ -103,7 +102,7 @@ pub record EntryLists : Type 0 where
   pub repeater : List Target
   pub nodes : List Node
 
-abbrev pub entry_lists : Table EntryLists
+abbrev pub entry_lists : SettingTable EntryLists
 entry_lists = do
   histogram ← setting (codes "histogram") Histograms [] (λ v. v.histogram)
   repeater ← setting (codes "repeater") Targets [] (λ v. v.repeater)
@@ -121,7 +120,7 @@ pub record Sizes : Type 0 where
   pub run_flushes : ℕ
 
 -- the sizes, with the most entries of a shard and of all shards
-abbrev pub sizes_by : ℕ → ℕ → Table Sizes
+abbrev pub sizes_by : ℕ → ℕ → SettingTable Sizes
 sizes_by most all = do
   check_interval ← setting (codes "checkInterval") (Whole 1 86400000) 10000 (λ v. v.check_interval)
   cache_size ← setting (codes "cacheSize") (Whole 1 1000000) 10000 (λ v. v.cache_size)
@@ -132,16 +131,15 @@ sizes_by most all = do
   run_flushes ← setting (codes "runFlushes") (Whole 0 1000000000) 0 (λ v. v.run_flushes)
   Values (record { check_interval = check_interval; cache_size = cache_size; shards = shards; rows = rows; entries = entries; receivers = receivers; run_flushes = run_flushes })
 
-abbrev pub sizes : Table Sizes
+abbrev pub sizes : SettingTable Sizes
 sizes = sizes_by 1048576 2097152
 
--- At which swap behind its last sample a gauge that goes when idle goes, and the names of the classes of timers' lines that
--- are chosen.
+-- At which swap after its last sample an idle gauge goes, and the names of the classes of timers' lines that are chosen.
 pub record FlushRules : Type 0 where
   pub gauges_max_ttl : ℕ
   pub calculated_timer_metrics : List (List ℕ)
 
-abbrev pub flush_rules : Table FlushRules
+abbrev pub flush_rules : SettingTable FlushRules
 flush_rules = do
   gauges_max_ttl ← setting (codes "gaugesMaxTTL") (Whole 1 1000000000) 1 (λ v. v.gauges_max_ttl)
   calculated_timer_metrics ← setting (codes "calculatedTimerMetrics") ClassNames [] (λ v. v.calculated_timer_metrics)
@@ -149,9 +147,9 @@ flush_rules = do
 
 -- How many texts may wait for each backend and of how many bytes each may be, the port of streams of lines, whether the samples of
 -- counters and gauges are summed up as they come and take none of a shard's entries, the port at which a proxy answers admin lines,
--- whether flushes are at multiples of their interval of the system's clock, how many bytes of lines a proxy puts into one datagram, and
--- how many bytes of room for the datagrams that wait for it each receiver asks the system for; a port 0 and a room 0 are none, and
--- 0 bytes of lines are a datagram a line.
+-- whether flushes are at multiples of their interval of the system's clock, how many bytes of lines a proxy puts into one datagram,
+-- and how many bytes of room for the datagrams that wait for it each receiver asks the system for; a port 0 and a room 0 are none,
+-- and 0 bytes of lines are a datagram a line.
 pub record Transport : Type 0 where
   pub outlets : ℕ
   pub outlet_bytes : ℕ
@@ -162,7 +160,7 @@ pub record Transport : Type 0 where
   pub batch_bytes : ℕ
   pub receive_buffer : ℕ
 
-abbrev pub transport : Table Transport
+abbrev pub transport : SettingTable Transport
 transport = do
   outlets ← setting (codes "outlets") (Whole 0 64) 0 (λ v. v.outlets)
   outlet_bytes ← setting (codes "outletBytes") (Share 65536 16777216 268435456 outlets) 4194304 (λ v. v.outlet_bytes)
@@ -175,6 +173,6 @@ transport = do
   Values (record { outlets = outlets; outlet_bytes = outlet_bytes; tcp_port = tcp_port; sums_on_arrival = sums_on_arrival; proxy_mgmt_port = proxy_mgmt_port; align_flushes = align_flushes; batch_bytes = batch_bytes; receive_buffer = receive_buffer })
 
 -- the names of a group's settings
-abbrev pub setting_names : {A : Type 0} → Table A → List (List ℕ)
+abbrev pub setting_names : {A : Type 0} → SettingTable A → List (List ℕ)
 setting_names (Values v) = []
 setting_names (Then s rest) = s.name ∷ setting_names (rest s.default)

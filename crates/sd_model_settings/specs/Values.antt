@@ -1,15 +1,12 @@
--- What a value of a settings file is read as, or what is wrong with it. The values are those of TOML
--- (https://toml.io/en/v1.0.0), as the crate `toml` has them.
-use Rattle.std.specs.Prelude.{ℕ, ◌^◌, ◌&&◌, Bool, true, not, nat_le, nat_lt, if◌then◌else◌, ℤ, pos, negsuc, ◌*ℤ◌, unsigned_abs, List, [], ◌∷◌, length, Option, Some, None, Result, Ok, Err}
-use Rattle.std.specs.List.{list_any, list_all}
+-- What a value of a settings file is read as, or what is wrong with it. The values are those of TOML (https://toml.io/en/v1.0.0),
+-- as the crate `toml` has them.
+use Rattle.std.specs.{Prelude.{ℕ, ◌^◌, ◌&&◌, Bool, true, not, nat_le, nat_lt, if◌then◌else◌, ℤ, pos, negsuc, ◌*ℤ◌, unsigned_abs, List, [], ◌∷◌, length, Option, Some, None, Result, Ok, Err}, List.{list_any, list_all}}
 use Rattle.toml.specs.Data.{Data, string, integer, boolean, array, table, Items, no_items, item, Members}
-use Rattle.sd_model_text.specs.Names.{is_name_byte}
-use Rattle.sd_model_text.specs.Numbers.{NumberFlaw, BadShape, BadRange, decimal_value}
+use Rattle.sd_model_text.specs.{Names.{is_name_byte}, Numbers.{NumberFlaw, BadShape, BadRange, decimal_value}}
 
 -- What is wrong with a value: it is of another kind, or it is out of range.
 pub data ValueFlaw : Type 0 where
-  OtherKind : ValueFlaw
-  OutsideRange : ValueFlaw
+  OtherKind OutsideRange : ValueFlaw
 
 -- two values read, where another kind of either comes before a range of either
 abbrev pub both : {A B : Type 0} → Result A ValueFlaw → Result B ValueFlaw → Result (A × B) ValueFlaw
@@ -35,10 +32,10 @@ flag (boolean b) = Ok b
 flag _ = Err OtherKind
 
 -- an integer from least to most
-abbrev pub whole : ℕ → ℕ → Data → Result ℕ ValueFlaw
-whole least most (integer (pos n)) = if nat_le least n && nat_le n most then Ok n else Err OutsideRange
-whole least most (integer (negsuc n)) = Err OutsideRange
-whole least most _ = Err OtherKind
+abbrev pub whole_read : ℕ → ℕ → Data → Result ℕ ValueFlaw
+whole_read least most (integer (pos n)) = if nat_le least n && nat_le n most then Ok n else Err OutsideRange
+whole_read least most (integer (negsuc n)) = Err OutsideRange
+whole_read least most _ = Err OtherKind
 
 -- a string whose bytes pass a test
 abbrev pub text : (List ℕ → Bool) → Data → Result (List ℕ) ValueFlaw
@@ -53,13 +50,9 @@ is_prefix s = nat_le (length s) 64 && list_all is_name_byte s
 abbrev pub is_filled_prefix : List ℕ → Bool
 is_filled_prefix s = nat_lt 0 (length s) && is_prefix s
 
--- a byte of a host: from 33 to 126
-abbrev pub is_host_byte : ℕ → Bool
-is_host_byte b = nat_le 33 b && nat_le b 126
-
 -- the text of a host: 1 to 64 of these bytes
 abbrev pub is_host : List ℕ → Bool
-is_host s = nat_lt 0 (length s) && nat_le (length s) 64 && list_all is_host_byte s
+is_host s = nat_lt 0 (length s) && nat_le (length s) 64 && list_all (λ b. nat_le 33 b && nat_le b 126) s
 
 -- the text of a part of metrics' names: at most 255 bytes of names
 abbrev pub is_metric : List ℕ → Bool
@@ -71,8 +64,7 @@ decimal_text (Ok z) = Ok z
 decimal_text (Err BadShape) = Err OtherKind
 decimal_text (Err BadRange) = Err OutsideRange
 
--- A decimal in millionths: an integer, or a string that holds a number text, of at most 10^12 in magnitude.
--- A TOML float is of another kind.
+-- A decimal in millionths: an integer, or a string with a number text, at most 10^12 in magnitude. A TOML float is of another kind.
 abbrev pub decimal : Data → Result ℤ ValueFlaw
 decimal (integer z) = if nat_le (unsigned_abs z) (10 ^ 12) then Ok (z *ℤ pos 1000000) else Err OutsideRange
 decimal (string s) = decimal_text (decimal_value s)

@@ -1,7 +1,7 @@
 ghost use Rattle.std.specs.Prelude.{◌≡◌, ◌∷◌, [], pos, codes, Ok, Err, true, false};
 ghost use Rattle.sd_model_text.specs.Numbers.{Below, Infinite};
 ghost use Rattle.sd_model_settings.specs.Settings.{settings, Unknown, WrongKind, OutOfRange, NotToml, default_settings};
-ghost use Rattle.sd_model_settings.specs.Table.{server, deletions, addresses, namespace, sizes, flush_rules, transport};
+ghost use Rattle.sd_model_settings.specs.Table.{server, deletion_rules, addresses, namespace, sizes, flush_rules, transport};
 ghost use Rattle.sd_model_settings.specs.ConfigText.{group_lines, histogram_line, repeater_line, node_line};
 
 /// What files set.
@@ -104,7 +104,7 @@ pub fn config_lines_of_files()
         ∷ codes "flushInterval: 10000\n"
         ∷ codes "percentThreshold: 90\n"
         ∷ [] }
-    ensures deletion_defaults { group_lines [] deletions default_settings.deletions
+    ensures deletion_defaults { group_lines [] deletion_rules default_settings.deletions
         ≡ codes "deleteIdleStats: false\n"
         ∷ codes "deleteCounters: false\n"
         ∷ codes "deleteTimers: false\n"

@@ -218,7 +218,7 @@ pub below_none : {K X : Type 0} (R : K → K → Ordering) (q : K) (es : List (K
 below_none R q [] h = refl
 below_none R q (e ∷ es) h = ap (λ o. cond (is_eq o) (Some e.1) (find R q es)) (is_less (R q e.0) (and_first _ _ h)) ∙ below_none R q es (and_second _ _ h)
 
--- what is found behind an entry in order is found with it
+-- what is found after an entry in order is found with it
 pub found_behind : {K X : Type 0} {R : K → K → Ordering} (o : IsTotalOrder R) (q : K) (e : K × X) (es : List (K × X)) → T (is_sorted R (e ∷ es)) → (v : X) → find R q es ≡ Some v → find R q (e ∷ es) ≡ Some v
 found_behind {K = K} {X = X} {R = R} o q e es h v is = by_tie (eq_by_cmp R q e.0) refl where
   none_tied : eq_by_cmp R q e.0 ≡ true → find R q es ≡ None
@@ -240,7 +240,7 @@ alike_any p [] = refl
 alike_any p (e ∷ es) = ap (λ b. p e.0 || b) (alike_any p es)
 
 module _ {K X Y : Type 0} {R : K → K → Ordering} (o : IsTotalOrder R) (exact : IsAntisymmetric R) (f : K → X → Option Y) where
-  -- what is found behind an entry of the same key
+  -- what is found after an entry of the same key
   none_behind : (q : K) (e : K × X) (es : List (K × X)) → StandApart R (e ∷ es) → eq_by_cmp R q e.0 ≡ true → find R q es ≡ None
   none_behind q e es a t = none_of (find R q es) (is_some-find R q es ∙ alike_any (eq_by_cmp R q) es ∙ any_alike o q e.0 es t ∙ a.0)
 

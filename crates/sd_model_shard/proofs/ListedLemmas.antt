@@ -72,9 +72,9 @@ retained p es = same_map rows_total rows_exact (retain_keys (from_entries {R = r
     ∙ sym (get-from_entries rows_total (filter (λ (e : RowId × Kept). p e.0) es) q ∙ find-where_key row_cmp p q alike es))
 
 -- what is told of the rows whose ids pass a test, as a list of rows that stand apart has them and as their map does
-pub told_permutes : {A : Type 0} (f : RowId × Kept → A) (p : RowId → Bool) (es : List (RowId × Kept)) → StandApart row_cmp es
+pub reported_permutes : {A : Type 0} (f : RowId × Kept → A) (p : RowId → Bool) (es : List (RowId × Kept)) → StandApart row_cmp es
     → IsPermutation (map f (filter (λ (e : RowId × Kept). p e.0) es)) (map f (entries (retain_keys (from_entries {R = row_cmp} es) p)))
-told_permutes f p es h =
+reported_permutes f p es h =
     let few = filter (λ (e : RowId × Kept). p e.0) es in
     subst (λ (rows : Rows). IsPermutation (map f few) (map f (entries rows))) (sym (retained p es))
     (IsPermutation-map f few (entries (from_entries {R = row_cmp} few)) (listed_permutes few (StandApart-filter p es h)))

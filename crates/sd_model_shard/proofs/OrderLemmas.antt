@@ -1,4 +1,4 @@
--- Entries whose numbers rise, and numbers that stand once.
+-- Entries whose numbers rise, and numbers that are there once.
 use Rattle.std.proofs.Common.{◌≡◌, ℕ, zero, suc, ◌+◌, ◌<◌, ◌≤◌, Bool, true, false, cond, eqb, List, [], ◌∷◌, ◌++◌, map, filter, refl, sym, subst, ◌∙◌, arith}
 use Rattle.std.specs.Prelude.{sum_by, flat_map, slice_index}
 use Rattle.std.specs.List.{range_with_len}

@@ -9,7 +9,8 @@ use Rattle.std.proofs.lemmas.List.Sums.{sum_by-cons}
 use Rattle.sd_model_text.specs.Numbers.{rounded, Limit, Below, Infinite, limit_lt, ascends}
 use Rattle.sd_model_text.proofs.Rounding.{rounded-exact}
 use Rattle.sd_model_shard.proofs.SortedLemmas.{one_if}
-use Rattle.sd_model_shard.specs.Values.{part_count, Part, part_of, part, pct, is_below, bin, Bin, bins_from, bins}
+use Rattle.sd_model_shard.specs.Values.{part_count, PartStatistics, part, pct, is_below, Bin, bins_from, bins}
+use Rattle.sd_model_shard.proofs.Short.{bin, part_taken}
 
 whole_count : (n : ℕ) → rounded (100000000 * n) 100000000 ≡ n
 whole_count n = ap (λ k. rounded k 100000000) (let turned : 100000000 * n ≡ n * 100000000 = omega arith in turned) ∙ rounded-exact n 100000000 (omega arith)
@@ -21,16 +22,16 @@ whole_part_count n = by_one (eqb n 1) refl where
   by_one false is = whole_count n
 
 -- the statistics at a threshold that takes so many values
-abbrev at_count : ℤ → List ℤ → ℕ → Option Part
-at_count threshold values count = cond (eqb count 0) None (Some (part threshold (part_of threshold count values)))
+abbrev at_count : ℤ → List ℤ → ℕ → Option PartStatistics
+at_count threshold values count = cond (eqb count 0) None (Some (part threshold (part_taken threshold count values)))
 
-some_count : (threshold : ℤ) (values : List ℤ) (count : ℕ) → 0 < count → at_count threshold values count ≡ Some (part threshold (part_of threshold count values))
+some_count : (threshold : ℤ) (values : List ℤ) (count : ℕ) → 0 < count → at_count threshold values count ≡ Some (part threshold (part_taken threshold count values))
 some_count threshold values count some = by_none (eqb count 0) refl where
-  by_none : (b : Bool) → eqb count 0 ≡ b → cond b None (Some (part threshold (part_of threshold count values))) ≡ Some (part threshold (part_of threshold count values))
+  by_none : (b : Bool) → eqb count 0 ≡ b → cond b None (Some (part threshold (part_taken threshold count values))) ≡ Some (part threshold (part_taken threshold count values))
   by_none true is = absurd (let none : count ≡ 0 = grind (arith, nat_tests) in omega arith)
   by_none false is = refl
 
-whole_part : (threshold : ℤ) (values : List ℤ) → unsigned_abs threshold ≡ 100000000 → 0 < length values → part_of threshold (length values) values ≡ values → pct threshold values ≡ Some (part threshold values)
+whole_part : (threshold : ℤ) (values : List ℤ) → unsigned_abs threshold ≡ 100000000 → 0 < length values → part_taken threshold (length values) values ≡ values → pct threshold values ≡ Some (part threshold values)
 whole_part threshold values is some all =
     let n = length values in
     let counts : part_count threshold n ≡ n = ap (λ (p : ℕ). cond (eqb n 1) 1 (rounded (p * n) 100000000)) is ∙ whole_part_count n in

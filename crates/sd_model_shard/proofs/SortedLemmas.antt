@@ -10,9 +10,10 @@ use Rattle.std.specs.FinMap.Entries.{is_sorted, below_all, is_some-find}
 use Rattle.std.proofs.lemmas.Int.{ints}
 use Rattle.std.proofs.lemmas.List.Sums.{sum_by-append, sum_by-cons}
 use Rattle.std.proofs.lemmas.List.Sorted.{sum_by-IsPermutation, IsPermutation-refl, IsPermutation-cons, IsPermutation-sym, IsPermutation-trans, IsPermutation-middle}
-use Rattle.sd_model_shard.specs.Values.{values_in, sorted}
+use Rattle.sd_model_shard.specs.Values.{sorted}
+use Rattle.sd_model_shard.proofs.Short.{values_in}
 
--- how often a value stands in a list
+-- how often a value is in a list
 abbrev count : ℤ → List ℤ → ℕ
 count v xs = count_by (int_eq v) xs
 
@@ -46,7 +47,7 @@ equal_itself x = (signed_Decides x x).1 refl
 counts_itself : (x : ℤ) (xs : List ℤ) → 0 < count x (x ∷ xs)
 counts_itself x xs = omega (arith, count-cons x x xs, ap one_if (equal_itself x))
 
--- a value that stands in a list whose values are at least low is so too
+-- a value that is in a list whose values are at least low is so too
 counted_above : (low v : ℤ) (xs : List ℤ) → AllByRecursion (λ y. low ≤ℤ y) xs → 0 < count v xs → low ≤ℤ v
 counted_above low v [] h some = absurd (omega arith)
 counted_above low v (x ∷ xs) h some = by_head (int_eq v x) refl (λ later. counted_above low v xs h.1 later) where
@@ -110,9 +111,9 @@ group_rises w (x ∷ values) rest above h = by_eq (int_eq w x) refl (group_rises
   by_eq false e later = later
 
 -- the first part and the second of a test that holds in both
-front : (a b : Bool) → T (a && b) → a ≡ true
-front true b h = refl
-front false b h = absurd h
+prefix : (a b : Bool) → T (a && b) → a ≡ true
+prefix true b h = refl
+prefix false b h = absurd h
 
 back : (a b : Bool) → T (a && b) → T b
 back true b h = h
@@ -128,29 +129,29 @@ marked es = map (λ e. e.0) es
 groups_above : (low : ℤ) (values : List ℤ) (es : Marks) → T (below_all int_cmp low es) → AllByRecursion (λ y. low ≤ℤ y) (flat_map (group values) (marked es))
 groups_above low values [] h = tt
 groups_above low values (e ∷ es) h =
-    let first : is_lt (int_cmp low e.0) ≡ true = front (is_lt (int_cmp low e.0)) (below_all int_cmp low es) h in
+    let first : is_lt (int_cmp low e.0) ≡ true = prefix (is_lt (int_cmp low e.0)) (below_all int_cmp low es) h in
     group_above low e.0 values (flat_map (group values) (marked es)) (less_le low e.0 first) (groups_above low values es (back _ _ h))
 
 groups_rise : (values : List ℤ) (es : Marks) → T (is_sorted int_cmp es) → Rises (flat_map (group values) (marked es))
 groups_rise values [] h = tt
 groups_rise values (e ∷ es) h =
-    let later : T (below_all int_cmp e.0 es) = subst T (sym (front (below_all int_cmp e.0 es) (is_sorted int_cmp es) h)) tt in
+    let later : T (below_all int_cmp e.0 es) = subst T (sym (prefix (below_all int_cmp e.0 es) (is_sorted int_cmp es) h)) tt in
     group_rises e.0 values (flat_map (group values) (marked es)) (groups_above e.0 values es later) (groups_rise values es (back _ _ h))
 
 -- a value of one group is in no later one
 not_later : (v low : ℤ) (es : Marks) → int_eq v low ≡ true → T (below_all int_cmp low es) → list_any (eq_by_cmp int_cmp v) (marked es) ≡ false
 not_later v low [] e h = refl
 not_later v low (x ∷ es) e h =
-    let first : is_lt (int_cmp low x.0) ≡ true = front (is_lt (int_cmp low x.0)) (below_all int_cmp low es) h in
+    let first : is_lt (int_cmp low x.0) ≡ true = prefix (is_lt (int_cmp low x.0)) (below_all int_cmp low es) h in
     ap (λ b. b || list_any (eq_by_cmp int_cmp v) (marked es)) (apart v low x.0 (same_value v low e) first) ∙ not_later v low es e (back _ _ h) where
       apart : (v low w : ℤ) → v ≡ low → is_lt (int_cmp low w) ≡ true → int_eq v w ≡ false
       apart v low w same less = grind (arith, ints)
 
--- how often a value stands in the groups of a list
+-- how often a value is in the groups of a list
 count-groups : (values : List ℤ) (v : ℤ) (es : Marks) → T (is_sorted int_cmp es) → count v (flat_map (group values) (marked es)) ≡ cond (list_any (eq_by_cmp int_cmp v) (marked es)) (count v values) 0
 count-groups values v [] h = refl
 count-groups values v (e ∷ es) h =
-    let later : T (below_all int_cmp e.0 es) = subst T (sym (front (below_all int_cmp e.0 es) (is_sorted int_cmp es) h)) tt in
+    let later : T (below_all int_cmp e.0 es) = subst T (sym (prefix (below_all int_cmp e.0 es) (is_sorted int_cmp es) h)) tt in
     sum_by-append (λ (y : ℤ). one_if (int_eq v y)) (group values e.0) (flat_map (group values) (marked es))
     ∙ by_eq (int_eq v e.0) refl later (count-groups values v es (back _ _ h)) where
       by_eq : (b : Bool) → int_eq v e.0 ≡ b → T (below_all int_cmp e.0 es) → count v (flat_map (group values) (marked es)) ≡ cond (list_any (eq_by_cmp int_cmp v) (marked es)) (count v values) 0
@@ -161,7 +162,7 @@ count-groups values v (e ∷ es) h =
           omega (arith, rest, none, own)
       by_eq false is later rest = omega (arith, rest, count-group_other v e.0 values is)
 
--- a value that doesn't stand in a list counts for nothing there
+-- a value that isn't in a list counts for nothing there
 count_any : (v : ℤ) (xs : List ℤ) → count v xs ≡ cond (list_any (eq_by_cmp int_cmp v) xs) (count v xs) 0
 count_any v [] = refl
 count_any v (x ∷ xs) = by_eq (int_eq v x) refl (count_any v xs) where
@@ -250,7 +251,7 @@ sorted_when_rises (x ∷ y ∷ ys) h (suc k) d low below =
     let next : suc (k + 1) ≡ suc k + 1 = omega arith in
     subst (λ j. is_lt (int_cmp (get_or (x ∷ y ∷ ys) j d) (get_or (y ∷ ys) k d)) ≡ false) next (sorted_when_rises (y ∷ ys) h.1 k d (omega arith) (omega arith))
 
--- where a value stands in a list
+-- where a value is in a list
 record Found (v : ℤ) (xs : List ℤ) : Type 0 where
   before : List ℤ
   behind : List ℤ

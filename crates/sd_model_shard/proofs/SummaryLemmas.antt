@@ -8,15 +8,14 @@ use Rattle.std.proofs.lemmas.List.Elements.{filter-append}
 use Rattle.std.proofs.lemmas.List.Sums.{fold_push}
 use Rattle.sd_model_text.specs.Names.{Kind, Counter, Timer, Gauge, Set}
 use Rattle.sd_model_text.specs.Lines.{Sample}
-use Rattle.sd_model_shard.specs.Rows.{RowId, row_cmp, Summary, Kept, Rows, Entry, row_of, is_same_row, entries_of}
-use Rattle.sd_model_shard.specs.Statistics.{sample_weight, gauge_after}
-use Rattle.sd_model_shard.specs.Summaries.{no_samples, without_samples, summary_after, sampled, row_in, touched, statistics_of, Tell}
-use Rattle.sd_model_shard.specs.Shard.{Policy, kept_by, left_of, carried, goes_idle}
+use Rattle.sd_model_shard.specs.Rows.{RowId, row_cmp, Summary, Kept, Rows, Entry, row_of, is_same_row, entries_of, sample_weight, gauge_after, without_samples, summary_after, row_in, touched, Tell}
+use Rattle.sd_model_shard.specs.Shard.{Policy, kept_by, left_of, kept_rows, expires}
 use Rattle.sd_model_shard.specs.Whereabouts.{rows_with}
 use Rattle.sd_model_shard.specs.Values.{total}
 use Rattle.sd_model_shard.proofs.RowLemmas.{rows_exact, rows_total}
 use Rattle.sd_model_shard.proofs.DeletionLemmas.{same_row}
 use Rattle.sd_model_shard.proofs.EntryLemmas.{get-left}
+use Rattle.sd_model_shard.proofs.Short.{statistics_of, sampled, no_samples}
 
 -- the statistics of a row's own entries
 abbrev stats : Kind → ℤ → List Entry → Summary
@@ -141,8 +140,8 @@ Tell-retain live p h = record {
   by_test true q kept is = h.rows q kept is
   by_test false q kept is = absurd (cc)
 
-pub get-carried : (policy : Policy) (live : Rows) (q : RowId) → get (carried policy live) q ≡ option_and_then (left_of policy q) (get live q)
-get-carried policy live q = get-left rows_total rows_exact (left_of policy) live q
+pub get-kept_rows : (policy : Policy) (live : Rows) (q : RowId) → get (kept_rows policy live) q ≡ option_and_then (left_of policy q) (get live q)
+get-kept_rows policy live q = get-left rows_total rows_exact (left_of policy) live q
 
 kept_fresh : (kind : Kind) (kept : Kept) → (kept_by kind kept).since ≡ no_samples (kept_by kind kept).base
 kept_fresh Counter kept = refl
@@ -151,9 +150,9 @@ kept_fresh Gauge kept = refl
 kept_fresh Set kept = refl
 
 -- rows after a swap have no samples
-pub Tell-carried : (policy : Policy) (live : Rows) → Tell (carried policy live) []
-Tell-carried policy live = record {
-  rows = λ q kept is. by_row q (get live q) kept (sym (get-carried policy live q) ∙ is);
+pub Tell-kept_rows : (policy : Policy) (live : Rows) → Tell (kept_rows policy live) []
+Tell-kept_rows policy live = record {
+  rows = λ q kept is. by_row q (get live q) kept (sym (get-kept_rows policy live q) ∙ is);
   absent = λ q is. refl;
 } where
   by_idle : (q : RowId) (old kept : Kept) (b : Bool) → cond b None (Some (kept_by q.kind old)) ≡ Some kept → kept.since ≡ statistics_of q kept.base []
@@ -163,4 +162,4 @@ Tell-carried policy live = record {
 
   by_row : (q : RowId) (o : Option Kept) (kept : Kept) → option_and_then (left_of policy q) o ≡ Some kept → kept.since ≡ statistics_of q kept.base []
   by_row q None kept is = absurd (cc)
-  by_row q (Some old) kept is = by_idle q old kept (goes_idle policy q.kind (kept_by q.kind old).swaps) is
+  by_row q (Some old) kept is = by_idle q old kept (expires policy q.kind (kept_by q.kind old).swaps) is

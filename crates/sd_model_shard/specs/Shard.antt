@@ -1,14 +1,10 @@
 -- A shard: what it holds, and what one event does to it.
-use Rattle.std.specs.Prelude.{ℕ, ◌+◌, ◌-◌, ◌^◌, min, nat_lt, nat_le, Bool, true, false, not, ◌&&◌, List, length, filter_map, if◌then◌else◌, Option, Some, None, option_map}
-use Rattle.std.specs.FinMap.{contains_key, empty, entries, from_entries, len}
-use Rattle.sd_model_text.specs.Names.{Kind, Counter, Timer, Gauge, Set}
-use Rattle.sd_model_text.specs.Lines.{Sample}
-use Rattle.sd_model_shard.specs.Rows.{RowId, Kept, Rows, row_of}
-use Rattle.sd_model_shard.specs.Summaries.{without_samples, is_listed, touched, samples_in, listed_in}
-use Rattle.sd_model_shard.specs.Commands.{DumpRow, keys_of, rows_taken_out, rows_left, dump_of}
+use Rattle.std.specs.{Prelude.{ℕ, ◌+◌, ◌-◌, ◌^◌, min, nat_lt, nat_le, Bool, true, false, not, ◌&&◌, List, length, filter_map, if◌then◌else◌, Option, Some, None, option_map}, FinMap.{contains_key, empty, entries, from_entries, len}}
+use Rattle.sd_model_text.specs.{Names.{Kind, Counter, Timer, Gauge, Set}, Lines.{Sample}}
+use Rattle.sd_model_shard.specs.Rows.{RowId, Kept, Rows, row_of, without_samples, is_listed, touched, samples_in, listed_in, DumpRow, keys_of, rows_taken_out, rows_left, dump_of}
 
--- A shard's state: its rows; how many samples their summaries have together, and how many of these are listed; and how many
--- samples were taken, flushed, deleted and dropped so far.
+-- A shard's state: its rows; how many samples their summaries have together, and how many of these are listed; and how many samples
+-- were taken, flushed, deleted and dropped so far.
 pub record State : Type 0 where
   pub live : Rows
   pub held : ℕ
@@ -22,8 +18,7 @@ pub record State : Type 0 where
 abbrev pub empty_state : State
 empty_state = record { live = empty; held = 0; listed = 0; taken = 0; flushed = 0; deleted = 0; dropped = 0 }
 
--- How many rows and entries a shard may have, and whether sums are made on arrival: then only the samples that are listed
--- count as entries, and else all do.
+-- How many rows and entries a shard may have, and whether sums are made on arrival, where only listed samples count as entries.
 pub record Limits : Type 0 where
   pub rows : ℕ
   pub entries : ℕ
@@ -52,8 +47,8 @@ pub data Cause : Type 0 where
   NoSum : (summed limit : ℕ) → Cause
   NoNumber : (taken : ℕ) → Cause
 
--- whether there is no room for one more sample, by whether sums are made on arrival and whether the sample is listed: all
--- samples held count, or those that are listed like it, or those that are summed up like it
+-- whether there is no room for one more sample, by whether sums are made on arrival and whether the sample is listed: all samples
+-- held count, or those that are listed like it, or those that are summed up like it
 abbrev pub is_full : Limits → State → Bool → Bool → Bool
 is_full limits state false listed = not (nat_lt state.held limits.entries)
 is_full limits state true true = not (nat_lt state.listed limits.entries)
@@ -84,42 +79,33 @@ with_sample state s =
       taken = state.taken + 1;
     }
 
--- the state after a sample that doesn't fit
-abbrev pub with_drop : State → State
-with_drop state = record state { dropped = min (state.dropped + 1) last_number }
-
 -- The answer to a sample: its number, or why it was dropped.
 pub data Placed : Type 0 where
   Taken : (number : ℕ) → Placed
   Dropped : (cause : Cause) → Placed
 
--- where the swaps of a row end
-abbrev pub last_swaps : ℕ
-last_swaps = 10 ^ 9
-
--- what a row of a kind goes on as after a swap, without samples: a gauge's base becomes its value, and its swaps grow by 1;
--- the base and the swaps of other rows stay
+-- what a row of a kind goes on as after a swap, without samples: a gauge's base becomes its value, and its swaps grow by 1, up to
+-- 10^9; the base and the swaps of other rows stay
 abbrev pub kept_by : Kind → Kept → Kept
-kept_by Gauge kept = without_samples kept.since.gauge (min (kept.swaps + 1) last_swaps)
+kept_by Gauge kept = without_samples kept.since.gauge (min (kept.swaps + 1) (10 ^ 9))
 kept_by kind kept = without_samples kept.base kept.swaps
 
 -- whether a row of a kind with so many swaps since its last sample goes: a gauge once they reach a number, others at once
-abbrev pub goes_idle : Policy → Kind → ℕ → Bool
-goes_idle policy Counter swaps = policy.counters
-goes_idle policy Timer swaps = policy.timers
-goes_idle policy Gauge swaps = policy.gauges && nat_le policy.max_ttl swaps
-goes_idle policy Set swaps = policy.sets
+abbrev pub expires : Policy → Kind → ℕ → Bool
+expires policy Counter swaps = policy.counters
+expires policy Timer swaps = policy.timers
+expires policy Gauge swaps = policy.gauges && nat_le policy.max_ttl swaps
+expires policy Set swaps = policy.sets
 
 -- what is left of a row at a swap
 abbrev pub left_of : Policy → RowId → Kept → Option Kept
 left_of policy id kept =
     let next = kept_by id.kind kept in
-    if goes_idle policy id.kind next.swaps then None else Some next
+    if expires policy id.kind next.swaps then None else Some next
 
--- Carry-over: the rows that stay at a swap, each as what is left of it.
-abbrev pub carried : Policy → Rows → Rows
-carried policy live =
-    from_entries (filter_map (λ row. option_map (λ kept. (row.0, kept)) (left_of policy row.0 row.1)) (entries live))
+-- What a swap keeps: the rows that stay at a swap, each as what is left of it.
+abbrev pub kept_rows : Policy → Rows → Rows
+kept_rows policy live = from_entries (filter_map (λ row. option_map (λ kept. (row.0, kept)) (left_of policy row.0 row.1)) (entries live))
 
 -- the rows that a swap hands out
 pub record Table : Type 0 where
@@ -127,8 +113,7 @@ pub record Table : Type 0 where
 
 -- the state after a swap
 abbrev pub after_swap : Policy → State → State
-after_swap policy state =
-    record state { live = carried policy state.live; held = 0; listed = 0; flushed = state.flushed + state.held }
+after_swap policy state = record state { live = kept_rows policy state.live; held = 0; listed = 0; flushed = state.flushed + state.held }
 
 -- the table that a swap answers
 abbrev pub table_of : State → Table
@@ -153,8 +138,8 @@ pub data Event : Type 0 where
   Dump : (kind : Kind) → Event
   Look : Event
 
--- What a shard tells of itself: how many rows it has and how many samples it holds; and how many samples it took, flushed,
--- deleted and dropped so far.
+-- What a shard tells of itself: how many rows it has, how many samples it holds, and how many it took, flushed, deleted and
+-- dropped.
 pub record Numbers : Type 0 where
   pub rows : ℕ
   pub held : ℕ
@@ -175,8 +160,8 @@ numbers_of state =
       dropped = state.dropped;
     }
 
--- What a shard answers: what became of a sample; the table that it hands out; the keys of the rows that a deletion took
--- out, how many rows those are and how many samples they had; the rows that a dump tells; its numbers.
+-- What a shard answers: what became of a sample; the table that it hands out; the keys of the rows that a deletion took out, how
+-- many rows those are and how many samples they had; the rows that a dump tells; its numbers.
 pub data Reply : Type 0 where
   Answered : (placed : Placed) → Reply
   Swapped : (table : Table) → Reply
@@ -192,7 +177,7 @@ pub record Stepped : Type 0 where
 -- a sample is taken under the next number, or is dropped with its cause
 abbrev pub admitted : State → Sample → Option Cause → Stepped
 admitted state s None = record { state = with_sample state s; reply = Answered (Taken state.taken) }
-admitted state s (Some cause) = record { state = with_drop state; reply = Answered (Dropped cause) }
+admitted state s (Some cause) = record { state = record state { dropped = min (state.dropped + 1) last_number }; reply = Answered (Dropped cause) }
 
 -- what a deletion answers in a state
 abbrev pub deletion_of : Kind → List ℕ → State → Reply
@@ -204,7 +189,6 @@ deletion_of kind pattern state =
 abbrev pub step : Limits → Policy → State → Event → Stepped
 step limits policy state (Submit s) = admitted state s (refusal limits state s)
 step limits policy state Swap = record { state = after_swap policy state; reply = Swapped (table_of state) }
-step limits policy state (Delete kind pattern) =
-    record { state = after_delete kind pattern state; reply = deletion_of kind pattern state }
+step limits policy state (Delete kind pattern) = record { state = after_delete kind pattern state; reply = deletion_of kind pattern state }
 step limits policy state (Dump kind) = record { state = state; reply = Dumped (dump_of kind state.live) }
 step limits policy state Look = record { state = state; reply = Looked (numbers_of state) }

@@ -1,23 +1,15 @@
 -- What a list of values comes to: a timer's statistics, its thresholds and bins, and how many members of a set differ. The
 -- quantities are those of StatsD (https://github.com/statsd/statsd/blob/master/docs/metric_types.md), in whole millionths.
-use Rattle.std.specs.Prelude.{ℕ, ◌-◌, ◌*◌, ◌/◌, ◌==◌, ◌&&◌, Bool, true, not, nat_le, if◌then◌else◌, ℤ, pos, ◌+ℤ◌, ◌-ℤ◌, unsigned_abs, int_lt, List, [], ◌∷◌, length, take, drop, map, filter, flat_map, fold, sum_by, count_by, slice_index_or, Option, Some, None}
-use Rattle.std.specs.List.{range_with_len}
-use Rattle.std.specs.Ordering.{nat_cmp, int_cmp, int_eq}
+use Rattle.std.specs.{Prelude.{ℕ, ◌-◌, ◌*◌, ◌/◌, ◌==◌, ◌&&◌, Bool, true, not, nat_le, if◌then◌else◌, ℤ, pos, ◌+ℤ◌, ◌-ℤ◌, unsigned_abs, int_lt, List, [], ◌∷◌, length, take, drop, map, filter, flat_map, fold, sum_by, count_by, slice_index_or, Option, Some, None}, List.{range_with_len}, Ordering.{nat_cmp, int_cmp, int_eq}, FinMap.{from_entries, keys}, FinSet.{from_list, len}}
 use Rattle.std.specs.Cmp.Lexicographic.{slice_cmp}
-use Rattle.std.specs.FinMap.{from_entries, keys}
-use Rattle.std.specs.FinSet.{from_list, len}
 use Rattle.sd_model_text.specs.Numbers.{rounded, round, per_second, Limit, Below, Infinite}
 
--- the values that stand in a list, each once, from the least on
-abbrev pub values_in : List ℤ → List ℤ
-values_in values = keys (from_entries {R = int_cmp} (map (λ v. (v, tt {0})) values))
-
--- A list from the least value to the greatest: each value that stands in it, as often as it stands there.
+-- A list from the least value to the greatest: each value that is in it, as often as it is there.
 unfoldable pub sorted : List ℤ → List ℤ
-sorted values = flat_map (λ v. filter (int_eq v) values) (values_in values)
+sorted values = flat_map (λ v. filter (int_eq v) values) (keys (from_entries {R = int_cmp} (map (λ v. (v, tt {0})) values)))
 
--- What a timer's statistics are taken of: its values from the least to the greatest, what its samples weigh together, and
--- the flush interval in milliseconds.
+-- What a timer's statistics are taken of: its values in order, what its samples weigh together, and the flush interval in
+-- milliseconds.
 pub record Timer : Type 0 where
   pub values : List ℤ
   pub weight : ℤ
@@ -63,13 +55,12 @@ sum_squares values = pos (rounded (sum_by square values) 1000000)
 abbrev pub spread : List ℤ → ℕ
 spread values = sum_by (λ v. square (v -ℤ mean values)) values
 
--- The standard deviation over the whole population: the largest s with `n * s * s` at most the spread, which is the number
--- of those from 1 on.
+-- The standard deviation over the population: the largest s with `n * s * s` at most the spread, the number of those from 1 on.
 unfoldable pub deviation : List ℤ → ℕ
 deviation values = count_by (λ s. nat_le (length values * (s * s)) (spread values)) (range_with_len 1 (spread values))
 
 -- The statistics of all values of a timer.
-pub record Whole : Type 0 where
+pub record WholeStatistics : Type 0 where
   pub std : ℤ
   pub upper : ℤ
   pub lower : ℤ
@@ -81,8 +72,8 @@ pub record Whole : Type 0 where
   pub median : ℤ
 
 -- the statistics of a timer that has a value
-abbrev pub whole : Timer → Whole
-whole timer =
+abbrev pub whole_statistics : Timer → WholeStatistics
+whole_statistics timer =
     record {
       std = pos (deviation timer.values);
       upper = last timer.values;
@@ -103,13 +94,9 @@ part_count threshold n = if n == 1 then 1 else rounded (unsigned_abs threshold *
 abbrev pub is_upper : ℤ → Bool
 is_upper threshold = int_lt (pos 0) threshold
 
--- so many values, from the end that the threshold takes
-abbrev pub part_of : ℤ → ℕ → List ℤ → List ℤ
-part_of threshold count values = if is_upper threshold then take count values else drop (length values - count) values
-
--- The statistics of the part of a timer's values that a threshold takes. The edge is the end of the part that is inside the
--- list: the last of the least values, or the first of the greatest.
-pub record Part : Type 0 where
+-- The statistics of the part of a timer's values that a threshold takes. The edge is the end of the part that is inside the list:
+-- the last of the least values, or the first of the greatest.
+pub record PartStatistics : Type 0 where
   pub threshold : ℤ
   pub count : ℕ
   pub mean : ℤ
@@ -118,7 +105,7 @@ pub record Part : Type 0 where
   pub sum_squares : ℤ
 
 -- the statistics of a part
-abbrev pub part : ℤ → List ℤ → Part
+abbrev pub part : ℤ → List ℤ → PartStatistics
 part threshold values =
     record {
       threshold = threshold;
@@ -130,29 +117,25 @@ part threshold values =
     }
 
 -- the statistics at a threshold, which is left out where its part has no value
-abbrev pub pct : ℤ → List ℤ → Option Part
+abbrev pub pct : ℤ → List ℤ → Option PartStatistics
 pct threshold values =
     let count = part_count threshold (length values) in
-    if count == 0 then None else Some (part threshold (part_of threshold count values))
+    if count == 0 then None else Some (part threshold (if is_upper threshold then take count values else drop (length values - count) values))
 
 -- whether a value is below a limit
 abbrev pub is_below : ℤ → Limit → Bool
 is_below v (Below limit) = int_lt v limit
 is_below v Infinite = true
 
--- how many values are below a limit and not below another
-abbrev pub bin : Limit → Limit → List ℤ → ℕ
-bin from below values = count_by (λ v. not (is_below v from) && is_below v below) values
-
 -- a bin: its upper limit, and how many values it counts
 pub record Bin : Type 0 where
   pub below : Limit
   pub count : ℕ
 
--- the bins of these limits, behind another limit
+-- the bins of these limits, after another limit
 abbrev pub bins_from : Limit → List Limit → List ℤ → List Bin
 bins_from from [] values = []
-bins_from from (below ∷ limits) values = record { below = below; count = bin from below values } ∷ bins_from below limits values
+bins_from from (below ∷ limits) values = record { below = below; count = count_by (λ v. not (is_below v from) && is_below v below) values } ∷ bins_from below limits values
 
 -- the bins of these limits: each begins where the one before it ends, and the first at 0
 abbrev pub bins : List Limit → List ℤ → List Bin

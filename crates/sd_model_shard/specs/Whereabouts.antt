@@ -1,13 +1,7 @@
 -- Where each sample of a history is, and which rows its tables have.
-use Rattle.std.specs.Prelude.{◌≡◌, ℕ, ◌+◌, min, sum_by, count_by, List, [], ◌∷◌, ◌++◌, length, map, fold, flat_map, filter_map, Option, Some, None, ⊤}
-use Rattle.std.specs.List.{range_with_len, AllByRecursion}
-use Rattle.std.specs.List.Sorted.{IsPermutation, IsStrictlyIncreasing}
+use Rattle.std.specs.{Prelude.{◌≡◌, ℕ, ◌+◌, min, sum_by, count_by, List, [], ◌∷◌, ◌++◌, length, map, fold, flat_map, filter_map, Option, Some, None, ⊤, filter}, List.{range_with_len, AllByRecursion}, List.Sorted.{IsPermutation, IsStrictlyIncreasing}}
 use Rattle.sd_model_text.specs.Lines.{Sample}
-use Rattle.sd_model_shard.specs.Rows.{Rows, Entry}
-use Rattle.sd_model_shard.specs.Summaries.{touched, is_listed, Tell}
-use Rattle.sd_model_shard.specs.Shard.{State, Limits, Policy, Placed, Taken, Dropped, Cause, Table, Event, Submit, Swap, Delete, Reply, Answered, Swapped, Deleted, carried, last_number}
-use Rattle.sd_model_shard.specs.Commands.{rows_left, entries_taken_out}
-use Rattle.sd_model_shard.specs.History.{Act, History, held_by, held_after, state_after}
+use Rattle.sd_model_shard.specs.{Rows.{Rows, Entry, touched, is_listed, Tell, rows_left, is_hit, row_of}, Shard.{State, Limits, Policy, Placed, Taken, Dropped, Cause, Table, Event, Submit, Swap, Delete, Reply, Answered, Swapped, Deleted, kept_rows, last_number}, History.{Act, History, held_by, held_after, state_after}}
 
 -- a good sample, and who brought it
 pub record Arrival : Type 0 where
@@ -84,12 +78,9 @@ abbrev pub flushed_by : List Entry → Event → Reply → List Flushed
 flushed_by held Swap (Swapped table) = record { table = table; journal = held } ∷ []
 flushed_by held event reply = []
 
--- what the swaps flushed, in order, from some entries on
-abbrev pub flushes_from : List Entry → History → List Flushed
-flushes_from held acts = flat_map (λ m. flushed_by m.held m.act.event m.act.reply) (acts_over held acts)
-
+-- what the swaps flushed, in order
 abbrev pub flushes : History → List Flushed
-flushes acts = flushes_from [] acts
+flushes acts = flat_map (λ m. flushed_by m.held m.act.event m.act.reply) (acts_over [] acts)
 
 -- the journals, one after another
 abbrev pub journaled : History → List Entry
@@ -97,16 +88,12 @@ journaled acts = flat_map (λ f. f.journal) (flushes acts)
 
 -- the entries of those held that an event deletes, as it was answered
 abbrev pub taken_out : List Entry → Event → Reply → List Entry
-taken_out held (Delete kind pattern) (Deleted keys rows samples) = entries_taken_out kind pattern held
+taken_out held (Delete kind pattern) (Deleted keys rows samples) = filter (λ e. is_hit kind pattern (row_of e.sample)) held
 taken_out held event reply = []
 
--- the entries that deletions took out, from some on
-abbrev pub deleted_from : List Entry → History → List Entry
-deleted_from held acts = flat_map (λ m. taken_out m.held m.act.event m.act.reply) (acts_over held acts)
-
--- those of a whole history
+-- the entries that deletions took out
 abbrev pub deletions : History → List Entry
-deletions acts = deleted_from [] acts
+deletions acts = flat_map (λ m. taken_out m.held m.act.event m.act.reply) (acts_over [] acts)
 
 -- 1 for a drop, and else 0
 abbrev pub dropped_in : Reply → ℕ
@@ -114,12 +101,12 @@ dropped_in (Answered (Dropped cause)) = 1
 dropped_in reply = 0
 
 -- the replies of a history, each weighed, added up
-abbrev pub told_by : (Reply → ℕ) → History → ℕ
-told_by weigh acts = sum_by (λ a. weigh a.reply) acts
+abbrev pub summed_by : (Reply → ℕ) → History → ℕ
+summed_by weigh acts = sum_by (λ a. weigh a.reply) acts
 
--- Each sample submitted has one fate. Those that were taken have the numbers 0, 1, 2 and so on, and stand, each once,
--- in the journals of the swaps, in what the deletions took out, or among the entries held; the others were dropped.
--- The journals, and behind them the entries held, are in the order in which they came. The state counts them.
+-- Each sample submitted has one fate. Those that were taken have the numbers 0, 1, 2 and so on, and stand, each once, in the
+-- journals of the swaps, in what the deletions took out, or among the entries held; the others were dropped. The journals, and
+-- after them the entries held, are in the order in which they came. The state counts them.
 pub record Places (acts : History) (last : State) : Type 0 where
   pub one_fate : map (λ f. f.arrival) (fates acts) ≡ arrivals acts
   pub own_number : map (λ e. e.number) (filed acts) ≡ range_with_len 0 last.taken
@@ -131,10 +118,6 @@ pub record Places (acts : History) (last : State) : Type 0 where
   pub held : last.held ≡ length (held_after acts)
   pub sum : last.taken ≡ last.flushed + last.deleted + last.held
 
--- A history is accounted for by its replies and the state after it.
-abbrev pub Accounted : Limits → Policy → History → Type 0
-Accounted limits policy acts = Places acts (state_after limits policy acts)
-
 -- Summaries are documented: the tables that the swaps answered are those of the flushes, and each tells its journal; the rows of
 -- the state tell the entries held, and its number of listed samples is theirs.
 pub record AreDocumented (limits : Limits) (policy : Policy) (acts : History) : Type 0 where
@@ -143,25 +126,24 @@ pub record AreDocumented (limits : Limits) (policy : Policy) (acts : History) : 
   pub last : Tell (state_after limits policy acts).live (held_after acts)
   pub listed : (state_after limits policy acts).listed ≡ count_by (λ e. is_listed e.sample.kind) (held_after acts)
 
--- rows carried in, and the rows of entries taken since
+-- rows kept before, and the rows of entries taken since
 abbrev pub rows_with : Rows → List Entry → Rows
 rows_with live entries = fold (λ rows e. touched rows e.sample) live entries
 
--- what is carried on after an act: a swap carries what its policy says, and a deletion leaves what it doesn't take out
-abbrev pub carried_on : Policy → Rows → Event → Reply → Rows
-carried_on policy carried_in Swap (Swapped table) = carried policy table.live
-carried_on policy carried_in (Delete kind pattern) reply = rows_left kind pattern carried_in
-carried_on policy carried_in event reply = carried_in
+-- what is kept on after an act: a swap keeps what its policy says, and a deletion leaves what it doesn't take out
+abbrev pub kept_on : Policy → Rows → Event → Reply → Rows
+kept_on policy kept_before Swap (Swapped table) = kept_rows policy table.live
+kept_on policy kept_before (Delete kind pattern) reply = rows_left kind pattern kept_before
+kept_on policy kept_before event reply = kept_before
 
--- a table has the rows carried in and those of its own journal
+-- a table has the rows kept before and those of its own journal
 abbrev pub HasRows : Rows → List Flushed → Type 0
-HasRows carried_in [] = ⊤
-HasRows carried_in (f ∷ fs) = f.table.live ≡ rows_with carried_in f.journal
+HasRows kept_before [] = ⊤
+HasRows kept_before (f ∷ fs) = f.table.live ≡ rows_with kept_before f.journal
 
--- The rows that each swap answers are those that the swap before left, without those deleted since, and those of its own
--- journal.
-abbrev pub RowsAreCarried : Policy → Rows → List Entry → History → Type 0
-RowsAreCarried policy carried_in held [] = ⊤
-RowsAreCarried policy carried_in held (a ∷ acts) =
-    HasRows carried_in (flushed_by held a.event a.reply)
-    × RowsAreCarried policy (carried_on policy carried_in a.event a.reply) (held_by held a.who a.event a.reply) acts
+-- The rows that each swap answers are those that the swap before left, without those deleted since, and those of its journal.
+abbrev pub RowsAreKept : Policy → Rows → List Entry → History → Type 0
+RowsAreKept policy kept_before held [] = ⊤
+RowsAreKept policy kept_before held (a ∷ acts) =
+    HasRows kept_before (flushed_by held a.event a.reply)
+    × RowsAreKept policy (kept_on policy kept_before a.event a.reply) (held_by held a.who a.event a.reply) acts

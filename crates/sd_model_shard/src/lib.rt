@@ -11,7 +11,7 @@ mod history;
 mod values;
 
 pub use commands::answers_have_one_order;
-pub use history::rows_are_told;
+pub use history::rows_are_reported;
 pub use values::{
     bins_add_up, deviations_are_largest, lists_are_sorted, means_lie_between,
     parts_of_hundred_are_whole,

@@ -4,11 +4,11 @@ use Rattle.std.proofs.lemmas.Bool.{cases_lt}
 use Rattle.std.proofs.lemmas.List.{take_at, drop_at, get_or_at, get_or_append_left}
 use Rattle.sd_model_text.specs.Lists.{Lacks}
 
--- the separator stands behind the part
+-- the separator is after the part
 pub at_cut : (s : ℕ) (part rest : List ℕ) → get_or (part ++ s ∷ rest) (length part) 0 ≡ s
 at_cut s part rest = get_or_at part s rest 0 (length part) refl
 
--- the first separator doesn't stand within a part that lacks it
+-- the first separator doesn't are within a part that lacks it
 not_before : (s : ℕ) (a b c d : List ℕ) → Lacks s c → a ++ s ∷ b ≡ c ++ s ∷ d → length a < length c → ⊥
 not_before s a b c d lacks same less =
     lacks (length a) less
@@ -24,7 +24,7 @@ same_length s a b c d first other same =
     (cases_lt (length c) (length a)))
     (cases_lt (length a) (length c))
 
--- two lists with fronts of one length have one front, and one rest
+-- two lists with prefixes of one length have one prefix, and one rest
 pub same_parts : (a b c d : List ℕ) → length a ≡ length c → a ++ b ≡ c ++ d → (a ≡ c) × (b ≡ d)
 same_parts a b c d long same = (
   sym (take_at a b (length a) refl) ∙ ap (take (length a)) same ∙ take_at c d (length a) (sym long),

@@ -17,6 +17,6 @@ tells = search rules
 pub numerals : IsNumeralModel AreDigits (digits_value 10)
 numerals = numerals_by_value AreDigits tells
 
--- a byte that is no digit stands in no number's text
+-- a byte that is no digit is in no number's text
 pub Lacks-decimal : (byte n : ℕ) → byte < 48 → n < 2 ^ 64 → Lacks byte (decimal n)
 Lacks-decimal byte n low small = not_in_digits numerals (decimal n) byte (digits_decimal numerals n small) (λ within. absurd (omega (arith, within)))

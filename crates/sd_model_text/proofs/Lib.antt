@@ -1,3 +1,4 @@
+pub mod Short
 pub mod Cuts
 pub mod Digits
 pub mod ListLemmas

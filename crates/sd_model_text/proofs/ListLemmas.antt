@@ -2,7 +2,8 @@
 use Rattle.std.proofs.Common.{◌≡◌, ℕ, ◌+◌, ◌-◌, ◌<◌, Bool, true, false, cond, List, [], ◌∷◌, ◌++◌, length, get_or, take, refl, sym, ap, ◌∙◌, Option, Some, None, option_map, arith}
 use Rattle.std.proofs.lemmas.List.{take_more, take_all}
 use Rattle.std.specs.Prelude.{◌==◌}
-use Rattle.sd_model_text.specs.Lists.{split, onto_first, cut_at, Cut, before_part, trim_end, unless_last}
+use Rattle.sd_model_text.specs.Lists.{split, onto_first, cut_at, Cut, trim_end, unless_last}
+use Rattle.sd_model_text.proofs.Short.{before_part}
 
 -- the parts that a cut leaves
 abbrev pub parts_of : ℕ → List ℕ → Option Cut → List (List ℕ)

@@ -4,7 +4,8 @@ use Rattle.std.proofs.lemmas.Bool.Decides.{nat_tests}
 use Rattle.std.proofs.lemmas.List.Elements.{All-head, All-tail, filter_passes}
 use Rattle.std.specs.List.{AllPass}
 use Rattle.sd_model_text.specs.Lists.{is_white_space}
-use Rattle.sd_model_text.specs.Names.{is_name_byte, underscored, dashed, cleaned, as_key}
+use Rattle.sd_model_text.specs.Names.{is_name_byte, underscored, cleaned, as_key}
+use Rattle.sd_model_text.proofs.Short.{dashed}
 
 -- a byte of names is not white space
 name_not_blank : (b : ℕ) → is_name_byte b ≡ true → is_white_space b ≡ false

@@ -1,10 +1,7 @@
--- Datagrams and lines: the pieces of a datagram, and the sample of a piece. The form of a piece is that of a line of
--- StatsD, `NAME:VALUE|TYPE`, with or without `|@RATE` behind it; a line may have several values behind its name.
-use Rattle.std.specs.Prelude.{ℕ, ◌^◌, ◌==◌, ◌&&◌, Bool, true, false, not, nat_lt, nat_le, ℤ, pos, negsuc, unsigned_abs, int_lt, List, [], ◌∷◌, ◌++◌, length, map, filter, flat_map, if◌then◌else◌, Option, Some, None, Result, Ok, Err, slice_get, unwrap_or, option_map, ok_or, filter_map, count_by, codes}
-use Rattle.std.specs.Str.{bytes_eq}
-use Rattle.sd_model_text.specs.Lists.{is_white_space, trim_end, split, cut_at, Cut}
-use Rattle.sd_model_text.specs.Names.{Kind, Counter, Timer, Gauge, Set, KeyFault, clean}
-use Rattle.sd_model_text.specs.Numbers.{NumberFlaw, BadRange, decimal_value, has_sign}
+-- Datagrams and lines: the pieces of a datagram, and the sample of a piece. The form of a piece is that of a line of StatsD,
+-- `NAME:VALUE|TYPE`, with or without `|@RATE` after it; a line may have several values after its name.
+use Rattle.std.specs.{Prelude.{ℕ, ◌^◌, ◌==◌, ◌&&◌, Bool, true, false, not, nat_lt, nat_le, ℤ, pos, negsuc, unsigned_abs, int_lt, List, [], ◌∷◌, ◌++◌, length, map, filter, flat_map, if◌then◌else◌, Option, Some, None, Result, Ok, Err, slice_get, unwrap_or, ok_or, filter_map, count_by, codes}, Str.{bytes_eq}, Option.{option_map_or}, Result.{result_map_both, result_ok, is_err}}
+use Rattle.sd_model_text.specs.{Lists.{is_white_space, trim_end, split, cut_at}, Names.{Kind, Counter, Timer, Gauge, Set, KeyFault, clean}, Numbers.{NumberFlaw, BadRange, decimal_value, has_sign}}
 
 -- A sample. The value and the rate are millionths; a set has a member, and no other kind has one.
 pub record Sample : Type 0 where
@@ -15,44 +12,35 @@ pub record Sample : Type 0 where
   pub is_signed : Bool
   pub member : List ℕ
 
--- Why a piece has no sample: it has no colon; no type; a type of no kind; a value that is no number; a rate that is
--- none; a timer below 0; a name that has no key; a member of over 128 bytes; a fourth field.
+-- Why a piece has no sample: it has no colon; no type; a type of no kind; a value that is no number; a rate that is none; a timer
+-- below 0; a name that has no key; a member of over 128 bytes; a fourth field.
 pub data Flaw : Type 0 where
-  NoValue : Flaw
-  NoType : Flaw
-  UnknownType : Flaw
+  NoValue NoType UnknownType : Flaw
   BadNumber : (flaw : NumberFlaw) → Flaw
-  BadRate : Flaw
-  NegativeTimer : Flaw
+  BadRate NegativeTimer : Flaw
   BadKey : (fault : KeyFault) → Flaw
-  LongMember : Flaw
-  ExtraField : Flaw
+  LongMember ExtraField : Flaw
+
+-- how many bytes a datagram has at most over IPv4 (RFC 768 over RFC 791), and so a line over TCP
+abbrev pub longest_datagram : ℕ
+longest_datagram = 65507
 
 -- whether a list has no element
 abbrev pub is_empty : {A : Type 0} → List A → Bool
 is_empty [] = true
 is_empty (x ∷ xs) = false
 
--- the lines of a datagram: its parts between newlines, without the white space behind them, and without the empty ones
+-- the lines of a datagram: its parts between newlines, without the white space after them, and without the empty ones
 abbrev pub lines : List ℕ → List (List ℕ)
 lines datagram = filter (λ line. not (is_empty line)) (map (trim_end is_white_space) (split 10 datagram))
 
--- the pieces of a line that is cut at its first colon: its name before each of the parts between the colons behind it
-abbrev pub pieces_cut : List ℕ → Option Cut → List (List ℕ)
-pieces_cut line None = line ∷ []
-pieces_cut line (Some c) = map (λ part. c.part ++ 58 ∷ part) (split 58 c.rest)
-
--- the pieces of a line: itself, where it has no colon
+-- the pieces of a line: its name before each of the parts between the colons after its first one; itself, where it has none
 abbrev pub pieces_in : List ℕ → List (List ℕ)
-pieces_in line = pieces_cut line (cut_at 58 line)
+pieces_in line = option_map_or (λ c. map (λ part. c.part ++ 58 ∷ part) (split 58 c.rest)) (cut_at 58 line) (line ∷ [])
 
 -- the pieces of a datagram: those of its lines, in order
 abbrev pub pieces : List ℕ → List (List ℕ)
 pieces datagram = flat_map pieces_in (lines datagram)
-
--- the name of a line: what stands before its first colon, where it has one
-abbrev pub name_in_line : List ℕ → Option (List ℕ)
-name_in_line line = option_map (λ c. c.part) (cut_at 58 line)
 
 -- the type of each kind
 abbrev pub type_text : Kind → List ℕ
@@ -73,13 +61,9 @@ kind_named type =
 abbrev pub field : ℕ → List (List ℕ) → List ℕ
 field i fields = unwrap_or (slice_get fields i) []
 
--- a timer's value is at most 10^10
-abbrev pub within_timer : ℤ → Result ℤ NumberFlaw
-within_timer v = if nat_le (unsigned_abs v) (10 ^ 16) then Ok v else Err BadRange
-
--- a number of a timer, where it is one
+-- a number of a timer, where it is one; it is at most 10^10
 abbrev pub timer_value : Result ℤ NumberFlaw → Result ℤ NumberFlaw
-timer_value (Ok v) = within_timer v
+timer_value (Ok v) = if nat_le (unsigned_abs v) (10 ^ 16) then Ok v else Err BadRange
 timer_value (Err flaw) = Err flaw
 
 -- the number of a value; a set's is 0
@@ -105,8 +89,8 @@ abbrev pub member_of : List ℕ → List ℕ
 member_of [] = codes "0"
 member_of (b ∷ text) = b ∷ text
 
--- The sample of a key with what its fields say: only a counter and a timer are weighed by their rate, a gauge may
--- have a sign, and a set's value is its member.
+-- The sample of a key with what its fields say: only a counter and a timer are weighed by their rate, a gauge may have a sign, and
+-- a set's value is its member.
 abbrev pub sample : Kind → List ℕ → List ℕ → ℤ → ℕ → Sample
 sample Counter key text v rate = record { kind = Counter; key = key; value = v; rate = rate; is_signed = false; member = [] }
 sample Timer key text v rate = record { kind = Timer; key = key; value = v; rate = rate; is_signed = false; member = [] }
@@ -119,20 +103,10 @@ abbrev pub ◌>>=◌ : {A B : Type 0} → Result A Flaw → (A → Result B Flaw
 (Ok x) >>= f = f x
 (Err flaw) >>= f = Err flaw
 
--- the kind of the field behind the value
+-- the kind of the field after the value
 abbrev pub typed : List ℕ → Result Kind Flaw
 typed [] = Err NoType
 typed (b ∷ bytes) = ok_or (kind_named (b ∷ bytes)) UnknownType
-
--- a value that was read, or that it is no number
-abbrev pub valued : Result ℤ NumberFlaw → Result ℤ Flaw
-valued (Ok v) = Ok v
-valued (Err flaw) = Err (BadNumber flaw)
-
--- a key that was cleaned, or that there is none
-abbrev pub named : Result (List ℕ) KeyFault → Result (List ℕ) Flaw
-named (Ok key) = Ok key
-named (Err fault) = Err (BadKey fault)
 
 -- whether a timer's value is below 0
 abbrev pub is_below_zero : Kind → ℤ → Bool
@@ -144,49 +118,30 @@ abbrev pub is_long_member : Kind → List ℕ → Bool
 is_long_member Set text = nat_lt 128 (length text)
 is_long_member kind text = false
 
--- whether there is a fourth field
-abbrev pub is_over : List (List ℕ) → Bool
-is_over fields = nat_lt 3 (length fields)
-
 -- a flaw, where it holds
 abbrev pub unless_so : Bool → Flaw → Result (Unit {0}) Flaw
 unless_so holds flaw = if holds then Err flaw else Ok tt
 
--- the sample of a name and what stands behind its colon, cut into fields, or the first flaw
+-- the sample of a name and what is after its colon, cut into fields, or the first flaw
 unfoldable pub reading_behind : List ℕ → List (List ℕ) → Result Sample Flaw
 reading_behind name fields = do
   kind ← typed (field 1 fields)
-  v ← valued (value_of kind (field 0 fields))
+  v ← result_map_both (λ v. v) BadNumber (value_of kind (field 0 fields))
   rate ← ok_or (rate_of (field 2 fields)) BadRate
   above ← unless_so (is_below_zero kind v) NegativeTimer
-  key ← named (clean name)
+  key ← result_map_both (λ key. key) BadKey (clean name)
   short ← unless_so (is_long_member kind (field 0 fields)) LongMember
-  whole ← unless_so (is_over fields) ExtraField
+  whole ← unless_so (nat_lt 3 (length fields)) ExtraField
   Ok (sample kind key (field 0 fields) v rate)
 
--- the name stands before the first colon, and the fields behind it stand between bars
-abbrev pub reading_cut : Option Cut → Result Sample Flaw
-reading_cut None = Err NoValue
-reading_cut (Some c) = reading_behind c.part (split 124 c.rest)
-
--- What a piece is read as: its sample, or why it has none.
+-- What a piece is read as: its sample, or why it has none. Its name is before the first colon, and its fields are between bars.
 abbrev pub reading : List ℕ → Result Sample Flaw
-reading piece = reading_cut (cut_at 58 piece)
-
--- the sample of a reading, where it has one
-abbrev pub good : Result Sample Flaw → Option Sample
-good (Ok s) = Some s
-good (Err flaw) = None
-
--- whether a reading has no sample
-abbrev pub is_bad : Result Sample Flaw → Bool
-is_bad (Ok s) = false
-is_bad (Err flaw) = true
+reading piece = option_map_or (λ c. reading_behind c.part (split 124 c.rest)) (cut_at 58 piece) (Err NoValue)
 
 -- the samples of a datagram, in order
 abbrev pub samples_of : List ℕ → List Sample
-samples_of datagram = filter_map (λ piece. good (reading piece)) (pieces datagram)
+samples_of datagram = filter_map (λ piece. result_ok (reading piece)) (pieces datagram)
 
 -- how many pieces of a datagram are bad
 abbrev pub bad_of : List ℕ → ℕ
-bad_of datagram = count_by (λ piece. is_bad (reading piece)) (pieces datagram)
+bad_of datagram = count_by (λ piece. is_err (reading piece)) (pieces datagram)

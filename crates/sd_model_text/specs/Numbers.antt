@@ -1,9 +1,6 @@
 -- Numbers are whole millionths: 1 stands for 0.000001.
-use Rattle.std.specs.Prelude.{ℕ, ◌+◌, ◌*◌, ◌/◌, ◌%◌, ◌^◌, ◌==◌, ◌&&◌, ◌||◌, Bool, true, false, nat_lt, nat_le, int_lt, if◌then◌else◌, ℤ, pos, negsuc, ◌*ℤ◌, List, [], ◌∷◌, ◌++◌, length, drop, map, Option, Some, None, Result, Ok, Err}
+use Rattle.std.specs.{Prelude.{ℕ, ◌+◌, ◌*◌, ◌/◌, ◌%◌, ◌^◌, ◌==◌, ◌&&◌, ◌||◌, Bool, true, false, nat_lt, nat_le, int_lt, if◌then◌else◌, ℤ, pos, negsuc, ◌*ℤ◌, List, [], ◌∷◌, ◌++◌, length, drop, map, Option, Some, None, Result, Ok, Err}, Char.{is_ascii_digit}, Fmt.{decimal}, List.{list_all, position_or_len, before_first, after_first}}
 use Rattle.std.proofs.Common.{suc, neg_ℤ}
-use Rattle.std.specs.Char.{is_ascii_digit}
-use Rattle.std.specs.Fmt.{decimal}
-use Rattle.std.specs.List.{list_all, position_or_len, before_first, after_first}
 use Rattle.std.specs.Str.Parse.{digits_value}
 use Rattle.sd_model_text.specs.Lists.{trim_end}
 
@@ -24,10 +21,6 @@ weight v r = round (v *ℤ pos 1000000) r
 abbrev pub per_second : ℤ → ℕ → ℤ
 per_second total interval_ms = round (total *ℤ pos 1000) interval_ms
 
--- the six digits of a fraction of one
-abbrev pub six_digits : ℕ → List ℕ
-six_digits n = map (λ unit. 48 + n / unit % 10) (100000 ∷ 10000 ∷ 1000 ∷ 100 ∷ 10 ∷ 1 ∷ [])
-
 -- a point before the digits, or nothing where there are none
 abbrev pub behind_point : List ℕ → List ℕ
 behind_point [] = []
@@ -35,7 +28,7 @@ behind_point (d ∷ ds) = 46 ∷ d ∷ ds
 
 -- the text of a magnitude: its whole part, and its fraction without trailing zeros
 abbrev pub magnitude_text : ℕ → List ℕ
-magnitude_text n = decimal (n / 1000000) ++ behind_point (trim_end (λ d. d == 48) (six_digits (n % 1000000)))
+magnitude_text n = decimal (n / 1000000) ++ behind_point (trim_end (λ d. d == 48) (map (λ unit. 48 + n % 1000000 / unit % 10) (100000 ∷ 10000 ∷ 1000 ∷ 100 ∷ 10 ∷ 1 ∷ [])))
 
 -- the text of a number
 abbrev pub number_text : ℤ → List ℕ
@@ -44,8 +37,7 @@ number_text (negsuc n) = 45 ∷ magnitude_text (suc n)
 
 -- Why a text is no number: its form, or a magnitude over 10^12.
 pub data NumberFlaw : Type 0 where
-  BadShape : NumberFlaw
-  BadRange : NumberFlaw
+  BadShape BadRange : NumberFlaw
 
 -- whether a byte is `.`
 abbrev pub is_point : ℕ → Bool
@@ -60,11 +52,6 @@ raised (negsuc n) = 1
 abbrev pub lowered : ℤ → ℕ
 lowered (pos n) = 1
 lowered (negsuc n) = 10 ^ suc n
-
--- the number of these digits before and behind a point, times ten to an exponent: the exact fraction, rounded once to millionths
-abbrev pub exact_magnitude : List ℕ → List ℕ → ℤ → ℕ
-exact_magnitude whole fraction exponent =
-    rounded (digits_value 10 (whole ++ fraction) * 1000000 * raised exponent) (10 ^ length fraction * lowered exponent)
 
 -- at least one digit, and nothing else
 abbrev pub is_digits : List ℕ → Bool
@@ -84,7 +71,7 @@ abbrev pub has_sign : List ℕ → Bool
 has_sign [] = false
 has_sign (b ∷ bs) = b == 45 || b == 43
 
--- a text behind its sign, `+` or `-`, where it has one
+-- a text after its sign, `+` or `-`, where it has one
 abbrev pub without_sign : List ℕ → List ℕ
 without_sign [] = []
 without_sign (b ∷ bs) = if b == 45 || b == 43 then bs else b ∷ bs
@@ -96,25 +83,25 @@ signed is_negative n = if is_negative then neg_ℤ (pos n) else pos n
 -- the magnitude of the two sides of a point, times ten to an exponent
 abbrev pub magnitude_of_sides : List ℕ → List ℕ → ℤ → Result ℕ NumberFlaw
 magnitude_of_sides whole fraction exponent =
-    if is_digits (whole ++ fraction) then within_range (exact_magnitude whole fraction exponent) else Err BadShape
+    if is_digits (whole ++ fraction) then within_range (rounded (digits_value 10 (whole ++ fraction) * 1000000 * raised exponent) (10 ^ length fraction * lowered exponent)) else Err BadShape
 
 -- whether a byte is `e` or `E`, which an exponent begins with
 abbrev pub is_mark : ℕ → Bool
 is_mark b = b == 101 || b == 69
 
--- what an exponent says behind its mark: an optional sign, and one to four digits
+-- what an exponent says after its mark: an optional sign, and one to four digits
 abbrev pub exponent_behind : List ℕ → Option ℤ
 exponent_behind text =
     if is_digits (without_sign text) && nat_le (length (without_sign text)) 4
     then Some (signed (has_minus text) (digits_value 10 (without_sign text)))
     else None
 
--- what stands of a text from its first mark on: an exponent, where it has the form of one; where nothing does, it is 0
+-- what holds of a text from its first mark on: an exponent, where it has the form of one; where nothing does, it is 0
 abbrev pub exponent_of : List ℕ → Option ℤ
 exponent_of [] = Some (pos 0)
 exponent_of (mark ∷ text) = exponent_behind text
 
--- the magnitude of what stands before an exponent: digits with at most one point among, before or after them
+-- the magnitude of what is before an exponent: digits with at most one point among, before or after them
 abbrev pub magnitude_by : List ℕ → Option ℤ → Result ℕ NumberFlaw
 magnitude_by text None = Err BadShape
 magnitude_by text (Some exponent) = magnitude_of_sides (before_first is_point text) (after_first is_point text) exponent
@@ -128,8 +115,8 @@ abbrev pub with_sign : Bool → Result ℕ NumberFlaw → Result ℤ NumberFlaw
 with_sign is_negative (Ok n) = Ok (signed is_negative n)
 with_sign is_negative (Err flaw) = Err flaw
 
--- The value of a number text, an optional sign before digits with at most one point, and then an exponent of one to four
--- digits or nothing: the exact decimal times ten to the exponent, rounded once to millionths, half away from zero.
+-- The value of a number text, an optional sign before digits with at most one point, and then an exponent of one to four digits or
+-- nothing: the exact decimal times ten to the exponent, rounded once to millionths, half away from zero.
 abbrev pub decimal_value : List ℕ → Result ℤ NumberFlaw
 decimal_value text = with_sign (has_minus text) (decimal_magnitude (without_sign text))
 

@@ -19,10 +19,10 @@ pub fn clean_names()
     ensures { (name : List ℕ) → AllPass is_name_byte name → 0 < length name → length name ≤ 255 → clean name ≡ Ok name }
 {}
 
-/// A pattern `front.*` matches the keys that begin with `front.`, and any other pattern the equal key alone.
+/// A pattern `prefix.*` matches the keys that begin with `prefix.`, and any other pattern the equal key alone.
 pub fn matches_families()
-    ensures family { (front key : List ℕ) → IsTrue (matches (front ++ 46 ∷ 42 ∷ []) key) ↔ ((rest : List ℕ) × (key ≡ front ++ 46 ∷ rest)) }
-    ensures alone { (pattern key : List ℕ) → ((front : List ℕ) → pattern ≢ front ++ 46 ∷ 42 ∷ []) → IsTrue (matches pattern key) ↔ (key ≡ pattern) }
+    ensures family { (prefix key : List ℕ) → IsTrue (matches (prefix ++ 46 ∷ 42 ∷ []) key) ↔ ((rest : List ℕ) × (key ≡ prefix ++ 46 ∷ rest)) }
+    ensures alone { (pattern key : List ℕ) → ((prefix : List ℕ) → pattern ≢ prefix ++ 46 ∷ 42 ∷ []) → IsTrue (matches pattern key) ↔ (key ≡ pattern) }
 {}
 
 /// The hashes of three texts are the published ones.

@@ -5,7 +5,6 @@
 //! clause says. Receivers, beat and doors look at one `Stop`, and each wait has a limit. They know no samples and no settings.
 #![tactic(auto)]
 
-mod connection;
 mod draining;
 mod output;
 mod threads;

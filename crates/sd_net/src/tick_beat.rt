@@ -64,11 +64,11 @@ fn times_from(host: &impl Clock, interval: Interval) -> io::Result<TickTimes> {
 
 impl<'a, R> TickBeat<'a, R> {
     ghost use Rattle.std.specs.Prelude.{◌≡◌};
-    ghost use Rattle.sd_model_outside.specs.Outside.{Untold, fresh};
+    ghost use Rattle.sd_model_outside.specs.Outside.{Unknown, fresh};
 
     /// A beat that is started later, of which `pace` is told. It is to end once `stop` is set.
     pub fn new(host: &'a R, stop: &'a Stop, pace: &'a Pace, log: &'a RunLog<'a>) -> TickBeat<'a, R>
-        ensures { ⟦<TickBeat<'a, R> as Faulty>⟧.seen result ≡ fresh Untold }
+        ensures { ⟦<TickBeat<'a, R> as Faulty>⟧.seen result ≡ fresh Unknown }
     {
         TickBeat {
             host,
@@ -172,11 +172,11 @@ impl<'a, R: Clock + Files> TickBeat<'a, R> {
 impl<'a, R> Faulty for TickBeat<'a, R> {
     ghost use Rattle.std.specs.Prelude.{min, false, None, option_map};
     ghost use Rattle.std.proofs.Common.{arith};
-    ghost use Rattle.sd_model_outside.specs.Outside.{Object, Untold, last_count};
+    ghost use Rattle.sd_model_outside.specs.Outside.{Object, Unknown, last_count};
     ghost use Rattle.sd_outside.specs.Intervals.{interval_view};
 
     ghost seen = { λ s. record {
-      told = Untold;
+      content = Unknown;
       faults = min s.faults last_count;
       opened_at = None;
       turns = min s.turns last_count;

@@ -50,7 +50,7 @@ pub struct UdpReceiver<'a, R> {
 
 impl<'a, R> UdpReceiver<'a, R> {
     ghost use Rattle.std.specs.Prelude.{◌≡◌};
-    ghost use Rattle.sd_model_outside.specs.Outside.{Untold, fresh};
+    ghost use Rattle.sd_model_outside.specs.Outside.{Unknown, fresh};
 
     /// A receiver that is opened later, beside the others that share these sockets. It is to stop once `stop` is set.
     pub fn new(
@@ -59,7 +59,7 @@ impl<'a, R> UdpReceiver<'a, R> {
         stop: &'a Stop,
         log: &'a RunLog<'a>,
     ) -> UdpReceiver<'a, R>
-        ensures { ⟦<UdpReceiver<'a, R> as Faulty>⟧.seen result ≡ fresh Untold }
+        ensures { ⟦<UdpReceiver<'a, R> as Faulty>⟧.seen result ≡ fresh Unknown }
     {
         UdpReceiver {
             host,
@@ -120,7 +120,7 @@ fn set_wait(socket: &UdpSocket, before: u64, wait: u64) {
     }
 }
 
-/// Waits for a datagram, and puts its first bytes, so many at most, at the front of the buffer.
+/// Waits for a datagram, and puts its first bytes, so many at most, at the start of the buffer.
 fn receive(socket: &UdpSocket, buf: &mut [u8], most: usize) -> io::Result<usize>
     requires { most ≤ length buf.old }
     ensures { IfOk result (λ n. n ≤ most) }
@@ -131,11 +131,11 @@ fn receive(socket: &UdpSocket, buf: &mut [u8], most: usize) -> io::Result<usize>
 impl<'a, R> Faulty for UdpReceiver<'a, R> {
     ghost use Rattle.std.specs.Prelude.{min, false, None};
     ghost use Rattle.std.proofs.Common.{arith};
-    ghost use Rattle.sd_model_outside.specs.Outside.{Object, Untold, last_count};
+    ghost use Rattle.sd_model_outside.specs.Outside.{Object, Unknown, last_count};
     ghost use Rattle.sd_outside.specs.Places.{last_place};
 
     ghost seen = { λ s. record {
-      told = Untold;
+      content = Unknown;
       faults = min s.faults last_count;
       opened_at = last_place s.opened_at;
       turns = min s.turns last_count;

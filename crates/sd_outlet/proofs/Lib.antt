@@ -4,4 +4,4 @@ pub mod FlagSteps
 pub mod OutBufLemmas
 pub mod WorkedLemmas
 pub mod ListLemmas
-pub mod ToldLemmas
+pub mod ContentLemmas

@@ -2,7 +2,7 @@
 use Rattle.std.proofs.Common.{◌≡◌, ◌≢◌, ℕ, ◌+◌, Bool, true, false, true≢false, if◌then◌else◌, List, [], ◌∷◌, ◌++◌, map, length, length-append, min, refl, ap, ◌∙◌, subst, arith}
 use Rattle.std.proofs.lemmas.List.Sums.{sum_by_push, sum_by-append}
 use Rattle.sd_model_outside.specs.Outside.{Object, RoseBy, last_count}
-use Rattle.sd_model_outside.specs.Deliveries.{Mark, NotUsed, Written, Fault, fault_of, Delivery, AfterMark, AfterDeliveries, missed}
+use Rattle.sd_model_outside.specs.Uses.{Mark, NotUsed, Written, Fault, fault_of, Delivery, AfterMark, AfterDeliveries, missed}
 use Rattle.sd_outlet.specs.Lists.{is_written, texts_written}
 use Rattle.sd_model_outside.proofs.DeliveryLemmas.{AfterDeliveries-push, all_counts}
 use Rattle.sd_outlet.specs.declared.worked.Worked.{Worked}

@@ -29,7 +29,7 @@ seen_of b = object_of (Buffer (size_in b) (text_in b)) (min b.faults last_count)
 abbrev pub IsNewBuf : OutBuf → Type 0
 IsNewBuf b = (text_in b ≡ []) × (faults_in b ≡ 0)
 
--- a write of xs took the n bytes at its front, as many as there was room for
+-- a write of xs took the n bytes at its start, as many as there was room for
 pub record Takes (old new : OutBuf) (xs : List ℕ) (n : ℕ) : Type 0 where
   pub count : n ≡ min (length xs) (room_in old)
   pub some : 0 < n

@@ -1,7 +1,7 @@
 -- What a count of rounds says of the texts that were written.
 use Rattle.std.specs.Prelude.{◌≡◌, ◌≢◌, ℕ, List, [], ◌∷◌, map, length, min}
-use Rattle.sd_model_outside.specs.Outside.{Object, Round, Told, last_count}
-use Rattle.sd_model_outside.specs.Deliveries.{NotUsed, Delivery, AfterDeliveries, missed}
+use Rattle.sd_model_outside.specs.Outside.{Object, BackendText, Content, last_count}
+use Rattle.sd_model_outside.specs.Uses.{NotUsed, Delivery, AfterDeliveries, missed}
 use Rattle.sd_outlet.specs.Lists.{HasLists, texts_written}
 use Rattle.sd_outlet.specs.declared.worked.Worked.{Worked}
 
@@ -20,7 +20,7 @@ pub record HasWorked (texts : List (List ℕ)) (w : Worked) (old new : Object) :
   pub faults : w.faults ≡ min (missed deliveries) last_count
 
 -- A backend has these lists, and behind them those of a round for each of these texts.
-pub record HasListsOf (texts : List (List ℕ)) (before : List Round) (now : Told) : Type 0 where
+pub record HasListsOf (texts : List (List ℕ)) (before : List BackendText) (now : Content) : Type 0 where
   pub deliveries : List Delivery
   pub of_texts : map (λ d. d.text) deliveries ≡ texts
   pub used : EachUsed deliveries

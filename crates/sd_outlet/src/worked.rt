@@ -1,7 +1,7 @@
 //! One text is one round of a backend, and rounds are counted.
 ghost use Rattle.std.specs.Prelude.{◌≡◌, ℕ, List, [], ◌∷◌, ◌++◌, OnOk, OnErr};
 ghost use Rattle.sd_model_outside.specs.Outside.{Object};
-ghost use Rattle.sd_model_outside.specs.Deliveries.{AfterMark, HasMissed, Written};
+ghost use Rattle.sd_model_outside.specs.Uses.{AfterMark, HasMissed, Written};
 ghost use Rattle.sd_outlet.specs.Worked.{HasWorked};
 
 use sd_outside::{Backend, Failed, write_all};

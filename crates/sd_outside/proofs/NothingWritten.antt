@@ -1,11 +1,11 @@
 -- A write of nothing.
 use Rattle.std.proofs.Common.{◌≡◌, [], Some, None, refl, ap, arith, append-nil}
-use Rattle.sd_model_outside.specs.Outside.{Told, Untold, Left, Number, Bytes, Buffer, Rounds, Packets, Datagrams, Ticks, Sessions, Replies, appended}
+use Rattle.sd_model_outside.specs.Outside.{Content, Unknown, Left, Number, Bytes, Buffer, Rounds, Packets, Datagrams, Ticks, Sessions, Replies, appended}
 use Rattle.sd_outside.specs.Turns.{FitsLastCount}
 
 -- a write of nothing
-pub appended-nil : (w : Told) → FitsLastCount w → appended w [] ≡ w
-appended-nil Untold fits = refl
+pub appended-nil : (w : Content) → FitsLastCount w → appended w [] ≡ w
+appended-nil Unknown fits = refl
 appended-nil (Left bytes) fits = refl
 appended-nil (Number n) fits = ap Number (omega arith)
 appended-nil (Bytes zs) fits = ap Bytes (append-nil zs)

@@ -13,7 +13,7 @@ pub HasGiven-next : (old now next : Object) (bytes rest : List ℕ) (n : ℕ) �
 HasGiven-next old now next bytes rest n (done, cut, is) then = (
   done ++ take n rest,
   cut ∙ rw (take_rest, append_assoc, take-append-drop) refl,
-  then ∙ ap (given (take n rest)) is ∙ ap (λ told. telling told old) (appended-appended old.told done (take n rest)),
+  then ∙ ap (given (take n rest)) is ∙ ap (λ content. telling content old) (appended-appended old.content done (take n rest)),
 )
 
 -- a write that failed before the rest
@@ -23,9 +23,9 @@ fails_behind old now next bytes rest (done, cut, is) some failed =
     record {
       used = record { faults = omega (arith, failed.used.faults, faults); opened_at = failed.used.opened_at ∙ ap (λ (o : Object). o.opened_at) is };
       rose = subst (λ n. Rose n next.faults) faults failed.rose;
-      front = (
+      prefix = (
         length done,
         omega (arith, length-append done rest, ap length cut),
-        ap (λ (o : Object). o.told) failed.same ∙ ap (λ (o : Object). o.told) is ∙ ap (appended old.told) (sym (ap (take (length done)) cut ∙ take_at done rest (length done) refl)),
+        ap (λ (o : Object). o.content) failed.same ∙ ap (λ (o : Object). o.content) is ∙ ap (appended old.content) (sym (ap (take (length done)) cut ∙ take_at done rest (length done) refl)),
       );
     }

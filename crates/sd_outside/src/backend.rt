@@ -12,7 +12,7 @@ pub trait Backend: Sink + Opens {
     ///
     /// `Failed` where the backend failed. Then no list was started.
     fn begin(&mut self) -> Result<(), Failed>
-        ensures ok { OnOk result (Self.seen self.new ≡ telling (begun (Self.seen self.old).told) (Self.seen self.old)) }
+        ensures ok { OnOk result (Self.seen self.new ≡ telling (begun (Self.seen self.old).content) (Self.seen self.old)) }
         ensures failed { OnErr result (HasFailed (Self.seen self.old) (Self.seen self.new)) };
 
     /// Ends the last list. Where none is open it changes nothing.
@@ -21,7 +21,7 @@ pub trait Backend: Sink + Opens {
     ///
     /// `Failed` where the backend failed. Then the list wasn't ended.
     fn finish(&mut self) -> Result<(), Failed>
-        ensures ok { OnOk result (Self.seen self.new ≡ telling (ended (Self.seen self.old).told) (Self.seen self.old)) }
+        ensures ok { OnOk result (Self.seen self.new ≡ telling (ended (Self.seen self.old).content) (Self.seen self.old)) }
         ensures failed { OnErr result (HasFailed (Self.seen self.old) (Self.seen self.new)) };
 }
 

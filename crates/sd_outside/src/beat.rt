@@ -1,6 +1,6 @@
-ghost use Rattle.std.specs.Prelude.{◌≡◌, ◌≤◌};
+ghost use Rattle.std.specs.Prelude.{◌≡◌, ◌≤◌, Some};
 ghost use Rattle.sd_model_outside.specs.Outside.{HasFailed, last_count};
-ghost use Rattle.sd_model_outside.specs.Turns.{IsSpent, with_interval};
+ghost use Rattle.sd_model_outside.specs.Uses.{IsSpent};
 ghost use Rattle.sd_outside.specs.Turns.{GivesTick};
 ghost use Rattle.sd_outside.specs.Answers.{MatchTick};
 ghost use Rattle.sd_outside.specs.Intervals.{interval_view};
@@ -32,13 +32,13 @@ pub enum Tick {
 pub trait Beat: Faulty {
     /// Starts it with an interval between flushes.
     fn start(&mut self, interval: Interval)
-        ensures { Self.seen self.new ≡ with_interval (interval_view interval) (Self.seen self.old) };
+        ensures { Self.seen self.new ≡ record (Self.seen self.old) { interval = Some (interval_view interval) } };
 
     /// The Unix second of the next flush. It may wait.
     fn next(&mut self) -> Tick
         ensures { MatchTick result
             (λ second. GivesTick second (Self.seen self.old) (Self.seen self.new))
-            ((Self.seen self.new ≡ Self.seen self.old) × IsSpent (Self.seen self.old).told)
+            ((Self.seen self.new ≡ Self.seen self.old) × IsSpent (Self.seen self.old).content)
             (HasFailed (Self.seen self.old) (Self.seen self.new)) };
 
     /// Its turns aren't above the last count.

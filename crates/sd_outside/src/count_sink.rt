@@ -29,7 +29,7 @@ impl CountSink {
 
     /// How many bytes it was given.
     pub fn count(&self) -> u64
-        ensures { (⟦<CountSink as Faulty>⟧.seen self.now).told ≡ Number result }
+        ensures { (⟦<CountSink as Faulty>⟧.seen self.now).content ≡ Number result }
     {
         self.count
     }

@@ -1,6 +1,6 @@
 ghost use Rattle.std.specs.Prelude.{◌≡◌, ◌≤◌, length, take};
 ghost use Rattle.sd_model_outside.specs.Outside.{HasFailed, last_count};
-ghost use Rattle.sd_model_outside.specs.Turns.{IsSpent};
+ghost use Rattle.sd_model_outside.specs.Uses.{IsSpent};
 ghost use Rattle.sd_outside.specs.Turns.{GivesDatagram, most_datagram, turned};
 ghost use Rattle.sd_outside.specs.Answers.{MatchNext};
 
@@ -35,12 +35,12 @@ pub enum Ended {
 /// An object that datagrams come from. It tells the datagrams that it has left, or nothing, and always its turns: how
 /// often it answered `Packet` or `Idle`, up to 2^64 - 1.
 pub trait Datagrams: Opens {
-    /// Puts the next datagram at the front of the buffer. It may wait.
+    /// Puts the next datagram at the start of the buffer. It may wait.
     fn next(&mut self, buf: &mut [u8]) -> Next
         requires { most_datagram ≤ length buf.old }
         ensures { MatchNext result
             (λ n. (n ≤ most_datagram) × GivesDatagram (take n buf.new) (Self.seen self.old) (Self.seen self.new))
-            ((Self.seen self.new ≡ Self.seen self.old) × IsSpent (Self.seen self.old).told)
+            ((Self.seen self.new ≡ Self.seen self.old) × IsSpent (Self.seen self.old).content)
             (Self.seen self.new ≡ turned (Self.seen self.old))
             (HasFailed (Self.seen self.old) (Self.seen self.new)) };
 

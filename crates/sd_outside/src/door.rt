@@ -1,6 +1,6 @@
 ghost use Rattle.std.specs.Prelude.{◌≡◌, ◌≤◌, true, false};
 ghost use Rattle.sd_model_outside.specs.Outside.{HasFailed, last_count};
-ghost use Rattle.sd_model_outside.specs.Turns.{IsSpent};
+ghost use Rattle.sd_model_outside.specs.Uses.{IsSpent};
 ghost use Rattle.sd_outside.specs.Turns.{GivesSession, HasLeft, turned};
 ghost use Rattle.sd_outside.specs.Answers.{MatchEntry};
 
@@ -47,7 +47,7 @@ pub trait Door: Opens {
         requires { (Self.seen self.old).is_out ≡ false }
         ensures { MatchEntry result
             (λ asking telling. GivesSession (Self.Asking.seen asking) (Self.Telling.seen telling) (Self.seen self.old) (Self.seen self.new))
-            ((Self.seen self.new ≡ Self.seen self.old) × IsSpent (Self.seen self.old).told)
+            ((Self.seen self.new ≡ Self.seen self.old) × IsSpent (Self.seen self.old).content)
             (Self.seen self.new ≡ turned (Self.seen self.old))
             (HasFailed (turned (Self.seen self.old)) (Self.seen self.new)) };
 

@@ -1,5 +1,5 @@
 ghost use Rattle.std.specs.Prelude.{OnOk, OnErr, Some, None};
-ghost use Rattle.sd_model_outside.specs.Probes.{HasAsked};
+ghost use Rattle.sd_model_outside.specs.Uses.{HasAsked};
 ghost use Rattle.sd_outside.specs.Places.{place_of};
 
 use crate::address::Address;

@@ -10,7 +10,7 @@ pub struct WriteFault;
 
 /// An object that bytes are written to. It tells what it was given, or nothing.
 pub trait Sink: Faulty {
-    /// Appends bytes from the front of those given, and answers their number.
+    /// Appends bytes from the start of those given, and answers their number.
     ///
     /// # Errors
     ///
@@ -22,14 +22,14 @@ pub trait Sink: Faulty {
         ensures failed { OnErr result (HasFailed (Self.seen self.old) (Self.seen self.new)) };
 
     /// A number that it tells isn't above the last count.
-    ghost number_fits: { (s : Self) → FitsLastCount (Self.seen s).told };
+    ghost number_fits: { (s : Self) → FitsLastCount (Self.seen s).content };
 }
 
 /// Writes all of the bytes, in as many calls as the sink takes.
 ///
 /// # Errors
 ///
-/// `Failed` where a call failed. Then a front of the bytes was appended.
+/// `Failed` where a call failed. Then a prefix of the bytes was appended.
 pub fn write_all<K: Sink>(sink: &mut K, bytes: &[u8]) -> Result<(), Failed>
     ensures ok { OnOk result (K.seen sink.new ≡ given bytes.now (K.seen sink.old)) }
     ensures failed { OnErr result (HasFailedBehind bytes.now (K.seen sink.old) (K.seen sink.new)) }

@@ -1,5 +1,5 @@
 ghost use Rattle.std.specs.Prelude.{◌≡◌, OnOk, OnErr};
-ghost use Rattle.sd_model_outside.specs.Outside.{HasFailed, sent};
+ghost use Rattle.sd_model_outside.specs.Outside.{HasFailed, telling, with_packet};
 
 use crate::opens::{Failed, Opens};
 
@@ -11,6 +11,6 @@ pub trait Wire: Opens {
     ///
     /// `Failed` where the wire failed. Then nothing was sent.
     fn send(&mut self, packet: &[u8]) -> Result<(), Failed>
-        ensures ok { OnOk result (Self.seen self.new ≡ sent packet.now (Self.seen self.old)) }
+        ensures ok { OnOk result (Self.seen self.new ≡ telling (with_packet (Self.seen self.old).content packet.now) (Self.seen self.old)) }
         ensures failed { OnErr result (HasFailed (Self.seen self.old) (Self.seen self.new)) };
 }

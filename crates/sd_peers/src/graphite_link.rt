@@ -58,7 +58,7 @@ struct Round<'a> {
 
 impl<'a, X> GraphiteLink<'a, X> {
     ghost use Rattle.std.specs.Prelude.{◌≡◌};
-    ghost use Rattle.sd_model_outside.specs.Outside.{Untold, fresh};
+    ghost use Rattle.sd_model_outside.specs.Outside.{Unknown, fresh};
 
     /// A link that is opened later.
     pub fn new(
@@ -68,7 +68,7 @@ impl<'a, X> GraphiteLink<'a, X> {
         pace: &'a Pace,
         log: &'a RunLog<'a>,
     ) -> GraphiteLink<'a, X>
-        ensures { ⟦<GraphiteLink<'a, X> as Faulty>⟧.seen result ≡ fresh Untold }
+        ensures { ⟦<GraphiteLink<'a, X> as Faulty>⟧.seen result ≡ fresh Unknown }
     {
         GraphiteLink {
             host,
@@ -320,10 +320,10 @@ impl<'a, X> GraphiteLink<'a, X> {
 impl<'a, X> Faulty for GraphiteLink<'a, X> {
     ghost use Rattle.std.specs.Prelude.{min};
     ghost use Rattle.std.proofs.Common.{arith};
-    ghost use Rattle.sd_model_outside.specs.Outside.{Untold, last_count, object_of};
+    ghost use Rattle.sd_model_outside.specs.Outside.{Unknown, last_count, object_of};
     ghost use Rattle.sd_outside.specs.Places.{last_place};
 
-    ghost seen = { λ s. object_of Untold (min s.faults last_count) (last_place s.opened_at) };
+    ghost seen = { λ s. object_of Unknown (min s.faults last_count) (last_place s.opened_at) };
 
     ghost faults_fit = { λ s. omega arith };
 }

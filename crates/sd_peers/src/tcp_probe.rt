@@ -55,7 +55,7 @@ struct Questions<'a> {
 
 impl<'a, X> TcpProbe<'a, X> {
     ghost use Rattle.std.specs.Prelude.{◌≡◌};
-    ghost use Rattle.sd_model_outside.specs.Outside.{Untold, fresh};
+    ghost use Rattle.sd_model_outside.specs.Outside.{Unknown, fresh};
 
     /// A probe that has asked nothing.
     pub fn new(
@@ -64,7 +64,7 @@ impl<'a, X> TcpProbe<'a, X> {
         hosts: &'a Hosts,
         log: &'a RunLog<'a>,
     ) -> TcpProbe<'a, X>
-        ensures { ⟦<TcpProbe<'a, X> as Faulty>⟧.seen result ≡ fresh Untold }
+        ensures { ⟦<TcpProbe<'a, X> as Faulty>⟧.seen result ≡ fresh Unknown }
     {
         TcpProbe {
             host,
@@ -268,9 +268,9 @@ impl<'a, X: Threads> TcpProbe<'a, X> {
 impl<'a, X> Faulty for TcpProbe<'a, X> {
     ghost use Rattle.std.specs.Prelude.{min, None};
     ghost use Rattle.std.proofs.Common.{arith};
-    ghost use Rattle.sd_model_outside.specs.Outside.{Untold, last_count, object_of};
+    ghost use Rattle.sd_model_outside.specs.Outside.{Unknown, last_count, object_of};
 
-    ghost seen = { λ s. object_of Untold (min s.faults last_count) None };
+    ghost seen = { λ s. object_of Unknown (min s.faults last_count) None };
 
     ghost faults_fit = { λ s. omega arith };
 }

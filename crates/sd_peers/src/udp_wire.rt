@@ -126,7 +126,7 @@ fn sent_whole(socket: &UdpSocket, packet: &[u8]) -> io::Result<()> {
 
 impl<'a, X> UdpWire<'a, X> {
     ghost use Rattle.std.specs.Prelude.{◌≡◌};
-    ghost use Rattle.sd_model_outside.specs.Outside.{Untold, fresh};
+    ghost use Rattle.sd_model_outside.specs.Outside.{Unknown, fresh};
 
     /// A wire that is opened later.
     pub fn new(
@@ -135,7 +135,7 @@ impl<'a, X> UdpWire<'a, X> {
         hosts: &'a Hosts,
         log: &'a RunLog<'a>,
     ) -> UdpWire<'a, X>
-        ensures { ⟦<UdpWire<'a, X> as Faulty>⟧.seen result ≡ fresh Untold }
+        ensures { ⟦<UdpWire<'a, X> as Faulty>⟧.seen result ≡ fresh Unknown }
     {
         UdpWire {
             host,
@@ -206,10 +206,10 @@ impl<'a, X> UdpWire<'a, X> {
 impl<'a, X> Faulty for UdpWire<'a, X> {
     ghost use Rattle.std.specs.Prelude.{min};
     ghost use Rattle.std.proofs.Common.{arith};
-    ghost use Rattle.sd_model_outside.specs.Outside.{Untold, last_count, object_of};
+    ghost use Rattle.sd_model_outside.specs.Outside.{Unknown, last_count, object_of};
     ghost use Rattle.sd_outside.specs.Places.{last_place};
 
-    ghost seen = { λ s. object_of Untold (min s.faults last_count) (last_place s.opened_at) };
+    ghost seen = { λ s. object_of Unknown (min s.faults last_count) (last_place s.opened_at) };
 
     ghost faults_fit = { λ s. omega arith };
 }

@@ -1,4 +1,4 @@
--- What a record is reckoned by, as the definitions have it.
+-- What a record is made by, as the definitions have it.
 use Rattle.sd_model_settings.specs.Settings.{Plan}
 use Rattle.sd_plan.specs.declared.reckoning.Reckoning.{Reckoning}
 

@@ -6,7 +6,7 @@ use crate::thresholds::Thresholds;
 use arrayvec::ArrayVec;
 use sd_decimal::Micro;
 
-/// What a record is reckoned by: the interval of its rates in milliseconds, which isn't 0, the thresholds and
+/// What a record is made by: the interval of its rates in milliseconds, which isn't 0, the thresholds and
 /// the bins of timers, and the classes of their lines that are chosen.
 #[derive(Debug, Drop)]
 pub struct Reckoning {

@@ -69,9 +69,9 @@ pub AllByRecursion-append : {X : Type 0} (P : X → Type 0) (xs ys : List X) →
 AllByRecursion-append P [] ys all more = more
 AllByRecursion-append P (x ∷ xs) ys all more = (all.0, AllByRecursion-append P xs ys all.1 more)
 
-pub AllByRecursion-front : {X : Type 0} (P : X → Type 0) (xs ys : List X) → AllByRecursion P (xs ++ ys) → AllByRecursion P xs
-AllByRecursion-front P [] ys all = tt
-AllByRecursion-front P (x ∷ xs) ys all = (all.0, AllByRecursion-front P xs ys all.1)
+pub AllByRecursion-prefix : {X : Type 0} (P : X → Type 0) (xs ys : List X) → AllByRecursion P (xs ++ ys) → AllByRecursion P xs
+AllByRecursion-prefix P [] ys all = tt
+AllByRecursion-prefix P (x ∷ xs) ys all = (all.0, AllByRecursion-prefix P xs ys all.1)
 
 pub AllByRecursion-back : {X : Type 0} (P : X → Type 0) (xs ys : List X) → AllByRecursion P (xs ++ ys) → AllByRecursion P ys
 AllByRecursion-back P [] ys all = all

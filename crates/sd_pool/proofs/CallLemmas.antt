@@ -98,8 +98,8 @@ module _ (pool : Pool) (seat : Seat) (is : Sits pool seat.who.0 seat.seats.items
             }
 
         -- the same of entries that are told for what is fixed of shard i
-        pub acts_at : (told : Setup → List Noted) → told (setup_of (opened_with t.turn)) ≡ es → ActsAll pool seat new i (acts (told (setup_at pool i)))
-        acts_at told is = subst (λ (l : List Noted). ActsAll pool seat new i (acts l)) (sym is ∙ ap told setup_is) acts_left
+        pub acts_at : (promised : Setup → List Noted) → promised (setup_of (opened_with t.turn)) ≡ es → ActsAll pool seat new i (acts (promised (setup_at pool i)))
+        acts_at promised is = subst (λ (l : List Noted). ActsAll pool seat new i (acts l)) (sym is ∙ ap promised setup_is) acts_left
 
 -- one entry is one act of the caller
 pub one_act : (pool : Pool) (old new : Seat) (i : ℕ) (setup : Setup) (number : ℕ) (event : Event) (replied : Reply) → who_of setup.receivers number ≡ who_is old

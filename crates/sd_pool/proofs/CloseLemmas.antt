@@ -8,7 +8,7 @@ use Rattle.std.proofs.lemmas.List.{length-map}
 use Rattle.std.proofs.lemmas.List.Elements.{recursion_from_All}
 use Rattle.sd_model_shard.specs.Shard.{Reply}
 use Rattle.sd_model_shard.specs.History.{Act, History, Legal, state_after}
-use Rattle.sd_model_shard.specs.Whereabouts.{told_by}
+use Rattle.sd_model_shard.specs.Whereabouts.{summed_by}
 use Rattle.sd_model_serve.specs.Receiving.{acts_by}
 use Rattle.sd_shard.specs.declared.shard.ShardBook.{ShardBook}
 use Rattle.sd_turn.specs.Lists.{total, span}
@@ -140,13 +140,13 @@ summed f (x ∷ xs) = omega (arith, sum_by-cons f x xs, summed f xs)
 
 -- what the callers' own acts come to
 pairs_total : (k r : ℕ) (weigh : Reply → ℕ) (log : List Noted) (os : List Seat) (ss : List OwnSeat) → Pairs (Tells k r) os ss → AllByRecursion (λ s. own s ≡ entries_by (λ e. e.number) (number_of s) log) ss
-    → sum_by (λ s. told_by weigh (own_at s k)) os ≡ total (λ s. total (λ e. weigh e.act.reply) (entries_by (λ e. e.number) (number_of s) log)) ss
+    → sum_by (λ s. summed_by weigh (own_at s k)) os ≡ total (λ s. total (λ e. weigh e.act.reply) (entries_by (λ e. e.number) (number_of s) log)) ss
 pairs_total k r weigh log [] [] p all = refl
 pairs_total k r weigh log (o ∷ os) (s ∷ ss) p all =
     let rest = pairs_total k r weigh log os ss p.1 all.1 in
-    let first : told_by weigh (own_at o k) ≡ total (λ e. weigh e.act.reply) (entries_by (λ e. e.number) (number_of s) log) =
-    ap (told_by weigh) (p.0.own ∙ ap acts all.0) ∙ summed (λ (a : Act). weigh a.reply) (acts (entries_by (λ e. e.number) (number_of s) log)) ∙ total-map (λ (e : Noted). e.act) (λ (a : Act). weigh a.reply) (entries_by (λ e. e.number) (number_of s) log) in
-    omega (arith, first, rest, sum_by-cons (λ (t : Seat). told_by weigh (own_at t k)) o os)
+    let first : summed_by weigh (own_at o k) ≡ total (λ e. weigh e.act.reply) (entries_by (λ e. e.number) (number_of s) log) =
+    ap (summed_by weigh) (p.0.own ∙ ap acts all.0) ∙ summed (λ (a : Act). weigh a.reply) (acts (entries_by (λ e. e.number) (number_of s) log)) ∙ total-map (λ (e : Noted). e.act) (λ (a : Act). weigh a.reply) (entries_by (λ e. e.number) (number_of s) log) in
+    omega (arith, first, rest, sum_by-cons (λ (t : Seat). summed_by weigh (own_at t k)) o os)
 pairs_total k r weigh log [] (s ∷ ss) p all = absurd p
 pairs_total k r weigh log (o ∷ os) [] p all = absurd p
 

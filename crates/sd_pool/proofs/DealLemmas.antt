@@ -107,9 +107,9 @@ pub dealt_back : (turns : List ShardTurn) (r n m : ℕ) (xs ys : List Seat) → 
 dealt_back turns r n m [] ys are is = let same : n ≡ m = omega (arith, is) in subst (λ k. AreDealt turns r k ys) same are
 dealt_back turns r n m (x ∷ xs) ys are is = dealt_back turns r (n + 1) m xs ys are.1 (omega (arith, is))
 
-pub dealt_front : (turns : List ShardTurn) (r n : ℕ) (xs ys : List Seat) → AreDealt turns r n (xs ++ ys) → AreDealt turns r n xs
-dealt_front turns r n [] ys are = tt
-dealt_front turns r n (x ∷ xs) ys are = (are.0, dealt_front turns r (n + 1) xs ys are.1)
+pub dealt_prefix : (turns : List ShardTurn) (r n : ℕ) (xs ys : List Seat) → AreDealt turns r n (xs ++ ys) → AreDealt turns r n xs
+dealt_prefix turns r n [] ys are = tt
+dealt_prefix turns r n (x ∷ xs) ys are = (are.0, dealt_prefix turns r (n + 1) xs ys are.1)
 
 none_seen : (ss : List OwnSeat) → AllByRecursion IsNew ss → (i : ℕ) → get_or (map (λ (s : OwnSeat). acts (seen s)) ss) i [] ≡ []
 none_seen [] new zero = refl

@@ -13,7 +13,7 @@ use Rattle.sd_pool.specs.declared.seat.Seat.{Seat}
 use Rattle.sd_pool.specs.declared.seat.Seats.{Seats}
 use Rattle.std.specs.declared.alloc.Global.{Global}
 use Rattle.std.specs.declared.vec.Vec.{Vec}
-use Rattle.sd_pool.proofs.AlongLemmas.{Along-append, Along-long, AllByRecursion-front, AllByRecursion-back, first_out}
+use Rattle.sd_pool.proofs.AlongLemmas.{Along-append, Along-long, AllByRecursion-prefix, AllByRecursion-back, first_out}
 use Rattle.sd_pool.proofs.CloseLemmas.{all_moved, has_more, ready_more}
 
 -- the first of both lists is taken out
@@ -35,7 +35,7 @@ module _
   more = has_more t left (seats_in seats) first_ready.seats
 
   pub receivers_more : AllByRecursion HasMore seats.receivers.items
-  receivers_more = AllByRecursion-front HasMore seats.receivers.items (seats.flusher ∷ seats.admin ∷ []) more
+  receivers_more = AllByRecursion-prefix HasMore seats.receivers.items (seats.flusher ∷ seats.admin ∷ []) more
 
   pub others_more : AllByRecursion HasMore (seats.flusher ∷ seats.admin ∷ [])
   others_more = AllByRecursion-back HasMore seats.receivers.items (seats.flusher ∷ seats.admin ∷ []) more

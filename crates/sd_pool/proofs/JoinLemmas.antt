@@ -11,7 +11,7 @@ use Rattle.sd_pool.specs.Pool.{ShardHistory, limits_of, own_at, policy_of, who_i
 use Rattle.sd_pool.specs.declared.pool.Pool.{Pool}
 use Rattle.sd_pool.specs.declared.seat.Seat.{Seat}
 use Rattle.sd_shard.specs.declared.shard.ShardBook.{ShardBook}
-use Rattle.sd_pool.proofs.AlongLemmas.{AllByRecursion-append, AllByRecursion-back, AllByRecursion-front}
+use Rattle.sd_pool.proofs.AlongLemmas.{AllByRecursion-append, AllByRecursion-back, AllByRecursion-prefix}
 
 -- seats that have made their callers' acts of a log, by the place of a seat whose callers have the numbers from one on
 made_at : (i : ℕ) (log : History) (from : ℕ) (seats : List Seat) → map who_is seats ≡ span from (length seats) → AllByRecursion (λ s. own_at s i ≡ acts_by (who_is s) log) seats
@@ -49,11 +49,11 @@ pub histories_join : (pool : Pool) (receivers : List Seat) (flushing administeri
     → JoinsAs (limits_of pool) (policy_of pool) (map (λ s. own_at s i) receivers) (own_at flushing i) (own_at administering i) h.log
 histories_join pool receivers flushing administering i book numbers flushes administers h =
     let Made : Seat → Type 0 = λ s. own_at s i ≡ acts_by (who_is s) h.log in
-    let front = AllByRecursion-front Made receivers (flushing ∷ administering ∷ []) h.own in
+    let prefix = AllByRecursion-prefix Made receivers (flushing ∷ administering ∷ []) h.own in
     let back = AllByRecursion-back Made receivers (flushing ∷ administering ∷ []) h.own in
     record {
       legal = h.legal;
-      submitted = λ r below. ap (λ who. acts_by who h.log) (sym (zero-add r)) ∙ made_at i h.log 0 receivers numbers front r (subst (λ n. r < n) (length-map receivers (λ (s : Seat). own_at s i)) below);
+      submitted = λ r below. ap (λ who. acts_by who h.log) (sym (zero-add r)) ∙ made_at i h.log 0 receivers numbers prefix r (subst (λ n. r < n) (length-map receivers (λ (s : Seat). own_at s i)) below);
       swapped = ap (λ who. acts_by who h.log) (sym flushes) ∙ sym back.0;
       commanded = ap (λ who. acts_by who h.log) (sym administers) ∙ sym back.1.0;
       others = λ who past flushing_not administering_not. none_by who (receivers ++ flushing ∷ administering ∷ []) h.log

@@ -8,6 +8,6 @@ pub mod OwnLemmas
 pub mod RunLemmas
 mod SeatLemmas
 mod StandsLemmas
-mod ToldLemmas
+mod ReportedLemmas
 mod WhoLemmas
 pub mod ActsLemmas

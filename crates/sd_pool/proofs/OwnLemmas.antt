@@ -4,13 +4,12 @@ use Rattle.std.specs.Prelude.{Option, Some, None, not, option_and_then}
 use Rattle.std.specs.FinMap.{get, get-empty}
 use Rattle.sd_model_text.specs.Names.{shard}
 use Rattle.sd_model_text.specs.Lines.{Sample}
-use Rattle.sd_model_shard.specs.Rows.{RowId, row_cmp, Kept, row_of, is_same_row}
-use Rattle.sd_model_shard.specs.Summaries.{sampled, row_in}
-use Rattle.sd_model_shard.specs.Commands.{is_hit}
+use Rattle.sd_model_shard.specs.Rows.{RowId, row_cmp, Kept, row_of, is_same_row, row_in, is_hit}
 use Rattle.sd_model_shard.specs.Shard.{State, Cause, Event, Submit, Swap, Delete, Dump, Look, empty_state, step, admitted, refusal, left_of}
-use Rattle.sd_model_shard.proofs.SummaryLemmas.{get-carried, get-touched}
+use Rattle.sd_model_shard.proofs.SummaryLemmas.{get-kept_rows, get-touched}
 use Rattle.sd_model_shard.proofs.DeletionLemmas.{get-rows_left, same_row}
 use Rattle.sd_pool.specs.Setup.{Setup, IsOwn, OnlyOf}
+use Rattle.sd_model_shard.proofs.Short.{sampled}
 
 neither : (b : Bool) (o : Option Kept) → o ≡ None → cond b o None ≡ None
 neither true o h = h
@@ -32,7 +31,7 @@ none_sampled state s (Some cause) id other none = none
 pub OnlyOf-step : (setup : Setup) (state : State) (event : Event) → IsOwn setup event → OnlyOf setup.shard setup.shards state.live → OnlyOf setup.shard setup.shards (step setup.limits setup.policy state event).state.live
 OnlyOf-step setup state (Submit s) own only id away =
     none_sampled state s (refusal setup.limits state s) id (other_row setup.shard setup.shards id s own away) (only id away)
-OnlyOf-step setup state Swap own only id away = get-carried setup.policy state.live id ∙ ap (option_and_then (left_of setup.policy id)) (only id away)
+OnlyOf-step setup state Swap own only id away = get-kept_rows setup.policy state.live id ∙ ap (option_and_then (left_of setup.policy id)) (only id away)
 OnlyOf-step setup state (Delete kind pattern) own only id away = get-rows_left kind pattern state.live id ∙ neither (not (is_hit kind pattern id)) (get state.live id) (only id away)
 OnlyOf-step setup state (Dump kind) own only id away = only id away
 OnlyOf-step setup state Look own only id away = only id away

@@ -54,8 +54,8 @@ OnlyOf-run setup state who (s ∷ samples) own only =
     OnlyOf-run setup (step setup.limits setup.policy state (Submit s)).state who samples own.1 (OnlyOf-step setup state (Submit s) own.0 only)
 
 legal_behind : (limits : Limits) (policy : Policy) (state : State) (xs ys : History) → LegalFrom limits policy state xs → LegalFrom limits policy (after_all limits policy state xs) ys → LegalFrom limits policy state (xs ++ ys)
-legal_behind limits policy state [] ys front back = back
-legal_behind limits policy state (x ∷ xs) ys front back = (front.0, legal_behind limits policy (after limits policy state x) xs ys front.1 back)
+legal_behind limits policy state [] ys prefix back = back
+legal_behind limits policy state (x ∷ xs) ys prefix back = (prefix.0, legal_behind limits policy (after limits policy state x) xs ys prefix.1 back)
 
 state_behind : (limits : Limits) (policy : Policy) (state : State) (xs ys : History) → after_all limits policy state (xs ++ ys) ≡ after_all limits policy (after_all limits policy state xs) ys
 state_behind limits policy state [] ys = refl

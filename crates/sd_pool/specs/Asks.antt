@@ -3,7 +3,7 @@ use Rattle.std.specs.Prelude.{◌≡◌, ℕ, ◌+◌, ◌<◌, ◌≤◌, List,
 use Rattle.std.specs.List.{AllByRecursion}
 use Rattle.sd_model_text.specs.Names.{shard}
 use Rattle.sd_model_text.specs.Lines.{Sample}
-use Rattle.sd_model_shard.specs.Commands.{DumpRow, in_key_order}
+use Rattle.sd_model_shard.specs.Rows.{DumpRow, in_key_order}
 use Rattle.sd_model_shard.specs.Shard as model
 use Rattle.sd_model_shard.specs.Shard.{Event, Reply}
 use Rattle.sd_model_shard.specs.History.{History, after_all, part_of}
@@ -33,13 +33,13 @@ shown_of old new = model.Dumped (in_key_order (λ row. row.key) (beyond old new)
 
 -- a list of keys goes on as a deletion's reply tells, within its room
 pub record KeysGoOn (setup : Setup) (old new : KeyList) (gone : Deleted) : Type 0 where
-  pub told : IsDeletion (gone_of old.items new.items gone) old.items new.items gone
+  pub promised : IsDeletion (gone_of old.items new.items gone) old.items new.items gone
   pub few : length new.items ≤ length old.items + setup.limits.rows
   pub room : new.room ≡ old.room
 
 -- a list of rows goes on as a dump's reply tells, within its room
 pub record RowsGoOn (setup : Setup) (old new : DumpList) : Type 0 where
-  pub told : IsDump (shown_of (rows_of old) (rows_of new)) (rows_of old) (rows_of new)
+  pub promised : IsDump (shown_of (rows_of old) (rows_of new)) (rows_of old) (rows_of new)
   pub few : length new.items ≤ length old.items + setup.limits.rows
   pub room : new.room ≡ old.room
 

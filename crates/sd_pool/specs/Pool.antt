@@ -5,7 +5,7 @@ use Rattle.sd_model_shard.specs.Shard.{Limits, Policy, Event, Reply}
 use Rattle.sd_model_shard.specs.History.{Act, History, Legal, state_after}
 use Rattle.sd_model_serve.specs.Receiving.{acts_by}
 use Rattle.sd_shard.specs.declared.shard.ShardBook.{ShardBook}
-use Rattle.sd_model_shard.specs.Whereabouts.{told_by}
+use Rattle.sd_model_shard.specs.Whereabouts.{summed_by}
 use Rattle.sd_turn.specs.declared.turn.Turn.{Turn}
 use Rattle.sd_turn.specs.declared.turn_seat.TurnSeat.{TurnSeat}
 use Rattle.sd_turn.specs.Turn.{opened_with, seen, own}
@@ -144,4 +144,4 @@ pub record ShardHistory (pool : Pool) (seats : List Seat) (i : ℕ) (book : Shar
   pub own : AllByRecursion (λ s. own_at s i ≡ acts_by (who_is s) log) seats
   pub whose : AllByRecursion (λ a. Any (λ s. who_is s ≡ a.who) seats) log
   pub numbers : IsBookOf book (state_after (limits_of pool) (policy_of pool) log)
-  pub shares : (weigh : Reply → ℕ) → sum_by (λ s. told_by weigh (own_at s i)) seats ≡ told_by weigh log
+  pub shares : (weigh : Reply → ℕ) → sum_by (λ s. summed_by weigh (own_at s i)) seats ≡ summed_by weigh log

@@ -1,8 +1,7 @@
 -- What a thread did, one thing behind another.
 use Rattle.std.proofs.Common.{◌≡◌, ◌∙◌, ℕ, List, [], ◌∷◌, ◌++◌, append-nil, append_assoc, refl, sym, ap, subst}
 use Rattle.std.specs.Prelude.{flat_map}
-use Rattle.sd_model_live.specs.Desk.{ProxyEvent}
-use Rattle.sd_model_live.specs.Port.{PortExchange, line_events, line_looks}
+use Rattle.sd_model_live.specs.Port.{ProxyEvent, PortExchange, line_events}
 use Rattle.sd_live.specs.Live.{looks_of, seen}
 use Rattle.sd_proxy_desk.specs.Shared.{events_of}
 use Rattle.sd_proxy_desk.specs.declared.hub.ProxyPass.{ProxyPass}
@@ -11,6 +10,7 @@ use Rattle.sd_port.specs.Doing.{HasDone}
 use Rattle.sd_port.specs.Answering.{HasAnswered}
 use Rattle.sd_port.specs.declared.answerer.PortAnswerer.{PortAnswerer}
 use Rattle.sd_port.proofs.LookSteps.{looks-none, looks-more}
+use Rattle.sd_model_live.proofs.Short.{line_looks}
 
 -- nothing
 pub done-none : (own : ProxyPass) → HasDone [] [] own own
@@ -42,5 +42,5 @@ answered_all (e ∷ es) old new along =
     let rest = answered_all es along.0 new along.2 in
     record {
       works = rest.works ∙ along.1.works;
-      done = done-more (line_events e) (flat_map line_events es) (line_looks e) (flat_map line_looks es) old.own.now along.0.own.now new.own.now along.1.carried rest.done;
+      done = done-more (line_events e) (flat_map line_events es) (line_looks e) (flat_map line_looks es) old.own.now along.0.own.now new.own.now along.1.executed rest.done;
     }

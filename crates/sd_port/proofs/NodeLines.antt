@@ -3,10 +3,11 @@ use Rattle.std.proofs.Common.{◌≡◌, ℕ, zero, suc, ◌+◌, ◌-◌, ◌�
 use Rattle.std.specs.Prelude.{slice_get, Some}
 use Rattle.std.specs.Option.{option_map}
 use Rattle.std.proofs.lemmas.Option.{slice_get_within}
-use Rattle.sd_model_text.proofs.Places.{get_front, get_behind}
+use Rattle.sd_model_text.proofs.Places.{get_prefix, get_behind}
 use Rattle.sd_model_settings.specs.Entries.{Node}
 use Rattle.sd_model_record.specs.Replies.{end_lines}
-use Rattle.sd_model_live.specs.Port.{node_health_line, node_health_lines}
+use Rattle.sd_model_live.specs.Port.{node_health_lines}
+use Rattle.sd_model_live.proofs.Short.{node_health_line}
 
 module _ (up : ℕ) where
   -- there is a line for each node
@@ -31,7 +32,7 @@ module _ (up : ℕ) where
       pub node_at : (node : Node) → slice_get nodes place ≡ Some node → slice_get (node_health_lines up 0 nodes ++ end_lines) place ≡ Some (node_health_line up place node)
       node_at node found =
           let same : 0 + place ≡ place = omega arith in
-          get_front (node_health_lines up 0 nodes) end_lines place (omega (arith, length-node_health_lines 0 nodes, slice_get_within nodes place node found))
+          get_prefix (node_health_lines up 0 nodes) end_lines place (omega (arith, length-node_health_lines 0 nodes, slice_get_within nodes place node found))
           ∙ get-node_health_lines 0 nodes place ∙ ap (λ k. option_map (node_health_line up k) (slice_get nodes place)) same
           ∙ ap (option_map (node_health_line up place)) found
 

@@ -6,17 +6,18 @@ use Rattle.std.proofs.lemmas.List.Concat.{flat_map-append}
 use Rattle.sd_model_outside.specs.Outside.{Object}
 use Rattle.sd_model_settings.specs.Settings.{Settings}
 use Rattle.sd_model_serve.specs.Doors.{Visit}
-use Rattle.sd_model_serve.specs.Talks.{Dialogue, lines_in}
-use Rattle.sd_model_live.specs.Port.{IsPortVisit, PortExchange, line_events, line_looks, port_talk}
-use Rattle.sd_model_proxy.specs.LineRelays as model
+use Rattle.sd_model_serve.specs.Sessions.{Dialogue, lines_in}
+use Rattle.sd_model_live.specs.Port.{IsPortVisit, PortExchange, line_events, port_talk}
+use Rattle.sd_model_proxy.specs.Relays as model
 use Rattle.sd_outside.specs.declared.door.DoorEnd.{DoorEnd}
 use Rattle.sd_outside.specs.declared.door.DoorEnd.TheVariants.{End, Stopped, Worn}
 use Rattle.sd_proxy_desk.specs.Ends.{door_end_view}
 use Rattle.sd_talk.specs.Serving.{EndsServing, IsTalkOf, ServesTalks}
 use Rattle.sd_port.specs.Answering.{HasAnswered}
-use Rattle.sd_port.specs.Keeping.{KeepsPort}
+use Rattle.sd_port.specs.PortKeeper.{KeepsPort}
 use Rattle.sd_port.specs.declared.answerer.PortAnswerer.{PortAnswerer}
 use Rattle.sd_port.proofs.DoneSteps.{HasAnsweredAll, answered_all}
+use Rattle.sd_model_live.proofs.Short.{line_looks}
 
 -- what the lines of dialogues come to, dialogue by dialogue
 by_dialogue : {A : Type 0} (f : PortExchange → List A) (ds : List (Dialogue PortExchange)) → flat_map f (flat_map lines_in ds) ≡ flat_map (λ d. flat_map f (lines_in d)) ds

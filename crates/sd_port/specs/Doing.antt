@@ -1,7 +1,6 @@
 -- What a thread does with its seat at a proxy's desk and its pass of the set of nodes.
 use Rattle.std.specs.Prelude.{◌≡◌, ℕ, List, ◌++◌, map, slice_get, Some}
-use Rattle.sd_model_live.specs.Desk.{ProxyEvent}
-use Rattle.sd_model_live.specs.Port.{PortExchange, line_events, line_looks}
+use Rattle.sd_model_live.specs.Port.{ProxyEvent, PortExchange, line_events, port_command, looks_of_command}
 use Rattle.sd_live.specs.Looks.{HaveAnswered}
 use Rattle.sd_live.specs.Live.{IsPassOf, looks_of, publishes, seen}
 use Rattle.sd_proxy_desk.specs.Shared.{IsSeatOf, events_of, number_of_seat}
@@ -13,7 +12,7 @@ use Rattle.sd_proxy_desk.specs.declared.hub.ProxyPass.{ProxyPass}
 pub record LooksFor (history history_now looks looks_now ups : List ℕ) : Type 0 where
   pub places : List ℕ
   pub made : looks_now ≡ looks ++ places
-  pub told : map (λ p. slice_get history_now p) places ≡ map (λ up. Some up) ups
+  pub reported : map (λ p. slice_get history_now p) places ≡ map (λ up. Some up) ups
   pub answered : HaveAnswered history history_now ups
 
 -- a thread's seat and pass are those of what the threads share
@@ -29,5 +28,5 @@ pub record HasDone (events : List ProxyEvent) (ups : List ℕ) (own own_now : Pr
   pub looked : LooksFor (seen own.pass) (seen own_now.pass) (looks_of own.pass) (looks_of own_now.pass) ups
 
 -- a thread did what a line does, and looked as it does
-abbrev pub HasCarriedOut : PortExchange → ProxyPass → ProxyPass → Type 0
-HasCarriedOut e = HasDone (line_events e) (line_looks e)
+abbrev pub HasExecuted : PortExchange → ProxyPass → ProxyPass → Type 0
+HasExecuted e = HasDone (line_events e) (looks_of_command (port_command e.line) e.up)

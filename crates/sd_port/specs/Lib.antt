@@ -1,4 +1,4 @@
 pub mod Commands
 pub mod Doing
 pub mod Answering
-pub mod Keeping
+pub mod PortKeeper

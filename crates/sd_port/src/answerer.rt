@@ -4,7 +4,7 @@ use crate::shared::PortShared;
 use log::Log;
 use sd_outside::Sink;
 use sd_proxy_desk::ProxyPass;
-use sd_talk::{Answerer, Told};
+use sd_talk::{Answerer, LineAnswer};
 use std::sync::Wait;
 
 /// Answers the lines of a port's sessions, with a thread's pass of the set of nodes and its seat at the desk.
@@ -32,7 +32,7 @@ impl Answerer<PortShared<'_>> for PortAnswerer<'_> {
         shared: &PortShared<'_>,
         line: &[u8],
         sink: &mut O,
-    ) -> Told {
+    ) -> LineAnswer {
         answer_line(rt, shared, self.own, line, sink)
     }
 }

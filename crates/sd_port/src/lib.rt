@@ -6,13 +6,13 @@
 
 mod answerer;
 mod command;
-mod keeping;
 mod line;
 mod node_lines;
+mod port_keeper;
 mod replies;
 mod shared;
 
 pub use answerer::PortAnswerer;
 pub use command::PortCommand;
-pub use keeping::keep_port;
+pub use port_keeper::keep_port;
 pub use shared::PortShared;

@@ -1,12 +1,12 @@
-//! How a line is carried out.
+//! How a line is executed.
 ghost use Rattle.std.specs.Prelude.{◌≡◌, ℕ, ◌<◌, [], ◌∷◌, ◌++◌, if◌then◌else◌};
 ghost use Rattle.sd_model_live.specs.Port.{PortExchange, health_said, leaves, looks_of_command, port_talk};
 ghost use Rattle.sd_live.specs.Live.{IsPassOf, looks_of, publishes, seen};
 ghost use Rattle.sd_proxy_desk.specs.Shared.{IsSeatOf, events_of, number_of_seat};
 ghost use Rattle.sd_talk.specs.Answers.{Answers};
-ghost use Rattle.sd_talk.specs.declared.answerer.Told.TheVariants.{Cut};
+ghost use Rattle.sd_talk.specs.declared.answerer.LineAnswer.TheVariants.{Cut};
 ghost use Rattle.sd_port.specs.Commands.{answer_view};
-ghost use Rattle.sd_port.specs.Doing.{HasCarriedOut, IsOwnOf, LooksFor};
+ghost use Rattle.sd_port.specs.Doing.{HasExecuted, IsOwnOf, LooksFor};
 
 use crate::command::PortCommand;
 use crate::replies::{ReplyBasis, write_port_reply};
@@ -17,7 +17,7 @@ use sd_event::health_set;
 use sd_live::{UpCell, UpPass};
 use sd_outside::Sink;
 use sd_proxy_desk::{ProxyDesk, ProxyPass, ProxySeat};
-use sd_talk::Told;
+use sd_talk::LineAnswer;
 use std::sync::Wait;
 
 /// Whether a command asks for the end of the session.
@@ -67,23 +67,23 @@ fn look<R: Wait>(rt: &R, cell: &UpCell, pass: &mut UpPass, command: Option<PortC
     }
 }
 
-/// Carries out a line, and replies.
+/// Executes a line, and replies.
 pub(crate) fn answer_line<O: Sink, R: Wait + Log>(
     rt: &R,
     shared: &PortShared<'_>,
     own: &mut ProxyPass,
     line: &[u8],
     sink: &mut O,
-) -> Told
+) -> LineAnswer
     requires { IsOwnOf shared.now.hub.now own.old }
     ensures own { IsOwnOf shared.now.hub.now own.new }
-    ensures answered { (e : PortExchange) × Answers (port_talk shared.now.settings.now) e line.now result (O.seen sink.old) (O.seen sink.new) × HasCarriedOut e own.old own.new }
+    ensures answered { (e : PortExchange) × Answers (port_talk shared.now.settings.now) e line.now result (O.seen sink.old) (O.seen sink.new) × HasExecuted e own.old own.new }
     ensures place { (O.seen sink.new).opened_at ≡ (O.seen sink.old).opened_at }
     ensures cause { result ≡ Cut → 0 < (O.seen sink.new).faults }
 {
     let command = PortCommand::read(line);
     if asks_for_end(command) {
-        return Told::Quit;
+        return LineAnswer::Quit;
     }
     let hub = shared.hub;
     let facts = hub.desk.facts(rt, &mut own.seat);
@@ -94,7 +94,7 @@ pub(crate) fn answer_line<O: Sink, R: Wait + Log>(
         up: look(rt, hub.cell, &mut own.pass, command),
     };
     match write_port_reply(&basis, command, sink) {
-        Ok(()) => Told::Whole,
-        Err(_) => Told::Cut,
+        Ok(()) => LineAnswer::Whole,
+        Err(_) => LineAnswer::Cut,
     }
 }

@@ -1,7 +1,7 @@
-ghost use Rattle.std.specs.Prelude.{◌≡◌, ◌+◌, ◌≤◌, ◌++◌, ◌∷◌, length, map, decimal};
+ghost use Rattle.std.specs.Prelude.{◌≡◌, ◌+◌, ◌≤◌, ◌++◌, ◌∷◌, length, map, decimal, codes, if◌then◌else◌, []};
 ghost use Rattle.sd_model_ring.specs.Ring.{is_up};
 ghost use Rattle.sd_model_record.specs.Replies.{end_lines};
-ghost use Rattle.sd_model_live.specs.Port.{node_health_line, node_health_lines};
+ghost use Rattle.sd_model_live.specs.Port.{node_health_lines};
 ghost use Rattle.sd_plan.specs.Entries.{node_view};
 
 use sd_admin::end_line;
@@ -37,7 +37,7 @@ fn push_port(port: u16, line: &mut ReplyLine)
 
 /// The line of the node in a place.
 fn node_line(up: u64, place: usize, node: &Node) -> ReplyLine
-    ensures { result.items ≡ node_health_line up place (node_view node.now) }
+    ensures { result.items ≡ (codes "node " ++ (node_view node.now).host ++ 32 ∷ decimal (node_view node.now).port ++ (if is_up up place then codes " up" else codes " down") ++ 10 ∷ []) }
 {
     let mut line = ReplyLine::new();
     push_text(b"node ", &mut line);

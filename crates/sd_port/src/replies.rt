@@ -1,10 +1,10 @@
 //! What is replied to a line.
-ghost use Rattle.std.specs.Prelude.{◌≡◌, ◌++◌, OnOk, OnErr};
+ghost use Rattle.std.specs.Prelude.{◌≡◌, ◌++◌, OnOk, OnErr, codes, ◌∷◌, []};
 ghost use Rattle.std.specs.List.{concat};
 ghost use Rattle.sd_model_outside.specs.Outside.{HasFailedBehind, given};
 ghost use Rattle.sd_model_record.specs.Replies.{end_lines};
 ghost use Rattle.sd_model_record.specs.Totals.{totals_text};
-ghost use Rattle.sd_model_live.specs.Port.{port_reply, totals_so_far};
+ghost use Rattle.sd_model_live.specs.Port.{port_reply};
 ghost use Rattle.sd_proxy_desk.specs.Views.{facts_view};
 ghost use Rattle.sd_port.specs.Commands.{answer_view};
 
@@ -20,7 +20,7 @@ use sd_totals::push_total;
 
 /// The reply to `totals`.
 fn totals_reply(facts: &ProxyFacts) -> Line
-    ensures { result.items ≡ totals_text (totals_so_far (facts_view facts.now)) ++ concat end_lines }
+    ensures { result.items ≡ totals_text ((facts_view facts.now).totals ++ (codes "checks", (facts_view facts.now).checks) ∷ (codes "probe_faults", (facts_view facts.now).probe_faults) ∷ []) ++ concat end_lines }
 {
     let mut text = Line::new();
     let totals = &facts.totals;
@@ -49,7 +49,7 @@ pub(crate) struct ReplyBasis<'a> {
 ///
 /// # Errors
 ///
-/// `Failed` where the output failed. Then a front of the reply was written.
+/// `Failed` where the output failed. Then a prefix of the reply was written.
 pub(crate) fn write_port_reply<O: Sink>(
     basis: &ReplyBasis<'_>,
     command: Option<PortCommand>,

@@ -6,10 +6,10 @@ use Rattle.std.proofs.lemmas.List.Sums.{sum_by-append}
 use Rattle.sd_model_outside.specs.Outside.{Object}
 use Rattle.sd_model_record.specs.Totals.{Total}
 use Rattle.sd_model_settings.specs.Entries.{Node}
-use Rattle.sd_model_stream.specs.Streams.{Cut}
+use Rattle.sd_model_stream.specs.Streams.{StreamLine}
 use Rattle.sd_tcp.specs.Cutting.{Cutting, CutsOn}
 use Rattle.sd_tcp.proofs.CutLemmas.{CutsOn-next, CutsOn-none}
-use Rattle.sd_model_proxy.specs.LineRelays.{is_long, lines_of_cut}
+use Rattle.sd_model_proxy.specs.Relays.{is_long, lines_of_cut}
 use Rattle.sd_proxy.specs.Forwarding.{AreSent, Forwards, TakesLines}
 use Rattle.sd_proxy.specs.Streaming.{SendsBytes, TakesBytes}
 use Rattle.sd_proxy.specs.declared.waiting.Waiting.{Waiting}
@@ -36,13 +36,13 @@ module _ (nodes : List Node) (up : ℕ) where
         cut = CutsOn-next xs ys before behind c d e first.cut second.cut;
         takes =
             subst (λ (t : List (List ℕ) × ℕ). TakesLines nodes up t.0 t.1 a w u x p r)
-            (λ i. (sym (flat_map-append lines_of_cut xs ys) i, sym (sum_by-append (λ (l : Cut). cond (is_long l) 1 0) xs ys) i))
+            (λ i. (sym (flat_map-append lines_of_cut xs ys) i, sym (sum_by-append (λ (l : StreamLine). cond (is_long l) 1 0) xs ys) i))
             (TakesLines-next nodes up (flat_map lines_of_cut xs) (flat_map lines_of_cut ys) (count_by is_long xs)
             (count_by is_long ys) a b w u v x p q r first.takes second.takes);
       }
 
   -- a line
-  pub TakesBytes-one : (line : Cut) (bytes : List ℕ) (c d : Cutting) (a b : List Waiting) (u v : List Object) (p q : List Total)
+  pub TakesBytes-one : (line : StreamLine) (bytes : List ℕ) (c d : Cutting) (a b : List Waiting) (u v : List Object) (p q : List Total)
       → CutsOn (line ∷ []) bytes c d → TakesLines nodes up (lines_of_cut line) (count_by is_long (line ∷ [])) a b u v p q
       → TakesBytes nodes up bytes c d a b u v p q
   TakesBytes-one line bytes c d a b u v p q cut takes = record {
@@ -63,7 +63,7 @@ module _ (nodes : List Node) (up : ℕ) where
 
 -- the lines that were taken were sent
 pub bytes_sent : (most : ℕ) (nodes : List Node) (up : ℕ) (bytes : List ℕ) (c d : Cutting) (waiting : List Waiting)
-    (first wires : List Object) (t t_now : List Total) (cuts : List Cut) → CutsOn cuts bytes c d
+    (first wires : List Object) (t t_now : List Total) (cuts : List StreamLine) → CutsOn cuts bytes c d
     → AreSent most nodes up 0 (0 + count_by is_long cuts) (flat_map lines_of_cut cuts) waiting first wires t t_now
     → SendsBytes most nodes up bytes c d first wires t t_now
 bytes_sent most nodes up bytes c d waiting first wires t t_now cuts cut sent =

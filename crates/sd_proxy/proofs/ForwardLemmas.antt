@@ -10,8 +10,7 @@ use Rattle.std.proofs.lemmas.List.Sums.{sum_by-append, sum_by-cons}
 use Rattle.sd_model_outside.specs.Outside.{Object}
 use Rattle.sd_model_record.specs.Desk.{counted}
 use Rattle.sd_model_settings.specs.Entries.{Node}
-use Rattle.sd_model_proxy.specs.Batches.{AreForwarded, Batch, Batched, add_totals, batches, lines_not_sent, lines_sent, long_in, no_totals, over_nodes, totals_by, totals_of}
-use Rattle.sd_model_proxy.specs.Routes.{Bad, Read, Route, To, Unowned, goes_to, is_bad, is_unowned, lines_to, route, routes_of}
+use Rattle.sd_model_proxy.specs.Routes.{Batch, Batched, add_totals, batches, lines_not_sent, lines_sent, no_totals, over_nodes, totals_by, relay_counts, Bad, Read, Route, To, Unowned, goes_to, is_bad, is_unowned, route}
 use Rattle.sd_model_proxy.proofs.SendLemmas.{AreForwarded-next, AreForwarded-none, AreForwarded-only, behind, only, only-elsewhere, only-here}
 use Rattle.sd_model_proxy.proofs.TotalLemmas.{add_totals-next, over-only}
 use Rattle.sd_model_record.specs.Totals.{Total}
@@ -22,6 +21,7 @@ use Rattle.sd_proxy.specs.Waiting.{Holds, batches_behind, under_way}
 use Rattle.sd_proxy_desk.specs.declared.totals.ProxyTotals.{ProxyTotals}
 use Rattle.sd_proxy.proofs.WaitingLemmas.{steady}
 use Rattle.sd_proxy.specs.declared.waiting.Waiting.{Waiting}
+use Rattle.sd_model_proxy.proofs.Short.{long_in, routes_of, AreForwarded, lines_to}
 
 -- a number with none more
 and_none : (n : ℕ) → n + 0 ≡ n
@@ -366,7 +366,7 @@ Forwards-next most nodes m n xs ys a b c s t u first second = record {
       map-append (λ (b : Batch). b.lines) (first.batched place) (second.batched place) ∙ (λ i. first.are place i ++ second.are place i)
       ∙ sym (flat_map-append (λ (r : Read). batches most (lines_to nodes place r)) xs ys);
   sends = AreForwarded-next first.batched second.batched a b c first.sends second.sends;
-  counted = second.counted ∙ ap (λ (x : List Total). add_totals x (totals_of nodes n ys second.batched)) first.counted
+  counted = second.counted ∙ ap (λ (x : List Total). add_totals x (relay_counts nodes n ys second.batched)) first.counted
       ∙ add_totals-next nodes m n (long_in xs) (long_in ys) (routes_of nodes xs) (routes_of nodes ys) first.batched second.batched s
       ∙ (λ i. add_totals s (totals_by nodes (m + n) (sym (sum_by-append (λ (r : Read). r.long) xs ys) i)
       (sym (flat_map-append (λ (r : Read). routes_by nodes r.up r.lines) xs ys) i) (behind first.batched second.batched)));
@@ -393,6 +393,6 @@ Forwards-apart most nodes packets reads wires wires_now p none came_to now nothi
   are = f.are;
   sends = f.sends;
   counted = both ∙ ap (add_totals (totals_view p)) (f.counted
-      ∙ ap (λ (t : List Total). add_totals t (totals_of nodes packets reads f.batched)) nothing)
+      ∙ ap (λ (t : List Total). add_totals t (relay_counts nodes packets reads f.batched)) nothing)
       ∙ added_once p nodes packets (long_in reads) (routes_of nodes reads) f.batched;
 }

@@ -6,11 +6,11 @@ use Rattle.sd_model_outside.specs.Outside.{HasFailed, Object}
 use Rattle.sd_outside.specs.Turns.{raised, GivesSession, HasLeft, turned}
 use Rattle.sd_model_record.specs.Totals.{Total}
 use Rattle.sd_model_settings.specs.Entries.{Node}
-use Rattle.sd_model_serve.specs.Doors.{IsFaultOf, Visit}
-use Rattle.sd_model_stream.specs.Streams.{AtEnd, Cut, EndsStream, Failed, IsStreamOf, Stream, StreamEnd, WornOut, ends_by_failure}
-use Rattle.sd_model_proxy.specs.Batches.{add_totals, no_totals}
-use Rattle.sd_model_proxy.specs.LineRelays.{EndsServing, IsReadOfLines, lines_by_read, lines_ended}
-use Rattle.sd_model_live.specs.Desk.{CountsRead}
+use Rattle.sd_model_serve.specs.Doors.{Visit}
+use Rattle.sd_model_stream.specs.Streams.{AtEnd, StreamLine, EndsStream, Failed, IsStreamOf, Stream, StreamEnd, LimitReached, ends_by_failure}
+use Rattle.sd_model_proxy.specs.Routes.{add_totals, no_totals}
+use Rattle.sd_model_proxy.specs.Relays.{EndsServing, IsReadOfLines, lines_ended}
+use Rattle.sd_model_live.specs.Port.{CountsRead}
 use Rattle.sd_outside.specs.declared.door.DoorEnd.{DoorEnd}
 use Rattle.sd_proxy_desk.specs.Ends.{door_end_view}
 use Rattle.sd_proxy_desk.specs.Views.{totals_view}
@@ -21,6 +21,8 @@ use Rattle.sd_proxy.specs.Proxying.{LinesByLooks, RelaySeen}
 use Rattle.sd_proxy.specs.Streaming.{SendsStream, SendsStreams}
 use Rattle.sd_proxy.specs.declared.lined.Lined.{Lined}
 use Rattle.sd_proxy.proofs.LookedLemmas.{SendsByLooks-next, SendsByLooks-none, zip_append}
+use Rattle.sd_model_serve.proofs.Short.{IsFaultOf}
+use Rattle.sd_model_proxy.proofs.Short.{lines_by_read}
 
 -- a turn of a door that had taken few
 pub one_turn : (old new first n : ℕ) → new ≡ raised old → old ≡ first + n → first < 2 ^ 62 → n < 2 ^ 62 → new ≡ first + (n + 1)
@@ -31,7 +33,7 @@ failed_ends : (ended : StreamEnd) (reads : ℕ) (source source_now : Object) →
     → ends_by_failure ended ≡ true → 0 < source_now.faults
 failed_ends AtEnd reads source source_now ends is = absurd (cc)
 failed_ends Failed reads source source_now ends is = let rose = ends.0 in omega (arith, rose)
-failed_ends (WornOut turns) reads source source_now ends is = absurd (cc)
+failed_ends (LimitReached turns) reads source source_now ends is = absurd (cc)
 
 module _ (most : ℕ) (nodes : List Node) where
   -- no session was read
@@ -41,7 +43,7 @@ module _ (most : ℕ) (nodes : List Node) where
     visits = [];
     failures = 0;
     streams = [];
-    served = ServesDoor-none door door_now none (ap (λ (o : Object). o.told) idle) (ap (λ (o : Object). o.opened_at) idle)
+    served = ServesDoor-none door door_now none (ap (λ (o : Object). o.content) idle) (ap (λ (o : Object). o.opened_at) idle)
         (ap (λ (o : Object). o.is_out) idle) (ap (λ (o : Object). o.faults) idle)
         (let turns = ap (λ (o : Object). o.turns) idle in omega (arith, turns, few));
     went = tt;
@@ -89,8 +91,8 @@ module _ (most : ℕ) (nodes : List Node) where
       let v : Visit = record {
         asking = asking;
         asking_now = asking_now;
-        told = telling;
-        told_now = telling;
+        answered = telling;
+        answered_now = telling;
         is_fault = ends_by_failure s.ended;
       } in
       let failed = failed_ends s.ended (length s.reads) asking asking_now sends.went.ends in
@@ -100,9 +102,9 @@ module _ (most : ℕ) (nodes : List Node) where
         failures = 0;
         streams = s ∷ [];
         served = ServesDoor-one v door door_mid door_now few gives left cause;
-        went = (record { read = sends.went; fault = refl; untold = refl }, tt);
+        went = (record { read = sends.went; fault = refl; unanswered = refl }, tt);
         reads = sends.reads;
-        are = subst (λ (ls : List (List Cut)). AllZip IsReadOfLines ls sends.reads) (sym (append-nil (lines_ended [] s.reads))) sends.are;
+        are = subst (λ (ls : List (List StreamLine)). AllZip IsReadOfLines ls sends.reads) (sym (append-nil (lines_ended [] s.reads))) sends.are;
         sends = sends.sends;
       }
 
@@ -119,7 +121,7 @@ module _ (most : ℕ) (nodes : List Node) where
     served = ServesDoor-next a.visits b.visits a.failures b.failures door door_mid door_now a.served b.served;
     went = zip_append IsStreamOf a.visits b.visits a.streams b.streams a.went b.went;
     reads = a.reads ++ b.reads;
-    are = subst (λ (ls : List (List Cut)). AllZip IsReadOfLines ls (a.reads ++ b.reads))
+    are = subst (λ (ls : List (List StreamLine)). AllZip IsReadOfLines ls (a.reads ++ b.reads))
         (sym (flat_map-append (λ (x : Stream). lines_ended [] x.reads) a.streams b.streams))
         (zip_append IsReadOfLines (lines_by_read a.streams) (lines_by_read b.streams) a.reads b.reads a.are b.are);
     sends = SendsByLooks-next most nodes own own_mid own_now a.reads b.reads u v w s t both is a.sends b.sends;

@@ -5,12 +5,11 @@ use Rattle.std.specs.List.{AllZip}
 use Rattle.std.proofs.lemmas.List.{map-append}
 use Rattle.std.proofs.lemmas.List.Sums.{fold-append}
 use Rattle.sd_model_outside.specs.Outside.{Object}
-use Rattle.sd_model_record.specs.Desk.{counted, last_counted}
+use Rattle.sd_model_record.specs.Desk.{counted}
 use Rattle.sd_model_record.specs.Totals.{Total, number_in}
 use Rattle.sd_model_settings.specs.Entries.{Node}
-use Rattle.sd_model_proxy.specs.Batches.{add_totals, no_totals}
-use Rattle.sd_model_proxy.specs.Routes.{Read}
-use Rattle.sd_model_live.specs.Desk.{CountsFor, CountsRead, ProxyEvent}
+use Rattle.sd_model_proxy.specs.Routes.{add_totals, no_totals, Read}
+use Rattle.sd_model_live.specs.Port.{CountsFor, CountsRead, ProxyEvent}
 use Rattle.sd_live.specs.Looks.{HaveAnswered}
 use Rattle.sd_live.proofs.LookLemmas.{answered_more}
 use Rattle.sd_proxy.specs.Forwarding.{Forwards}
@@ -18,8 +17,9 @@ use Rattle.sd_proxy.specs.Looking.{Counted, Looked, PassSeen, SendsByLooks}
 use Rattle.sd_proxy_desk.specs.Views.{totals_view}
 use Rattle.sd_proxy_desk.specs.declared.totals.ProxyTotals.{ProxyTotals}
 use Rattle.sd_proxy.proofs.ForwardLemmas.{Forwards-apart, Forwards-next, Forwards-none, nothing_more}
-use Rattle.sd_proxy.proofs.RelayLemmas.{One, looked-next, looked-none, told_on}
+use Rattle.sd_proxy.proofs.RelayLemmas.{One, looked-next, looked-none, reported_on}
 use Rattle.sd_proxy.proofs.WaitingLemmas.{steady}
+use Rattle.sd_model_shard.specs.Shard.{last_number}
 
 -- lists that agree place by place, some behind others
 pub zip_append : {A B : Type 0} (R : A → B → Type 0) (xs us : List A) (ys vs : List B) → AllZip R xs ys → AllZip R us vs
@@ -65,7 +65,7 @@ behind_none t = λ i.
     ∷ (codes "bad", alone t.bad t.few_bad i) ∷ (codes "sent", alone t.sent t.few_sent i)
     ∷ (codes "unowned", alone t.unowned t.few_unowned i) ∷ (codes "send_faults", alone t.send_faults t.few_send_faults i) ∷ []
   where
-    alone : (n : ℕ) → n ≤ last_counted → n ≡ counted 0 n
+    alone : (n : ℕ) → n ≤ last_number → n ≡ counted 0 n
     alone n few = omega (arith, few)
 
 -- totals of counts, and those of counts behind them
@@ -100,8 +100,8 @@ module _ (packets most : ℕ) (nodes : List Node) where
       places = first.each.places ++ second.each.places;
       made = second.each.made ∙ ap (λ (l : List ℕ). l ++ second.each.places) first.each.made
           ∙ append_assoc old.looks first.each.places second.each.places;
-      told = map-append (λ p. slice_get now.history p) first.each.places second.each.places
-          ∙ (λ i. told_on mid.history now.history second.answered.goes_on first.each.places xs first.each.told i ++ second.each.told i)
+      reported = map-append (λ p. slice_get now.history p) first.each.places second.each.places
+          ∙ (λ i. reported_on mid.history now.history second.answered.goes_on first.each.places xs first.each.reported i ++ second.each.reported i)
           ∙ sym (map-append (λ (r : Read). Some r.up) xs ys);
     };
     answered = subst (HaveAnswered old.history now.history) (sym (map-append (λ (r : Read). r.up) xs ys))

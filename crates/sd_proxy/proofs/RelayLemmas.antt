@@ -5,17 +5,16 @@ use Rattle.std.specs.List.{AllZip, last_or}
 use Rattle.std.proofs.lemmas.List.{map-append}
 use Rattle.std.proofs.lemmas.List.Elements.{All-nil, All-cons, All-append}
 use Rattle.std.proofs.lemmas.List.Sums.{fold_push}
-use Rattle.sd_model_outside.specs.Outside.{Object, Told, Datagrams, HasFailed, Rose, last_count}
+use Rattle.sd_model_outside.specs.Outside.{Object, Content, Datagrams, HasFailed, Rose, last_count}
 use Rattle.sd_outside.specs.Turns.{raised, GivesDatagram, turned}
-use Rattle.sd_model_outside.specs.Turns.{IsSpent, with_datagrams}
+use Rattle.sd_model_outside.specs.Uses.{IsSpent, with_datagrams}
 use Rattle.sd_model_outside.proofs.TurnLemmas.{with_datagrams-append}
 use Rattle.sd_model_settings.specs.Entries.{Node}
-use Rattle.sd_model_serve.specs.Ends.{EndsReceiver, most_turns}
-use Rattle.sd_model_proxy.specs.Routes.{Read}
-use Rattle.sd_model_proxy.specs.Batches.{add_totals, no_totals, totals_of}
-use Rattle.sd_model_proxy.specs.Relays.{IsReadOf, IsRelay, Relay, relay_totals}
+use Rattle.sd_model_serve.specs.Receiving.{EndsReceiver, most_turns}
+use Rattle.sd_model_proxy.specs.Routes.{Read, add_totals, no_totals, relay_counts}
+use Rattle.sd_model_proxy.specs.Relays.{IsRelay, Relay, relay_totals}
 use Rattle.sd_model_record.specs.Totals.{Total}
-use Rattle.sd_model_live.specs.Desk.{CountsFor, CountsRead, ProxyEvent}
+use Rattle.sd_model_live.specs.Port.{CountsFor, CountsRead, ProxyEvent}
 use Rattle.sd_live.specs.Looks.{Begins, HaveAnswered, last_place}
 use Rattle.sd_live.proofs.LookLemmas.{answered_more, begun, last_at, none_answered, one_answered}
 use Rattle.sd_proxy.specs.Forwarding.{Forwards, datagram_read}
@@ -27,11 +26,12 @@ use Rattle.sd_outside.specs.declared.datagrams.Ended.{Ended}
 use Rattle.sd_proxy.specs.declared.proxied.Proxied.{Proxied}
 use Rattle.sd_proxy_desk.specs.declared.totals.ProxyTotals as code
 use Rattle.sd_proxy.proofs.ForwardLemmas.{Forwards-none, Forwards-next, nothing_more}
+use Rattle.sd_model_proxy.proofs.Short.{IsReadOf}
 
 -- a source gave no datagram
-with_datagrams-nil : (told : Told) → told ≡ with_datagrams [] told
+with_datagrams-nil : (content : Content) → content ≡ with_datagrams [] content
 with_datagrams-nil (Datagrams left) = refl
-with_datagrams-nil told = refl
+with_datagrams-nil content = refl
 
 -- the same nodes were up for each read
 abbrev pub under : ℕ → List Read → List Total → Type 0
@@ -41,22 +41,22 @@ under up reads totals = All (λ (r : Read). r.up ≡ up) reads
 pub looked-none : (packets most : ℕ) (nodes : List Node) (old : PassSeen) (totals : List Total) → totals ≡ no_totals
     → Looked packets most nodes old old [] totals
 looked-none packets most nodes old totals none = record {
-  each = record { places = []; made = sym (append-nil old.looks); told = refl };
+  each = record { places = []; made = sym (append-nil old.looks); reported = refl };
   answered = none_answered old.history;
   counts = record { counts = []; are = sym (append-nil old.events); each = tt; sum = none };
 }
 
 -- what looks were told stands where the history went on
-pub told_on : (mid now : List ℕ) → Begins mid now → (places : List ℕ) (reads : List Read)
+pub reported_on : (mid now : List ℕ) → Begins mid now → (places : List ℕ) (reads : List Read)
     → map (λ p. slice_get mid p) places ≡ map (λ (r : Read). Some r.up) reads
     → map (λ p. slice_get now p) places ≡ map (λ (r : Read). Some r.up) reads
-told_on mid now goes_on [] [] told = refl
-told_on mid now goes_on [] (r ∷ reads) told = absurd (cc)
-told_on mid now goes_on (p ∷ places) [] told = absurd (cc)
-told_on mid now goes_on (p ∷ places) (r ∷ reads) told =
+reported_on mid now goes_on [] [] reported = refl
+reported_on mid now goes_on [] (r ∷ reads) reported = absurd (cc)
+reported_on mid now goes_on (p ∷ places) [] reported = absurd (cc)
+reported_on mid now goes_on (p ∷ places) (r ∷ reads) reported =
     let first : slice_get mid p ≡ Some r.up = cc in
     let rest : map (λ p. slice_get mid p) places ≡ map (λ (r : Read). Some r.up) reads = cc in
-    λ i. begun mid now goes_on p r.up first i ∷ told_on mid now goes_on places reads rest i
+    λ i. begun mid now goes_on p r.up first i ∷ reported_on mid now goes_on places reads rest i
 
 -- one datagram more
 pub under-next : (up : ℕ) (datagram : List ℕ) (reads : List Read) → All (λ (r : Read). r.up ≡ up) reads
@@ -93,7 +93,7 @@ counts_for : (packets most : ℕ) (nodes : List Node) (read : Read) (wires wires
 counts_for packets most nodes read wires wires_now none came_to nothing f = (
   f.batched,
   f.are,
-  f.counted ∙ ap (λ (t : List Total). add_totals t (totals_of nodes packets (read ∷ []) f.batched)) nothing,
+  f.counted ∙ ap (λ (t : List Total). add_totals t (relay_counts nodes packets (read ∷ []) f.batched)) nothing,
 )
 
 -- A read's lines were sent under the set that a look answered, and counted at the desk.
@@ -117,8 +117,8 @@ looked-next packets most nodes old mid now read wires wires_now none came_to tot
       each = record {
         places = h.each.places ++ place ∷ [];
         made = one.looks ∙ ap (λ (l : List ℕ). l ++ place ∷ []) h.each.made ∙ append_assoc old.looks h.each.places (place ∷ []);
-        told = map-append (λ p. slice_get now.history p) h.each.places (place ∷ [])
-            ∙ (λ i. told_on mid.history now.history one.goes_on h.each.places reads h.each.told i
+        reported = map-append (λ p. slice_get now.history p) h.each.places (place ∷ [])
+            ∙ (λ i. reported_on mid.history now.history one.goes_on h.each.places reads h.each.reported i
             ++ last_at read.up now.history one.last i ∷ [])
             ∙ sym (map-append (λ (r : Read). Some r.up) reads (read ∷ []));
       };
@@ -136,11 +136,11 @@ pub record Ran (most : ℕ) (nodes : List Node) (known : List Read → List Tota
   pub are : known reads totals
   pub read : AllZip IsReadOf datagrams reads
   pub forwards : Forwards most nodes (length datagrams) reads wires wires_now no_totals totals
-  pub given : source.told ≡ with_datagrams datagrams source_now.told
+  pub given : source.content ≡ with_datagrams datagrams source_now.content
   pub turns : source_now.turns ≡ min (source.turns + took) last_count
   pub many : length reads ≤ took
   pub faults : source_now.faults ≡ source.faults
-  pub same : source_now ≡ record source { told = source_now.told; faults = source_now.faults; turns = source_now.turns }
+  pub same : source_now ≡ record source { content = source_now.content; faults = source_now.faults; turns = source_now.turns }
 
 pub ran_first : (most : ℕ) (nodes : List Node) (known : List Read → List Total → Type 0) (source : Object) (wires : List Object) (t : List Total) → known [] t → source.turns ≤ last_count → t ≡ no_totals → Ran most nodes known source source 0 wires wires t
 ran_first most nodes known source wires t are fits none = record {
@@ -149,7 +149,7 @@ ran_first most nodes known source wires t are fits none = record {
   are = are;
   read = tt;
   forwards = Forwards-none most nodes wires no_totals t (none ∙ nothing_more nodes);
-  given = with_datagrams-nil source.told;
+  given = with_datagrams-nil source.content;
   turns = omega (arith, fits);
   many = omega arith;
   faults = refl;
@@ -171,13 +171,13 @@ pub record Out (most : ℕ) (nodes : List Node) (known : List Read → List Tota
 module _ (most : ℕ) (nodes : List Node) (known : List Read → List Total → Type 0) (source mid now : Object) (took : ℕ) where
   -- nothing else of a source changed
   abbrev Same : Object → Object → Type 0
-  Same old new = new ≡ record old { told = new.told; faults = new.faults; turns = new.turns }
+  Same old new = new ≡ record old { content = new.content; faults = new.faults; turns = new.turns }
 
   same_next : Same source mid → Same mid now → Same source now
-  same_next first second = second ∙ ap (λ (o : Object). record o { told = now.told; faults = now.faults; turns = now.turns }) first
+  same_next first second = second ∙ ap (λ (o : Object). record o { content = now.content; faults = now.faults; turns = now.turns }) first
 
   same_given : (datagram : List ℕ) → GivesDatagram datagram mid now → Same mid now
-  same_given datagram gives = ap (λ (o : Object). record o { told = now.told; faults = now.faults; turns = now.turns }) (sym gives)
+  same_given datagram gives = ap (λ (o : Object). record o { content = now.content; faults = now.faults; turns = now.turns }) (sym gives)
 
   -- a turn that gave a datagram, whose lines were sent
   pub ran_read : (known_now : List Read → List Total → Type 0) (datagram : List ℕ) (up : ℕ) (wires wires_mid wires_now : List Object)
@@ -187,7 +187,7 @@ module _ (most : ℕ) (nodes : List Node) (known : List Read → List Total → 
       → Ran most nodes known_now source now (took + 1) wires wires_now t_now
   ran_read known_now datagram up wires wires_mid wires_now t t_now next ran gives forwards =
       let read : Read = datagram_read datagram up in
-      let told : mid.told ≡ with_datagrams (datagram ∷ []) now.told = ap (λ (o : Object). o.told) gives in
+      let content : mid.content ≡ with_datagrams (datagram ∷ []) now.content = ap (λ (o : Object). o.content) gives in
       let count : length (ran.reads ++ read ∷ []) ≡ length ran.reads + 1 = length-append ran.reads (read ∷ []) in
       let turn : raised mid.turns ≡ now.turns = ap (λ (o : Object). o.turns) gives in
       record {
@@ -199,7 +199,7 @@ module _ (most : ℕ) (nodes : List Node) (known : List Read → List Total → 
             (sym (length-append ran.datagrams (datagram ∷ [])))
             (Forwards-next most nodes (length ran.datagrams) 1 ran.reads
             (read ∷ []) wires wires_mid wires_now no_totals t t_now ran.forwards forwards);
-        given = ran.given ∙ ap (with_datagrams ran.datagrams) told ∙ with_datagrams-append now.told ran.datagrams (datagram ∷ []);
+        given = ran.given ∙ ap (with_datagrams ran.datagrams) content ∙ with_datagrams-append now.content ran.datagrams (datagram ∷ []);
         turns = omega (arith, turn, ran.turns);
         many = omega (arith, count, ran.many);
         faults = ap (λ (o : Object). o.faults) (sym gives) ∙ ran.faults;
@@ -216,11 +216,11 @@ module _ (most : ℕ) (nodes : List Node) (known : List Read → List Total → 
         are = ran.are;
         read = ran.read;
         forwards = ran.forwards;
-        given = ran.given ∙ ap (λ (o : Object). with_datagrams ran.datagrams o.told) (sym idle);
+        given = ran.given ∙ ap (λ (o : Object). with_datagrams ran.datagrams o.content) (sym idle);
         turns = omega (arith, turn, ran.turns);
         many = omega (arith, ran.many);
         faults = ap (λ (o : Object). o.faults) idle ∙ ran.faults;
-        same = same_next ran.same (let back : turned mid ≡ now = sym idle in ap (λ (o : Object). record o { told = now.told; faults = now.faults; turns = now.turns }) (sym back));
+        same = same_next ran.same (let back : turned mid ≡ now = sym idle in ap (λ (o : Object). record o { content = now.content; faults = now.faults; turns = now.turns }) (sym back));
       }
 
   -- how it ended: at most the count of the source's faults changed
@@ -230,22 +230,22 @@ module _ (most : ℕ) (nodes : List Node) (known : List Read → List Total → 
     relay = record { datagrams = ran.datagrams; reads = ran.reads; batched = ran.forwards.batched; ended = end_view ended };
     are = subst (known ran.reads) ran.forwards.counted ran.are;
     relays = record {
-      given = ran.given ∙ ap (λ (o : Object). with_datagrams ran.datagrams o.told) (sym last);
+      given = ran.given ∙ ap (λ (o : Object). with_datagrams ran.datagrams o.content) (sym last);
       read = ran.read;
       forwarded = record { packets = ran.forwards.are; each = each; sends = ran.forwards.sends };
       turned = took;
       turns = ap (λ (o : Object). o.turns) last ∙ ran.turns;
       many = ran.many;
       ends = ends;
-      same = same_next ran.same (last ∙ ap (λ (o : Object). record mid { told = o.told; faults = now.faults; turns = o.turns }) (sym last));
+      same = same_next ran.same (last ∙ ap (λ (o : Object). record mid { content = o.content; faults = now.faults; turns = o.turns }) (sym last));
     };
     totals = ap totals_view counts ∙ ran.forwards.counted;
     ended = ap end_view so;
   }
 
   -- the source had nothing left
-  pub ends_spent : (wires wires_now : List Object) (t : List Total) → Ran most nodes known source mid took wires wires_now t → now ≡ mid → IsSpent mid.told → took < most_turns → IsSpent now.told × (now.faults ≡ source.faults) × (0 < 0 → 0 < 0) × (took < most_turns)
-  ends_spent wires wires_now t ran last spent few = (subst (λ (o : Object). IsSpent o.told) (sym last) spent, ap (λ (o : Object). o.faults) last ∙ ran.faults, λ none. none, few)
+  pub ends_spent : (wires wires_now : List Object) (t : List Total) → Ran most nodes known source mid took wires wires_now t → now ≡ mid → IsSpent mid.content → took < most_turns → IsSpent now.content × (now.faults ≡ source.faults) × (0 < 0 → 0 < 0) × (took < most_turns)
+  ends_spent wires wires_now t ran last spent few = (subst (λ (o : Object). IsSpent o.content) (sym last) spent, ap (λ (o : Object). o.faults) last ∙ ran.faults, λ none. none, few)
 
   -- the source failed
   pub ends_failed : (wires wires_now : List Object) (t : List Total) → Ran most nodes known source mid took wires wires_now t → HasFailed mid now → took < most_turns → Rose source.faults now.faults × (0 < 0 → 0 < 0) × (took < most_turns)

@@ -5,18 +5,17 @@ use Rattle.std.specs.List.{AllZip, concat}
 use Rattle.std.proofs.Math.Seq.{drop-append_seam}
 use Rattle.std.proofs.lemmas.List.{length_push}
 use Rattle.std.proofs.lemmas.List.Elements.{All-nil, All-push}
-use Rattle.sd_model_outside.specs.Outside.{Object, Told, HasRead, Reads, Rose, telling}
+use Rattle.sd_model_outside.specs.Outside.{Object, Content, HasRead, Reads, Rose, telling}
 use Rattle.sd_model_outside.proofs.OutsideLemmas.{Reads-nil}
 use Rattle.sd_model_record.specs.Totals.{Total}
 use Rattle.sd_model_settings.specs.Entries.{Node}
-use Rattle.sd_model_serve.specs.Ends.{most_turns}
-use Rattle.sd_model_stream.specs.Streams.{AtEnd, Cut, Failed, ReadsStream, Stream, WornOut, stream_lines}
+use Rattle.sd_model_serve.specs.Receiving.{most_turns}
+use Rattle.sd_model_stream.specs.Streams.{AtEnd, StreamLine, Failed, ReadsStream, Stream, LimitReached, stream_lines}
 use Rattle.sd_tcp.specs.Cutting.{Cutting, HasCut, nothing_cut}
 use Rattle.sd_tcp.proofs.CutLemmas.{HasCut-none, all_given}
 use Rattle.sd_model_stream.proofs.StreamLemmas.{concat-push}
-use Rattle.sd_model_proxy.specs.Batches.{add_totals, no_totals}
-use Rattle.sd_model_proxy.specs.LineRelays.{IsReadOfLines, lines_ended}
-use Rattle.sd_model_proxy.specs.Routes.{Read}
+use Rattle.sd_model_proxy.specs.Routes.{add_totals, no_totals, Read}
+use Rattle.sd_model_proxy.specs.Relays.{IsReadOfLines, lines_ended}
 use Rattle.sd_outside.proofs.ReadLemmas.{reads_on}
 use Rattle.sd_proxy.specs.Looking.{PassSeen, SendsByLooks}
 use Rattle.sd_proxy.specs.Streaming.{CannotRead, SendsRead, SendsStream, cuts_read}
@@ -26,7 +25,7 @@ use Rattle.sd_proxy.proofs.LookedLemmas.{SendsByLooks-next, SendsByLooks-none}
 use Rattle.sd_proxy.proofs.RelayLemmas.{zip_push}
 
 -- the lines that a read ended, where these were read before it
-abbrev ended_by : (before bytes : List ℕ) → List Cut
+abbrev ended_by : (before bytes : List ℕ) → List StreamLine
 ended_by before bytes = drop (length (stream_lines before)) (stream_lines (before ++ bytes))
 
 -- one read more
@@ -34,7 +33,7 @@ lines_ended-push : (before : List ℕ) (reads : List (List ℕ)) (bytes : List �
     → lines_ended before (reads ++ bytes ∷ []) ≡ lines_ended before reads ++ ended_by (before ++ concat reads) bytes ∷ []
 lines_ended-push before [] bytes = ap (λ (bs : List ℕ). ended_by bs bytes ∷ []) (sym (append-nil before))
 lines_ended-push before (r ∷ reads) bytes =
-    ap (λ (ls : List (List Cut)). ended_by before r ∷ ls)
+    ap (λ (ls : List (List StreamLine)). ended_by before r ∷ ls)
     (lines_ended-push (before ++ r) reads bytes ∙ ap (λ (bs : List ℕ). lines_ended (before ++ r) reads ++ ended_by bs bytes ∷ [])
     (append_assoc before r (concat reads)))
 
@@ -47,7 +46,7 @@ ended_so reads source mid now some read few (inl over) = (
   refl,
   record {
     some = some;
-    read = subst (λ (o : Object). Reads source.told (concat reads) o.told) (sym over.0) (ap (λ (o : Object). o.told) read);
+    read = subst (λ (o : Object). Reads source.content (concat reads) o.content) (sym over.0) (ap (λ (o : Object). o.content) read);
     place = ap (λ (o : Object). o.opened_at) over.0 ∙ sym (ap (λ (o : Object). o.opened_at) read);
     ends = (over.1, ap (λ (o : Object). o.faults) over.0 ∙ sym (ap (λ (o : Object). o.faults) read), few);
   },
@@ -57,8 +56,8 @@ ended_so reads source mid now some read few (inr failed) = (
   refl,
   record {
     some = some;
-    read = subst (λ (told : Told). Reads source.told (concat reads) told) (sym (ap (λ (o : Object). o.told) failed.same))
-        (ap (λ (o : Object). o.told) read);
+    read = subst (λ (content : Content). Reads source.content (concat reads) content) (sym (ap (λ (o : Object). o.content) failed.same))
+        (ap (λ (o : Object). o.content) read);
     place = ap (λ (o : Object). o.opened_at) failed.same ∙ sym (ap (λ (o : Object). o.opened_at) read);
     ends = (subst (λ (n : ℕ). Rose n now.faults) (sym (ap (λ (o : Object). o.faults) read)) failed.rose, few);
   },
@@ -82,7 +81,7 @@ module _ (most : ℕ) (nodes : List Node) (own : PassSeen) (source : Object) (wi
     given = [];
     count_is = refl;
     some = All-nil (λ (bytes : List ℕ). 0 < length bytes);
-    read = ap (λ (told : Told). telling told source) (Reads-nil source.told);
+    read = ap (λ (content : Content). telling content source) (Reads-nil source.content);
     cut = HasCut-none;
     reads = [];
     are = tt;
@@ -108,11 +107,11 @@ module _ (most : ℕ) (nodes : List Node) (own : PassSeen) (source : Object) (wi
         some = All-push (λ (bytes : List ℕ). 0 < length bytes) a.given b.bytes a.some b.some;
         read = subst (λ (bytes : List ℕ). HasRead bytes source now) (sym whole) (reads_on before b.bytes source mid now a.read b.read);
         cut = subst (λ (bytes : List ℕ). HasCut (stream_lines bytes) bytes d) (sym whole)
-            (subst (λ (given : List Cut). HasCut given (before ++ b.bytes) d) all cut);
+            (subst (λ (given : List StreamLine). HasCut given (before ++ b.bytes) d) all cut);
         reads = a.reads ++ read ∷ [];
-        are = subst (λ (ls : List (List Cut)). AllZip IsReadOfLines ls (a.reads ++ read ∷ [])) (sym (lines_ended-push [] a.given b.bytes))
+        are = subst (λ (ls : List (List StreamLine)). AllZip IsReadOfLines ls (a.reads ++ read ∷ [])) (sym (lines_ended-push [] a.given b.bytes))
             (zip_push IsReadOfLines (lines_ended [] a.given) a.reads (ended_by before b.bytes) read a.are
-            (subst (λ (cuts : List Cut). IsReadOfLines cuts read) (sym ended) (refl, refl)));
+            (subst (λ (cuts : List StreamLine). IsReadOfLines cuts read) (sym ended) (refl, refl)));
         sends = SendsByLooks-next most nodes own own_mid own_now a.reads (read ∷ []) wires v w s t both is a.sends b.sends;
       }
 
@@ -130,14 +129,14 @@ module _ (most : ℕ) (nodes : List Node) (own : PassSeen) (source : Object) (wi
         sends = a.sends;
       }
 
-  pub SoFar-worn : (count : ℕ) (own_now : PassSeen) (now : Object) (c : Cutting) (w : List Object) (totals : List Total)
+  pub SoFar-limit_reached : (count : ℕ) (own_now : PassSeen) (now : Object) (c : Cutting) (w : List Object) (totals : List Total)
       → count ≡ most_turns
       → SoFar count own_now now c w totals → SendsStream most nodes own own_now source now wires w totals
-  SoFar-worn count own_now now c w totals all a = record {
-    stream = record { reads = a.given; ended = WornOut most_turns };
+  SoFar-limit_reached count own_now now c w totals all a = record {
+    stream = record { reads = a.given; ended = LimitReached most_turns };
     went = record {
       some = a.some;
-      read = ap (λ (o : Object). o.told) a.read;
+      read = ap (λ (o : Object). o.content) a.read;
       place = sym (ap (λ (o : Object). o.opened_at) a.read);
       ends = (refl, a.count_is ∙ all, sym (ap (λ (o : Object). o.faults) a.read));
     };

@@ -8,17 +8,18 @@ use Rattle.std.proofs.Math.Seq.{take-append_seam}
 use Rattle.std.proofs.lemmas.List.Concat.{flat_map-append}
 use Rattle.std.proofs.lemmas.List.Sums.{sum_by-append}
 use Rattle.sd_model_outside.specs.Outside.{Object}
-use Rattle.sd_model_outside.specs.Wires.{HasSent}
-use Rattle.sd_model_record.specs.Desk.{counted, last_counted}
-use Rattle.sd_model_record.specs.WireSends.{AfterSends, WireSend}
+use Rattle.sd_model_outside.specs.Uses.{HasSent, AfterSends, WireSend}
+use Rattle.sd_model_record.specs.Desk.{counted}
 use Rattle.sd_model_record.specs.Totals.{Total, number_in}
-use Rattle.sd_model_proxy.specs.Batches.{Batch, add_totals, batches, batches_from, fits, joined, lines_not_sent, lines_sent, send_of}
+use Rattle.sd_model_proxy.specs.Routes.{Batch, add_totals, batches, batches_from, joined, lines_not_sent, lines_sent, send_of}
 use Rattle.sd_model_proxy.proofs.TotalLemmas.{add-twice}
 use Rattle.sd_proxy_desk.specs.Views.{totals_view}
 use Rattle.sd_proxy.specs.Sending.{Sends, totals_of_batches}
 use Rattle.sd_proxy.specs.Waiting.{Holds, batches_behind, closed, under_way}
 use Rattle.sd_proxy_desk.specs.declared.totals.ProxyTotals.{ProxyTotals}
 use Rattle.sd_proxy.specs.declared.waiting.Waiting.{Waiting}
+use Rattle.sd_model_shard.specs.Shard.{last_number}
+use Rattle.sd_model_proxy.proofs.Short.{fits}
 
 -- lines, and one more
 pub closed-more : (lines : List (List ℕ)) (last : List ℕ) → closed (lines ++ last ∷ []) ≡ closed lines ++ (last ++ 10 ∷ [])
@@ -110,7 +111,7 @@ Sends-next xs ys old mid new s t u first second = record {
 }
 
 -- a count to which nothing is added
-pub steady : (n : ℕ) → n ≤ last_counted → n ≡ counted n 0
+pub steady : (n : ℕ) → n ≤ last_number → n ≡ counted n 0
 steady n few = omega (arith, few)
 
 -- no packet

@@ -4,9 +4,8 @@ use Rattle.std.specs.List.{AllZip}
 use Rattle.sd_model_outside.specs.Outside.{Object}
 use Rattle.sd_model_record.specs.Totals.{Total}
 use Rattle.sd_model_settings.specs.Entries.{Node}
-use Rattle.sd_model_proxy.specs.Batches.{add_totals, no_totals}
-use Rattle.sd_model_proxy.specs.Routes.{Read}
-use Rattle.sd_model_live.specs.Desk.{CountsFor, CountsRead, ProxyEvent}
+use Rattle.sd_model_proxy.specs.Routes.{add_totals, no_totals, Read}
+use Rattle.sd_model_live.specs.Port.{CountsFor, CountsRead, ProxyEvent}
 use Rattle.sd_live.specs.Looks.{HaveAnswered}
 use Rattle.sd_live.specs.Live.{looks_of, seen}
 use Rattle.sd_proxy_desk.specs.Shared.{events_of}

@@ -3,11 +3,10 @@ use Rattle.std.specs.Prelude.{◌≡◌, ℕ, List, All, map, ◌++◌, slice_ge
 use Rattle.sd_model_outside.specs.Outside.{Object}
 use Rattle.sd_model_record.specs.Totals.{Total}
 use Rattle.sd_model_settings.specs.Entries.{Node}
-use Rattle.sd_model_serve.specs.Ends.{LoopEnd}
-use Rattle.sd_model_proxy.specs.LineRelays.{IsLineRelay}
-use Rattle.sd_model_proxy.specs.Relays.{IsRelay, Relay, relay_totals}
+use Rattle.sd_model_serve.specs.Receiving.{LoopEnd}
+use Rattle.sd_model_proxy.specs.Relays.{IsLineRelay, IsRelay, Relay, relay_totals}
 use Rattle.sd_model_proxy.specs.Routes.{Read}
-use Rattle.sd_model_live.specs.Desk.{CountsEach, ProxyEvent}
+use Rattle.sd_model_live.specs.Port.{CountsEach, ProxyEvent}
 use Rattle.sd_live.specs.Looks.{HaveAnswered}
 use Rattle.sd_live.specs.Live.{looks_of, seen}
 use Rattle.sd_proxy_desk.specs.Ends.{door_end_view}
@@ -32,7 +31,7 @@ pub record Proxies (most : ℕ) (nodes : List Node) (up : ℕ) (source source_no
 pub record LooksForEach (history : List ℕ) (looks looks_now : List ℕ) (reads : List Read) : Type 0 where
   pub places : List ℕ
   pub made : looks_now ≡ looks ++ places
-  pub told : map (λ p. slice_get history p) places ≡ map (λ r. Some r.up) reads
+  pub reported : map (λ p. slice_get history p) places ≡ map (λ r. Some r.up) reads
 
 -- What is seen of a worker, that is, of a receiver or of the reader of lines: the history of the sets, as its pass has last seen it; the
 -- places that its looks were told; what it did at the desk; and its source, or its door, and its wires.

@@ -1,9 +1,9 @@
 -- Packets that were sent on one wire, and counted.
 use Rattle.std.specs.Prelude.{◌≡◌, ℕ, List, [], ◌∷◌, codes, map}
 use Rattle.sd_model_outside.specs.Outside.{Object}
-use Rattle.sd_model_record.specs.WireSends.{AfterSends}
+use Rattle.sd_model_outside.specs.Uses.{AfterSends}
 use Rattle.sd_model_record.specs.Totals.{Total}
-use Rattle.sd_model_proxy.specs.Batches.{Batch, add_totals, lines_not_sent, lines_sent, send_of}
+use Rattle.sd_model_proxy.specs.Routes.{Batch, add_totals, lines_not_sent, lines_sent, send_of}
 
 -- what packets count for
 abbrev pub totals_of_batches : List Batch → List Total

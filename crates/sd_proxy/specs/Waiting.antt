@@ -2,7 +2,7 @@
 use Rattle.std.specs.Prelude.{◌≡◌, ◌-◌, ℕ, List, [], ◌∷◌, ◌++◌, flat_map, length, take}
 use Rattle.sd_model_outside.specs.Outside.{Object}
 use Rattle.sd_model_record.specs.Totals.{Total}
-use Rattle.sd_model_proxy.specs.Batches.{batches, batches_from}
+use Rattle.sd_model_proxy.specs.Routes.{batches, batches_from}
 use Rattle.sd_proxy.specs.Sending.{Sends}
 use Rattle.sd_proxy.specs.declared.waiting.Waiting.{Waiting}
 

@@ -10,9 +10,9 @@
 #![tactic(auto)]
 
 mod forwarding;
+mod line_reading;
 mod lined;
 mod lines;
-mod lining;
 mod looking;
 mod proxied;
 mod proxying;
@@ -22,8 +22,8 @@ mod stream_room;
 mod streaming;
 mod waiting;
 
+pub use line_reading::line_part;
 pub use lined::Lined;
-pub use lining::line_part;
 pub use looking::proxy_part;
 pub use proxied::Proxied;
 pub use proxying::proxy;

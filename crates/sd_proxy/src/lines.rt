@@ -1,6 +1,6 @@
 //! The lines of a stream. Those that one read ends go together, as the lines of a datagram do.
 ghost use Rattle.std.specs.Prelude.{◌≡◌, ◌<◌, ◌≤◌, ℕ, false, [], ◌∷◌, count_by, length, map, take};
-ghost use Rattle.sd_model_proxy.specs.LineRelays.{is_long, lines_of_cut};
+ghost use Rattle.sd_model_proxy.specs.Relays.{is_long, lines_of_cut};
 ghost use Rattle.sd_tcp.specs.Cut.{cut_view};
 ghost use Rattle.sd_proxy_desk.specs.Views.{totals_view};
 ghost use Rattle.sd_proxy.specs.Forwarding.{NoneWaits, TakesLines};

@@ -1,5 +1,5 @@
 ghost use Rattle.std.specs.Prelude.{◌≡◌, ◌∷◌, ℕ, List, [], length};
-ghost use Rattle.sd_model_proxy.specs.Batches.{joined};
+ghost use Rattle.sd_model_proxy.specs.Routes.{joined};
 ghost use Rattle.sd_proxy.specs.Sending.{Sends};
 ghost use Rattle.sd_proxy_desk.specs.Views.{totals_view};
 

@@ -1,5 +1,6 @@
 //! The lines of a datagram that wait to go to one node in one packet.
-ghost use Rattle.std.specs.Prelude.{◌≡◌, ◌+◌, ◌<◌, ◌≤◌, ◌∷◌, ◌++◌, ℕ, List, [], All, IfOk, length, take, true};
+ghost use Rattle.std.specs.Prelude.{◌≡◌, ◌+◌, ◌<◌, ◌≤◌, ◌∷◌, ◌++◌, ℕ, List, [], All, IfOk, length, take, true, nat_le};
+ghost use Rattle.sd_model_proxy.specs.Routes.{joined};
 
 use crate::sending::send_packet;
 use sd_outside::Wire;
@@ -30,7 +31,6 @@ fn put_line(room: &mut [u8], at: usize, line: &[u8])
 }
 
 impl Waiting {
-    ghost use Rattle.sd_model_proxy.specs.Batches.{fits};
     ghost use Rattle.sd_proxy_desk.specs.Views.{totals_view};
     ghost use Rattle.sd_proxy.specs.Waiting.{Holds, TakesLine, under_way};
     ghost use Rattle.sd_proxy.specs.Sending.{Sends};
@@ -66,7 +66,7 @@ impl Waiting {
     /// Whether a line has room behind those that wait.
     fn has_room(&self, line: &[u8]) -> bool
         ensures room { result ≡ true → self.now.len + length line.now < length self.now.room.items }
-        ensures fits { (most : ℕ) (begun : List (List ℕ)) → Holds most begun self.now → result ≡ fits most (begun ++ line.now ∷ []) }
+        ensures fits { (most : ℕ) (begun : List (List ℕ)) → Holds most begun self.now → result ≡ nat_le (length (joined (begun ++ line.now ∷ []))) most }
     {
         line.len() < self.room.len() && self.len < self.room.len() - line.len()
     }

@@ -2,7 +2,7 @@
 use Rattle.std.proofs.Common.{◌≡◌, ◌<◌, ℕ, Bool, true, false, cond, eqb, List, [], ◌∷◌, ◌++◌, refl, sym, ap, subst, ◌∙◌}
 use Rattle.std.proofs.lemmas.List.{map_push}
 use Rattle.std.proofs.lemmas.List.Elements.{All-map, All-weaker}
-use Rattle.sd_model_live.specs.Desk.{AreActs, IsProxyHistory, IsHeard, ProxyAct, ProxyEvent, ProxyFacts, done_by, facts_after, first_facts}
+use Rattle.sd_model_live.specs.Port.{AreActs, IsHeard, ProxyAct, ProxyEvent, ProxyFacts, done_by, facts_after, first_facts}
 use Rattle.sd_proxy_desk.specs.Left.{facts_left}
 use Rattle.sd_turn.specs.Entries.{entries_by, pick}
 use Rattle.sd_turn.specs.Turn as turn
@@ -13,11 +13,12 @@ use Rattle.sd_proxy_desk.specs.declared.noted.Noted.{Noted}
 use Rattle.sd_proxy_desk.specs.Asks.{Does, act_in, acts, entry_of, event_in, event_of, events}
 use Rattle.sd_proxy_desk.specs.Behind.{Behind, Stands}
 use Rattle.sd_proxy_desk.specs.Shared.{History, OwnSeat, events_of, number_of_seat, seats_of}
+use Rattle.sd_model_live.proofs.Short.{IsProxyHistory}
 
 -- acts with one more are acts where it was told the facts that those before left
 acts_more : (f : ProxyFacts) (log : List ProxyAct) (a : ProxyAct) → AreActs f log → IsHeard (facts_left f log) a.event → AreActs f (log ++ a ∷ [])
-acts_more f [] a are told = (told, tt)
-acts_more f (b ∷ log) a are told = (are.0, acts_more (facts_after f b.event) log a are.1 told)
+acts_more f [] a are promised = (promised, tt)
+acts_more f (b ∷ log) a are promised = (are.0, acts_more (facts_after f b.event) log a are.1 promised)
 
 -- the facts after one act more
 left_more : (f : ProxyFacts) (log : List ProxyAct) (a : ProxyAct) → facts_left f (log ++ a ∷ []) ≡ facts_after (facts_left f log) a.event
@@ -31,7 +32,7 @@ Stands-push old new log number ask reply stands does =
     let e = event_of ask reply in
     let pushed = map_push act_in log n in
     record {
-      legal = subst IsProxyHistory (sym pushed) (acts_more first_facts (acts log) (act_in n) stands.legal (subst (λ (f : ProxyFacts). IsHeard f e) stands.left does.told));
+      legal = subst IsProxyHistory (sym pushed) (acts_more first_facts (acts log) (act_in n) stands.legal (subst (λ (f : ProxyFacts). IsHeard f e) stands.left does.promised));
       left = does.changed ∙ ap (λ (f : ProxyFacts). facts_after f e) stands.left ∙ sym (left_more first_facts (acts log) (act_in n)) ∙ ap (facts_left first_facts) (sym pushed);
     }
 

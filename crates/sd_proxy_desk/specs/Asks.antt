@@ -1,19 +1,19 @@
 -- What a proxy's desk is asked for, and what it does.
 use Rattle.std.specs.Prelude.{◌≡◌, ℕ, List, map}
-use Rattle.sd_model_live.specs.Desk.{CountsCheck, CountsRead, HearsFacts, IsHeard, ProxyAct, ProxyEvent, SaysHealth, facts_after, first_facts}
-use Rattle.sd_model_live.specs.Desk as model
+use Rattle.sd_model_live.specs.Port.{CountsCheck, CountsRead, HearsFacts, IsHeard, ProxyAct, ProxyEvent, SaysHealth, facts_after, first_facts}
+use Rattle.sd_model_live.specs.Port as model
 use Rattle.sd_proxy_desk.specs.Views.{facts_view, totals_view}
 use Rattle.sd_proxy_desk.specs.declared.ask.ProxyAsk.{ProxyAsk}
 use Rattle.sd_proxy_desk.specs.declared.ask.ProxyAsk.TheVariants.{Check, Count, Facts, SetHealth}
 use Rattle.sd_proxy_desk.specs.declared.ask.ProxyReply.{ProxyReply}
-use Rattle.sd_proxy_desk.specs.declared.ask.ProxyReply.TheVariants.{Done, Told}
+use Rattle.sd_proxy_desk.specs.declared.ask.ProxyReply.TheVariants.{Done, Reported}
 use Rattle.sd_proxy_desk.specs.declared.facts.ProxyFacts.{ProxyFacts}
 use Rattle.sd_proxy_desk.specs.declared.noted.Noted.{Noted}
 
 -- the facts of a reply; a reply that tells none isn't given where facts are asked for
 abbrev pub facts_in : ProxyReply → model.ProxyFacts
 facts_in Done = first_facts
-facts_in (Told f) = facts_view f
+facts_in (Reported f) = facts_view f
 
 -- the event that an ask and its reply are
 abbrev pub event_of : ProxyAsk → ProxyReply → ProxyEvent
@@ -24,7 +24,7 @@ event_of Facts reply = HearsFacts (facts_in reply)
 
 -- a reply is one that is given to this ask: the facts where they are asked for, and else that it is done
 abbrev pub IsReplyTo : ProxyAsk → ProxyReply → Type 0
-IsReplyTo Facts reply = (f : ProxyFacts) × (reply ≡ Told f)
+IsReplyTo Facts reply = (f : ProxyFacts) × (reply ≡ Reported f)
 IsReplyTo ask reply = reply ≡ Done
 
 -- the entry of a seat's number, an ask and a reply
@@ -50,5 +50,5 @@ acts log = map act_in log
 -- A desk with these facts was asked, and left and answered as the call of that name does.
 pub record Does (before : model.ProxyFacts) (ask : ProxyAsk) (after : model.ProxyFacts) (reply : ProxyReply) : Type 0 where
   pub changed : after ≡ facts_after before (event_of ask reply)
-  pub told : IsHeard before (event_of ask reply)
+  pub promised : IsHeard before (event_of ask reply)
   pub replied : IsReplyTo ask reply

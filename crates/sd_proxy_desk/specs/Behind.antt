@@ -1,6 +1,6 @@
 -- The value behind a turn, as contracts see it.
 use Rattle.std.specs.Prelude.{◌≡◌, ℕ, List}
-use Rattle.sd_model_live.specs.Desk.{IsProxyHistory, ProxyFacts, first_facts}
+use Rattle.sd_model_live.specs.Port.{ProxyFacts, first_facts, AreActs}
 use Rattle.sd_proxy_desk.specs.Left.{facts_left}
 use Rattle.sd_proxy_desk.specs.Asks.{acts}
 use Rattle.sd_proxy_desk.specs.declared.noted.Noted.{Noted}
@@ -17,7 +17,7 @@ setup_of b = record { seats = b.seats }
 
 -- the acts of entries are a legal history
 abbrev pub IsLegal : Setup → List Noted → Type 0
-IsLegal setup log = IsProxyHistory (acts log)
+IsLegal setup log = AreActs first_facts (acts log)
 
 -- the facts are those that these entries leave, which are legal
 pub record Stands (b : Behind) (log : List Noted) : Type 0 where

@@ -1,6 +1,6 @@
 -- The facts that a history leaves.
 use Rattle.std.specs.Prelude.{List, [], ◌∷◌}
-use Rattle.sd_model_live.specs.Desk.{ProxyAct, ProxyFacts, facts_after}
+use Rattle.sd_model_live.specs.Port.{ProxyAct, ProxyFacts, facts_after}
 
 -- the facts after acts
 abbrev pub facts_left : ProxyFacts → List ProxyAct → ProxyFacts

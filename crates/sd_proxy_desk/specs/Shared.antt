@@ -1,6 +1,6 @@
 -- What contracts read of a proxy's desk and of its seats.
 use Rattle.std.specs.Prelude.{◌≡◌, ◌<◌, ℕ, List, [], All}
-use Rattle.sd_model_live.specs.Desk.{IsProxyHistory, ProxyAct, ProxyEvent, ProxyFacts, done_by, first_facts}
+use Rattle.sd_model_live.specs.Port.{ProxyAct, ProxyEvent, ProxyFacts, done_by, first_facts, AreActs}
 use Rattle.sd_proxy_desk.specs.Left.{facts_left}
 use Rattle.sd_turn.specs.declared.turn_seat.TurnSeat.{TurnSeat}
 use Rattle.sd_turn.specs.Turn as turn
@@ -38,7 +38,7 @@ IsNewSeatOf desk seat = IsSeatOf desk seat × (events_of seat ≡ [])
 -- The one history of a desk, as the facts at the end and all seats tell it.
 pub record History (desk : ProxyDesk) (seats : List OwnSeat) (facts : ProxyFacts) : Type 0 where
   pub log : List ProxyAct
-  pub legal : IsProxyHistory log
+  pub legal : AreActs first_facts log
   pub left : facts ≡ facts_left first_facts log
   pub own : All (λ s. events_of s ≡ done_by (number_of_seat s) log) seats
   pub inside : All (λ a. a.who < seats_of desk) log

@@ -2,7 +2,7 @@
 use Rattle.std.specs.Prelude.{List, [], ◌∷◌, codes}
 use Rattle.sd_model_proxy.specs.Routes as model
 use Rattle.sd_model_record.specs.Totals.{Total}
-use Rattle.sd_model_live.specs.Desk as desk
+use Rattle.sd_model_live.specs.Port as desk
 use Rattle.sd_proxy_desk.specs.declared.facts.ProxyFacts.{ProxyFacts}
 use Rattle.sd_proxy_desk.specs.declared.route.Route.{Route}
 use Rattle.sd_proxy_desk.specs.declared.route.Route.TheVariants.{Bad, Unowned, Node}

@@ -14,5 +14,5 @@ pub enum ProxyAsk {
 #[derive(Clone, Copy, Debug, PartialEq, Eq)]
 pub enum ProxyReply {
     Done,
-    Told(ProxyFacts),
+    Reported(ProxyFacts),
 }

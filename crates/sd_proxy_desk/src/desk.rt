@@ -1,6 +1,6 @@
 ghost use Rattle.std.specs.Prelude.{◌≡◌, ◌<◌, ◌∷◌, ◌++◌, [], length, map, IfOk, All};
 ghost use Rattle.sd_turn.specs.Lists.{span};
-ghost use Rattle.sd_model_live.specs.Desk.{CountsRead, CountsCheck, SaysHealth, HearsFacts};
+ghost use Rattle.sd_model_live.specs.Port.{CountsRead, CountsCheck, SaysHealth, HearsFacts};
 ghost use Rattle.sd_proxy_desk.specs.Views.{facts_view, totals_view};
 
 use crate::ask::{ProxyAsk, ProxyReply};
@@ -93,7 +93,7 @@ impl ProxyDesk {
         ensures did { events_of own.new ≡ events_of own.old ++ HearsFacts (facts_view result) ∷ [] }
     {
         match self.ask(rt, own, ProxyAsk::Facts) {
-            ProxyReply::Told(facts) => facts,
+            ProxyReply::Reported(facts) => facts,
             _ => unreachable!(),
         }
     }

@@ -1,5 +1,5 @@
 ghost use Rattle.std.specs.Prelude.{◌≡◌};
-ghost use Rattle.sd_model_live.specs.Desk.{CountsCheck, CountsRead, facts_after, first_facts};
+ghost use Rattle.sd_model_live.specs.Port.{CountsCheck, CountsRead, facts_after, first_facts};
 ghost use Rattle.sd_proxy_desk.specs.Views.{facts_view, totals_view};
 
 use crate::totals::{ProxyTotals, raised};

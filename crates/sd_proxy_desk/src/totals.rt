@@ -48,7 +48,7 @@ fn push_total(name: &[u8], count: u64, line: &mut Line)
 }
 
 impl ProxyTotals {
-    ghost use Rattle.sd_model_proxy.specs.Batches.{add_totals, no_totals, totals_by};
+    ghost use Rattle.sd_model_proxy.specs.Routes.{add_totals, no_totals, totals_by};
     ghost use Rattle.sd_proxy_desk.specs.Views.{route_view, totals_of_route, totals_view};
 
     /// Nothing was counted.
@@ -138,7 +138,7 @@ impl ProxyTotals {
     ///
     /// # Errors
     ///
-    /// `WriteFault` where the sink failed. Then a front of the text was written.
+    /// `WriteFault` where the sink failed. Then a prefix of the text was written.
     pub fn write<O: Sink>(&self, output: &mut O) -> Result<(), WriteFault>
         ensures ok { OnOk result (O.seen output.new ≡ given (totals_text (totals_view self.now)) (O.seen output.old)) }
         ensures failed { OnErr result (HasFailedBehind (totals_text (totals_view self.now)) (O.seen output.old) (O.seen output.new)) }

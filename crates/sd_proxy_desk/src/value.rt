@@ -1,6 +1,6 @@
 //! What stands behind the turn of a proxy's desk.
 ghost use Rattle.std.specs.Prelude.{◌≡◌, []};
-ghost use Rattle.sd_model_live.specs.Desk.{first_facts};
+ghost use Rattle.sd_model_live.specs.Port.{first_facts};
 ghost use Rattle.sd_proxy_desk.specs.Asks.{Does};
 ghost use Rattle.sd_proxy_desk.specs.Behind.{Stands};
 ghost use Rattle.sd_proxy_desk.specs.Views.{facts_view};
@@ -56,7 +56,7 @@ impl ProxyValue {
             ProxyAsk::Count { totals } => self.facts.add_totals(totals),
             ProxyAsk::Check { failed } => self.facts.add_check(failed),
             ProxyAsk::SetHealth { up } => self.facts.up = up,
-            ProxyAsk::Facts => return ProxyReply::Told(self.facts),
+            ProxyAsk::Facts => return ProxyReply::Reported(self.facts),
         }
         ProxyReply::Done
     }
@@ -92,7 +92,7 @@ impl Change<ProxyValue> for ProxyAsk {
 
     ghost entries = { λ ask then reply setup number. entry_of number ask reply ∷ [] };
 
-    ghost told = { λ ask then reply setup. IsReplyTo ask reply };
+    ghost promised = { λ ask then reply setup. IsReplyTo ask reply };
 
     fn apply(&mut self, value: &mut ProxyValue, number: u16) -> ProxyReply {
         let _ = number;

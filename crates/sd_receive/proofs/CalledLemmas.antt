@@ -1,4 +1,4 @@
--- What receivers and keepers of lines call of a desk, one turn after the other.
+-- What receivers and readers of lines call of a desk, one turn after the other.
 use Rattle.std.proofs.Common.{◌≡◌, ℕ, ◌+◌, List, [], ◌∷◌, ◌++◌, length, refl, sym, ap, subst, ◌∙◌, arith, length-append, inl, inr}
 use Rattle.std.specs.Prelude.{sum_by}
 use Rattle.std.specs.List.{AllByRecursion, AllZip}
@@ -8,13 +8,13 @@ use Rattle.sd_model_shard.specs.History.{History}
 use Rattle.sd_model_shard.specs.Whereabouts.{dropped_in}
 use Rattle.std.proofs.lemmas.Grind.{flat_map-append}
 use Rattle.sd_model_record.specs.DeskHistory.{DeskCall, DeskEvent, Add, Look, Done}
-use Rattle.sd_model_record.specs.Counts.{Among, IsKeeping}
+use Rattle.sd_model_record.specs.Totals.{Among, IsKeeperCall}
 use Rattle.sd_shared_desk.specs.Counts.{HasCalled, IsLook, Part}
 use Rattle.sd_model_record.specs.Record.{Tally}
 use Rattle.sd_shared_desk.proofs.DeskLemmas.{called_next}
-use Rattle.sd_model_serve.specs.Receiving.{Addition, CountsDatagrams, IsCountOf, IsReceiving, addition_of, additions_in, tally_of, told_in}
+use Rattle.sd_model_serve.specs.Receiving.{Addition, CountsDatagrams, IsCountOf, IsReceiving, addition_of, additions_in, tally_of, summed_in}
 use Rattle.sd_receive.specs.Received.{FilesDatagrams}
-use Rattle.sd_model_stream.specs.Streams.{CountsReads, IsCountOfRead, IsLining}
+use Rattle.sd_model_stream.specs.Streams.{CountsReads, IsCountOfRead, IsLineEvent}
 use Rattle.sd_tcp.specs.Cutting.{Cutting}
 use Rattle.sd_receive.specs.Receiving.{IsFailedSend}
 use Rattle.sd_receive.specs.Streaming.{TakesBytes}
@@ -40,27 +40,27 @@ looks_add : (xs : List DeskCall) → AllByRecursion IsLook xs → additions_in x
 looks_add [] all = refl
 looks_add (x ∷ xs) all = ap (λ (l : List Addition). l ++ additions_in xs) (no_addition x.event all.0) ∙ looks_add xs all.1
 
-keeping_adds : (c : DeskCall) → IsKeeping c → addition_of c.event ≡ []
-keeping_adds c (inl look) = ap addition_of look
-keeping_adds c (inr fault) = ap addition_of fault
+keeper_call_adds : (c : DeskCall) → IsKeeperCall c → addition_of c.event ≡ []
+keeper_call_adds c (inl look) = ap addition_of look
+keeper_call_adds c (inr fault) = ap addition_of fault
 
-keeping_lining : (c : DeskCall) → IsKeeping c → IsLining c.event
-keeping_lining c (inl look) = subst IsLining (sym look) tt
-keeping_lining c (inr fault) = subst IsLining (sym fault) tt
+line_event_of_keeper : (c : DeskCall) → IsKeeperCall c → IsLineEvent c.event
+line_event_of_keeper c (inl look) = subst IsLineEvent (sym look) tt
+line_event_of_keeper c (inr fault) = subst IsLineEvent (sym fault) tt
 
-lining_among : (needed xs : List DeskCall) → Among IsKeeping needed xs → AllByRecursion (λ c. IsLining c.event) needed → AllByRecursion (λ c. IsLining c.event) xs
-lining_among [] [] among all = tt
-lining_among (c ∷ needed) [] among all = absurd among
-lining_among [] (x ∷ xs) among all = (keeping_lining x among.0, lining_among [] xs among.1 all)
-lining_among (c ∷ needed) (x ∷ xs) (inl here) all = (subst (λ (y : DeskCall). IsLining y.event) (sym here.0) all.0, lining_among needed xs here.1 all.1)
-lining_among (c ∷ needed) (x ∷ xs) (inr other) all = (keeping_lining x other.0, lining_among (c ∷ needed) xs other.1 all)
+line_events_among : (needed xs : List DeskCall) → Among IsKeeperCall needed xs → AllByRecursion (λ c. IsLineEvent c.event) needed → AllByRecursion (λ c. IsLineEvent c.event) xs
+line_events_among [] [] among all = tt
+line_events_among (c ∷ needed) [] among all = absurd among
+line_events_among [] (x ∷ xs) among all = (line_event_of_keeper x among.0, line_events_among [] xs among.1 all)
+line_events_among (c ∷ needed) (x ∷ xs) (inl here) all = (subst (λ (y : DeskCall). IsLineEvent y.event) (sym here.0) all.0, line_events_among needed xs here.1 all.1)
+line_events_among (c ∷ needed) (x ∷ xs) (inr other) all = (line_event_of_keeper x other.0, line_events_among (c ∷ needed) xs other.1 all)
 
-adds_among : (needed xs : List DeskCall) → Among IsKeeping needed xs → additions_in xs ≡ additions_in needed
+adds_among : (needed xs : List DeskCall) → Among IsKeeperCall needed xs → additions_in xs ≡ additions_in needed
 adds_among [] [] among = refl
 adds_among (c ∷ needed) [] among = absurd among
-adds_among [] (x ∷ xs) among = ap (λ (l : List Addition). l ++ additions_in xs) (keeping_adds x among.0) ∙ adds_among [] xs among.1
+adds_among [] (x ∷ xs) among = ap (λ (l : List Addition). l ++ additions_in xs) (keeper_call_adds x among.0) ∙ adds_among [] xs among.1
 adds_among (c ∷ needed) (x ∷ xs) (inl here) = ap (λ (y : DeskCall). addition_of y.event ++ additions_in xs) here.0 ∙ ap (λ (l : List Addition). addition_of c.event ++ l) (adds_among needed xs here.1)
-adds_among (c ∷ needed) (x ∷ xs) (inr other) = ap (λ (l : List Addition). l ++ additions_in xs) (keeping_adds x other.0) ∙ adds_among (c ∷ needed) xs other.1
+adds_among (c ∷ needed) (x ∷ xs) (inr other) = ap (λ (l : List Addition). l ++ additions_in xs) (keeper_call_adds x other.0) ∙ adds_among (c ∷ needed) xs other.1
 
 -- lines that were filed are no packets
 pub no_packets : (shards : ℕ) (bytes : List ℕ) (c d : Cutting) (old new : ℕ → History) (tally : Tally) (taken : ℕ) → TakesBytes shards bytes c d old new tally taken → tally.packets ≡ 0
@@ -109,15 +109,15 @@ module _ (says : ℕ → Type 0) where
       let lines : sum_by (λ (d : List ℕ). length (pieces d)) (datagram ∷ []) ≡ length (pieces datagram) = sum_by-cons (λ (d : List ℕ). length (pieces d)) datagram [] ∙ omega arith in
       let bad : sum_by bad_of (datagram ∷ []) ≡ bad_of datagram = sum_by-cons bad_of datagram [] ∙ omega arith in
       record {
-        drops = told_in dropped_in shards filed.acts;
-        tally_is = filed.tally_is ∙ (λ i. tally_of 1 (lines i) (bad i) (told_in dropped_in shards filed.acts));
+        drops = summed_in dropped_in shards filed.acts;
+        tally_is = filed.tally_is ∙ (λ i. tally_of 1 (lines i) (bad i) (summed_in dropped_in shards filed.acts));
         moment = moment;
       }
 
   -- reads of streams
   pub reads_next : (m n : ℕ) (xs ys : List DeskCall) → CountsReads says m xs → CountsReads says n ys → CountsReads says (m + n) (xs ++ ys)
   reads_next m n xs ys a b = record {
-    only = all-next (λ (c : DeskCall). IsLining c.event) xs ys a.only b.only;
+    only = all-next (λ (c : DeskCall). IsLineEvent c.event) xs ys a.only b.only;
     each = subst (AllByRecursion (IsCountOfRead says)) (sym (additions-next xs ys)) (all-next (IsCountOfRead says) (additions_in xs) (additions_in ys) a.each b.each);
     count = ap length (additions-next xs ys) ∙ length-append (additions_in xs) (additions_in ys) ∙ ap (λ k. k + length (additions_in ys)) a.count ∙ ap (λ k. m + k) b.count;
   }
@@ -134,11 +134,11 @@ module _ (says : ℕ → Type 0) where
   }
 
   -- looks and failed sessions between them add nothing
-  pub reads_among : (n : ℕ) (needed xs : List DeskCall) → Among IsKeeping needed xs → CountsReads says n needed → CountsReads says n xs
+  pub reads_among : (n : ℕ) (needed xs : List DeskCall) → Among IsKeeperCall needed xs → CountsReads says n needed → CountsReads says n xs
   reads_among n needed xs among h =
       let same = adds_among needed xs among in
       record {
-        only = lining_among needed xs among h.only;
+        only = line_events_among needed xs among h.only;
         each = subst (AllByRecursion (IsCountOfRead says)) (sym same) h.each;
         count = ap length same ∙ h.count;
       }

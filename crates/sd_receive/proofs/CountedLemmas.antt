@@ -2,14 +2,15 @@
 use Rattle.std.proofs.Common.{◌≡◌, ℕ, ◌+◌, sym, subst, arith}
 use Rattle.std.specs.Prelude.{min}
 use Rattle.sd_model_record.specs.Record.{Tally}
-use Rattle.sd_model_record.specs.Desk.{last_counted, add_tally, no_tally}
-use Rattle.sd_model_record.specs.Counts.{Count, TotalPackets, TotalLines, TotalBad, TotalDropped, TakenPackets, TakenLines, TakenBad, TakenDropped, RoundsMade, GraphiteFaults, ConsoleFaults, RepeaterFaults, AdminFaults, Amounts}
+use Rattle.sd_model_record.specs.Desk.{add_tally, no_tally}
+use Rattle.sd_model_record.specs.Totals.{Count, TotalPackets, TotalLines, TotalBad, TotalDropped, TakenPackets, TakenLines, TakenBad, TakenDropped, RoundsMade, GraphiteFaults, ConsoleFaults, RepeaterFaults, AdminFaults, Amounts}
 use Rattle.sd_shared_desk.specs.Counts.{Part, HasCounted, plus, of_tally, of_sends}
 use Rattle.sd_shared_desk.proofs.CountLemmas.{counted_next, nothing_counted}
+use Rattle.sd_model_shard.specs.Shard.{last_number}
 
 -- amounts that are the same, up to the last count
 pub record AreAlike (a b : Amounts) : Type 0 where
-  pub same : (c : Count) → min (a c) last_counted ≡ min (b c) last_counted
+  pub same : (c : Count) → min (a c) last_number ≡ min (b c) last_number
 
 -- the same amounts in other words
 pub counted_as : (a b : Amounts) (old new : Part) → AreAlike a b → HasCounted a old new → HasCounted b old new
@@ -21,7 +22,7 @@ counted_as a b old new alike counted = record {
 
 -- what two turns came to, as one
 together : (s t : Tally) (m n : ℕ) (c : Count)
-    → min (plus (plus (of_tally s) (of_sends m)) (plus (of_tally t) (of_sends n)) c) last_counted ≡ min (plus (of_tally (add_tally s t)) (of_sends (m + n)) c) last_counted
+    → min (plus (plus (of_tally s) (of_sends m)) (plus (of_tally t) (of_sends n)) c) last_number ≡ min (plus (of_tally (add_tally s t)) (of_sends (m + n)) c) last_number
 together s t m n TotalPackets = omega arith
 together s t m n TotalLines = omega arith
 together s t m n TotalBad = omega arith

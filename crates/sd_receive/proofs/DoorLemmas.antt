@@ -4,22 +4,23 @@ use Rattle.std.proofs.lemmas.List.Sums.{sum_by-cons}
 use Rattle.sd_model_shard.specs.History.{History}
 use Rattle.sd_model_record.specs.Record.{Tally}
 use Rattle.sd_model_record.specs.Desk.{add_tally, no_tally}
-use Rattle.sd_model_record.specs.Counts.{Amounts, Count}
+use Rattle.sd_model_record.specs.Totals.{Amounts, Count}
 use Rattle.sd_shared_desk.specs.Counts.{Part, HasCounted, nothing, of_tally, plus}
 use Rattle.sd_model_record.specs.DeskHistory.{DeskCall}
 use Rattle.sd_model_serve.specs.Doors.{Visit}
-use Rattle.sd_model_stream.specs.Streams.{CountsReads, Cut, stream_lines, AreStreamsOf, Stream, any_worn, bytes_in, is_worn, lines_in, reads_in}
+use Rattle.sd_model_stream.specs.Streams.{CountsReads, StreamLine, stream_lines, AreStreamsOf, Stream, any_reached_limit, bytes_in, stream_is_reached_limit, lines_in}
 use Rattle.sd_receive.specs.Streamed.{FilesLines}
 use Rattle.sd_desk.specs.Tally.{tally_of}
-use Rattle.sd_door.specs.Keeping.{Visited}
+use Rattle.sd_door.specs.DoorKeeper.{Visited}
 use Rattle.sd_pool.specs.declared.pool.Pool.{Pool}
 use Rattle.sd_pool.specs.Pool.{own_at, shards_of}
-use Rattle.sd_receive.specs.Lining.{HasVisited, IsNew, WorksOn}
+use Rattle.sd_receive.specs.LineReading.{HasVisited, IsNew, WorksOn}
 use Rattle.sd_receive.specs.declared.line_visitor.LineVisitor.{LineVisitor}
 use Rattle.sd_receive.proofs.CalledLemmas.{reads_next, reads_none}
 use Rattle.sd_receive.proofs.CountedLemmas.{AreAlike, counted_as}
 use Rattle.sd_receive.proofs.LineLemmas.{FilesLines-none, FilesLines-next}
 use Rattle.sd_receive.proofs.StreamLemmas.{both_tallies, no_lines}
+use Rattle.sd_model_stream.proofs.Short.{reads_in}
 
 -- a tally has these amounts, up to the last count
 abbrev pub Has : Amounts → Tally → Type 0
@@ -56,14 +57,14 @@ plus-assoc a b c i d = same d i where
 
 module _ (says : ℕ → Type 0) (pool : Pool) where
   -- all visits, and what the visitor has behind them
-  pub record HasVisitedAll (visits : List Visit) (old new : LineVisitor) (own : ℕ → History) (before : List Cut) (amounts : Amounts) (calls : List DeskCall) : Type 0 where
+  pub record HasVisitedAll (visits : List Visit) (old new : LineVisitor) (own : ℕ → History) (before : List StreamLine) (amounts : Amounts) (calls : List DeskCall) : Type 0 where
     pub works : WorksOn old new
     pub streams : List Stream
     pub called : CountsReads says (reads_in streams) calls
     pub went : AreStreamsOf visits streams
     pub filed : FilesLines (shards_of pool) (before ++ lines_in streams) own (own_at new.seat.now) (tally_of new.account.tally) new.account.taken
     pub has : Has amounts (tally_of new.account.tally)
-    pub worn_is : new.is_worn ≡ (old.is_worn || any_worn streams)
+    pub limit_is : new.reached_limit ≡ (old.reached_limit || any_reached_limit streams)
 
   on_the_same : (old mid new : LineVisitor) → WorksOn old mid → WorksOn mid new → WorksOn old new
   on_the_same old mid new a b = record {
@@ -76,7 +77,7 @@ module _ (says : ℕ → Type 0) (pool : Pool) where
     batch = b.batch ∙ a.batch;
   }
 
-  pub visited_all : (visits : List Visit) (old new : LineVisitor) (own : ℕ → History) (before : List Cut) (so_far amounts : Amounts) (calls : List DeskCall) → Visited (HasVisited says pool) visits old new amounts calls
+  pub visited_all : (visits : List Visit) (old new : LineVisitor) (own : ℕ → History) (before : List StreamLine) (so_far amounts : Amounts) (calls : List DeskCall) → Visited (HasVisited says pool) visits old new amounts calls
       → FilesLines (shards_of pool) before own (own_at old.seat.now) (tally_of old.account.tally) old.account.taken → Has so_far (tally_of old.account.tally)
       → HasVisitedAll visits old new own before (plus so_far amounts) calls
   visited_all [] old new own before so_far amounts calls h filed has =
@@ -85,9 +86,9 @@ module _ (says : ℕ → Type 0) (pool : Pool) where
         streams = [];
         called = subst (CountsReads says 0) (sym h.2) (reads_none says);
         went = tt;
-        filed = subst (λ (lines : List Cut). FilesLines (shards_of pool) lines own (own_at old.seat.now) (tally_of old.account.tally) old.account.taken) (sym (append-nil before)) filed;
+        filed = subst (λ (lines : List StreamLine). FilesLines (shards_of pool) lines own (own_at old.seat.now) (tally_of old.account.tally) old.account.taken) (sym (append-nil before)) filed;
         has = subst (λ (a : Amounts). Has a (tally_of old.account.tally)) (plus-none so_far amounts h.1) has;
-        worn_is = or_none old.is_worn;
+        limit_is = or_none old.reached_limit;
       })
   visited_all (v ∷ visits) old new own before so_far amounts calls h filed has =
       let mid = h.0 in
@@ -109,9 +110,9 @@ module _ (says : ℕ → Type 0) (pool : Pool) where
             (reads_next says (length first.stream.reads) (reads_in rest.streams) h.3 h.4 first.called rest.called));
         went = (first.went, rest.went);
         filed =
-            subst (λ (ls : List Cut). FilesLines (shards_of pool) ls own (own_at new.seat.now) (tally_of new.account.tally) new.account.taken) (append_assoc before lines (lines_in rest.streams)) rest.filed;
+            subst (λ (ls : List StreamLine). FilesLines (shards_of pool) ls own (own_at new.seat.now) (tally_of new.account.tally) new.account.taken) (append_assoc before lines (lines_in rest.streams)) rest.filed;
         has = subst (λ (a : Amounts). Has a (tally_of new.account.tally)) (plus-assoc so_far h.1 h.2 ∙ ap (plus so_far) (sym h.7)) rest.has;
-        worn_is = rest.worn_is ∙ ap (λ (b : Bool). b || any_worn rest.streams) first.worn_is ∙ or_assoc old.is_worn (is_worn first.stream.ended) (any_worn rest.streams);
+        limit_is = rest.limit_is ∙ ap (λ (b : Bool). b || any_reached_limit rest.streams) first.limit_is ∙ or_assoc old.reached_limit (stream_is_reached_limit first.stream.ended) (any_reached_limit rest.streams);
       }
 
   -- all visits of one that has read no stream

@@ -8,15 +8,16 @@ use Rattle.sd_model_shard.specs.History.{History}
 use Rattle.sd_model_shard.specs.Whereabouts.{dropped_in}
 use Rattle.sd_law_shard.specs.Sums.{taken_in}
 use Rattle.sd_model_record.specs.Record.{Tally}
-use Rattle.sd_model_record.specs.Desk.{last_counted, add_tally, no_tally, counted}
-use Rattle.sd_model_serve.specs.Receiving.{asks, events_of, told_in, tally_of}
+use Rattle.sd_model_record.specs.Desk.{add_tally, no_tally, counted}
+use Rattle.sd_model_serve.specs.Receiving.{asks, events_of, summed_in, tally_of}
 use Rattle.sd_pool.specs.Adding.{Adds}
 use Rattle.sd_receive.specs.Received.{HasFiled, FilesDatagrams}
 use Rattle.sd_model_serve.proofs.ActsLemmas.{asks-append}
 use Rattle.sd_pool.proofs.ActsLemmas.{Adds-none, Adds-next}
 use Rattle.sd_filing.specs.declared.filing.Filed.{Filed}
 use Rattle.sd_filing.specs.Filing.{FilesDatagram}
-use Rattle.sd_filing.proofs.ToldLemmas.{ArePlaced-append, events_of-append, told_in-append, told_in-none}
+use Rattle.sd_filing.proofs.ReportedLemmas.{ArePlaced-append, events_of-append, summed_in-append, summed_in-none}
+use Rattle.sd_model_shard.specs.Shard.{last_number}
 
 module _ {shards : ℕ} where
   -- no sample was filed
@@ -26,8 +27,8 @@ module _ {shards : ℕ} where
     added = Adds-none shards own;
     asked = λ i. refl;
     placed = λ i. refl;
-    tally_is = ap (tally_of 0 0 0) (sym (told_in-none dropped_in shards));
-    taken_is = omega (arith, told_in-none taken_in shards);
+    tally_is = ap (tally_of 0 0 0) (sym (summed_in-none dropped_in shards));
+    taken_is = omega (arith, summed_in-none taken_in shards);
   }
 
   -- samples behind samples
@@ -35,8 +36,8 @@ module _ {shards : ℕ} where
       → HasFiled shards xs p l b old mid s m → HasFiled shards ys q k c mid new t n
       → HasFiled shards (xs ++ ys) (p + q) (l + k) (b + c) old new (add_tally s t) (counted m n)
   HasFiled-next xs ys p q l k b c old mid new s t m n first second =
-      let drops = told_in-append dropped_in shards first.acts second.acts in
-      let takes = told_in-append taken_in shards first.acts second.acts in
+      let drops = summed_in-append dropped_in shards first.acts second.acts in
+      let takes = summed_in-append taken_in shards first.acts second.acts in
       record {
         acts = λ i. first.acts i ++ second.acts i;
         added = Adds-next shards first.acts second.acts old mid new first.added second.added;
@@ -48,16 +49,16 @@ module _ {shards : ℕ} where
         placed = λ i. ArePlaced-append (first.acts i) (second.acts i) (first.placed i) (second.placed i);
         tally_is =
             (λ i. add_tally (first.tally_is i) (second.tally_is i))
-            ∙ together p q l k b c (told_in dropped_in shards first.acts) (told_in dropped_in shards second.acts)
+            ∙ together p q l k b c (summed_in dropped_in shards first.acts) (summed_in dropped_in shards second.acts)
             ∙ ap (tally_of (p + q) (l + k) (b + c)) (sym drops);
         taken_is = omega (arith, first.taken_is, second.taken_is, takes);
       } where
         together : (p q l k b c d e : ℕ) → add_tally (tally_of p l b d) (tally_of q k c e) ≡ tally_of (p + q) (l + k) (b + c) (d + e)
         together p q l k b c d e =
-            let packets : counted (min p last_counted) (min q last_counted) ≡ min (p + q) last_counted = omega arith in
-            let lines : counted (min l last_counted) (min k last_counted) ≡ min (l + k) last_counted = omega arith in
-            let bad : counted (min b last_counted) (min c last_counted) ≡ min (b + c) last_counted = omega arith in
-            let dropped : counted (min d last_counted) (min e last_counted) ≡ min (d + e) last_counted = omega arith in
+            let packets : counted (min p last_number) (min q last_number) ≡ min (p + q) last_number = omega arith in
+            let lines : counted (min l last_number) (min k last_number) ≡ min (l + k) last_number = omega arith in
+            let bad : counted (min b last_number) (min c last_number) ≡ min (b + c) last_number = omega arith in
+            let dropped : counted (min d last_number) (min e last_number) ≡ min (d + e) last_number = omega arith in
             λ i. record { packets = packets i; lines = lines i; bad = bad i; dropped = dropped i }
 
   -- datagrams behind datagrams
@@ -75,7 +76,7 @@ module _ {shards : ℕ} where
         added = both.added;
         asked = λ i. both.asked i ∙ ap (asks shards i) (sym (flat_map-append samples_of xs ys));
         placed = both.placed;
-        tally_is = both.tally_is ∙ sym (λ i. tally_of (packets i) (lines i) (bad i) (told_in dropped_in shards both.acts));
+        tally_is = both.tally_is ∙ sym (λ i. tally_of (packets i) (lines i) (bad i) (summed_in dropped_in shards both.acts));
         taken_is = both.taken_is;
       }
 
@@ -84,11 +85,11 @@ module _ {shards : ℕ} where
       → FilesDatagram (λ acts. Adds shards acts old new) shards caller datagram filed
       → FilesDatagrams shards (datagram ∷ []) old new (record { packets = 1; lines = filed.lines; bad = filed.bad; dropped = filed.dropped }) filed.taken
   one_filed datagram caller old new filed files =
-      let lines : filed.lines ≡ min (sum_by (λ d. length (pieces d)) (datagram ∷ [])) last_counted =
+      let lines : filed.lines ≡ min (sum_by (λ d. length (pieces d)) (datagram ∷ [])) last_number =
       omega (arith, files.lines, files.small, sum_by-cons (λ (d : List ℕ). length (pieces d)) datagram []) in
-      let bad : filed.bad ≡ min (sum_by bad_of (datagram ∷ [])) last_counted =
+      let bad : filed.bad ≡ min (sum_by bad_of (datagram ∷ [])) last_number =
       omega (arith, files.bad, files.whole, files.small, sum_by-cons bad_of datagram []) in
-      let dropped : filed.dropped ≡ min (told_in dropped_in shards files.acts) last_counted = omega (arith, files.dropped, files.whole, files.small) in
+      let dropped : filed.dropped ≡ min (summed_in dropped_in shards files.acts) last_number = omega (arith, files.dropped, files.whole, files.small) in
       record {
         acts = files.acts;
         added = files.added;

@@ -5,19 +5,17 @@ use Rattle.std.specs.List.{AllByRecursion}
 use Rattle.std.proofs.lemmas.List.Elements.{All-nil, All-cons, All-append}
 use Rattle.std.proofs.lemmas.List.{map-append}
 use Rattle.std.proofs.lemmas.List.Sums.{sum_by-append, sum_by-cons}
-use Rattle.sd_model_outside.specs.Outside.{Object, Told, Untold, Left, Number, Bytes, Buffer, Rounds, Packets, Datagrams, Ticks, Sessions, Replies, Rose}
-use Rattle.sd_model_outside.specs.Turns.{with_datagrams}
+use Rattle.sd_model_outside.specs.Outside.{Object, Content, Unknown, Left, Number, Bytes, Buffer, Rounds, Packets, Datagrams, Ticks, Sessions, Replies, Rose}
+use Rattle.sd_model_outside.specs.Uses.{with_datagrams, Sending, AreRepeated, failures}
 use Rattle.sd_model_shard.specs.History.{History}
 use Rattle.sd_model_record.specs.Record.{Tally}
 use Rattle.sd_model_record.specs.Desk.{add_tally, no_tally, counted}
 use Rattle.sd_shared_desk.specs.Counts.{Part, HasCalled, HasCounted, IsLook, plus, nothing, of_tally, of_sends}
-use Rattle.sd_model_record.specs.WireSends.{Sending, AreRepeated, failures}
 use Rattle.sd_shared_desk.proofs.CountLemmas.{counted_next}
 use Rattle.sd_shared_desk.proofs.DeskLemmas.{called_as, called_next}
 use Rattle.sd_model_record.proofs.WireLemmas.{AreRepeated-next, AreRepeated-none}
 use Rattle.sd_repeater.proofs.SentLemmas.{AreRepeated-one, length-sent}
-use Rattle.sd_model_serve.specs.Ends.{most_turns}
-use Rattle.sd_model_serve.specs.Receiving.{CountsDatagrams, failed_sends}
+use Rattle.sd_model_serve.specs.Receiving.{most_turns, CountsDatagrams, failed_sends}
 use Rattle.sd_receive.specs.Received.{HasReceived}
 use Rattle.sd_outside.specs.declared.datagrams.Ended.{Ended}
 use Rattle.sd_outside.specs.declared.datagrams.Ended.TheVariants.{End, Failed, Stopped, Worn}
@@ -27,10 +25,10 @@ use Rattle.sd_receive.proofs.FiledLemmas.{HasFiled-none, FilesDatagrams-next}
 use Rattle.sd_receive.proofs.CountedLemmas.{counted_as, merged, no_counts}
 
 -- datagrams that were given one list after the other
-given_next : (xs ys : List (List ℕ)) (old mid new : Told) → old ≡ with_datagrams xs mid → mid ≡ with_datagrams ys new → old ≡ with_datagrams (xs ++ ys) new
+given_next : (xs ys : List (List ℕ)) (old mid new : Content) → old ≡ with_datagrams xs mid → mid ≡ with_datagrams ys new → old ≡ with_datagrams (xs ++ ys) new
 given_next xs ys old mid new first second = first ∙ ap (with_datagrams xs) second ∙ joined new where
-  joined : (told : Told) → with_datagrams xs (with_datagrams ys told) ≡ with_datagrams (xs ++ ys) told
-  joined Untold = refl
+  joined : (content : Content) → with_datagrams xs (with_datagrams ys content) ≡ with_datagrams (xs ++ ys) content
+  joined Unknown = refl
   joined (Left bytes) = refl
   joined (Number n) = refl
   joined (Bytes bytes) = refl
@@ -42,8 +40,8 @@ given_next xs ys old mid new first second = first ∙ ap (with_datagrams xs) sec
   joined (Sessions left back) = refl
   joined (Replies left questions) = refl
 
-given_none : (told : Told) → told ≡ with_datagrams [] told
-given_none Untold = refl
+given_none : (content : Content) → content ≡ with_datagrams [] content
+given_none Unknown = refl
 given_none (Left bytes) = refl
 given_none (Number n) = refl
 given_none (Bytes bytes) = refl
@@ -57,14 +55,14 @@ given_none (Replies left questions) = refl
 
 module _ {says : ℕ → Type 0} {shards : ℕ} where
   -- a turn that took nothing
-  pub takes_none : (turns : ℕ) (source source_now : Object) (wires : List Object) (own : ℕ → History) (part part_now : Part) → source_now.told ≡ source.told → HasCounted nothing part part_now
+  pub takes_none : (turns : ℕ) (source source_now : Object) (wires : List Object) (own : ℕ → History) (part part_now : Part) → source_now.content ≡ source.content → HasCounted nothing part part_now
       → HasCalled (AllByRecursion IsLook) part part_now → HasReceived says shards turns source source_now wires wires own own part part_now no_tally 0
   takes_none turns source source_now wires own part part_now same counts looked = record {
     read = [];
     many = omega arith;
     sendings = [];
     passed = record {
-      given = sym same ∙ given_none source_now.told;
+      given = sym same ∙ given_none source_now.content;
       repeated = refl;
       every_wire = All-nil (λ (s : Sending). length s.failed ≡ length wires);
       sends = AreRepeated-none wires;
@@ -76,7 +74,7 @@ module _ {says : ℕ → Type 0} {shards : ℕ} where
 
   -- a turn that took a datagram
   pub takes_one : (source source_now : Object) (datagram : List ℕ) (wires wires_now : List Object) (own own_now : ℕ → History) (part mid part_now : Part) (tally : Tally) (taken : ℕ)
-      → source.told ≡ with_datagrams (datagram ∷ []) source_now.told → HasCounted nothing part mid → HasCalled (AllByRecursion IsLook) part mid → TakesDatagram says shards datagram wires wires_now own own_now mid part_now tally taken
+      → source.content ≡ with_datagrams (datagram ∷ []) source_now.content → HasCounted nothing part mid → HasCalled (AllByRecursion IsLook) part mid → TakesDatagram says shards datagram wires wires_now own own_now mid part_now tally taken
       → HasReceived says shards 1 source source_now wires wires_now own own_now part part_now tally taken
   takes_one source source_now datagram wires wires_now own own_now part mid part_now tally taken given before looked takes =
       let sending : Sending = record { packet = datagram; failed = takes.failed } in
@@ -114,7 +112,7 @@ module _ {says : ℕ → Type 0} {shards : ℕ} where
         many = omega (arith, length-append first.read second.read, first.many, second.many, few);
         sendings = first.sendings ++ second.sendings;
         passed = record {
-          given = given_next first.read second.read a.told b.told c.told first.passed.given second.passed.given;
+          given = given_next first.read second.read a.content b.content c.content first.passed.given second.passed.given;
           repeated = map-append (λ (s : Sending). s.packet) first.sendings second.sendings ∙ (λ i. first.passed.repeated i ++ second.passed.repeated i);
           every_wire =
               All-append (λ (s : Sending). length s.failed ≡ length u) first.sendings second.sendings first.passed.every_wire

@@ -4,17 +4,17 @@ use Rattle.std.specs.Prelude.{All, false}
 use Rattle.std.specs.List.{concat}
 use Rattle.std.proofs.lemmas.List.{length_push}
 use Rattle.std.proofs.lemmas.List.Elements.{All-nil, All-push}
-use Rattle.sd_model_outside.specs.Outside.{Object, Told, HasRead, Reads, Rose, telling}
+use Rattle.sd_model_outside.specs.Outside.{Object, Content, HasRead, Reads, Rose, telling}
 use Rattle.sd_model_outside.proofs.OutsideLemmas.{Reads-nil}
 use Rattle.sd_model_shard.specs.History.{History}
 use Rattle.sd_model_record.specs.Record.{Tally}
 use Rattle.sd_model_record.specs.Desk.{add_tally, counted, no_tally}
-use Rattle.sd_model_record.specs.Counts.{Count}
+use Rattle.sd_model_record.specs.Totals.{Count}
 use Rattle.sd_shared_desk.specs.Counts.{Part, HasCalled, HasCounted, nothing, plus, of_sends, of_tally}
 use Rattle.sd_shared_desk.proofs.CountLemmas.{counted_next, counted_none}
 use Rattle.sd_shared_desk.proofs.DeskLemmas.{called_next, called_none}
-use Rattle.sd_model_serve.specs.Ends.{most_turns}
-use Rattle.sd_model_stream.specs.Streams.{CountsReads, Cut, stream_lines, ReadsStream, Stream, WornOut}
+use Rattle.sd_model_serve.specs.Receiving.{most_turns}
+use Rattle.sd_model_stream.specs.Streams.{CountsReads, StreamLine, stream_lines, ReadsStream, Stream, LimitReached}
 use Rattle.sd_receive.specs.Streamed.{FilesLines, HasStreamed}
 use Rattle.sd_tcp.specs.Cutting.{Cutting, HasCut, nothing_cut}
 use Rattle.sd_tcp.proofs.CutLemmas.{HasCut-none, all_given}
@@ -57,13 +57,13 @@ streamed_so : (reads : List (List ℕ)) (ended : StreamEnd) (source mid now : Ob
     → ReadsStream (read_so reads ended) source now
 streamed_so reads End source mid now some read few h = record {
   some = some;
-  read = subst (λ (o : Object). Reads source.told (concat reads) o.told) (sym h.0) (ap (λ (o : Object). o.told) read);
+  read = subst (λ (o : Object). Reads source.content (concat reads) o.content) (sym h.0) (ap (λ (o : Object). o.content) read);
   place = ap (λ (o : Object). o.opened_at) h.0 ∙ sym (ap (λ (o : Object). o.opened_at) read);
   ends = (h.1, ap (λ (o : Object). o.faults) h.0 ∙ sym (ap (λ (o : Object). o.faults) read), few);
 }
 streamed_so reads Failed source mid now some read few h = record {
   some = some;
-  read = subst (λ (told : Told). Reads source.told (concat reads) told) (sym (ap (λ (o : Object). o.told) h.same)) (ap (λ (o : Object). o.told) read);
+  read = subst (λ (content : Content). Reads source.content (concat reads) content) (sym (ap (λ (o : Object). o.content) h.same)) (ap (λ (o : Object). o.content) read);
   place = ap (λ (o : Object). o.opened_at) h.same ∙ sym (ap (λ (o : Object). o.opened_at) read);
   ends = (subst (λ (n : ℕ). Rose n now.faults) (sym (ap (λ (o : Object). o.faults) read)) h.rose, few);
 }
@@ -86,7 +86,7 @@ module _ (says : ℕ → Type 0) (shards : ℕ) where
     reads = [];
     count_is = refl;
     some = All-nil (λ (bytes : List ℕ). 0 < length bytes);
-    read = ap (λ (told : Told). telling told source) (Reads-nil source.told);
+    read = ap (λ (content : Content). telling content source) (Reads-nil source.content);
     cut = HasCut-none;
     filed = FilesLines-none own;
     counted = tallied_none part;
@@ -107,9 +107,9 @@ module _ (says : ℕ → Type 0) (shards : ℕ) where
         some = All-push (λ (bytes : List ℕ). 0 < length bytes) a.reads b.bytes a.some b.some;
         read = subst (λ (bytes : List ℕ). HasRead bytes source now) (sym whole) (reads_on before b.bytes source mid now a.read b.read);
         cut =
-            subst (λ (given : List Cut). HasCut given (concat (a.reads ++ b.bytes ∷ [])) d) lines
+            subst (λ (given : List StreamLine). HasCut given (concat (a.reads ++ b.bytes ∷ [])) d) lines
             (subst (λ (bytes : List ℕ). HasCut (stream_lines before ++ b.takes.lines) bytes d) (sym whole) cut);
-        filed = subst (λ (ls : List Cut). FilesLines shards ls f h (add_tally s t) (counted m n)) lines (FilesLines-next (stream_lines before) b.takes.lines f g h s t m n a.filed b.takes.filed);
+        filed = subst (λ (ls : List StreamLine). FilesLines shards ls f h (add_tally s t) (counted m n)) lines (FilesLines-next (stream_lines before) b.takes.lines f g h s t m n a.filed b.takes.filed);
         counted = tallied_next s t p q r a.counted b.counted;
         called =
             subst (λ (k : ℕ). HasCalled (CountsReads says k) p r) (sym (length_push a.reads b.bytes))
@@ -125,12 +125,12 @@ module _ (says : ℕ → Type 0) (shards : ℕ) where
     called = a.called;
   }
 
-  pub SoFar-worn : (count : ℕ) (source now : Object) (c : Cutting) (f g : ℕ → History) (p q : Part) (s : Tally) (m : ℕ) → count ≡ most_turns
-      → (a : SoFar count source now c f g p q s m) → HasStreamed says shards (record { reads = a.reads; ended = WornOut most_turns }) source now f g p q s m
-  SoFar-worn count source now c f g p q s m all a = record {
+  pub SoFar-limit_reached : (count : ℕ) (source now : Object) (c : Cutting) (f g : ℕ → History) (p q : Part) (s : Tally) (m : ℕ) → count ≡ most_turns
+      → (a : SoFar count source now c f g p q s m) → HasStreamed says shards (record { reads = a.reads; ended = LimitReached most_turns }) source now f g p q s m
+  SoFar-limit_reached count source now c f g p q s m all a = record {
     read = record {
       some = a.some;
-      read = ap (λ (o : Object). o.told) a.read;
+      read = ap (λ (o : Object). o.content) a.read;
       place = sym (ap (λ (o : Object). o.opened_at) a.read);
       ends = (refl, a.count_is ∙ all, sym (ap (λ (o : Object). o.faults) a.read));
     };

@@ -1,6 +1,6 @@
 pub mod Receiving
 pub mod Posts
 pub mod Streaming
-pub mod Lining
+pub mod LineReading
 pub mod Received
 pub mod Streamed

@@ -3,14 +3,14 @@ use Rattle.std.specs.Prelude.{◌≡◌, ℕ, ◌+◌, min, List, length, flat_m
 use Rattle.sd_model_text.specs.Lines.{Sample, samples_of, pieces, bad_of}
 use Rattle.sd_model_outside.specs.Outside.{Object}
 use Rattle.sd_model_shard.specs.History.{History}
-use Rattle.sd_model_shard.specs.Whereabouts.{dropped_in, told_by}
+use Rattle.sd_model_shard.specs.Whereabouts.{dropped_in, summed_by}
 use Rattle.sd_law_shard.specs.Sums.{taken_in}
 use Rattle.sd_model_record.specs.Record.{Tally}
-use Rattle.sd_model_record.specs.Desk.{last_counted}
 use Rattle.sd_shared_desk.specs.Counts.{Part, HasCalled, HasCounted, plus, of_tally, of_sends}
-use Rattle.sd_model_record.specs.WireSends.{Sending}
-use Rattle.sd_model_serve.specs.Receiving.{CountsDatagrams, PassesOn, asks, events_of, failed_sends, tally_of, told_in}
+use Rattle.sd_model_outside.specs.Uses.{Sending}
+use Rattle.sd_model_serve.specs.Receiving.{CountsDatagrams, PassesOn, asks, events_of, failed_sends, tally_of, summed_in}
 use Rattle.sd_pool.specs.Adding.{Adds}
+use Rattle.sd_model_shard.specs.Shard.{last_number}
 
 -- Samples were submitted once each, in order, at the shards of their keys, and each was taken or dropped. They came in so
 -- many packets and pieces, of which so many were bad; this is what all that counts for, and how many samples were taken.
@@ -18,9 +18,9 @@ pub record HasFiled (shards : ℕ) (samples : List Sample) (packets lines bad : 
   pub acts : ℕ → History
   pub added : Adds shards acts old new
   pub asked : (i : ℕ) → events_of (acts i) ≡ asks shards i samples
-  pub placed : (i : ℕ) → told_by taken_in (acts i) + told_by dropped_in (acts i) ≡ length (acts i)
-  pub tally_is : tally ≡ tally_of packets lines bad (told_in dropped_in shards acts)
-  pub taken_is : taken ≡ min (told_in taken_in shards acts) last_counted
+  pub placed : (i : ℕ) → summed_by taken_in (acts i) + summed_by dropped_in (acts i) ≡ length (acts i)
+  pub tally_is : tally ≡ tally_of packets lines bad (summed_in dropped_in shards acts)
+  pub taken_is : taken ≡ min (summed_in taken_in shards acts) last_number
 
 -- the same of the good samples of datagrams
 abbrev pub FilesDatagrams : ℕ → List (List ℕ) → (ℕ → History) → (ℕ → History) → Tally → ℕ → Type 0

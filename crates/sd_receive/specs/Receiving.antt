@@ -3,14 +3,13 @@ use Rattle.std.specs.Prelude.{◌≡◌, ℕ, ◌+◌, min, Bool, List, [], ◌�
 use Rattle.sd_model_outside.specs.Outside.{Object, last_count}
 use Rattle.sd_repeater.specs.Sent.{AreSent}
 use Rattle.sd_model_shard.specs.History.{History}
-use Rattle.sd_model_record.specs.Counts.{RoundsMade}
+use Rattle.sd_model_record.specs.Totals.{RoundsMade}
 use Rattle.sd_shared_desk.specs.Counts.{Part, HasCalled, HasCounted, plus, of_tally, of_sends}
 use Rattle.sd_model_record.specs.DeskHistory.{DeskCall, RepeaterFaults}
 use Rattle.sd_model_record.specs.Record.{Tally}
-use Rattle.sd_model_record.specs.WireSends.{failures}
-use Rattle.sd_model_serve.specs.Ends as model
-use Rattle.sd_model_serve.specs.Ends.{EndsReceiver, Spent, Enough, WornOut}
-use Rattle.sd_model_serve.specs.Receiving.{CountsDatagrams}
+use Rattle.sd_model_outside.specs.Uses.{failures}
+use Rattle.sd_model_serve.specs.Receiving as model
+use Rattle.sd_model_serve.specs.Receiving.{EndsReceiver, Spent, Enough, LimitReached, CountsDatagrams}
 use Rattle.sd_receive.specs.Received.{FilesDatagrams, HasReceived}
 use Rattle.sd_desk.specs.Tally.{tally_of}
 use Rattle.sd_outside.specs.declared.datagrams.Ended.{Ended}
@@ -35,7 +34,7 @@ abbrev pub EndsSo : ℕ → Ended → Object → Object → Part → ℕ → Typ
 EndsSo run_flushes End source source_now part_now turned = EndsReceiver run_flushes Spent source source_now (part_now.seen RoundsMade) turned
 EndsSo run_flushes Failed source source_now part_now turned = EndsReceiver run_flushes model.Failed source source_now (part_now.seen RoundsMade) turned
 EndsSo run_flushes (Stopped rounds) source source_now part_now turned = EndsReceiver run_flushes (Enough rounds) source source_now (part_now.seen RoundsMade) turned
-EndsSo run_flushes (Worn turns) source source_now part_now turned = EndsReceiver run_flushes (WornOut turns) source source_now (part_now.seen RoundsMade) turned
+EndsSo run_flushes (Worn turns) source source_now part_now turned = EndsReceiver run_flushes (LimitReached turns) source source_now (part_now.seen RoundsMade) turned
 
 -- how many datagrams a turn may have read, by how it ended the receiver, if it did
 abbrev pub most_read : Option Ended → ℕ

@@ -6,12 +6,12 @@ use Rattle.sd_model_record.specs.Record.{Tally}
 use Rattle.sd_shared_desk.specs.Counts.{Part, HasCalled, HasCounted, plus, of_tally, of_sessions}
 use Rattle.sd_model_serve.specs.Doors.{Visit, ServesDoor, faults_among}
 use Rattle.sd_receive.specs.Received.{HasFiled}
-use Rattle.sd_model_stream.specs.Streams.{AreStreamsOf, CountsReads, Cut, ReadsStream, Stream, bad_of_line, bytes_in, lines_in, pieces_of_line, reads_in, samples_in, stream_lines}
+use Rattle.sd_model_stream.specs.Streams.{AreStreamsOf, CountsReads, StreamLine, ReadsStream, Stream, bad_of_line, bytes_in, lines_in, pieces_of_line, samples_of_line, stream_lines}
 
 -- The samples of lines were submitted as those of datagrams are, and counted, but no packet was.
-abbrev pub FilesLines : ℕ → List Cut → (ℕ → History) → (ℕ → History) → Tally → ℕ → Type 0
+abbrev pub FilesLines : ℕ → List StreamLine → (ℕ → History) → (ℕ → History) → Tally → ℕ → Type 0
 FilesLines shards lines old new tally taken =
-    HasFiled shards (flat_map samples_in lines) 0 (sum_by pieces_of_line lines) (sum_by bad_of_line lines) old new tally taken
+    HasFiled shards (flat_map samples_of_line lines) 0 (sum_by pieces_of_line lines) (sum_by bad_of_line lines) old new tally taken
 
 -- A stream was so read, the samples of its lines were submitted, and what they count for was added at the desk.
 pub record HasStreamed (says : ℕ → Type 0) (shards : ℕ) (s : Stream) (source source_now : Object) (own own_now : ℕ → History) (part part_now : Part) (tally : Tally) (taken : ℕ) : Type 0 where
@@ -29,4 +29,4 @@ pub record ServesStreams (says : ℕ → Type 0) (shards : ℕ) (streams : List 
   pub went : AreStreamsOf visits streams
   pub filed : FilesLines shards (lines_in streams) own own_now tally taken
   pub counted : HasCounted (plus (of_tally tally) (of_sessions (failures + faults_among visits))) part part_now
-  pub called : HasCalled (CountsReads says (reads_in streams)) part part_now
+  pub called : HasCalled (CountsReads says (sum_by (λ s. length s.reads) streams)) part part_now

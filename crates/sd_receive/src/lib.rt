@@ -7,9 +7,9 @@
 #![tactic(auto)]
 
 mod account;
+mod line_reading;
 mod line_visitor;
 mod lines;
-mod lining;
 mod post;
 mod received;
 mod receiving;
@@ -19,7 +19,7 @@ mod submitting;
 mod telling;
 mod turn;
 
-pub use lining::{Lined, linekeep};
+pub use line_reading::{Lined, linekeep};
 pub use post::Post;
 pub use received::Received;
 pub use receiving::receive;

@@ -1,5 +1,5 @@
 ghost use Rattle.std.specs.Prelude.{◌≡◌};
-ghost use Rattle.sd_model_stream.specs.Streams.{ends_by_failure, is_worn};
+ghost use Rattle.sd_model_stream.specs.Streams.{ends_by_failure, stream_is_reached_limit};
 ghost use Rattle.sd_receive.specs.Streaming.{end_of};
 
 use crate::account::Account;
@@ -24,8 +24,8 @@ pub(crate) struct LineVisitor<'s, 'k, 'b> {
     pub batch: &'b mut Batch,
     /// What the streams so far came to.
     pub account: Account,
-    /// Whether one of them was worn.
-    pub is_worn: bool,
+    /// Whether one of them reached the limit.
+    pub reached_limit: bool,
 }
 
 /// Whether a stream ended since its source failed.
@@ -38,9 +38,9 @@ fn is_failure(ended: StreamEnd) -> bool
     }
 }
 
-/// Whether a stream was worn.
-fn is_worn_out(ended: StreamEnd) -> bool
-    ensures { result ≡ is_worn (end_of ended) }
+/// Whether a stream reached the limit.
+fn has_reached_limit(ended: StreamEnd) -> bool
+    ensures { result ≡ stream_is_reached_limit (end_of ended) }
 {
     match ended {
         StreamEnd::Worn { .. } => true,
@@ -49,7 +49,7 @@ fn is_worn_out(ended: StreamEnd) -> bool
 }
 
 impl Visitor for LineVisitor<'_, '_, '_> {
-    ghost use Rattle.sd_receive.specs.Lining.{CanVisit, HasVisited};
+    ghost use Rattle.sd_receive.specs.LineReading.{CanVisit, HasVisited};
 
     ghost can_visit = { CanVisit };
 
@@ -78,8 +78,8 @@ impl Visitor for LineVisitor<'_, '_, '_> {
             tally: streamed.tally,
             taken: streamed.taken,
         });
-        let is_worn = is_worn_out(streamed.ended);
-        self.is_worn = self.is_worn || is_worn;
+        let reached_limit = has_reached_limit(streamed.ended);
+        self.reached_limit = self.reached_limit || reached_limit;
         is_failure(streamed.ended)
     }
 }

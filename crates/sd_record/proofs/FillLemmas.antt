@@ -13,11 +13,11 @@ use Rattle.sd_record.specs.Placed.{row_at, no_row}
 use Rattle.sd_record.specs.declared.placed.Place.{Place}
 
 -- one element more
-pub more_mapped : {A B : Type 0} (f : A → B) (front xs : List B) (ys : List A) (i : ℕ) (y : A) → map f ys ≡ front ++ take i xs → slice_get xs i ≡ Some (f y) → map f (ys ++ y ∷ []) ≡ front ++ take (i + 1) xs
-more_mapped f front xs ys i y so_far next =
-    map-append f ys (y ∷ []) ∙ ap (λ es. es ++ f y ∷ []) so_far ∙ append_assoc front (take i xs) (f y ∷ [])
-    ∙ ap (λ e. front ++ (take i xs ++ e ∷ [])) (sym (get_or_from_slice_get xs i (f y) (f y) next))
-    ∙ ap (λ es. front ++ es) (sym (take_more xs i (f y) (slice_get_within xs i (f y) next)))
+pub more_mapped : {A B : Type 0} (f : A → B) (prefix xs : List B) (ys : List A) (i : ℕ) (y : A) → map f ys ≡ prefix ++ take i xs → slice_get xs i ≡ Some (f y) → map f (ys ++ y ∷ []) ≡ prefix ++ take (i + 1) xs
+more_mapped f prefix xs ys i y so_far next =
+    map-append f ys (y ∷ []) ∙ ap (λ es. es ++ f y ∷ []) so_far ∙ append_assoc prefix (take i xs) (f y ∷ [])
+    ∙ ap (λ e. prefix ++ (take i xs ++ e ∷ [])) (sym (get_or_from_slice_get xs i (f y) (f y) next))
+    ∙ ap (λ es. prefix ++ es) (sym (take_more xs i (f y) (slice_get_within xs i (f y) next)))
 
 -- how many rows a table has
 pub rows_as_listed : (t : Listing) → length (rows_in t) ≡ length t.listed

@@ -15,12 +15,13 @@ use Rattle.sd_model_settings.specs.Settings.{Plan}
 use Rattle.sd_model_shard.specs.Rows.{RowId, row_cmp, Kept, is_same_row}
 use Rattle.sd_model_shard.proofs.RowLemmas.{rows_total, rows_exact}
 use Rattle.sd_model_shard.proofs.EntryLemmas.{StandApart, entries-sorted}
-use Rattle.sd_model_record.specs.Record.{Row, row_value, table_rows, record_rows}
+use Rattle.sd_model_record.specs.Record.{Row, record_rows}
 use Rattle.sd_epoch.specs.Table.{Listing, AreApart, live_of, table_of, listed_with}
 use Rattle.sd_epoch.proofs.ListingLemmas.{contains-listed, same_itself, same_row}
 use Rattle.sd_record.specs.Rows.{TableRow, AreDisjoint, rows_in, all_rows, value_of}
 use Rattle.sd_record.specs.Placed.{row_at, id_at, no_row, value_at, IsPlaced}
 use Rattle.sd_record.specs.declared.placed.Place.{Place}
+use Rattle.sd_model_record.proofs.Short.{table_rows, row_value}
 
 -- the rows of all tables, as they are listed
 listed_in : List Listing → List (RowId × Kept)

@@ -11,7 +11,7 @@ use Rattle.sd_model_text.specs.Numbers.{per_second}
 use Rattle.sd_model_text.proofs.PartLemmas.{part_found}
 use Rattle.sd_law_text.proofs.PartLemmas.{found_part}
 use Rattle.sd_law_settings.specs.Ranges.{IsThreshold}
-use Rattle.sd_model_shard.specs.Values.{Bin, Part, Whole, bin, bins, pct, timer_of, whole}
+use Rattle.sd_model_shard.specs.Values.{Bin, PartStatistics, WholeStatistics, bins, pct, timer_of, whole_statistics}
 use Rattle.sd_model_settings.specs.Settings.{Plan}
 use Rattle.sd_model_record.specs.Record.{limits_for, timer_figures}
 use Rattle.sd_epoch.proofs.ListingLemmas.{left_from}
@@ -19,6 +19,7 @@ use Rattle.sd_decimal.specs.declared.number.Micro.{Micro}
 use Rattle.sd_plan.specs.Values.{micros}
 use Rattle.sd_plan.specs.Entries.{limits_of, classes_view}
 use Rattle.sd_plan.specs.declared.entries.Classes.{Classes}
+use Rattle.sd_model_shard.proofs.Short.{bin}
 
 pub threshold_at : (ts : List Micro) (i : ℕ) (d : Micro) → i < length ts → All IsThreshold (micros ts) → IsThreshold (get_or ts i d).0
 threshold_at ts i d below all =
@@ -35,11 +36,11 @@ none_above below [] = refl
 none_above below (v ∷ values) = none_above below values
 
 -- whether a metric is part of a key, as the code found it
-pub told_part : (r : Bool) (key part bytes : List ℕ) → bytes ≡ part → (IsTrue r ↔ HasPart key bytes) → is_part part key ≡ r
-told_part true key part bytes same h =
-    let (front, back, is) = h.0 refl in
-    part_found part key front back (is ∙ ap (λ p. front ++ p ++ back) same)
-told_part false key part bytes same h =
+pub reported_part : (r : Bool) (key part bytes : List ℕ) → bytes ≡ part → (IsTrue r ↔ HasPart key bytes) → is_part part key ≡ r
+reported_part true key part bytes same h =
+    let (prefix, back, is) = h.0 refl in
+    part_found part key prefix back (is ∙ ap (λ p. prefix ++ p ++ back) same)
+reported_part false key part bytes same h =
     elim (cases_Bool (is_part part key)) [
       | inl there ↦ absurd (absent (h.1 (subst (HasPart key) (sym same) (found_part part key there))))
       | inr none ↦ none
@@ -61,8 +62,8 @@ entry_passed key hs i c below is part =
 
 -- the figures of a timer with values, by what its parts are
 pub figures-made :
-    (plan : Plan) (key : List ℕ) (weight rate : ℤ) (values : List ℤ) (w : Whole) (parts : List Part) (bs : List Bin) (n : ℕ) → (n == 0) ≡ false → n ≡ length values → rate ≡ per_second weight plan.interval_ms
-    → w ≡ whole (timer_of values weight plan.interval_ms) → parts ≡ filter_map (λ t. pct t (timer_of values weight plan.interval_ms).values) plan.thresholds
+    (plan : Plan) (key : List ℕ) (weight rate : ℤ) (values : List ℤ) (w : WholeStatistics) (parts : List PartStatistics) (bs : List Bin) (n : ℕ) → (n == 0) ≡ false → n ≡ length values → rate ≡ per_second weight plan.interval_ms
+    → w ≡ whole_statistics (timer_of values weight plan.interval_ms) → parts ≡ filter_map (λ t. pct t (timer_of values weight plan.interval_ms).values) plan.thresholds
     → bs ≡ bins (limits_for key plan.histograms) (timer_of values weight plan.interval_ms).values
     → record { count = weight; count_ps = rate; whole = Some w; parts = parts; bins = bs } ≡ timer_figures plan key weight values
 figures-made plan key weight rate [] w parts bs n some many a b d e = absurd (false≢true (sym some ∙ ap (λ m. m == 0) many))

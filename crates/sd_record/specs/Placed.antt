@@ -4,8 +4,7 @@ use Rattle.std.specs.declared.cmp.Ordering.TheVariants.{Less}
 use Rattle.sd_model_text.specs.Names.{Counter}
 use Rattle.sd_model_settings.specs.Settings.{Plan}
 use Rattle.sd_model_record.specs.Record as model
-use Rattle.sd_model_shard.specs.Rows.{RowId, row_cmp}
-use Rattle.sd_model_shard.specs.Summaries.{without_samples}
+use Rattle.sd_model_shard.specs.Rows.{RowId, row_cmp, without_samples}
 use Rattle.sd_epoch.specs.Table.{Listing, table_of}
 use Rattle.sd_record.specs.Rows.{Room, TableRow, rows_in, value_of}
 use Rattle.sd_record.specs.declared.placed.Place.{Place}

@@ -35,4 +35,4 @@ all_rows tables = flat_map rows_in tables
 
 -- the row of a record for a row of a table
 abbrev pub value_of : Plan → TableRow → model.Row
-value_of plan row = model.row_value plan row.id row.kept
+value_of plan row = model.row_of_kind row.id.kind plan row.id.key row.kept.since

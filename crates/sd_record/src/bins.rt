@@ -1,5 +1,5 @@
-ghost use Rattle.std.specs.Prelude.{◌≡◌, ◌≤◌, length, map};
-ghost use Rattle.sd_model_shard.specs.Values.{bin, bins as bins_of};
+ghost use Rattle.std.specs.Prelude.{◌≡◌, ◌≤◌, length, map, not, count_by, ◌&&◌};
+ghost use Rattle.sd_model_shard.specs.Values.{bins as bins_of, is_below};
 ghost use Rattle.sd_plan.specs.Entries.{limit_of, limits_of};
 ghost use Rattle.sd_stats.specs.Seen.{timer_seen};
 ghost use Rattle.sd_record.specs.Row.{bin_view};
@@ -27,7 +27,7 @@ pub(crate) fn put_bins(stats: &TimerStats<'_>, limits: &[Limit], bins: &mut Bins
 
 /// How many values of a timer are below a limit and not below another.
 fn count_between(stats: &TimerStats<'_>, from: Limit, below: Limit) -> u64
-    ensures { result ≡ bin (limit_of from) (limit_of below) (timer_seen stats.now).values }
+    ensures { result ≡ count_by (λ v. not (is_below v (limit_of from)) && is_below v (limit_of below)) (timer_seen stats.now).values }
 {
     match from {
         Limit::Below(from) => stats.bin(from, below),

@@ -1,7 +1,7 @@
-ghost use Rattle.std.specs.Prelude.{◌≡◌, ◌<◌, ◌≤◌, ◌++◌, length, slice_get, option_map, Some, codes, if◌then◌else◌};
-ghost use Rattle.sd_model_settings.specs.Entries.{UpperPercent, LowerPercent};
+ghost use Rattle.std.specs.Prelude.{◌≡◌, ◌<◌, ◌≤◌, ◌++◌, length, slice_get, option_map, Some, codes, if◌then◌else◌, ◌∷◌, []};
+ghost use Rattle.sd_model_settings.specs.Entries.{UpperPercent, LowerPercent, CountPs, Count};
 ghost use Rattle.sd_model_shard.specs.Values.{is_upper};
-ghost use Rattle.sd_model_record.specs.Record.{figure, whole_number, part_figures, whole_figures, bin_figure, idle_figures, figures_of, label};
+ghost use Rattle.sd_model_record.specs.Record.{figure, whole_number, part_figures, whole_figures, bin_figure, figures_of, label};
 ghost use Rattle.sd_plan.specs.Calculated.{class_of};
 ghost use Rattle.sd_stats.specs.Timer.{part_of, whole_of};
 ghost use Rattle.sd_record.specs.Row.{bin_view, timer_view};
@@ -48,7 +48,7 @@ fn plain(class: TimerClass, name: &'static [u8], value: Sum) -> FigureParts
 /// The figure at a place of a timer without samples.
 fn idle_figure(timer: &TimerRow, i: usize) -> FigureParts
     requires { i < 2 }
-    ensures { slice_get (idle_figures (timer_view timer.now)) i ≡ Some result }
+    ensures { slice_get (figure Count (codes "count") (timer_view timer.now).count ∷ figure CountPs (codes "count_ps") (timer_view timer.now).count_ps ∷ []) i ≡ Some result }
 {
     match i {
         0 => plain(TimerClass::Count, b"count", timer.count),

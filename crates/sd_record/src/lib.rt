@@ -8,11 +8,11 @@
 mod bins;
 mod figure_parts;
 mod figures;
-mod parts;
 mod placed;
 mod record;
 mod row;
 mod scratch;
+mod timer_parts;
 mod timers;
 mod values;
 

@@ -6,8 +6,8 @@ ghost use Rattle.sd_stats.specs.Timer.{numbers, IsTimerValue};
 ghost use Rattle.sd_record.specs.Row.{timer_view};
 
 use crate::bins::put_bins;
-use crate::parts::put_parts;
 use crate::row::TimerRow;
+use crate::timer_parts::put_parts;
 use sd_decimal::{Limit, Micro, Sum, per_second};
 use sd_key::{Key, has_part};
 use sd_plan::{Classes, Reckoning};

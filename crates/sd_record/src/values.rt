@@ -1,6 +1,6 @@
 ghost use Rattle.std.specs.Prelude.{◌≡◌, ◌*◌, ◌^◌, ◌<◌, ◌≤◌, length, slice_get, unsigned_abs, All, IfSome};
 ghost use Rattle.sd_model_text.specs.Names.{Counter, Timer};
-ghost use Rattle.sd_model_record.specs.Record.{row_value, row_of_kind, timer_figures, TimerRow as RowOfTimer, GaugeRow, SetRow};
+ghost use Rattle.sd_model_record.specs.Record.{row_of_kind, timer_figures, TimerRow as RowOfTimer, GaugeRow, SetRow};
 ghost use Rattle.sd_model_shard.specs.Values.{distinct};
 ghost use Rattle.sd_plan.specs.Plan.{plan_view};
 ghost use Rattle.sd_stats.specs.Timer.{numbers, IsTimerValue};
@@ -22,7 +22,7 @@ use sd_stats::distinct;
 pub(crate) fn put_row(table: &Table, i: u32, plan: &Reckoning, room: &mut Scratch, row: &mut Row)
     requires place { i < length table.now.listed }
     requires room { table.now.entries ≤ room.old.room }
-    ensures row { IfSome (slice_get table.now.listed i) (λ e. row_view row.new ≡ row_value (plan_view plan.now) e.0 e.1) }
+    ensures row { IfSome (slice_get table.now.listed i) (λ e. row_view row.new ≡ row_of_kind e.0.kind (plan_view plan.now) e.0.key e.1.since) }
     ensures room { room.new.room ≡ room.old.room }
 {
     match table.get(i).kind {

@@ -2,13 +2,14 @@
 use Rattle.std.proofs.Common.{◌≡◌, ◌∙◌, ℕ, ◌+◌, List, [], ◌∷◌, ◌++◌, length, map, refl, sym, ap, subst, arith}
 use Rattle.std.specs.List.{AllByRecursion}
 use Rattle.sd_model_settings.specs.Entries.{Node}
-use Rattle.sd_model_serve.specs.Ends.{Spent}
+use Rattle.sd_model_serve.specs.Receiving.{Spent}
 use Rattle.sd_model_proxy.specs.Relays.{Relay}
 use Rattle.sd_model_proxy.specs.Routes.{Read}
-use Rattle.sd_model_live.specs.Proxy.{AreCurrent, AreTold, SetStep, all_of, first_history, published_in, told_to}
+use Rattle.sd_model_live.specs.Proxy.{AreCurrent, AreReported, SetStep, all_of, published_in, reported_to}
 use Rattle.sd_live.specs.Looks.{HaveAnswered}
 use Rattle.sd_relay.specs.Looked.{LookedIn}
 use Rattle.sd_relay.proofs.OrderLemmas.{one_order}
+use Rattle.sd_model_live.proofs.Short.{first_history}
 
 -- what holds of each of both lists holds of each of the second
 pub all_behind : {X : Type 0} (P : X → Type 0) (xs ys : List X) → AllByRecursion P (xs ++ ys) → AllByRecursion P ys
@@ -34,46 +35,46 @@ sets_of [] = refl
 sets_of (up ∷ ups) = ap (λ l. up ∷ l) (sets_of ups)
 
 -- what the first receivers were told, and what those behind them were
-told_front : (from : ℕ) (relays : List Relay) (more : List Relay) (steps : List SetStep) → AreTold from (relays ++ more) steps → AreTold from relays steps
-told_front from [] more steps told = tt
-told_front from (r ∷ relays) more steps told = (told.0, told_front (from + 1) relays more steps told.1)
+reported_prefix : (from : ℕ) (relays : List Relay) (more : List Relay) (steps : List SetStep) → AreReported from (relays ++ more) steps → AreReported from relays steps
+reported_prefix from [] more steps reported = tt
+reported_prefix from (r ∷ relays) more steps reported = (reported.0, reported_prefix (from + 1) relays more steps reported.1)
 
-told_behind : (from : ℕ) (relays : List Relay) (more : List Relay) (steps : List SetStep) → AreTold from (relays ++ more) steps
-    → AreTold (from + length relays) more steps
-told_behind from [] more steps told = let same : from ≡ from + 0 = omega arith in subst (λ n. AreTold n more steps) same told
-told_behind from (r ∷ relays) more steps told =
+reported_behind : (from : ℕ) (relays : List Relay) (more : List Relay) (steps : List SetStep) → AreReported from (relays ++ more) steps
+    → AreReported (from + length relays) more steps
+reported_behind from [] more steps reported = let same : from ≡ from + 0 = omega arith in subst (λ n. AreReported n more steps) same reported
+reported_behind from (r ∷ relays) more steps reported =
     let n : ℕ = length relays in
     let same : (from + 1) + n ≡ from + length (r ∷ relays) = omega arith in
-    subst (λ k. AreTold k more steps) same (told_behind (from + 1) relays more steps told.1)
+    subst (λ k. AreReported k more steps) same (reported_behind (from + 1) relays more steps reported.1)
 
 -- the publications; the looks of receivers, numbered from 0 on; those of one more, which has the number behind theirs; and those of
 -- readers of lines, which have the next
-pub record InOrderWith (first : ℕ) (pubs : List ℕ) (relays : List Relay) (ups : List ℕ) (lined : List Relay) : Type 0 where
+pub record InOrderWith (first : ℕ) (pubs : List ℕ) (relays : List Relay) (ups : List ℕ) (line_relays : List Relay) : Type 0 where
   pub steps : List SetStep
   pub published : published_in steps ≡ pubs
   pub current : AreCurrent first steps
-  pub told : AreTold 0 relays steps
-  pub other : told_to (length relays) steps ≡ ups
-  pub lines_told : AreTold (length relays + 1) lined steps
+  pub reported : AreReported 0 relays steps
+  pub other : reported_to (length relays) steps ≡ ups
+  pub lines_reported : AreReported (length relays + 1) line_relays steps
 
 -- receivers, one more and readers of lines that looked at one history, which these sets went on, did so in one order of steps
-pub order_with : (nodes : List Node) (history pubs : List ℕ) (relays : List Relay) (ups : List ℕ) (lined : List Relay) → history
+pub order_with : (nodes : List Node) (history pubs : List ℕ) (relays : List Relay) (ups : List ℕ) (line_relays : List Relay) → history
     ≡ all_of (length nodes) ∷ pubs
     → AllByRecursion (LookedIn nodes history) relays → HaveAnswered (first_history nodes) history ups
-    → AllByRecursion (LookedIn nodes history) lined
-    → InOrderWith (all_of (length nodes)) pubs relays ups lined
-order_with nodes history pubs relays ups lined is looked more lines_looked =
+    → AllByRecursion (LookedIn nodes history) line_relays
+    → InOrderWith (all_of (length nodes)) pubs relays ups line_relays
+order_with nodes history pubs relays ups line_relays is looked more lines_looked =
     let one : LookedIn nodes history (looker ups) = subst (HaveAnswered (first_history nodes) history) (sym (sets_of ups)) more in
-    let behind : List Relay = looker ups ∷ lined in
+    let behind : List Relay = looker ups ∷ line_relays in
     let same : 0 + length relays ≡ length relays = omega arith in
     let o = one_order nodes history pubs (relays ++ behind) is
     (all_joined (LookedIn nodes history) relays behind looked (one, lines_looked)) in
-    let told = subst (λ n. AreTold n behind o.steps) same (told_behind 0 relays behind o.steps o.told) in
+    let reported = subst (λ n. AreReported n behind o.steps) same (reported_behind 0 relays behind o.steps o.reported) in
     record {
       steps = o.steps;
       published = o.published;
       current = o.current;
-      told = told_front 0 relays behind o.steps o.told;
-      other = told.0 ∙ sets_of ups;
-      lines_told = told.1;
+      reported = reported_prefix 0 relays behind o.steps o.reported;
+      other = reported.0 ∙ sets_of ups;
+      lines_reported = reported.1;
     }

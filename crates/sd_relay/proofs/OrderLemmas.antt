@@ -5,7 +5,7 @@ use Rattle.std.specs.List.{AllByRecursion}
 use Rattle.sd_model_settings.specs.Entries.{Node}
 use Rattle.sd_model_proxy.specs.Routes.{Read}
 use Rattle.sd_model_proxy.specs.Relays.{Relay}
-use Rattle.sd_model_live.specs.Proxy.{AreCurrent, AreTold, SetStep, Published, Looked, all_of, published_in, told_to}
+use Rattle.sd_model_live.specs.Proxy.{AreCurrent, AreReported, SetStep, Published, Looked, all_of, published_in, reported_to}
 use Rattle.sd_relay.specs.Looked.{LookedIn}
 use Rattle.sd_live.specs.Looks.{NeverFall}
 
@@ -66,35 +66,35 @@ current_behind : (who last : ℕ) (ups : List ℕ) (steps : List SetStep) → Sa
 current_behind who last [] steps same rest = rest
 current_behind who last (up ∷ ups) steps same rest = (same.0, current_behind who last ups steps same.1 rest)
 
-told_behind : (who : ℕ) (ups : List ℕ) (steps : List SetStep) → told_to who (looks who ups ++ steps) ≡ ups ++ told_to who steps
-told_behind who [] steps = refl
-told_behind who (up ∷ ups) steps =
-    ap (λ b. if b then up ∷ told_to who (looks who ups ++ steps) else told_to who (looks who ups ++ steps)) (eq-eqb who who refl) ∙ ap (λ l. up ∷ l) (told_behind who ups steps)
+reported_behind : (who : ℕ) (ups : List ℕ) (steps : List SetStep) → reported_to who (looks who ups ++ steps) ≡ ups ++ reported_to who steps
+reported_behind who [] steps = refl
+reported_behind who (up ∷ ups) steps =
+    ap (λ b. if b then up ∷ reported_to who (looks who ups ++ steps) else reported_to who (looks who ups ++ steps)) (eq-eqb who who refl) ∙ ap (λ l. up ∷ l) (reported_behind who ups steps)
 
-others_behind : (who other : ℕ) → who ≢ other → (ups : List ℕ) (steps : List SetStep) → told_to other (looks who ups ++ steps) ≡ told_to other steps
+others_behind : (who other : ℕ) → who ≢ other → (ups : List ℕ) (steps : List SetStep) → reported_to other (looks who ups ++ steps) ≡ reported_to other steps
 others_behind who other apart [] steps = refl
 others_behind who other apart (up ∷ ups) steps =
-    ap (λ b. if b then up ∷ told_to other (looks who ups ++ steps) else told_to other (looks who ups ++ steps)) (ne_eqb who other apart) ∙ others_behind who other apart ups steps
+    ap (λ b. if b then up ∷ reported_to other (looks who ups ++ steps) else reported_to other (looks who ups ++ steps)) (ne_eqb who other apart) ∙ others_behind who other apart ups steps
 
 -- a look that adds nothing to what a receiver was told is another's
-not_mine : (b : Bool) (up : ℕ) (told : List ℕ) → (if b then up ∷ told else told) ≡ [] → (b ≡ false) × (told ≡ [])
-not_mine true up told none = absurd (cc)
-not_mine false up told none = (refl, none)
+not_mine : (b : Bool) (up : ℕ) (reported : List ℕ) → (if b then up ∷ reported else reported) ≡ [] → (b ≡ false) × (reported ≡ [])
+not_mine true up reported none = absurd (cc)
+not_mine false up reported none = (refl, none)
 
 -- steps with the looks of one receiver more
 record Woven (who last : ℕ) (steps : List SetStep) (ups : List ℕ) : Type 0 where
   now : List SetStep
   published : published_in now ≡ published_in steps
   current : AreCurrent last now
-  mine : told_to who now ≡ ups
-  others : (m : ℕ) → who ≢ m → told_to m now ≡ told_to m steps
+  mine : reported_to who now ≡ ups
+  others : (m : ℕ) → who ≢ m → reported_to m now ≡ reported_to m steps
 
-woven : (who last : ℕ) (steps : List SetStep) (ups : List ℕ) → AreCurrent last steps → told_to who steps ≡ [] → Between last (published_in steps) ups → Woven who last steps ups
+woven : (who last : ℕ) (steps : List SetStep) (ups : List ℕ) → AreCurrent last steps → reported_to who steps ≡ [] → Between last (published_in steps) ups → Woven who last steps ups
 woven who last [] ups current none b = record {
   now = looks who ups ++ [];
   published = published_behind who ups [];
   current = current_behind who last ups [] b tt;
-  mine = told_behind who ups [] ∙ append-nil ups;
+  mine = reported_behind who ups [] ∙ append-nil ups;
   others = λ m apart. others_behind who m apart ups [];
 }
 woven who last (Published up ∷ steps) ups current none b =
@@ -103,24 +103,24 @@ woven who last (Published up ∷ steps) ups current none b =
       now = looks who b.0 ++ Published up ∷ w.now;
       published = published_behind who b.0 (Published up ∷ w.now) ∙ ap (λ l. up ∷ l) w.published;
       current = current_behind who last b.0 (Published up ∷ w.now) b.3 w.current;
-      mine = told_behind who b.0 (Published up ∷ w.now) ∙ ap (λ l. b.0 ++ l) w.mine ∙ sym b.2;
+      mine = reported_behind who b.0 (Published up ∷ w.now) ∙ ap (λ l. b.0 ++ l) w.mine ∙ sym b.2;
       others = λ m apart. others_behind who m apart b.0 (Published up ∷ w.now) ∙ w.others m apart;
     }
 woven who last (Looked other up ∷ steps) ups current none b =
-    let a = not_mine (other == who) up (told_to who steps) none in
+    let a = not_mine (other == who) up (reported_to who steps) none in
     let w = woven who last steps ups current.1 a.1 b in
     record {
       now = Looked other up ∷ w.now;
       published = w.published;
       current = (current.0, w.current);
-      mine = ap (λ c. if c then up ∷ told_to who w.now else told_to who w.now) a.0 ∙ w.mine;
+      mine = ap (λ c. if c then up ∷ reported_to who w.now else reported_to who w.now) a.0 ∙ w.mine;
       others = λ m apart. ap (λ l. if other == m then up ∷ l else l) (w.others m apart);
     }
 
 -- what receivers behind a number were told stays where their looks do
-told_on : (from : ℕ) (relays : List Relay) (steps now : List SetStep) → ((m : ℕ) → from ≤ m → told_to m now ≡ told_to m steps) → AreTold from relays steps → AreTold from relays now
-told_on from [] steps now same told = tt
-told_on from (r ∷ relays) steps now same told = (same from (omega arith) ∙ told.0, told_on (from + 1) relays steps now (λ m le. same m (omega (arith, le))) told.1)
+reported_on : (from : ℕ) (relays : List Relay) (steps now : List SetStep) → ((m : ℕ) → from ≤ m → reported_to m now ≡ reported_to m steps) → AreReported from relays steps → AreReported from relays now
+reported_on from [] steps now same reported = tt
+reported_on from (r ∷ relays) steps now same reported = (same from (omega arith) ∙ reported.0, reported_on (from + 1) relays steps now (λ m le. same m (omega (arith, le))) reported.1)
 
 published_all : (pubs : List ℕ) → published_in (map (λ up. Published up) pubs) ≡ pubs
 published_all [] = refl
@@ -130,9 +130,9 @@ current_all : (last : ℕ) (pubs : List ℕ) → AreCurrent last (map (λ up. Pu
 current_all last [] = tt
 current_all last (up ∷ pubs) = current_all up pubs
 
-told_none : (who : ℕ) (pubs : List ℕ) → told_to who (map (λ up. Published up) pubs) ≡ []
-told_none who [] = refl
-told_none who (up ∷ pubs) = told_none who pubs
+reported_none : (who : ℕ) (pubs : List ℕ) → reported_to who (map (λ up. Published up) pubs) ≡ []
+reported_none who [] = refl
+reported_none who (up ∷ pubs) = reported_none who pubs
 
 -- the sets under which a receiver routed its datagrams
 abbrev ups_of : Relay → List ℕ
@@ -143,11 +143,11 @@ pub record InOneOrder (first : ℕ) (pubs : List ℕ) (from : ℕ) (relays : Lis
   pub steps : List SetStep
   pub published : published_in steps ≡ pubs
   pub current : AreCurrent first steps
-  pub told : AreTold from relays steps
-  pub none : (who : ℕ) → who < from → told_to who steps ≡ []
+  pub reported : AreReported from relays steps
+  pub none : (who : ℕ) → who < from → reported_to who steps ≡ []
 
 in_order : (first : ℕ) (pubs : List ℕ) (from : ℕ) (relays : List Relay) → AllByRecursion (λ (r : Relay). Between first pubs (ups_of r)) relays → InOneOrder first pubs from relays
-in_order first pubs from [] all = record { steps = map (λ up. Published up) pubs; published = published_all pubs; current = current_all first pubs; told = tt; none = λ who below. told_none who pubs }
+in_order first pubs from [] all = record { steps = map (λ up. Published up) pubs; published = published_all pubs; current = current_all first pubs; reported = tt; none = λ who below. reported_none who pubs }
 in_order first pubs from (r ∷ relays) all =
     let o = in_order first pubs (from + 1) relays all.1 in
     let w = woven from first o.steps (ups_of r) o.current (o.none from (omega arith)) (subst (λ (l : List ℕ). Between first l (ups_of r)) (sym o.published) all.0) in
@@ -155,7 +155,7 @@ in_order first pubs from (r ∷ relays) all =
       steps = w.now;
       published = w.published ∙ o.published;
       current = w.current;
-      told = (w.mine, told_on (from + 1) relays o.steps w.now (λ m le. w.others m (omega (arith, le))) o.told);
+      reported = (w.mine, reported_on (from + 1) relays o.steps w.now (λ m le. w.others m (omega (arith, le))) o.reported);
       none = λ who below. w.others who (omega (arith, below)) ∙ o.none who (omega (arith, below));
     }
 

@@ -13,7 +13,7 @@ use Rattle.sd_relay.specs.Owns.{IsFreshOwn, number_of, pass_of, seat_of}
 
 -- What seats have these numbers, in order: those of a list, two more, and those of another list.
 pub record Numbered (from : ℕ) (owns : List ProxyPass) (next last : OwnSeat) (more : List ProxyPass) : Type 0 where
-  pub front : map number_of owns ≡ span from (length owns)
+  pub prefix : map number_of owns ≡ span from (length owns)
   pub checker : number_of_seat next ≡ from + length owns
   pub port : number_of_seat last ≡ from + length owns + 1
   pub behind : map number_of more ≡ span (from + length owns + 2) (length more)
@@ -43,7 +43,7 @@ numbered from [] checker port more same =
     let second : number_of_seat port ≡ from + 1 = head_is _ _ _ _ rest in
     let next : from + 1 + 1 ≡ from + length {A = ProxyPass} [] + 2 = omega arith in
     record {
-      front = refl;
+      prefix = refl;
       checker = omega (arith, first);
       port = omega (arith, second);
       behind = sym (numbers_of more) ∙ tail_is _ _ _ _ rest ∙ ap (λ n. span n count) next;
@@ -57,7 +57,7 @@ numbered from (own ∷ owns) checker port more same =
     let n = numbered (from + 1) owns checker port more (tail_is _ _ _ _ all) in
     let next : from + 1 + count + 2 ≡ from + length (own ∷ owns) + 2 = omega arith in
     record {
-      front = λ i. first i ∷ n.front i;
+      prefix = λ i. first i ∷ n.prefix i;
       checker = omega (arith, n.checker);
       port = omega (arith, n.port);
       behind = n.behind ∙ ap (λ k. span k others) next;

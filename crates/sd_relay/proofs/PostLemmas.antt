@@ -5,9 +5,8 @@ use Rattle.std.specs.List.{AllByRecursion}
 use Rattle.std.proofs.lemmas.List.Elements.{All-nil, All-cons, All-head, All-tail}
 use Rattle.sd_model_outside.specs.Outside.{Object}
 use Rattle.sd_model_settings.specs.Entries.{Node}
-use Rattle.sd_model_proxy.specs.Relays.{IsRelay, Relay, AreRelays, relay_totals}
-use Rattle.sd_model_live.specs.Desk.{AreCounted, CountsEach, ProxyAct, ProxyEvent, done_by}
-use Rattle.sd_model_live.specs.Proxy.{first_history}
+use Rattle.sd_model_proxy.specs.Relays.{IsRelay, Relay, relay_totals}
+use Rattle.sd_model_live.specs.Port.{AreCounted, CountsEach, ProxyAct, ProxyEvent, done_by}
 use Rattle.sd_live.specs.Looks.{Begins, HaveAnswered}
 use Rattle.sd_relay.specs.Looked.{LookedIn}
 use Rattle.sd_live.proofs.LookLemmas.{answered_on}
@@ -19,11 +18,13 @@ use Rattle.sd_proxy_desk.specs.Shared.{IsSeatOf, OwnSeat, events_of, number_of_s
 use Rattle.sd_proxy_desk.specs.declared.desk.ProxyDesk.{ProxyDesk}
 use Rattle.sd_proxy.specs.Views.{end_view}
 use Rattle.sd_relay.specs.Owns.{IsFreshOwn, number_of, pass_of, seat_of}
-use Rattle.sd_relay.specs.Parts.{IsFitted, NoLineWaits, own_in, source_in, wires_in}
+use Rattle.sd_relay.specs.PostRooms.{IsFitted, NoLineWaits, own_in, source_in, wires_in}
 use Rattle.sd_relay.specs.Posts.{HasRun, IsReady}
 use Rattle.sd_relay.specs.Relaying.{ended_by, ended_in}
 use Rattle.sd_relay.specs.Sums.{WasRun, totals_by, totals_in}
 use Rattle.sd_relay.specs.declared.post.Post.{Post}
+use Rattle.sd_model_live.proofs.Short.{first_history}
+use Rattle.sd_model_proxy.proofs.Short.{AreRelays}
 
 -- a run of wires, and what stands behind it
 pub take_run : {L : Type 0} (see : L → Object) (n : ℕ) (first behind : List L) → length first ≡ n → take n (map see (first ++ behind))

@@ -3,7 +3,7 @@ use Rattle.std.proofs.Common.{◌≡◌, ◌∙◌, ℕ, ◌+◌, List, [], ◌�
 use Rattle.std.specs.Prelude.{sum_by}
 use Rattle.std.proofs.lemmas.List.Sums.{sum_by-append}
 use Rattle.sd_model_record.specs.Totals.{Total, number_in}
-use Rattle.sd_model_proxy.specs.Batches.{sums_of_totals}
+use Rattle.sd_model_proxy.specs.Routes.{sums_of_totals}
 use Rattle.sd_proxy_desk.specs.Views.{totals_view}
 use Rattle.sd_proxy_desk.specs.declared.totals.ProxyTotals.{ProxyTotals}
 use Rattle.sd_relay.specs.declared.sums.ProxySums.{ProxySums}

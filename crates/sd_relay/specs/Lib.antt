@@ -4,9 +4,9 @@ pub mod Checking
 pub mod Port
 pub mod Objects
 pub mod Sums
-pub mod Parts
+pub mod PostRooms
 pub mod LinePost
-pub mod Lining
+pub mod LineWork
 pub mod Postings
 pub mod Room
 pub mod Relaying

@@ -11,7 +11,7 @@ use Rattle.sd_proxy.specs.Forwarding.{NoneWaits}
 use Rattle.sd_proxy.specs.Proxying.{LinesByLooks, relay_seen}
 use Rattle.sd_proxy.specs.Streaming.{IsStreamRoom}
 use Rattle.sd_proxy.specs.declared.lined.Lined.{Lined}
-use Rattle.sd_relay.specs.Parts.{HasSends, NoneToSend}
+use Rattle.sd_relay.specs.PostRooms.{HasSends, NoneToSend}
 use Rattle.sd_relay.specs.declared.line_post.LinePost.{LinePost}
 use Rattle.sd_relay.specs.declared.line_post.LineRoom.{LineRoom}
 

@@ -47,14 +47,14 @@ pub record IsHubFor (history : List ℕ) (nodes receivers lines : ℕ) (h : HubR
   pub each : All (IsFreshOwn h.cell h.desk history) h.owns.receivers.items
   pub checker : IsFreshOwn h.cell h.desk history h.owns.checker
   pub port : IsFreshOwn h.cell h.desk history h.owns.port.own
-  pub liner : All (IsFreshOwn h.cell h.desk history) (option_to_list h.owns.lines)
+  pub line_reader : All (IsFreshOwn h.cell h.desk history) (option_to_list h.owns.lines)
   pub publishes : publishes h.owns.checker.pass ≡ true
   pub count : length h.owns.receivers.items ≡ receivers
-  pub liners : length (option_to_list h.owns.lines) ≡ lines
+  pub line_readers : length (option_to_list h.owns.lines) ≡ lines
   pub numbers : map number_of h.owns.receivers.items ≡ span 0 receivers
   pub checker_number : number_of h.owns.checker ≡ receivers
   pub port_number : number_of h.owns.port.own ≡ receivers + 1
-  pub liner_number : map number_of (option_to_list h.owns.lines) ≡ span (receivers + 2) lines
+  pub line_reader_number : map number_of (option_to_list h.owns.lines) ≡ span (receivers + 2) lines
   pub line : IsLineRoom h.owns.port.line
   pub none : (h.owns.passes.items ≡ []) × (h.owns.seats.items ≡ [])
   pub pass_room : receivers + 1 + lines ≤ vec_capacity h.owns.passes

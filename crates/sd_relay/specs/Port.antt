@@ -2,8 +2,7 @@
 use Rattle.std.specs.Prelude.{◌≡◌, ℕ, List, ◌++◌}
 use Rattle.sd_model_outside.specs.Outside.{Object}
 use Rattle.sd_model_settings.specs.Settings.{Settings}
-use Rattle.sd_model_live.specs.Desk.{ProxyEvent}
-use Rattle.sd_model_live.specs.Port.{HasPort, has_port}
+use Rattle.sd_model_live.specs.Port.{ProxyEvent, HasPort, has_port}
 use Rattle.sd_live.specs.Looks.{HaveAnswered}
 use Rattle.sd_live.specs.Live.{IsPassOf, seen as history_in}
 use Rattle.sd_live.specs.declared.up_cell.UpCell.{UpCell}

@@ -2,7 +2,7 @@
 use Rattle.std.specs.Prelude.{◌≡◌, ℕ, ◌≤◌, List, [], All, IfSome, length, option_to_list, vec_capacity}
 use Rattle.sd_model_settings.specs.Entries.{Node}
 use Rattle.sd_relay.specs.LinePost.{HasLinePlace, IsClearLine, IsLineFitted, NoneWaitsInLine}
-use Rattle.sd_relay.specs.Parts.{HasPlace, IsClear, IsFitted, NoLineWaits}
+use Rattle.sd_relay.specs.PostRooms.{HasPlace, IsClear, IsFitted, NoLineWaits}
 use Rattle.sd_relay.specs.declared.own_parts.OwnParts.{OwnParts}
 use Rattle.sd_relay.specs.declared.postings.Postings.{Postings}
 use Rattle.sd_relay.specs.declared.postings.Posts.{Posts}
@@ -12,8 +12,8 @@ module _ {D L : Type 0} where
   pub record ArePostingsFor (nodes : List Node) (receivers lines : ℕ) (p : Postings D L) : Type 0 where
     pub places : length p.rooms.items ≡ receivers
     pub place_each : All (HasPlace nodes) p.rooms.items
-    pub liners : length (option_to_list p.lines) ≡ lines
-    pub liner : IfSome p.lines (HasLinePlace nodes)
+    pub line_readers : length (option_to_list p.lines) ≡ lines
+    pub line_reader : IfSome p.lines (HasLinePlace nodes)
     pub no_post : p.posts.items ≡ []
     pub post_room : receivers ≤ vec_capacity p.posts
 

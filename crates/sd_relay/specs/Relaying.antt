@@ -1,9 +1,8 @@
 -- What a run of a proxy leaves.
-use Rattle.std.specs.Prelude.{◌≡◌, ℕ, ◌^◌, min, List, ◌++◌, length, map, Option, Some, None, option_to_list}
+use Rattle.std.specs.Prelude.{◌≡◌, ℕ, ◌^◌, min, List, ◌++◌, length, map, Option, Some, None, option_to_list, count_by}
 use Rattle.sd_model_settings.specs.Settings.{Settings}
 use Rattle.sd_model_proxy.specs.Relays.{Relay, relays_totals}
-use Rattle.sd_model_live.specs.Checks.{Check, failed_in}
-use Rattle.sd_model_live.specs.Proxy.{ProxyObjects, ProxyTheorem}
+use Rattle.sd_model_live.specs.Proxy.{Check, ProxyObjects, ProxyTheorem, answers_of}
 use Rattle.sd_outside.specs.declared.datagrams.Ended.{Ended}
 use Rattle.sd_outside.specs.declared.datagrams.Ended.TheVariants.{End}
 use Rattle.sd_check.specs.Checking as checking
@@ -13,6 +12,7 @@ use Rattle.sd_relay.specs.Sums.{sums_view}
 use Rattle.sd_relay.specs.declared.post.Post.{Post}
 use Rattle.sd_relay.specs.declared.relaying.Relayed.{Relayed}
 use Rattle.sd_relay.specs.declared.room.RelayRoom.{RelayRoom}
+use Rattle.std.specs.Option.{is_none}
 
 -- how a receiver ended, if there was one
 abbrev pub ended_by : Option Proxied → Ended
@@ -36,12 +36,12 @@ module _ {D L : Type 0} where
 -- receivers and its reader of lines counted, added up; and how many checks were made, and how many of their questions failed.
 pub record HasRelayed (s : Settings) (receivers lines : ℕ) (o o_now : ProxyObjects) (r : Relayed) : Type 0 where
   pub relays : List Relay
-  pub lined : List Relay
+  pub line_relays : List Relay
   pub checks : List Check
-  pub theorem : ProxyTheorem s relays lined checks (checking.end_view r.checked.ended) o o_now
+  pub theorem : ProxyTheorem s relays line_relays checks (checking.end_view r.checked.ended) o o_now
   pub count : length relays ≡ receivers
-  pub one : length lined ≡ lines
+  pub one : length line_relays ≡ lines
   pub received : map end_view r.received.items ≡ map (λ x. x.ended) relays
-  pub sums : sums_view r.sums ≡ relays_totals s.lists.nodes (relays ++ lined)
+  pub sums : sums_view r.sums ≡ relays_totals s.lists.nodes (relays ++ line_relays)
   pub checked : r.checked.checks ≡ length checks
-  pub faults : r.checked.probe_faults ≡ min (failed_in checks) (2 ^ 63)
+  pub faults : r.checked.probe_faults ≡ min (count_by is_none (answers_of checks)) (2 ^ 63)

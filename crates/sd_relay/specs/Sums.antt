@@ -1,7 +1,7 @@
 -- What the receivers and the reader of lines of posts counted, added up.
 use Rattle.std.specs.Prelude.{◌≡◌, ◌+◌, ◌≤◌, ◌^◌, List, [], ◌∷◌, codes, map, Option, Some, None, option_to_list}
 use Rattle.sd_model_record.specs.Totals.{Total}
-use Rattle.sd_model_proxy.specs.Batches.{no_totals}
+use Rattle.sd_model_proxy.specs.Routes.{no_totals}
 use Rattle.sd_proxy_desk.specs.Views.{totals_view}
 use Rattle.sd_proxy.specs.declared.lined.Lined.{Lined}
 use Rattle.sd_proxy.specs.declared.proxied.Proxied.{Proxied}

@@ -10,13 +10,13 @@
 
 mod checking;
 mod line_post;
-mod lining;
+mod line_work;
 mod live;
 mod objects;
 mod own_parts;
-mod parts;
 mod port;
 mod post;
+mod post_rooms;
 mod postings;
 mod relaying;
 mod room;

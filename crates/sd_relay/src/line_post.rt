@@ -3,7 +3,7 @@ ghost use Rattle.std.specs.Prelude.{◌≡◌, ◌+◌, ◌*◌, ◌<◌, ◌≤
 ghost use Rattle.sd_plan.specs.Entries.{node_view};
 ghost use Rattle.sd_relay.specs.LinePost.{HasLinePlace, IsClearLine, IsLineFitted, NoneWaitsInLine, line_owns, line_wires};
 
-use crate::parts::SendRoom;
+use crate::post_rooms::SendRoom;
 use sd_outside::{Door, Wire};
 use sd_plan::Node;
 use sd_proxy::{Lined, ProxyHub, ProxyPass, StreamRoom, Waiting, line_part};

@@ -1,7 +1,7 @@
 //! What the threads of a proxy have of its cell and of its desk: each a pass and a seat, in one value while the proxy runs, and apart
 //! when both are opened and closed.
 ghost use Rattle.std.specs.Prelude.{◌≡◌, ◌+◌, ◌<◌, ◌≤◌, [], ◌∷◌, ◌++◌, All, IfOk, if◌then◌else◌, length, map, option_to_list, vec_capacity};
-ghost use Rattle.sd_model_live.specs.Desk.{ProxyFacts};
+ghost use Rattle.sd_model_live.specs.Port.{ProxyFacts};
 ghost use Rattle.sd_model_live.specs.Proxy.{all_of};
 ghost use Rattle.sd_live.specs.Looks.{Begins};
 ghost use Rattle.sd_live.specs.Live.{IsCheckerOf, IsPassOf, seen};

@@ -4,8 +4,8 @@ ghost use Rattle.sd_plan.specs.Entries.{node_view};
 
 use crate::line_post::{LinePost, LineRoom, open_line_room, put_line_post, take_line_post};
 use crate::own_parts::OwnParts;
-use crate::parts::{PostRoom, gather, give_back, open_rooms};
 use crate::post::Post;
+use crate::post_rooms::{PostRoom, gather, give_back, open_rooms};
 use sd_outside::{Datagrams, Wire};
 use sd_plan::Node;
 use std::alloc::{AllocError, Global};
@@ -57,7 +57,7 @@ impl<D: Drop, L: Drop> Postings<D, L> {
 
 impl<D: Datagrams + Drop, L: Wire + Drop> Postings<D, L> {
     ghost use Rattle.sd_relay.specs.LinePost.{line_owns, line_wires};
-    ghost use Rattle.sd_relay.specs.Parts.{own_in, source_in, wires_in};
+    ghost use Rattle.sd_relay.specs.PostRooms.{own_in, source_in, wires_in};
     ghost use Rattle.sd_relay.specs.Postings.{AreClear, AreFitted, ArePostingsFor, NoneWaitInPosts, SameServices};
 
     /// Moves the first of the sources and of the wires, and what receivers and the reader of lines have of cell and desk into posts: a
@@ -78,7 +78,7 @@ impl<D: Datagrams + Drop, L: Wire + Drop> Postings<D, L> {
         ensures wires { wires.old.items ≡ flat_map wires_in result.receivers.items ++ (line_wires result.lines ++ wires.new.items) }
         ensures owns { owns.old.receivers.items ≡ map own_in result.receivers.items }
         ensures none { owns.new.receivers.items ≡ [] }
-        ensures liner { option_to_list owns.old.lines ≡ line_owns result.lines }
+        ensures line_reader { option_to_list owns.old.lines ≡ line_owns result.lines }
         ensures services { SameServices owns.old owns.new }
         ensures packets_room { vec_capacity packets.new ≡ vec_capacity packets.old }
         ensures wires_room { vec_capacity wires.new ≡ vec_capacity wires.old }
@@ -104,7 +104,7 @@ impl<D: Datagrams + Drop, L: Wire + Drop> Postings<D, L> {
 
 impl<D: Datagrams + Drop, L: Wire + Drop> Posts<D, L> {
     ghost use Rattle.sd_relay.specs.LinePost.{line_owns, line_wires};
-    ghost use Rattle.sd_relay.specs.Parts.{own_in, source_in, wires_in};
+    ghost use Rattle.sd_relay.specs.PostRooms.{own_in, source_in, wires_in};
     ghost use Rattle.sd_relay.specs.Postings.{SameServices};
 
     /// Moves sources and wires before what is left of each list, in order, and what receivers and the reader of lines have of cell and
@@ -117,7 +117,7 @@ impl<D: Datagrams + Drop, L: Wire + Drop> Posts<D, L> {
         ensures packets { packets.new.items ≡ map source_in self.receivers.items ++ packets.old.items }
         ensures wires { wires.new.items ≡ flat_map wires_in self.receivers.items ++ (line_wires self.lines ++ wires.old.items) }
         ensures owns { owns.new.receivers.items ≡ map own_in self.receivers.items }
-        ensures liner { option_to_list owns.new.lines ≡ line_owns self.lines }
+        ensures line_reader { option_to_list owns.new.lines ≡ line_owns self.lines }
         ensures services { SameServices owns.old owns.new }
     {
         let Posts { receivers, lines } = self;

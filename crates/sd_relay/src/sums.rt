@@ -1,7 +1,7 @@
 //! The totals of all receivers, and of the reader of lines.
 ghost use Rattle.std.specs.Prelude.{◌≡◌, ◌≤◌, ◌<◌, ◌^◌, ◌++◌, List, All, IfSome, length, map};
 ghost use Rattle.sd_model_record.specs.Totals.{Total};
-ghost use Rattle.sd_model_proxy.specs.Batches.{sums_of_totals};
+ghost use Rattle.sd_model_proxy.specs.Routes.{sums_of_totals};
 ghost use Rattle.sd_relay.specs.Sums.{AddsTotals, GrowsLittle, HasRoom, LineWasRun, WasRun, line_totals, sums_view, totals_by_lines, totals_in};
 ghost use Rattle.sd_proxy_desk.specs.Views.{totals_view};
 

@@ -9,7 +9,7 @@ ghost use Rattle.sd_relay.specs.Port.{IsReadyToKeep, PortDone};
 ghost use Rattle.sd_relay.specs.Posts.{IsReady, WereRun};
 
 use crate::checking::Checking;
-use crate::lining::Lining;
+use crate::line_work::LineWork;
 use crate::live::Live;
 use crate::objects::RelayParts;
 use crate::port::{PortPost, PortRoom};
@@ -44,7 +44,7 @@ pub(crate) fn run_relays<
     requires checker { IsReadyToCheck live.now.hub.cell.now live.now.hub.desk.now (length live.now.settings.now.lists.nodes) checker.old }
     requires port { IsReadyToKeep live.now.hub.cell.now live.now.hub.desk.now port.old }
     requires door { IsDoorBefore (E.seen parts.old.door.now) }
-    requires liner { IfSome posts.old.lines (IsLineReady live.now.hub.cell.now live.now.hub.desk.now) }
+    requires line_reader { IfSome posts.old.lines (IsLineReady live.now.hub.cell.now live.now.hub.desk.now) }
     requires lines { IsDoorBefore (S.seen parts.old.lines.now) }
     requires receivers { All (IsReady live.now.hub.cell.now live.now.hub.desk.now) posts.old.receivers.items }
     ensures checker { IsCheckerOf live.now.hub.cell.now checker.new.pass }
@@ -63,7 +63,7 @@ pub(crate) fn run_relays<
         room: port,
         door: &mut *parts.door,
     };
-    let mut lining = Lining {
+    let mut line_work = LineWork {
         post: &mut posts.lines,
         door: &mut *parts.lines,
     };
@@ -73,7 +73,7 @@ pub(crate) fn run_relays<
         live,
         &mut checking,
         &mut keeping,
-        &mut lining,
+        &mut line_work,
         receivers,
     );
     checking.got

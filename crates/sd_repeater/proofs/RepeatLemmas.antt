@@ -4,7 +4,7 @@ use Rattle.std.proofs.lemmas.List.Sums.{sum_by-append}
 use Rattle.std.proofs.lemmas.List.{map-append, take_more, take_more_set, drop_more, drop-set-lt}
 use Rattle.std.specs.Int.{from_bool}
 use Rattle.sd_model_outside.specs.Outside.{Object}
-use Rattle.sd_model_outside.specs.Wires.{HasSent}
+use Rattle.sd_model_outside.specs.Uses.{HasSent}
 use Rattle.sd_repeater.specs.Sent.{AreSent}
 use Rattle.sd_repeater.specs.Repeat.{HasRepeated}
 

@@ -3,9 +3,9 @@ use Rattle.std.proofs.Common.{◌≡◌, ℕ, zero, suc, Bool, List, [], ◌∷�
 use Rattle.std.specs.Prelude.{option_map}
 use Rattle.std.specs.List.{cons_option}
 use Rattle.std.proofs.lemmas.Option.{slice_get_past}
-use Rattle.sd_model_outside.specs.Outside.{Object}
+use Rattle.sd_model_outside.specs.Outside.{Object, object_at}
 use Rattle.sd_repeater.specs.Sent.{AreSent}
-use Rattle.sd_model_record.specs.WireSends.{AfterSends, wire_at, AreRepeated}
+use Rattle.sd_model_outside.specs.Uses.{AfterSends, AreRepeated}
 use Rattle.sd_model_record.proofs.WireLemmas.{before}
 
 -- there is a send of a packet on each of the wires
@@ -25,7 +25,7 @@ length-now packet (f ∷ failed) [] new h = absurd h
 length-now packet (f ∷ failed) (o ∷ old) [] h = absurd h
 length-now packet (f ∷ failed) (o ∷ old) (n ∷ new) h = ap suc (length-now packet failed old new h.1)
 
-packet_at : (packet : List ℕ) (failed : List Bool) (old new behind : List Object) (i : ℕ) → AreSent packet failed old new → AfterSends (before packet failed i []) (wire_at i (old ++ behind)) (wire_at i (new ++ behind))
+packet_at : (packet : List ℕ) (failed : List Bool) (old new behind : List Object) (i : ℕ) → AreSent packet failed old new → AfterSends (before packet failed i []) (object_at i (old ++ behind)) (object_at i (new ++ behind))
 packet_at packet [] [] [] behind i h = refl
 packet_at packet [] [] (n ∷ new) behind i h = absurd h
 packet_at packet [] (o ∷ old) new behind i h = absurd h

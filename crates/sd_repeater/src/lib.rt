@@ -6,7 +6,7 @@
 #![tactic(auto)]
 
 ghost use Rattle.std.specs.Prelude.{◌<◌, ◌^◌, length, map};
-ghost use Rattle.sd_model_outside.specs.Wires.{HasSent};
+ghost use Rattle.sd_model_outside.specs.Uses.{HasSent};
 ghost use Rattle.sd_repeater.specs.Repeat.{HasRepeated};
 
 use sd_outside::Wire;

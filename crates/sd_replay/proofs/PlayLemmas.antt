@@ -7,34 +7,29 @@ use Rattle.std.proofs.Common.{◌≡◌, ◌≢◌, inl, inr, ℕ, Bool, true, f
 use Rattle.std.specs.Prelude.{sum_by, Option, Some, None, option_and_then}
 use Rattle.std.proofs.lemmas.List.{map-append}
 use Rattle.sd_model_text.specs.Lines.{Sample, samples_of}
-use Rattle.sd_model_outside.specs.Outside.{Told, Object, Reads, Used, Rose, HasFailedBehind, given, last_count, put_back, telling}
+use Rattle.sd_model_outside.specs.Outside.{Content, Object, Reads, Used, Rose, HasFailedBehind, given, last_count, put_back, telling}
 use Rattle.sd_outside.specs.Turns.{FitsLastCount}
-use Rattle.sd_model_outside.specs.Deliveries.{FitsUse, AfterMark, AfterDeliveries}
+use Rattle.sd_model_outside.specs.Uses.{FitsUse, AfterMark, AfterDeliveries, AreRepeated, failures}
 use Rattle.sd_model_outside.proofs.OutsideLemmas.{Reads-append, put_back-append}
 use Rattle.sd_outside.proofs.NothingWritten.{appended-nil}
 use Rattle.sd_model_outside.proofs.WriteLemmas.{given-given}
-use Rattle.sd_model_shard.specs.Shard.{State, empty_state, Policy, Submit, after_swap, carried, left_of, table_of}
+use Rattle.sd_model_shard.specs.Shard.{State, empty_state, Policy, Submit, after_swap, kept_rows, left_of, table_of}
 use Rattle.sd_model_shard.specs.Rows.{Rows, Kept, row_cmp}
 use Rattle.sd_model_shard.proofs.RowLemmas.{rows_total, rows_exact}
-use Rattle.sd_model_shard.proofs.SummaryLemmas.{get-carried}
+use Rattle.sd_model_shard.proofs.SummaryLemmas.{get-kept_rows}
 use Rattle.sd_model_shard.specs.History.{after_all, answered, part_of}
 use Rattle.sd_model_shard.specs.Whereabouts.{dropped_in}
-use Rattle.sd_model_record.specs.Desk.{Desk, Marks, new_desk, with_tally, with_repeater_faults, with_round}
+use Rattle.sd_model_record.specs.Desk.{Desk, Marks, new_desk, with_tally, with_repeater_faults}
 use Rattle.sd_model_record.specs.Record.{Record, record_of}
 use Rattle.sd_model_record.specs.Admin as admin
 use Rattle.sd_command.proofs.CommandLemmas.{idle_line, state_past}
 use Rattle.sd_model_settings.specs.Settings.{Settings, plan_of, names_of}
-use Rattle.sd_model_replay.specs.Settings.{Bounds, bounds_of, is_used, targets_of}
+use Rattle.sd_model_replay.specs.Replay.{Bounds, bounds_of, is_used, targets_of, Played, IsOutcome, no_marks, home_of, replies_to, states_after, packet_tally, moment_of, desk_after_line, Run, first_run, form_of, play, run_of, deliveries, sendings}
 use Rattle.sd_model_record.specs.Backends.{Backend, mark_of, text_of}
-use Rattle.sd_model_record.specs.WireSends.{AreRepeated, failures}
-use Rattle.sd_model_replay.specs.Script.{Command, Packet, Flush, Admin, end_word, spelled, script_text, IsLegal, ScriptFlaw, Faulty, Begins, IsUndecided}
+use Rattle.sd_model_replay.specs.Script.{ScriptCommand, Packet, Flush, Admin, end_word, spelled, script_text, IsLegal, ScriptFlaw, Faulty, Begins, IsUndecided}
 use Rattle.sd_model_serve.specs.Rounds.{Round, round_text}
-use Rattle.sd_model_replay.specs.Replay.{Played, IsOutcome, no_marks, home_of, replies_to, states_after, packet_tally, moment_of, desk_after_line, Run, first_run, form_of, play, run_of, deliveries, sendings}
-use Rattle.sd_model_replay.specs.Asked.{output_in, output_of}
+use Rattle.sd_model_replay.specs.AccountingTheorem.{output_in, output_of, summed, totals_after, Seen, ReplayTrace, AccountingTheorem, seen_at, Complete, Faulted, ReadFailed, WriteFailed, LimitReached}
 use Rattle.sd_model_record.specs.Totals.{Total, totals_of, totals_text}
-use Rattle.sd_model_replay.specs.Totals.{summed, totals_after}
-use Rattle.sd_model_replay.specs.AccountingTheorem.{Seen, Course, AccountingTheorem, seen_at}
-use Rattle.sd_model_replay.specs.Ends.{Complete, Faulted, ReadFailed, WriteFailed, WornOut, text_length}
 use Rattle.sd_replay.specs.Replayed.{Replayed}
 use Rattle.sd_law_record.proofs.AccountingLemmas.{are_accounted}
 use Rattle.sd_model_replay.proofs.HistoryLemmas.{arrivals-history_at, state-history_at}
@@ -43,13 +38,15 @@ use Rattle.sd_model_record.proofs.WireLemmas.{AreRepeated-next, AreRepeated-none
 use Rattle.sd_model_replay.proofs.ReplayLemmas.{run_before, run_of-push, output_of-push, deliveries-push, delivery_of, sendings-push, script_text-end, AllByRecursion-push}
 use Rattle.sd_shards.specs.Shards.{Group, AreAlike, group_bounds, numbers, state_at}
 use Rattle.sd_replay.specs.Totals.{totals_of_group}
+use Rattle.sd_model_replay.proofs.Short.{text_length}
+use Rattle.sd_model_record.proofs.Short.{with_round}
 
--- the records that were carried out
-abbrev commands_of : List Played → List Command
+-- the records that were executed
+abbrev commands_of : List Played → List ScriptCommand
 commands_of played = map (λ p. p.command) played
 
 -- what a replay has done since it began
-pub record Progress (settings : Settings) (script left : Told) (old new : Backend → Object) (had has : List Object) (states : ℕ → State) (desk : Desk) (at turn : ℕ) : Type 0 where
+pub record Progress (settings : Settings) (script left : Content) (old new : Backend → Object) (had has : List Object) (states : ℕ → State) (desk : Desk) (at turn : ℕ) : Type 0 where
   pub played : List Played
   pub read : Reads script (script_text (commands_of played)) left
   pub legal : AllByRecursion (λ p. IsLegal settings.sizes.receivers p.command) played
@@ -62,7 +59,7 @@ pub record Progress (settings : Settings) (script left : Told) (old new : Backen
   pub turns : length played ≡ turn
 
 -- nothing was done yet
-unfoldable pub nothing_played : (settings : Settings) (script left : Told) (backs : Backend → Object) (wires : List Object) (states : ℕ → State) (desk : Desk) (at : ℕ) → Reads script [] left → states ≡ (first_run []).shards → desk ≡ (first_run []).desk → at ≡ 0
+unfoldable pub nothing_played : (settings : Settings) (script left : Content) (backs : Backend → Object) (wires : List Object) (states : ℕ → State) (desk : Desk) (at : ℕ) → Reads script [] left → states ≡ (first_run []).shards → desk ≡ (first_run []).desk → at ≡ 0
     → Progress settings script left backs backs wires wires states desk at 0
 nothing_played settings script left backs wires states desk at r s d a = record {
   played = [];
@@ -78,8 +75,8 @@ nothing_played settings script left backs wires states desk at r s d a = record 
 }
 
 -- an object that was given nothing
-pub given-nil : (o : Object) → FitsLastCount o.told → given [] o ≡ o
-given-nil o fits = ap (λ told. telling told o) (appended-nil o.told fits)
+pub given-nil : (o : Object) → FitsLastCount o.content → given [] o ≡ o
+given-nil o fits = ap (λ content. telling content o) (appended-nil o.content fits)
 
 -- shards that go by the settings
 abbrev pub GoBy : Settings → Group → Type 0
@@ -101,7 +98,7 @@ none_there f (Some kept) none = absurd (cc)
 idle_swap : (policy : Policy) → after_swap policy empty_state ≡ empty_state
 idle_swap policy =
     ap (λ (live : Rows). record empty_state { live = live })
-    (same_map rows_total rows_exact (carried policy empty) empty (λ q. get-carried policy empty q ∙ none_there (left_of policy q) (get empty q) (get-empty row_cmp q)))
+    (same_map rows_total rows_exact (kept_rows policy empty) empty (λ q. get-kept_rows policy empty q ∙ none_there (left_of policy q) (get empty q) (get-empty row_cmp q)))
 
 -- What a record does to shards. Beyond the last of them it does nothing.
 module _ (bounds : Bounds) (some : 0 < bounds.shards) where
@@ -118,10 +115,10 @@ module _ (bounds : Bounds) (some : 0 < bounds.shards) where
     kept false is h = h
 
   -- a shard's state after what a record asks of it
-  abbrev asked_by : Command → ℕ → State → State
+  abbrev asked_by : ScriptCommand → ℕ → State → State
   asked_by c i state = states_after bounds (λ j. state) c i
 
-  idle : (c : Command) (i : ℕ) → bounds.shards ≤ i → asked_by c i empty_state ≡ empty_state
+  idle : (c : ScriptCommand) (i : ℕ) → bounds.shards ≤ i → asked_by c i empty_state ≡ empty_state
   idle (Packet who moment datagram) i past =
       ap (λ (samples : List Sample). after_all bounds.limits bounds.policy empty_state (answered bounds.limits bounds.policy empty_state (map (λ s. record { who = who; event = Submit s }) samples))) (none_of i (samples_of datagram) past)
   idle (Flush ts) i past = idle_swap bounds.policy
@@ -138,12 +135,12 @@ module _ (bounds : Bounds) (some : 0 < bounds.shards) where
           ∙ ap (asked_by p.command i) (sym (state_past old i (omega (arith, past, count)))) ∙ ap (λ (states : ℕ → State). states_after bounds states p.command i) same
     ]
 
-longer : (commands : List Command) (c : Command) (at : ℕ) → at ≡ min (length (script_text commands)) last_count → min (at + length (spelled c)) last_count ≡ min (length (script_text (commands ++ c ∷ []))) last_count
+longer : (commands : List ScriptCommand) (c : ScriptCommand) (at : ℕ) → at ≡ min (length (script_text commands)) last_count → min (at + length (spelled c)) last_count ≡ min (length (script_text (commands ++ c ∷ []))) last_count
 longer commands c at e =
     let whole = ap length (script_text-end commands c) in
     omega (arith, e, whole, length-append (script_text commands) (spelled c))
 
--- an admin line, as it is carried out
+-- an admin line, as it is executed
 abbrev pub line_played : ℕ → List ℕ → Played
 line_played moment line = record { command = Admin moment line; outcome = record { marks = no_marks; failed = [] } }
 
@@ -167,7 +164,7 @@ desk_at_end settings [] desk begun same first later = first refl
 desk_at_end settings (q ∷ played) desk begun same first later = later (λ none. absurd (omega (arith, none))) ∙ same
 
 -- One record more. The desk is the one before it.
-module _ (settings : Settings) (some : 0 < settings.sizes.shards) (script left left' : Told) (old new new' : Backend → Object) (had has has' : List Object) (group group' : Group) (desk begun desk' : Desk) (at at' turn : ℕ)
+module _ (settings : Settings) (some : 0 < settings.sizes.shards) (script left left' : Content) (old new new' : Backend → Object) (had has has' : List Object) (group group' : Group) (desk begun desk' : Desk) (at at' turn : ℕ)
     (so_far : Progress settings script left old new had has (state_at group) desk at turn) (by : GoBy settings group) (alike : AreAlike group group') where
   -- what was done with it, whose records are those so far and it
   abbrev pub More : Played → Type 0
@@ -261,7 +258,7 @@ module _ (settings : Settings) (some : 0 < settings.sizes.shards) (script left l
       (d ∙ ap (λ (e : Desk). with_round e marks) same_desk)
       a
 
-  -- an admin line more: its command is carried out
+  -- an admin line more: its command is executed
   pub line_more : (moment : ℕ) (line : List ℕ) → Reads left (spelled (Admin moment line)) left' → IsLegal settings.sizes.receivers (Admin moment line)
       → begun ≡ (before (line_played moment line)).desk
       → ((i : ℕ) → state_at group' i ≡ states_after (group_bounds group) (state_at group) (Admin moment line) i) → desk' ≡ desk_after_line begun (admin.command line)
@@ -282,19 +279,19 @@ module _ (settings : Settings) (some : 0 < settings.sizes.shards) (script left l
       ap (λ (states : ℕ → State). output_in settings (record { shards = states; desk = begun }) (Admin moment line)) (states_before (line_played moment line))
       ∙ ap (λ (e : Desk). output_in settings (record { shards = (before (line_played moment line)).shards; desk = e }) (Admin moment line)) same_desk
 
--- How a replay ends, where these bytes were read behind what it has carried out.
-module _ (settings : Settings) (old new : Seen) (left : Told) (group : Group) (desk : Desk) (at turn : ℕ) (had has : Backend → Object) (before : (back : Backend) → had back ≡ seen_at back old) (now : (back : Backend) → has back ≡ seen_at back new)
-    (so_far : Progress settings old.script.told left had has old.wires new.wires (state_at group) desk at turn) (ahead : List ℕ) (behind : Reads left ahead new.script.told) (used : Used old.script new.script) where
-  abbrev course : Course
-  course = record { played = so_far.played; ahead = ahead }
+-- How a replay ends, where these bytes were read behind what it has executed.
+module _ (settings : Settings) (old new : Seen) (left : Content) (group : Group) (desk : Desk) (at turn : ℕ) (had has : Backend → Object) (before : (back : Backend) → had back ≡ seen_at back old) (now : (back : Backend) → has back ≡ seen_at back new)
+    (so_far : Progress settings old.script.content left had has old.wires new.wires (state_at group) desk at turn) (ahead : List ℕ) (behind : Reads left ahead new.script.content) (used : Used old.script new.script) where
+  abbrev trace : ReplayTrace
+  trace = record { played = so_far.played; ahead = ahead }
 
   -- what these records write was written
   abbrev HasWritten : List Played → Object → Type 0
   HasWritten played output = output ≡ given (output_of settings played) old.output
 
-  theorem : AccountingTheorem settings course old new
+  theorem : AccountingTheorem settings trace old new
   theorem = record {
-    read = Reads-append old.script.told left new.script.told (script_text (commands_of so_far.played)) ahead so_far.read behind;
+    read = Reads-append old.script.content left new.script.content (script_text (commands_of so_far.played)) ahead so_far.read behind;
     legal = so_far.legal;
     accounted = are_accounted settings so_far.played;
     submitted = λ i below. arrivals-history_at (bounds_of settings) i so_far.played;
@@ -317,22 +314,22 @@ module _ (settings : Settings) (old new : Seen) (left : Told) (group : Group) (d
     -- the word was read, and these totals were written
     pub completes : length group.states ≡ settings.sizes.shards → (begun : Desk) (totals : List Total) (rest : List ℕ) (output : Object) → begun ≡ (run_of (bounds_of settings) (first_run so_far.played) so_far.played).desk → turn < 2 ^ 62 → ahead ≡ end_word ++ rest → totals ≡ totals_of_group group begun
         → HasWritten so_far.played output → new.output ≡ given (totals_text totals) output → Replayed settings (Complete totals) old new
-    completes group_count begun totals rest output same_desk few word counts front written = record {
-      course = course;
+    completes group_count begun totals rest output same_desk few word counts prefix written = record {
+      trace = trace;
       theorem = theorem;
       ends = record {
         read = (omega (arith, few, so_far.turns), (rest, word), counts ∙ same_totals begun group_count same_desk);
         script = used;
         script_faults = script_faults;
-        output = written ∙ ap (given (totals_text totals)) front ∙ given-given (output_of settings so_far.played) (totals_text totals) old.output;
+        output = written ∙ ap (given (totals_text totals)) prefix ∙ given-given (output_of settings so_far.played) (totals_text totals) old.output;
       };
     }
 
     -- the word was read, and a write of the totals failed
     pub writes_part : length group.states ≡ settings.sizes.shards → (begun : Desk) (rest : List ℕ) (output : Object) → begun ≡ (run_of (bounds_of settings) (first_run so_far.played) so_far.played).desk → turn < 2 ^ 62 → ahead ≡ end_word ++ rest
         → HasWritten so_far.played output → HasFailedBehind (totals_text (totals_of_group group begun)) output new.output → Replayed settings WriteFailed old new
-    writes_part group_count begun rest output same_desk few word front failed = record {
-      course = course;
+    writes_part group_count begun rest output same_desk few word prefix failed = record {
+      trace = trace;
       theorem = theorem;
       ends = record {
         read = tt;
@@ -344,38 +341,38 @@ module _ (settings : Settings) (old new : Seen) (left : Told) (group : Group) (d
           few = omega (arith, few, so_far.turns);
           writing = inl (record { all = refl; ends = (rest, word); totals = refl });
           failed = subst (λ totals. HasFailedBehind (totals_text totals) (given (output_of settings so_far.played) old.output) new.output) (same_totals begun group_count same_desk)
-              (subst (λ (o : Object). HasFailedBehind (totals_text (totals_of_group group begun)) o new.output) front failed);
+              (subst (λ (o : Object). HasFailedBehind (totals_text (totals_of_group group begun)) o new.output) prefix failed);
         };
       };
     }
 
     -- a write of a reply to the last record failed
-    pub replies_part : (front : List Played) (p : Played) (output : Object) → so_far.played ≡ front ++ p ∷ [] → length front < 2 ^ 62
-        → HasWritten front output → HasFailedBehind (output_in settings (run_before (bounds_of settings) front p) p.command) output new.output → Replayed settings WriteFailed old new
-    replies_part front p output order few written failed =
-        let text = output_in settings (run_before (bounds_of settings) front p) p.command in
+    pub replies_part : (prefix : List Played) (p : Played) (output : Object) → so_far.played ≡ prefix ++ p ∷ [] → length prefix < 2 ^ 62
+        → HasWritten prefix output → HasFailedBehind (output_in settings (run_before (bounds_of settings) prefix p) p.command) output new.output → Replayed settings WriteFailed old new
+    replies_part prefix p output order few written failed =
+        let text = output_in settings (run_before (bounds_of settings) prefix p) p.command in
         record {
-          course = course;
+          trace = trace;
           theorem = theorem;
           ends = record {
             read = tt;
             script = used;
             script_faults = script_faults;
             output = record {
-              before = front;
+              before = prefix;
               text = text;
               few = few;
-              writing = inr (record { last = p; order = order; replies = ap (λ ps. output_in settings (run_of (bounds_of settings) (first_run ps) front) p.command) (sym order) });
+              writing = inr (record { last = p; order = order; replies = ap (λ ps. output_in settings (run_of (bounds_of settings) (first_run ps) prefix) p.command) (sym order) });
               failed = subst (λ (o : Object). HasFailedBehind text o new.output) written failed;
             };
           };
         }
 
     -- a record with a flaw stands next
-    pub finds_flaw : (flaw : ScriptFlaw) (place : ℕ) → place ≡ at → turn < 2 ^ 62 → Begins settings.sizes.receivers (Faulty flaw) ahead new.script.told
+    pub finds_flaw : (flaw : ScriptFlaw) (place : ℕ) → place ≡ at → turn < 2 ^ 62 → Begins settings.sizes.receivers (Faulty flaw) ahead new.script.content
         → HasWritten so_far.played new.output → Replayed settings (Faulted place flaw) old new
     finds_flaw flaw place here few begins written = record {
-      course = course;
+      trace = trace;
       theorem = theorem;
       ends = record {
         read = record { few = omega (arith, few, so_far.turns); begins = begins; place = here ∙ so_far.same_place };
@@ -385,10 +382,10 @@ module _ (settings : Settings) (old new : Seen) (left : Told) (group : Group) (d
       };
     }
 
-    -- as many records were carried out as there may be
-    pub wears_out : (turns : ℕ) → turns ≡ 2 ^ 62 → turn ≡ 2 ^ 62 → HasWritten so_far.played new.output → Replayed settings (WornOut turns) old new
+    -- as many records were executed as there may be
+    pub wears_out : (turns : ℕ) → turns ≡ 2 ^ 62 → turn ≡ 2 ^ 62 → HasWritten so_far.played new.output → Replayed settings (LimitReached turns) old new
     wears_out turns most full written = record {
-      course = course;
+      trace = trace;
       theorem = theorem;
       ends = record { read = (most, so_far.turns ∙ full); script = used; script_faults = script_faults; output = written };
     }
@@ -396,7 +393,7 @@ module _ (settings : Settings) (old new : Seen) (left : Told) (group : Group) (d
   -- a read failed while the bytes at hand didn't decide what stands next
   pub fails_to_read : turn < 2 ^ 62 → IsUndecided settings.sizes.receivers ahead → Rose old.script.faults new.script.faults → HasWritten so_far.played new.output → Replayed settings ReadFailed old new
   fails_to_read few undecided rose written = record {
-    course = course;
+    trace = trace;
     theorem = theorem;
     ends = record { read = (omega (arith, few, so_far.turns), undecided); script = used; script_faults = rose; output = written };
   }

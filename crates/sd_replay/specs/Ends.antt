@@ -1,6 +1,6 @@
 -- How a replay of the code ends, as the definitions have it.
 use Rattle.sd_model_replay.specs.Script.{BadWord, BadLength, CutShort}
-use Rattle.sd_model_replay.specs.Ends.{End, Complete, Faulted, ReadFailed, WriteFailed, WornOut}
+use Rattle.sd_model_replay.specs.AccountingTheorem.{End, Complete, Faulted, ReadFailed, WriteFailed, LimitReached}
 use Rattle.sd_totals.specs.Totals.{totals_view}
 use Rattle.sd_replay.specs.declared.fault.ScriptFault.{ScriptFault}
 use Rattle.sd_replay.specs.declared.fault.ScriptFault.TheVariants.{Word, Length, Truncated}
@@ -17,4 +17,4 @@ end_of (Ok totals) = Complete (totals_view totals)
 end_of (Script fault) = fault_end fault
 end_of ReadFault = ReadFailed
 end_of WriteFault = WriteFailed
-end_of (Worn turns) = WornOut turns
+end_of (Worn turns) = LimitReached turns

@@ -3,7 +3,7 @@ use Rattle.std.specs.Prelude.{◌≤◌, ◌*◌, ℕ}
 use Rattle.sd_model_shard.specs.Shard.{Limits}
 use Rattle.sd_record.specs.Rows.{Room}
 use Rattle.sd_model_settings.specs.Settings.{Settings}
-use Rattle.sd_model_replay.specs.Settings.{Bounds, bounds_of}
+use Rattle.sd_model_replay.specs.Replay.{Bounds, bounds_of}
 
 -- what the room of a replay depends on
 pub record Sizing : Type 0 where

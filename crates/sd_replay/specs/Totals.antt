@@ -2,7 +2,7 @@
 use Rattle.std.specs.Prelude.{List, length}
 use Rattle.sd_model_record.specs.Desk.{Desk}
 use Rattle.sd_model_record.specs.Totals.{Total, totals_of}
-use Rattle.sd_model_replay.specs.Totals.{summed}
+use Rattle.sd_model_replay.specs.AccountingTheorem.{summed}
 use Rattle.sd_shards.specs.Shards.{Group, state_at}
 
 -- the totals of shards and a desk

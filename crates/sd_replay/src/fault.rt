@@ -1,5 +1,5 @@
 ghost use Rattle.std.specs.Prelude.{◌≡◌};
-ghost use Rattle.sd_model_replay.specs.Ends.{Faulted};
+ghost use Rattle.sd_model_replay.specs.AccountingTheorem.{Faulted};
 ghost use Rattle.sd_script.specs.Flaws.{flaw_of};
 ghost use Rattle.sd_replay.specs.Ends.{fault_end};
 

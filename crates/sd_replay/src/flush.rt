@@ -1,13 +1,13 @@
 ghost use Rattle.std.specs.Prelude.{◌≡◌, ℕ, ◌<◌, length, map};
 ghost use Rattle.sd_model_record.specs.Backends.{console_text, graphite_text};
-ghost use Rattle.sd_model_record.specs.Desk.{with_round};
 ghost use Rattle.sd_model_record.specs.Record.{record_of};
-ghost use Rattle.sd_model_outside.specs.Deliveries.{AfterMark, FitsUse};
+ghost use Rattle.sd_model_outside.specs.Uses.{AfterMark, FitsUse};
 ghost use Rattle.sd_model_shard.specs.Shard.{after_swap, table_of};
 ghost use Rattle.sd_plan.specs.Plan.{plan_view};
 ghost use Rattle.sd_desk.specs.Marks.{mark_of, marks_of};
 ghost use Rattle.sd_shards.specs.Shards.{AreAlike, numbers, state_at};
 ghost use Rattle.sd_replay.specs.Room.{HasRoom};
+ghost use Rattle.sd_model_record.specs.Desk.{marked, taken};
 
 use sd_delivery::deliver;
 use sd_desk::{Desk, RoundMarks};
@@ -30,7 +30,7 @@ pub(crate) fn flush<B: Backend>(
     requires room { HasRoom (length shards.old.states) shards.old.limits scratch.old.room }
     ensures states { (i : ℕ) → i < length shards.old.states → state_at shards.new i ≡ after_swap shards.old.policy (state_at shards.old i) }
     ensures alike { AreAlike shards.old shards.new }
-    ensures desk { desk.new ≡ with_round desk.old (marks_of result) }
+    ensures desk { desk.new ≡ marked (taken desk.old) (marks_of result) }
     ensures room { scratch.new.room ≡ scratch.old.room }
     ensures graphite { AfterMark (mark_of result.graphite)
         (graphite_text names.now (record_of (plan_view plan.now) (map (λ i. table_of (state_at shards.old i)) (numbers shards.old)) (desk.old).tally ts))

@@ -35,7 +35,7 @@ impl Model for ReplayRoom {
 }
 
 impl ReplayRoom {
-    ghost use Rattle.sd_model_replay.specs.Settings.{limits_of, policy_of};
+    ghost use Rattle.sd_model_replay.specs.Replay.{limits_of, policy_of};
     ghost use Rattle.sd_replay.specs.Room.{sizing_of};
 
     /// Takes the room.

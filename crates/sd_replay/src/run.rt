@@ -2,9 +2,8 @@ ghost use Rattle.std.specs.Prelude.{◌≡◌, ◌≢◌, ◌≤◌, ◌<◌, �
 ghost use Rattle.sd_model_outside.specs.Outside.{HasFailedBehind, given};
 ghost use Rattle.sd_model_shard.specs.Whereabouts.{dropped_in};
 ghost use Rattle.sd_model_record.specs.Desk.{new_desk};
-ghost use Rattle.sd_model_replay.specs.Settings.{targets_of, is_used};
+ghost use Rattle.sd_model_replay.specs.Replay.{targets_of, is_used, packet_tally, replies_to, states_after};
 ghost use Rattle.sd_model_replay.specs.Script.{Packet};
-ghost use Rattle.sd_model_replay.specs.Replay.{packet_tally, replies_to, states_after};
 ghost use Rattle.sd_model_record.specs.Totals.{totals_text};
 ghost use Rattle.sd_replay.specs.Replayed.{Replayed};
 ghost use Rattle.sd_shards.specs.Shards.{AreAlike, group_bounds, state_at};
@@ -20,7 +19,7 @@ ghost use Rattle.sd_model_record.specs.Backends.{Graphite, Console};
 use crate::fault::{ScriptFault, fault_at};
 use crate::flush::flush;
 use crate::room::ReplayRoom;
-use sd_command::carry_out;
+use sd_command::execute;
 use sd_config::{NamesOf, Settings};
 use sd_desk::{Desk, Tally};
 use sd_epoch::Who;
@@ -32,7 +31,7 @@ use sd_script::Item;
 use sd_shards::Shards;
 use sd_totals::{Totals, write_totals};
 
-/// How many records a replay carries out at most.
+/// How many records a replay executes at most.
 const MOST_TURNS: u64 = 1 << 62;
 
 /// How a replay ended.
@@ -46,7 +45,7 @@ pub enum ReplayEnd {
     ReadFault,
     /// A reply or the totals couldn't be written whole.
     WriteFault,
-    /// So many records were carried out, the most that there may be.
+    /// So many records were executed, the most that there may be.
     Worn { turns: u64 },
 }
 
@@ -91,7 +90,7 @@ fn play_packet<L: Wire>(
 ///
 /// # Errors
 ///
-/// `WriteFault` where the output failed. Then a front of their text was written.
+/// `WriteFault` where the output failed. Then a prefix of their text was written.
 fn finish<O: Sink>(shards: &Shards, desk: &Desk, output: &mut O) -> Result<Totals, WriteFault>
     ensures totals { IfOk result (λ totals. totals_view totals ≡ totals_of_group shards.now desk.now) }
     ensures written { IfOk result (λ totals. O.seen output.new ≡ given (totals_text (totals_view totals)) (O.seen output.old)) }
@@ -123,7 +122,7 @@ fn begin(desk: &mut Desk, turn: u64, item: Item)
     }
 }
 
-/// Carries out a script, record by record, by settings that the room was opened for. Each packet is sent on the first wires,
+/// Executes a script, record by record, by settings that the room was opened for. Each packet is sent on the first wires,
 /// one for each target of the repeater, where it is named; the backends that are used get each flush's record; and the output
 /// gets the reply to each admin line, and the totals at the end.
 pub fn replay<R: Source, O: Sink, B: Backend, L: Wire>(
@@ -176,7 +175,7 @@ pub fn replay<R: Source, O: Sink, B: Backend, L: Wire>(
                 );
             }
             Item::Admin { moment } => {
-                let told = carry_out(
+                let replied = execute(
                     &mut shards,
                     &mut desk,
                     &mut keys,
@@ -186,7 +185,7 @@ pub fn replay<R: Source, O: Sink, B: Backend, L: Wire>(
                     reader.body(),
                     output,
                 );
-                if told.is_err() {
+                if replied.is_err() {
                     return ReplayEnd::WriteFault;
                 }
             }

@@ -8,9 +8,10 @@ use Rattle.std.specs.Ordering.{nat_cmp, is_lt, ordering_then}
 use Rattle.std.proofs.lemmas.Bool.{cases_Bool}
 use Rattle.std.proofs.lemmas.List.Elements.{All-nil, All-cons, All-head, All-tail, All-filter, All-take, All-weaker, filter-append}
 use Rattle.std.proofs.lemmas.List.{get_or-take, get_or-drop, take-append-drop, append-nil, length-take, length-drop}
-use Rattle.sd_model_ring.specs.Ring.{Point, comes_first, least, points_up, next_point, is_up}
+use Rattle.sd_model_ring.specs.Ring.{Point, least, next_point, is_up}
 use Rattle.sd_model_ring.proofs.Least.{Contains-head, comes-itself, comes-through, least-is, not_greater}
 use Rattle.sd_ring.specs.Points.{Ascends, first_up}
+use Rattle.sd_model_ring.proofs.Short.{points_up, comes_first}
 
 -- the least of those that pass is the first that passes
 pub least-find : (t : Point → Bool) (ps : List Point) → Ascends ps → least (filter t ps) ≡ find t ps
@@ -62,7 +63,7 @@ next-behind number up below above low high =
     let both : points_up up (below ++ above) ≡ points_up up below ++ points_up up above = filter-append t below above in
     let tail : filter s (points_up up below ++ points_up up above) ≡ points_up up above =
     filter-append s (points_up up below) (points_up up above)
-    ∙ ap (λ front. front ++ filter s (points_up up above)) (none_pass s (points_up up below) (All-filter t (λ p. s p ≡ false) below low))
+    ∙ ap (λ prefix. prefix ++ filter s (points_up up above)) (none_pass s (points_up up below) (All-filter t (λ p. s p ≡ false) below low))
     ∙ all_pass s (points_up up above) (All-filter t (λ p. s p ≡ true) above high)
     in
     ap (λ ps. option_or (least (filter s ps)) (least ps)) both ∙ ap (λ ps. option_or (least ps) (least (points_up up below ++ points_up up above))) tail
@@ -84,7 +85,7 @@ pub next-Ascends : (number up start : ℕ) (ps : List Point) → Ascends ps → 
     → option_map (λ p. p.node) (next_point number (points_up up ps)) ≡ option_or (first_up up (drop start ps)) (first_up up (take start ps))
 next-Ascends number up start ps asc within point =
     let t : Point → Bool = λ p. is_up up p.node in
-    let low : All (λ p. nat_le number p.at ≡ false) (take start ps) = λ k d lt. front k d (let less : k < start = omega (arith, length-take start ps) in less) in
+    let low : All (λ p. nat_le number p.at ≡ false) (take start ps) = λ k d lt. prefix k d (let less : k < start = omega (arith, length-take start ps) in less) in
     let high : All (λ p. nat_le number p.at ≡ true) (drop start ps) = λ k d lt. back k d (let less : start + k < length ps = omega (arith, length-drop start ps) in less) in
     ap (λ qs. option_map (λ p. p.node) (next_point number (points_up up qs))) (sym (take-append-drop start ps))
     ∙ ap (option_map (λ p. p.node)) (next-behind number up (take start ps) (drop start ps) low high)
@@ -95,8 +96,8 @@ next-Ascends number up start ps asc within point =
     mapped None b = refl
     mapped (Some p) b = refl
 
-    front : (k : ℕ) (d : Point) → k < start → nat_le number (get_or (take start ps) k d).at ≡ false
-    front k d less = ap (λ p. nat_le number p.at) (get_or-take start ps k d less) ∙ below_at number (get_or ps k d) (point.0 k d (omega arith) less)
+    prefix : (k : ℕ) (d : Point) → k < start → nat_le number (get_or (take start ps) k d).at ≡ false
+    prefix k d less = ap (λ p. nat_le number p.at) (get_or-take start ps k d less) ∙ below_at number (get_or ps k d) (point.0 k d (omega arith) less)
 
     back : (k : ℕ) (d : Point) → start + k < length ps → nat_le number (get_or (drop start ps) k d).at ≡ true
     back k d less = ap (λ p. nat_le number p.at) (get_or-drop start ps k d) ∙ above_at number (get_or ps (start + k) d) (point.1 (start + k) d (omega arith) less)

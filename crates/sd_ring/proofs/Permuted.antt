@@ -3,9 +3,10 @@ use Rattle.std.proofs.Common.{◌≡◌, ℕ, List, option_map, ap}
 use Rattle.std.specs.List.Sorted.{IsPermutation}
 use Rattle.std.proofs.lemmas.List.Sorted.{Contains-permutation, IsPermutation-sym}
 use Rattle.sd_model_settings.specs.Entries.{Node}
-use Rattle.sd_model_ring.specs.Ring.{Point, points, points_up, next_point, number_of_key, is_up, owner}
+use Rattle.sd_model_ring.specs.Ring.{Point, next_point, is_up, owner}
 use Rattle.sd_model_ring.proofs.Least.{Among}
 use Rattle.sd_model_ring.proofs.Owners.{among-filter, next-same}
+use Rattle.sd_model_ring.proofs.Short.{points, points_up, number_of_key}
 
 -- the owner may be found in the points in any order
 pub owner-permuted : (key : List ℕ) (nodes : List Node) (up : ℕ) (ps : List Point) → IsPermutation (points nodes) ps

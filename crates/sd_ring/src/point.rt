@@ -1,7 +1,8 @@
-ghost use Rattle.std.specs.Prelude.{◌≡◌, ◌+◌, ◌≤◌};
+ghost use Rattle.std.specs.Prelude.{◌≡◌, ◌+◌, ◌≤◌, codes, ◌++◌};
 ghost use Rattle.md5.specs.Md5.{md5, word_at};
-ghost use Rattle.sd_model_ring.specs.Ring.{node_text, number_of_key, is_up};
+ghost use Rattle.sd_model_ring.specs.Ring.{is_up};
 ghost use Rattle.sd_plan.specs.Entries.{node_view};
+ghost use Rattle.std.specs.Fmt.{decimal};
 
 use md5::{Digest, Md5};
 use sd_decimal::{Line, write_whole};
@@ -28,7 +29,7 @@ impl Model for Point {
 
 /// The digest of the text `HOST:PORT-i` of a node.
 pub(crate) fn node_digest(node: &Node, i: u8) -> [u8; 16]
-    ensures { result ≡ md5 (node_text (node_view node.now) i) }
+    ensures { result ≡ md5 ((node_view node.now).host ++ codes ":" ++ decimal (node_view node.now).port ++ codes "-" ++ decimal i) }
 {
     let mut text = Line::new();
     text.try_extend_from_slice(node.host.as_slice()).unwrap();
@@ -41,7 +42,7 @@ pub(crate) fn node_digest(node: &Node, i: u8) -> [u8; 16]
 
 /// The number of the key with these bytes.
 pub(crate) fn number_of_key(key: &[u8]) -> u32
-    ensures { result ≡ number_of_key key.now }
+    ensures { result ≡ word_at (md5 key.now) 0 }
 {
     word_at(&Md5::digest(key), 0)
 }

@@ -1,5 +1,5 @@
-ghost use Rattle.std.specs.Prelude.{◌≡◌, ◌≤◌, ◌++◌, length, map, IfOk, OnOk, option_map};
-ghost use Rattle.sd_model_ring.specs.Ring.{points, points_of, points_at, points_up, next_point};
+ghost use Rattle.std.specs.Prelude.{◌≡◌, ◌≤◌, ◌++◌, length, map, IfOk, OnOk, option_map, filter};
+ghost use Rattle.sd_model_ring.specs.Ring.{next_point, numbers_of_node, points_from, is_up};
 ghost use Rattle.sd_plan.specs.Entries.{node_view};
 ghost use Rattle.sd_ring.specs.Points.{Ascends, first_up, words_of};
 
@@ -13,7 +13,7 @@ const TEXTS: u8 = 40;
 /// The points of all nodes, from those of the first node on.
 pub(crate) fn points_of_nodes(alloc: Global, nodes: &[Node]) -> Result<Vec<Point>, AllocError>
     requires { length nodes.now ≤ 64 }
-    ensures { IfOk result (λ ps. ps.items ≡ points (map node_view nodes.now)) }
+    ensures { IfOk result (λ ps. ps.items ≡ points_from 0 (map node_view nodes.now)) }
 {
     let mut points = Vec::with_capacity(alloc, 4 * usize::from(TEXTS) * nodes.len())?;
     for (place, node) in nodes.iter().enumerate() {
@@ -24,7 +24,7 @@ pub(crate) fn points_of_nodes(alloc: Global, nodes: &[Node]) -> Result<Vec<Point
 
 /// Appends the points of a node.
 fn push_node(points: &mut Vec<Point>, place: u8, node: &Node) -> Result<(), AllocError>
-    ensures { OnOk result (points.new.items ≡ points.old.items ++ points_of place (node_view node.now)) }
+    ensures { OnOk result (points.new.items ≡ points.old.items ++ map (λ at. record { at = at; node = place }) (numbers_of_node (node_view node.now))) }
 {
     for i in 0..TEXTS {
         push_digest(points, place, &node_digest(node, i))?;
@@ -34,7 +34,7 @@ fn push_node(points: &mut Vec<Point>, place: u8, node: &Node) -> Result<(), Allo
 
 /// Appends the four points of a digest.
 fn push_digest(points: &mut Vec<Point>, place: u8, digest: &[u8; 16]) -> Result<(), AllocError>
-    ensures { OnOk result (points.new.items ≡ points.old.items ++ points_at place (words_of digest.now)) }
+    ensures { OnOk result (points.new.items ≡ points.old.items ++ map (λ at. record { at = at; node = place }) (words_of digest.now)) }
 {
     for at in [0, 4, 8, 12] {
         points.push(Point {
@@ -49,7 +49,7 @@ fn push_digest(points: &mut Vec<Point>, place: u8, digest: &[u8; 16]) -> Result<
 /// all.
 pub(crate) fn next_node(points: &[Point], number: u32, up: u64) -> Option<u8>
     requires { Ascends points.now }
-    ensures { result ≡ option_map (λ p. p.node) (next_point number (points_up up points.now)) }
+    ensures { result ≡ option_map (λ p. p.node) (next_point number (filter (λ p. is_up up p.node) points.now)) }
 {
     let start = points.partition_point(|p| p.at < number);
     let (below, above) = points.split_at(start);

@@ -86,15 +86,15 @@ kept_in : Option Row → Option Kept
 kept_in None = None
 kept_in (Some row) = Some (kept_of row)
 
-find-front : (q : RowId) (o : Option Row) (places : List (Option Row)) → find row_cmp q (entries_of (o ∷ places)) ≡ cond (has_id q o) (kept_in o) (find row_cmp q (entries_of places))
+find-prefix : (q : RowId) (o : Option Row) (places : List (Option Row)) → find row_cmp q (entries_of (o ∷ places)) ≡ cond (has_id q o) (kept_in o) (find row_cmp q (entries_of places))
 unfolding kept_in
-find-front q None places = refl
-find-front q (Some row) places = refl
+find-prefix q None places = refl
+find-prefix q (Some row) places = refl
 
 pub find-absent : (q : RowId) (places : List (Option Row)) → ((p : ℕ) → has_id q (row_at places p) ≡ false) → find row_cmp q (entries_of places) ≡ None
 find-absent q [] h = refl
 find-absent q (o ∷ places) h =
-    find-front q o places ∙ ap (λ b. cond b (kept_in o) (find row_cmp q (entries_of places))) (h 0) ∙ find-absent q places (λ p. h (suc p))
+    find-prefix q o places ∙ ap (λ b. cond b (kept_in o) (find row_cmp q (entries_of places))) (h 0) ∙ find-absent q places (λ p. h (suc p))
 
 some_kept : (o : Option Row) (q : RowId) (r : Option Kept) → has_id q o ≡ true → is_some (cond (has_id q o) (kept_in o) r) ≡ true
 unfolding kept_in
@@ -108,8 +108,8 @@ either_some false o q r h s = ap (λ b. is_some (cond b (kept_in o) r)) h ∙ s
 -- a place that has the id is found, or another
 pub find-present : (q : RowId) (places : List (Option Row)) (p : ℕ) → has_id q (row_at places p) ≡ true → is_some (find row_cmp q (entries_of places)) ≡ true
 find-present q [] p h = absurd (cc)
-find-present q (o ∷ places) zero h = ap is_some (find-front q o places) ∙ some_kept o q _ h
-find-present q (o ∷ places) (suc p) h = ap is_some (find-front q o places) ∙ either_some (has_id q o) o q _ refl (find-present q places p h)
+find-present q (o ∷ places) zero h = ap is_some (find-prefix q o places) ∙ some_kept o q _ h
+find-present q (o ∷ places) (suc p) h = ap is_some (find-prefix q o places) ∙ either_some (has_id q o) o q _ refl (find-present q places p h)
 
 first_written : (a b : Bool) (K X F : Option Kept) → (a ≡ false → b ≡ true → F ≡ None) → cond a K F ≡ cond a K (cond b None (cond b X F))
 first_written true b K X F h = refl
@@ -130,16 +130,16 @@ find-write :
     → find row_cmp q (entries_of (set places at o)) ≡ cond (has_id q o) (kept_in o) (cond (has_id q (row_at places at)) None (find row_cmp q (entries_of places)))
 find-write q [] at o lt new old = absurd (omega arith)
 find-write q (x ∷ places) zero o lt new old =
-    find-front q o places
+    find-prefix q o places
     ∙ first_written (has_id q o) (has_id q x) (kept_in o) (kept_in x) (find row_cmp q (entries_of places)) (λ a b. find-absent q places (λ p. old b (suc p) (λ e. omega arith)))
-    ∙ ap (λ r. cond (has_id q o) (kept_in o) (cond (has_id q x) None r)) (sym (find-front q x places))
+    ∙ ap (λ r. cond (has_id q o) (kept_in o) (cond (has_id q x) None r)) (sym (find-prefix q x places))
 find-write q (x ∷ places) (suc at) o lt new old =
-    find-front q x (set places at o)
+    find-prefix q x (set places at o)
     ∙ ap (cond (has_id q x) (kept_in x)) (find-write q places at o (omega arith) (λ h p ne. new h (suc p) (λ e. ne (omega arith))) (λ h p ne. old h (suc p) (λ e. ne (omega arith))))
     ∙ later_written (has_id q o) (has_id q (row_at places at)) (has_id q x) (kept_in o) (kept_in x) (find row_cmp q (entries_of places))
     (λ c a. both (has_id q x) c (new a 0 (λ e. omega arith)))
     (λ c b. both (has_id q x) c (old b 0 (λ e. omega arith)))
-    ∙ ap (λ r. cond (has_id q o) (kept_in o) (cond (has_id q (row_at places at)) None r)) (sym (find-front q x places))
+    ∙ ap (λ r. cond (has_id q o) (kept_in o) (cond (has_id q (row_at places at)) None r)) (sym (find-prefix q x places))
 
 -- an apart place's id is in no other
 pub no_other : (places : List (Option Row)) (at : ℕ) (q : RowId) → AreApart places → has_id q (row_at places at) ≡ true → (p : ℕ) → p ≢ at → has_id q (row_at places p) ≡ false

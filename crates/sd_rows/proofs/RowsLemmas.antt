@@ -88,11 +88,11 @@ pub fill_apart :
     → AreApart (set places at (Some row))
 fill_apart places at row w absent within p q kind key hp hq =
     let P = set_differs places at (Some row) None within in
-    let lead : (i : ℕ) → i ≡ at → Holds kind key (get_or (set places at (Some row)) i None) → (row.kind ≡ kind) × (row.key ≡ key) =
+    let matched : (i : ℕ) → i ≡ at → Holds kind key (get_or (set places at (Some row)) i None) → (row.kind ≡ kind) × (row.key ≡ key) =
     λ i e h. subst (Holds kind key) (ap (λ j. get_or (set places at (Some row)) j None) e ∙ P.at) h in
     let clash : (i j : ℕ) → i ≡ at → j ≢ at → Holds kind key (get_or (set places at (Some row)) i None) → Holds kind key (get_or (set places at (Some row)) j None) → ⊥ =
     λ i j e ne hi hj.
-    let same = lead i e hi in
+    let same = matched i e hi in
     let old : Holds kind key (get_or places j None) = subst (Holds kind key) (P.other j ne) hj in
     absent j (subst (λ k. Holds k row.key (get_or places j None)) (sym same.0) (subst (λ x. Holds kind x (get_or places j None)) (sym same.1) old)) in
     elim (cases_eq p at) as (λ _. p ≡ q) [

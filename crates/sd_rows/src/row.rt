@@ -25,7 +25,7 @@ pub struct RowView<'a> {
 
 impl<'a> RowView<'a> {
     ghost use Rattle.std.specs.Prelude.{◌≡◌, ◌↔◌, IsTrue};
-    ghost use Rattle.sd_model_shard.specs.Commands.{is_hit, is_of_kind};
+    ghost use Rattle.sd_model_shard.specs.Rows.{is_hit, is_of_kind};
     ghost use Rattle.sd_key.specs.Kind.{kind_of};
     ghost use Rattle.sd_rows.specs.RowMap.{id_of};
     ghost use Rattle.sd_rows.specs.Rows.{row_seen};

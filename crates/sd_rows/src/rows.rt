@@ -85,7 +85,7 @@ impl Rows {
         ensures within { self.now.used ≤ length self.now.rows }
         ensures few { length self.now.rows ≤ 2 ^ 30 }
         ensures empty { (p : ℕ) → self.now.used ≤ p → row_at self.now.rows p ≡ None }
-        ensures untold { (p : ℕ) → self.now.used ≤ p → get_or self.now.tallies p no_tally ≡ no_tally }
+        ensures unknown { (p : ℕ) → self.now.used ≤ p → get_or self.now.tallies p no_tally ≡ no_tally }
     {
         self.heads.len() as u32
     }

@@ -2,7 +2,7 @@ use sd_config::Settings;
 use sd_outside::Name;
 use sd_plan::{Calculated, TimerClass};
 
-/// How many bytes a line of Graphite's text is reckoned to have beside what stands before a key and behind a path: 30 of the key, 8 of
+/// How many bytes a line of Graphite's text is estimated to have beside what stands before a key and behind a path: 30 of the key, 8 of
 /// a figure's name and the point before it, 7 of the number, 10 of the second, two spaces and a newline.
 const GRAPHITE_LINE: u64 = 58;
 
@@ -88,7 +88,7 @@ fn dotted(part: &Name) -> u64 {
 }
 
 /// How many bytes stand before a key in Graphite's text at most.
-fn front(settings: &Settings) -> u64 {
+fn path_prefix(settings: &Settings) -> u64 {
     if settings.legacy_namespace() {
         return b"stats.timers.".len() as u64;
     }
@@ -96,11 +96,11 @@ fn front(settings: &Settings) -> u64 {
     dotted(settings.global_prefix()).saturating_add(prefix)
 }
 
-/// How many bytes Graphite's text of a flush is reckoned to have where all rows of all tables are in use, as the kind of row with the
+/// How many bytes Graphite's text of a flush is estimated to have where all rows of all tables are in use, as the kind of row with the
 /// most lines by the settings, with keys of 30 bytes and numbers of 7.
 pub fn full_graphite_text(settings: &Settings) -> u64 {
     let line = GRAPHITE_LINE
-        .saturating_add(front(settings))
+        .saturating_add(path_prefix(settings))
         .saturating_add(dotted(settings.global_suffix()));
     full_lines(settings).saturating_mul(line)
 }

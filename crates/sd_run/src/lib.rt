@@ -1,4 +1,4 @@
-//! What all runs take from the settings, and how long a flush's text is reckoned to be by these.
+//! What all runs take from the settings, and how long a flush's text is estimated to be by these.
 //!
 //! `sd_replay` and `sd_top` use it, for replays, servers and proxies alike. It opens nothing, and takes no memory.
 #![tactic(auto)]

@@ -1,7 +1,7 @@
 ghost use Rattle.std.specs.Prelude.{◌≡◌, ◌≤◌, length, map};
 ghost use Rattle.std.specs.List.{list_any};
 ghost use Rattle.std.specs.Str.{bytes_eq};
-ghost use Rattle.sd_model_replay.specs.Settings.{limits_of as limits_by, names_backend as is_named, policy_of as policy_by, targets_of as targets_by};
+ghost use Rattle.sd_model_replay.specs.Replay.{limits_of as limits_by, names_backend as is_named, policy_of as policy_by, targets_of as targets_by};
 ghost use Rattle.sd_plan.specs.Entries.{target_view};
 ghost use Rattle.sd_epoch.specs.Limits.{limits_of as limits_view, AreLimits};
 ghost use Rattle.sd_shard.specs.Policy.{policy_of as policy_view};

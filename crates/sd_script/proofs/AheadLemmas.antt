@@ -5,7 +5,7 @@ use Rattle.std.proofs.lemmas.List.{take-append-le, drop-append-le, drop-take, dr
 use Rattle.std.proofs.Math.Seq.{take-append-add}
 use Rattle.std.specs.Vec.{with_items}
 use borrow.Rule.Slice.PartMut.{post_of}
-use Rattle.sd_model_outside.specs.Outside.{Told, Reads, put_back}
+use Rattle.sd_model_outside.specs.Outside.{Content, Reads, put_back}
 use Rattle.sd_model_outside.proofs.OutsideLemmas.{put_back-append}
 
 pub length-slice_range : (xs : List ℕ) (i j : ℕ) → i ≤ j → j ≤ length xs → length (slice_range xs i j) ≡ j - i
@@ -43,7 +43,7 @@ slice_range-same xs zs i j order inside =
     ∙ take_at (slice_range xs i j) zs (j - i) (length-slice_range xs i j order inside)
 
 -- bytes that came are no longer left in the source, but held
-pub left-reads : (held more : List ℕ) (old new : Told) → Reads old more new → put_back (held ++ more) new ≡ put_back held old
+pub left-reads : (held more : List ℕ) (old new : Content) → Reads old more new → put_back (held ++ more) new ≡ put_back held old
 left-reads held more old new reads = sym (put_back-append held more new) ∙ ap (put_back held) (sym reads)
 
 -- the room xs with ys written behind the place j
@@ -70,5 +70,5 @@ module _ {Z : Type 0} (room : Vec ℕ Z) (xs ys : List ℕ) (i j : ℕ) (same : 
       ∙ ap (λ zs. slice_range zs i j ++ take n ys) same
 
 -- the bytes among which the newline of a line stands
-pub take-front : (xs held : List ℕ) (most k : ℕ) → xs ≡ held → k ≡ min most (length xs) → take k xs ≡ take most held
-take-front xs held most k same is = ap (λ n. take n xs) is ∙ take_min most xs ∙ ap (take most) same
+pub take-prefix : (xs held : List ℕ) (most k : ℕ) → xs ≡ held → k ≡ min most (length xs) → take k xs ≡ take most held
+take-prefix xs held most k same is = ap (λ n. take n xs) is ∙ take_min most xs ∙ ap (take most) same

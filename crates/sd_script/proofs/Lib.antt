@@ -1,6 +1,6 @@
 pub mod Cuts
 pub mod HeadLemmas
 pub mod AheadLemmas
-pub mod FrontLemmas
+pub mod PrefixLemmas
 pub mod ReaderLemmas
 pub mod NextLemmas

@@ -4,10 +4,11 @@ use Rattle.std.specs.Prelude.{Bool, true, false, IsTrue}
 use Rattle.std.proofs.lemmas.List.{take_at, take-append-le, take-append-drop, drop_more, length-take-le, get_or_append_left}
 use Rattle.sd_model_text.specs.Lists.{Lacks}
 use Rattle.sd_model_text.proofs.Cuts.{same_cut, at_cut}
-use Rattle.sd_model_outside.specs.Outside.{Told, Left}
-use Rattle.sd_model_replay.specs.Script.{Head, PacketHead, FlushHead, AdminHead, EndHead, Body, head_line, body_of, IsForm, Packet, Flush, Admin, spelled, BadWord, BadLength, CutShort, Next, Carried, Ending, Faulty, IsPartOfLine, HasNoLine, HasNoForm, HasBody, IsOver, IsPart, IsMisfit, IsWrong, IsUndecided, Begins}
+use Rattle.sd_model_outside.specs.Outside.{Content, Left}
+use Rattle.sd_model_replay.specs.Script.{Head, PacketHead, FlushHead, AdminHead, EndHead, Body, head_line, body_of, IsForm, Packet, Flush, Admin, spelled, BadWord, BadLength, CutShort, Next, Executed, Ending, Faulty, IsPartOfLine, HasNoForm, HasBody, IsPart, IsWrong, IsUndecided, Begins}
 use Rattle.sd_script.specs.Next.{IsWhole, next_text}
-use Rattle.sd_model_replay.proofs.LineLemmas.{Lacks-line, length-line, same_front, uncut, newline_soon, longer}
+use Rattle.sd_model_replay.proofs.LineLemmas.{Lacks-line, length-line, same_prefix, uncut, newline_soon, longer}
+use Rattle.sd_model_replay.proofs.Short.{HasNoLine, IsOver, IsMisfit}
 
 -- what stands next by a body, where this does if it is whole
 abbrev pub BodyNext : Body → Next → List ℕ → Next → Type 0
@@ -38,9 +39,9 @@ one_body body whole rest a b (inr (inr (inr (o, s)))) (inr (inr (inr (p, t)))) =
 
 -- What stands next where a first line is whole, and so is the body behind it: these bytes, if the line announces one.
 abbrev pub whole_next : Head → List ℕ → Next
-whole_next (PacketHead who moment len) bytes = Carried (Packet who moment bytes)
-whole_next (FlushHead ts) bytes = Carried (Flush ts)
-whole_next (AdminHead moment len) bytes = Carried (Admin moment bytes)
+whole_next (PacketHead who moment len) bytes = Executed (Packet who moment bytes)
+whole_next (FlushHead ts) bytes = Executed (Flush ts)
+whole_next (AdminHead moment len) bytes = Executed (Admin moment bytes)
 whole_next EndHead bytes = Ending
 
 -- what stands next behind a first line that announces this body, or none
@@ -71,7 +72,7 @@ text_of_body (FlushHead ts) body bytes announced long = absurd (cc)
 text_of_body EndHead body bytes announced long = absurd (cc)
 
 -- it is legal, where its first line has its form and its body is as it may be
-begins_body : (receivers : ℕ) (head : Head) (body : Body) (bytes more : List ℕ) (left : Told) → body_of head ≡ Some body → IsForm receivers head → length bytes ≤ body.most → (IsTrue body.is_line → Lacks 10 bytes)
+begins_body : (receivers : ℕ) (head : Head) (body : Body) (bytes more : List ℕ) (left : Content) → body_of head ≡ Some body → IsForm receivers head → length bytes ≤ body.most → (IsTrue body.is_line → Lacks 10 bytes)
     → Begins receivers (whole_next head bytes) (next_text (whole_next head bytes) ++ more) left
 begins_body receivers (PacketHead who moment len) body bytes more left announced form few lacks =
     let most : body.most ≡ 65507 = cc in ((form.0, form.1, omega (arith, few, most)), (more, refl))
@@ -82,14 +83,14 @@ begins_body receivers (AdminHead moment len) body bytes more left announced form
 begins_body receivers (FlushHead ts) body bytes more left announced form few lacks = absurd (cc)
 begins_body receivers EndHead body bytes more left announced form few lacks = absurd (cc)
 
--- this stands at the front of bytes, and these stand behind its text
-pub record StandsInFront (receivers : ℕ) (next : Next) (bytes behind : List ℕ) : Type 0 where
-  pub begins : (more : List ℕ) (left : Told) → Begins receivers next (next_text next ++ more) left
+-- this stands at the start of bytes, and these stand behind its text
+pub record StandsBefore (receivers : ℕ) (next : Next) (bytes behind : List ℕ) : Type 0 where
+  pub begins : (more : List ℕ) (left : Content) → Begins receivers next (next_text next ++ more) left
   pub whole : bytes ≡ next_text next ++ behind
 
 -- a first line with a whole body behind it
 pub body_stands : (receivers : ℕ) (head : Head) (body : Body) (bytes rest : List ℕ) → body_of head ≡ Some body → IsForm receivers head → bytes ≡ head_line head ++ 10 ∷ rest → IsWhole body rest
-    → StandsInFront receivers (whole_next head (take body.len rest)) bytes (drop (body.len + 1) rest)
+    → StandsBefore receivers (whole_next head (take body.len rest)) bytes (drop (body.len + 1) rest)
 body_stands receivers head body bytes rest announced form whole is =
     let inside = take body.len rest in
     let behind = drop (body.len + 1) rest in
@@ -103,7 +104,7 @@ body_stands receivers head body bytes rest announced form whole is =
     }
 
 -- a first line that announces no body
-pub line_stands : (receivers : ℕ) (head : Head) (bytes rest : List ℕ) → body_of head ≡ None → IsForm receivers head → bytes ≡ head_line head ++ 10 ∷ rest → StandsInFront receivers (whole_next head []) bytes rest
+pub line_stands : (receivers : ℕ) (head : Head) (bytes rest : List ℕ) → body_of head ≡ None → IsForm receivers head → bytes ≡ head_line head ++ 10 ∷ rest → StandsBefore receivers (whole_next head []) bytes rest
 line_stands receivers (FlushHead ts) bytes rest announced form whole = record {
   begins = λ more left. (form, (more, refl));
   whole = whole ∙ sym (append_assoc (head_line (FlushHead ts)) (10 ∷ []) rest);
@@ -112,9 +113,9 @@ line_stands receivers EndHead bytes rest announced form whole = record { begins 
 line_stands receivers (PacketHead who moment len) bytes rest announced form whole = absurd (cc)
 line_stands receivers (AdminHead moment len) bytes rest announced form whole = absurd (cc)
 
--- what stands at the front of bytes stands next in them
-pub begins_in_front : (receivers : ℕ) (next : Next) (bytes behind : List ℕ) (left : Told) → StandsInFront receivers next bytes behind → Begins receivers next bytes left
-begins_in_front receivers next bytes behind left h = subst (λ xs. Begins receivers next xs left) (sym h.whole) (h.begins behind left)
+-- what stands at the start of bytes stands next in them
+pub begins_before : (receivers : ℕ) (next : Next) (bytes behind : List ℕ) (left : Content) → StandsBefore receivers next bytes behind → Begins receivers next bytes left
+begins_before receivers next bytes behind left h = subst (λ xs. Begins receivers next xs left) (sym h.whole) (h.begins behind left)
 
 -- bytes before a newline are a whole body
 whole_body : (most : ℕ) (is_line : Bool) (bytes rest : List ℕ) → length bytes ≤ most → (IsTrue is_line → Lacks 10 bytes) → IsWhole (record { len = length bytes; most = most; is_line = is_line }) (bytes ++ 10 ∷ rest)
@@ -152,7 +153,7 @@ module _ (receivers : ℕ) (bytes : List ℕ) where
   seen_body : (head : Head) (most : ℕ) (is_line : Bool) (body rest : List ℕ) → body_of head ≡ Some (record { len = length body; most = most; is_line = is_line }) → IsForm receivers head
       → bytes ≡ head_line head ++ 10 ∷ body ++ 10 ∷ [] ++ rest → length body ≤ most → (IsTrue is_line → Lacks 10 body) → Sight (whole_next head body)
   seen_body head most is_line body rest announced form is few lacks =
-      let front : take (length body) (body ++ 10 ∷ rest) ≡ body = take_at body (10 ∷ rest) (length body) refl in
+      let prefix : take (length body) (body ++ 10 ∷ rest) ≡ body = take_at body (10 ∷ rest) (length body) refl in
       inr (inr (inr (record {
         head = head;
         rest = body ++ 10 ∷ rest;
@@ -160,15 +161,15 @@ module _ (receivers : ℕ) (bytes : List ℕ) where
         whole = is ∙ text_parts (head_line head) body rest;
         so =
             subst (λ (o : Option Body). HeadNext head o (body ++ 10 ∷ rest) (whole_next head body)) (sym announced)
-            (inr (inr (inr (whole_body most is_line body rest few lacks, ap (whole_next head) (sym front)))));
+            (inr (inr (inr (whole_body most is_line body rest few lacks, ap (whole_next head) (sym prefix)))));
       })))
 
-  seen : (next : Next) (left : Told) → Begins receivers next bytes left → Sight next
-  seen (Carried (Packet who moment datagram)) left (legal, (rest, is)) =
+  seen : (next : Next) (left : Content) → Begins receivers next bytes left → Sight next
+  seen (Executed (Packet who moment datagram)) left (legal, (rest, is)) =
       seen_body (PacketHead who moment (length datagram)) 65507 false datagram rest refl (legal.0, legal.1, omega (arith, legal.2)) is legal.2 (λ on. absurd (cc))
-  seen (Carried (Admin moment line)) left (legal, (rest, is)) =
+  seen (Executed (Admin moment line)) left (legal, (rest, is)) =
       seen_body (AdminHead moment (length line)) 1023 true line rest refl (legal.0, omega (arith, legal.1)) is legal.1 (λ on. legal.2)
-  seen (Carried (Flush ts)) left (legal, (rest, is)) = inr (inr (inr (record {
+  seen (Executed (Flush ts)) left (legal, (rest, is)) = inr (inr (inr (record {
     head = FlushHead ts;
     rest = rest;
     form = legal;
@@ -198,7 +199,7 @@ module _ (receivers : ℕ) (bytes : List ℕ) where
 
   one_form : (a b : Next) → Formed a → Formed b → a ≡ b
   one_form a b f g =
-      let same = same_front receivers bytes f.head g.head f.rest g.rest f.form g.form f.whole g.whole in
+      let same = same_prefix receivers bytes f.head g.head f.rest g.rest f.form g.form f.whole g.whole in
       one_behind g.head (body_of g.head) g.rest a b (subst (λ (h : Head). HeadNext h (body_of h) g.rest a) same.0 (subst (λ r. HeadNext f.head (body_of f.head) r a) same.1 f.so)) g.so
 
   one_sight : (a b : Next) → Sight a → Sight b → a ≡ b
@@ -219,7 +220,7 @@ module _ (receivers : ℕ) (bytes : List ℕ) where
   one_sight a b (inr (inr (inr f))) (inr (inr (inl (p, t)))) = absurd (no_form a p f)
   one_sight a b (inr (inr (inr f))) (inr (inr (inr g))) = one_form a b f g
 
-  pub one_next : (a b : Next) (left other : Told) → Begins receivers a bytes left → Begins receivers b bytes other → a ≡ b
+  pub one_next : (a b : Next) (left other : Content) → Begins receivers a bytes left → Begins receivers b bytes other → a ≡ b
   one_next a b left other first second = one_sight a b (seen a left first) (seen b other second)
 
 -- What stands next in bytes stands next in more of them.
@@ -250,7 +251,7 @@ module _ (receivers : ℕ) (bytes more : List ℕ) where
 
   -- where the source has these left
   pub next_stays : (next : Next) → Begins receivers next bytes (Left more) → Begins receivers next (bytes ++ more) (Left [])
-  next_stays (Carried command) (legal, (rest, is)) = (legal, (rest ++ more, ap (λ xs. xs ++ more) is ∙ append_assoc (spelled command) rest more))
+  next_stays (Executed command) (legal, (rest, is)) = (legal, (rest ++ more, ap (λ xs. xs ++ more) is ∙ append_assoc (spelled command) rest more))
   next_stays Ending (rest, is) = (rest ++ more, ap (λ xs. xs ++ more) is)
   next_stays (Faulty BadWord) (inl none) = inl (no_line_stays none)
   next_stays (Faulty BadWord) (inr none) = inr (no_form_stays none)

@@ -1,13 +1,13 @@
--- What stands at the front of the bytes ahead is read.
+-- What stands at the start of the bytes ahead is read.
 use Rattle.std.proofs.Common.{◌≡◌, ℕ, ◌+◌, List, ◌∷◌, ◌++◌, Option, None, Some, length, drop, sym, ap, subst, refl, ◌∙◌, arith, length-append, length-drop}
 use Rattle.std.specs.Prelude.{min, option_map, IfSome}
 use Rattle.std.specs.Option.{option_map_or}
-use Rattle.sd_model_outside.specs.Outside.{Told, last_count, put_back}
+use Rattle.sd_model_outside.specs.Outside.{Content, last_count, put_back}
 use Rattle.sd_model_outside.proofs.OutsideLemmas.{put_back-append}
 use Rattle.sd_model_replay.specs.Script as model
 use Rattle.sd_model_replay.specs.Script.{PacketHead, FlushHead, AdminHead, EndHead, Body, head_line, body_of, IsForm, Next}
 use Rattle.sd_script.specs.Next.{StandsNext, next_text, IsWhole}
-use Rattle.sd_script.proofs.NextLemmas.{whole_next, StandsInFront, body_stands, line_stands}
+use Rattle.sd_script.proofs.NextLemmas.{whole_next, StandsBefore, body_stands, line_stands}
 use Rattle.sd_script.specs.Found.{BeginsWith, size_of}
 use Rattle.sd_script.specs.Head.{head_of, item_of}
 use Rattle.sd_script.specs.Reader.{lent_of, pending_of}
@@ -44,39 +44,39 @@ lent End rest = refl
 
 module _ (receivers : ℕ) (head : model.Head) (held rest : List ℕ) (form : IsForm receivers head) (whole : held ≡ head_line head ++ 10 ∷ rest) where
   -- a first line, and its body behind it if it announces one
-  in_front : (announced : Option Body) → body_of head ≡ announced → IfSome announced (λ b. IsWhole b rest) → StandsInFront receivers (whole_next head (lent_of (len_of announced) rest)) held (pending_of (len_of announced) rest)
-  in_front None none so = line_stands receivers head held rest none form whole
-  in_front (Some body) some so = body_stands receivers head body held rest some form whole so
+  before_it : (announced : Option Body) → body_of head ≡ announced → IfSome announced (λ b. IsWhole b rest) → StandsBefore receivers (whole_next head (lent_of (len_of announced) rest)) held (pending_of (len_of announced) rest)
+  before_it None none so = line_stands receivers head held rest none form whole
+  before_it (Some body) some so = body_stands receivers head body held rest some form whole so
 
   length-next_text : (announced : Option Body) → body_of head ≡ announced → IfSome announced (λ b. IsWhole b rest)
       → length (next_text (whole_next head (lent_of (len_of announced) rest))) ≡ length (head_line head) + 1 + option_map_or (λ b. b.len + 1) announced 0
   length-next_text None none so =
       let text = next_text (whole_next head (lent_of None rest)) in
-      omega (arith, ap length (in_front None none so).whole, ap length whole, length-append text rest, length-append (head_line head) (10 ∷ rest))
+      omega (arith, ap length (before_it None none so).whole, ap length whole, length-append text rest, length-append (head_line head) (10 ∷ rest))
   length-next_text (Some body) some so =
       let text = next_text (whole_next head (lent_of (Some body.len) rest)) in
       let behind = drop (body.len + 1) rest in
-      omega (arith, so.1, ap length (in_front (Some body) some so).whole, ap length whole, length-append text behind, length-append (head_line head) (10 ∷ rest), length-drop (body.len + 1) rest)
+      omega (arith, so.1, ap length (before_it (Some body) some so).whole, ap length whole, length-append text behind, length-append (head_line head) (10 ∷ rest), length-drop (body.len + 1) rest)
 
--- A record that stands at the front of what is held was read: its first line is let go, and its body is lent, if it has
+-- A record that stands at the start of what is held was read: its first line is let go, and its body is lent, if it has
 -- one.
-pub reads_record : (found : Found) (held : List ℕ) (old new : Reading) (had has : Told) (len : Option ℕ) → BeginsWith old.receivers found held → put_back held has ≡ left old had → len ≡ len_of (body_of (head_of found.head))
+pub reads_record : (found : Found) (held : List ℕ) (old new : Reading) (had has : Content) (len : Option ℕ) → BeginsWith old.receivers found held → put_back held has ≡ left old had → len ≡ len_of (body_of (head_of found.head))
     → new.body ≡ lent_of len (drop found.line held) → new.pending ≡ pending_of len (drop found.line held) → new.at ≡ min (old.at + size_of found) last_count → new.receivers ≡ old.receivers → ReadsItem (item_of found.head) old had new has
 reads_record found held old new had has len begins same is lends behind counts receivers =
     let head = head_of found.head in
     let rest = drop found.line held in
     let text = lent_of (len_of (body_of head)) rest in
     let next = whole_next head text in
-    let front = in_front old.receivers head held rest begins.front.form begins.front.whole (body_of head) refl begins.body in
-    let size = length-next_text old.receivers head held rest begins.front.form begins.front.whole (body_of head) refl begins.body in
+    let prefix = before_it old.receivers head held rest begins.prefix.form begins.prefix.whole (body_of head) refl begins.body in
+    let size = length-next_text old.receivers head held rest begins.prefix.form begins.prefix.whole (body_of head) refl begins.body in
     let body : new.body ≡ text = rw is at lends in
     let pending : new.pending ≡ pending_of (len_of (body_of head)) rest = rw is at behind in
     let says : next_of (item_of found.head) new.body ≡ next = ap (next_of (item_of found.head)) body ∙ said found.head text in
-    let whole : held ≡ next_text next ++ new.pending = front.whole ∙ ap (λ xs. next_text next ++ xs) (sym pending) in
+    let whole : held ≡ next_text next ++ new.pending = prefix.whole ∙ ap (λ xs. next_text next ++ xs) (sym pending) in
     let reads = sym same ∙ ap (λ xs. put_back xs has) whole ∙ sym (put_back-append (next_text next) new.pending has) in
     record {
-      stands = subst (λ (n : Next). StandsNext old.receivers n (left old had) new.pending has) (sym says) (record { begins = front.begins new.pending has; reads = reads });
-      at = omega (arith, counts, size, begins.front.size, counted head text old.at, ap (λ n. at_behind n old.at) says);
+      stands = subst (λ (n : Next). StandsNext old.receivers n (left old had) new.pending has) (sym says) (record { begins = prefix.begins new.pending has; reads = reads });
+      at = omega (arith, counts, size, begins.prefix.size, counted head text old.at, ap (λ n. at_behind n old.at) says);
       lends = subst (Lends (item_of found.head)) (sym body) (lent found.head rest);
       receivers = receivers;
     }

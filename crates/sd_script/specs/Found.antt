@@ -1,7 +1,7 @@
--- What stands at the front of bytes.
+-- What stands at the start of bytes.
 use Rattle.std.specs.Prelude.{◌≡◌, ℕ, ◌+◌, List, ◌∷◌, ◌++◌, length, drop, Result, Ok, Err, IfSome}
 use Rattle.std.specs.Option.{option_map_or}
-use Rattle.sd_model_outside.specs.Outside.{Told}
+use Rattle.sd_model_outside.specs.Outside.{Content}
 use Rattle.sd_model_replay.specs.Script.{head_line, body_of, IsForm, HasFlaw}
 use Rattle.sd_script.specs.Next.{IsWhole}
 use Rattle.sd_script.specs.Flaws.{flaw_of}
@@ -18,13 +18,13 @@ pub record BeginsWithLine (receivers : ℕ) (head : Head) (line : ℕ) (bytes : 
 
 -- the bytes begin with a record whose body, if it has one, is whole
 pub record BeginsWith (receivers : ℕ) (found : Found) (bytes : List ℕ) : Type 0 where
-  pub front : BeginsWithLine receivers found.head found.line bytes
+  pub prefix : BeginsWithLine receivers found.head found.line bytes
   pub body : IfSome (body_of (head_of found.head)) (λ b. IsWhole b (drop found.line bytes))
 
--- a record stands at the front of bytes that were read, or one with a flaw
-abbrev pub IsFront : ℕ → List ℕ → Told → Result Found Flaw → Type 0
-IsFront receivers bytes left (Ok found) = BeginsWith receivers found bytes
-IsFront receivers bytes left (Err flaw) = HasFlaw receivers (flaw_of flaw) bytes left
+-- a record stands at the start of bytes that were read, or one with a flaw
+abbrev pub IsPrefix : ℕ → List ℕ → Content → Result Found Flaw → Type 0
+IsPrefix receivers bytes left (Ok found) = BeginsWith receivers found bytes
+IsPrefix receivers bytes left (Err flaw) = HasFlaw receivers (flaw_of flaw) bytes left
 
 -- how many bytes a record has: its first line, and its body and the newline behind it, if it has one
 abbrev pub size_of : Found → ℕ

@@ -5,7 +5,7 @@ use Rattle.sd_script.specs.Ahead.{held_in}
 use Rattle.sd_script.specs.Reading.{Reading}
 use Rattle.sd_script.specs.declared.reader.Reader.TheInside.{Inside}
 
--- the body that was read last, where there is one: it stands at the front of the bytes ahead
+-- the body that was read last, where there is one: it stands at the start of the bytes ahead
 abbrev pub lent_of : Option ℕ → List ℕ → List ℕ
 lent_of None held = []
 lent_of (Some len) held = take len held

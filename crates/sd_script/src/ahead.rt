@@ -12,7 +12,7 @@ pub(crate) const LINE: usize = 40;
 /// No record has more bytes.
 const RECORD: usize = LINE + LONGEST + 1;
 
-/// Room for two of the longest records, so that bytes are seldom moved to its front.
+/// Room for two of the longest records, so that bytes are seldom moved to its start.
 const ROOM: usize = 2 * RECORD;
 
 /// Bytes that were read ahead of what is asked for, in room that is taken once.
@@ -63,7 +63,7 @@ impl Ahead {
         &self.room[self.start..self.end]
     }
 
-    /// Lets bytes at the front go.
+    /// Lets bytes at the start go.
     pub(crate) fn take(&mut self, count: usize)
         requires { count ≤ length (held_in self.old) }
         ensures { held_in self.new ≡ drop count (held_in self.old) }
@@ -71,10 +71,10 @@ impl Ahead {
         self.start += count;
     }
 
-    /// Moves the bytes to the front of the room.
-    fn move_to_front(&mut self)
+    /// Moves the bytes to the start of the room.
+    fn move_to_start(&mut self)
         ensures bytes { held_in self.new ≡ held_in self.old }
-        ensures front { self.new.start ≡ 0 }
+        ensures prefix { self.new.start ≡ 0 }
     {
         self.room.copy_within(self.start..self.end, 0);
         self.end -= self.start;
@@ -85,9 +85,9 @@ impl Ahead {
     fn ask<R: Source>(&mut self, script: &mut R) -> Result<usize, Failed>
         requires { self.old.end < ROOM }
         ensures grows { IfOk result (λ n. GrowsBy n (held_in self.old) (held_in self.new)) }
-        ensures left_stays { put_back (held_in self.new) (R.seen script.new).told
-            ≡ put_back (held_in self.old) (R.seen script.old).told }
-        ensures end { IfOk result (λ n. n ≡ 0 → IsAtEnd (R.seen script.new).told) }
+        ensures left_stays { put_back (held_in self.new) (R.seen script.new).content
+            ≡ put_back (held_in self.old) (R.seen script.old).content }
+        ensures end { IfOk result (λ n. n ≡ 0 → IsAtEnd (R.seen script.new).content) }
         ensures kept { OnErr result (held_in self.new ≡ held_in self.old) }
         ensures failed { OnErr result (Rose (R.seen script.old).faults (R.seen script.new).faults) }
         ensures steady { OnOk result ((R.seen script.new).faults ≡ (R.seen script.old).faults) }
@@ -103,16 +103,16 @@ impl Ahead {
         requires more { length (held_in self.old) < need }
         requires room { need ≤ ROOM }
         ensures grows { IfOk result (λ n. GrowsBy n (held_in self.old) (held_in self.new)) }
-        ensures left_stays { put_back (held_in self.new) (R.seen script.new).told
-            ≡ put_back (held_in self.old) (R.seen script.old).told }
-        ensures end { IfOk result (λ n. n ≡ 0 → IsAtEnd (R.seen script.new).told) }
+        ensures left_stays { put_back (held_in self.new) (R.seen script.new).content
+            ≡ put_back (held_in self.old) (R.seen script.old).content }
+        ensures end { IfOk result (λ n. n ≡ 0 → IsAtEnd (R.seen script.new).content) }
         ensures kept { OnErr result (held_in self.new ≡ held_in self.old) }
         ensures failed { OnErr result (Rose (R.seen script.old).faults (R.seen script.new).faults) }
         ensures steady { OnOk result ((R.seen script.new).faults ≡ (R.seen script.old).faults) }
         ensures used { Used (R.seen script.old) (R.seen script.new) }
     {
         if ROOM - self.start < need {
-            self.move_to_front();
+            self.move_to_start();
         }
         self.ask(script)
     }
@@ -121,11 +121,11 @@ impl Ahead {
     pub(crate) fn hold<R: Source>(&mut self, script: &mut R, need: usize) -> Result<bool, Failed>
         requires { need ≤ ROOM }
         ensures held { IfOk result (λ b. MatchBool b (need ≤ length (held_in self.new)) (length (held_in self.new) < need)) }
-        ensures end { IfOk result (λ b. OnFalse b (IsAtEnd (R.seen script.new).told)) }
+        ensures end { IfOk result (λ b. OnFalse b (IsAtEnd (R.seen script.new).content)) }
         ensures asked { OnErr result (length (held_in self.new) < need) }
         ensures grows { Grows (held_in self.old) (held_in self.new) }
-        ensures left_stays { put_back (held_in self.new) (R.seen script.new).told
-            ≡ put_back (held_in self.old) (R.seen script.old).told }
+        ensures left_stays { put_back (held_in self.new) (R.seen script.new).content
+            ≡ put_back (held_in self.old) (R.seen script.old).content }
         ensures failed { OnErr result (Rose (R.seen script.old).faults (R.seen script.new).faults) }
         ensures steady { OnOk result ((R.seen script.new).faults ≡ (R.seen script.old).faults) }
         ensures used { Used (R.seen script.old) (R.seen script.new) }
@@ -145,21 +145,21 @@ impl Ahead {
             (Lacks 10 (take LINE (held_in self.new)))
             (IsFirstPlace 10 (take LINE (held_in self.new)))) }
         ensures end { IfOk result (λ place. IfNone place
-            ((LINE ≤ length (held_in self.new)) ⊎ IsAtEnd (R.seen script.new).told)) }
+            ((LINE ≤ length (held_in self.new)) ⊎ IsAtEnd (R.seen script.new).content)) }
         ensures asked { OnErr result (IsPartOfLine (held_in self.new)) }
-        ensures left_stays { put_back (held_in self.new) (R.seen script.new).told
-            ≡ put_back (held_in self.old) (R.seen script.old).told }
+        ensures left_stays { put_back (held_in self.new) (R.seen script.new).content
+            ≡ put_back (held_in self.old) (R.seen script.old).content }
         ensures failed { OnErr result (Rose (R.seen script.old).faults (R.seen script.new).faults) }
         ensures steady { OnOk result ((R.seen script.new).faults ≡ (R.seen script.old).faults) }
         ensures used { Used (R.seen script.old) (R.seen script.new) }
     {
         loop {
             let bytes = self.bytes();
-            let front = &bytes[..LINE.min(bytes.len())];
-            if let Some(place) = first_place(front, b'\n') {
+            let prefix = &bytes[..LINE.min(bytes.len())];
+            if let Some(place) = first_place(prefix, b'\n') {
                 return Ok(Some(place));
             }
-            if front.len() == LINE {
+            if prefix.len() == LINE {
                 return Ok(None);
             }
             if self.read(script, LINE)? == 0 {

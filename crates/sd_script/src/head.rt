@@ -1,5 +1,5 @@
-ghost use Rattle.std.specs.Prelude.{◌≡◌, ◌≢◌, ◌≤◌, ℕ, ◌∷◌, ◌++◌, decimal, option_map, IfSome, IfNone};
-ghost use Rattle.sd_model_replay.specs.Script.{PacketHead, body_of, head_line, IsCount, IsForm, IsMoment};
+ghost use Rattle.std.specs.Prelude.{◌≡◌, ◌≢◌, ◌≤◌, ℕ, ◌∷◌, ◌++◌, decimal, option_map, IfSome, IfNone, ◌^◌, ◌<◌};
+ghost use Rattle.sd_model_replay.specs.Script.{PacketHead, body_of, head_line, IsForm, IsMoment};
 ghost use Rattle.sd_model_replay.specs.Script as model;
 ghost use Rattle.sd_script.specs.Head.{body_view, head_of, IsLineOf};
 
@@ -96,9 +96,9 @@ fn packet_head(fields: &[u8], receivers: u16) -> Option<Head>
 
 /// The moment and the number of bytes of a record with a body, of the last two fields of its first line.
 fn moment_and_len(fields: &[u8]) -> Option<(u64, usize)>
-    ensures numbers { IfSome result (λ n. (fields.now ≡ decimal n.0 ++ 32 ∷ decimal n.1) × IsMoment n.0 × IsCount n.1) }
+    ensures numbers { IfSome result (λ n. (fields.now ≡ decimal n.0 ++ 32 ∷ decimal n.1) × IsMoment n.0 × (n.1 < 10 ^ 5)) }
     ensures other { IfNone result
-        ((moment len : ℕ) → IsMoment moment → IsCount len → fields.now ≢ decimal moment ++ 32 ∷ decimal len) }
+        ((moment len : ℕ) → IsMoment moment → (len < 10 ^ 5) → fields.now ≢ decimal moment ++ 32 ∷ decimal len) }
 {
     let (moment, len) = first_field(fields)?;
     let moment = number(moment, 18)?;

@@ -1,6 +1,6 @@
 //! The records of a script, read one after another, each with its flaw, if it has one.
 //!
-//! `sd_replay` carries out what it reads. Only `Reader::open` takes memory. The source is asked only while the bytes at hand
+//! `sd_replay` executes what it reads. Only `Reader::open` takes memory. The source is asked only while the bytes at hand
 //! don't decide what stands next. What a datagram or an admin line says isn't read: its bytes are lent as they came.
 #![tactic(auto)]
 

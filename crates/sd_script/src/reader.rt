@@ -124,10 +124,10 @@ impl Reader {
     /// `Failed` where the source failed. Then nothing was read.
     pub fn next<R: Source>(&mut self, script: &mut R) -> Result<Item, Failed>
         ensures item { IfOk result
-            (λ item. ReadsItem item self.old (R.seen script.old).told self.new (R.seen script.new).told) }
+            (λ item. ReadsItem item self.old (R.seen script.old).content self.new (R.seen script.new).content) }
         ensures failed { OnErr result (Rose (R.seen script.old).faults (R.seen script.new).faults) }
         ensures steady { OnOk result ((R.seen script.new).faults ≡ (R.seen script.old).faults) }
-        ensures stays { OnErr result (Stays self.old (R.seen script.old).told self.new (R.seen script.new).told) }
+        ensures stays { OnErr result (Stays self.old (R.seen script.old).content self.new (R.seen script.new).content) }
         ensures asked { OnErr result (IsUndecided self.old.receivers self.new.pending) }
         ensures used { Used (R.seen script.old) (R.seen script.new) }
     {

@@ -1,11 +1,11 @@
-ghost use Rattle.std.specs.Prelude.{◌≡◌, ◌<◌, ◌≤◌, drop, length, slice_index, take, IsTrue, MatchBool, MatchOption, IfOk, OnOk, OnErr};
+ghost use Rattle.std.specs.Prelude.{◌≡◌, ◌<◌, ◌≤◌, drop, length, slice_index, take, IsTrue, MatchBool, MatchOption, IfOk, OnOk, OnErr, ◌≢◌, ◌⊎◌};
 ghost use Rattle.sd_model_text.specs.Lists.{Lacks};
 ghost use Rattle.sd_model_outside.specs.Outside.{Rose, Used, put_back};
-ghost use Rattle.sd_model_replay.specs.Script.{IsMisfit, IsPart, IsUndecided};
+ghost use Rattle.sd_model_replay.specs.Script.{IsPart, IsUndecided};
 ghost use Rattle.sd_script.specs.Next.{IsWhole};
 ghost use Rattle.sd_script.specs.Ahead.{held_in, Grows};
 ghost use Rattle.sd_script.specs.Flaws.{flaw_of, HasBodyFlaw, HasLineFlaw};
-ghost use Rattle.sd_script.specs.Found.{IsFront};
+ghost use Rattle.sd_script.specs.Found.{IsPrefix};
 ghost use Rattle.sd_script.specs.Head.{body_view};
 
 use crate::ahead::{Ahead, LINE};
@@ -14,7 +14,7 @@ use crate::flaw::Flaw;
 use crate::head::{Body, Head, LONGEST, parse_line};
 use sd_outside::{Failed, Source};
 
-/// A record that stands at the front of bytes.
+/// A record that stands at the start of bytes.
 #[derive(Clone, Copy, Debug)]
 pub(crate) struct Found {
     pub head: Head,
@@ -25,7 +25,7 @@ pub(crate) struct Found {
 /// Whether the bytes of a body don't fit: no newline stands behind them, or one among them where none may.
 fn is_misfit(bytes: &[u8], body: Body) -> bool
     requires { body.len < length bytes.now }
-    ensures { MatchBool result (IsMisfit (body_view body) bytes.now)
+    ensures { MatchBool result ((slice_index bytes.now (body_view body).len ≢ 10) ⊎ (IsTrue (body_view body).is_line × ¬ Lacks 10 (take (body_view body).len bytes.now)))
         ((slice_index bytes.now body.len ≡ 10) × (IsTrue body.is_line → Lacks 10 (take body.len bytes.now))) }
 {
     if bytes[body.len] != b'\n' {
@@ -45,11 +45,11 @@ fn body_flaw<R: Source>(
     requires inside { from ≤ length (held_in ahead.old) }
     requires most { body.most ≤ LONGEST }
     ensures flaw { IfOk result (λ flaw. MatchOption flaw (IsWhole (body_view body) (drop from (held_in ahead.new)))
-        (λ f. HasBodyFlaw (body_view body) (drop from (held_in ahead.new)) (R.seen script.new).told (flaw_of f))) }
+        (λ f. HasBodyFlaw (body_view body) (drop from (held_in ahead.new)) (R.seen script.new).content (flaw_of f))) }
     ensures asked { OnErr result (IsPart (body_view body) (drop from (held_in ahead.new))) }
     ensures grows { Grows (held_in ahead.old) (held_in ahead.new) }
-    ensures left_stays { put_back (held_in ahead.new) (R.seen script.new).told
-        ≡ put_back (held_in ahead.old) (R.seen script.old).told }
+    ensures left_stays { put_back (held_in ahead.new) (R.seen script.new).content
+        ≡ put_back (held_in ahead.old) (R.seen script.old).content }
     ensures failed { OnErr result (Rose (R.seen script.old).faults (R.seen script.new).faults) }
     ensures steady { OnOk result ((R.seen script.new).faults ≡ (R.seen script.old).faults) }
     ensures used { Used (R.seen script.old) (R.seen script.new) }
@@ -83,10 +83,10 @@ pub(crate) fn next_record<R: Source>(
     script: &mut R,
     receivers: u16,
 ) -> Result<Result<Found, Flaw>, Failed>
-    ensures front { IfOk result (IsFront receivers (held_in ahead.new) (R.seen script.new).told) }
+    ensures prefix { IfOk result (IsPrefix receivers (held_in ahead.new) (R.seen script.new).content) }
     ensures asked { OnErr result (IsUndecided receivers (held_in ahead.new)) }
-    ensures left_stays { put_back (held_in ahead.new) (R.seen script.new).told
-        ≡ put_back (held_in ahead.old) (R.seen script.old).told }
+    ensures left_stays { put_back (held_in ahead.new) (R.seen script.new).content
+        ≡ put_back (held_in ahead.old) (R.seen script.old).content }
     ensures failed { OnErr result (Rose (R.seen script.old).faults (R.seen script.new).faults) }
     ensures steady { OnOk result ((R.seen script.new).faults ≡ (R.seen script.old).faults) }
     ensures used { Used (R.seen script.old) (R.seen script.new) }

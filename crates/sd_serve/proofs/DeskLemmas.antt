@@ -1,30 +1,29 @@
 -- The one history of the desk, as its callers' own calls join.
-use Rattle.std.proofs.Common.{◌≡◌, ◌≢◌, ℕ, zero, suc, ◌+◌, ◌<◌, ◌≤◌, cond, List, [], ◌∷◌, ◌++◌, length, map, get_or, drop, All, Any, refl, sym, ap, subst, ◌∙◌, arith, append_assoc, length-append}
+use Rattle.std.proofs.Common.{◌≡◌, ◌≢◌, ℕ, zero, suc, ◌+◌, ◌<◌, ◌≤◌, cond, List, [], ◌∷◌, ◌++◌, length, map, get_or, drop, All, Any, refl, sym, ap, subst, ◌∙◌, arith}
 use Rattle.std.specs.Prelude.{Option, Some, None, slice_get}
 use Rattle.std.specs.List.{AllByRecursion}
 use Rattle.std.proofs.lemmas.Bool.{ne_eqb}
-use Rattle.std.proofs.lemmas.List.{map-append}
 use Rattle.std.proofs.lemmas.List.Elements.{recursion_from_All}
 use Rattle.sd_turn.specs.Lists.{span}
 use Rattle.sd_model_outside.specs.Outside.{Object}
 use Rattle.sd_model_shard.specs.History.{part_of as part_by}
 use Rattle.sd_model_record.specs.DeskHistory.{DeskAct, DeskCall, DeskHistory, calls_by}
 use Rattle.sd_shared_desk.specs.Counts.{HasCalled, Part}
-use Rattle.sd_model_serve.specs.Receiving.{CountsDatagrams, Reception}
-use Rattle.sd_model_stream.specs.Streams.{CountsReads, Lining, reads_in}
+use Rattle.sd_model_serve.specs.Receiving.{CountsDatagrams, ReceiverTrace}
+use Rattle.sd_model_stream.specs.Streams.{CountsReads, LineTrace}
 use Rattle.sd_outside.specs.declared.door.DoorEnd.{DoorEnd}
 use Rattle.sd_pool.specs.Along.{Pairs}
-use Rattle.sd_pool.proofs.AlongLemmas.{none_in}
 use Rattle.sd_pool.specs.declared.pool.Pool.{Pool}
 use Rattle.sd_receive.specs.declared.post.Post.{Post}
 use Rattle.sd_shared_desk.specs.Shared.{OwnSeat as DeskSeat, calls_of, number_of_seat, part_of}
 use Rattle.sd_shared_desk.specs.declared.shared_desk.SharedDesk.{SharedDesk}
-use Rattle.sd_serve.specs.LinePost.{AreLinedBy, line_owns}
-use Rattle.sd_serve.specs.Parts.{own_in}
+use Rattle.sd_serve.specs.LinePost.{AreLinesReadBy, line_owns}
+use Rattle.sd_serve.specs.PostRooms.{own_in}
+use Rattle.sd_serve.specs.Services.{AreNew, IsNewLine}
 use Rattle.sd_serve.specs.declared.line_post.LinePost.{LinePost}
-use Rattle.sd_serve.proofs.LineLemmas.{IsNewLine, linings_of}
-use Rattle.sd_serve.proofs.PostLemmas.{AreNew, Ran, receptions_of}
-use Rattle.sd_serve.proofs.RoomLemmas.{counted_by}
+use Rattle.sd_serve.proofs.LineLemmas.{line_traces_of}
+use Rattle.sd_serve.proofs.PostLemmas.{Ran, receiver_traces_of}
+use Rattle.sd_model_stream.proofs.Short.{reads_in}
 
 -- a seat's calls are all that the history has by its number
 abbrev pub Owns : DeskHistory → DeskSeat → Type 0
@@ -55,38 +54,34 @@ module _ {D L : Type 0} (seen : D → Object) (wire_seen : L → Object) (says :
   -- what each receiver called, by its number from one on
   pub received_so : (from : ℕ) (behind : List DeskSeat) (xs ys : List (Post D L)) (all : Pairs (Ran seen wire_seen says pool desk asked) xs ys) → AreNew xs → AllByRecursion (Owns log) (map own_in ys ++ behind)
       → map number_of_seat (map own_in ys ++ behind) ≡ span from (length (map own_in ys ++ behind))
-      → (r : ℕ) (x : Reception) → slice_get (receptions_of seen wire_seen says pool desk asked xs ys all) r ≡ Some x → CountsDatagrams says x.read (calls_by (from + r) log)
+      → (r : ℕ) (x : ReceiverTrace) → slice_get (receiver_traces_of seen wire_seen says pool desk asked xs ys all) r ≡ Some x → CountsDatagrams says x.read (calls_by (from + r) log)
   received_so from behind [] [] all new owns numbers r x is = absurd (cc)
-  received_so from behind [] (y ∷ ys) all new owns numbers r x is = absurd all
-  received_so from behind (p ∷ xs) [] all new owns numbers r x is = absurd all
   received_so from behind (p ∷ xs) (y ∷ ys) all new owns numbers zero x is =
       let takes = all.0.receives.takes in
       let called : CountsDatagrams says takes.read (part_of y.own).own = called_since (CountsDatagrams says takes.read) (part_of p.own) (part_of y.own) new.0.1 takes.called in
       let number : number_of_seat y.own ≡ from + 0 = omega (arith, first_number from y.own (map own_in ys ++ behind) numbers) in
-      subst (λ (z : Reception). CountsDatagrams says z.read (calls_by (from + 0) log)) (same_one _ x is)
+      subst (λ (z : ReceiverTrace). CountsDatagrams says z.read (calls_by (from + 0) log)) (same_one _ x is)
       (subst (CountsDatagrams says takes.read) (owns.0 ∙ ap (λ n. calls_by n log) number) called)
   received_so from behind (p ∷ xs) (y ∷ ys) all new owns numbers (suc r) x is =
       let next : (from + 1) + r ≡ from + suc r = omega arith in
       subst (λ n. CountsDatagrams says x.read (calls_by n log)) next
       (received_so (from + 1) behind xs ys all.1 new.1 owns.1 (next_numbers from y.own (map own_in ys ++ behind) numbers) r x is)
+  received_so from behind xs ys all new owns numbers r x is = absurd all
 
 module _ (says : ℕ → Type 0) (pool : Pool) (desk : SharedDesk) (asked : ℕ) (log : DeskHistory) where
-  -- and the keeper of lines
-  pub lined_so : (from : ℕ) (behind : List DeskSeat) (p q : Option LinePost) (ended : Option DoorEnd) (door door_now : Object) (h : AreLinedBy says pool desk asked p q ended door door_now) → IsNewLine p
+  -- and the reader of lines
+  pub lines_read_so : (from : ℕ) (behind : List DeskSeat) (p q : Option LinePost) (ended : Option DoorEnd) (door door_now : Object) (h : AreLinesReadBy says pool desk asked p q ended door door_now) → IsNewLine p
       → AllByRecursion (Owns log) (line_owns q ++ behind) → map number_of_seat (line_owns q ++ behind) ≡ span from (length (line_owns q ++ behind))
-      → (l : ℕ) (x : Lining) → slice_get (linings_of says pool desk asked p q ended door door_now h) l ≡ Some x → CountsReads says (reads_in x.streams) (calls_by (from + l) log)
-  lined_so from behind None None None door door_now h new owns numbers l x is = absurd (cc)
-  lined_so from behind None None (Some e) door door_now h new owns numbers l x is = absurd h
-  lined_so from behind None (Some q) ended door door_now h new owns numbers l x is = absurd h
-  lined_so from behind (Some p) None ended door door_now h new owns numbers l x is = absurd h
-  lined_so from behind (Some p) (Some q) None door door_now h new owns numbers l x is = absurd h
-  lined_so from behind (Some p) (Some q) (Some e) door door_now h new owns numbers zero x is =
+      → (l : ℕ) (x : LineTrace) → slice_get (line_traces_of says pool desk asked p q ended door door_now h) l ≡ Some x → CountsReads says (reads_in x.streams) (calls_by (from + l) log)
+  lines_read_so from behind None None None door door_now h new owns numbers l x is = absurd (cc)
+  lines_read_so from behind (Some p) (Some q) (Some e) door door_now h new owns numbers zero x is =
       let serves = h.keeps.serves in
       let called : CountsReads says (reads_in h.keeps.streams) (part_of q.own).own = called_since (CountsReads says (reads_in h.keeps.streams)) (part_of p.own) (part_of q.own) new.1 serves.called in
       let number : number_of_seat q.own ≡ from + 0 = omega (arith, first_number from q.own behind numbers) in
-      subst (λ (z : Lining). CountsReads says (reads_in z.streams) (calls_by (from + 0) log)) (same_one _ x is)
+      subst (λ (z : LineTrace). CountsReads says (reads_in z.streams) (calls_by (from + 0) log)) (same_one _ x is)
       (subst (CountsReads says (reads_in h.keeps.streams)) (owns.0 ∙ ap (λ n. calls_by n log) number) called)
-  lined_so from behind (Some p) (Some q) (Some e) door door_now h new owns numbers (suc l) x is = absurd (cc)
+  lines_read_so from behind (Some p) (Some q) (Some e) door door_now h new owns numbers (suc l) x is = absurd (cc)
+  lines_read_so from behind p q ended door door_now h new owns numbers l x is = absurd h
 
 -- each seat's number is below those behind
 numbers_below : (from : ℕ) (seats : List DeskSeat) → map number_of_seat seats ≡ span from (length seats) → AllByRecursion (λ s. number_of_seat s < from + length seats) seats
@@ -119,34 +114,14 @@ nobody_else seats log numbers whose who past =
       weaker (t ∷ rest) all = (omega (arith, all.0, past), weaker rest all.1)
 
 -- the last two of the seats
-pub last_two : (front : List DeskSeat) (own admin : DeskSeat) (log : DeskHistory) → map number_of_seat (front ++ own ∷ admin ∷ []) ≡ span 0 (length (front ++ own ∷ admin ∷ [])) → Owns log own → Owns log admin
-    → (calls_by (length front) log ≡ (part_of own).own) × (calls_by (length front + 1) log ≡ (part_of admin).own)
-last_two front own admin log numbers owns admins =
-    let behind = numbers_behind 0 front (own ∷ admin ∷ []) numbers in
-    let first : number_of_seat own ≡ length front = omega (arith, first_number (0 + length front) own (admin ∷ []) behind) in
-    let second : number_of_seat admin ≡ length front + 1 = omega (arith, first_number (0 + length front + 1) admin [] (next_numbers (0 + length front) own (admin ∷ []) behind)) in
+pub last_two : (prefix : List DeskSeat) (own admin : DeskSeat) (log : DeskHistory) → map number_of_seat (prefix ++ own ∷ admin ∷ []) ≡ span 0 (length (prefix ++ own ∷ admin ∷ [])) → Owns log own → Owns log admin
+    → (calls_by (length prefix) log ≡ (part_of own).own) × (calls_by (length prefix + 1) log ≡ (part_of admin).own)
+last_two prefix own admin log numbers owns admins =
+    let behind = numbers_behind 0 prefix (own ∷ admin ∷ []) numbers in
+    let first : number_of_seat own ≡ length prefix = omega (arith, first_number (0 + length prefix) own (admin ∷ []) behind) in
+    let second : number_of_seat admin ≡ length prefix + 1 = omega (arith, first_number (0 + length prefix + 1) admin [] (next_numbers (0 + length prefix) own (admin ∷ []) behind)) in
     (ap (λ n. calls_by n log) (sym first) ∙ sym owns, ap (λ n. calls_by n log) (sym second) ∙ sym admins)
 
 -- the numbers of those behind the receivers
-pub numbers_of_line : (front line rest : List DeskSeat) → map number_of_seat (front ++ (line ++ rest)) ≡ span 0 (length (front ++ (line ++ rest))) → map number_of_seat (line ++ rest) ≡ span (length front) (length (line ++ rest))
-numbers_of_line front line rest numbers = numbers_behind 0 front (line ++ rest) numbers ∙ ap (λ n. span n (length (line ++ rest))) (let same : 0 + length front ≡ length front = omega arith in same)
-
--- Seats that were handed to workers and given back have the numbers that they had.
-pub numbers_kept : (room posts0 mid line0 left1 left2 left3 posts line : List DeskSeat) (own0 admin0 own admin : DeskSeat) (n : ℕ) → map number_of_seat room ≡ span 0 n → room ≡ posts0 ++ mid → mid ≡ line0 ++ left1 → left1 ≡ own0 ∷ left2 → left2 ≡ admin0 ∷ left3
-    → length posts0 + length line0 + 2 ≡ n → map number_of_seat posts ≡ map number_of_seat posts0 → map number_of_seat line ≡ map number_of_seat line0 → number_of_seat own ≡ number_of_seat own0 → number_of_seat admin ≡ number_of_seat admin0
-    → map number_of_seat ((posts ++ line) ++ own ∷ admin ∷ []) ≡ span 0 (length ((posts ++ line) ++ own ∷ admin ∷ []))
-numbers_kept room posts0 mid line0 left1 left2 left3 posts line own0 admin0 own admin n numbers first second third fourth long by_posts by_line by_own by_admin =
-    let num : DeskSeat → ℕ = number_of_seat in
-    let left : left1 ≡ own0 ∷ admin0 ∷ left3 = third ∙ ap (λ (l : List DeskSeat). own0 ∷ l) fourth in
-    let all : room ≡ (posts0 ++ line0) ++ own0 ∷ admin0 ∷ left3 =
-    first ∙ ap (λ (l : List DeskSeat). posts0 ++ l) (second ∙ ap (λ (l : List DeskSeat). line0 ++ l) left) ∙ sym (append_assoc posts0 line0 (own0 ∷ admin0 ∷ left3)) in
-    let count = counted_by num room n numbers in
-    let whole = ap length all in
-    let both = length-append (posts0 ++ line0) (own0 ∷ admin0 ∷ left3) in
-    let front = length-append posts0 line0 in
-    let none : left3 ≡ [] = none_in left3 (omega (arith, count, whole, both, front, long)) in
-    let before : map num ((posts0 ++ line0) ++ own0 ∷ admin0 ∷ []) ≡ span 0 n = sym (ap (map num) (all ∙ ap (λ (l : List DeskSeat). (posts0 ++ line0) ++ own0 ∷ admin0 ∷ l) none)) ∙ numbers in
-    let now : map num ((posts ++ line) ++ own ∷ admin ∷ []) ≡ map num ((posts0 ++ line0) ++ own0 ∷ admin0 ∷ []) =
-    map-append num (posts ++ line) (own ∷ admin ∷ []) ∙ ap (λ (l : List ℕ). l ++ num own ∷ num admin ∷ []) (map-append num posts line ∙ (λ i. by_posts i ++ by_line i) ∙ sym (map-append num posts0 line0))
-    ∙ (λ i. map num (posts0 ++ line0) ++ by_own i ∷ by_admin i ∷ []) ∙ sym (map-append num (posts0 ++ line0) (own0 ∷ admin0 ∷ [])) in
-    now ∙ before ∙ ap (span 0) (sym (counted_by num ((posts ++ line) ++ own ∷ admin ∷ []) n (now ∙ before)))
+pub numbers_of_line : (prefix line rest : List DeskSeat) → map number_of_seat (prefix ++ (line ++ rest)) ≡ span 0 (length (prefix ++ (line ++ rest))) → map number_of_seat (line ++ rest) ≡ span (length prefix) (length (line ++ rest))
+numbers_of_line prefix line rest numbers = numbers_behind 0 prefix (line ++ rest) numbers ∙ ap (λ n. span n (length (line ++ rest))) (let same : 0 + length prefix ≡ length prefix = omega arith in same)

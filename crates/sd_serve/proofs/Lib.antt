@@ -1,9 +1,9 @@
+mod CrewLemmas
 mod LineLemmas
 mod PostLemmas
 mod RoomLemmas
 mod DeskLemmas
 mod ServeLemmas
-mod ServedLemmas
 mod ThroughLemmas
 mod WrittenLemmas
 pub mod CallerLemmas

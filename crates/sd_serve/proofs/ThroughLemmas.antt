@@ -1,17 +1,17 @@
 -- What the flusher left, with outlets and without.
 use Rattle.std.proofs.Common.{◌≡◌, ℕ, Bool, true, false, List, [], ◌∷◌, ◌++◌, length, map, min, refl, sym, ap, subst, ◌∙◌, arith, inl, inr, length-append}
-use Rattle.std.specs.Prelude.{Option, Some, None}
+use Rattle.std.specs.Prelude.{Some, None}
 use Rattle.std.specs.List.{AllByRecursion}
 use Rattle.std.proofs.lemmas.List.{length-map}
-use Rattle.sd_model_outside.specs.Deliveries.{Delivery, AfterDeliveries, FitsUse, missed}
-use Rattle.sd_model_outside.specs.Deliveries as deliveries
+use Rattle.sd_model_outside.specs.Uses.{Delivery, AfterDeliveries, FitsUse, missed}
+use Rattle.sd_model_outside.specs.Uses as deliveries
 use Rattle.sd_model_outside.specs.Outside.{Object, last_count}
 use Rattle.sd_model_shard.specs.History.{History}
 use Rattle.sd_model_record.specs.Backends.{Backend, Graphite, Console, mark_of}
 use Rattle.sd_shared_desk.specs.Counts.{Part}
 use Rattle.sd_model_record.specs.Desk.{Marks}
-use Rattle.sd_model_serve.specs.Rounds.{Form, MarksFit, Round, round_deliveries, round_text}
-use Rattle.sd_model_run.specs.Outlets.{AreChosen, HasFlowed, Outflow, OutletRoom, chosen, no_outflow}
+use Rattle.sd_model_serve.specs.Rounds.{RecordForm, MarksFit, Round, round_deliveries, round_text}
+use Rattle.sd_model_run.specs.Outlets.{AreChosen, IsOutletTrace, OutletTrace, OutletRoom, chosen}
 use Rattle.sd_outlet.specs.declared.feed.Feed.{Feed}
 use Rattle.sd_outlet.specs.declared.outlet.Outlet.{Outlet}
 use Rattle.sd_outlet.specs.declared.worked.Worked.{Worked}
@@ -24,24 +24,28 @@ use Rattle.sd_flush.specs.declared.flushed.Flushed.{Flushed}
 use Rattle.sd_flush.specs.declared.outs.OutMark.{OutMark}
 use Rattle.sd_flush.specs.declared.outs.OutMark.TheVariants.{NotUsed, Queued, Skipped}
 use Rattle.sd_flush.specs.declared.outs.Skip.TheVariants.{Full, Long, Spent}
-use Rattle.sd_serve.specs.OutRoom.{HasOutRooms, IsOutRoom, feed_in, has_rooms, outlet_in, room_seen, rooms_at, rooms_of}
-use Rattle.sd_serve.specs.Through.{FlushesThrough, faults_at, skips_at}
+use Rattle.sd_serve.specs.OutRoom.{AreOutRooms, HasOutRooms, IsOutRoom, feed_in, outlet_in, room_at, room_seen}
+use Rattle.sd_serve.specs.Through.{FlushesThrough, skipped_at, worked_at}
 use Rattle.sd_serve.specs.Written.{HasWritten, written_by}
 use Rattle.sd_serve.specs.declared.out_room.OutRoom.{OutRoom}
 use Rattle.sd_serve.specs.declared.out_room.OutRooms.{OutRooms}
 use Rattle.sd_serve.specs.declared.workers_out.OutCounts.{OutCounts}
+use Rattle.sd_serve.proofs.WrittenLemmas.{each_room}
+use Rattle.sd_model_run.proofs.Short.{no_outlet_trace}
 
 -- without outlets all goes straight to the backends
-pub straight : (form : Form) (used : Backend → Bool) (room_at : Backend → OutletRoom) (asked : ℕ) (own own_now : ℕ → History) (part part_now : Part) (back back_now : Backend → Object) (beat beat_now : Object) (flushed : Flushed)
-    → Flushes form used asked own own_now part part_now back back_now beat beat_now flushed → FlushesThrough form used false room_at asked own own_now part part_now back back_now beat beat_now flushed None
-straight form used room_at asked own own_now part part_now back back_now beat beat_now flushed h = record {
+pub straight : (form : RecordForm) (used : Backend → Bool) (asked : ℕ) (own own_now : ℕ → History) (part part_now : Part) (back back_now : Backend → Object) (beat beat_now : Object) (flushed : Flushed)
+    → Flushes form used asked own own_now part part_now back back_now beat beat_now flushed → (outlets : Bool) (room : OutletRoom) → HasOutRooms outlets room.buffers room.bytes None → FlushesThrough form used outlets room asked own own_now part part_now back back_now beat beat_now flushed None
+straight form used asked own own_now part part_now back back_now beat beat_now flushed h true room has = absurd has
+straight form used asked own own_now part part_now back back_now beat beat_now flushed h false room has = record {
   rounds = h.rounds;
   swapped = h.made.swapped;
   fits = h.made.used;
   counted = h.made.counted;
   called = h.made.called;
-  outflows = λ b. no_outflow;
-  flowed = λ b. refl;
+  outlet_traces = λ b. no_outlet_trace;
+  through_outlets = λ b. refl;
+  has = refl;
   are_counted = record { skips = λ b. refl; faults = λ b. refl };
   delivered = h.made.delivered;
   given = h.given;
@@ -88,12 +92,12 @@ each_used [] h = tt
 each_used (d ∷ ds) h = (h.0, each_used ds h.1)
 
 -- rounds that write to no backend leave it as it is
-left_alone : (form : Form) (b : Backend) (rounds : List Round) (o : Object) → AllByRecursion (MarksFit (λ c. false)) rounds → AfterDeliveries (round_deliveries form b rounds) o o
+left_alone : (form : RecordForm) (b : Backend) (rounds : List Round) (o : Object) → AllByRecursion (MarksFit (λ c. false)) rounds → AfterDeliveries (round_deliveries form b rounds) o o
 left_alone form b [] o h = refl
 left_alone form b (r ∷ rounds) o h = (o, subst (λ m. deliveries.AfterMark m (round_text form b r) o o) (sym (h.0 b)) refl, left_alone form b rounds o h.1)
 
 -- deliveries, and rounds behind them that write to no backend
-with_rounds : (form : Form) (b : Backend) (rounds : List Round) → AllByRecursion (MarksFit (λ c. false)) rounds → (ds : List Delivery) (old new : Object) → AfterDeliveries ds old new
+with_rounds : (form : RecordForm) (b : Backend) (rounds : List Round) → AllByRecursion (MarksFit (λ c. false)) rounds → (ds : List Delivery) (old new : Object) → AfterDeliveries ds old new
     → AfterDeliveries (ds ++ round_deliveries form b rounds) old new
 with_rounds form b rounds none [] old new h = subst (λ o. AfterDeliveries (round_deliveries form b rounds) old o) (sym h) (left_alone form b rounds old none)
 with_rounds form b rounds none (d ∷ ds) old new h = (h.0, h.1, with_rounds form b rounds none ds h.0 new h.2)
@@ -104,68 +108,45 @@ fit_none [] h = tt
 fit_none (r ∷ rounds) h = ((λ b. elim b as (λ (b : Backend). mark_of b r.marks ≡ deliveries.NotUsed) [ Graphite ↦ ap (λ (m : Marks). m.graphite) h.0 | Console ↦ ap (λ (m : Marks). m.console) h.0 ]), fit_none rounds h.1)
 
 module _ (room : OutRoom) (texts : List (List ℕ)) (skipped : ℕ) (w : Worked) (old new : Object) where
-  -- what went through an outlet, by whether its backend is used
-  abbrev outflow : (used : Bool) → HasWritten used room texts skipped w old new → Outflow
-  outflow true h = record { queued = h.worked.deliveries; skipped = skipped }
-  outflow false h = no_outflow
+  -- what went through an outlet, and what its counts and its backend tell of that
+  pub record WentOut (used : Bool) : Type 0 where
+    pub flow : OutletTrace
+    pub through_outlets : IsOutletTrace used (room_seen room) texts flow
+    pub skips : skipped ≡ flow.skipped
+    pub faults : w.faults ≡ min (missed flow.queued) last_count
+    pub delivered : AfterDeliveries flow.queued old new
 
-  has_flowed : (used : Bool) → IsOutRoom room → (h : HasWritten used room texts skipped w old new) → HasFlowed used (room_seen room) texts (outflow used h)
-  has_flowed true ready h =
+  went_out : (used : Bool) → IsOutRoom room → HasWritten used room texts skipped w old new → WentOut used
+  went_out false ready h = record { flow = no_outlet_trace; through_outlets = refl; skips = h.0; faults = h.3; delivered = h.1 }
+  went_out true ready h =
       let f = h.offered in
       let long = length-map h.worked.deliveries (λ (d : Delivery). d.text) in
       let queued = ap length h.worked.of_texts in
       record {
-        choice = map (λ (o : Offer). is_queued o.mark) f.offers;
-        chosen_so = subst (AreChosen (room_seen room) 0 (map (λ (o : Offer). is_queued o.mark) f.offers)) f.of_texts
-            (subst (λ n. AreChosen (room_seen room) n (map (λ (o : Offer). is_queued o.mark) f.offers) (map (λ (o : Offer). o.text) f.offers)) (sym ready.feed_is.counted ∙ ready.is_new.sends)
-            (are_reasoned (outlet_in room) f.offers (feed_in room) h.last f.after));
-        queued = h.worked.of_texts ∙ are_chosen f.offers ∙ ap (chosen (map (λ (o : Offer). is_queued o.mark) f.offers)) f.of_texts;
-        used = each_used h.worked.deliveries h.worked.used;
-        others = omega (arith, long, queued, f.others);
+        flow = record { queued = h.worked.deliveries; skipped = skipped };
+        through_outlets = record {
+          choice = map (λ (o : Offer). is_queued o.mark) f.offers;
+          chosen_so = subst (AreChosen (room_seen room) 0 (map (λ (o : Offer). is_queued o.mark) f.offers)) f.of_texts
+              (subst (λ n. AreChosen (room_seen room) n (map (λ (o : Offer). is_queued o.mark) f.offers) (map (λ (o : Offer). o.text) f.offers)) (sym ready.feed_is.counted ∙ ready.is_new.sends)
+              (are_reasoned (outlet_in room) f.offers (feed_in room) h.last f.after));
+          queued = h.worked.of_texts ∙ are_chosen f.offers ∙ ap (chosen (map (λ (o : Offer). is_queued o.mark) f.offers)) f.of_texts;
+          used = each_used h.worked.deliveries h.worked.used;
+          others = omega (arith, long, queued, f.others);
+        };
+        skips = refl;
+        faults = h.worked.faults;
+        delivered = h.worked.after;
       }
-  has_flowed false ready h = refl
-
-  skips_of : (used : Bool) (h : HasWritten used room texts skipped w old new) → skipped ≡ (outflow used h).skipped
-  skips_of true h = refl
-  skips_of false h = h.0
-
-  faults_of : (used : Bool) (h : HasWritten used room texts skipped w old new) → w.faults ≡ min (missed (outflow used h).queued) last_count
-  faults_of true h = h.worked.faults
-  faults_of false h = h.3
-
-  delivered_of : (used : Bool) (h : HasWritten used room texts skipped w old new) → AfterDeliveries (outflow used h).queued old new
-  delivered_of true h = h.worked.after
-  delivered_of false h = h.1
 
 -- with outlets all goes through them
-module _ (form : Form) (used : Backend → Bool) (graphite console : OutRoom) (counts : OutCounts) (asked : ℕ) (own own_now : ℕ → History) (part part_now : Part) (back back_now : Backend → Object) (beat beat_now : Object) (flushed : Flushed)
-    (graphite_is : IsOutRoom graphite) (console_is : IsOutRoom console)
-    (h : FlushesOut form (written_by used graphite console counts back back_now) asked own own_now part part_now beat beat_now flushed) where
-  abbrev texts_of : Backend → List (List ℕ)
-  texts_of b = map (round_text form b) h.rounds
+module _ (form : RecordForm) (used : Backend → Bool) (rooms : OutRooms) (counts : OutCounts) (asked : ℕ) (own own_now : ℕ → History) (part part_now : Part) (back back_now : Backend → Object) (beat beat_now : Object) (flushed : Flushed)
+    (ready : AreOutRooms rooms) (h : FlushesOut form (written_by used rooms counts back back_now) asked own own_now part part_now beat beat_now flushed) where
+  went : (b : Backend) → WentOut (room_at rooms b) (map (round_text form b) h.rounds) (skipped_at counts b) (worked_at counts b) (back b) (back_now b) (used b)
+  went b = went_out (room_at rooms b) (map (round_text form b) h.rounds) (skipped_at counts b) (worked_at counts b) (back b) (back_now b) (used b) (ready b) (h.texts b)
 
-  abbrev flow : Backend → Outflow
-  flow Graphite = outflow graphite (texts_of Graphite) counts.skips.graphite counts.graphite (back Graphite) (back_now Graphite) (used Graphite) (h.texts Graphite)
-  flow Console = outflow console (texts_of Console) counts.skips.console counts.console (back Console) (back_now Console) (used Console) (h.texts Console)
-
-  flows : (b : Backend) → HasFlowed (used b) (rooms_at graphite console b) (texts_of b) (flow b)
-  flows Graphite = has_flowed graphite (texts_of Graphite) counts.skips.graphite counts.graphite (back Graphite) (back_now Graphite) (used Graphite) graphite_is (h.texts Graphite)
-  flows Console = has_flowed console (texts_of Console) counts.skips.console counts.console (back Console) (back_now Console) (used Console) console_is (h.texts Console)
-
-  skips : (b : Backend) → skips_at (Some counts) b ≡ (flow b).skipped
-  skips Graphite = skips_of graphite (texts_of Graphite) counts.skips.graphite counts.graphite (back Graphite) (back_now Graphite) (used Graphite) (h.texts Graphite)
-  skips Console = skips_of console (texts_of Console) counts.skips.console counts.console (back Console) (back_now Console) (used Console) (h.texts Console)
-
-  faults : (b : Backend) → faults_at (Some counts) b ≡ min (missed (flow b).queued) last_count
-  faults Graphite = faults_of graphite (texts_of Graphite) counts.skips.graphite counts.graphite (back Graphite) (back_now Graphite) (used Graphite) (h.texts Graphite)
-  faults Console = faults_of console (texts_of Console) counts.skips.console counts.console (back Console) (back_now Console) (used Console) (h.texts Console)
-
-  given_to : (b : Backend) → AfterDeliveries (flow b).queued (back b) (back_now b)
-  given_to Graphite = delivered_of graphite (texts_of Graphite) counts.skips.graphite counts.graphite (back Graphite) (back_now Graphite) (used Graphite) (h.texts Graphite)
-  given_to Console = delivered_of console (texts_of Console) counts.skips.console counts.console (back Console) (back_now Console) (used Console) (h.texts Console)
-
-  pub through : FlushesThrough form used true (rooms_at graphite console) asked own own_now part part_now back back_now beat beat_now flushed (Some counts)
-  through =
+  pub through : (outlets : Bool) (room : OutletRoom) → HasOutRooms outlets room.buffers room.bytes (Some rooms) → FlushesThrough form used outlets room asked own own_now part part_now back back_now beat beat_now flushed (Some counts)
+  through false room has = absurd has
+  through true room has =
       let none = fit_none h.rounds h.taken.unused in
       record {
         rounds = h.rounds;
@@ -173,42 +154,14 @@ module _ (form : Form) (used : Backend → Bool) (graphite console : OutRoom) (c
         fits = none;
         counted = h.taken.counted;
         called = h.taken.called;
-        outflows = flow;
-        flowed = flows;
-        are_counted = record { skips = skips; faults = faults };
-        delivered = λ b. with_rounds form b h.rounds none (flow b).queued (back b) (back_now b) (given_to b);
+        outlet_traces = λ b. (went b).flow;
+        through_outlets = λ b. subst (λ (r : OutletRoom). IsOutletTrace (used b) r (map (round_text form b) h.rounds) (went b).flow) (λ i. record { buffers = (each_room room.buffers room.bytes rooms has b).count i; bytes = (each_room room.buffers room.bytes rooms has b).size i }) (went b).through_outlets;
+        has = refl;
+        are_counted = record { skips = λ b. (went b).skips; faults = λ b. (went b).faults };
+        delivered = λ b. with_rounds form b h.rounds none (went b).flow.queued (back b) (back_now b) (went b).delivered;
         given = h.given;
         turns = h.turns;
         same = h.same;
         ends = h.ends;
         last = h.last;
       }
-
--- the outlets have the room that they were opened for
-module _ (form : Form) (used : Backend → Bool) (asked : ℕ) (own own_now : ℕ → History) (part part_now : Part) (back back_now : Backend → Object) (beat beat_now : Object) (flushed : Flushed) (counts : Option OutCounts) (n bytes : ℕ) where
-  abbrev Through : Bool → (Backend → OutletRoom) → Type 0
-  Through outlets room_at = FlushesThrough form used outlets room_at asked own own_now part part_now back back_now beat beat_now flushed counts
-
-  pub sized : (outlets : Bool) (rooms : Option OutRooms) → HasOutRooms outlets n bytes rooms → Through (has_rooms rooms) (rooms_of rooms) → Through outlets (λ b. record { buffers = n; bytes = bytes })
-  sized false None has h = record {
-    rounds = h.rounds;
-    swapped = h.swapped;
-    fits = h.fits;
-    counted = h.counted;
-    called = h.called;
-    outflows = h.outflows;
-    flowed = h.flowed;
-    are_counted = h.are_counted;
-    delivered = h.delivered;
-    given = h.given;
-    turns = h.turns;
-    same = h.same;
-    ends = h.ends;
-    last = h.last;
-  }
-  sized false (Some rooms) has h = absurd has
-  sized true None has h = absurd has
-  sized true (Some rooms) has h = subst (Through true) (λ i b. each b i) h where
-    each : (b : Backend) → rooms_of (Some rooms) b ≡ record { buffers = n; bytes = bytes }
-    each Graphite = λ i. record { buffers = has.0.count i; bytes = has.0.size i }
-    each Console = λ i. record { buffers = has.1.count i; bytes = has.1.size i }

@@ -2,6 +2,7 @@
 use Rattle.std.specs.Prelude.{◌≡◌, ℕ, Bool, true, false, [], Option, Some, None, ⊤}
 use Rattle.sd_model_record.specs.Backends.{Backend, Graphite, Console}
 use Rattle.sd_model_run.specs.Outlets.{OutletRoom}
+use Rattle.sd_outlet.specs.declared.drain.Drain.{Drain}
 use Rattle.sd_outlet.specs.declared.feed.Feed.{Feed}
 use Rattle.sd_outlet.specs.declared.outlet.Outlet.{Outlet}
 use Rattle.sd_outlet.specs.Drain.{IsDrainOf, got}
@@ -9,6 +10,7 @@ use Rattle.sd_outlet.specs.Feed.{IsFeedOf, IsNew, buffers, bytes_of, sends_of, s
 use Rattle.sd_flush.specs.declared.outs.Lead.{Lead}
 use Rattle.sd_serve.specs.declared.out_room.OutRoom.{OutRoom}
 use Rattle.sd_serve.specs.declared.out_room.OutRooms.{OutRooms}
+use Rattle.sd_serve.specs.declared.workers_out.OutletDrain.{OutletDrain}
 
 -- the outlet
 abbrev pub outlet_in : OutRoom → Outlet
@@ -22,15 +24,10 @@ feed_in room = room.feed
 abbrev pub room_seen : OutRoom → OutletRoom
 room_seen room = record { buffers = buffers room.outlet; bytes = bytes_of room.outlet }
 
--- those of each backend's outlet
-abbrev pub rooms_at : (graphite console : OutRoom) → Backend → OutletRoom
-rooms_at graphite console Graphite = room_seen graphite
-rooms_at graphite console Console = room_seen console
-
--- the same, if there are any
-abbrev pub rooms_of : Option OutRooms → Backend → OutletRoom
-rooms_of None back = record { buffers = 0; bytes = 0 }
-rooms_of (Some rooms) back = rooms_at rooms.graphite rooms.console back
+-- the room of a backend's outlet
+abbrev pub room_at : OutRooms → Backend → OutRoom
+room_at rooms Graphite = rooms.graphite
+room_at rooms Console = rooms.console
 
 -- the ends are the outlet's, and nothing was sent or got
 pub record IsOutRoom (room : OutRoom) : Type 0 where
@@ -38,6 +35,10 @@ pub record IsOutRoom (room : OutRoom) : Type 0 where
   pub is_new : IsNew room.feed
   pub drain_is : IsDrainOf room.outlet room.drain
   pub none_got : got room.drain ≡ []
+
+-- this holds of both outlets
+abbrev pub AreOutRooms : OutRooms → Type 0
+AreOutRooms rooms = (back : Backend) → IsOutRoom (room_at rooms back)
 
 -- and the outlet has so many buffers of so many bytes each
 pub record IsOutRoomOf (n bytes : ℕ) (room : OutRoom) : Type 0 where
@@ -49,14 +50,8 @@ pub record IsOutRoomOf (n bytes : ℕ) (room : OutRoom) : Type 0 where
 -- none, there is no room for them.
 abbrev pub HasOutRooms : Bool → ℕ → ℕ → Option OutRooms → Type 0
 HasOutRooms false n bytes None = ⊤
-HasOutRooms false n bytes (Some rooms) = ⊥
-HasOutRooms true n bytes None = ⊥
 HasOutRooms true n bytes (Some rooms) = IsOutRoomOf n bytes rooms.graphite × IsOutRoomOf n bytes rooms.console
-
--- whether there are outlets
-abbrev pub has_rooms : Option OutRooms → Bool
-has_rooms None = false
-has_rooms (Some rooms) = true
+HasOutRooms outlets n bytes rooms = ⊥
 
 -- The feed is in a lead, where the backend is used.
 pub record IsLent (o : Outlet) (f : Feed) (lead : Option Lead) : Type 0 where
@@ -78,3 +73,9 @@ pub record IsIdle (o : Outlet) (lead : Option Lead) (idle : Option Feed) : Type 
 abbrev pub IsLentOrIdle : Bool → Outlet → Feed → Option Lead → Option Feed → Type 0
 IsLentOrIdle true o f lead idle = IsLent o f lead
 IsLentOrIdle false o f lead idle = IsIdle o lead idle
+
+-- An outlet's feed went to the flusher, where the backend is used, and its drain to its worker.
+pub record IsOpened (used : Bool) (o : Outlet) (f : Feed) (d : Drain) (lead : Option Lead) (ends : OutletDrain) : Type 0 where
+  pub feed_is : IsLentOrIdle used o f lead ends.idle
+  pub outlet_is : ends.outlet.now ≡ o
+  pub drain_is : ends.drain ≡ d

@@ -8,13 +8,16 @@ use Rattle.sd_model_run.specs.Outlets.{OutletRoom}
 use Rattle.sd_epoch.specs.Limits.{AreLimits, limits_of as limits_seen}
 use Rattle.sd_shard.specs.Policy.{policy_of as policy_seen}
 use Rattle.sd_turn.specs.Lists.{span}
+use Rattle.sd_pool.specs.declared.pool.Pool.{Pool}
 use Rattle.sd_pool.specs.Pool.{IsNewSeatOf, IsRoomOf as IsClosingRoomOf, limits_of, policy_of, receivers_of, seats_in, shards_of, who_is}
 use Rattle.sd_shared_desk.specs.Shared.{IsNewSeatOf as IsNewDeskSeatOf, number_of_seat, opened_with, seats_of, start_of}
 use Rattle.sd_flush.specs.Tables.{AreTablesFor}
 use Rattle.sd_session.specs.Space.{IsSpaceFor}
 use Rattle.sd_serve.specs.LinePost.{HasLineRoom, line_keepers}
 use Rattle.sd_serve.specs.OutRoom.{HasOutRooms}
-use Rattle.sd_serve.specs.Parts.{HasBatch, HasPlace}
+use Rattle.sd_serve.specs.PostRooms.{HasBatch, HasPlace}
+use Rattle.sd_serve.specs.declared.room.Benches.{Benches}
+use Rattle.sd_serve.specs.declared.room.Postings.{Postings}
 use Rattle.sd_serve.specs.declared.room.ServerRoom.{ServerRoom}
 use Rattle.sd_serve.specs.declared.room.Sizes.{Sizes}
 
@@ -43,7 +46,7 @@ outlets_of sizing = record { buffers = sizing.outlets; bytes = sizing.outlet_byt
 abbrev pub with_outlets : Sizing → Bool
 with_outlets sizing = nat_lt 0 sizing.outlets
 
--- how many callers submit samples: the receivers, and the keeper of lines, if there is one
+-- how many callers submit samples: the receivers, and the reader of lines, if there is one
 abbrev pub submitters : Sizing → ℕ
 submitters sizing = sizing.receivers + line_keepers sizing.streams
 
@@ -65,15 +68,36 @@ sizing_in room = sizing_of room.sizes
 abbrev pub start_in : {D L : Type 0} → ServerRoom D L → ℕ
 start_in room = start_of room.desk
 
+-- what flusher and sessions work with, and the room of the reader of lines and of outlets, if there are any
+pub record AreBenchesFor (sizing : Sizing) (b : Benches) : Type 0 where
+  pub tables : AreTablesFor sizing.limits sizing.shards b.tables
+  pub space : IsSpaceFor sizing.limits sizing.shards b.space
+  pub lines : HasLineRoom sizing.streams sizing.shards b.lines
+  pub outs : HasOutRooms (with_outlets sizing) sizing.outlets sizing.outlet_bytes b.outs
+
+-- the room of each receiver, and room for their posts and ends, of which there is none yet
+pub record ArePostingsFor {D L : Type 0} (sizing : Sizing) (p : Postings D L) : Type 0 where
+  pub places : length p.rooms.items ≡ sizing.receivers
+  pub place_each : All (HasPlace sizing.wires) p.rooms.items
+  pub batches : All (HasBatch sizing.shards) p.rooms.items
+  pub no_post : p.posts.items ≡ []
+  pub post_room : sizing.receivers ≤ vec_capacity p.posts
+  pub no_end : p.ends.items ≡ []
+  pub end_room : sizing.receivers ≤ vec_capacity p.ends
+
+-- The pool is that of a server of these sizes.
+pub record IsPoolFor (sizing : Sizing) (pool : Pool) : Type 0 where
+  pub shards : shards_of pool ≡ sizing.shards
+  pub limits : limits_of pool ≡ sizing.limits
+  pub policy : policy_of pool ≡ sizing.policy
+  pub receivers : receivers_of pool ≡ submitters sizing
+
 -- The room is that of a server of its sizes, which has done nothing: it has a pool and its seats, a desk and as many seats as
--- submit samples and two more, what flusher and sessions work with, the room of each receiver, and that of the keeper of lines and of
+-- submit samples and two more, what flusher and sessions work with, the room of each receiver, and that of the reader of lines and of
 -- outlets, if there are any.
 pub record IsRoom {D L : Type 0} (room : ServerRoom D L) : Type 0 where
   pub sizes_are : AreSizes (sizing_in room)
-  pub shards : shards_of room.pool ≡ (sizing_in room).shards
-  pub limits : limits_of room.pool ≡ (sizing_in room).limits
-  pub policy : policy_of room.pool ≡ (sizing_in room).policy
-  pub receivers : receivers_of room.pool ≡ submitters (sizing_in room)
+  pub pool : IsPoolFor (sizing_in room) room.pool
   pub callers : map who_is room.seats.receivers.items ≡ span 0 (submitters (sizing_in room))
   pub flushes : who_is room.seats.flusher ≡ flusher
   pub commands : who_is room.seats.admin ≡ administrator
@@ -83,14 +107,5 @@ pub record IsRoom {D L : Type 0} (room : ServerRoom D L) : Type 0 where
   pub desk_seats : seats_of room.desk ≡ submitters (sizing_in room) + 2
   pub numbers : map number_of_seat room.owns.items ≡ span 0 (submitters (sizing_in room) + 2)
   pub owns : All (IsNewDeskSeatOf room.desk) room.owns.items
-  pub tables : AreTablesFor (sizing_in room).limits (sizing_in room).shards room.benches.tables
-  pub space : IsSpaceFor (sizing_in room).limits (sizing_in room).shards room.benches.space
-  pub places : length room.postings.rooms.items ≡ (sizing_in room).receivers
-  pub place_each : All (HasPlace (sizing_in room).wires) room.postings.rooms.items
-  pub batches : All (HasBatch (sizing_in room).shards) room.postings.rooms.items
-  pub lines : HasLineRoom (sizing_in room).streams (sizing_in room).shards room.benches.lines
-  pub outs : HasOutRooms (with_outlets (sizing_in room)) (sizing_in room).outlets (sizing_in room).outlet_bytes room.benches.outs
-  pub no_post : room.postings.posts.items ≡ []
-  pub post_room : (sizing_in room).receivers ≤ vec_capacity room.postings.posts
-  pub no_end : room.postings.ends.items ≡ []
-  pub end_room : (sizing_in room).receivers ≤ vec_capacity room.postings.ends
+  pub benches : AreBenchesFor (sizing_in room) room.benches
+  pub postings : ArePostingsFor (sizing_in room) room.postings

@@ -6,30 +6,27 @@
 //! It opens no object and writes no totals. That the workers come to their end, no clause says.
 #![tactic(auto)]
 
-mod beside;
-mod draining;
-mod feeding;
-mod flushing;
-mod keeping;
-mod kinds;
+mod crew;
 mod line_post;
-mod lining;
+mod object_types;
 mod objects;
 mod out_room;
-mod parts;
+mod post_rooms;
 mod room;
+mod run_settings;
 mod services;
 mod serving;
-mod terms;
+mod with_pair;
+mod work;
 mod workers;
 mod workers_out;
 
-pub use kinds::{Kinds, KindsOf, ObjectsOf};
 pub use line_post::{LinePost, LineRoom};
+pub use object_types::{ObjectTypes, ObjectTypesOf, ObjectsOf};
 pub use objects::ServerObjects;
 pub use out_room::{OutRoom, OutRooms};
 pub use room::{ServerRoom, Sizes};
+pub use run_settings::RunSettings;
 pub use serving::{Served, serve};
-pub use terms::Terms;
 pub use workers::Ends;
 pub use workers_out::OutCounts;

@@ -1,8 +1,8 @@
-//! What the keeper of lines works with, if there is one.
+//! What the reader of lines works with, if there is one.
 ghost use Rattle.std.specs.Prelude.{◌≡◌, ◌+◌, ◌<◌, ◌≤◌, ◌^◌, ◌++◌, false, IfOk, length, vec_capacity};
 ghost use Rattle.sd_serve.specs.LinePost.{HasLineRoom, line_owns, line_rooms, line_seats, lines_in};
 
-use crate::parts::BATCH;
+use crate::post_rooms::BATCH;
 use log::Log;
 use sd_batch::Batch;
 use sd_outside::{Clock, Door, DoorEnd, Gate};
@@ -15,7 +15,7 @@ use sd_workers::{datagram_room, put_first, take_first};
 use std::alloc::{AllocError, Global};
 use std::sync::Wait;
 
-/// The room of the keeper of lines: for the line that it has begun, for the bytes of a read, and for samples that wait.
+/// The room of the reader of lines: for the line that it has begun, for the bytes of a read, and for samples that wait.
 #[derive(Drop)]
 pub struct LineRoom {
     pub cutter: Cutter,
@@ -23,7 +23,7 @@ pub struct LineRoom {
     pub batch: Batch,
 }
 
-/// The seats and the room of the keeper of lines.
+/// The seats and the room of the reader of lines.
 #[derive(Drop)]
 pub struct LinePost {
     pub seat: Seat,
@@ -32,7 +32,7 @@ pub struct LinePost {
 }
 
 impl LinePost {
-    ghost use Rattle.sd_serve.specs.LinePost.{IsLineReady, WasLined};
+    ghost use Rattle.sd_serve.specs.LinePost.{IsLineReady, WereLinesRead};
 
     /// Reads the streams of a door with the parts of the post. It takes no memory.
     pub fn run<E: Door, G: Gate, C: Clock, R: Wait + Log>(
@@ -44,9 +44,9 @@ impl LinePost {
         requires ready { IsLineReady shared.now.pool.now shared.now.desk.now self.old }
         requires none_out { (E.seen door.old).is_out ≡ false }
         requires turns { (E.seen door.old).turns < 2 ^ 62 }
-        ensures { WasLined (C.may_say shared.now.clock.now) shared.now.pool.now shared.now.desk.now shared.now.run_flushes self.old self.new result (E.seen door.old) (E.seen door.new) }
+        ensures { WereLinesRead (C.may_say shared.now.clock.now) shared.now.pool.now shared.now.desk.now shared.now.run_flushes self.old self.new result (E.seen door.old) (E.seen door.new) }
     {
-        let lined = linekeep(
+        let lines_read = linekeep(
             rt,
             shared,
             &mut self.own,
@@ -56,11 +56,11 @@ impl LinePost {
             &mut self.room.buf,
             &mut self.room.batch,
         );
-        lined.ended
+        lines_read.ended
     }
 }
 
-/// The room of the keeper of lines, where lines of streams are read.
+/// The room of the reader of lines, where lines of streams are read.
 ///
 /// # Errors
 ///

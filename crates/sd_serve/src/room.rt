@@ -1,9 +1,8 @@
 ghost use Rattle.std.specs.Prelude.{◌≡◌, ◌<◌, ◌≤◌, IfOk};
-ghost use Rattle.sd_epoch.specs.Limits.{AreLimits, limits_of as limits_seen};
 
 use crate::line_post::{LineRoom, open_line_room};
 use crate::out_room::{OutRooms, open_outlets};
-use crate::parts::{PostRoom, open_rooms};
+use crate::post_rooms::{PostRoom, open_rooms};
 use sd_epoch::Limits;
 use sd_flush::Tables;
 use sd_outside::Ended;
@@ -32,7 +31,7 @@ impl Sizes {
     ghost use Rattle.std.specs.Prelude.{◌≡◌, ◌≤◌};
     ghost use Rattle.sd_serve.specs.Room.{sizing_of, submitters};
 
-    // How many callers submit samples: the receivers, and the keeper of lines, if there is one.
+    // How many callers submit samples: the receivers, and the reader of lines, if there is one.
     fn submitters(self) -> u16
         requires { self.receivers ≤ 16 }
         ensures { result ≡ submitters (sizing_of self) }
@@ -57,7 +56,7 @@ pub struct ServerRoom<D, L> {
     pub(crate) postings: Postings<D, L>,
 }
 
-/// What the flusher, the sessions, the keeper of lines and the outlets work with.
+/// What the flusher, the sessions, the reader of lines and the outlets work with.
 #[derive(Drop)]
 pub(crate) struct Benches {
     pub(crate) tables: Tables,
@@ -67,8 +66,7 @@ pub(crate) struct Benches {
 }
 
 impl Benches {
-    ghost use Rattle.sd_serve.specs.Room.{AreSizes, sizing_of};
-    ghost use Rattle.sd_serve.specs.RoomParts.{AreBenchesFor};
+    ghost use Rattle.sd_serve.specs.Room.{AreBenchesFor, AreSizes, sizing_of};
 
     fn open(alloc: Global, sizes: Sizes, seed: u64) -> Result<Benches, AllocError>
         requires { AreSizes (sizing_of sizes) }
@@ -92,8 +90,7 @@ pub(crate) struct Postings<D, L> {
 }
 
 impl<D: Drop, L: Drop> Postings<D, L> {
-    ghost use Rattle.sd_serve.specs.Room.{sizing_of};
-    ghost use Rattle.sd_serve.specs.RoomParts.{ArePostingsFor};
+    ghost use Rattle.sd_serve.specs.Room.{ArePostingsFor, sizing_of};
 
     fn open(alloc: Global, sizes: Sizes) -> Result<Postings<D, L>, AllocError>
         requires { 0 < sizes.shards }

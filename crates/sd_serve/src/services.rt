@@ -22,7 +22,7 @@ pub(crate) struct AdminPost {
     pub space: AdminSpace,
 }
 
-/// The posts of all workers but the receivers: of the flusher, of the keeper of the admin door, and of the keeper of lines, if there
+/// The posts of all workers but the receivers: of the flusher, of the keeper of the admin door, and of the reader of lines, if there
 /// is one.
 #[derive(Drop)]
 pub(crate) struct ServicePosts {

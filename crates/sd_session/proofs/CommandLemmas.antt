@@ -8,13 +8,13 @@ use Rattle.sd_model_shard.specs.Shard.{Event, Delete}
 use Rattle.sd_model_record.specs.Admin.{command, AdminFault}
 use Rattle.sd_model_record.specs.Replies.{admin_events}
 use Rattle.sd_model_serve.specs.Doors.{Visit, AreVisitsOf, asked_by}
-use Rattle.sd_model_serve.specs.Talks as model
-use Rattle.sd_model_serve.specs.Talks.{Dialogue, EndsSession, HasTalked, SessionEnd, lines_in}
-use Rattle.sd_model_serve.specs.Sessions.{Broadcast, Exchange, admin_talk, GoesOn, asked_in, events_in}
+use Rattle.sd_model_serve.specs.Sessions as model
+use Rattle.sd_model_serve.specs.Sessions.{Dialogue, EndsSession, HasTalked, SessionEnd, lines_in, Broadcast, Exchange, admin_talk, GoesOn, events_in}
 use Rattle.sd_session.specs.Commands.{AreCommands}
 use Rattle.std.specs.Prelude.{Result, Ok, Err}
 use Rattle.sd_model_text.specs.Names.{Kind}
 use Rattle.sd_model_record.specs.Admin as admin
+use Rattle.sd_model_serve.proofs.Short.{asked_in}
 
 names_commands : (kind : Kind) (names : List (List ℕ)) → AreCommands (map (Delete kind) names)
 names_commands kind [] = tt
@@ -61,7 +61,7 @@ last_commands shards settings says model.AtEnd last rest faults source_now sink 
 last_commands shards settings says model.ReadFault last rest faults source_now sink sink_now h = subst (λ (es : List Exchange). Asked (asked_in es)) (sym h.0) tt
 last_commands shards settings says model.WriteFault [] rest faults source_now sink sink_now h = tt
 last_commands shards settings says model.WriteFault (e ∷ []) rest faults source_now sink sink_now h =
-    one_commands e (subst AreCommands (sym h.1.0.front) (commands-taken (h.1.0.whole + 1) (admin_events (command e.line)) (line_commands (command e.line))))
+    one_commands e (subst AreCommands (sym h.1.0.prefix) (commands-taken (h.1.0.whole + 1) (admin_events (command e.line)) (line_commands (command e.line))))
 last_commands shards settings says model.WriteFault (e ∷ d ∷ es) rest faults source_now sink sink_now h = absurd (h.1)
 last_commands shards settings says model.LineTooLong last rest faults source_now sink sink_now h = subst (λ (es : List Exchange). Asked (asked_in es)) (sym h.0) tt
 
@@ -74,4 +74,4 @@ visits_commands shards settings says [] [] all = tt
 visits_commands shards settings says [] (d ∷ dialogues) all = absurd (all)
 visits_commands shards settings says (v ∷ visits) [] all = absurd (all)
 visits_commands shards settings says (v ∷ visits) (d ∷ dialogues) all =
-    joined (asked_in (lines_in d)) (asked_by dialogues) (talked_commands shards settings says d v.asking v.asking_now v.told v.told_now all.0.talked) (visits_commands shards settings says visits dialogues all.1)
+    joined (asked_in (lines_in d)) (asked_by dialogues) (talked_commands shards settings says d v.asking v.asking_now v.answered v.answered_now all.0.talked) (visits_commands shards settings says visits dialogues all.1)

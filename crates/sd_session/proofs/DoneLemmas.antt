@@ -5,7 +5,7 @@ use Rattle.sd_shared_desk.specs.Counts.{nothing}
 use Rattle.sd_model_record.specs.DeskHistory.{DeskCall}
 use Rattle.sd_shared_desk.proofs.CountLemmas.{counted_none, counted_next}
 use Rattle.sd_model_serve.specs.Doors.{line_calls}
-use Rattle.sd_model_serve.specs.Sessions.{Broadcast, Exchange, asked_in}
+use Rattle.sd_model_serve.specs.Sessions.{Broadcast, Exchange}
 use Rattle.sd_pool.specs.Pool.{own_at}
 use Rattle.sd_pool.specs.declared.seat.Seat.{Seat}
 use Rattle.sd_shared_desk.specs.Shared.{OwnSeat, part_of}
@@ -13,7 +13,8 @@ use Rattle.sd_talk.specs.Answers.{Along}
 use Rattle.sd_session.specs.Doing.{HasDone}
 use Rattle.sd_session.specs.Answering.{AnswersWith, HasAnswered}
 use Rattle.sd_session.specs.declared.answerer.AdminAnswerer.{AdminAnswerer}
-use Rattle.sd_session.proofs.CarryLemmas.{Broadcasts-none, Broadcasts-next}
+use Rattle.sd_session.proofs.ExecutionLemmas.{Broadcasts-none, Broadcasts-next}
+use Rattle.sd_model_serve.proofs.Short.{asked_in}
 
 module _ (shards : ℕ) where
   -- nothing
@@ -53,5 +54,5 @@ module _ (shards : ℕ) where
           own = rest.works.own ∙ first.works.own;
           replies = rest.works.replies ∙ first.works.replies;
         };
-        done = done-more e.asked (asked_in es) (line_calls e) (flat_map line_calls es) old.seat.now mid.seat.now new.seat.now old.own.now mid.own.now new.own.now first.carried rest.done;
+        done = done-more e.asked (asked_in es) (line_calls e) (flat_map line_calls es) old.seat.now mid.seat.now new.seat.now old.own.now mid.own.now new.own.now first.executed rest.done;
       }

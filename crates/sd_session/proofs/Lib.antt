@@ -1,6 +1,6 @@
 mod FoundLemmas
 mod TogetherLemmas
-mod CarryLemmas
+mod ExecutionLemmas
 mod LineLemmas
 mod DoneLemmas
 mod VisitLemmas

@@ -4,13 +4,13 @@ use Rattle.std.specs.Prelude.{Bool, true, false, if◌then◌else◌}
 use Rattle.sd_model_record.specs.Admin.{command}
 use Rattle.sd_shared_desk.specs.Counts.{Part}
 use Rattle.sd_model_record.specs.Desk.{Facts, no_tally}
-use Rattle.sd_model_record.specs.DeskHistory.{DeskCall, Look, Told as ToldOf}
+use Rattle.sd_model_record.specs.DeskHistory.{DeskCall, Look, Reported as ReportedOf}
 use Rattle.sd_model_serve.specs.Doors.{health_calls, line_calls}
 use Rattle.sd_model_serve.specs.Sessions.{Exchange, is_quit}
 
 -- the look of a line
 abbrev look_of : Exchange → DeskCall
-look_of e = record { event = Look; answer = ToldOf e.facts }
+look_of e = record { event = Look; answer = ReportedOf e.facts }
 
 -- a line that asks for the end calls nothing
 quit_calls : (e : Exchange) → is_quit (command e.line) ≡ true → line_calls e ≡ []

@@ -13,20 +13,21 @@ use Rattle.std.proofs.lemmas.List.FromFn.{fill_by_all}
 use Rattle.std.proofs.lemmas.List.Sorted.{IsPermutation-append, IsPermutation-sym, IsPermutation-trans, IsPermutation-refl}
 use Rattle.sd_model_text.specs.Names.{Kind}
 use Rattle.sd_model_text.specs.Names as names
-use Rattle.sd_model_shard.specs.Rows.{RowId, row_cmp}
-use Rattle.sd_model_shard.specs.Commands.{DumpRow, dump_of, in_key_order}
+use Rattle.sd_model_shard.specs.Rows.{RowId, row_cmp, DumpRow, dump_of, in_key_order}
 use Rattle.sd_model_shard.specs.Shard as shard
 use Rattle.sd_model_shard.specs.Shard.{State, Event, Numbers, empty_state, deletion_of, numbers_of}
 use Rattle.sd_model_shard.specs.History.{History}
 use Rattle.sd_model_serve.specs.Receiving.{administrator}
-use Rattle.sd_model_record.specs.Replies.{keys_in, keys_told, numbers_in, numbers_told, rows_in, rows_told}
+use Rattle.sd_model_record.specs.Replies.{keys_in, numbers_looked, rows_in}
 use Rattle.sd_model_record.proofs.OrderLemmas.{in_key_order_is, keys_in_order}
 use Rattle.sd_law_shards.specs.Shards.{AtHome}
 use Rattle.sd_law_shards.proofs.HomeLemmas.{all_keys_once, all_rows_once}
-use Rattle.sd_model_serve.specs.Sessions.{Broadcast, all_replies}
-use Rattle.sd_session.specs.Carried.{Broadcasts}
+use Rattle.sd_model_serve.specs.Sessions.{Broadcast}
+use Rattle.sd_session.specs.Executed.{Broadcasts}
 use Rattle.sd_shard.specs.Shard.{Appends}
 use Rattle.sd_pool.specs.Setup.{OnlyOf}
+use Rattle.sd_model_record.proofs.Short.{numbers_reported, keys_reported, rows_reported}
+use Rattle.sd_model_serve.proofs.Short.{all_replies}
 
 -- the states in which shards were found, by their numbers
 abbrev pub found_at : List State → ℕ → State
@@ -95,12 +96,12 @@ Appends-none = ([], refl, IsPermutation-refl [])
 
 pub Appends-more : {A : Type 0} (tell : State → List A) (found : List State) (state : State) (old mid new : List A) → Appends (flat_map tell found) old mid → Appends (tell state) mid new → Appends (flat_map tell (found ++ state ∷ [])) old new
 Appends-more tell found state old mid new first last =
-    subst (λ (told : List _). Appends told old new) (sym (flat_map-append tell found (state ∷ []) ∙ ap (λ (told : List _). flat_map tell found ++ told) (append-nil (tell state))))
+    subst (λ (reported : List _). Appends reported old new) (sym (flat_map-append tell found (state ∷ []) ∙ ap (λ (reported : List _). flat_map tell found ++ reported) (append-nil (tell state))))
     (first.0 ++ last.0, last.1 ∙ ap (λ (xs : List _). xs ++ last.0) first.1 ∙ append_assoc old first.0 last.0, IsPermutation-append first.0 (flat_map tell found) last.0 (tell state) first.2 last.2)
 
-moved : {A : Type 0} (told new sorted : List A) → Appends told [] new → IsPermutation new sorted → IsPermutation told sorted
-moved told new sorted all sort =
-    IsPermutation-trans told new sorted (subst (IsPermutation told) (sym all.1) (IsPermutation-sym all.0 told all.2)) sort
+moved : {A : Type 0} (reported new sorted : List A) → Appends reported [] new → IsPermutation new sorted → IsPermutation reported sorted
+moved reported new sorted all sort =
+    IsPermutation-trans reported new sorted (subst (IsPermutation reported) (sym all.1) (IsPermutation-sym all.0 reported all.2)) sort
 
 by_number : {A : Type 0} (tell : State → List A) (found : List State) (shards : ℕ) → length found ≡ shards → flat_map tell found ≡ flat_map (λ i. tell (found_at found i)) (range_with_len 0 shards)
 by_number tell found shards count =
@@ -108,19 +109,19 @@ by_number tell found shards count =
 
 module _ (shards : ℕ) (kind : Kind) (found : List State) (home : AtHome shards (found_at found)) (count : length found ≡ shards) where
   pub keys_are : (name : List ℕ) (new sorted : List (List ℕ)) → Appends (flat_map (λ s. keys_in (deletion_of kind name s)) found) [] new → IsPermutation new sorted → IsSorted (slice_cmp nat_cmp) sorted
-      → sorted ≡ keys_told (all_replies shards (broadcast_of shards (shard.Delete kind name) (deletion_of kind name) found))
+      → sorted ≡ keys_reported (all_replies shards (broadcast_of shards (shard.Delete kind name) (deletion_of kind name) found))
   keys_are name new sorted all sort up =
       let tell : State → List (List ℕ) = λ s. keys_in (deletion_of kind name s) in
-      let told = flat_map (λ i. tell (found_at found i)) (range_with_len 0 shards) in
-      keys_in_order told sorted (all_keys_once shards (found_at found) home kind name) (subst (λ (ts : List (List ℕ)). IsPermutation ts sorted) (by_number tell found shards count) (moved (flat_map tell found) new sorted all sort)) up
+      let reported = flat_map (λ i. tell (found_at found i)) (range_with_len 0 shards) in
+      keys_in_order reported sorted (all_keys_once shards (found_at found) home kind name) (subst (λ (ts : List (List ℕ)). IsPermutation ts sorted) (by_number tell found shards count) (moved (flat_map tell found) new sorted all sort)) up
       ∙ ap (in_key_order (λ (key : List ℕ). key)) (sym (flat_map-map keys_in (λ i. deletion_of kind name (found_at found i)) (range_with_len 0 shards)))
 
   pub rows_are : (new sorted : List DumpRow) → Appends (flat_map (λ s. dump_of kind s.live) found) [] new → IsPermutation new sorted → IsSortedByKey (λ (row : DumpRow). row.key) (slice_cmp nat_cmp) sorted
-      → sorted ≡ rows_told (all_replies shards (broadcast_of shards (shard.Dump kind) (λ s. shard.Dumped (dump_of kind s.live)) found))
+      → sorted ≡ rows_reported (all_replies shards (broadcast_of shards (shard.Dump kind) (λ s. shard.Dumped (dump_of kind s.live)) found))
   rows_are new sorted all sort up =
       let tell : State → List DumpRow = λ s. dump_of kind s.live in
-      let told = flat_map (λ i. tell (found_at found i)) (range_with_len 0 shards) in
-      in_key_order_is (λ (row : DumpRow). row.key) told sorted (all_rows_once shards (found_at found) home kind) (subst (λ (ts : List DumpRow). IsPermutation ts sorted) (by_number tell found shards count) (moved (flat_map tell found) new sorted all sort)) up
+      let reported = flat_map (λ i. tell (found_at found i)) (range_with_len 0 shards) in
+      in_key_order_is (λ (row : DumpRow). row.key) reported sorted (all_rows_once shards (found_at found) home kind) (subst (λ (ts : List DumpRow). IsPermutation ts sorted) (by_number tell found shards count) (moved (flat_map tell found) new sorted all sort)) up
       ∙ ap (in_key_order (λ (row : DumpRow). row.key)) (sym (flat_map-map rows_in (λ i. shard.Dumped (dump_of kind (found_at found i).live)) (range_with_len 0 shards)))
 
 -- the numbers that a reply tells, and others where it tells none
@@ -130,7 +131,7 @@ looked others reply = others
 
 -- the numbers of shards as they were found are those that all of them told
 pub numbers_are : (shards : ℕ) (found : List State) → length found ≡ shards
-    → flat_map (λ s. numbers_of s ∷ []) found ≡ numbers_told (all_replies shards (broadcast_of shards shard.Look (λ s. shard.Looked (numbers_of s)) found))
+    → flat_map (λ s. numbers_of s ∷ []) found ≡ numbers_reported (all_replies shards (broadcast_of shards shard.Look (λ s. shard.Looked (numbers_of s)) found))
 numbers_are shards found count =
     by_number (λ s. numbers_of s ∷ []) found shards count
-    ∙ sym (flat_map-map numbers_in (λ i. shard.Looked (numbers_of (found_at found i))) (range_with_len 0 shards))
+    ∙ sym (flat_map-map numbers_looked (λ i. shard.Looked (numbers_of (found_at found i))) (range_with_len 0 shards))

@@ -1,19 +1,19 @@
 -- The visits of admin sessions, one after another.
 use Rattle.std.proofs.Common.{◌≡◌, ℕ, List, [], ◌∷◌, ◌++◌, flat_map, ap, subst, sym, ◌∙◌, arith}
 use Rattle.sd_model_settings.specs.Settings as file
-use Rattle.sd_model_record.specs.Counts.{Amounts, Count}
+use Rattle.sd_model_record.specs.Totals.{Amounts, Count}
 use Rattle.sd_shared_desk.specs.Counts.{HasCounted, Part, nothing, plus}
 use Rattle.sd_model_record.specs.DeskHistory.{DeskCall}
 use Rattle.sd_model_serve.specs.Doors.{Visit, AreVisitsOf, asked_by, called_in, line_calls}
-use Rattle.sd_model_serve.specs.Talks.{Dialogue, lines_in}
-use Rattle.sd_model_serve.specs.Sessions.{Exchange, asked_in}
-use Rattle.sd_session.specs.Carried.{Broadcasts}
+use Rattle.sd_model_serve.specs.Sessions.{Dialogue, lines_in, Exchange}
+use Rattle.sd_session.specs.Executed.{Broadcasts}
 use Rattle.sd_pool.specs.Pool.{own_at, shards_of}
 use Rattle.sd_pool.specs.declared.pool.Pool.{Pool}
-use Rattle.sd_door.specs.Keeping.{Visited}
+use Rattle.sd_door.specs.DoorKeeper.{Visited}
 use Rattle.sd_session.specs.Visiting.{HasVisited, WorksOn}
 use Rattle.sd_session.specs.declared.visiting.AdminVisitor.{AdminVisitor}
-use Rattle.sd_session.proofs.CarryLemmas.{Broadcasts-none, Broadcasts-next}
+use Rattle.sd_session.proofs.ExecutionLemmas.{Broadcasts-none, Broadcasts-next}
+use Rattle.sd_model_serve.proofs.Short.{asked_in}
 
 -- two that are nothing are nothing together
 none_and_none : (a b : Amounts) → a ≡ nothing → b ≡ nothing → plus a b ≡ nothing

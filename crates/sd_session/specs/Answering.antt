@@ -6,7 +6,7 @@ use Rattle.sd_pool.specs.Pool.{IsSeatOf, limits_of, shards_of, who_is}
 use Rattle.sd_pool.specs.declared.pool.Pool.{Pool}
 use Rattle.sd_shared_desk.specs.Shared as desk
 use Rattle.sd_shared_desk.specs.declared.shared_desk.SharedDesk.{SharedDesk}
-use Rattle.sd_session.specs.Doing.{HasCarriedOut}
+use Rattle.sd_session.specs.Doing.{HasExecuted}
 use Rattle.sd_session.specs.declared.answerer.AdminAnswerer.{AdminAnswerer}
 
 -- it has the administrator's seat of a pool, a seat at a desk, and room for the replies
@@ -23,7 +23,7 @@ pub record AnswersWith (old new : AdminAnswerer) : Type 0 where
   pub own : new.own.ghost_name ≡ old.own.ghost_name
   pub replies : new.replies.ghost_name ≡ old.replies.ghost_name
 
--- it carried out a line, by the same seats as before
+-- it executed a line, by the same seats as before
 pub record HasAnswered (shards : ℕ) (e : Exchange) (old new : AdminAnswerer) : Type 0 where
   pub works : AnswersWith old new
-  pub carried : HasCarriedOut shards e old.seat.now new.seat.now old.own.now new.own.now
+  pub executed : HasExecuted shards e old.seat.now new.seat.now old.own.now new.own.now

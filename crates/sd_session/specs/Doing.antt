@@ -4,7 +4,7 @@ use Rattle.sd_shared_desk.specs.Counts.{HasCounted, nothing}
 use Rattle.sd_model_record.specs.DeskHistory.{DeskCall}
 use Rattle.sd_model_serve.specs.Doors.{line_calls}
 use Rattle.sd_model_serve.specs.Sessions.{Broadcast, Exchange}
-use Rattle.sd_session.specs.Carried.{Broadcasts}
+use Rattle.sd_session.specs.Executed.{Broadcasts}
 use Rattle.sd_pool.specs.Pool.{own_at}
 use Rattle.sd_pool.specs.declared.seat.Seat.{Seat}
 use Rattle.sd_shared_desk.specs.Shared.{OwnSeat, number_of_seat, part_of}
@@ -18,5 +18,5 @@ pub record HasDone (shards : ℕ) (broadcasts : List Broadcast) (calls : List De
   pub number : number_of_seat own_now ≡ number_of_seat own
 
 -- a thread did what a line does
-abbrev pub HasCarriedOut : ℕ → Exchange → (seat seat_now : Seat) → (own own_now : OwnSeat) → Type 0
-HasCarriedOut shards e = HasDone shards e.asked (line_calls e)
+abbrev pub HasExecuted : ℕ → Exchange → (seat seat_now : Seat) → (own own_now : OwnSeat) → Type 0
+HasExecuted shards e = HasDone shards e.asked (line_calls e)

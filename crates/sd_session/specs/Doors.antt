@@ -1,13 +1,12 @@
 -- The sessions of a door that were served, and what is counted for them.
 use Rattle.std.specs.Prelude.{ℕ, ◌+◌, List}
 use Rattle.sd_model_outside.specs.Outside.{Object}
-use Rattle.sd_model_record.specs.Counts.{Among, IsKeeping}
+use Rattle.sd_model_record.specs.Totals.{Among, IsKeeperCall}
 use Rattle.sd_shared_desk.specs.Counts.{Part, HasCalled, HasCounted, of_sessions}
 use Rattle.sd_model_settings.specs.Settings as file
 use Rattle.sd_model_shard.specs.History.{History}
-use Rattle.sd_model_serve.specs.Talks.{Dialogue}
-use Rattle.sd_model_serve.specs.Sessions.{Exchange, events_in}
-use Rattle.sd_session.specs.Carried.{Broadcasts}
+use Rattle.sd_model_serve.specs.Sessions.{Dialogue, Exchange, events_in}
+use Rattle.sd_session.specs.Executed.{Broadcasts}
 use Rattle.sd_session.specs.Commands.{AreCommands}
 use Rattle.sd_model_serve.specs.Doors.{AreVisitsOf, ServesDoor, Visit, asked_by, called_in, faults_among}
 
@@ -26,4 +25,4 @@ pub record ServesSessions (shards : ℕ) (settings : file.Settings) (says : ℕ 
   pub went : AreVisitsOf shards settings says visits dialogues
   pub asked : Broadcasts shards (asked_by dialogues) own own_now
   pub commands : AreCommands (events_in (asked_by dialogues))
-  pub called : HasCalled (Among IsKeeping (called_in dialogues)) part part_now
+  pub called : HasCalled (Among IsKeeperCall (called_in dialogues)) part part_now

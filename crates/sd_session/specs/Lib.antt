@@ -4,6 +4,6 @@ pub mod Answering
 pub mod Space
 pub mod Sessions
 pub mod Visiting
-pub mod Carried
+pub mod Executed
 pub mod Commands
 pub mod Doors

@@ -5,9 +5,8 @@ use Rattle.sd_model_settings.specs.Settings as file
 use Rattle.sd_model_shard.specs.History.{History}
 use Rattle.sd_shared_desk.specs.Counts.{Part}
 use Rattle.sd_model_serve.specs.Doors.{line_calls}
-use Rattle.sd_model_serve.specs.Talks.{Dialogue, HasTalked, lines_in}
-use Rattle.sd_model_serve.specs.Sessions.{Exchange, admin_talk, asked_in, events_in}
-use Rattle.sd_session.specs.Carried.{Broadcasts}
+use Rattle.sd_model_serve.specs.Sessions.{Dialogue, HasTalked, lines_in, Exchange, admin_talk, events_in}
+use Rattle.sd_session.specs.Executed.{Broadcasts}
 use Rattle.sd_session.specs.Commands.{AreCommands}
 use Rattle.sd_talk.specs.Sessions.{end_of}
 use Rattle.sd_talk.specs.declared.sessions.SessionEnd.{SessionEnd}
@@ -17,6 +16,6 @@ pub record HoldsSession (shards : ℕ) (settings : file.Settings) (says : ℕ �
   pub dialogue : Dialogue Exchange
   pub ended_is : dialogue.ended ≡ end_of ended
   pub talked : HasTalked (admin_talk shards settings says) dialogue source source_now sink sink_now
-  pub asked : Broadcasts shards (asked_in (lines_in dialogue)) own own_now
+  pub asked : Broadcasts shards (flat_map (λ e. e.asked) (lines_in dialogue)) own own_now
   pub called : part_now.own ≡ part.own ++ flat_map line_calls (lines_in dialogue)
-  pub commands : AreCommands (events_in (asked_in (lines_in dialogue)))
+  pub commands : AreCommands (events_in (flat_map (λ e. e.asked) (lines_in dialogue)))

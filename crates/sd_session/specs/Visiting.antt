@@ -1,13 +1,12 @@
 -- The visitor of admin sessions: what it needs, and what a visit leaves.
 use Rattle.std.specs.Prelude.{◌≡◌, ℕ, List, flat_map}
 use Rattle.sd_model_serve.specs.Receiving.{administrator}
-use Rattle.sd_model_record.specs.Counts.{Amounts}
+use Rattle.sd_model_record.specs.Totals.{Amounts}
 use Rattle.sd_shared_desk.specs.Counts.{nothing}
 use Rattle.sd_model_record.specs.DeskHistory.{DeskCall}
 use Rattle.sd_model_serve.specs.Doors.{Visit, IsVisitOf, line_calls}
-use Rattle.sd_model_serve.specs.Talks.{Dialogue, lines_in}
-use Rattle.sd_model_serve.specs.Sessions.{Exchange, asked_in}
-use Rattle.sd_session.specs.Carried.{Broadcasts}
+use Rattle.sd_model_serve.specs.Sessions.{Dialogue, lines_in, Exchange}
+use Rattle.sd_session.specs.Executed.{Broadcasts}
 use Rattle.sd_pool.specs.Pool.{IsSeatOf, limits_of, own_at, shards_of, who_is}
 use Rattle.sd_pool.specs.declared.pool.Pool.{Pool}
 use Rattle.sd_session.specs.Space.{IsSpaceFor}
@@ -32,4 +31,4 @@ pub record HasVisited (says : ℕ → Type 0) (pool : Pool) (old new : AdminVisi
   pub dialogue : Dialogue Exchange
   pub called : calls ≡ flat_map line_calls (lines_in dialogue)
   pub went : IsVisitOf (shards_of pool) old.settings.now says v dialogue
-  pub asked : Broadcasts (shards_of pool) (asked_in (lines_in dialogue)) (own_at old.seat.now) (own_at new.seat.now)
+  pub asked : Broadcasts (shards_of pool) (flat_map (λ e. e.asked) (lines_in dialogue)) (own_at old.seat.now) (own_at new.seat.now)

@@ -6,7 +6,7 @@ use log::Log;
 use sd_outside::{Clock, Sink};
 use sd_pool::Seat;
 use sd_shared_desk::DeskSeat;
-use sd_talk::{Answerer, Told};
+use sd_talk::{Answerer, LineAnswer};
 use std::sync::Wait;
 
 /// Answers the lines of admin sessions, with a thread's seats at the desk and in the pool, and the room for replies.
@@ -36,7 +36,7 @@ impl<G, C: Clock> Answerer<AdminShared<'_, '_, G, C>> for AdminAnswerer<'_> {
         shared: &AdminShared<'_, '_, G, C>,
         line: &[u8],
         sink: &mut O,
-    ) -> Told {
+    ) -> LineAnswer {
         answer_line(rt, shared, self.own, self.seat, self.replies, line, sink)
     }
 }

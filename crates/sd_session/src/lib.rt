@@ -1,4 +1,4 @@
-//! Admin sessions over a pool: their lines are carried out by all shards and replied to, and the sessions of a door are served
+//! Admin sessions over a pool: their lines are executed by all shards and replied to, and the sessions of a door are served
 //! one after another.
 //!
 //! `sd_serve` runs `doorkeep` in a thread. A session is held by `sd_talk`, to which it says by `Answerer` what a line comes to.
@@ -8,8 +8,8 @@
 #![tactic(auto)]
 
 mod answerer;
-mod carry;
-mod keeping;
+mod door_keeper;
+mod execution;
 mod line;
 mod sessions;
 mod shared;
@@ -18,7 +18,7 @@ mod telling;
 mod together;
 mod visiting;
 
-pub use keeping::doorkeep;
+pub use door_keeper::doorkeep;
 pub use sd_talk::SessionEnd;
 pub use sessions::session;
 pub use space::AdminSpace;

@@ -7,10 +7,10 @@ ghost use Rattle.sd_model_serve.specs.Sessions.{Exchange, admin_talk, is_quit};
 ghost use Rattle.sd_pool.specs.Pool.{IsSeatOf, limits_of, shards_of, who_is};
 ghost use Rattle.sd_shared_desk.specs.Shared.{IsSeatOf as IsDeskSeatOf, number_of_seat, part_of};
 ghost use Rattle.sd_talk.specs.Answers.{Answers};
-ghost use Rattle.sd_talk.specs.declared.answerer.Told.TheVariants.{Cut};
-ghost use Rattle.sd_session.specs.Doing.{HasCarriedOut};
+ghost use Rattle.sd_talk.specs.declared.answerer.LineAnswer.TheVariants.{Cut};
+ghost use Rattle.sd_session.specs.Doing.{HasExecuted};
 
-use crate::carry::{AnswerBasis, carry_out};
+use crate::execution::{AnswerBasis, execute};
 use crate::shared::AdminShared;
 use crate::space::ReplyRoom;
 use crate::telling::tell_health;
@@ -19,7 +19,7 @@ use sd_admin::{Command, HealthWord};
 use sd_outside::{Clock, Sink};
 use sd_pool::Seat;
 use sd_shared_desk::{DeskSeat, SharedDesk};
-use sd_talk::Told;
+use sd_talk::LineAnswer;
 use std::sync::Wait;
 
 /// Whether a line asks for the end of the session.
@@ -43,7 +43,7 @@ fn set_health<R: Wait>(rt: &R, desk: &SharedDesk, own: &mut DeskSeat, line: &[u8
     }
 }
 
-/// Carries out a line of a session, and replies.
+/// Executes a line of a session, and replies.
 pub(crate) fn answer_line<O: Sink, C: Clock, G, R: Wait + Log>(
     rt: &R,
     shared: &AdminShared<'_, '_, G, C>,
@@ -52,7 +52,7 @@ pub(crate) fn answer_line<O: Sink, C: Clock, G, R: Wait + Log>(
     replies: &mut ReplyRoom,
     line: &[u8],
     sink: &mut O,
-) -> Told
+) -> LineAnswer
     requires seat { IsSeatOf shared.now.workers.now.pool.now seat.old × (who_is seat.old ≡ administrator) }
     requires own { IsDeskSeatOf shared.now.workers.now.desk.now own.old }
     requires keys { shards_of shared.now.workers.now.pool.now * (limits_of shared.now.workers.now.pool.now).rows ≤ replies.old.keys.room }
@@ -61,12 +61,12 @@ pub(crate) fn answer_line<O: Sink, C: Clock, G, R: Wait + Log>(
     ensures own { IsDeskSeatOf shared.now.workers.now.desk.now own.new }
     ensures keys { replies.new.keys.room ≡ replies.old.keys.room }
     ensures dump { replies.new.dump.room ≡ replies.old.dump.room }
-    ensures answered { (e : Exchange) × Answers (admin_talk (shards_of shared.now.workers.now.pool.now) shared.now.settings.now (C.may_say shared.now.workers.now.clock.now)) e line.now result (O.seen sink.old) (O.seen sink.new) × HasCarriedOut (shards_of shared.now.workers.now.pool.now) e seat.old seat.new own.old own.new }
+    ensures answered { (e : Exchange) × Answers (admin_talk (shards_of shared.now.workers.now.pool.now) shared.now.settings.now (C.may_say shared.now.workers.now.clock.now)) e line.now result (O.seen sink.old) (O.seen sink.new) × HasExecuted (shards_of shared.now.workers.now.pool.now) e seat.old seat.new own.old own.new }
     ensures place { (O.seen sink.new).opened_at ≡ (O.seen sink.old).opened_at }
     ensures cause { result ≡ Cut → 0 < (O.seen sink.new).faults }
 {
     if asks_for_end(line) {
-        return Told::Quit;
+        return LineAnswer::Quit;
     }
     let workers = shared.workers;
     let facts = workers.desk.facts(rt, own);
@@ -77,8 +77,8 @@ pub(crate) fn answer_line<O: Sink, C: Clock, G, R: Wait + Log>(
         facts: &facts,
         moment: workers.clock.now(),
     };
-    match carry_out(rt, workers.pool, seat, replies, &basis, line, sink) {
-        Ok(()) => Told::Whole,
-        Err(_) => Told::Cut,
+    match execute(rt, workers.pool, seat, replies, &basis, line, sink) {
+        Ok(()) => LineAnswer::Whole,
+        Err(_) => LineAnswer::Cut,
     }
 }

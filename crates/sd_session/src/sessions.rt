@@ -42,7 +42,7 @@ fn hold_by<A: Source, O: Sink, C: Clock, G, R: Wait + Log>(
     sd_talk::session(rt, shared, answerer, room, source, sink)
 }
 
-/// Holds a session by its two ends: its lines are read, carried out by all shards and replied to, one after another, until one
+/// Holds a session by its two ends: its lines are read, executed by all shards and replied to, one after another, until one
 /// asks for the end or is too long, or an end has nothing left or failed.
 pub fn session<A: Source, O: Sink, C: Clock, G, R: Wait + Log>(
     rt: &R,

@@ -1,4 +1,4 @@
-//! What a session tells the log of what it carried out.
+//! What a session tells the log of what it executed.
 
 use log::Log;
 use sd_admin::{Command, HealthWord};

@@ -3,10 +3,8 @@ use Rattle.std.proofs.Common.{◌≡◌, ℕ, ◌+◌, ◌-◌, Bool, true, fals
 use Rattle.std.proofs.lemmas.List.{nil_from_length}
 use Rattle.std.specs.FinMap.{contains_key, empty, entries, from_entries, get, get-empty, get-retain_keys, len-empty, len-entries, same_map}
 use Rattle.sd_model_text.specs.Names.{Kind}
-use Rattle.sd_model_shard.specs.Rows.{RowId, Kept, Rows, row_cmp}
-use Rattle.sd_model_shard.specs.Commands.{is_hit, keys_of, rows_taken_out, rows_left}
+use Rattle.sd_model_shard.specs.Rows.{RowId, Kept, Rows, row_cmp, is_hit, keys_of, rows_taken_out, rows_left, samples_in, listed_in, is_listed}
 use Rattle.sd_model_shard.specs.Shard.{State, after_delete}
-use Rattle.sd_model_shard.specs.Summaries.{samples_in, listed_in, is_listed}
 use Rattle.sd_model_shard.proofs.ListedLemmas.{retained}
 use Rattle.sd_model_shard.proofs.RowLemmas.{rows_exact, rows_total}
 
@@ -46,17 +44,17 @@ module _ (kind : Kind) (pattern : List ℕ) (state : State) (none : (id : RowId)
         by_test q true h = sym (absent (get state.live q) (none q h))
         by_test q false h = refl
 
-  none_told : entries (rows_taken_out kind pattern state.live) ≡ []
-  none_told = ap entries none_out ∙ nothing
+  none_reported : entries (rows_taken_out kind pattern state.live) ≡ []
+  none_reported = ap entries none_out ∙ nothing
 
   pub no_keys : keys_of (rows_taken_out kind pattern state.live) ≡ []
-  no_keys = ap (map (λ row. row.0.key)) none_told
+  no_keys = ap (map (λ row. row.0.key)) none_reported
 
   pub no_samples : samples_in (rows_taken_out kind pattern state.live) ≡ 0
-  no_samples = ap (sum_by (λ row. cond true row.1.since.samples 0)) none_told
+  no_samples = ap (sum_by (λ row. cond true row.1.since.samples 0)) none_reported
 
   no_listed : listed_in (rows_taken_out kind pattern state.live) ≡ 0
-  no_listed = ap (sum_by (λ row. cond (is_listed row.0.kind) row.1.since.samples 0)) none_told
+  no_listed = ap (sum_by (λ row. cond (is_listed row.0.kind) row.1.since.samples 0)) none_reported
 
   -- the state stays
   pub state_stays : after_delete kind pattern state ≡ state

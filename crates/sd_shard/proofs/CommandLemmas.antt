@@ -19,8 +19,8 @@ module _ {X : Type 0} (p : X → Bool) (xs : List X) (i : ℕ) (x : X) (at : sli
   filter-miss miss = filter-next ∙ ap (λ b. filter p (take i xs) ++ cond b (x ∷ []) []) miss ∙ append-nil (filter p (take i xs))
 
 -- one element more behind those that were told
-pub told-push : {X A : Type 0} (f : X → A) (old : List A) (xs : List X) (x : X) → old ++ map f xs ++ f x ∷ [] ≡ old ++ map f (xs ++ x ∷ [])
-told-push f old xs x = append_assoc old (map f xs) (f x ∷ []) ∙ ap (λ ys. old ++ ys) (sym (map-append f xs (x ∷ [])))
+pub reported-push : {X A : Type 0} (f : X → A) (old : List A) (xs : List X) (x : X) → old ++ map f xs ++ f x ∷ [] ≡ old ++ map f (xs ++ x ∷ [])
+reported-push f old xs x = append_assoc old (map f xs) (f x ∷ []) ∙ ap (λ ys. old ++ ys) (sym (map-append f xs (x ∷ [])))
 
 -- what is taken out of a list is no more than the list
 pub length-filter_within : {X : Type 0} (p : X → Bool) (xs : List X) → length (filter p xs) ≤ length xs

@@ -5,7 +5,7 @@ use Rattle.std.specs.declared.cmp.Ordering.TheVariants.{Less, Equal, Greater}
 use Rattle.std.specs.Ordering.{is_lt, ordering_then, nat_cmp, int_cmp}
 use Rattle.std.specs.Cmp.Lexicographic.{slice_cmp}
 use Rattle.std.proofs.lemmas.List.{length-map, get_or-map}
-use Rattle.sd_model_shard.specs.Commands as model
+use Rattle.sd_model_shard.specs.Rows as model
 use Rattle.sd_shard.specs.Dump.{dump_row_of}
 use Rattle.sd_shard.specs.declared.dump.DumpRow.{DumpRow}
 use Rattle.sd_shard.specs.contracts.dump.DumpRowOrd.TheImpl.{ghosts as row_ghosts}
@@ -24,7 +24,7 @@ pub sorted_by_key : (rows : List DumpRow) → IsSorted row_ghosts.cmp rows → I
 sorted_by_key [] up = λ k d low high. absurd (omega arith)
 sorted_by_key (row ∷ rows) up = λ k d low high.
     let few : k + 1 < length (row ∷ rows) = omega (arith, length-map (row ∷ rows) dump_row_of) in
-    let told = map dump_row_of (row ∷ rows) in
-    ap (λ (r : model.DumpRow). is_lt (slice_cmp nat_cmp r.key (get_or told k d).key)) (get_or-map dump_row_of (row ∷ rows) (k + 1) row d few)
+    let reported = map dump_row_of (row ∷ rows) in
+    ap (λ (r : model.DumpRow). is_lt (slice_cmp nat_cmp r.key (get_or reported k d).key)) (get_or-map dump_row_of (row ∷ rows) (k + 1) row d few)
     ∙ ap (λ (r : model.DumpRow). is_lt (slice_cmp nat_cmp (dump_row_of (get_or (row ∷ rows) (k + 1) row)).key r.key)) (get_or-map dump_row_of (row ∷ rows) k row d (omega arith))
     ∙ rows_in_order (get_or (row ∷ rows) (k + 1) row) (get_or (row ∷ rows) k row) (up k row low few)

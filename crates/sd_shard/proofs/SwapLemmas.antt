@@ -6,11 +6,10 @@ use Rattle.std.specs.FinMap.{get, get-empty, get-insert, same_map}
 use Rattle.std.proofs.lemmas.Bool.{cases_eq}
 use Rattle.std.proofs.lemmas.List.Sums.{sum_by_push}
 use Rattle.sd_key.specs.declared.kind.Kind.{Kind}
-use Rattle.sd_model_shard.specs.Rows.{RowId, row_cmp, Kept, Rows, is_same_row}
-use Rattle.sd_model_shard.specs.Shard.{Policy, last_swaps, kept_by, goes_idle, left_of, carried}
-use Rattle.sd_model_shard.specs.Summaries.{without_samples}
+use Rattle.sd_model_shard.specs.Rows.{RowId, row_cmp, Kept, Rows, is_same_row, without_samples}
+use Rattle.sd_model_shard.specs.Shard.{Policy, kept_by, expires, left_of, kept_rows}
 use Rattle.sd_model_shard.proofs.RowLemmas.{rows_exact, rows_total}
-use Rattle.sd_model_shard.proofs.SummaryLemmas.{get-carried}
+use Rattle.sd_model_shard.proofs.SummaryLemmas.{get-kept_rows}
 use Rattle.sd_model_text.specs.Names as text
 use Rattle.sd_rows.specs.Rows.{row_at, Holds, AreApart, StandsNowhereElse}
 use Rattle.sd_rows.specs.RowMap.{id_of, kept_of, has_id, rows_of}
@@ -20,6 +19,7 @@ use Rattle.sd_rows.proofs.MapLemmas.{has_holds}
 use Rattle.sd_epoch.specs.Table.{fresh, row_view}
 use Rattle.sd_shard.specs.Swap.{goes_on_as, row_left, staying}
 use Rattle.sd_epoch.proofs.ListingLemmas.{same_row}
+use Rattle.sd_model_shard.proofs.Short.{last_swaps}
 
 one_of : (o : Option Row) (kind kind' : Kind) (key key' : List ℕ) → Holds kind key o → Holds kind' key' o → (kind ≡ kind') × (key ≡ key')
 one_of None kind kind' key key' h g = absurd h
@@ -82,7 +82,7 @@ gauge_goes_on (Some kept) row gauge swaps is value more =
 
 left_fresh : (policy : Policy) (id : RowId) (o : Option Kept) (kept : Kept) → option_and_then (left_of policy id) o ≡ Some kept → kept ≡ without_samples kept.base kept.swaps
 left_fresh policy id None kept is = absurd (cc)
-left_fresh policy id (Some k) kept is = by_test (goes_idle policy id.kind (kept_by id.kind k).swaps) is where
+left_fresh policy id (Some k) kept is = by_test (expires policy id.kind (kept_by id.kind k).swaps) is where
   by_test : (t : Bool) → cond t None (Some (kept_by id.kind k)) ≡ Some kept → kept ≡ without_samples kept.base kept.swaps
   by_test true h = absurd (cc)
   by_test false h = let same : kept_by id.kind k ≡ kept = cc in subst (λ (x : Kept). x ≡ without_samples x.base x.swaps) same (kept_fresh id.kind k)
@@ -131,17 +131,17 @@ module _ (policy : Policy) (live : Rows) where
                   ∙ sym (ap (λ (i : RowId). option_and_then (left_of policy i) (get live i)) (same_row q id tie))
               by_tie false tie = refl
 
-  -- the rows that are left in their places are those that are carried
-  pub map_carried : (places : List (Option Row)) → ((id : RowId) → option_map fresh (get live id) ≡ get (rows_of places) id) → rows_of (map (row_left policy live) places) ≡ carried policy live
-  map_carried places are =
+  -- the rows that are left in their places are those that are kept
+  pub map_kept : (places : List (Option Row)) → ((id : RowId) → option_map fresh (get live id) ≡ get (rows_of places) id) → rows_of (map (row_left policy live) places) ≡ kept_rows policy live
+  map_kept places are =
       same_map rows_total rows_exact _ _ (λ q.
       left_get places q ∙ ap (λ (o : Option Kept). cond (is_some o) (option_and_then (left_of policy q) (get live q)) None) (sym (are q))
-      ∙ by_row q (get live q) ∙ sym (get-carried policy live q)) where
+      ∙ by_row q (get live q) ∙ sym (get-kept_rows policy live q)) where
         by_row : (q : RowId) (o : Option Kept) → cond (is_some (option_map fresh o)) (option_and_then (left_of policy q) o) None ≡ option_and_then (left_of policy q) o
         by_row q None = refl
         by_row q (Some kept) = refl
 
-  -- Rows that stand where the carried rows come to: none of them stands where another row comes to.
+  -- Rows that stand where the kept rows come to: none of them stands where another row comes to.
   pub nowhere_else : (table into : List (Option Row)) (at : ℕ) → AreApart table
       → ((p : ℕ) → (row_at into p ≡ row_left policy live (row_at table p)) ⊎ (row_at into p ≡ staying (row_left policy live (row_at table p)) (row_at into p)))
       → StandsNowhereElse (row_at table at) at into

@@ -5,8 +5,7 @@ use Rattle.std.specs.FinMap.{code}
 use Rattle.std.specs.Coded.{Coded, code_by, coded×, coded⊎, coded_bool, coded_ℕ, coded_ℤ, coded_list}
 use Rattle.sd_model_text.specs.Names.{Kind, Counter, Timer, Gauge, Set, rank}
 use Rattle.sd_model_text.specs.Lines.{Sample}
-use Rattle.sd_model_shard.specs.Rows.{RowId, Summary, Kept, Rows}
-use Rattle.sd_model_shard.specs.Commands.{DumpRow}
+use Rattle.sd_model_shard.specs.Rows.{RowId, Summary, Kept, Rows, DumpRow}
 use Rattle.sd_model_shard.specs.Shard.{Limits, Policy, State, Cause, NoRow, NoEntry, NoSum, NoNumber, Placed, Taken, Dropped, Table, Event, Submit, Swap, Delete, Dump, Look, Reply, Answered, Swapped, Deleted, Dumped, Looked, Numbers}
 use Rattle.sd_model_shard.specs.History.{Act}
 

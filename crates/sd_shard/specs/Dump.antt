@@ -1,6 +1,6 @@
 -- What a contract sees of the rows of dumps.
 use Rattle.std.specs.Prelude.{List, map}
-use Rattle.sd_model_shard.specs.Commands as model
+use Rattle.sd_model_shard.specs.Rows as model
 use Rattle.sd_shard.specs.Listed.{ItemList}
 use Rattle.sd_shard.specs.declared.dump.DumpRow.{DumpRow}
 

@@ -24,7 +24,7 @@ abbrev pub staying : Option Row → Option Row → Option Row
 staying None spare = None
 staying (Some row) spare = if has_id (id_of row.kind row.key) spare then spare else None
 
--- How many places there are whose row is carried and at which the spare doesn't hold that kind and key.
+-- How many places there are whose row is kept and at which the spare doesn't hold that kind and key.
 abbrev pub swap_steps : Policy → Listing → Listing → ℕ
 swap_steps policy table spare =
     sum_by (λ at. copy_steps (row_left policy (live_of table) (row_at table.places at)) (row_at spare.places at)) (range_with_len 0 table.limits.rows)

@@ -1,7 +1,6 @@
 ghost use Rattle.std.specs.Prelude.{◌≡◌, ◌+◌, ◌<◌, ◌≤◌, ◌++◌, true, false, filter, length, map, slice_get, IfSome};
 ghost use Rattle.std.specs.FinMap.{contains_key};
-ghost use Rattle.sd_model_shard.specs.Commands.{is_hit, is_of_kind, dump_row};
-ghost use Rattle.sd_model_shard.specs.Rows.{RowId};
+ghost use Rattle.sd_model_shard.specs.Rows.{is_hit, is_of_kind, dump_row, RowId};
 ghost use Rattle.sd_key.specs.Kind.{kind_of};
 ghost use Rattle.sd_epoch.specs.Table.{live_of, AreApart};
 ghost use Rattle.sd_shard.specs.Dump.{dump_row_of, rows_of};

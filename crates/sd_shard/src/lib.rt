@@ -5,9 +5,9 @@
 //! threads and no clock: it has one caller at a time, and how long a row is idle is a number of swaps.
 #![tactic(auto)]
 
-mod carry;
 mod commands;
 mod dump;
+mod keep_rows;
 mod keys;
 mod listed;
 mod policy;

@@ -1,7 +1,7 @@
 ghost use Rattle.std.specs.Prelude.{◌≡◌};
 ghost use Rattle.sd_shard.specs.Policy.{policy_of};
 ghost use Rattle.sd_key.specs.Kind.{kind_of};
-ghost use Rattle.sd_model_shard.specs.Shard.{goes_idle as goes_idle_by};
+ghost use Rattle.sd_model_shard.specs.Shard.{expires as expires_by};
 
 use sd_key::Kind;
 
@@ -17,8 +17,8 @@ pub struct Policy {
 
 impl Policy {
     /// Whether a row of this kind goes at a swap that is so many swaps behind its last sample.
-    pub fn goes_idle(&self, kind: Kind, swaps: u32) -> bool
-        ensures { result ≡ goes_idle_by (policy_of self.now) (kind_of kind) swaps }
+    pub fn expires(&self, kind: Kind, swaps: u32) -> bool
+        ensures { result ≡ expires_by (policy_of self.now) (kind_of kind) swaps }
     {
         match kind {
             Kind::Counter => self.counters,

@@ -1,7 +1,7 @@
 ghost use Rattle.std.specs.Prelude.{◌≡◌, ◌+◌, ◌≤◌, nat_lt, not, is_some, length, option_map, IfOk, IfSome};
 ghost use Rattle.std.specs.FinMap.{len};
 ghost use Rattle.sd_model_shard.specs.Shard.{empty_state, is_full, full_cause, NoEntry, refusal, step, Answered, Submit, Swap, Swapped, Delete, Dump as DumpOf};
-ghost use Rattle.sd_model_shard.specs.Summaries.{is_listed};
+ghost use Rattle.sd_model_shard.specs.Rows.{is_listed};
 ghost use Rattle.sd_key.specs.Kind.{kind_of};
 ghost use Rattle.sd_epoch.specs.Limits.{limits_of, AreLimits};
 ghost use Rattle.sd_epoch.specs.Table.{table_of};
@@ -10,9 +10,9 @@ ghost use Rattle.sd_shard.specs.Dump.{rows_of};
 ghost use Rattle.sd_shard.specs.Shard.{state_of, cause_of, placed_of, IsDeletion, IsDump, IsInRange};
 ghost use Rattle.sd_shard.specs.Swap.{swap_steps};
 
-use crate::carry::carry;
 use crate::commands::{names_no_row, push_keys, push_rows};
 use crate::dump::Dump;
+use crate::keep_rows::keep_rows;
 use crate::keys::Keys;
 use crate::policy::Policy;
 use arrayvec::ArrayVec;
@@ -213,7 +213,7 @@ impl Shard {
 
     /// Hands out the table, and goes on with the spare one and the rows that stay.
     ///
-    /// Rows that the spare table has in their places are left there, so it takes at most one step for each row that is carried to a place
+    /// Rows that the spare table has in their places are left there, so it takes at most one step for each row that is kept to a place
     /// at which the spare table doesn't have that kind and key.
     pub fn swap<L: Ledger>(&mut self, spare: Table, steps: &mut Steps<L>) -> Table
         requires limits { spare.limits ≡ self.old.table.limits }
@@ -231,7 +231,7 @@ impl Shard {
         ensures steps { steps.new ≤ steps.old + swap_steps self.old.policy self.old.table spare }
     {
         let table = mem::replace(&mut self.table, spare);
-        carry(&table, &self.policy, &mut self.table, steps);
+        keep_rows(&table, &self.policy, &mut self.table, steps);
         self.flushed += table.held();
         table
     }

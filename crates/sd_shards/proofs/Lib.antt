@@ -3,4 +3,4 @@ mod PlayedLemmas
 mod HomeLemmas
 mod InsideLemmas
 mod StandingLemmas
-mod ToldLemmas
+mod ReportedLemmas

@@ -10,12 +10,12 @@ use Rattle.sd_model_text.specs.Names.{shard}
 use Rattle.sd_model_text.specs.Lines.{Sample, samples_of}
 use Rattle.sd_model_shard.specs.Shard.{State, Stepped, Limits, Policy, Submit, Reply, step}
 use Rattle.sd_model_shard.specs.History.{Act, History, LegalFrom, after_all, answered, part_of}
-use Rattle.sd_model_shard.specs.Whereabouts.{dropped_in, told_by}
+use Rattle.sd_model_shard.specs.Whereabouts.{dropped_in, summed_by}
 use Rattle.sd_model_shard.proofs.HistoryLemmas.{LegalFrom-answered, asked_in, legal_is_answered}
 use Rattle.sd_model_shard.proofs.OrderLemmas.{sum_by-flat_map, sum_by-map}
-use Rattle.sd_model_serve.specs.Receiving.{asks, events_of, told_in}
+use Rattle.sd_model_serve.specs.Receiving.{asks, events_of, summed_in}
 use Rattle.sd_model_replay.specs.Script.{Packet}
-use Rattle.sd_model_replay.specs.Replay.{acts_in, home_of, replies_to, states_after}
+use Rattle.sd_model_replay.specs.Replay.{acts_of_record, home_of, replies_to, states_after}
 use Rattle.sd_shard.specs.Shard.{Standing, state_of}
 use Rattle.sd_batch.specs.declared.counts.Counts.{Counts}
 use Rattle.sd_batch.specs.Runs.{CountsRun, TakesRun, run_at, submissions, submitted}
@@ -87,7 +87,7 @@ sums_agree f g start (suc count) most within same =
 module _ (who moment : ℕ) (datagram : List ℕ) (old new : List Standing) (acts : ℕ → History) (played : HavePlayed old new acts)
     (asked : (i : ℕ) → events_of (acts i) ≡ asks (length old) i (samples_of datagram)) (whose : (i : ℕ) → All (λ a. a.who ≡ who) (acts i)) where
   abbrev mine : ℕ → History
-  mine i = acts_in (bounds_in old) (state_in old) i (Packet who moment datagram)
+  mine i = acts_of_record (bounds_in old) (state_in old) i (Packet who moment datagram)
 
   acts_are : (i : ℕ) → i < length old → acts i ≡ mine i
   acts_are i below =
@@ -97,8 +97,8 @@ module _ (who moment : ℕ) (datagram : List ℕ) (old new : List Standing) (act
   pub filed_are : (i : ℕ) → i < length old → state_in new i ≡ states_after (bounds_in old) (state_in old) (Packet who moment datagram) i
   filed_are i below = played.states i below ∙ ap (after_all (limits_in old) (policy_in old) (state_in old i)) (acts_are i below)
 
-  pub drops_are : told_in dropped_in (length old) acts ≡ sum_by dropped_in (replies_to (bounds_in old) (state_in old) (Packet who moment datagram))
+  pub drops_are : summed_in dropped_in (length old) acts ≡ sum_by dropped_in (replies_to (bounds_in old) (state_in old) (Packet who moment datagram))
   drops_are =
-      sums_agree (λ i. told_by dropped_in (acts i)) (λ i. sum_by dropped_in (map (λ (a : Act). a.reply) (mine i))) 0 (length old) (length old) (omega arith)
-      (λ i below. ap (told_by dropped_in) (acts_are i below) ∙ sym (sum_by-map dropped_in (λ (a : Act). a.reply) (mine i)))
+      sums_agree (λ i. summed_by dropped_in (acts i)) (λ i. sum_by dropped_in (map (λ (a : Act). a.reply) (mine i))) 0 (length old) (length old) (omega arith)
+      (λ i below. ap (summed_by dropped_in) (acts_are i below) ∙ sym (sum_by-map dropped_in (λ (a : Act). a.reply) (mine i)))
       ∙ sym (sum_by-flat_map dropped_in (λ i. map (λ (a : Act). a.reply) (mine i)) (range_with_len 0 (length old)))

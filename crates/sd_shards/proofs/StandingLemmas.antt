@@ -70,6 +70,6 @@ module _ (first now : List Standing) (i : ℕ) (d : Standing) (below : i < lengt
 -- what is told of one more
 pub flat_map-more : {A : Type 0} (tell : Standing → List A) (shards : List Standing) (i : ℕ) (d : Standing) → i < length shards → flat_map tell (take i shards) ++ tell (get_or shards i d) ≡ flat_map tell (take (i + 1) shards)
 flat_map-more tell shards i d below =
-    ap (λ told. flat_map tell (take i shards) ++ told) (sym (append-nil (tell (get_or shards i d))))
+    ap (λ reported. flat_map tell (take i shards) ++ reported) (sym (append-nil (tell (get_or shards i d))))
     ∙ sym (flat_map-append tell (take i shards) (get_or shards i d ∷ []))
     ∙ ap (flat_map tell) (sym (take_more shards i d below))

@@ -24,8 +24,8 @@ pub record HavePlayed (old new : List Standing) (acts : ℕ → History) : Type 
 -- acts behind acts, from a state on
 module _ (limits : Limits) (policy : Policy) where
   legal_behind : (state : State) (xs ys : History) → LegalFrom limits policy state xs → LegalFrom limits policy (after_all limits policy state xs) ys → LegalFrom limits policy state (xs ++ ys)
-  legal_behind state [] ys front back = back
-  legal_behind state (x ∷ xs) ys front back = (front.0, legal_behind (after limits policy state x) xs ys front.1 back)
+  legal_behind state [] ys prefix back = back
+  legal_behind state (x ∷ xs) ys prefix back = (prefix.0, legal_behind (after limits policy state x) xs ys prefix.1 back)
 
   state_behind : (state : State) (xs ys : History) → after_all limits policy state (xs ++ ys) ≡ after_all limits policy (after_all limits policy state xs) ys
   state_behind state [] ys = refl

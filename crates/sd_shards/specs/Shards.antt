@@ -2,7 +2,7 @@
 use Rattle.std.specs.Prelude.{◌≡◌, ℕ, List, length, get_or}
 use Rattle.std.specs.List.{range_with_len}
 use Rattle.sd_model_shard.specs.Shard.{Limits, Policy, State, Table, empty_state}
-use Rattle.sd_model_replay.specs.Settings.{Bounds}
+use Rattle.sd_model_replay.specs.Replay.{Bounds}
 
 -- the limits and the policy of each shard, their states, and the tables that the last swap took out
 pub record Group : Type 0 where

@@ -1,7 +1,7 @@
 -- Shards of the code one beside another.
 use Rattle.std.specs.Prelude.{◌≡◌, ℕ, List, [], ◌∷◌, false, length, map, get_or, All}
 use Rattle.sd_model_shard.specs.Shard.{Limits, Policy, State, empty_state}
-use Rattle.sd_model_replay.specs.Settings.{Bounds}
+use Rattle.sd_model_replay.specs.Replay.{Bounds}
 use Rattle.sd_shard.specs.Shard.{Standing, state_of}
 
 -- the state of shard i

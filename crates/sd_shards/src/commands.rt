@@ -1,6 +1,6 @@
 ghost use Rattle.std.specs.Prelude.{◌≡◌, ℕ, ◌<◌, ◌≤◌, ◌+◌, ◌*◌, length, map, flat_map};
 ghost use Rattle.sd_model_shard.specs.Shard.{Dumped, after_delete, deletion_of};
-ghost use Rattle.sd_model_shard.specs.Commands.{dump_of};
+ghost use Rattle.sd_model_shard.specs.Rows.{dump_of};
 ghost use Rattle.sd_model_record.specs.Replies.{keys_in};
 ghost use Rattle.sd_key.specs.Kind.{kind_of};
 ghost use Rattle.sd_shard.specs.Dump.{rows_of};

@@ -1,12 +1,12 @@
-ghost use Rattle.std.specs.Prelude.{◌≡◌, ℕ, ◌<◌, ◌≤◌, ◌+◌, ◌*◌, [], length, map, replicate, sum_by, All, IfOk};
+ghost use Rattle.std.specs.Prelude.{◌≡◌, ℕ, ◌<◌, ◌≤◌, ◌+◌, ◌*◌, [], length, map, replicate, sum_by, All, IfOk, flat_map};
 ghost use Rattle.std.specs.List.Sorted.{IsSorted, IsSortedByKey};
 ghost use Rattle.std.specs.Ordering.{nat_cmp};
 ghost use Rattle.std.specs.Cmp.Lexicographic.{slice_cmp};
 ghost use Rattle.sd_model_text.specs.Lines.{pieces, bad_of};
 ghost use Rattle.sd_model_shard.specs.Shard.{Dumped, empty_state, after_swap, after_delete, deletion_of, numbers_of, table_of};
-ghost use Rattle.sd_model_shard.specs.Commands.{dump_of};
+ghost use Rattle.sd_model_shard.specs.Rows.{dump_of, in_key_order};
 ghost use Rattle.sd_model_shard.specs.Whereabouts.{dropped_in};
-ghost use Rattle.sd_model_record.specs.Replies.{keys_told, rows_told};
+ghost use Rattle.sd_model_record.specs.Replies.{keys_in, rows_in};
 ghost use Rattle.sd_model_replay.specs.Script.{Packet};
 ghost use Rattle.sd_model_replay.specs.Replay.{replies_to, states_after};
 ghost use Rattle.sd_key.specs.Kind.{kind_of};
@@ -143,7 +143,7 @@ impl Shards {
         ensures states { (i : ℕ) → i < length self.old.states
             → state_at self.new i ≡ after_delete (kind_of kind) name.now (state_at self.old i) }
         ensures keys { keys.new.items
-            ≡ keys_told (map (λ i. deletion_of (kind_of kind) name.now (state_at self.old i)) (numbers self.old)) }
+            ≡ in_key_order (λ key. key) (flat_map keys_in (map (λ i. deletion_of (kind_of kind) name.now (state_at self.old i)) (numbers self.old))) }
         ensures sorted { IsSorted (slice_cmp nat_cmp) keys.new.items }
         ensures room { keys.new.room ≡ keys.old.room }
         ensures alike { AreAlike self.old self.new }
@@ -158,7 +158,7 @@ impl Shards {
     pub fn dump(&self, kind: Kind, dump: &mut Dump)
         requires { length self.now.states * self.now.limits.rows ≤ dump.old.room }
         ensures rows { rows_of dump.new
-            ≡ rows_told (map (λ i. Dumped (dump_of (kind_of kind) (state_at self.now i).live)) (numbers self.now)) }
+            ≡ in_key_order (λ row. row.key) (flat_map rows_in (map (λ i. Dumped (dump_of (kind_of kind) (state_at self.now i).live)) (numbers self.now))) }
         ensures sorted { IsSortedByKey (λ row. row.key) (slice_cmp nat_cmp) (rows_of dump.new) }
         ensures room { dump.new.room ≡ dump.old.room }
     {

@@ -5,9 +5,9 @@ use Rattle.std.specs.List.{AllByRecursion}
 use Rattle.std.proofs.lemmas.Bool.{eqb-true}
 use Rattle.std.proofs.lemmas.List.{map-append, map_push}
 use Rattle.std.proofs.lemmas.List.Sums.{fold_push, sum_by-append, sum_by-cons}
-use Rattle.sd_model_record.specs.Desk.{Desk, Facts, last_counted, new_desk}
-use Rattle.sd_model_record.specs.DeskHistory.{AnswersFrom, DeskAct, DeskCall, DeskHistory, IsDeskHistory, Look, Told, calls_by, desk_after, desk_answer, desk_left, desk_step}
-use Rattle.sd_model_record.specs.Counts.{Count, TotalPackets, TotalLines, TotalBad, TotalDropped, RoundsMade, GraphiteFaults, ConsoleFaults, RepeaterFaults, AdminFaults, number_of, place}
+use Rattle.sd_model_record.specs.Desk.{Desk, Facts, new_desk}
+use Rattle.sd_model_record.specs.DeskHistory.{AnswersFrom, DeskAct, DeskCall, DeskHistory, Look, Reported, calls_by, desk_after, desk_answer, desk_step}
+use Rattle.sd_model_record.specs.Totals.{Count, TotalPackets, TotalLines, TotalBad, TotalDropped, RoundsMade, GraphiteFaults, ConsoleFaults, RepeaterFaults, AdminFaults, number_of, place}
 use Rattle.sd_shared_desk.specs.Counts.{AreSeen, HasCalled, HasCounted, IsLook, of_calls, of_event, of_history}
 use Rattle.sd_model_record.proofs.CountLemmas.{starts_at_none}
 use Rattle.sd_shared_desk.proofs.CountLemmas.{new_in_range}
@@ -21,6 +21,8 @@ use Rattle.sd_shared_desk.specs.declared.shared_desk.SharedDesk.{SharedDesk}
 use Rattle.sd_shared_desk.specs.Asks.{act_in, acts, call_in, call_of, calls, entry_of}
 use Rattle.sd_shared_desk.specs.Shared.{Calls, OwnSeat, calls_of, history_of, number_of_seat, part_of, start_of}
 use Rattle.sd_shared_desk.proofs.StandsLemmas.{acts-push, step_start}
+use Rattle.sd_model_shard.specs.Shard.{last_number}
+use Rattle.sd_model_record.proofs.Short.{desk_left, IsDeskHistory}
 
 acts-append : (xs ys : List Noted) → acts (xs ++ ys) ≡ acts xs ++ acts ys
 acts-append xs ys = map-append {B = DeskAct} act_in xs ys
@@ -98,28 +100,28 @@ left_start : (d : Desk) (acts : DeskHistory) → (desk_left d acts).facts.start 
 left_start d [] = refl
 left_start d (a ∷ acts) = left_start (desk_step d a.call.event) acts ∙ step_start d a.call.event
 
-same_facts : (f g : Facts) → Told f ≡ Told g → f ≡ g
+same_facts : (f g : Facts) → Reported f ≡ Reported g → f ≡ g
 same_facts f g e = cc
 
 -- each number of the desk after a history is the sum of what its calls add
-pub number_after : (start : ℕ) (acts : DeskHistory) → IsDeskHistory start acts → (count : Count) → number_of (desk_after start acts) count ≡ min (of_history acts count) last_counted
+pub number_after : (start : ℕ) (acts : DeskHistory) → IsDeskHistory start acts → (count : Count) → number_of (desk_after start acts) count ≡ min (of_history acts count) last_number
 number_after start acts legal count = omega (arith, acts_grew (new_desk start) acts (new_in_range start) legal count, starts_at_none start (place count))
 
-module _ (shared : SharedDesk) (old new : OwnSeat) (f : Facts) (c : Calls shared old new (record { event = Look; answer = Told f })) where
+module _ (shared : SharedDesk) (old new : OwnSeat) (f : Facts) (c : Calls shared old new (record { event = Look; answer = Reported f })) where
   abbrev before : DeskHistory
   before = history_of old ++ c.seen.0
 
   abbrev act : DeskAct
-  act = record { who = number_of_seat old; call = record { event = Look; answer = Told f } }
+  act = record { who = number_of_seat old; call = record { event = Look; answer = Reported f } }
 
-  told : f ≡ (desk_after (start_of shared) before).facts
-  told = same_facts f (desk_after (start_of shared) before).facts (answers_last (new_desk (start_of shared)) before act (subst (IsDeskHistory (start_of shared)) c.seen.1 c.legal))
+  promised : f ≡ (desk_after (start_of shared) before).facts
+  promised = same_facts f (desk_after (start_of shared) before).facts (answers_last (new_desk (start_of shared)) before act (subst (IsDeskHistory (start_of shared)) c.seen.1 c.legal))
 
   left : desk_after (start_of shared) (history_of new) ≡ desk_after (start_of shared) before
   left = ap (desk_after (start_of shared)) c.seen.1 ∙ fold_push (λ (d : Desk) (b : DeskAct). desk_step d b.call.event) (new_desk (start_of shared)) before act
 
-  pub told_start : f.start ≡ start_of shared
-  told_start = ap (λ (g : Facts). g.start) told ∙ left_start (new_desk (start_of shared)) before
+  pub reported_start : f.start ≡ start_of shared
+  reported_start = ap (λ (g : Facts). g.start) promised ∙ left_start (new_desk (start_of shared)) before
 
   is_seen : (count : Count) → number_of (desk_after (start_of shared) before) count ≡ (part_of new).seen count
   is_seen count = ap (λ (d : Desk). number_of d count) (sym left) ∙ number_after (start_of shared) (history_of new) c.legal count
@@ -127,13 +129,13 @@ module _ (shared : SharedDesk) (old new : OwnSeat) (f : Facts) (c : Calls shared
   -- facts that are told are those that the caller has then seen
   pub facts_seen : AreSeen f (part_of new).seen
   facts_seen = record {
-    packets = ap (λ (g : Facts). g.totals.packets) told ∙ is_seen TotalPackets;
-    lines = ap (λ (g : Facts). g.totals.lines) told ∙ is_seen TotalLines;
-    bad = ap (λ (g : Facts). g.totals.bad) told ∙ is_seen TotalBad;
-    dropped = ap (λ (g : Facts). g.totals.dropped) told ∙ is_seen TotalDropped;
-    rounds = ap (λ (g : Facts). g.rounds) told ∙ is_seen RoundsMade;
-    graphite_faults = ap (λ (g : Facts). g.graphite_faults) told ∙ is_seen GraphiteFaults;
-    console_faults = ap (λ (g : Facts). g.console_faults) told ∙ is_seen ConsoleFaults;
-    repeater_faults = ap (λ (g : Facts). g.repeater_faults) told ∙ is_seen RepeaterFaults;
-    admin_faults = ap (λ (g : Facts). g.admin_faults) told ∙ is_seen AdminFaults;
+    packets = ap (λ (g : Facts). g.totals.packets) promised ∙ is_seen TotalPackets;
+    lines = ap (λ (g : Facts). g.totals.lines) promised ∙ is_seen TotalLines;
+    bad = ap (λ (g : Facts). g.totals.bad) promised ∙ is_seen TotalBad;
+    dropped = ap (λ (g : Facts). g.totals.dropped) promised ∙ is_seen TotalDropped;
+    rounds = ap (λ (g : Facts). g.rounds) promised ∙ is_seen RoundsMade;
+    graphite_faults = ap (λ (g : Facts). g.graphite_faults) promised ∙ is_seen GraphiteFaults;
+    console_faults = ap (λ (g : Facts). g.console_faults) promised ∙ is_seen ConsoleFaults;
+    repeater_faults = ap (λ (g : Facts). g.repeater_faults) promised ∙ is_seen RepeaterFaults;
+    admin_faults = ap (λ (g : Facts). g.admin_faults) promised ∙ is_seen AdminFaults;
   }

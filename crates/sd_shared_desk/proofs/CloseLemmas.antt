@@ -6,10 +6,10 @@ use Rattle.std.proofs.lemmas.List.Elements.{All-map, All-weaker, recursion_from_
 use Rattle.std.proofs.lemmas.List.Sums.{sum_by-append, sum_by-cons}
 use Rattle.sd_turn.specs.Lists.{total}
 use Rattle.sd_turn.proofs.Totals.{total-map, total-sum_by}
-use Rattle.sd_model_record.specs.Desk.{Desk, IsWhole, counted, last_counted, new_desk}
+use Rattle.sd_model_record.specs.Desk.{Desk, IsWhole, counted, new_desk}
 use Rattle.sd_desk.specs.Sums.{AddsUp}
 use Rattle.sd_model_record.specs.DeskHistory.{DeskAct, DeskCall, DeskHistory, calls_by, desk_after}
-use Rattle.sd_model_record.specs.Counts.{Count, TotalPackets, TotalLines, TotalBad, TotalDropped, TakenPackets, TakenLines, TakenBad, TakenDropped, number_of}
+use Rattle.sd_model_record.specs.Totals.{Count, TotalPackets, TotalLines, TotalBad, TotalDropped, TakenPackets, TakenLines, TakenBad, TakenDropped, number_of}
 use Rattle.sd_shared_desk.specs.Counts.{of_event, of_history, share}
 use Rattle.sd_shared_desk.proofs.DeskLemmas.{acts_rise}
 use Rattle.sd_turn.specs.Entries.{Begins, entries_by}
@@ -22,6 +22,7 @@ use Rattle.sd_shared_desk.specs.Asks.{act_in, acts, call_in, calls}
 use Rattle.sd_shared_desk.specs.Behind.{Behind, setup_of}
 use Rattle.sd_shared_desk.specs.Shared.{History, IsConserved, OwnSeat, all_added, calls_of, history_of, number_of_seat, opened_with, part_of, seats_of, start_of}
 use Rattle.sd_shared_desk.proofs.CallLemmas.{Begins-acts, calls_own, number_after}
+use Rattle.sd_model_shard.specs.Shard.{last_number}
 
 -- what an entry adds to a number
 abbrev added : Count → Noted → ℕ
@@ -69,13 +70,13 @@ module _ (shared : SharedDesk) (seats : List OwnSeat) (b : Behind) (h : turn.His
       ∙ total_by_number (λ (e : Noted). e.number) (added count) (seats_of shared) h.log (recursion_from_All (λ (e : Noted). e.number < seats_of shared) h.log h.inside)
       ∙ sym (sum_by-map act_in (λ (a : DeskAct). of_event a.call.event a.call.answer count) h.log)
 
-  pub sums : (count : Count) → number_of b.desk count ≡ min (all_added count seats) last_counted
+  pub sums : (count : Count) → number_of b.desk count ≡ min (all_added count seats) last_number
   sums count =
       ap (λ (d : Desk). number_of d count) history.left ∙ number_after (start_of shared) log h.legal count
-      ∙ ap (λ n. min n last_counted) (sym (all_is count))
+      ∙ ap (λ n. min n last_number) (sym (all_is count))
 
   -- a beginning of the history adds no more than the whole
-  begins_below : (count : Count) (seen : DeskHistory) → Begins seen log → min (of_history seen count) last_counted ≤ number_of b.desk count
+  begins_below : (count : Count) (seen : DeskHistory) → Begins seen log → min (of_history seen count) last_number ≤ number_of b.desk count
   begins_below count seen begins =
       let whole = sums count in
       let all = all_is count in
@@ -90,7 +91,7 @@ module _ (shared : SharedDesk) (seats : List OwnSeat) (b : Behind) (h : turn.His
   adds_up : AddsUp b.desk
   adds_up = subst AddsUp (sym history.left) ((acts_rise (new_desk (start_of shared)) log).adds_up refl)
 
-  whole : (total taken since a b : ℕ) → total ≡ min a last_counted → taken ≡ min b last_counted → total ≡ counted taken since → IsWhole a b since
+  whole : (total taken since a b : ℕ) → total ≡ min a last_number → taken ≡ min b last_number → total ≡ counted taken since → IsWhole a b since
   whole total taken since a b is_total is_taken is few = omega (arith, is_total, is_taken, is, few)
 
   -- what was added is what was taken and what is left

@@ -3,7 +3,7 @@ use Rattle.std.proofs.Common.{◌≡◌, ℕ, Bool, refl, ap, ◌∙◌, arith}
 use Rattle.sd_model_record.specs.Record.{Tally}
 use Rattle.sd_model_record.specs.Desk.{Desk, Marks, add_tally, counted, new_desk, no_tally, with_tally, taken, marked, with_health, with_admin_fault, with_repeater_faults}
 use Rattle.sd_desk.specs.Sums.{AddsUp, IsTallyInRange, IsInRange}
-use Rattle.sd_model_record.specs.Counts.{TotalPackets, TotalLines, TotalBad, TotalDropped, TakenPackets, TakenLines, TakenBad, TakenDropped, RoundsMade, GraphiteFaults, ConsoleFaults, RepeaterFaults, AdminFaults, Amounts, Count, number_of, place}
+use Rattle.sd_model_record.specs.Totals.{TotalPackets, TotalLines, TotalBad, TotalDropped, TakenPackets, TakenLines, TakenBad, TakenDropped, RoundsMade, GraphiteFaults, ConsoleFaults, RepeaterFaults, AdminFaults, Amounts, Count, number_of, place}
 use Rattle.sd_shared_desk.specs.Counts.{GrewBy, KeepsCounts, Part, HasCounted, nothing, plus, of_tally, of_taken, of_marks, of_sends, of_sessions}
 use Rattle.sd_model_record.proofs.CountLemmas.{starts_at_none}
 

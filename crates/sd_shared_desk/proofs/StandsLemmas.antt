@@ -3,7 +3,7 @@ use Rattle.std.proofs.Common.{◌≡◌, ℕ, List, [], ◌∷◌, ◌++◌, ref
 use Rattle.std.proofs.lemmas.List.{map_push}
 use Rattle.std.proofs.lemmas.List.Sums.{fold_push}
 use Rattle.sd_model_record.specs.Desk.{Desk, new_desk}
-use Rattle.sd_model_record.specs.DeskHistory.{DeskAct, DeskEvent, Add as Added, Take as TakeOut, SetHealth as SetWell, Mark as Marked, AdminFault as Failed, RepeaterFaults as FailedSends, Look, Took as TookOut, Told as ToldOf, IsDeskHistory, desk_after, desk_answer, desk_step}
+use Rattle.sd_model_record.specs.DeskHistory.{DeskAct, DeskEvent, Add as Added, Take as TakeOut, SetHealth as SetWell, Mark as Marked, AdminFault as Failed, RepeaterFaults as FailedSends, Look, Took as TookOut, Reported as ReportedOf, desk_after, desk_answer, desk_step}
 use Rattle.sd_shared_desk.proofs.DeskLemmas.{answers_push}
 use Rattle.sd_shared_desk.specs.declared.ask.DeskAsk.{DeskAsk}
 use Rattle.sd_shared_desk.specs.declared.ask.DeskAsk.TheVariants.{Add, Take, SetHealth, Mark, AdminFault, RepeaterFaults, Facts}
@@ -11,6 +11,7 @@ use Rattle.sd_shared_desk.specs.declared.ask.DeskReply.{DeskReply}
 use Rattle.sd_shared_desk.specs.declared.noted.Noted.{Noted}
 use Rattle.sd_shared_desk.specs.Asks.{Answers, Does, act_in, acts, answer_of, entry_of, event_of}
 use Rattle.sd_shared_desk.specs.Behind.{Behind, Stands, setup_of}
+use Rattle.sd_model_record.proofs.Short.{IsDeskHistory}
 
 pub acts-push : (log : List Noted) (n : Noted) → acts (log ++ n ∷ []) ≡ acts log ++ act_in n ∷ []
 acts-push log n = map_push act_in log n
@@ -23,7 +24,7 @@ answer_is d (SetHealth up) answer is = ap answer_of is
 answer_is d (Mark m) answer is = ap answer_of is
 answer_is d AdminFault answer is = ap answer_of is
 answer_is d (RepeaterFaults n) answer is = ap answer_of is
-answer_is d Facts answer is = ap answer_of is.1 ∙ ap (λ f. ToldOf f) is.2
+answer_is d Facts answer is = ap answer_of is.1 ∙ ap (λ f. ReportedOf f) is.2
 
 -- the start stays
 pub step_start : (d : Desk) (e : DeskEvent) → (desk_step d e).facts.start ≡ d.facts.start

@@ -28,7 +28,7 @@ event_of Facts = model.Look
 abbrev pub answer_of : DeskReply → DeskAnswer
 answer_of reply.Done = model.Done
 answer_of (reply.Took t) = model.Took (tally_of t)
-answer_of (reply.Told f) = model.Told (facts_view f)
+answer_of (reply.Reported f) = model.Reported (facts_view f)
 
 -- the call of an ask and its reply
 abbrev pub call_of : DeskAsk → DeskReply → DeskCall
@@ -57,7 +57,7 @@ acts log = map act_in log
 -- a reply is what the call of the ask's name answers of a desk
 abbrev pub Answers : Desk → DeskAsk → DeskReply → Type 0
 Answers d Take answer = (t : Tally) × (answer ≡ reply.Took t) × (tally_of t ≡ d.tally)
-Answers d Facts answer = (f : DeskFacts) × (answer ≡ reply.Told f) × (facts_view f ≡ d.facts)
+Answers d Facts answer = (f : DeskFacts) × (answer ≡ reply.Reported f) × (facts_view f ≡ d.facts)
 Answers d ask answer = answer ≡ reply.Done
 
 -- a reply is what that call answers of some desk

@@ -1,7 +1,7 @@
 -- The value behind a turn, as contracts see it.
 use Rattle.std.specs.Prelude.{◌≡◌, ℕ, List}
-use Rattle.sd_model_record.specs.Desk.{Desk}
-use Rattle.sd_model_record.specs.DeskHistory.{IsDeskHistory, desk_after}
+use Rattle.sd_model_record.specs.Desk.{Desk, new_desk}
+use Rattle.sd_model_record.specs.DeskHistory.{desk_after, AnswersFrom}
 use Rattle.sd_shared_desk.specs.Asks.{acts}
 use Rattle.sd_shared_desk.specs.declared.noted.Noted.{Noted}
 use Rattle.sd_shared_desk.specs.declared.noted.Setup.{Setup}
@@ -17,7 +17,7 @@ setup_of b = record { start = b.desk.facts.start; seats = b.seats }
 
 -- the acts of entries are a legal history
 abbrev pub IsLegal : Setup → List Noted → Type 0
-IsLegal setup log = IsDeskHistory setup.start (acts log)
+IsLegal setup log = AnswersFrom (new_desk setup.start) (acts log)
 
 -- the desk is the one after these entries, which are legal
 pub record Stands (b : Behind) (log : List Noted) : Type 0 where

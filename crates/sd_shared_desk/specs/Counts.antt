@@ -1,11 +1,12 @@
 -- What calls add to a desk's numbers, and a caller's part of them.
 use Rattle.std.specs.Prelude.{◌≡◌, ℕ, ◌+◌, ◌<◌, ◌≤◌, min, List, [], ◌++◌, sum_by}
 use Rattle.sd_model_record.specs.Record.{Tally}
-use Rattle.sd_model_outside.specs.Deliveries.{fault_of}
+use Rattle.sd_model_outside.specs.Uses.{fault_of}
 use Rattle.sd_model_record.specs.DeskHistory.{DeskAnswer, DeskCall, DeskEvent, DeskHistory, Add, Take, Mark, AdminFault, RepeaterFaults as FailedSends, Look, Took}
-use Rattle.sd_model_record.specs.Desk.{Desk, Facts, Marks, counted, last_counted}
+use Rattle.sd_model_record.specs.Desk.{Desk, Facts, Marks, counted}
 use Rattle.sd_desk.specs.Sums.{AddsUp, IsInRange}
-use Rattle.sd_model_record.specs.Counts.{AdminFaults, Amounts, ConsoleFaults, Count, GraphiteFaults, RepeaterFaults, RoundsMade, TakenBad, TakenDropped, TakenLines, TakenPackets, TotalBad, TotalDropped, TotalLines, TotalPackets, number_of}
+use Rattle.sd_model_record.specs.Totals.{AdminFaults, Amounts, ConsoleFaults, Count, GraphiteFaults, RepeaterFaults, RoundsMade, TakenBad, TakenDropped, TakenLines, TakenPackets, TotalBad, TotalDropped, TotalLines, TotalPackets, number_of}
+use Rattle.sd_model_shard.specs.Shard.{last_number}
 
 -- a change of a desk keeps its sums and its range, and lets no number fall
 pub record KeepsCounts (old new : Desk) : Type 0 where
@@ -97,8 +98,8 @@ no_part = record { own = []; seen = nothing }
 -- least that. The caller's share of each has grown by just that, up to the last count.
 pub record HasCounted (amounts : Amounts) (old new : Part) : Type 0 where
   pub rises : (count : Count) → old.seen count ≤ new.seen count
-  pub grows : (count : Count) → new.seen count < last_counted → old.seen count + amounts count ≤ new.seen count
-  pub adds : (count : Count) → min (share new count) last_counted ≡ counted (share old count) (amounts count)
+  pub grows : (count : Count) → new.seen count < last_number → old.seen count + amounts count ≤ new.seen count
+  pub adds : (count : Count) → min (share new count) last_number ≡ counted (share old count) (amounts count)
 
 -- A caller made calls behind those that it had made, of which this holds.
 pub record HasCalled (are : List DeskCall → Type 0) (old new : Part) : Type 0 where

@@ -1,8 +1,8 @@
 -- What contracts read of a shared desk and of its seats.
 use Rattle.std.specs.Prelude.{◌≡◌, ℕ, List, [], ◌∷◌, ◌++◌, All, Any, min, sum_by}
-use Rattle.sd_model_record.specs.Desk.{Desk, IsWhole, last_counted}
-use Rattle.sd_model_record.specs.DeskHistory.{DeskCall, DeskHistory, IsDeskHistory, calls_by, desk_after}
-use Rattle.sd_model_record.specs.Counts.{Count, TotalPackets, TotalLines, TotalBad, TotalDropped, TakenPackets, TakenLines, TakenBad, TakenDropped}
+use Rattle.sd_model_record.specs.Desk.{Desk, IsWhole, new_desk}
+use Rattle.sd_model_record.specs.DeskHistory.{DeskCall, DeskHistory, calls_by, desk_after, AnswersFrom}
+use Rattle.sd_model_record.specs.Totals.{Count, TotalPackets, TotalLines, TotalBad, TotalDropped, TakenPackets, TakenLines, TakenBad, TakenDropped}
 use Rattle.sd_shared_desk.specs.Counts.{Part, of_history, share}
 use Rattle.sd_turn.specs.declared.turn_seat.TurnSeat.{TurnSeat}
 use Rattle.sd_turn.specs.Entries.{Begins, GoesOn}
@@ -13,6 +13,7 @@ use Rattle.sd_shared_desk.specs.contracts.value.DeskValueStepped.TheImpl.{ghosts
 use Rattle.sd_shared_desk.specs.declared.noted.Noted.{Noted}
 use Rattle.sd_shared_desk.specs.declared.noted.Setup.{Setup}
 use Rattle.sd_shared_desk.specs.declared.shared_desk.SharedDesk.{SharedDesk}
+use Rattle.sd_model_shard.specs.Shard.{last_number}
 
 -- a seat of a shared desk
 abbrev pub OwnSeat : Type 0
@@ -48,7 +49,7 @@ calls_of seat = calls (turn.own seat)
 
 -- the calls that the seat's caller made, and each number as it has last seen it
 abbrev pub part_of : OwnSeat → Part
-part_of seat = record { own = calls_of seat; seen = λ count. min (of_history (history_of seat) count) last_counted }
+part_of seat = record { own = calls_of seat; seen = λ count. min (of_history (history_of seat) count) last_number }
 
 -- a seat of this desk that has made and seen nothing
 pub record IsNewSeatOf (shared : SharedDesk) (seat : OwnSeat) : Type 0 where
@@ -61,7 +62,7 @@ pub record IsNewSeatOf (shared : SharedDesk) (seat : OwnSeat) : Type 0 where
 pub record Calls (shared : SharedDesk) (old new : OwnSeat) (call : DeskCall) : Type 0 where
   pub own : calls_of new ≡ calls_of old ++ call ∷ []
   pub seen : GoesOn (history_of old) (history_of new) (record { who = number_of_seat old; call = call })
-  pub legal : IsDeskHistory (start_of shared) (history_of new)
+  pub legal : AnswersFrom (new_desk (start_of shared)) (history_of new)
   pub all : calls_of new ≡ calls_by (number_of_seat old) (history_of new)
 
 -- what all callers together have added to a number
@@ -71,7 +72,7 @@ all_added count seats = sum_by (λ seat. share (part_of seat) count) seats
 -- The one history of a desk, as the desk at the end and all seats tell it.
 pub record History (shared : SharedDesk) (seats : List OwnSeat) (d : Desk) : Type 0 where
   pub log : DeskHistory
-  pub legal : IsDeskHistory (start_of shared) log
+  pub legal : AnswersFrom (new_desk (start_of shared)) log
   pub left : d ≡ desk_after (start_of shared) log
   pub begins : All (λ s. Begins (history_of s) log) seats
   pub own : All (λ s. calls_of s ≡ calls_by (number_of_seat s) log) seats

@@ -17,5 +17,5 @@ pub enum DeskAsk {
 pub enum DeskReply {
     Done,
     Took(Tally),
-    Told(DeskFacts),
+    Reported(DeskFacts),
 }

@@ -1,13 +1,14 @@
 ghost use Rattle.std.specs.Prelude.{◌≡◌, ◌<◌, ◌≤◌, List, [], ◌++◌, length, map, min, IfOk, IfSome, IfNone, All};
 ghost use Rattle.std.specs.List.{AllByRecursion};
 ghost use Rattle.sd_turn.specs.Lists.{span};
-ghost use Rattle.sd_model_record.specs.Desk.{last_counted, new_desk};
-ghost use Rattle.sd_model_record.specs.DeskHistory.{DeskCall, Add, Take, SetHealth, Mark, AdminFault, RepeaterFaults, Look, Done, Took, Told};
-ghost use Rattle.sd_model_record.specs.Counts.{Count, RoundsMade, number_of};
+ghost use Rattle.sd_model_record.specs.Desk.{new_desk};
+ghost use Rattle.sd_model_record.specs.DeskHistory.{DeskCall, Add, Take, SetHealth, Mark, AdminFault, RepeaterFaults, Look, Done, Took, Reported};
+ghost use Rattle.sd_model_record.specs.Totals.{Count, RoundsMade, number_of};
 ghost use Rattle.sd_shared_desk.specs.Counts.{HasCalled, HasCounted, AreSeen, IsLook, nothing, of_tally, of_taken, of_marks, of_sessions, of_sends};
 ghost use Rattle.sd_desk.specs.Facts.{facts_view};
 ghost use Rattle.sd_desk.specs.Marks.{marks_of};
 ghost use Rattle.sd_desk.specs.Tally.{tally_of};
+ghost use Rattle.sd_model_shard.specs.Shard.{last_number};
 
 use crate::ask::{DeskAsk, DeskReply};
 use crate::value::DeskValue;
@@ -140,11 +141,11 @@ impl SharedDesk {
         ensures seat { IsSeatOf self.now own.new × (number_of_seat own.new ≡ number_of_seat own.old) }
         ensures start { result.start ≡ start_of self.now }
         ensures seen { AreSeen (facts_view result) (part_of own.new).seen }
-        ensures calls { Calls self.now own.old own.new (record { event = Look; answer = Told (facts_view result) }) }
+        ensures calls { Calls self.now own.old own.new (record { event = Look; answer = Reported (facts_view result) }) }
         ensures counted { HasCounted nothing (part_of own.old) (part_of own.new) }
     {
         match self.ask(rt, own, DeskAsk::Facts) {
-            DeskReply::Told(facts) => facts,
+            DeskReply::Reported(facts) => facts,
             _ => unreachable!(),
         }
     }
@@ -174,7 +175,7 @@ impl SharedDesk {
         requires seats { All (IsSeatOf self) seats.items }
         ensures history { History self seats.items result }
         ensures start { result.facts.start ≡ start_of self }
-        ensures sums { (count : Count) → number_of result count ≡ min (all_added count seats.items) last_counted }
+        ensures sums { (count : Count) → number_of result count ≡ min (all_added count seats.items) last_number }
         ensures seen { All (λ s. (count : Count) → (part_of s).seen count ≤ number_of result count) seats.items }
         ensures conserved { IsConserved seats.items result }
     {

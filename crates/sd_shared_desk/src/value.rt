@@ -74,7 +74,7 @@ impl DeskValue {
                 self.desk.repeater_faults(n);
                 DeskReply::Done
             }
-            DeskAsk::Facts => DeskReply::Told(self.desk.facts()),
+            DeskAsk::Facts => DeskReply::Reported(self.desk.facts()),
         }
     }
 }
@@ -109,7 +109,7 @@ impl Change<DeskValue> for DeskAsk {
 
     ghost entries = { λ ask then reply setup number. entry_of number ask reply ∷ [] };
 
-    ghost told = { λ ask then reply setup. IsReplyTo ask reply };
+    ghost promised = { λ ask then reply setup. IsReplyTo ask reply };
 
     fn apply(&mut self, value: &mut DeskValue, number: u16) -> DeskReply {
         let _ = number;

@@ -8,11 +8,12 @@ use Rattle.std.proofs.lemmas.Int.{ints}
 use Rattle.std.proofs.lemmas.List.Sums.{sum_by-cons}
 use Rattle.std.proofs.lemmas.List.Sorted.{sorted_far, ranks_by}
 use Rattle.sd_model_text.specs.Numbers.{Limit, Below, Infinite}
-use Rattle.sd_model_shard.specs.Values.{is_below, bin}
+use Rattle.sd_model_shard.specs.Values.{is_below}
 use Rattle.sd_model_shard.proofs.SortedLemmas.{one_if}
 use Rattle.sd_decimal.specs.declared.number.Micro.{Micro}
 use Rattle.sd_stats.specs.Timer.{numbers}
 use Rattle.sd_stats.proofs.NumberLemmas.{sum_by-numbers}
+use Rattle.sd_model_shard.proofs.Short.{bin}
 
 -- where those that pass come first, they are as many as stand before the point
 pub count_by-point : {X : Type 0} (p : X → Bool) (xs : List X) (i : ℕ) → i ≤ length xs → IsPartitionPoint (λ y. p y ≡ true) (λ y. p y ≡ false) xs i → count_by p xs ≡ i

@@ -51,7 +51,7 @@ list_any-map : {X : Type 0} (key : X → List ℕ) (p : List ℕ → Bool) (zs :
 list_any-map key p [] = refl
 list_any-map key p (z ∷ zs) = ap (λ b. p (key z) || b) (list_any-map key p zs)
 
--- the keys of a front with one element more
+-- the keys of a prefix with one element more
 count_pushed : (ks : List (List ℕ)) (k : List ℕ) → distinct (ks ++ k ∷ []) ≡ cond (list_any (same_key k) ks) (distinct ks) (distinct ks + 1)
 count_pushed ks k =
     ap len (from_list_push nat_list_cmp_total (slice_cmp-IsAntisymmetric nat_cmp-IsAntisymmetric) ks k)
@@ -59,9 +59,9 @@ count_pushed ks k =
     ∙ ap (λ b. cond b (distinct ks) (distinct ks + 1)) (contains-from_list nat_list_cmp_total ks k)
 
 module _ {X : Type 0} (key : X → List ℕ) (xs : List X) (order : IsSortedByKey key key_cmp xs) (i : ℕ) (d : X) (within : i < length xs) where
-  -- how many keys of the front of the first n differ
-  abbrev pub front : ℕ → ℕ
-  front n = distinct (map key (take n xs))
+  -- how many keys of the start of the first n differ
+  abbrev pub prefix : ℕ → ℕ
+  prefix n = distinct (map key (take n xs))
 
   abbrev pub own : List ℕ
   own = key (get_or xs i d)
@@ -69,10 +69,10 @@ module _ {X : Type 0} (key : X → List ℕ) (xs : List X) (order : IsSortedByKe
   in_order : (j k : ℕ) → j ≤ k → k < length xs → is_lt (key_cmp (key (get_or xs k d)) (key (get_or xs j d))) ≡ false
   in_order j k le below = sorted_far (λ a b. is_lt (key_cmp (key a) (key b))) (ranks_by nat_list_cmp_total key) xs order j k d le below
 
-  pushed : front (i + 1) ≡ cond (list_any (λ x. same_key own (key x)) (take i xs)) (front i) (front i + 1)
+  pushed : prefix (i + 1) ≡ cond (list_any (λ x. same_key own (key x)) (take i xs)) (prefix i) (prefix i + 1)
   pushed =
       ap (λ ys. distinct (map key ys)) (take_more xs i d within) ∙ ap distinct (map-append key (take i xs) (get_or xs i d ∷ [])) ∙ count_pushed (map key (take i xs)) own
-      ∙ ap (λ b. cond b (front i) (front i + 1)) (list_any-map key (same_key own) (take i xs))
+      ∙ ap (λ b. cond b (prefix i) (prefix i + 1)) (list_any-map key (same_key own) (take i xs))
 
   -- a key that differs from the one before it stands nowhere before
   none_before : (before : ℕ) → before + 1 ≡ i → same_key own (key (get_or xs before d)) ≡ false → (j : ℕ) → j ≤ i → list_any (λ x. same_key own (key x)) (take j xs) ≡ false
@@ -86,20 +86,20 @@ module _ {X : Type 0} (key : X → List ℕ) (xs : List X) (order : IsSortedByKe
       ∙ or_false (list_any (λ x. same_key own (key x)) (take j xs)) (same_key own (key (get_or xs j d))) (none_before before is differ j (omega arith)) here
 
   -- the first key, and one that differs from the one before it, is one more
-  pub counts_first : i ≡ 0 → front (i + 1) ≡ front i + 1
-  counts_first is = pushed ∙ ap (λ n. cond (list_any (λ x. same_key own (key x)) (take n xs)) (front i) (front i + 1)) is
+  pub counts_first : i ≡ 0 → prefix (i + 1) ≡ prefix i + 1
+  counts_first is = pushed ∙ ap (λ n. cond (list_any (λ x. same_key own (key x)) (take n xs)) (prefix i) (prefix i + 1)) is
 
-  pub counts_new : 0 < i → same_key own (key (get_or xs (i - 1) d)) ≡ false → front (i + 1) ≡ front i + 1
-  counts_new some differ = pushed ∙ ap (λ b. cond b (front i) (front i + 1)) (none_before (i - 1) (omega arith) differ i (omega arith))
+  pub counts_new : 0 < i → same_key own (key (get_or xs (i - 1) d)) ≡ false → prefix (i + 1) ≡ prefix i + 1
+  counts_new some differ = pushed ∙ ap (λ b. cond b (prefix i) (prefix i + 1)) (none_before (i - 1) (omega arith) differ i (omega arith))
 
   -- another is not
-  pub counts_old : 0 < i → same_key own (key (get_or xs (i - 1) d)) ≡ true → front (i + 1) ≡ front i
+  pub counts_old : 0 < i → same_key own (key (get_or xs (i - 1) d)) ≡ true → prefix (i + 1) ≡ prefix i
   counts_old some same =
       let last : i ≡ i - 1 + 1 = omega arith in
       let there : list_any (λ x. same_key own (key x)) (take i xs) ≡ true =
       ap (λ n. list_any (λ x. same_key own (key x)) (take n xs)) last ∙ list_any_more (λ x. same_key own (key x)) xs (i - 1) d (omega arith)
       ∙ or_true (list_any (λ x. same_key own (key x)) (take (i - 1) xs)) (same_key own (key (get_or xs (i - 1) d))) same in
-      pushed ∙ ap (λ b. cond b (front i) (front i + 1)) there
+      pushed ∙ ap (λ b. cond b (prefix i) (prefix i + 1)) there
 
 -- keys in another order differ as often
 pub distinct-permutation : (ks ls : List (List ℕ)) → IsPermutation ks ls → distinct ls ≡ distinct ks

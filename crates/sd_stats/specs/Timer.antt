@@ -34,7 +34,7 @@ pub record IsTimer (values : List Micro) (weight : Sum) (interval_ms : ℕ) : Ty
   pub lasts : 0 < interval_ms
 
 -- the statistics of all values
-abbrev pub whole_of : Whole → model.Whole
+abbrev pub whole_of : Whole → model.WholeStatistics
 whole_of w =
     record {
       std = w.std.0;
@@ -49,7 +49,7 @@ whole_of w =
     }
 
 -- the statistics of a part
-abbrev pub part_of : PctStats → model.Part
+abbrev pub part_of : PctStats → model.PartStatistics
 part_of p =
     record {
       threshold = p.threshold.0;

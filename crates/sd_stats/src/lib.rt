@@ -7,8 +7,8 @@
 mod bins;
 mod figures;
 mod members;
-mod parts;
 mod sums;
+mod threshold_parts;
 mod timer;
 
 pub use figures::{PctStats, Whole};

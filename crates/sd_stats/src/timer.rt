@@ -1,9 +1,11 @@
 ghost use Rattle.sd_stats.specs.Timer.{IsTimer};
+ghost use Rattle.std.specs.Prelude.{not, count_by, ◌&&◌};
+ghost use Rattle.sd_model_shard.specs.Values.{is_below};
 
 use crate::bins::count_below;
 use crate::figures::{PctStats, Whole};
-use crate::parts::{part_count, part_of, part_stats};
 use crate::sums::{as_sum, deviation, mean, median, sum_squares, total};
+use crate::threshold_parts::{part_count, part_of, part_stats};
 use sd_decimal::{Limit, Micro, Sum, per_second};
 
 /// A timer: its values from the least to the greatest, what its samples weigh together, and the flush interval in milliseconds.
@@ -18,7 +20,7 @@ pub struct TimerStats<'a> {
 impl<'a> TimerStats<'a> {
     ghost use Rattle.std.specs.Prelude.{◌≡◌, ◌≢◌, ◌*◌, ◌^◌, ◌<◌, ◌≤◌, unsigned_abs, length, All, option_map};
     ghost use Rattle.sd_model_text.specs.Numbers.{Below};
-    ghost use Rattle.sd_model_shard.specs.Values.{timer_of, whole, pct, bin};
+    ghost use Rattle.sd_model_shard.specs.Values.{timer_of, whole_statistics, pct};
     ghost use Rattle.sd_stats.specs.Timer.{numbers, IsTimerValue, whole_of, part_of, limit_of};
     ghost use Rattle.sd_stats.specs.Seen.{timer_seen, lender};
 
@@ -44,7 +46,7 @@ impl<'a> TimerStats<'a> {
 
     /// The statistics of all values.
     pub fn whole(&self) -> Whole
-        ensures { whole_of result ≡ whole (timer_seen self.now) }
+        ensures { whole_of result ≡ whole_statistics (timer_seen self.now) }
     {
         let mean = mean(self.values);
         Whole {
@@ -76,7 +78,7 @@ impl<'a> TimerStats<'a> {
 
     /// How many values are below a limit and not below `from`.
     pub fn bin(&self, from: Micro, below: Limit) -> u64
-        ensures { result ≡ bin (Below from.0) (limit_of below) (timer_seen self.now).values }
+        ensures { result ≡ count_by (λ v. not (is_below v (Below from.0)) && is_below v (limit_of below)) (timer_seen self.now).values }
     {
         let before = count_below(self.values, Limit::Below(from));
         count_below(self.values, below).saturating_sub(before) as u64

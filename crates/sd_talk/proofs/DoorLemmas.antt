@@ -2,19 +2,20 @@
 use Rattle.std.proofs.Common.{◌≡◌, ℕ, zero, suc, ◌+◌, ◌<◌, ◌≤◌, ◌^◌, Bool, true, false, cond, List, [], ◌∷◌, ◌++◌, map, refl, sym, ap, subst, ◌∙◌, arith, append-nil, length-append}
 use Rattle.std.proofs.lemmas.List.{map-append}
 use Rattle.std.proofs.lemmas.List.Sums.{sum_by-append, sum_by-cons}
-use Rattle.sd_model_outside.specs.Outside.{Object, Told, Untold, Left, Number, Bytes, Buffer, Rounds, Packets, Datagrams, Ticks, Sessions, Replies, Session, HasFailed, Rose, RoseBy}
-use Rattle.sd_model_outside.specs.Turns.{session_of, with_sessions, with_back}
+use Rattle.sd_model_outside.specs.Outside.{Object, Content, Unknown, Left, Number, Bytes, Buffer, Rounds, Packets, Datagrams, Ticks, Sessions, Replies, Session, HasFailed, Rose, RoseBy}
+use Rattle.sd_model_outside.specs.Uses.{session_of, with_sessions, with_back}
 use Rattle.sd_outside.specs.Turns.{GivesSession, HasLeft, turned}
 use Rattle.sd_model_outside.proofs.TurnLemmas.{with_sessions-append, with_back-append}
-use Rattle.sd_model_serve.specs.Doors.{Visit, IsFresh, IsFaultOf, ServesDoor, faults_among}
+use Rattle.sd_model_serve.specs.Doors.{Visit, ServesDoor, faults_among}
 use Rattle.sd_talk.proofs.AlongLemmas.{all-append}
+use Rattle.sd_model_serve.proofs.Short.{IsFaultOf, IsFresh}
 
 -- sessions were taken and given back so
-abbrev Serves : (taken back : List Session) → Told → Told → Type 0
+abbrev Serves : (taken back : List Session) → Content → Content → Type 0
 Serves taken back old new = with_back back old ≡ with_sessions taken new
 
-either_way : (xs ys : List Session) (told : Told) → with_back ys (with_sessions xs told) ≡ with_sessions xs (with_back ys told)
-either_way xs ys Untold = refl
+either_way : (xs ys : List Session) (content : Content) → with_back ys (with_sessions xs content) ≡ with_sessions xs (with_back ys content)
+either_way xs ys Unknown = refl
 either_way xs ys (Left bytes) = refl
 either_way xs ys (Number n) = refl
 either_way xs ys (Bytes bytes) = refl
@@ -26,8 +27,8 @@ either_way xs ys (Ticks left) = refl
 either_way xs ys (Sessions left back) = refl
 either_way xs ys (Replies left questions) = refl
 
-Serves-none : (told : Told) → Serves [] [] told told
-Serves-none Untold = refl
+Serves-none : (content : Content) → Serves [] [] content content
+Serves-none Unknown = refl
 Serves-none (Left bytes) = refl
 Serves-none (Number n) = refl
 Serves-none (Bytes bytes) = refl
@@ -39,11 +40,11 @@ Serves-none (Ticks left) = refl
 Serves-none (Sessions left back) = ap (Sessions left) (append-nil back)
 Serves-none (Replies left questions) = refl
 
-Serves-next : (xs bs ys cs : List Session) (old mid new : Told) → Serves xs bs old mid → Serves ys cs mid new → Serves (xs ++ ys) (bs ++ cs) old new
+Serves-next : (xs bs ys cs : List Session) (old mid new : Content) → Serves xs bs old mid → Serves ys cs mid new → Serves (xs ++ ys) (bs ++ cs) old new
 Serves-next xs bs ys cs old mid new first second =
     sym (with_back-append old bs cs) ∙ ap (with_back cs) first ∙ either_way xs cs mid ∙ ap (with_sessions xs) second ∙ with_sessions-append new xs ys
 
-Serves-one : (s b : Session) (old mid new : Told) → old ≡ with_sessions (s ∷ []) mid → new ≡ with_back (b ∷ []) mid → Serves (s ∷ []) (b ∷ []) old new
+Serves-one : (s b : Session) (old mid new : Content) → old ≡ with_sessions (s ∷ []) mid → new ≡ with_back (b ∷ []) mid → Serves (s ∷ []) (b ∷ []) old new
 Serves-one s b old mid new taken left = ap (with_back (b ∷ [])) taken ∙ either_way (s ∷ []) (b ∷ []) mid ∙ ap (with_sessions (s ∷ [])) (sym left)
 
 -- 1 for a visit that is a fault
@@ -59,11 +60,11 @@ either_rose zero b before now first second some = second (omega (arith, some))
 either_rose (suc a) b before now first second some = first (omega arith)
 
 -- no session was served
-pub ServesDoor-none : (door door_now : Object) → door.is_out ≡ false → door_now.told ≡ door.told → door_now.opened_at ≡ door.opened_at → door_now.is_out ≡ door.is_out → door_now.faults ≡ door.faults → door.turns ≤ door_now.turns → ServesDoor [] 0 door door_now
-ServesDoor-none door door_now none told place out same turns = record {
+pub ServesDoor-none : (door door_now : Object) → door.is_out ≡ false → door_now.content ≡ door.content → door_now.opened_at ≡ door.opened_at → door_now.is_out ≡ door.is_out → door_now.faults ≡ door.faults → door.turns ≤ door_now.turns → ServesDoor [] 0 door door_now
+ServesDoor-none door door_now none content place out same turns = record {
   fresh = tt;
   causes = tt;
-  sessions = subst (λ (t : Told). Serves [] [] door.told t) (sym told) (Serves-none door.told);
+  sessions = subst (λ (t : Content). Serves [] [] door.content t) (sym content) (Serves-none door.content);
   many = omega (arith, turns);
   place = place;
   none_out = out ∙ none;
@@ -76,7 +77,7 @@ pub ServesDoor-failed : (door door_now : Object) → door.is_out ≡ false → d
 ServesDoor-failed door door_now none few failed = record {
   fresh = tt;
   causes = tt;
-  sessions = subst (λ (t : Told). Serves [] [] door.told t) (sym (ap (λ (o : Object). o.told) failed.same)) (Serves-none door.told);
+  sessions = subst (λ (t : Content). Serves [] [] door.content t) (sym (ap (λ (o : Object). o.content) failed.same)) (Serves-none door.content);
   many = let turns = ap (λ (o : Object). o.turns) failed.same in omega (arith, turns, few);
   place = ap (λ (o : Object). o.opened_at) failed.same;
   none_out = ap (λ (o : Object). o.is_out) failed.same ∙ none;
@@ -85,11 +86,11 @@ ServesDoor-failed door door_now none few failed = record {
 }
 
 -- a session was served, and given back
-pub ServesDoor-one : (v : Visit) (door door_mid door_now : Object) → door.turns < 2 ^ 63 → GivesSession v.asking v.told door door_mid → HasLeft v.asking_now v.told_now door_mid door_now → IsFaultOf v → ServesDoor (v ∷ []) 0 door door_now
+pub ServesDoor-one : (v : Visit) (door door_mid door_now : Object) → door.turns < 2 ^ 63 → GivesSession v.asking v.answered door door_mid → HasLeft v.asking_now v.answered_now door_mid door_now → IsFaultOf v → ServesDoor (v ∷ []) 0 door door_now
 ServesDoor-one v door door_mid door_now few gives left cause = record {
   fresh = ((gives.asking_fresh, gives.answered_fresh), tt);
   causes = (cause, tt);
-  sessions = Serves-one (session_of v.asking v.told) (session_of v.asking_now v.told_now) door.told door_mid.told door_now.told (ap (λ (o : Object). o.told) gives.given) (ap (λ (o : Object). o.told) left.given_back);
+  sessions = Serves-one (session_of v.asking v.answered) (session_of v.asking_now v.answered_now) door.content door_mid.content door_now.content (ap (λ (o : Object). o.content) gives.given) (ap (λ (o : Object). o.content) left.given_back);
   many = let given = ap (λ (o : Object). o.turns) gives.given in let back = ap (λ (o : Object). o.turns) left.given_back in omega (arith, given, back, few);
   place = ap (λ (o : Object). o.opened_at) left.given_back ∙ sym (ap (λ (o : Object). o.opened_at) gives.given);
   none_out = ap (λ (o : Object). o.is_out) left.given_back;
@@ -99,7 +100,7 @@ ServesDoor-one v door door_mid door_now few gives left cause = record {
   same : door.faults ≡ door_mid.faults
   same = ap (λ (o : Object). o.faults) gives.given
 
-  by_fault : (b : Bool) → (b ≡ true → 0 < v.asking_now.faults + v.told_now.faults) → faults_among (v ∷ []) ≡ cond b 1 0 → RoseBy (0 + faults_among (v ∷ [])) door.faults door_now.faults
+  by_fault : (b : Bool) → (b ≡ true → 0 < v.asking_now.faults + v.answered_now.faults) → faults_among (v ∷ []) ≡ cond b 1 0 → RoseBy (0 + faults_among (v ∷ [])) door.faults door_now.faults
   by_fault true why one = let rose = either_rose _ _ door_mid.faults door_now.faults left.asking_failed left.answered_failed (why refl) in omega (arith, one, rose, same)
   by_fault false why one = let up = left.rises in omega (arith, one, up, same)
 
@@ -109,9 +110,9 @@ ServesDoor-next xs ys m n door door_mid door_now a b = record {
   fresh = all-append IsFresh xs ys a.fresh b.fresh;
   causes = all-append IsFaultOf xs ys a.causes b.causes;
   sessions =
-      subst (λ (ss : List Session). Serves ss (map back (xs ++ ys)) door.told door_now.told) (sym (map-append taken xs ys))
-      (subst (λ (bs : List Session). Serves (map taken xs ++ map taken ys) bs door.told door_now.told) (sym (map-append back xs ys))
-      (Serves-next (map taken xs) (map back xs) (map taken ys) (map back ys) door.told door_mid.told door_now.told a.sessions b.sessions));
+      subst (λ (ss : List Session). Serves ss (map back (xs ++ ys)) door.content door_now.content) (sym (map-append taken xs ys))
+      (subst (λ (bs : List Session). Serves (map taken xs ++ map taken ys) bs door.content door_now.content) (sym (map-append back xs ys))
+      (Serves-next (map taken xs) (map back xs) (map taken ys) (map back ys) door.content door_mid.content door_now.content a.sessions b.sessions));
   many = omega (arith, length-append xs ys, a.many, b.many);
   place = b.place ∙ a.place;
   none_out = b.none_out;
@@ -119,10 +120,10 @@ ServesDoor-next xs ys m n door door_mid door_now a b = record {
   faults = let first = a.faults in let second = b.faults in omega (arith, count, first, second);
 } where
   taken : Visit → Session
-  taken v = session_of v.asking v.told
+  taken v = session_of v.asking v.answered
 
   back : Visit → Session
-  back v = session_of v.asking_now v.told_now
+  back v = session_of v.asking_now v.answered_now
 
   count : (m + n) + faults_among (xs ++ ys) ≡ (m + faults_among xs) + (n + faults_among ys)
   count = let e = sum_by-append fault_in xs ys in omega (arith, e)

@@ -4,14 +4,15 @@ use Rattle.std.proofs.lemmas.Grind.{flat_map-append}
 use Rattle.std.specs.Prelude.{flat_map}
 use Rattle.sd_model_outside.specs.Outside.{Object, HasFailed}
 use Rattle.sd_outside.specs.Turns.{raised, GivesSession, HasLeft, turned}
-use Rattle.sd_model_serve.specs.Doors.{Visit, IsFaultOf}
-use Rattle.sd_model_serve.specs.Talks.{Talk, lines_in}
+use Rattle.sd_model_serve.specs.Doors.{Visit}
+use Rattle.sd_model_serve.specs.Sessions.{Talk, lines_in}
 use Rattle.sd_talk.specs.Answers.{Along}
 use Rattle.sd_talk.specs.Serving.{IsTalkOf, ServesTalks}
 use Rattle.sd_talk.specs.Sessions.{HoldsSession}
 use Rattle.sd_talk.specs.declared.sessions.SessionEnd.{SessionEnd}
 use Rattle.sd_talk.proofs.AlongLemmas.{Along-append, zip-append}
 use Rattle.sd_talk.proofs.DoorLemmas.{ServesDoor-none, ServesDoor-failed, ServesDoor-one, ServesDoor-next}
+use Rattle.sd_model_serve.proofs.Short.{IsFaultOf}
 
 -- a turn of a door that had taken few
 pub one_turn : (old new first n : ℕ) → new ≡ raised old → old ≡ first + n → first < 2 ^ 62 → n < 2 ^ 62 → new ≡ first + (n + 1)
@@ -19,12 +20,12 @@ one_turn old new first n is so_far few less = omega (arith, is, so_far, few, les
 
 module _ {E V : Type 0} (t : Talk E) (leads : E → V → V → Type 0) where
   -- no session was served
-  pub ServesTalks-none : (v : V) (door door_now : Object) → door.is_out ≡ false → door_now.told ≡ door.told → door_now.opened_at ≡ door.opened_at → door_now.is_out ≡ door.is_out → door_now.faults ≡ door.faults → door.turns ≤ door_now.turns → ServesTalks t leads v v door door_now
-  ServesTalks-none v door door_now none told place out same turns = record {
+  pub ServesTalks-none : (v : V) (door door_now : Object) → door.is_out ≡ false → door_now.content ≡ door.content → door_now.opened_at ≡ door.opened_at → door_now.is_out ≡ door.is_out → door_now.faults ≡ door.faults → door.turns ≤ door_now.turns → ServesTalks t leads v v door door_now
+  ServesTalks-none v door door_now none content place out same turns = record {
     visits = [];
     failures = 0;
     dialogues = [];
-    served = ServesDoor-none door door_now none told place out same turns;
+    served = ServesDoor-none door door_now none content place out same turns;
     went = tt;
     did = refl;
   }
@@ -41,7 +42,7 @@ module _ {E V : Type 0} (t : Talk E) (leads : E → V → V → Type 0) where
   }
 
   -- a session was held, and given back
-  pub ServesTalks-one : (ended : SessionEnd) (v : Visit) (old new : V) (door door_mid door_now : Object) → door.turns < 2 ^ 63 → GivesSession v.asking v.told door door_mid → HasLeft v.asking_now v.told_now door_mid door_now → HoldsSession t leads ended v old new → IsFaultOf v → ServesTalks t leads old new door door_now
+  pub ServesTalks-one : (ended : SessionEnd) (v : Visit) (old new : V) (door door_mid door_now : Object) → door.turns < 2 ^ 63 → GivesSession v.asking v.answered door door_mid → HasLeft v.asking_now v.answered_now door_mid door_now → HoldsSession t leads ended v old new → IsFaultOf v → ServesTalks t leads old new door door_now
   ServesTalks-one ended v old new door door_mid door_now few gives left held cause = record {
     visits = v ∷ [];
     failures = 0;

@@ -1,28 +1,28 @@
 -- Sessions, turn by turn.
 use Rattle.std.proofs.Common.{◌≡◌, ℕ, ◌<◌, length, List, [], ◌∷◌, ◌++◌, refl, ap, subst, ◌∙◌, append-nil, append_assoc, sym}
 use Rattle.std.proofs.lemmas.Grind.{flat_map-append}
-use Rattle.sd_model_outside.specs.Outside.{Object, Told, HasRead, given, put_back, telling}
+use Rattle.sd_model_outside.specs.Outside.{Object, Content, HasRead, given, put_back, telling}
 use Rattle.sd_outside.specs.Turns.{FitsLastCount}
 use Rattle.sd_model_outside.proofs.OutsideLemmas.{Reads-nil}
 use Rattle.sd_outside.proofs.NothingWritten.{appended-nil}
 use Rattle.sd_model_outside.proofs.WriteLemmas.{given-given}
 use Rattle.sd_model_serve.specs.Doors.{ends_by_fault}
-use Rattle.sd_model_serve.specs.Talks as model
-use Rattle.sd_model_serve.specs.Talks.{Talk, Dialogue, EndsSession, FitsLine, HasNoNewline, HasTalked, bytes_of, replied, too_many, lines_in}
+use Rattle.sd_model_serve.specs.Sessions as model
+use Rattle.sd_model_serve.specs.Sessions.{Talk, Dialogue, EndsSession, FitsLine, HasNoNewline, HasTalked, bytes_of, replied, too_many, lines_in}
 use Rattle.sd_outside.proofs.ReadLemmas.{reads_on}
 use Rattle.sd_talk.specs.Answers.{Answers}
 use Rattle.sd_talk.specs.Reading.{CannotRead, Listens, RepliesTooLong, Stops}
 use Rattle.sd_talk.specs.Sessions.{HoldsSession, end_of, visit_of}
-use Rattle.sd_talk.specs.declared.answerer.Told.TheVariants as told
+use Rattle.sd_talk.specs.declared.answerer.LineAnswer.TheVariants as line_answer
 use Rattle.sd_talk.specs.declared.sessions.SessionEnd.{SessionEnd}
 use Rattle.sd_talk.specs.declared.sessions.SessionEnd.TheVariants as code
 use Rattle.sd_talk.proofs.AlongLemmas.{Along-append, all-append}
 
 HasRead-nil : (o : Object) → HasRead [] o o
-HasRead-nil o = ap (λ (t : Told). telling t o) (Reads-nil o.told)
+HasRead-nil o = ap (λ (t : Content). telling t o) (Reads-nil o.content)
 
-given-nil : (o : Object) → FitsLastCount o.told → o ≡ given [] o
-given-nil o fits = ap (λ (t : Told). telling t o) (sym (appended-nil o.told fits))
+given-nil : (o : Object) → FitsLastCount o.content → o ≡ given [] o
+given-nil o fits = ap (λ (t : Content). telling t o) (sym (appended-nil o.content fits))
 
 module _ {E V : Type 0} (t : Talk E) (leads : E → V → V → Type 0) where
   bytes-append : (xs ys : List E) → bytes_of t (xs ++ ys) ≡ bytes_of t xs ++ bytes_of t ys
@@ -38,7 +38,7 @@ module _ {E V : Type 0} (t : Talk E) (leads : E → V → V → Type 0) where
       cut ∙ ap (λ (l : List ℕ). l ++ 10 ∷ behind) (sym is) ∙ sym (append_assoc (t.line e) (10 ∷ []) behind) ∙ ap (λ (bs : List ℕ). bs ++ behind) (sym (append-nil (t.line e ++ 10 ∷ [])))
 
   -- nothing was read yet
-  pub Listens-none : (v : V) (rest : List ℕ) (source sink : Object) → FitsLastCount sink.told → Listens t leads v v rest rest source source sink sink
+  pub Listens-none : (v : V) (rest : List ℕ) (source sink : Object) → FitsLastCount sink.content → Listens t leads v v rest rest source source sink sink
   Listens-none v rest source sink fits = record {
     exchanges = [];
     bytes = [];
@@ -51,7 +51,7 @@ module _ {E V : Type 0} (t : Talk E) (leads : E → V → V → Type 0) where
   }
 
   -- bytes were read behind those that were left
-  pub Listens-read : (v : V) (rest rest_now bytes : List ℕ) (source source_now sink : Object) → FitsLastCount sink.told → HasRead bytes source source_now → rest_now ≡ rest ++ bytes → Listens t leads v v rest rest_now source source_now sink sink
+  pub Listens-read : (v : V) (rest rest_now bytes : List ℕ) (source source_now sink : Object) → FitsLastCount sink.content → HasRead bytes source source_now → rest_now ≡ rest ++ bytes → Listens t leads v v rest rest_now source source_now sink sink
   Listens-read v rest rest_now bytes source source_now sink fits read cut = record {
     exchanges = [];
     bytes = bytes;
@@ -63,8 +63,8 @@ module _ {E V : Type 0} (t : Talk E) (leads : E → V → V → Type 0) where
     written = given-nil sink fits;
   }
 
-  -- the first line that was left was carried out
-  pub Listens-line : (old new : V) (line rest rest_now : List ℕ) (source sink sink_now : Object) → (e : E) × Answers t e line told.Whole sink sink_now × leads e old new → FitsLine line → rest ≡ line ++ 10 ∷ rest_now → Listens t leads old new rest rest_now source source sink sink_now
+  -- the first line that was left was executed
+  pub Listens-line : (old new : V) (line rest rest_now : List ℕ) (source sink sink_now : Object) → (e : E) × Answers t e line line_answer.Whole sink sink_now × leads e old new → FitsLine line → rest ≡ line ++ 10 ∷ rest_now → Listens t leads old new rest rest_now source source sink sink_now
   Listens-line old new line rest rest_now source sink sink_now (e, answers, led) fits cut = record {
     exchanges = e ∷ [];
     bytes = [];
@@ -103,7 +103,7 @@ module _ {E V : Type 0} (t : Talk E) (leads : E → V → V → Type 0) where
     talked = record {
       lines = a.lines;
       each = all-append Fits a.exchanges b.last a.each b.each;
-      read = ap (λ (o : Object). o.told) a.read ∙ ap (λ (bs : List ℕ). put_back bs source_mid.told) all ∙ ap (put_back (bytes_of t (a.exchanges ++ b.last) ++ b.behind)) (sym b.told);
+      read = ap (λ (o : Object). o.content) a.read ∙ ap (λ (bs : List ℕ). put_back bs source_mid.content) all ∙ ap (put_back (bytes_of t (a.exchanges ++ b.last) ++ b.behind)) (sym b.content);
       source_place = b.source_place ∙ sym (ap (λ (o : Object). o.opened_at) a.read);
       sink_place = b.sink_place ∙ ap (λ (o : Object). o.opened_at) a.written;
       ends =
@@ -123,13 +123,13 @@ module _ {E V : Type 0} (t : Talk E) (leads : E → V → V → Type 0) where
         ∙ ap (λ (bs : List ℕ). bs ++ b.behind) (sym (bytes-append a.exchanges b.last))
 
   -- the first line that was left asks for the end
-  pub Stops-quit : (old new : V) (line rest behind : List ℕ) (source sink sink_now : Object) → (e : E) × Answers t e line told.Quit sink sink_now × leads e old new → FitsLine line → rest ≡ line ++ 10 ∷ behind → Stops t leads model.Quit old new rest source source sink sink_now
+  pub Stops-quit : (old new : V) (line rest behind : List ℕ) (source sink sink_now : Object) → (e : E) × Answers t e line line_answer.Quit sink sink_now × leads e old new → FitsLine line → rest ≡ line ++ 10 ∷ behind → Stops t leads model.Quit old new rest source source sink sink_now
   Stops-quit old new line rest behind source sink sink_now (e, answers, led) fits cut = record {
     last = e ∷ [];
     each = (subst FitsLine (sym answers.0) fits, tt);
     behind = behind;
     cut = first_line e line rest behind answers.0 cut;
-    told = refl;
+    content = refl;
     source_place = refl;
     sink_place = ap (λ (o : Object). o.opened_at) answers.1.1;
     did = (new, led, refl);
@@ -137,14 +137,14 @@ module _ {E V : Type 0} (t : Talk E) (leads : E → V → V → Type 0) where
   }
 
   -- the reply to it was cut
-  pub Stops-cut : (old new : V) (line rest behind : List ℕ) (source sink sink_now : Object) → (e : E) × Answers t e line told.Cut sink sink_now × leads e old new → sink_now.opened_at ≡ sink.opened_at → FitsLine line → rest ≡ line ++ 10 ∷ behind
+  pub Stops-cut : (old new : V) (line rest behind : List ℕ) (source sink sink_now : Object) → (e : E) × Answers t e line line_answer.Cut sink sink_now × leads e old new → sink_now.opened_at ≡ sink.opened_at → FitsLine line → rest ≡ line ++ 10 ∷ behind
       → Stops t leads model.WriteFault old new rest source source sink sink_now
   Stops-cut old new line rest behind source sink sink_now (e, answers, led) place fits cut = record {
     last = e ∷ [];
     each = (subst FitsLine (sym answers.0) fits, tt);
     behind = behind;
     cut = first_line e line rest behind answers.0 cut;
-    told = refl;
+    content = refl;
     source_place = refl;
     sink_place = place;
     did = (new, led, refl);
@@ -158,7 +158,7 @@ module _ {E V : Type 0} (t : Talk E) (leads : E → V → V → Type 0) where
     each = tt;
     behind = rest;
     cut = refl;
-    told = refl;
+    content = refl;
     source_place = refl;
     sink_place = ap (λ (o : Object). o.opened_at) h;
     did = refl;
@@ -169,7 +169,7 @@ module _ {E V : Type 0} (t : Talk E) (leads : E → V → V → Type 0) where
     each = tt;
     behind = rest;
     cut = refl;
-    told = refl;
+    content = refl;
     source_place = refl;
     sink_place = h.used.opened_at;
     did = refl;
@@ -186,7 +186,7 @@ module _ {E V : Type 0} (t : Talk E) (leads : E → V → V → Type 0) where
     each = tt;
     behind = rest;
     cut = refl;
-    told = ap (λ (o : Object). o.told) h.0;
+    content = ap (λ (o : Object). o.content) h.0;
     source_place = ap (λ (o : Object). o.opened_at) h.0;
     sink_place = refl;
     did = refl;
@@ -197,7 +197,7 @@ module _ {E V : Type 0} (t : Talk E) (leads : E → V → V → Type 0) where
     each = tt;
     behind = rest;
     cut = refl;
-    told = ap (λ (o : Object). o.told) h.same;
+    content = ap (λ (o : Object). o.content) h.same;
     source_place = h.used.opened_at;
     sink_place = refl;
     did = refl;

@@ -2,7 +2,7 @@
 use Rattle.std.proofs.Common.{ℕ, ◌<◌, ◌≤◌, length, take, List, arith}
 use Rattle.std.proofs.lemmas.List.{length-take}
 use Rattle.std.specs.Prelude.{Option, Some, None, IfNone, IfSome}
-use Rattle.sd_model_serve.specs.Talks.{FitsLine, HasNoNewline, too_many}
+use Rattle.sd_model_serve.specs.Sessions.{FitsLine, HasNoNewline, too_many}
 
 -- what stands before the first newline fits a line
 pub fits_line : (bytes : List ℕ) (n end : ℕ) → n ≤ too_many → end < length (take n bytes) → HasNoNewline (take end (take n bytes)) → FitsLine (take end (take n bytes))

@@ -2,15 +2,15 @@
 use Rattle.std.specs.Prelude.{◌≡◌, ℕ, List, ◌++◌}
 use Rattle.std.specs.List.{AllByRecursion}
 use Rattle.sd_model_outside.specs.Outside.{Object, HasRead, HasFailed, HasFailedBehind, IsAtEnd, given}
-use Rattle.sd_model_serve.specs.Talks as model
-use Rattle.sd_model_serve.specs.Talks.{Talk, EndsSession, FitsLine, bytes_of, replied, too_long_text}
+use Rattle.sd_model_serve.specs.Sessions as model
+use Rattle.sd_model_serve.specs.Sessions.{Talk, EndsSession, FitsLine, bytes_of, replied, too_long_text}
 use Rattle.sd_talk.specs.Answers.{Along}
 use Rattle.sd_talk.specs.declared.sessions.SessionEnd.{SessionEnd}
 use Rattle.sd_talk.specs.declared.sessions.SessionEnd.TheVariants as code
 
 -- no more is read: the source is at its end, or failed
 abbrev pub CannotRead : SessionEnd → Object → Object → Type 0
-CannotRead code.End source source_now = (source_now ≡ source) × IsAtEnd source_now.told
+CannotRead code.End source source_now = (source_now ≡ source) × IsAtEnd source_now.content
 CannotRead code.ReadFault source source_now = HasFailed source source_now
 CannotRead ended source source_now = ⊥
 
@@ -21,7 +21,7 @@ RepliesTooLong code.WriteFault sink sink_now = HasFailedBehind too_long_text sin
 RepliesTooLong ended sink sink_now = ⊥
 
 module _ {E V : Type 0} (t : Talk E) (leads : E → V → V → Type 0) where
-  -- Bytes were read behind those that were left, whole lines of them were carried out and replied to, and the others are left.
+  -- Bytes were read behind those that were left, whole lines of them were executed and replied to, and the others are left.
   pub record Listens (old new : V) (rest rest_now : List ℕ) (source source_now sink sink_now : Object) : Type 0 where
     pub exchanges : List E
     pub bytes : List ℕ
@@ -38,7 +38,7 @@ module _ {E V : Type 0} (t : Talk E) (leads : E → V → V → Type 0) where
     pub each : AllByRecursion (λ e. FitsLine (t.line e)) last
     pub behind : List ℕ
     pub cut : rest ≡ bytes_of t last ++ behind
-    pub told : source_now.told ≡ source.told
+    pub content : source_now.content ≡ source.content
     pub source_place : source_now.opened_at ≡ source.opened_at
     pub sink_place : sink_now.opened_at ≡ sink.opened_at
     pub did : Along leads last old new

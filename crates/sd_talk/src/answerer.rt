@@ -1,8 +1,8 @@
 //! What lines come to.
 ghost use Rattle.std.specs.Prelude.{◌≡◌, ◌<◌};
-ghost use Rattle.sd_model_serve.specs.Talks.{FitsLine, Talk};
+ghost use Rattle.sd_model_serve.specs.Sessions.{FitsLine, Talk};
 ghost use Rattle.sd_talk.specs.Answers.{Answers};
-ghost use Rattle.sd_talk.specs.declared.answerer.Told.TheVariants.{Cut};
+ghost use Rattle.sd_talk.specs.declared.answerer.LineAnswer.TheVariants.{Cut};
 
 use log::Log;
 use sd_outside::Sink;
@@ -10,8 +10,8 @@ use std::sync::Wait;
 
 /// What a line came to.
 #[derive(Clone, Copy, Debug, PartialEq, Eq)]
-pub enum Told {
-    /// It was carried out, and replied to whole.
+pub enum LineAnswer {
+    /// It was executed, and replied to whole.
     Whole,
     /// It asks for the end of the session.
     Quit,
@@ -21,7 +21,7 @@ pub enum Told {
 
 /// What answers the lines of sessions, over what is shared.
 pub trait Answerer<S> {
-    /// What is known of a line that was carried out.
+    /// What is known of a line that was executed.
     ghost Exchange: { Type 0 };
 
     /// What its sessions are about.
@@ -30,17 +30,17 @@ pub trait Answerer<S> {
     /// It may answer a line.
     ghost can_answer: { S → Self → Type 0 };
 
-    /// By what it was and what it is, it has carried out a line so.
+    /// By what it was and what it is, it has executed a line so.
     ghost has_answered: { S → Exchange → Self → Self → Type 0 };
 
-    /// Carries out a line, which comes without its newline, and replies to it. Its reply is cut only where the output failed.
+    /// Executes a line, which comes without its newline, and replies to it. Its reply is cut only where the output failed.
     fn answer<O: Sink, R: Wait + Log>(
         &mut self,
         rt: &R,
         shared: &S,
         line: &[u8],
         sink: &mut O,
-    ) -> Told
+    ) -> LineAnswer
         requires ready { can_answer shared.now self.old }
         requires line { FitsLine line.now }
         ensures ready { can_answer shared.now self.new }

@@ -11,7 +11,7 @@ mod room;
 mod serving;
 mod sessions;
 
-pub use answerer::{Answerer, Told};
+pub use answerer::{Answerer, LineAnswer};
 pub use room::LineRoom;
 pub use serving::serve_talks;
 pub use sessions::{SessionEnd, session};

@@ -5,7 +5,7 @@ use std::alloc::{AllocError, Global};
 // The most bytes of a line, with the newline that ends it.
 const LINE_ROOM: usize = 1024;
 
-/// The room for a line, of 1,024 bytes. In a session its first `len` bytes were read, and aren't carried out yet.
+/// The room for a line, of 1,024 bytes. In a session its first `len` bytes were read, and aren't executed yet.
 #[derive(Drop)]
 pub struct LineRoom {
     pub(crate) bytes: Vec<u8>,

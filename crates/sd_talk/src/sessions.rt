@@ -2,12 +2,12 @@
 ghost use Rattle.std.specs.Prelude.{◌≡◌, ℕ, ◌+◌, ◌<◌, ◌≤◌, true, List, [], ◌∷◌, ◌++◌, length, take, drop, MatchOption, IfNone, IfSome};
 ghost use Rattle.sd_model_outside.specs.Outside.{HasRead};
 ghost use Rattle.sd_model_serve.specs.Doors.{ends_by_fault};
-ghost use Rattle.sd_model_serve.specs.Talks.{HasNoNewline, too_many};
+ghost use Rattle.sd_model_serve.specs.Sessions.{HasNoNewline, too_many};
 ghost use Rattle.sd_talk.specs.Reading.{CannotRead, Listens, RepliesTooLong, Stops};
 ghost use Rattle.sd_talk.specs.Room.{IsLineRoom};
 ghost use Rattle.sd_talk.specs.Sessions.{HoldsSession, end_of, visit_of};
 
-use crate::answerer::{Answerer, Told};
+use crate::answerer::{Answerer, LineAnswer};
 use crate::room::LineRoom;
 use log::Log;
 use sd_outside::{Sink, Source, write_all};
@@ -101,12 +101,12 @@ fn take_turn<S, V: Answerer<S>, A: Source, O: Sink, R: Wait + Log>(
         return read_on(source, &mut room.bytes, &mut room.len);
     };
     match answerer.answer(rt, shared, &left[..end], sink) {
-        Told::Whole => {
+        LineAnswer::Whole => {
             drop_line(&mut room.bytes, &mut room.len, end);
             None
         }
-        Told::Quit => Some(SessionEnd::Quit),
-        Told::Cut => Some(SessionEnd::WriteFault),
+        LineAnswer::Quit => Some(SessionEnd::Quit),
+        LineAnswer::Cut => Some(SessionEnd::WriteFault),
     }
 }
 

@@ -4,7 +4,7 @@ use Rattle.std.proofs.lemmas.List.{map-append}
 use Rattle.sd_model_text.specs.Lists.{split, onto_first}
 use Rattle.sd_law_text.specs.Bytes.{has_byte}
 use Rattle.sd_law_text.proofs.CutLemmas.{split-none}
-use Rattle.sd_model_stream.specs.Streams.{Cut, but_last, cut_of, stream_lines}
+use Rattle.sd_model_stream.specs.Streams.{StreamLine, but_last, cut_of, stream_lines}
 use Rattle.sd_tcp.specs.Cutting.{last_part, rest_of}
 
 -- bytes behind the last of parts
@@ -45,14 +45,14 @@ split-grown : (xs bytes : List ℕ) → has_byte 10 bytes ≡ false → split 10
 split-grown [] bytes none = split-none 10 bytes none
 split-grown (x ∷ xs) bytes none = grown_by_test (eqb x 10) x xs bytes (split-grown xs bytes none)
 
-onto_front : (x : ℕ) (ps qs : List (List ℕ)) → 0 < length ps → onto_first x (ps ++ qs) ≡ onto_first x ps ++ qs
-onto_front x [] qs some = absurd (omega (arith, some))
-onto_front x (p ∷ ps) qs some = refl
+onto_prefix : (x : ℕ) (ps qs : List (List ℕ)) → 0 < length ps → onto_first x (ps ++ qs) ≡ onto_first x ps ++ qs
+onto_prefix x [] qs some = absurd (omega (arith, some))
+onto_prefix x (p ∷ ps) qs some = refl
 
 ended_by_test : (b : Bool) (x : ℕ) (xs ys : List ℕ) → split 10 (xs ++ 10 ∷ ys) ≡ split 10 xs ++ split 10 ys
     → cond b ([] ∷ split 10 (xs ++ 10 ∷ ys)) (onto_first x (split 10 (xs ++ 10 ∷ ys))) ≡ cond b ([] ∷ split 10 xs) (onto_first x (split 10 xs)) ++ split 10 ys
 ended_by_test true x xs ys h = ap (λ ps. [] ∷ ps) h
-ended_by_test false x xs ys h = ap (onto_first x) h ∙ onto_front x (split 10 xs) (split 10 ys) (some_parts xs)
+ended_by_test false x xs ys h = ap (onto_first x) h ∙ onto_prefix x (split 10 xs) (split 10 ys) (some_parts xs)
 
 -- a newline ends a part
 split-ended : (xs ys : List ℕ) → split 10 (xs ++ 10 ∷ ys) ≡ split 10 xs ++ split 10 ys
@@ -107,7 +107,7 @@ lines-ended stream bytes none =
     ap (λ ps. map cut_of (but_last ps)) (split-line stream bytes)
     ∙ ap (map cut_of) (but_last-push parts [] ∙ parts-last parts (some_parts (stream ++ bytes)))
     ∙ map-append cut_of (but_last parts) (last_part parts ∷ [])
-    ∙ ap (λ (lines : List Cut). lines ++ cut_of (last_part parts) ∷ []) (lines-grown stream bytes none)
+    ∙ ap (λ (lines : List StreamLine). lines ++ cut_of (last_part parts) ∷ []) (lines-grown stream bytes none)
     ∙ ap (λ (rest : List ℕ). stream_lines stream ++ cut_of rest ∷ []) (rest-grown stream bytes none)
 
 -- and begins it anew

@@ -1,7 +1,7 @@
 -- What a cutter holds of a stream that comes piece by piece.
 use Rattle.std.specs.Prelude.{◌≡◌, ℕ, Bool, true, false, List, [], ◌∷◌, if◌then◌else◌, ◌==◌, ◌++◌, suc}
 use Rattle.sd_model_text.specs.Lists.{split}
-use Rattle.sd_model_stream.specs.Streams.{Cut, Line, Long, cut_of, stream_lines}
+use Rattle.sd_model_stream.specs.Streams.{StreamLine, Line, Long, cut_of, stream_lines}
 
 -- the last of parts; where there is none, no byte
 abbrev pub last_part : List (List ℕ) → List ℕ
@@ -15,7 +15,7 @@ rest_of stream = last_part (split 10 stream)
 
 -- A cutter: the line that it has begun, and whether a newline has ended that.
 pub record Cutting : Type 0 where
-  pub line : Cut
+  pub line : StreamLine
   pub is_ready : Bool
 
 -- a cutter that has begun no line
@@ -23,12 +23,12 @@ abbrev pub nothing_cut : Cutting
 nothing_cut = record { line = Line []; is_ready = false }
 
 -- a line with bytes more behind it
-abbrev pub longer : Cut → List ℕ → Cut
+abbrev pub longer : StreamLine → List ℕ → StreamLine
 longer (Line begun) bytes = cut_of (begun ++ bytes)
 longer Long bytes = Long
 
 -- the line that a cutter has ready, if it has one
-abbrev pub ready_in : Cutting → List Cut
+abbrev pub ready_in : Cutting → List StreamLine
 ready_in c = if c.is_ready then c.line ∷ [] else []
 
 -- how many bytes there are up to the first newline and with it, or in all
@@ -38,11 +38,11 @@ through_newline (b ∷ bytes) = if b == 10 then 1 else suc (through_newline byte
 
 -- A cutter was given this stream so far, and gave these lines: they and the one that it has ready are the lines of the stream,
 -- and what it has begun is the stream's rest.
-pub record HasCut (given : List Cut) (stream : List ℕ) (c : Cutting) : Type 0 where
+pub record HasCut (given : List StreamLine) (stream : List ℕ) (c : Cutting) : Type 0 where
   pub lines : given ++ ready_in c ≡ stream_lines stream
   pub ended : c.is_ready ≡ true → rest_of stream ≡ []
   pub begun : c.is_ready ≡ false → c.line ≡ cut_of (rest_of stream)
 
 -- A cutter was given these bytes, and gave these lines, whatever stream it had been given before.
-pub record CutsOn (lines : List Cut) (bytes : List ℕ) (old new : Cutting) : Type 0 where
-  pub on : (given : List Cut) (stream : List ℕ) → HasCut given stream old → HasCut (given ++ lines) (stream ++ bytes) new
+pub record CutsOn (lines : List StreamLine) (bytes : List ℕ) (old new : Cutting) : Type 0 where
+  pub on : (given : List StreamLine) (stream : List ℕ) → HasCut given stream old → HasCut (given ++ lines) (stream ++ bytes) new

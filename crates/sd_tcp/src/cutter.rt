@@ -1,6 +1,7 @@
 ghost use Rattle.std.specs.Prelude.{◌≡◌, ◌+◌, ◌<◌, ◌≤◌, true, false, [], ◌∷◌, ◌++◌, length, take, IfNone, IfOk, IfSome, MatchOption};
+ghost use Rattle.sd_model_text.specs.Lines.{longest_datagram};
 ghost use Rattle.sd_law_text.specs.Bytes.{has_byte};
-ghost use Rattle.sd_model_stream.specs.Streams.{Line, most_line};
+ghost use Rattle.sd_model_stream.specs.Streams.{Line};
 ghost use Rattle.sd_tcp.specs.Cutting.{CutsOn, longer, nothing_cut, through_newline};
 ghost use Rattle.sd_tcp.specs.Cut.{IsShort, cut_view};
 
@@ -21,7 +22,7 @@ pub struct Cutter {
 
 impl Model for Cutter {
     ghost use Rattle.std.specs.Prelude.{◌≤◌, vec_capacity, vec_len};
-    ghost use Rattle.sd_model_stream.specs.Streams.{most_line};
+    ghost use Rattle.sd_model_text.specs.Lines.{longest_datagram};
     ghost use Rattle.sd_tcp.specs.Cutting.{Cutting};
     ghost use Rattle.sd_tcp.specs.Held.{line_held};
 
@@ -29,7 +30,7 @@ impl Model for Cutter {
 
     ghost view = { λ c. record { line = line_held c.is_long c.line.items; is_ready = c.is_ready } };
 
-    ghost invariant = { λ c. (vec_len c.line ≤ most_line) × (most_line ≤ vec_capacity c.line) };
+    ghost invariant = { λ c. (vec_len c.line ≤ longest_datagram) × (longest_datagram ≤ vec_capacity c.line) };
 }
 
 impl Cutter {
@@ -114,11 +115,11 @@ impl Cutter {
     /// behind its newline needn't push it, so that it isn't copied.
     pub fn whole_line<'b>(&self, bytes: &'b [u8]) -> Option<&'b [u8]>
         requires { self.now.is_ready ≡ false }
-        ensures short { IfSome result (λ line. length line.now ≤ most_line) }
+        ensures short { IfSome result (λ line. length line.now ≤ longest_datagram) }
         ensures inside { IfSome result (λ line. length line.now < length bytes.now) }
-        ensures front { IfSome result (λ line. take (length line.now + 1) bytes.now ≡ line.now ++ 10 ∷ []) }
+        ensures prefix { IfSome result (λ line. take (length line.now + 1) bytes.now ≡ line.now ++ 10 ∷ []) }
         ensures cut { IfSome result (λ line. CutsOn (Line line.now ∷ []) (line.now ++ 10 ∷ []) self.now self.now) }
-        ensures none { IfNone result (self.now ≡ nothing_cut → has_byte 10 (take (most_line + 1) bytes.now) ≡ false) }
+        ensures none { IfNone result (self.now ≡ nothing_cut → has_byte 10 (take (longest_datagram + 1) bytes.now) ≡ false) }
     {
         if self.is_long || !self.line.is_empty() {
             return None;

@@ -1,6 +1,6 @@
 //! Where newlines stand.
 ghost use Rattle.std.specs.Prelude.{◌≡◌, ◌≢◌, ◌+◌, ◌<◌, ◌≤◌, false, [], ◌∷◌, ◌++◌, length, take, drop, All, MatchOption, IfNone, IfSome};
-ghost use Rattle.sd_model_stream.specs.Streams.{most_line};
+ghost use Rattle.sd_model_text.specs.Lines.{longest_datagram};
 ghost use Rattle.sd_law_text.specs.Bytes.{has_byte};
 
 use crate::cut::MOST_BYTES;
@@ -14,13 +14,13 @@ pub(crate) fn line_len(bytes: &[u8]) -> Option<usize>
 
 /// The first line of bytes, where a newline ends it behind at most 65,507 of them.
 pub(crate) fn short_line(bytes: &[u8]) -> Option<&[u8]>
-    ensures short { IfSome result (λ line. length line.now ≤ most_line) }
+    ensures short { IfSome result (λ line. length line.now ≤ longest_datagram) }
     ensures inside { IfSome result (λ line. length line.now < length bytes.now) }
     ensures lacks { IfSome result (λ line. has_byte 10 line.now ≡ false) }
-    ensures front { IfSome result (λ line. take (length line.now + 1) bytes.now ≡ line.now ++ 10 ∷ []) }
-    ensures none { IfNone result (has_byte 10 (take (most_line + 1) bytes.now) ≡ false) }
+    ensures prefix { IfSome result (λ line. take (length line.now + 1) bytes.now ≡ line.now ++ 10 ∷ []) }
+    ensures none { IfNone result (has_byte 10 (take (longest_datagram + 1) bytes.now) ≡ false) }
 {
-    let front = &bytes[..bytes.len().min(MOST_BYTES + 1)];
-    let len = line_len(front)?;
-    Some(&front[..len])
+    let prefix = &bytes[..bytes.len().min(MOST_BYTES + 1)];
+    let len = line_len(prefix)?;
+    Some(&prefix[..len])
 }

@@ -40,7 +40,7 @@ pub fn push_whole(number: u64, line: &mut Line)
 ///
 /// # Errors
 ///
-/// `WriteFault` where the sink failed. Then a front of the line was appended.
+/// `WriteFault` where the sink failed. Then a prefix of the line was appended.
 pub fn write_line<K: Sink>(line: &Line, sink: &mut K) -> Result<(), WriteFault>
     ensures ok { OnOk result (K.seen sink.new ≡ given line.now.items (K.seen sink.old)) }
     ensures failed { OnErr result (HasFailedBehind line.now.items (K.seen sink.old) (K.seen sink.new)) }
@@ -55,7 +55,7 @@ pub fn write_line<K: Sink>(line: &Line, sink: &mut K) -> Result<(), WriteFault>
 ///
 /// # Errors
 ///
-/// `WriteFault` where the sink failed. Then a front of the lines was appended.
+/// `WriteFault` where the sink failed. Then a prefix of the lines was appended.
 pub fn write_lines<K: Sink>(lines: &[Line], sink: &mut K) -> Result<(), WriteFault>
     ensures ok { OnOk result (K.seen sink.new ≡ given (concat (map (λ line. line.items) lines.now)) (K.seen sink.old)) }
     ensures failed { OnErr result (HasFailedBehind (concat (map (λ line. line.items) lines.now)) (K.seen sink.old) (K.seen sink.new)) }

@@ -15,7 +15,7 @@ pub trait RecordText {
     ///
     /// # Errors
     ///
-    /// `WriteFault` where the sink failed. Then a front of the text was appended.
+    /// `WriteFault` where the sink failed. Then a prefix of the text was appended.
     fn write<K: Sink>(&self, rec: &mut Record<'_>, sink: &mut K) -> Result<(), WriteFault>
         ensures ok { OnOk result (K.seen sink.new ≡ given (text_of self.now (record_view rec.old)) (K.seen sink.old)) }
         ensures failed { OnErr result (HasFailedBehind (text_of self.now (record_view rec.old)) (K.seen sink.old) (K.seen sink.new)) }

@@ -43,7 +43,7 @@ pub trait RowText {
 ///
 /// # Errors
 ///
-/// `WriteFault` where the sink failed. Then a front of the lines was appended.
+/// `WriteFault` where the sink failed. Then a prefix of the lines was appended.
 pub fn write_row<T: RowText, K: Sink>(form: &T, row: &Row, sink: &mut K) -> Result<(), WriteFault>
     ensures ok { OnOk result (K.seen sink.new ≡ given (concat (T.lines_of form.now (row_view row.now))) (K.seen sink.old)) }
     ensures failed { OnErr result (HasFailedBehind (concat (T.lines_of form.now (row_view row.now))) (K.seen sink.old) (K.seen sink.new)) }
@@ -72,7 +72,7 @@ fn write_row_through<T: RowText, K: Sink>(
 ///
 /// # Errors
 ///
-/// `WriteFault` where the sink failed. Then a front of the lines was appended.
+/// `WriteFault` where the sink failed. Then a prefix of the lines was appended.
 pub fn write_rows<T: RowText, K: Sink>(
     form: &T,
     rec: &mut Record<'_>,

@@ -5,30 +5,29 @@ use Rattle.sd_model_outside.proofs.OutsideLemmas.{Reads-nil}
 use Rattle.sd_model_settings.specs.Settings as file
 use Rattle.sd_model_settings.specs.Settings.{default_settings, Settings}
 use Rattle.sd_model_record.proofs.WireLemmas.{AreRepeated-none}
-use Rattle.sd_model_replay.specs.Settings.{bounds_of}
-use Rattle.sd_model_replay.specs.AccountingTheorem.{Seen, Course, AccountingTheorem}
-use Rattle.sd_model_replay.specs.Ends.{End}
+use Rattle.sd_model_replay.specs.Replay.{bounds_of}
+use Rattle.sd_model_replay.specs.AccountingTheorem.{Seen, ReplayTrace, AccountingTheorem, End}
 use Rattle.sd_replay.specs.Replayed.{Replayed}
 use Rattle.sd_law_record.proofs.AccountingLemmas.{are_accounted}
 use Rattle.sd_model_replay.proofs.HistoryLemmas.{arrivals-history_at, state-history_at}
-use Rattle.sd_model_call.specs.Words.{Form, Replay, Drill, form}
-use Rattle.sd_model_call.specs.Opening.{World, IsAccepted, replay_openings, settled, started}
-use Rattle.sd_model_call.specs.Call.{Account, Answer, NoForm, Answers, AnswersReplay, Accounts, IsIdle, IsNotTaken, StopsAmong, ending}
+use Rattle.sd_model_call.specs.Call.{Form, Replay, Drill, form, Account, Answer, NoForm, Answers, Accounts, IsIdle, IsNotTaken, StopsAmong, ending}
+use Rattle.sd_model_call.specs.Opening.{World, IsAccepted, replay_openings, settled}
 use Rattle.sd_top.specs.Causes.{IsDrill, IsReplay}
+use Rattle.sd_model_call.proofs.Short.{AnswersReplay, started}
 
 -- no record and no byte
-abbrev nothing : Course
+abbrev nothing : ReplayTrace
 nothing = record { played = []; ahead = [] }
 
 -- what is in force where no settings were accepted
 abbrev plain : Settings
 plain = default_settings
 
--- the accounting theorem where nothing was carried out
+-- the accounting theorem where nothing was executed
 nothing_done : (now : Seen) → AccountingTheorem plain nothing now now
 nothing_done now =
     record {
-      read = Reads-nil now.script.told;
+      read = Reads-nil now.script.content;
       legal = tt;
       accounted = are_accounted plain [];
       submitted = λ i below. arrivals-history_at (bounds_of plain) i [];
@@ -38,11 +37,11 @@ nothing_done now =
       sends = AreRepeated-none now.wires;
     }
 
--- the account of a call that carried out nothing
+-- the account of a call that executed nothing
 abbrev idle_account : Seen → Account
-idle_account now = record { force = plain; course = nothing; start = now; end = now }
+idle_account now = record { force = plain; trace = nothing; start = now; end = now }
 
--- nothing was carried out
+-- nothing was executed
 idle : (now : World) → IsIdle (idle_account now.seen) now
 idle now = record { played = refl; ahead = refl; since = refl; until = refl }
 
@@ -64,7 +63,7 @@ by_files words settings script old new answer asked h =
       answers = subst (λ (f : Option Form). Answers f answer h.account old new) (sym asked) h.answers;
     }
 
--- they ask for what carries out no record of a script, whose account is its own
+-- they ask for what executes no record of a script, whose account is its own
 pub by_own : (words : List (List ℕ)) (asks : Form) (old new : World) (answer : Answer) → form words ≡ Some asks → Answers (Some asks) answer (idle_account new.seen) old new → Accounts words old new answer
 by_own words asks old new answer asked h =
     record {
@@ -102,7 +101,7 @@ by_drill words n old output answer asked (inr h) =
     }
 
 module _ (old new : World) (settings script : List ℕ) where
-  -- such a call carried out nothing
+  -- such a call executed nothing
   stopped : (answer : Answer) → AnswersReplay settings script answer (idle_account new.seen) old new → IsReplay settings script answer old new
   stopped answer answers = record { account = idle_account new.seen; theorem = nothing_done new.seen; answers = answers }
 
@@ -120,7 +119,7 @@ module _ (old new : World) (settings script : List ℕ) where
     pub by_replay : (answer : Answer) (end : End) → answer ≡ ending end → new ≡ record (settled values now old) { seen = new.seen } → Replayed values end (started script values (settled values now old)) new.seen → IsReplay settings script answer old new
     by_replay answer end is others h =
         record {
-          account = record { force = values; course = h.course; start = started script values (settled values now old); end = new.seen };
+          account = record { force = values; trace = h.trace; start = started script values (settled values now old); end = new.seen };
           theorem = h.theorem;
           answers = inr (record { values = values; settings = now; taken = taken; force = refl; since = refl; until = refl; end = end; ends = h.ends; answer_is = is; others = others });
         }

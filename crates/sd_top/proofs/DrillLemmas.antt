@@ -6,14 +6,11 @@ use Rattle.sd_model_settings.specs.Settings as file
 use Rattle.sd_model_settings.specs.Settings.{default_settings}
 use Rattle.sd_model_settings.proofs.OnLiterals.{settings_on_literals}
 use Rattle.sd_model_record.specs.Totals.{Total, total_line, totals_text}
-use Rattle.sd_model_replay.specs.Totals.{totals_after}
+use Rattle.sd_model_replay.specs.AccountingTheorem.{totals_after, Seen, End, Complete, WriteFailed}
 use Rattle.sd_model_record.proofs.TotalLemmas.{totals_text-snoc}
-use Rattle.sd_model_replay.specs.AccountingTheorem.{Seen}
-use Rattle.sd_model_replay.specs.Ends.{End, Complete, WriteFailed}
 use Rattle.sd_replay.specs.Replayed.{Replayed}
-use Rattle.sd_model_call.specs.Words.{most_packets}
-use Rattle.sd_model_call.specs.Drill.{bytes_counted, drill_start, drill_text, drilled}
 use Rattle.sd_model_call.specs.Call.{Account, Answer, Done, Drilled, WritesTotals, drill_end, NotWritten, ending}
+use Rattle.sd_model_call.specs.Drill.{bytes_counted, drill_start, drill_text, drilled}
 use Rattle.sd_model_call.proofs.DrillEnds.{DrillEnd, drill_totals}
 use Rattle.sd_law_call.proofs.DrillEnds.{drill_ends}
 use Rattle.sd_replay.specs.Ends.{end_of}
@@ -22,6 +19,7 @@ use Rattle.sd_replay.specs.declared.run.ReplayEnd.{ReplayEnd}
 use Rattle.sd_replay.specs.declared.run.ReplayEnd.TheVariants as code
 use Rattle.sd_totals.specs.declared.totals.Totals.{Totals as CodeTotals}
 use Rattle.sd_top.specs.Causes.{IsDrill}
+use Rattle.sd_model_call.proofs.Short.{most_packets}
 
 -- the settings of an empty file
 empty_file : file.settings [] ≡ Ok default_settings
@@ -47,10 +45,10 @@ module _ (n : ℕ) (few : n ≤ most_packets) (values : file.Settings) (is : val
   ran = subst (λ (from : Seen). Replayed default_settings e from end) began (subst (λ (v : file.Settings). Replayed v e start end) is replayed)
 
   abbrev account : Account
-  account = record { force = default_settings; course = ran.course; start = drill_start n output; end = end }
+  account = record { force = default_settings; trace = ran.trace; start = drill_start n output; end = end }
 
-  ended : DrillEnd n e ran.course output end
-  ended = drill_ends n few output end script_faults graphite_faults ran.course ran.theorem e ran.ends
+  ended : DrillEnd n e ran.trace output end
+  ended = drill_ends n few output end script_faults graphite_faults ran.trace ran.theorem e ran.ends
 
   all_drilled : Drilled n account output
   all_drilled =
@@ -61,7 +59,7 @@ module _ (n : ℕ) (few : n ≤ most_packets) (values : file.Settings) (is : val
         counted = ended.counted;
         end = e;
         ends = ran.ends;
-        told = elim ended.ends [
+        reported = elim ended.ends [
           | inl complete ↦ inl complete.0
           | inr failed ↦ inr failed.0
         ];
@@ -75,9 +73,9 @@ module _ (n : ℕ) (few : n ≤ most_packets) (values : file.Settings) (is : val
   has_failed : (new : Object) → HasFailedBehind (drill_text n) output new → IsDrill n NotWritten output new
   has_failed new failed = has_drilled NotWritten new (λ is. absurd (cc)) (inr (refl, failed))
 
-  -- a front of the totals is one of the text
-  in_front : HasFailedBehind (drill_totals n) output end.output → HasFailedBehind (drill_text n) output end.output
-  in_front failed =
+  -- a prefix of the totals is one of the text
+  before_it : HasFailedBehind (drill_totals n) output end.output → HasFailedBehind (drill_text n) output end.output
+  before_it failed =
       let bytes : Total = (codes "bytes", bytes_counted default_settings (drilled n)) in
       subst (λ (text : List ℕ). HasFailedBehind text output end.output) (sym (totals_text-snoc (totals_after default_settings (drilled n)) bytes))
       (behind-longer (drill_totals n) (total_line bytes) output end.output failed)
@@ -86,11 +84,11 @@ module _ (n : ℕ) (few : n ≤ most_packets) (values : file.Settings) (is : val
   pub by_failure : (answer : Answer) → answer ≡ ending e → ((totals : List Total) → e ≡ Complete totals → ⊥) → IsDrill n answer output end.output
   by_failure answer is other = elim ended.ends [
     | inl complete ↦ absurd (other _ complete.0)
-    | inr failed ↦ subst (λ (a : Answer). IsDrill n a output end.output) (sym (is ∙ ap ending failed.0)) (has_failed end.output (in_front failed.1))
+    | inr failed ↦ subst (λ (a : Answer). IsDrill n a output end.output) (sym (is ∙ ap ending failed.0)) (has_failed end.output (before_it failed.1))
   ]
 
   -- the totals were written, and then the number of Graphite's bytes was
-  module _ (totals : List Total) (complete : e ≡ Complete totals) (count : ℕ) (counted : end.graphite.told ≡ Number count) where
+  module _ (totals : List Total) (complete : e ≡ Complete totals) (count : ℕ) (counted : end.graphite.content ≡ Number count) where
     abbrev bytes_line : List ℕ
     bytes_line = total_line (codes "bytes", count)
 

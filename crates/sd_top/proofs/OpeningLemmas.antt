@@ -2,10 +2,11 @@
 use Rattle.std.proofs.Common.{◌≡◌, ℕ, zero, suc, ◌+◌, ◌-◌, ◌*◌, ◌<◌, ◌≤◌, Bool, true, false, List, [], ◌∷◌, ◌++◌, length, get_or, set, inl, inr, refl, sym, ap, subst, ◌∙◌, arith, append-nil, append_assoc, length-append}
 use Rattle.std.specs.Prelude.{if◌then◌else◌}
 use Rattle.std.proofs.Math.Nat.{suc-mul, zero-mul}
-use Rattle.sd_model_outside.specs.Outside.{Object, Place, File, HasFailed, Untold, fresh, opened}
+use Rattle.sd_model_outside.specs.Outside.{Object, Place, File, HasFailed, Unknown, fresh, opened}
 use Rattle.sd_model_call.specs.Call.{Answer, StopsAmong}
-use Rattle.sd_model_call.specs.Opening.{Flags, OfConsole, OfGraphite, Opening, Part, World, numbered, opened_all, opened_part, opening_where, part_in, repeated, with_part}
+use Rattle.sd_model_call.specs.Opening.{Flags, OfConsole, OfGraphite, Opening, Part, World, numbered, opened_all, opening_where, part_in, repeated, with_part}
 use Rattle.sd_top.specs.Causes.{AreOpened, BackStops, EachStops, IsNotOpened, WhereStops, opened_each, opened_where}
+use Rattle.sd_model_call.proofs.Short.{opened_part}
 
 -- parts that were opened one list after the other
 opened_more : (w : World) (xs ys : List Opening) → opened_all w (xs ++ ys) ≡ opened_all (opened_all w xs) ys
@@ -13,9 +14,9 @@ opened_more w [] ys = refl
 opened_more w (x ∷ xs) ys = opened_more (opened_part w x) xs ys
 
 -- what stopped among the first parts stopped among all
-pub stops_in_front : (front behind : List Opening) (answer : Answer) (old new : World) → StopsAmong front answer old new → StopsAmong (front ++ behind) answer old new
-stops_in_front front behind answer old new (inl (is, h)) = inl (is, record { before = h.before; behind = h.behind ++ behind; order = ap (λ os. os ++ behind) h.order ∙ append_assoc h.before h.behind behind; opened = h.opened })
-stops_in_front front behind answer old new (inr (part, is, h)) = inr (
+pub stops_before : (prefix behind : List Opening) (answer : Answer) (old new : World) → StopsAmong prefix answer old new → StopsAmong (prefix ++ behind) answer old new
+stops_before prefix behind answer old new (inl (is, h)) = inl (is, record { before = h.before; behind = h.behind ++ behind; order = ap (λ os. os ++ behind) h.order ∙ append_assoc h.before h.behind behind; opened = h.opened })
+stops_before prefix behind answer old new (inr (part, is, h)) = inr (
   part,
   is,
   record {
@@ -29,108 +30,108 @@ stops_in_front front behind answer old new (inr (part, is, h)) = inr (
 )
 
 -- what stopped behind parts that were opened
-pub stops_behind : (front behind : List Opening) (answer : Answer) (old mid new : World) → mid ≡ opened_all old front → StopsAmong behind answer mid new → StopsAmong (front ++ behind) answer old new
-stops_behind front behind answer old mid new is (inl (lacks, h)) = inl (
+pub stops_behind : (prefix behind : List Opening) (answer : Answer) (old mid new : World) → mid ≡ opened_all old prefix → StopsAmong behind answer mid new → StopsAmong (prefix ++ behind) answer old new
+stops_behind prefix behind answer old mid new is (inl (lacks, h)) = inl (
   lacks,
   record {
-    before = front ++ h.before;
+    before = prefix ++ h.before;
     behind = h.behind;
-    order = ap (λ os. front ++ os) h.order ∙ sym (append_assoc front h.before h.behind);
-    opened = h.opened ∙ ap (λ w. opened_all w h.before) is ∙ sym (opened_more old front h.before);
+    order = ap (λ os. prefix ++ os) h.order ∙ sym (append_assoc prefix h.before h.behind);
+    opened = h.opened ∙ ap (λ w. opened_all w h.before) is ∙ sym (opened_more old prefix h.before);
   },
 )
-stops_behind front behind answer old mid new is (inr (part, lacks, h)) =
-    let same : opened_all mid h.before ≡ opened_all old (front ++ h.before) = ap (λ w. opened_all w h.before) is ∙ sym (opened_more old front h.before) in
+stops_behind prefix behind answer old mid new is (inr (part, lacks, h)) =
+    let same : opened_all mid h.before ≡ opened_all old (prefix ++ h.before) = ap (λ w. opened_all w h.before) is ∙ sym (opened_more old prefix h.before) in
     inr (
       part,
       lacks,
       record {
-        before = front ++ h.before;
+        before = prefix ++ h.before;
         place = h.place;
         behind = h.behind;
-        order = ap (λ os. front ++ os) h.order ∙ sym (append_assoc front h.before (record { part = part; place = h.place } ∷ h.behind));
+        order = ap (λ os. prefix ++ os) h.order ∙ sym (append_assoc prefix h.before (record { part = part; place = h.place } ∷ h.behind));
         failed = subst (λ w. HasFailed (part_in w part) (part_in new part)) same h.failed;
         others = h.others ∙ ap (with_part part (part_in new part)) same;
       },
     )
 
 -- parts that were opened behind others
-pub opened_behind : (front behind : List Opening) (old mid new : World) → mid ≡ opened_all old front → new ≡ opened_all mid behind → new ≡ opened_all old (front ++ behind)
-opened_behind front behind old mid new is next = next ∙ ap (λ w. opened_all w behind) is ∙ sym (opened_more old front behind)
+pub opened_behind : (prefix behind : List Opening) (old mid new : World) → mid ≡ opened_all old prefix → new ≡ opened_all mid behind → new ≡ opened_all old (prefix ++ behind)
+opened_behind prefix behind old mid new is next = next ∙ ap (λ w. opened_all w behind) is ∙ sym (opened_more old prefix behind)
 
 -- an object behind others, and another in its place
-at_end : {X : Type 0} (front : List X) (x : X) (behind : List X) (d : X) → get_or (front ++ x ∷ behind) (length front) d ≡ x
+at_end : {X : Type 0} (prefix : List X) (x : X) (behind : List X) (d : X) → get_or (prefix ++ x ∷ behind) (length prefix) d ≡ x
 at_end [] x behind d = refl
-at_end (y ∷ front) x behind d = at_end front x behind d
+at_end (y ∷ prefix) x behind d = at_end prefix x behind d
 
-put_at_end : {X : Type 0} (front : List X) (x y : X) (behind : List X) → set (front ++ x ∷ behind) (length front) y ≡ front ++ y ∷ behind
+put_at_end : {X : Type 0} (prefix : List X) (x y : X) (behind : List X) → set (prefix ++ x ∷ behind) (length prefix) y ≡ prefix ++ y ∷ behind
 put_at_end [] x y behind = refl
-put_at_end (z ∷ front) x y behind = ap (λ l. z ∷ l) (put_at_end front x y behind)
+put_at_end (z ∷ prefix) x y behind = ap (λ l. z ∷ l) (put_at_end prefix x y behind)
 
-push_front : {X : Type 0} (front : List X) (x : X) (behind : List X) → (front ++ x ∷ []) ++ behind ≡ front ++ x ∷ behind
-push_front front x behind = append_assoc front (x ∷ []) behind
+push_prefix : {X : Type 0} (prefix : List X) (x : X) (behind : List X) → (prefix ++ x ∷ []) ++ behind ≡ prefix ++ x ∷ behind
+push_prefix prefix x behind = append_assoc prefix (x ∷ []) behind
 
-length_one_more : {X : Type 0} (front : List X) (x : X) → length (front ++ x ∷ []) ≡ length front + 1
+length_one_more : {X : Type 0} (prefix : List X) (x : X) → length (prefix ++ x ∷ []) ≡ length prefix + 1
 length_one_more [] x = refl
-length_one_more (y ∷ front) x = let more = length_one_more front x in omega (arith, more)
+length_one_more (y ∷ prefix) x = let more = length_one_more prefix x in omega (arith, more)
 
 -- A list of objects of a world, each a part by its number.
-module _ (part : ℕ → Part) (put : List Object → World) (sees : (l : List Object) (i : ℕ) → part_in (put l) (part i) ≡ get_or l i (fresh Untold))
+module _ (part : ℕ → Part) (put : List Object → World) (sees : (l : List Object) (i : ℕ) → part_in (put l) (part i) ≡ get_or l i (fresh Unknown))
     (puts : (l : List Object) (i : ℕ) (o : Object) → with_part (part i) o (put l) ≡ put (set l i o)) where
   -- one was opened
-  step : (front : List Object) (o : Object) (behind : List Object) (p : Place) → opened_part (put (front ++ o ∷ behind)) (record { part = part (length front); place = p }) ≡ put (front ++ opened p o ∷ behind)
-  step front o behind p =
-      ap (λ x. with_part (part (length front)) (opened p x) (put (front ++ o ∷ behind))) (sees (front ++ o ∷ behind) (length front) ∙ at_end front o behind (fresh Untold))
-      ∙ puts (front ++ o ∷ behind) (length front) (opened p o) ∙ ap put (put_at_end front o (opened p o) behind)
+  step : (prefix : List Object) (o : Object) (behind : List Object) (p : Place) → opened_part (put (prefix ++ o ∷ behind)) (record { part = part (length prefix); place = p }) ≡ put (prefix ++ opened p o ∷ behind)
+  step prefix o behind p =
+      ap (λ x. with_part (part (length prefix)) (opened p x) (put (prefix ++ o ∷ behind))) (sees (prefix ++ o ∷ behind) (length prefix) ∙ at_end prefix o behind (fresh Unknown))
+      ∙ puts (prefix ++ o ∷ behind) (length prefix) (opened p o) ∙ ap put (put_at_end prefix o (opened p o) behind)
 
-  pub all_opened : (front olds : List Object) (places : List Place) → length places ≤ length olds → opened_all (put (front ++ olds)) (numbered part (length front) places) ≡ put (front ++ opened_each places olds)
-  all_opened front olds [] few = refl
-  all_opened front [] (p ∷ places) few = absurd (omega (arith, few))
-  all_opened front (o ∷ olds) (p ∷ places) few =
-      ap (λ w. opened_all w (numbered part (length front + 1) places)) (step front o olds p ∙ ap put (sym (push_front front (opened p o) olds)))
-      ∙ ap (λ n. opened_all (put ((front ++ opened p o ∷ []) ++ olds)) (numbered part n places)) (sym (length_one_more front (opened p o)))
-      ∙ all_opened (front ++ opened p o ∷ []) olds places (omega (arith, few))
-      ∙ ap put (push_front front (opened p o) (opened_each places olds))
+  pub all_opened : (prefix olds : List Object) (places : List Place) → length places ≤ length olds → opened_all (put (prefix ++ olds)) (numbered part (length prefix) places) ≡ put (prefix ++ opened_each places olds)
+  all_opened prefix olds [] few = refl
+  all_opened prefix [] (p ∷ places) few = absurd (omega (arith, few))
+  all_opened prefix (o ∷ olds) (p ∷ places) few =
+      ap (λ w. opened_all w (numbered part (length prefix + 1) places)) (step prefix o olds p ∙ ap put (sym (push_prefix prefix (opened p o) olds)))
+      ∙ ap (λ n. opened_all (put ((prefix ++ opened p o ∷ []) ++ olds)) (numbered part n places)) (sym (length_one_more prefix (opened p o)))
+      ∙ all_opened (prefix ++ opened p o ∷ []) olds places (omega (arith, few))
+      ∙ ap put (push_prefix prefix (opened p o) (opened_each places olds))
 
   -- one of them wasn't
-  one_stops : (front : List Object) (o n : Object) (behind : List Object) (p : Place) (places : List Place) (answer : Answer) → IsNotOpened (part (length front)) answer o n → StopsAmong (numbered part (length front) (p ∷ places)) answer (put (front ++ o ∷ behind)) (put (front ++ n ∷ behind))
-  one_stops front o n behind p places answer (inl (is, same)) = inl (
+  one_stops : (prefix : List Object) (o n : Object) (behind : List Object) (p : Place) (places : List Place) (answer : Answer) → IsNotOpened (part (length prefix)) answer o n → StopsAmong (numbered part (length prefix) (p ∷ places)) answer (put (prefix ++ o ∷ behind)) (put (prefix ++ n ∷ behind))
+  one_stops prefix o n behind p places answer (inl (is, same)) = inl (
     is,
     record {
       before = [];
-      behind = numbered part (length front) (p ∷ places);
+      behind = numbered part (length prefix) (p ∷ places);
       order = refl;
-      opened = ap (λ x. put (front ++ x ∷ behind)) same;
+      opened = ap (λ x. put (prefix ++ x ∷ behind)) same;
     },
   )
-  one_stops front o n behind p places answer (inr (is, failed)) =
-      let old = sees (front ++ o ∷ behind) (length front) ∙ at_end front o behind (fresh Untold) in
-      let new = sees (front ++ n ∷ behind) (length front) ∙ at_end front n behind (fresh Untold) in
+  one_stops prefix o n behind p places answer (inr (is, failed)) =
+      let old = sees (prefix ++ o ∷ behind) (length prefix) ∙ at_end prefix o behind (fresh Unknown) in
+      let new = sees (prefix ++ n ∷ behind) (length prefix) ∙ at_end prefix n behind (fresh Unknown) in
       inr (
-        part (length front),
+        part (length prefix),
         is,
         record {
           before = [];
           place = p;
-          behind = numbered part (length front + 1) places;
+          behind = numbered part (length prefix + 1) places;
           order = refl;
-          failed = subst (λ x. HasFailed x (part_in (put (front ++ n ∷ behind)) (part (length front)))) (sym old) (subst (HasFailed o) (sym new) failed);
-          others = ap put (sym (put_at_end front o n behind)) ∙ sym (puts (front ++ o ∷ behind) (length front) n) ∙ ap (λ x. with_part (part (length front)) x (put (front ++ o ∷ behind))) (sym new);
+          failed = subst (λ x. HasFailed x (part_in (put (prefix ++ n ∷ behind)) (part (length prefix)))) (sym old) (subst (HasFailed o) (sym new) failed);
+          others = ap put (sym (put_at_end prefix o n behind)) ∙ sym (puts (prefix ++ o ∷ behind) (length prefix) n) ∙ ap (λ x. with_part (part (length prefix)) x (put (prefix ++ o ∷ behind))) (sym new);
         },
       )
 
-  pub each_stops : (front olds news : List Object) (places : List Place) (answer : Answer) → EachStops part (length front) places answer olds news → StopsAmong (numbered part (length front) places) answer (put (front ++ olds)) (put (front ++ news))
-  each_stops front olds news [] answer h = absurd h
-  each_stops front [] news (p ∷ places) answer h = absurd h
-  each_stops front (o ∷ olds) [] (p ∷ places) answer h = absurd h
-  each_stops front (o ∷ olds) (n ∷ news) (p ∷ places) answer (inl h) =
-      subst (λ l. StopsAmong (numbered part (length front) (p ∷ places)) answer (put (front ++ o ∷ olds)) (put (front ++ n ∷ l))) (sym h.1) (one_stops front o n olds p places answer h.0)
-  each_stops front (o ∷ olds) (n ∷ news) (p ∷ places) answer (inr h) =
-      let first = step front o olds p ∙ ap put (sym (push_front front (opened p o) olds)) in
-      let rest = each_stops (front ++ opened p o ∷ []) olds news places answer (subst (λ k. EachStops part k places answer olds news) (sym (length_one_more front (opened p o))) h.1) in
-      let now = subst (λ k. StopsAmong (numbered part k places) answer (put ((front ++ opened p o ∷ []) ++ olds)) (put ((front ++ opened p o ∷ []) ++ news))) (length_one_more front (opened p o)) rest in
-      let moved = subst (λ x. StopsAmong (numbered part (length front + 1) places) answer (put ((front ++ opened p o ∷ []) ++ olds)) (put x)) (push_front front (opened p o) news ∙ ap (λ x. front ++ x ∷ news) (sym h.0)) now in
-      stops_behind (record { part = part (length front); place = p } ∷ []) (numbered part (length front + 1) places) answer (put (front ++ o ∷ olds)) (put ((front ++ opened p o ∷ []) ++ olds)) (put (front ++ n ∷ news)) (sym first) moved
+  pub each_stops : (prefix olds news : List Object) (places : List Place) (answer : Answer) → EachStops part (length prefix) places answer olds news → StopsAmong (numbered part (length prefix) places) answer (put (prefix ++ olds)) (put (prefix ++ news))
+  each_stops prefix olds news [] answer h = absurd h
+  each_stops prefix [] news (p ∷ places) answer h = absurd h
+  each_stops prefix (o ∷ olds) [] (p ∷ places) answer h = absurd h
+  each_stops prefix (o ∷ olds) (n ∷ news) (p ∷ places) answer (inl h) =
+      subst (λ l. StopsAmong (numbered part (length prefix) (p ∷ places)) answer (put (prefix ++ o ∷ olds)) (put (prefix ++ n ∷ l))) (sym h.1) (one_stops prefix o n olds p places answer h.0)
+  each_stops prefix (o ∷ olds) (n ∷ news) (p ∷ places) answer (inr h) =
+      let first = step prefix o olds p ∙ ap put (sym (push_prefix prefix (opened p o) olds)) in
+      let rest = each_stops (prefix ++ opened p o ∷ []) olds news places answer (subst (λ k. EachStops part k places answer olds news) (sym (length_one_more prefix (opened p o))) h.1) in
+      let now = subst (λ k. StopsAmong (numbered part k places) answer (put ((prefix ++ opened p o ∷ []) ++ olds)) (put ((prefix ++ opened p o ∷ []) ++ news))) (length_one_more prefix (opened p o)) rest in
+      let moved = subst (λ x. StopsAmong (numbered part (length prefix + 1) places) answer (put ((prefix ++ opened p o ∷ []) ++ olds)) (put x)) (push_prefix prefix (opened p o) news ∙ ap (λ x. prefix ++ x ∷ news) (sym h.0)) now in
+      stops_behind (record { part = part (length prefix); place = p } ∷ []) (numbered part (length prefix + 1) places) answer (put (prefix ++ o ∷ olds)) (put ((prefix ++ opened p o ∷ []) ++ olds)) (put (prefix ++ n ∷ news)) (sym first) moved
 
 -- objects with places, one list after the other
 pub opened_both : (ps qs : List Place) (xs ys : List Object) → length xs ≡ length ps → opened_each (ps ++ qs) (xs ++ ys) ≡ opened_each ps xs ++ opened_each qs ys

@@ -9,7 +9,7 @@ use Rattle.sd_model_settings.specs.Settings.{OutOfRange, SettingsFlaw}
 use Rattle.sd_model_record.specs.Totals.{totals_text}
 use Rattle.sd_model_call.specs.Opening.{IsAccepted, World, settled}
 use Rattle.sd_model_call.specs.Call.{Answer, StopsAmong, WritesTotals}
-use Rattle.sd_model_call.specs.Proxy.{ProxyAccounts, line_readers, most_wires, proxy_answer, proxy_flaw, proxy_openings, relay_text}
+use Rattle.sd_model_call.specs.Proxy.{ProxyAccounts, line_readers, proxy_flaw, proxy_openings, relay_text}
 use Rattle.sd_model_call.specs.Server.{ends_answer}
 use Rattle.sd_check.specs.Checking as checking
 use Rattle.sd_outside.specs.declared.datagrams.Ended.{Ended}
@@ -18,6 +18,7 @@ use Rattle.sd_proxy.specs.Views.{end_view}
 use Rattle.sd_relay.specs.declared.relaying.Relayed.{Relayed}
 use Rattle.sd_serve.specs.Serving.{end_of}
 use Rattle.sd_top.specs.Relaying.{HasRelayed, relay_answer, relay_lines}
+use Rattle.sd_model_call.proofs.Short.{proxy_answer, most_wires}
 
 module _ (s : file.Settings) where
   abbrev wires : ℕ
@@ -64,7 +65,7 @@ module _ (name : List ℕ) (values : file.Settings) (settings : Object) (old new
       → WritesTotals (relay_lines r.sums r.checked) (relay_answer r.received.items r.checked) answer old.seen.output output → ProxyAccounts name answer old new
   proxy_ran r answer mid output h is written =
       let x = h.relayed in
-      let text : relay_lines r.sums r.checked ≡ relay_text values.lists.nodes (x.relays ++ x.lined) x.checks = (λ i. totals_text (x.sums i ++ (codes "checks", x.checked i) ∷ (codes "probe_faults", x.faults i) ∷ [])) in
+      let text : relay_lines r.sums r.checked ≡ relay_text values.lists.nodes (x.relays ++ x.line_relays) x.checks = (λ i. totals_text (x.sums i ++ (codes "checks", x.checked i) ∷ (codes "probe_faults", x.faults i) ∷ [])) in
       let ends = same_ends r.received.items ∙ x.received in
       let whole : relay_answer r.received.items r.checked ≡ proxy_answer x.relays (checking.end_view r.checked.ended) = (λ i. ends_answer (ends i) (checking.end_view r.checked.ended) []) in
       subst (λ (w : World). ProxyAccounts name answer old w) (sym (is ∙ ap (λ (w : World). record w { seen = record w.seen { output = output } }) h.others))
@@ -75,7 +76,7 @@ module _ (name : List ℕ) (values : file.Settings) (settings : Object) (old new
         fits = fit;
         relays = x.relays;
         count = x.count;
-        lined = x.lined;
+        line_relays = x.line_relays;
         one = x.one;
         checks = x.checks;
         checker_ended = checking.end_view r.checked.ended;

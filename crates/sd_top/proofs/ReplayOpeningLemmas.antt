@@ -5,7 +5,7 @@ use Rattle.sd_model_settings.specs.Settings.{Settings}
 use Rattle.sd_model_call.specs.Call.{Answer, StopsAmong}
 use Rattle.sd_model_call.specs.Opening.{Flags, OfScript, Opening, World, flags_of, opened_all, replay_openings, wire_openings, with_part}
 use Rattle.sd_top.specs.Causes.{AreOpened, BackStops}
-use Rattle.sd_top.proofs.OpeningLemmas.{back_openings, backs_opened_at, backs_stop_at, opened_behind, stops_behind, stops_in_front, with_backs}
+use Rattle.sd_top.proofs.OpeningLemmas.{back_openings, backs_opened_at, backs_stop_at, opened_behind, stops_behind, stops_before, with_backs}
 
 module _ (s : Settings) (script : List ℕ) (old : World) (o : Object) (opened_script : o ≡ opened (File script) old.seen.script) where
   abbrev at_script : List Opening
@@ -25,7 +25,7 @@ module _ (s : Settings) (script : List ℕ) (old : World) (o : Object) (opened_s
 
   -- a wire wasn't opened
   pub repeater_stops : (answer : Answer) (second : World) → StopsAmong wires answer first second → StopsAmong (replay_openings script s) answer old second
-  repeater_stops answer second h = stops_behind at_script (wires ++ backs) answer old first second is_first (stops_in_front wires backs answer first second h)
+  repeater_stops answer second h = stops_behind at_script (wires ++ backs) answer old first second is_first (stops_before wires backs answer first second h)
 
   -- by these flags, and with Graphite at the empty name
   module _ (second : World) (wired : second ≡ opened_all first wires) (by : second.flags ≡ flags_of s) (at : Place) (place : at ≡ File []) (flags : Flags) (kept : flags ≡ second.flags) (g c : Object) where

@@ -12,14 +12,14 @@ use Rattle.sd_model_shard.proofs.OrderLemmas.{sum_by-map}
 use Rattle.sd_model_shard.specs.History.{state_after}
 use Rattle.sd_model_record.specs.Backends.{Graphite, Console}
 use Rattle.sd_model_record.specs.Desk.{Desk}
-use Rattle.sd_model_replay.specs.Settings.{limits_of, policy_of}
-use Rattle.sd_model_record.specs.Totals.{Total, added, totals_of, totals_text}
-use Rattle.sd_model_replay.specs.Totals.{summed}
-use Rattle.sd_model_serve.specs.Ends.{LoopEnd}
-use Rattle.sd_model_run.specs.Run.{Course, ServerTheorem}
+use Rattle.sd_model_replay.specs.Replay.{limits_of, policy_of}
+use Rattle.sd_model_record.specs.Totals.{Total, totals_of, totals_text}
+use Rattle.sd_model_replay.specs.AccountingTheorem.{summed}
+use Rattle.sd_model_serve.specs.Receiving.{LoopEnd}
+use Rattle.sd_model_run.specs.Run.{ServerTrace, ServerTheorem}
 use Rattle.sd_model_call.specs.Call.{Answer, WritesTotals}
 use Rattle.sd_model_call.specs.Opening.{IsAccepted, World, flags_of, settled}
-use Rattle.sd_model_call.specs.Server.{HasServed, begun, ends_answer, has_outlets, is_worn, objects_in, run_answer, run_totals, serves_by}
+use Rattle.sd_model_call.specs.Server.{HasServed, ends_answer, reached_limit, objects_in, run_totals, run_settings_of}
 use Rattle.sd_outside.specs.declared.datagrams.Ended.{Ended}
 use Rattle.sd_pool.specs.Books.{IsBookOf, no_book}
 use Rattle.sd_serve.specs.Serving.{HasServed as Ran, end_of}
@@ -29,15 +29,17 @@ use Rattle.sd_serve.specs.declared.workers_out.OutCounts.{OutCounts}
 use Rattle.sd_shard.specs.Shard.{numbers_in}
 use Rattle.sd_shard.specs.declared.shard.ShardBook.{ShardBook}
 use Rattle.sd_top.specs.Serving.{ends_of, lines_in, skips_in, totals_in}
+use Rattle.sd_model_call.proofs.Short.{server_begun, has_outlets, run_answer}
+use Rattle.sd_model_record.proofs.Short.{added}
 
 -- whether a loop took the most turns: a receiver's, or another
-pub worn_among : (received : List Ended) (others : List LoopEnd) → list_any is_worn (map end_of received ++ others) ≡ (list_any (λ e. is_worn (end_of e)) received || list_any is_worn others)
-worn_among [] others = refl
-worn_among (e ∷ received) others = ap (λ b. is_worn (end_of e) || b) (worn_among received others) ∙ sym (or_assoc (is_worn (end_of e)) (list_any (λ e. is_worn (end_of e)) received) (list_any is_worn others))
+pub limit_among : (received : List Ended) (others : List LoopEnd) → list_any reached_limit (map end_of received ++ others) ≡ (list_any (λ e. reached_limit (end_of e)) received || list_any reached_limit others)
+limit_among [] others = refl
+limit_among (e ∷ received) others = ap (λ b. reached_limit (end_of e) || b) (limit_among received others) ∙ sym (or_assoc (reached_limit (end_of e)) (list_any (λ e. reached_limit (end_of e)) received) (list_any reached_limit others))
 
 -- how many texts outlets skipped, where there are outlets
-abbrev skips_where : Bool → Course → List Total
-skips_where are c = if are then (codes "graphite_skipped", (c.outflows Graphite).skipped) ∷ (codes "console_skipped", (c.outflows Console).skipped) ∷ [] else []
+abbrev skips_where : Bool → ServerTrace → List Total
+skips_where are c = if are then (codes "graphite_skipped", (c.outlet_traces Graphite).skipped) ∷ (codes "console_skipped", (c.outlet_traces Console).skipped) ∷ [] else []
 
 -- the numbers of books, where each is that of a shard by its number
 numbers_of_books : (states : ℕ → State) (books : List ShardBook) (n : ℕ) → length books ≡ n → ((i : ℕ) → i < n → IsBookOf (get_or books i no_book) (states i))
@@ -50,13 +52,13 @@ numbers_of_books states books n count are =
           λ i. record { rows = is.rows i; held = is.held i; taken = is.taken i; flushed = is.flushed i; deleted = is.deleted i; dropped = is.dropped i }
 
 -- the texts that outlets skipped are those of the run
-skips_are : (s : file.Settings) (c : Course) (outs : Option OutCounts) → has_counts outs ≡ has_outlets s → AreCounted outs c.outflows → skips_in outs ≡ skips_where (has_outlets s) c
+skips_are : (s : file.Settings) (c : ServerTrace) (outs : Option OutCounts) → has_counts outs ≡ has_outlets s → AreCounted outs c.outlet_traces → skips_in outs ≡ skips_where (has_outlets s) c
 skips_are s c None has counts = ap (λ (b : Bool). skips_where b c) has
 skips_are s c (Some outs) has counts =
     (λ i. (codes "graphite_skipped", counts.skips Graphite i) ∷ (codes "console_skipped", counts.skips Console i) ∷ []) ∙ ap (λ (b : Bool). skips_where b c) has
 
 -- the totals of books and a desk are those of the run that left them
-pub totals_are : (s : file.Settings) (c : Course) (books : List ShardBook) (desk : Desk) (outs : Option OutCounts) → desk ≡ c.desk → has_counts outs ≡ has_outlets s → AreCounted outs c.outflows → length books ≡ s.sizes.shards
+pub totals_are : (s : file.Settings) (c : ServerTrace) (books : List ShardBook) (desk : Desk) (outs : Option OutCounts) → desk ≡ c.desk → has_counts outs ≡ has_outlets s → AreCounted outs c.outlet_traces → length books ≡ s.sizes.shards
     → ((i : ℕ) → i < s.sizes.shards → IsBookOf (get_or books i no_book) (state_after (limits_of s) (policy_of s) (c.histories i)))
     → totals_in books desk outs ++ skips_in outs ≡ run_totals s c
 totals_are s c books desk outs left has counts count are =
@@ -71,10 +73,10 @@ totals_are s c books desk outs left has counts count are =
     })
     ++ skips i
 
--- a run whose totals were written, or a front of them
+-- a run whose totals were written, or a prefix of them
 pub has_served : (name : List ℕ) (says : ℕ → Type 0) (answer : Answer) (old mid new : World) (values : file.Settings) (settings : Object) (served : Served)
     → IsAccepted values (File name) old.settings settings → mid ≡ settled values settings old
-    → Ran (serves_by values) says (objects_in (begun values mid)) (objects_in new) served
+    → Ran (run_settings_of values) says (objects_in (server_begun values mid)) (objects_in new) served
     → WritesTotals (lines_in served.books.items served.desk served.outs) (ends_of served.received.items served.ends) answer old.seen.output new.seen.output
     → new.seen.script ≡ old.seen.script → new.probe ≡ old.probe → new.flags ≡ flags_of values → new.settings ≡ settings
     → HasServed name says answer old new
@@ -83,11 +85,11 @@ has_served name says answer old mid new values settings served accepted is ran w
       values = values;
       settings = settings;
       taken = accepted;
-      course = ran.course;
-      theorem = subst (λ w. ServerTheorem (serves_by values) says ran.course (objects_in (begun values w)) (objects_in new)) is ran.theorem;
-      written = subst (λ text. WritesTotals text (run_answer ran.course) answer old.seen.output new.seen.output)
-          (ap totals_text (totals_are values ran.course served.books.items served.desk served.outs ran.desk ran.outlets ran.outs ran.shards ran.books))
-          (subst (λ whole. WritesTotals (lines_in served.books.items served.desk served.outs) whole answer old.seen.output new.seen.output) (λ i. ends_answer (ran.received i) (ran.flusher i) (ran.keeper i ∷ ran.liner i)) written);
+      trace = ran.trace;
+      theorem = subst (λ w. ServerTheorem (run_settings_of values) says ran.trace (objects_in (server_begun values w)) (objects_in new)) is ran.theorem;
+      written = subst (λ text. WritesTotals text (run_answer ran.trace) answer old.seen.output new.seen.output)
+          (ap totals_text (totals_are values ran.trace served.books.items served.desk served.outs ran.desk ran.outlets ran.outs ran.shards ran.books))
+          (subst (λ whole. WritesTotals (lines_in served.books.items served.desk served.outs) whole answer old.seen.output new.seen.output) (λ i. ends_answer (ran.received i) (ran.flusher i) (ran.keeper i ∷ ran.line_reader i)) written);
       script = script;
       probe = probe;
       flags = flags;

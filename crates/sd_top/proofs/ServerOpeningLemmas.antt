@@ -2,13 +2,13 @@
 use Rattle.std.proofs.Common.{◌≡◌, ℕ, [], List, ◌++◌, ap, subst, ◌∙◌, append_assoc}
 use Rattle.sd_model_outside.specs.Outside.{File, Host, Object, Place}
 use Rattle.sd_model_settings.specs.Settings.{Settings}
-use Rattle.sd_model_replay.specs.Settings.{is_used}
+use Rattle.sd_model_replay.specs.Replay.{is_used}
 use Rattle.sd_model_record.specs.Backends.{Graphite, Console}
 use Rattle.sd_model_call.specs.Call.{Answer, StopsAmong}
 use Rattle.sd_model_call.specs.Opening.{Flags, OfConsole, OfGraphite, Opening, World, flags_of, opened_all, opening_where, wire_openings}
 use Rattle.sd_model_call.specs.Server.{door_openings, server_openings, source_openings}
 use Rattle.sd_top.specs.Causes.{AreOpened, BackStops}
-use Rattle.sd_top.proofs.OpeningLemmas.{back_openings, backs_opened_at, backs_stop_at, opened_behind, stops_behind, stops_in_front, with_backs}
+use Rattle.sd_top.proofs.OpeningLemmas.{back_openings, backs_opened_at, backs_stop_at, opened_behind, stops_behind, stops_before, with_backs}
 
 -- where Graphite is
 abbrev pub graphite_place : Settings → Place
@@ -31,7 +31,7 @@ module _ (s : Settings) where
 
     -- a source wasn't opened
     pub sources_stop : (answer : Answer) (new : World) → StopsAmong (source_openings s) answer old new → StopsAmong (server_openings s) answer old new
-    sources_stop answer new h = grouped answer new (stops_in_front (source_openings s) (wires ++ (backs ++ door_openings s)) answer old new h)
+    sources_stop answer new h = grouped answer new (stops_before (source_openings s) (wires ++ (backs ++ door_openings s)) answer old new h)
 
     module _ (first : World) (sources : first ≡ opened_all old (source_openings s)) (n : ℕ) (receivers : n ≡ s.sizes.receivers) where
       behind_sources : (answer : Answer) (new : World) → StopsAmong (wires ++ (backs ++ door_openings s)) answer first new → StopsAmong (server_openings s) answer old new
@@ -39,7 +39,7 @@ module _ (s : Settings) where
 
       -- a wire wasn't
       pub wires_stop : (answer : Answer) (new : World) → StopsAmong (wire_openings n s) answer first new → StopsAmong (server_openings s) answer old new
-      wires_stop answer new h = behind_sources answer new (stops_in_front wires (backs ++ door_openings s) answer first new (subst (λ n. StopsAmong (wire_openings n s) answer first new) receivers h))
+      wires_stop answer new h = behind_sources answer new (stops_before wires (backs ++ door_openings s) answer first new (subst (λ n. StopsAmong (wire_openings n s) answer first new) receivers h))
 
       -- by these flags, and at this place
       module _ (second : World) (opened_wires : second ≡ opened_all first (wire_openings n s)) (by : second.flags ≡ flags_of s) (at : Place) (place : at ≡ graphite_place s) (flags : Flags) (kept : flags ≡ second.flags) (g c : Object) where
@@ -52,7 +52,7 @@ module _ (s : Settings) where
         -- a backend wasn't
         pub backends_stop : (answer : Answer) → BackStops second.flags at answer second.seen.graphite second.seen.console g c → StopsAmong (server_openings s) answer old third
         backends_stop answer h = behind_sources answer third (stops_behind wires (backs ++ door_openings s) answer first second third wired
-            (stops_in_front backs (door_openings s) answer second third (backs_stop_at (graphite_place s) at place (flags_of s) second by flags kept g c answer h)))
+            (stops_before backs (door_openings s) answer second third (backs_stop_at (graphite_place s) at place (flags_of s) second by flags kept g c answer h)))
 
         module _ (opened_backs : AreOpened second.flags at second.seen.graphite second.seen.console g c) where
           backed : third ≡ opened_all second backs

@@ -8,10 +8,11 @@ use Rattle.std.proofs.lemmas.Bool.{and_parts}
 use Rattle.std.proofs.lemmas.Bool.Decides.{nat_tests}
 use Rattle.std.proofs.lemmas.Str.Parse.{parse_plain}
 use Rattle.sd_model_text.proofs.Digits.{AreDigits, numerals}
-use Rattle.sd_model_call.specs.Words.{is_number_word, most_packets, packets_in}
+use Rattle.sd_model_call.specs.Call.{is_number_word, packets_in}
 use Rattle.sd_model_call.proofs.WordsLemmas.{number_word}
+use Rattle.sd_model_call.proofs.Short.{most_packets}
 
--- what `parse` says of a word, with a digit in front
+-- what `parse` says of a word, with a digit before it
 abbrev IsParsed : {E : Type 0} → List ℕ → Result ℕ E → Type 0
 IsParsed word r = OkIff r (AreDigits word × (0 < length word) × (digits_value 10 word < 2 ^ 32)) (digits_value 10 word)
 

@@ -1,11 +1,11 @@
 -- What the proxy of a settings file did, and what it tells once its run has ended.
-use Rattle.std.specs.Prelude.{◌≡◌, ◌∷◌, ◌++◌, ℕ, List, [], codes, map}
+use Rattle.std.specs.Prelude.{◌≡◌, ◌∷◌, ◌++◌, ℕ, List, [], codes, map, false}
 use Rattle.sd_model_settings.specs.Settings as file
 use Rattle.sd_model_record.specs.Totals.{totals_text}
 use Rattle.sd_model_call.specs.Call.{Answer}
 use Rattle.sd_model_call.specs.Opening.{World}
-use Rattle.sd_model_call.specs.Proxy.{line_readers, proxy_begun, proxy_objects}
-use Rattle.sd_model_call.specs.Server.{ends_answer}
+use Rattle.sd_model_call.specs.Proxy.{line_readers, proxy_objects, proxy_openings}
+use Rattle.sd_model_call.specs.Server.{ends_answer, begun_with}
 use Rattle.sd_check.specs.Checking as checking
 use Rattle.sd_check.specs.declared.checked.Checked.{Checked}
 use Rattle.sd_outside.specs.declared.datagrams.Ended.{Ended}
@@ -17,7 +17,7 @@ use Rattle.sd_serve.specs.Serving.{end_of}
 
 -- The parts of the proxy were opened, the beat was started, and then it ran. Nothing else that is seen changed.
 pub record HasRelayed (values : file.Settings) (old new : World) (r : Relayed) : Type 0 where
-  pub relayed : relaying.HasRelayed values values.sizes.receivers (line_readers values) (proxy_objects (proxy_begun values old)) (proxy_objects new) r
+  pub relayed : relaying.HasRelayed values values.sizes.receivers (line_readers values) (proxy_objects (begun_with (proxy_openings values) (record { ms = values.sizes.check_interval; is_aligned = false }) old)) (proxy_objects new) r
   pub others : new ≡ record old {
     seen = record old.seen { wires = new.seen.wires };
     served = record old.served { sources = new.served.sources; beat = new.served.beat; door = new.served.door; streams = new.served.streams };

@@ -1,11 +1,11 @@
 -- What a server of a settings file is opened for, and what it tells once its run has ended.
-use Rattle.std.specs.Prelude.{ℕ, ◌+◌, List, [], ◌∷◌, ◌++◌, codes, length, map, Option, Some, None}
+use Rattle.std.specs.Prelude.{ℕ, ◌+◌, List, [], ◌∷◌, ◌++◌, codes, length, map, Option, Some, None, sum_by}
 use Rattle.std.specs.Option.{option_to_list}
 use Rattle.sd_model_record.specs.Backends.{Graphite, Console}
 use Rattle.sd_model_record.specs.Desk.{Desk}
 use Rattle.sd_model_settings.specs.Settings as file
-use Rattle.sd_model_replay.specs.Settings.{limits_of, policy_of, targets_of}
-use Rattle.sd_model_record.specs.Totals.{Total, added, totals_of, totals_text}
+use Rattle.sd_model_replay.specs.Replay.{limits_of, policy_of, targets_of}
+use Rattle.sd_model_record.specs.Totals.{Total, totals_of, totals_text}
 use Rattle.sd_model_call.specs.Call.{Answer}
 use Rattle.sd_model_call.specs.Server.{ends_answer, has_streams}
 use Rattle.sd_outside.specs.declared.datagrams.Ended.{Ended}
@@ -23,12 +23,12 @@ sizing_by s = record { limits = limits_of s; policy = policy_of s; shards = s.si
 
 -- how a run is answered whose workers ended so
 abbrev pub ends_of : List Ended → Ends → Answer
-ends_of received ends = ends_answer (map end_of received) (end_of ends.flusher.ended) (door_end_of ends.keeper ∷ map door_end_of (option_to_list ends.liner))
+ends_of received ends = ends_answer (map end_of received) (end_of ends.flusher.ended) (door_end_of ends.keeper ∷ map door_end_of (option_to_list ends.line_reader))
 
 -- the totals of shards with these numbers and a desk, with what outlets counted, if there were any
 abbrev pub totals_in : List ShardBook → Desk → Option OutCounts → List Total
 totals_in books desk outs =
-    totals_of (added (map numbers_in books)) (record desk.facts {
+    totals_of (λ number. sum_by number (map numbers_in books)) (record desk.facts {
       graphite_faults = desk.facts.graphite_faults + faults_at outs Graphite;
       console_faults = desk.facts.console_faults + faults_at outs Console;
     })

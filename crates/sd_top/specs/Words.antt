@@ -1,5 +1,5 @@
 -- What the words ask for, as the definitions have it.
-use Rattle.sd_model_call.specs.Words as model
+use Rattle.sd_model_call.specs.Call as model
 use Rattle.sd_top.specs.declared.words.Form.{Form}
 use Rattle.sd_top.specs.declared.words.Form.TheVariants.{Replay, Serve, Proxy, Drill}
 

@@ -1,10 +1,9 @@
 ghost use Rattle.std.specs.Prelude.{◌≡◌, ◌<◌, ◌≤◌, ◌^◌, false, length, map, string_bytes, IfOk, IfErr};
 ghost use Rattle.sd_replay.specs.Replayed.{Replayed};
-ghost use Rattle.sd_model_call.specs.Opening.{flags_of, replay_openings, started};
-ghost use Rattle.sd_model_call.specs.Call.{Accounts, StopsAmong};
+ghost use Rattle.sd_model_call.specs.Opening.{flags_of, replay_openings, opened_all};
+ghost use Rattle.sd_model_call.specs.Call.{Accounts, StopsAmong, form};
 ghost use Rattle.sd_model_call.specs.Server.{AnswersServer};
 ghost use Rattle.sd_model_call.specs.Proxy.{AnswersProxy};
-ghost use Rattle.sd_model_call.specs.Words.{form};
 ghost use Rattle.sd_replay.specs.Ends.{end_of};
 ghost use Rattle.sd_top.specs.Answers.{answer_of};
 ghost use Rattle.sd_top.specs.Causes.{IsReplay};
@@ -25,7 +24,7 @@ use sd_outside::{
 };
 use sd_replay::{ReplayEnd, ReplayRoom, replay};
 use sd_run::names_backend;
-use sd_serve::{Kinds, KindsOf};
+use sd_serve::{ObjectTypes, ObjectTypesOf};
 use std::alloc::Global;
 use std::random::RandomSource;
 use std::sync::Wait;
@@ -52,26 +51,26 @@ pub struct World<R, O, B, D, L, E, P, G, T, Q, S, W> {
 
 /// A world of objects of these kinds.
 pub(crate) type WorldOf<K> = World<
-    <K as Kinds>::R,
-    <K as Kinds>::O,
-    <K as Kinds>::B,
-    <K as Kinds>::D,
-    <K as Kinds>::L,
-    <K as Kinds>::E,
-    <K as Kinds>::P,
-    <K as Kinds>::G,
-    <K as Kinds>::T,
-    <K as Kinds>::Q,
-    <K as Kinds>::S,
-    <K as Kinds>::W,
+    <K as ObjectTypes>::R,
+    <K as ObjectTypes>::O,
+    <K as ObjectTypes>::B,
+    <K as ObjectTypes>::D,
+    <K as ObjectTypes>::L,
+    <K as ObjectTypes>::E,
+    <K as ObjectTypes>::P,
+    <K as ObjectTypes>::G,
+    <K as ObjectTypes>::T,
+    <K as ObjectTypes>::Q,
+    <K as ObjectTypes>::S,
+    <K as ObjectTypes>::W,
 >;
 
-/// Opens what a replay by these settings uses, and carries out the script.
+/// Opens what a replay by these settings uses, and executes the script.
 ///
 /// # Errors
 ///
 /// `OpenFault` where an object failed, and `OutOfMemory`.
-fn carry_out<K: Kinds>(
+fn execute<K: ObjectTypes>(
     alloc: Global,
     settings: &Settings,
     script: Name,
@@ -80,7 +79,7 @@ fn carry_out<K: Kinds>(
     requires flags { (world_of K.R.seen K.O.seen K.B.seen K.D.seen K.L.seen K.E.seen K.P.seen K.Q.seen K.S.seen world.old).flags ≡ flags_of settings.now }
     requires wires { 256 ≤ length (world.old).wires.items }
     ensures end { IfOk result (λ end. Replayed settings.now (end_of end)
-        (started script.items settings.now (world_of K.R.seen K.O.seen K.B.seen K.D.seen K.L.seen K.E.seen K.P.seen K.Q.seen K.S.seen world.old))
+        (opened_all (world_of K.R.seen K.O.seen K.B.seen K.D.seen K.L.seen K.E.seen K.P.seen K.Q.seen K.S.seen world.old) (replay_openings script.items settings.now)).seen
         (world_of K.R.seen K.O.seen K.B.seen K.D.seen K.L.seen K.E.seen K.P.seen K.Q.seen K.S.seen world.new).seen) }
     ensures refused { IfErr result (λ status. StopsAmong (replay_openings script.items settings.now) (answer_of status)
         (world_of K.R.seen K.O.seen K.B.seen K.D.seen K.L.seen K.E.seen K.P.seen K.Q.seen K.S.seen world.old)
@@ -107,8 +106,8 @@ fn carry_out<K: Kinds>(
     ))
 }
 
-/// Reads a settings file, and carries out a script by the settings.
-fn replay_files<K: Kinds>(
+/// Reads a settings file, and executes a script by the settings.
+fn replay_files<K: ObjectTypes>(
     alloc: Global,
     settings: Name,
     script: Name,
@@ -130,18 +129,18 @@ fn replay_files<K: Kinds>(
     };
     world.backs.graphite_used = names_backend(&settings, b"graphite");
     world.backs.console_used = names_backend(&settings, b"console");
-    match carry_out::<K>(alloc, &settings, script, world) {
+    match execute::<K>(alloc, &settings, script, world) {
         Ok(end) => status_of(end),
         Err(status) => status,
     }
 }
 
-/// Carries out what the words ask for.
+/// Executes what the words ask for.
 ///
-/// `drill N` carries out the made script of N packets by the settings of an empty file, and writes the totals and the number of
+/// `drill N` executes the made script of N packets by the settings of an empty file, and writes the totals and the number of
 /// Graphite's bytes to the output.
 ///
-/// `replay SETTINGS SCRIPT` reads the settings file and carries out the script: each packet is sent on as it came to the targets
+/// `replay SETTINGS SCRIPT` reads the settings file and executes the script: each packet is sent on as it came to the targets
 /// of the repeater, where the settings name it, and its samples are filed; each flush gives the backends that they name the
 /// record's text; and the output gets the reply to each admin command. It gets the totals at the script's end. Once the
 /// settings are accepted, the flags of `backs` say which backends they name.
@@ -189,17 +188,17 @@ pub fn statsd<
 {
     match form_of(words) {
         Some(Form::Replay { settings, script }) => {
-            replay_files::<KindsOf<R, O, B, D, L, E, P, G, T, Q, S, W>>(
+            replay_files::<ObjectTypesOf<R, O, B, D, L, E, P, G, T, Q, S, W>>(
                 alloc, settings, script, world,
             )
         }
         Some(Form::Serve { settings }) => {
-            serve_files::<KindsOf<R, O, B, D, L, E, P, G, T, Q, S, W>, X>(
+            serve_files::<ObjectTypesOf<R, O, B, D, L, E, P, G, T, Q, S, W>, X>(
                 rt, alloc, settings, world,
             )
         }
         Some(Form::Proxy { settings }) => {
-            proxy_files::<KindsOf<R, O, B, D, L, E, P, G, T, Q, S, W>, X>(
+            proxy_files::<ObjectTypesOf<R, O, B, D, L, E, P, G, T, Q, S, W>, X>(
                 rt, alloc, settings, world,
             )
         }

@@ -11,7 +11,7 @@ use sd_replay::{ReplayEnd, ReplayRoom, replay};
 use sd_totals::write_total;
 use std::alloc::Global;
 
-/// Carries out the made script of so many packets by the settings of an empty file, and writes the totals and the number of
+/// Executes the made script of so many packets by the settings of an empty file, and writes the totals and the number of
 /// Graphite's bytes to the output.
 pub(crate) fn drill<O: Sink>(alloc: Global, packets: u32, output: &mut O) -> Status
     requires some { 0 < packets }

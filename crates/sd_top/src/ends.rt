@@ -1,9 +1,9 @@
 //! How a run of loops is answered: those of receivers, and others.
 ghost use Rattle.std.specs.Prelude.{◌≡◌, ◌+◌, ◌<◌, ◌^◌, length, map, if◌then◌else◌};
 ghost use Rattle.std.specs.List.{list_any};
-ghost use Rattle.sd_model_serve.specs.Ends.{most_turns};
+ghost use Rattle.sd_model_serve.specs.Receiving.{most_turns};
 ghost use Rattle.sd_model_call.specs.Call.{Done, Worn, cut_answer};
-ghost use Rattle.sd_model_call.specs.Server.{by_receivers as first_failed, is_worn};
+ghost use Rattle.sd_model_call.specs.Server.{by_receivers as first_failed, reached_limit};
 ghost use Rattle.sd_serve.specs.Serving.{end_of};
 ghost use Rattle.sd_top.specs.Answers.{answer_of};
 
@@ -30,23 +30,23 @@ pub(crate) fn by_receivers(first: u16, received: &[Ended], other: Status) -> Sta
 
 /// Whether a loop ended since it took the most turns.
 pub(crate) fn took_most_turns(ended: &Ended) -> bool
-    ensures { result ≡ is_worn (end_of ended.now) }
+    ensures { result ≡ reached_limit (end_of ended.now) }
 {
     matches!(ended, Ended::Worn { .. })
 }
 
 /// Whether a receiver ended so.
-pub(crate) fn any_worn(received: &[Ended]) -> bool
-    ensures { result ≡ list_any (λ ended. is_worn (end_of ended)) received.now }
+pub(crate) fn any_reached_limit(received: &[Ended]) -> bool
+    ensures { result ≡ list_any (λ ended. reached_limit (end_of ended)) received.now }
 {
     received.iter().any(took_most_turns)
 }
 
 /// How a run is answered by whether a loop of it took the most turns.
-pub(crate) fn by_turns(is_worn: bool) -> Status
-    ensures { answer_of result ≡ (if is_worn then Worn most_turns else Done) }
+pub(crate) fn by_turns(reached_limit: bool) -> Status
+    ensures { answer_of result ≡ (if reached_limit then Worn most_turns else Done) }
 {
-    if is_worn {
+    if reached_limit {
         Status::Worn { turns: MOST_TURNS }
     } else {
         Status::Ok

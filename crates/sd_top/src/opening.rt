@@ -1,9 +1,8 @@
 ghost use Rattle.std.specs.Prelude.{◌≡◌, ◌+◌, ◌*◌, ◌<◌, ◌≤◌, ◌^◌, length, map, OnOk, IfErr};
-ghost use Rattle.sd_model_outside.specs.Outside.{Place, opened};
-ghost use Rattle.sd_model_replay.specs.Settings.{targets_of};
+ghost use Rattle.sd_model_outside.specs.Outside.{Place, opened, Host};
+ghost use Rattle.sd_model_replay.specs.Replay.{targets_of};
 ghost use Rattle.sd_model_call.specs.Call.{StopsAmong};
-ghost use Rattle.sd_model_call.specs.Opening.{OfWire, flags_of, numbered, opened_all, repeated, replay_openings, target_place, wire_openings};
-ghost use Rattle.sd_model_call.specs.Proxy.{node_place};
+ghost use Rattle.sd_model_call.specs.Opening.{OfWire, flags_of, numbered, opened_all, repeated, replay_openings, wire_openings};
 ghost use Rattle.sd_plan.specs.Entries.{node_view, target_view};
 ghost use Rattle.sd_outside.specs.Places.{place_of};
 ghost use Rattle.sd_top.specs.Answers.{answer_of, part_of};
@@ -16,7 +15,7 @@ use sd_config::Settings;
 use sd_outside::{Address, Backend, Backs, Name, OpenRefusal, Opens, Wire};
 use sd_plan::{Node, Target};
 use sd_run::targets_of;
-use sd_serve::Kinds;
+use sd_serve::ObjectTypes;
 
 /// Opens an object.
 ///
@@ -45,7 +44,7 @@ pub(crate) trait Peer {
 }
 
 impl Peer for Target {
-    ghost place = { λ target. target_place (target_view target) };
+    ghost place = { λ target. Host (target_view target).host (target_view target).port };
 
     fn address(&self) -> Address {
         Address::Host {
@@ -56,7 +55,7 @@ impl Peer for Target {
 }
 
 impl Peer for Node {
-    ghost place = { λ node. node_place (node_view node) };
+    ghost place = { λ node. Host (node_view node).host (node_view node).port };
 
     fn address(&self) -> Address {
         Address::Host {
@@ -118,7 +117,7 @@ fn open_runs<N: Peer, L: Wire>(
 /// # Errors
 ///
 /// `OpenFault` where one failed, and `OutOfMemory`.
-pub(crate) fn open_peers<N: Peer, K: Kinds>(
+pub(crate) fn open_peers<N: Peer, K: ObjectTypes>(
     runs: u16,
     peers: &[N],
     world: &mut WorldOf<K>,
@@ -146,7 +145,7 @@ pub(crate) fn open_peers<N: Peer, K: Kinds>(
 /// # Errors
 ///
 /// `OpenFault` where one failed, and `OutOfMemory`.
-pub(crate) fn open_repeater<K: Kinds>(
+pub(crate) fn open_repeater<K: ObjectTypes>(
     runs: u16,
     settings: &Settings,
     world: &mut WorldOf<K>,
@@ -217,7 +216,7 @@ pub(crate) fn open_backs<B: Backend>(backs: &mut Backs<B>, graphite: &Address) -
 /// # Errors
 ///
 /// `OpenFault` where an object failed, and `OutOfMemory`.
-pub(crate) fn open_replay<K: Kinds>(
+pub(crate) fn open_replay<K: ObjectTypes>(
     settings: &Settings,
     script: Name,
     world: &mut WorldOf<K>,

@@ -7,7 +7,7 @@ ghost use Rattle.sd_model_settings.specs.Settings.{OutOfRange, SettingsFlaw};
 ghost use Rattle.sd_model_call.specs.Call.{Misset, StopsAmong, WritesTotals};
 ghost use Rattle.sd_model_call.specs.Opening.{opened_all};
 ghost use Rattle.sd_model_call.specs.Proxy.{ProxyAccounts, line_readers, port_openings, proxy_flaw, proxy_openings, relay_openings};
-ghost use Rattle.sd_model_call.specs.Server.{has_streams, is_worn, stream_openings};
+ghost use Rattle.sd_model_call.specs.Server.{has_streams, reached_limit, stream_openings};
 ghost use Rattle.sd_check.specs.Checking.{end_view};
 ghost use Rattle.sd_serve.specs.Serving.{end_of};
 ghost use Rattle.sd_top.specs.Answers.{answer_of};
@@ -15,7 +15,7 @@ ghost use Rattle.sd_top.specs.Relaying.{HasRelayed, relay_answer, relay_lines};
 ghost use Rattle.sd_top.specs.World.{SameRest, world_of};
 
 use crate::call::WorldOf;
-use crate::ends::{any_worn, by_receivers, by_turns, cut};
+use crate::ends::{any_reached_limit, by_receivers, by_turns, cut};
 use crate::opening::{open_peers, open_where};
 use crate::server_opening::{host_address, open_packets, open_streams, reads_streams};
 use crate::settings::read_settings;
@@ -30,7 +30,7 @@ use sd_plan::Node;
 use sd_proxy::{CheckEnd, Checked};
 use sd_relay::{ProxySums, RelayParts, RelayRoom, Relayed, relay};
 use sd_run::names_backend;
-use sd_serve::Kinds;
+use sd_serve::ObjectTypes;
 use sd_totals::push_total;
 use std::alloc::Global;
 use std::sync::Wait;
@@ -97,7 +97,7 @@ fn tell_unfit<L: Log>(log: &L, alloc: Global, at: &Address, status: &Status) {
 /// # Errors
 ///
 /// `OpenFault` where one failed, and `OutOfMemory`.
-fn open_relays<K: Kinds>(settings: &Settings, world: &mut WorldOf<K>) -> Result<(), Status>
+fn open_relays<K: ObjectTypes>(settings: &Settings, world: &mut WorldOf<K>) -> Result<(), Status>
     requires fits { proxy_flaw settings.now ≡ None }
     requires packets { 16 ≤ length (world.old).packets.items }
     requires wires { 256 ≤ length (world.old).wires.items }
@@ -130,7 +130,7 @@ pub(crate) fn has_port(settings: &Settings) -> bool
 /// # Errors
 ///
 /// `OpenFault` where it failed, and `OutOfMemory`.
-fn open_port<K: Kinds>(settings: &Settings, world: &mut WorldOf<K>) -> Result<(), Status>
+fn open_port<K: ObjectTypes>(settings: &Settings, world: &mut WorldOf<K>) -> Result<(), Status>
     ensures opened { OnOk result (world_of K.R.seen K.O.seen K.B.seen K.D.seen K.L.seen K.E.seen K.P.seen K.Q.seen K.S.seen world.new
         ≡ opened_all (world_of K.R.seen K.O.seen K.B.seen K.D.seen K.L.seen K.E.seen K.P.seen K.Q.seen K.S.seen world.old) (port_openings settings.now)) }
     ensures refused { IfErr result (λ status. StopsAmong (port_openings settings.now) (answer_of status)
@@ -152,7 +152,10 @@ fn open_port<K: Kinds>(settings: &Settings, world: &mut WorldOf<K>) -> Result<()
 /// # Errors
 ///
 /// `OpenFault` where one failed, and `OutOfMemory`.
-fn open_proxy_doors<K: Kinds>(settings: &Settings, world: &mut WorldOf<K>) -> Result<(), Status>
+fn open_proxy_doors<K: ObjectTypes>(
+    settings: &Settings,
+    world: &mut WorldOf<K>,
+) -> Result<(), Status>
     ensures opened { OnOk result (world_of K.R.seen K.O.seen K.B.seen K.D.seen K.L.seen K.E.seen K.P.seen K.Q.seen K.S.seen world.new
         ≡ opened_all (world_of K.R.seen K.O.seen K.B.seen K.D.seen K.L.seen K.E.seen K.P.seen K.Q.seen K.S.seen world.old) (stream_openings settings.now ++ port_openings settings.now)) }
     ensures refused { IfErr result (λ status. StopsAmong (stream_openings settings.now ++ port_openings settings.now) (answer_of status)
@@ -174,7 +177,7 @@ fn open_proxy_doors<K: Kinds>(settings: &Settings, world: &mut WorldOf<K>) -> Re
 /// # Errors
 ///
 /// `OpenFault` where one failed, and `OutOfMemory`.
-fn open_proxy<K: Kinds>(settings: &Settings, world: &mut WorldOf<K>) -> Result<(), Status>
+fn open_proxy<K: ObjectTypes>(settings: &Settings, world: &mut WorldOf<K>) -> Result<(), Status>
     requires fits { proxy_flaw settings.now ≡ None }
     requires packets { 16 ≤ length (world.old).packets.items }
     requires wires { 256 ≤ length (world.old).wires.items }
@@ -200,7 +203,7 @@ fn open_proxy<K: Kinds>(settings: &Settings, world: &mut WorldOf<K>) -> Result<(
 /// # Errors
 ///
 /// `OpenFault` where a part couldn't be opened, and `OutOfMemory`.
-fn run_proxy<K: Kinds, X: Threads + Wait + time::Clock + Sync>(
+fn run_proxy<K: ObjectTypes, X: Threads + Wait + time::Clock + Sync>(
     rt: &X,
     alloc: Global,
     settings: &Settings,
@@ -249,17 +252,17 @@ fn run_proxy<K: Kinds, X: Threads + Wait + time::Clock + Sync>(
 }
 
 /// Whether a checker ended since it took the most turns.
-fn checker_worn(ended: CheckEnd) -> bool
-    ensures { result ≡ is_worn (end_view ended) }
+fn checker_reached_limit(ended: CheckEnd) -> bool
+    ensures { result ≡ reached_limit (end_view ended) }
 {
     matches!(ended, CheckEnd::Worn { .. })
 }
 
 /// Whether a receiver or the checker ended so.
-fn some_worn(received: &[Ended], checked: &Checked) -> bool
-    ensures { result ≡ list_any is_worn (map end_of received.now ++ end_view (checked.now).ended ∷ []) }
+fn some_reached_limit(received: &[Ended], checked: &Checked) -> bool
+    ensures { result ≡ list_any reached_limit (map end_of received.now ++ end_view (checked.now).ended ∷ []) }
 {
-    any_worn(received) || checker_worn(checked.ended)
+    any_reached_limit(received) || checker_reached_limit(checked.ended)
 }
 
 /// How a run is answered whose receivers and whose checker ended so, where its totals are written.
@@ -269,7 +272,7 @@ fn status_after(received: &[Ended], checked: &Checked) -> Status
 {
     let by_beat = match checked.ended {
         CheckEnd::Failed => Status::ReadFault { part: Part::Beat },
-        _ => by_turns(some_worn(received, checked)),
+        _ => by_turns(some_reached_limit(received, checked)),
     };
     by_receivers(0, received, by_beat)
 }
@@ -307,7 +310,7 @@ fn finish<O: Sink>(relayed: &Relayed, output: &mut O) -> Status
 }
 
 /// Reads a settings file, and runs the proxy by the settings.
-pub(crate) fn proxy_files<K: Kinds, X: Threads + Wait + time::Clock + Sync>(
+pub(crate) fn proxy_files<K: ObjectTypes, X: Threads + Wait + time::Clock + Sync>(
     rt: &X,
     alloc: Global,
     settings: Name,

@@ -1,8 +1,8 @@
 //! A server, from its settings to its answer.
 ghost use Rattle.std.specs.Prelude.{◌≡◌, ◌<◌, ◌≤◌, ◌^◌, false, length, IfOk, IfErr};
-ghost use Rattle.sd_model_replay.specs.Settings.{limits_of, policy_of, targets_of};
+ghost use Rattle.sd_model_replay.specs.Replay.{limits_of, policy_of, targets_of};
 ghost use Rattle.sd_model_call.specs.Opening.{flags_of};
-ghost use Rattle.sd_model_call.specs.Server.{ServerAccounts, begun, objects_in, server_openings, serves_by};
+ghost use Rattle.sd_model_call.specs.Server.{ServerAccounts, objects_in, server_openings, run_settings_of, begun_with};
 ghost use Rattle.sd_model_call.specs.Call.{StopsAmong};
 ghost use Rattle.sd_serve.specs.Room.{AreSizes, sizing_of};
 ghost use Rattle.sd_serve.specs.Serving.{HasServed};
@@ -23,7 +23,7 @@ use sd_flush::RecordForm;
 use sd_outside::{Address, Beat, Clock, Interval, Name};
 use sd_plan::Names;
 use sd_run::{limits_of, names_backend, policy_of, targets_of};
-use sd_serve::{Kinds, Served, ServerObjects, ServerRoom, Sizes, Terms, serve};
+use sd_serve::{ObjectTypes, RunSettings, Served, ServerObjects, ServerRoom, Sizes, serve};
 use std::alloc::Global;
 use std::random::RandomSource;
 use std::sync::Wait;
@@ -62,7 +62,7 @@ fn seed_of<X: RandomSource>(rt: &X) -> u64 {
 /// # Errors
 ///
 /// `OpenFault` where a part couldn't be opened, and `OutOfMemory`.
-pub(crate) fn run_server<K: Kinds, X: Threads + Wait + RandomSource + time::Clock + Sync>(
+pub(crate) fn run_server<K: ObjectTypes, X: Threads + Wait + RandomSource + time::Clock + Sync>(
     rt: &X,
     alloc: Global,
     settings: &Settings,
@@ -74,8 +74,8 @@ pub(crate) fn run_server<K: Kinds, X: Threads + Wait + RandomSource + time::Cloc
     requires beat { (K.P.seen (world.old).beat).turns < 2 ^ 62 }
     requires door { ((K.E.seen (world.old).door).is_out ≡ false) × ((K.E.seen (world.old).door).turns < 2 ^ 62) }
     requires streams { ((K.S.seen (world.old).streams).is_out ≡ false) × ((K.S.seen (world.old).streams).turns < 2 ^ 62) }
-    ensures served { IfOk result (HasServed (serves_by settings.now) (K.T.may_say (world.old).clock)
-        (objects_in (begun settings.now (world_of K.R.seen K.O.seen K.B.seen K.D.seen K.L.seen K.E.seen K.P.seen K.Q.seen K.S.seen world.old)))
+    ensures served { IfOk result (HasServed (run_settings_of settings.now) (K.T.may_say (world.old).clock)
+        (objects_in (begun_with (server_openings settings.now) (record { ms = settings.now.server.flush_interval; is_aligned = settings.now.transport.align_flushes }) (world_of K.R.seen K.O.seen K.B.seen K.D.seen K.L.seen K.E.seen K.P.seen K.Q.seen K.S.seen world.old)))
         (objects_in (world_of K.R.seen K.O.seen K.B.seen K.D.seen K.L.seen K.E.seen K.P.seen K.Q.seen K.S.seen world.new))) }
     ensures few { IfOk result (λ served. length served.received.items ≤ 16) }
     ensures settings { (world.new).settings ≡ (world.old).settings }
@@ -99,7 +99,7 @@ pub(crate) fn run_server<K: Kinds, X: Threads + Wait + RandomSource + time::Cloc
     let names = Names::of(settings);
     tell_server(&world.log, settings);
     let rt = Logged::new(rt, LevelFilter::Trace, &world.log);
-    let terms = Terms {
+    let run_settings = RunSettings {
         settings,
         form: RecordForm {
             plan: settings.plan(),
@@ -118,7 +118,7 @@ pub(crate) fn run_server<K: Kinds, X: Threads + Wait + RandomSource + time::Cloc
     Ok(serve::<K, Logged<&X, &K::W>>(
         &rt,
         room,
-        &terms,
+        &run_settings,
         &mut world.packets,
         &mut world.wires,
         &mut objects,
@@ -126,7 +126,7 @@ pub(crate) fn run_server<K: Kinds, X: Threads + Wait + RandomSource + time::Cloc
 }
 
 /// Reads a settings file, and runs the server by the settings.
-pub(crate) fn serve_files<K: Kinds, X: Threads + Wait + RandomSource + time::Clock + Sync>(
+pub(crate) fn serve_files<K: ObjectTypes, X: Threads + Wait + RandomSource + time::Clock + Sync>(
     rt: &X,
     alloc: Global,
     settings: Name,

@@ -3,14 +3,14 @@ ghost use Rattle.std.specs.Prelude.{◌≡◌, ◌≤◌, ◌++◌, ◌∷◌, l
 ghost use Rattle.std.specs.Option.{option_to_list};
 ghost use Rattle.std.specs.List.{list_any};
 ghost use Rattle.sd_model_call.specs.Call.{WritesTotals};
-ghost use Rattle.sd_model_call.specs.Server.{is_worn};
+ghost use Rattle.sd_model_call.specs.Server.{reached_limit};
 ghost use Rattle.sd_model_record.specs.Totals.{totals_text as text_of};
 ghost use Rattle.sd_totals.specs.Totals.{totals_view};
 ghost use Rattle.sd_serve.specs.Serving.{door_end_of, end_of};
 ghost use Rattle.sd_top.specs.Answers.{answer_of};
 ghost use Rattle.sd_top.specs.Serving.{ends_of, lines_in, skips_in, totals_in};
 
-use crate::ends::{any_worn, by_receivers, by_turns, cut, took_most_turns};
+use crate::ends::{any_reached_limit, by_receivers, by_turns, cut, took_most_turns};
 use crate::status::{Part, Status};
 use sd_decimal::Line;
 use sd_desk::Desk;
@@ -57,34 +57,36 @@ fn lines_of(totals: &Totals, outs: &Option<OutCounts>) -> Line
 }
 
 /// Whether the keeper of the door ended since it took the most turns.
-fn keeper_worn(ended: &DoorEnd) -> bool
-    ensures { result ≡ is_worn (door_end_of ended.now) }
+fn keeper_reached_limit(ended: &DoorEnd) -> bool
+    ensures { result ≡ reached_limit (door_end_of ended.now) }
 {
     matches!(ended, DoorEnd::Worn { .. })
 }
 
-/// Whether the keeper of lines did, if there is one.
-fn liner_worn(ended: &Option<DoorEnd>) -> bool
-    ensures { result ≡ list_any is_worn (map door_end_of (option_to_list ended.now)) }
+/// Whether the reader of lines did, if there is one.
+fn line_reader_reached_limit(ended: &Option<DoorEnd>) -> bool
+    ensures { result ≡ list_any reached_limit (map door_end_of (option_to_list ended.now)) }
 {
     match ended {
-        Some(ended) => keeper_worn(ended),
+        Some(ended) => keeper_reached_limit(ended),
         None => false,
     }
 }
 
 /// Whether a worker beside the receivers did.
-fn other_worn(ends: &Ends) -> bool
-    ensures { result ≡ list_any is_worn (end_of (ends.now).flusher.ended ∷ door_end_of (ends.now).keeper ∷ map door_end_of (option_to_list (ends.now).liner)) }
+fn other_reached_limit(ends: &Ends) -> bool
+    ensures { result ≡ list_any reached_limit (end_of (ends.now).flusher.ended ∷ door_end_of (ends.now).keeper ∷ map door_end_of (option_to_list (ends.now).line_reader)) }
 {
-    took_most_turns(&ends.flusher.ended) || keeper_worn(&ends.keeper) || liner_worn(&ends.liner)
+    took_most_turns(&ends.flusher.ended)
+        || keeper_reached_limit(&ends.keeper)
+        || line_reader_reached_limit(&ends.line_reader)
 }
 
 /// Whether any worker did.
-fn some_worn(received: &[Ended], ends: &Ends) -> bool
-    ensures { result ≡ list_any is_worn (map end_of received.now ++ end_of (ends.now).flusher.ended ∷ door_end_of (ends.now).keeper ∷ map door_end_of (option_to_list (ends.now).liner)) }
+fn some_reached_limit(received: &[Ended], ends: &Ends) -> bool
+    ensures { result ≡ list_any reached_limit (map end_of received.now ++ end_of (ends.now).flusher.ended ∷ door_end_of (ends.now).keeper ∷ map door_end_of (option_to_list (ends.now).line_reader)) }
 {
-    any_worn(received) || other_worn(ends)
+    any_reached_limit(received) || other_reached_limit(ends)
 }
 
 /// How a run is answered whose workers ended so, where its totals are written.
@@ -94,7 +96,7 @@ fn status_after(received: &[Ended], ends: &Ends) -> Status
 {
     let by_beat = match ends.flusher.ended {
         Ended::Failed => Status::ReadFault { part: Part::Beat },
-        _ => by_turns(some_worn(received, ends)),
+        _ => by_turns(some_reached_limit(received, ends)),
     };
     by_receivers(0, received, by_beat)
 }

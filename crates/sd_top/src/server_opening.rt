@@ -15,7 +15,7 @@ use crate::opening::{open, open_backs, open_repeater, open_where};
 use crate::status::{Part, Status};
 use sd_config::Settings;
 use sd_outside::{Address, Datagrams, Name};
-use sd_serve::Kinds;
+use sd_serve::ObjectTypes;
 
 /// An address on the network.
 pub(crate) fn host_address(host: &Name, port: u32) -> Address
@@ -72,7 +72,7 @@ pub(crate) fn open_sources<D: Datagrams>(
 /// # Errors
 ///
 /// `OpenFault` where one failed, and `OutOfMemory`.
-pub(crate) fn open_packets<K: Kinds>(
+pub(crate) fn open_packets<K: ObjectTypes>(
     settings: &Settings,
     world: &mut WorldOf<K>,
 ) -> Result<(), Status>
@@ -111,7 +111,7 @@ pub(crate) fn reads_streams(settings: &Settings) -> bool
 /// # Errors
 ///
 /// `OpenFault` where it failed, and `OutOfMemory`.
-pub(crate) fn open_streams<K: Kinds>(
+pub(crate) fn open_streams<K: ObjectTypes>(
     settings: &Settings,
     world: &mut WorldOf<K>,
 ) -> Result<(), Status>
@@ -141,7 +141,7 @@ pub(crate) fn open_streams<K: Kinds>(
 /// # Errors
 ///
 /// `OpenFault` where one failed, and `OutOfMemory`.
-fn open_doors<K: Kinds>(settings: &Settings, world: &mut WorldOf<K>) -> Result<(), Status>
+fn open_doors<K: ObjectTypes>(settings: &Settings, world: &mut WorldOf<K>) -> Result<(), Status>
     ensures opened { OnOk result (world_of K.R.seen K.O.seen K.B.seen K.D.seen K.L.seen K.E.seen K.P.seen K.Q.seen K.S.seen world.new
         ≡ opened_all (world_of K.R.seen K.O.seen K.B.seen K.D.seen K.L.seen K.E.seen K.P.seen K.Q.seen K.S.seen world.old) (door_openings settings.now)) }
     ensures refused { IfErr result (λ status. StopsAmong (door_openings settings.now) (answer_of status)
@@ -164,7 +164,7 @@ fn open_doors<K: Kinds>(settings: &Settings, world: &mut WorldOf<K>) -> Result<(
 /// # Errors
 ///
 /// `OpenFault` where one failed, and `OutOfMemory`.
-pub(crate) fn open_server<K: Kinds>(
+pub(crate) fn open_server<K: ObjectTypes>(
     settings: &Settings,
     world: &mut WorldOf<K>,
 ) -> Result<(), Status>

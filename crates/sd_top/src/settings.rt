@@ -17,7 +17,7 @@ use std::alloc::Global;
 /// How many bytes decide what a settings file says: one more than it may have.
 const DECIDING: usize = 65_537;
 
-/// Opens a settings file, and reads its deciding bytes to the front of a buffer, which has just room for them. Answers their
+/// Opens a settings file, and reads its deciding bytes to the start of a buffer, which has just room for them. Answers their
 /// number.
 ///
 /// # Errors

@@ -1,6 +1,7 @@
-ghost use Rattle.std.specs.Prelude.{◌≡◌, ◌≤◌, ◌<◌, length, map, string_bytes, option_map, true, IsTrue, IfSome};
-ghost use Rattle.sd_model_call.specs.Words.{drill_form, form, is_file_word as names_file, packets_in, replay_form, run_form, word_form, words_form, Proxy, Serve};
+ghost use Rattle.std.specs.Prelude.{◌≡◌, ◌≤◌, ◌<◌, length, map, string_bytes, option_map, true, IsTrue, IfSome, None, Some, ◌&&◌, if◌then◌else◌, ◌==◌, codes};
+ghost use Rattle.sd_model_call.specs.Call.{form, is_file_word as names_file, packets_in, run_form, word_form, Proxy, Serve, Drill, Replay};
 ghost use Rattle.sd_top.specs.Words.{form_view};
+ghost use Rattle.std.specs.Cmp.Lexicographic.{pointwise};
 
 use arrayvec::ArrayVec;
 use sd_drill::MOST_PACKETS;
@@ -9,13 +10,13 @@ use sd_outside::Name;
 /// What the words ask for.
 #[derive(Debug, Drop)]
 pub(crate) enum Form {
-    /// To carry out a script by a settings file.
+    /// To execute a script by a settings file.
     Replay { settings: Name, script: Name },
     /// To run the server by a settings file.
     Serve { settings: Name },
     /// To run the proxy by a settings file.
     Proxy { settings: Name },
-    /// To carry out the made script of so many packets.
+    /// To execute the made script of so many packets.
     Drill { packets: u32 },
 }
 
@@ -43,7 +44,7 @@ fn name_of(word: &str) -> Name
 
 /// A replay by the files that two words name.
 fn replay_of(settings: &str, script: &str) -> Option<Form>
-    ensures { option_map form_view result ≡ replay_form settings.now script.now }
+    ensures { option_map form_view result ≡ (if names_file settings.now && names_file script.now then Some (Replay settings.now script.now) else None) }
 {
     if !is_file_word(settings) || !is_file_word(script) {
         return None;
@@ -91,7 +92,7 @@ fn packets_of(word: &str) -> Option<u32>
 
 /// A drill of as many packets as a word asks for.
 fn drill_of(packets: &str) -> Option<Form>
-    ensures { option_map form_view result ≡ drill_form packets.now }
+    ensures { option_map form_view result ≡ option_map Drill (packets_in packets.now) }
 {
     let packets = packets_of(packets)?;
     Some(Form::Drill { packets })
@@ -114,7 +115,7 @@ fn word_of(name: &str, word: &str) -> Option<Form>
 
 /// What a name and two words ask for.
 fn words_of(name: &str, settings: &str, script: &str) -> Option<Form>
-    ensures { option_map form_view result ≡ words_form name.now settings.now script.now }
+    ensures { option_map form_view result ≡ (if pointwise ◌==◌ name.now (codes "replay") then if names_file settings.now && names_file script.now then Some (Replay settings.now script.now) else None else None) }
 {
     if name == "replay" {
         replay_of(settings, script)

@@ -1,8 +1,8 @@
-ghost use Rattle.std.specs.Prelude.{◌≡◌, ℕ, ◌+◌, ◌≤◌, ◌++◌, length, map, option_map, slice_get, IfSome, OnOk, OnErr};
+ghost use Rattle.std.specs.Prelude.{◌≡◌, ℕ, ◌+◌, ◌≤◌, ◌++◌, length, map, option_map, slice_get, IfSome, OnOk, OnErr, sum_by};
 ghost use Rattle.sd_model_outside.specs.Outside.{HasFailedBehind, given};
 ghost use Rattle.sd_model_shard.specs.Shard.{Numbers};
 ghost use Rattle.sd_model_record.specs.Desk.{Facts};
-ghost use Rattle.sd_model_record.specs.Totals.{added, known_before_end, total_line, totals_of, totals_text as lines_of};
+ghost use Rattle.sd_model_record.specs.Totals.{known_before_end, total_line, totals_of, totals_text as lines_of};
 ghost use Rattle.sd_desk.specs.Facts.{facts_view};
 ghost use Rattle.sd_shard.specs.Shard.{numbers_in};
 ghost use Rattle.sd_totals.specs.Totals.{total_seen, totals_by, totals_view};
@@ -61,7 +61,7 @@ impl Totals {
     /// The totals of shards with these numbers, and of a desk with these facts.
     pub fn new(books: &[ShardBook], facts: &DeskFacts) -> Totals
         requires { length books.now ≤ 16 }
-        ensures { totals_view result ≡ totals_of (added (map numbers_in books.now)) (facts_view facts.now) }
+        ensures { totals_view result ≡ totals_of (λ number. sum_by number (map numbers_in books.now)) (facts_view facts.now) }
     {
         Totals::of(&add_up(books), facts)
     }
@@ -167,7 +167,7 @@ fn write_text<O: Sink>(text: &Line, output: &mut O) -> Result<(), WriteFault>
 ///
 /// # Errors
 ///
-/// `WriteFault` where the sink failed. Then a front of the line was written.
+/// `WriteFault` where the sink failed. Then a prefix of the line was written.
 pub fn write_total<O: Sink>(name: &[u8], n: u128, output: &mut O) -> Result<(), WriteFault>
     requires { length name.now ≤ 255 }
     ensures ok { OnOk result (O.seen output.new ≡ given (total_line (name.now, n)) (O.seen output.old)) }
@@ -182,7 +182,7 @@ pub fn write_total<O: Sink>(name: &[u8], n: u128, output: &mut O) -> Result<(), 
 ///
 /// # Errors
 ///
-/// `WriteFault` where the sink failed. Then a front of the text was written.
+/// `WriteFault` where the sink failed. Then a prefix of the text was written.
 pub fn write_totals<O: Sink>(totals: &Totals, output: &mut O) -> Result<(), WriteFault>
     ensures ok { OnOk result (O.seen output.new ≡ given (lines_of (totals_view totals.now)) (O.seen output.old)) }
     ensures failed { OnErr result (HasFailedBehind (lines_of (totals_view totals.now)) (O.seen output.old) (O.seen output.new)) }

@@ -11,10 +11,10 @@ use Rattle.sd_turn.specs.declared.view.Account.{Account}
 use Rattle.sd_turn.specs.declared.view.View.{View}
 use Rattle.sd_turn.specs.Lists.{total, span}
 use Rattle.sd_turn.specs.Views.{account, first_account, further_numbers, first_number, giver, first_view, newcomer, view, own_of, seen_of, IsPlain, holding, numbers_in, spent, both, kept_back, given_away}
-use Rattle.sd_turn.specs.Rule.{Terms, Fits, amount_at, Home, Away, Kept, Laws, Opens, Closes, Grows, took}
-use Rattle.sd_turn.proofs.Totals.{total_one-span, total-span_last, set_at, each_set, total-append, total-set, total_same, term_le, terms_le, total_only, is, is_itself, span_once, Each-append, Each-others, Each-always}
+use Rattle.sd_turn.specs.Rule.{Protocol, Fits, amount_at, Home, Away, Kept, Laws, Opens, Closes, Grows, took}
+use Rattle.sd_turn.proofs.Totals.{total_one-span, total-span_last, set_at, each_set, total-append, total-set, total_same, term_le, summands_le, total_only, is, is_itself, span_once, Each-append, Each-others, Each-always}
 
-module _ {S E F : Type 0} (b : Terms S E F) (f : F) (count : ℕ) where
+module _ {S E F : Type 0} (b : Protocol S E F) (f : F) (count : ℕ) where
   abbrev Vw : Type 0
   Vw = View E F
 
@@ -121,7 +121,7 @@ module _ {S E F : Type 0} (b : Terms S E F) (f : F) (count : ℕ) where
       remake s s' r seen' (grows.sound (subst (b.sound f count) (sym all) r.sound)) id v w at
       (λ k. let g = grows.amounts k in let e = ap (b.amount k) all in omega arith) (λ h. refl)
       (λ j u apart d.
-      let t = terms_le (λ (x : Vw). total (is number) (numbers_in x)) s.views id j v u apart at d in
+      let t = summands_le (λ (x : Vw). total (is number) (numbers_in x)) s.views id j v u apart at d in
       let q = r.numbered (is number) in
       let o = span_once number 0 count in
       let i = is_itself number in
@@ -142,7 +142,7 @@ module _ {S E F : Type 0} (b : Terms S E F) (f : F) (count : ℕ) where
   pub gives_turn : (slots id number : ℕ) (own seen own' seen' : List E) (y : S) → b.fixed y ≡ f → b.stands y seen' → b.words seen' ≡ b.words seen → Grows b f count number own seen own' seen'
       → (then : ℕ → Me S Vw → Type 0) → ((n : ℕ) → then n (single number own' seen' false, []))
       → Allows Rule slots id (single number own seen true, (0, y) ∷ []) 0 (λ _. 0) then
-  gives_turn slots id number own seen own' seen' y of is_state quiet grows then told s r _ at _ =
+  gives_turn slots id number own seen own' seen' y of is_state quiet grows then promised s r _ at _ =
       let w : Vw = single number own' seen' false in
       let h = holder s r id number own seen at in
       let ws : List ℕ = b.words seen' in
@@ -153,7 +153,7 @@ module _ {S E F : Type 0} (b : Terms S E F) (f : F) (count : ℕ) where
       let kept : Rule after =
       changes s after r id number own seen own' seen' false at h.0 grows refl
       (inl (refl, (y, refl, is_state, of), each_set (λ (x : Vw). x.turn ≡ false) s.views id w (λ j u apart d. h.3 j u apart d) refl)) in
-      subst (λ (z : List ℕ × List (Option S)). Goal (state z.0 z.1 s.views)) (λ i. (((λ j. (number + 1) ∷ sym words j) ∙ sym h.1) i, sym h.2 i)) (w, gives, tt, kept, told (number + 1))
+      subst (λ (z : List ℕ × List (Option S)). Goal (state z.0 z.1 s.views)) (λ i. (((λ j. (number + 1) ∷ sym words j) ∙ sym h.1) i, sym h.2 i)) (w, gives, tt, kept, promised (number + 1))
 
   -- a seat gives one of its numbers away
   pub splits_off : Laws b → (id n : ℕ) (accounts : List (Account E)) (ns : List ℕ) (fixed : Maybe F) → let v : Vw = view accounts (n ∷ ns) false fixed in Splits Rule id v (kept_back v) (given_away v)
@@ -289,7 +289,7 @@ module _ {S E F : Type 0} (b : Terms S E F) (f : F) (count : ℕ) where
       let whole : total g s.views ≡ count = r.numbered (λ n. 1) ∙ total_one-span 0 count in
       let mine : length v.accounts ≤ g v = counts v in
       let others : (j : ℕ) (u : Vw) → j ≢ id → get_elem? s.views j ≡ some u → length u.accounts ≡ 0 = λ j u apart e.
-      let t = terms_le g s.views id j v u apart at e in let c = counts u in omega arith in (
+      let t = summands_le g s.views id j v u apart at e in let c = counts u in omega arith in (
         ⊎_elim
             (λ (home : Home b f r.whole s). home)
             (λ (away : Away b r.whole s). absurd (dite (ℕ_discrete away.0 id)
@@ -299,7 +299,7 @@ module _ {S E F : Type 0} (b : Terms S E F) (f : F) (count : ℕ) where
         (λ k. sym (sym (r.sums k) ∙ total_only (amount_at b k) s.views id v at (λ j u apart e. none_left k u.accounts (others j u apart e)))),
         λ h.
             let w : Vw → ℕ = λ x. total h (numbers_in x) in
-            let only = total_only w s.views id v at (λ j u apart e. let t = terms_le g s.views id j v u apart at e in no_weight h (numbers_in u) (omega arith)) in
+            let only = total_only w s.views id v at (λ j u apart e. let t = summands_le g s.views id j v u apart at e in no_weight h (numbers_in u) (omega arith)) in
             let top = term_le g s.views id v at in
             let one = total-append (λ (n : ℕ). 1) (own_numbers v.accounts) v.spare in
             let ones_are = ones v.accounts in

@@ -53,12 +53,12 @@ module _ {A : Type 0} where
     term_le (x ∷ xs) zero v e = omega (arith, ap g (some-injective x v e))
     term_le (x ∷ xs) (suc j) v e = omega (arith, term_le xs j v e)
 
-    pub terms_le : (l : List A) (j k : ℕ) (v u : A) → k ≢ j → get_elem? l j ≡ some v → get_elem? l k ≡ some u → g v + g u ≤ total g l
-    terms_le [] j k v u n e d = absurd (some-ne-none v (sym e))
-    terms_le (x ∷ xs) zero zero v u n e d = absurd (n refl)
-    terms_le (x ∷ xs) zero (suc k) v u n e d = omega (arith, ap g (some-injective x v e), term_le xs k u d)
-    terms_le (x ∷ xs) (suc j) zero v u n e d = omega (arith, ap g (some-injective x u d), term_le xs j v e)
-    terms_le (x ∷ xs) (suc j) (suc k) v u n e d = omega (arith, terms_le xs j k v u (λ h. n (ap suc h)) e d)
+    pub summands_le : (l : List A) (j k : ℕ) (v u : A) → k ≢ j → get_elem? l j ≡ some v → get_elem? l k ≡ some u → g v + g u ≤ total g l
+    summands_le [] j k v u n e d = absurd (some-ne-none v (sym e))
+    summands_le (x ∷ xs) zero zero v u n e d = absurd (n refl)
+    summands_le (x ∷ xs) zero (suc k) v u n e d = omega (arith, ap g (some-injective x v e), term_le xs k u d)
+    summands_le (x ∷ xs) (suc j) zero v u n e d = omega (arith, ap g (some-injective x u d), term_le xs j v e)
+    summands_le (x ∷ xs) (suc j) (suc k) v u n e d = omega (arith, summands_le xs j k v u (λ h. n (ap suc h)) e d)
 
     pub total_none : (l : List A) → ((j : ℕ) (u : A) → get_elem? l j ≡ some u → g u ≡ 0) → total g l ≡ 0
     total_none [] none = refl

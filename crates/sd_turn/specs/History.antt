@@ -6,12 +6,12 @@ use Rattle.sd_turn.specs.declared.view.Account.{Account}
 use Rattle.sd_turn.specs.declared.view.View.{View}
 use Rattle.sd_turn.specs.Lists.{Each}
 use Rattle.sd_turn.specs.Views.{account, view, own_of, seen_of, released}
-use Rattle.sd_turn.specs.Rule.{Terms, Laws}
+use Rattle.sd_turn.specs.Rule.{Protocol, Laws}
 use Rattle.sd_turn.specs.Entries.{Begins, entries_by}
 
 -- The history is legal for the fixed part, and its entries have numbers below the count of seats. Each seat has seen a beginning of it, and its own entries are all that the history has by its number. A number that no seat has yet has made none
-abbrev pub history_terms : {S N F : Type 0} → (S → F) → (S → List N → Type 0) → (F → List N → Type 0) → (N → ℕ) → Terms S N F
-history_terms fixed stands legal who = record {
+abbrev pub history_protocol : {S N F : Type 0} → (S → F) → (S → List N → Type 0) → (F → List N → Type 0) → (N → ℕ) → Protocol S N F
+history_protocol fixed stands legal who = record {
   fixed = fixed;
   stands = stands;
   sound = λ f count log. legal f log × Each (λ e. who e < count) log;
@@ -21,7 +21,7 @@ history_terms fixed stands legal who = record {
   amount = λ k entries. 0;
 }
 
-pub history_laws : {S N F : Type 0} (fixed : S → F) (stands : S → List N → Type 0) (legal : F → List N → Type 0) (who : N → ℕ) → Laws (history_terms fixed stands legal who)
+pub history_laws : {S N F : Type 0} (fixed : S → F) (stands : S → List N → Type 0) (legal : F → List N → Type 0) (who : N → ℕ) → Laws (history_protocol fixed stands legal who)
 history_laws fixed stands legal who = record {
   none = λ k. refl;
   begins = λ log number none. ((log, refl), sym none);

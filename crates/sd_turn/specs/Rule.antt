@@ -10,7 +10,7 @@ use Rattle.sd_turn.specs.Lists.{total, Each, span}
 use Rattle.sd_turn.specs.Views.{account, first_account, holding, numbers_in}
 
 -- What is behind a turn. The whole is a list that the value stands for, as its numbers or its history, and each seat's own part of it is a list too
-pub record Terms (S E F : Type 0) : Type 1 where
+pub record Protocol (S E F : Type 0) : Type 1 where
   -- the fixed part of a value
   pub fixed : S → F
   -- the value stands for the whole
@@ -26,7 +26,7 @@ pub record Terms (S E F : Type 0) : Type 1 where
   -- how much a list has of the kind with this number: the seats' own parts add up to the whole
   pub amount : ℕ → List E → ℕ
 
-module _ {S E F : Type 0} (b : Terms S E F) where
+module _ {S E F : Type 0} (b : Protocol S E F) where
   abbrev pub Fits : List E → View E F → Type 0
   Fits whole v = Each (b.fits whole) v.accounts × Each (b.unused whole) v.spare
 

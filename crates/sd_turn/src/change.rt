@@ -16,7 +16,7 @@ pub trait Change<V: Stepped> {
     ghost entries: { Self → Self → Self.Answer → V.Fixed → ℕ → List V.Noted };
 
     // What the change then is, and the answer, have to do with what it was.
-    ghost told: { Self → Self → Self.Answer → V.Fixed → Type 0 };
+    ghost promised: { Self → Self → Self.Answer → V.Fixed → Type 0 };
 
     /// Changes the value, for the seat with this number. The entries stand next to each other.
     fn apply(&mut self, value: &mut V, number: u16) -> Self::Answer
@@ -24,7 +24,7 @@ pub trait Change<V: Stepped> {
         requires allowed { allows self.old (V.fixed value.old) }
         ensures fixed { V.fixed value.new ≡ V.fixed value.old }
         ensures stands { (log : List V.Noted) → V.stands value.old log → V.stands value.new (log ++ entries self.old self.new result (V.fixed value.old) number) }
-        ensures told { told self.old self.new result (V.fixed value.old) };
+        ensures promised { promised self.old self.new result (V.fixed value.old) };
 
     ghost entries_name: { (old new : Self) (answer : Self.Answer) (f : V.Fixed) (number : ℕ) → Each (λ e. V.who e ≡ number) (entries old new answer f number) };
 }

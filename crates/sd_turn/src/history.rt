@@ -1,5 +1,5 @@
 //! What is behind a turn with a history, and what its own step tells.
-ghost use Rattle.sd_turn.specs.History.{history_terms, history_laws, gave};
+ghost use Rattle.sd_turn.specs.History.{history_protocol, history_laws, gave};
 
 use crate::behind::Behind;
 use crate::stepped::Stepped;
@@ -11,7 +11,7 @@ use std::marker::{Brand, PhantomData};
 pub struct History;
 
 impl<V: Stepped> Behind<V, V::Noted, V::Fixed> for History {
-    ghost terms = { history_terms V.fixed V.stands V.legal V.who };
+    ghost protocol = { history_protocol V.fixed V.stands V.legal V.who };
 
     ghost laws = { history_laws V.fixed V.stands V.legal V.who };
 }

@@ -75,7 +75,7 @@ impl<V: Stepped> Turn<V> {
         ensures legal { V.legal (V.fixed (opened_with self.now)) (seen seat.new) }
         ensures own { own seat.new ≡ own seat.old ++ Q.entries change.old change.new result (V.fixed (opened_with self.now)) (number_of seat.old) }
         ensures all { own seat.new ≡ entries_by V.who (number_of seat.old) (seen seat.new) }
-        ensures told { Q.told change.old change.new result (V.fixed (opened_with self.now)) }
+        ensures promised { Q.promised change.old change.new result (V.fixed (opened_with self.now)) }
         ensures during { F.post during tt }
     {
         let number = seat.number;
@@ -99,7 +99,7 @@ impl<V: Stepped> Turn<V> {
         requires held { Holds V.fixed V.stands (V.fixed (opened_with self.now)) number [] seat.old.me }
         ensures seat { (seat.new.table_id ≡ seat.old.table_id) × (seat.new.me.0 ≡ seat.old.me.0) }
         ensures held { Holds V.fixed V.stands (V.fixed (opened_with self.now)) number (Q.entries change.old change.new result (V.fixed (opened_with self.now)) number) seat.new.me }
-        ensures told { Q.told change.old change.new result (V.fixed (opened_with self.now)) }
+        ensures promised { Q.promised change.old change.new result (V.fixed (opened_with self.now)) }
     {
         let value = seat.slot_mut(&self.turn.table.shared, 0);
         change.apply(value, number)

@@ -41,9 +41,9 @@ impl<S: Drop, E, F, B: Behind<S, E, F>> TurnTable<S, E, F, B> {
         seats: u16,
     ) -> Result<(TurnTable<S, E, F, B>, Seat<S, View<E, F>>), AllocError>
         requires some { 0 < seats }
-        requires opens { Opens B.terms seats value words.now }
+        requires opens { Opens B.protocol seats value words.now }
         ensures table { IfOk result (λ r. (opened_with r.0 ≡ value) × (seats_of r.0 ≡ seats) × (r.0.table.shared.table_id.words ≡ length words.now)) }
-        ensures seat { IfOk result (λ r. (r.1.table_id ≡ r.0.table.shared.table_id) × (r.1.me ≡ (giver (B.terms.fixed value) (seats - 1) 0, []))) }
+        ensures seat { IfOk result (λ r. (r.1.table_id ≡ r.0.table.shared.table_id) × (r.1.me ≡ (giver (B.protocol.fixed value) (seats - 1) 0, []))) }
     {
         let about = About {
             value: Snapshot::of(&value),
@@ -71,18 +71,18 @@ impl<S: Drop, E, F, B: Behind<S, E, F>> TurnTable<S, E, F, B> {
         number: u16,
     ) -> Seat<S, View<E, F>>
         requires seat { first.old.table_id ≡ self.now.table.shared.table_id }
-        requires spare { (number < last) × (first.old.me ≡ (giver (B.terms.fixed (opened_with self.now)) last number, [])) }
-        ensures seat { (first.new.table_id ≡ first.old.table_id) × (first.new.me ≡ (giver (B.terms.fixed (opened_with self.now)) last (number + 1), [])) }
-        ensures new { (result.table_id ≡ self.now.table.shared.table_id) × (result.me ≡ (newcomer (B.terms.fixed (opened_with self.now)) number, [])) }
+        requires spare { (number < last) × (first.old.me ≡ (giver (B.protocol.fixed (opened_with self.now)) last number, [])) }
+        ensures seat { (first.new.table_id ≡ first.old.table_id) × (first.new.me ≡ (giver (B.protocol.fixed (opened_with self.now)) last (number + 1), [])) }
+        ensures new { (result.table_id ≡ self.now.table.shared.table_id) × (result.me ≡ (newcomer (B.protocol.fixed (opened_with self.now)) number, [])) }
     {
         self.table.shared.split_seat::<Cut>(first)
     }
 
     /// Waits until the turn is free, and takes it with the value.
     pub fn take<R: Wait>(&self, rt: &R, seat: &mut Seat<S, View<E, F>>, number: u16)
-        requires seat { (seat.old.table_id ≡ self.now.table.shared.table_id) × (seat.old.me.1 ≡ []) × IsPlain number seat.old.me.0 × (seat.old.me.0.fixed ≡ Some (B.terms.fixed (opened_with self.now))) }
+        requires seat { (seat.old.table_id ≡ self.now.table.shared.table_id) × (seat.old.me.1 ≡ []) × IsPlain number seat.old.me.0 × (seat.old.me.0.fixed ≡ Some (B.protocol.fixed (opened_with self.now))) }
         ensures seat { seat.new.table_id ≡ seat.old.table_id }
-        ensures taken { Taken B.terms seat.old.me.0 seat.new.me }
+        ensures taken { Taken B.protocol seat.old.me.0 seat.new.me }
     {
         let mine = u64::from(number) + 1;
         let mut tries = 0u32;
@@ -114,7 +114,7 @@ impl<S: Drop, E, F, B: Behind<S, E, F>> TurnTable<S, E, F, B> {
     /// Gives the turn and the value back, and wakes one who sleeps.
     pub fn give<P: Play<S, View<E, F>>>(&self, seat: &mut Seat<S, View<E, F>>)
         requires seat { seat.old.table_id ≡ self.now.table.shared.table_id }
-        requires given { Allows (Kept B.terms (B.terms.fixed (opened_with self.now)) (seats_of self.now)) self.now.table.shared.table_id.slots seat.old.id seat.old.me 0 (λ _. 0) (λ _. P.then (step self.now.table.shared.table_id.slots 0 0 0 none) seat.old.me 0) }
+        requires given { Allows (Kept B.protocol (B.protocol.fixed (opened_with self.now)) (seats_of self.now)) self.now.table.shared.table_id.slots seat.old.id seat.old.me 0 (λ _. 0) (λ _. P.then (step self.now.table.shared.table_id.slots 0 0 0 none) seat.old.me 0) }
         ensures seat { seat.new.table_id ≡ seat.old.table_id }
         ensures given { P.then (step self.now.table.shared.table_id.slots 0 0 0 none) seat.old.me 0 seat.new.me }
     {
@@ -153,7 +153,7 @@ impl<S: Drop, E, F, B: Behind<S, E, F>> TurnTable<S, E, F, B> {
     pub fn close(self, keeper: Seat<S, View<E, F>>) -> S
         requires keeper { (keeper.table_id ≡ self.table.shared.table_id) × (keeper.me.0.turn ≡ false) }
         requires all { length keeper.me.0.accounts ≡ seats_of self }
-        ensures { Closes B.terms (B.terms.fixed (opened_with self)) (seats_of self) keeper.me.0.accounts result }
+        ensures { Closes B.protocol (B.protocol.fixed (opened_with self)) (seats_of self) keeper.me.0.accounts result }
     {
         let TurnTable { table, asleep: _ } = self;
         let mut closed = table.close_with(keeper);

@@ -1,4 +1,4 @@
--- Laws of values that move from the front of one list to the end of another.
+-- Laws of values that move from the start of one list to the end of another.
 use Rattle.std.proofs.Common.{◌≡◌, ◌+◌, List, [], ◌∷◌, ◌++◌, length, map, flat_map, refl, sym, ap, ◌∙◌, arith, append_assoc, append-nil, length-append}
 use Rattle.std.proofs.lemmas.List.{map-append}
 use Rattle.std.proofs.lemmas.Grind.{flat_map-append}
@@ -20,9 +20,9 @@ run-moved run all done done_now left left_now x is first more =
     (ap (flat_map run) more ∙ flat_map-append run done (x ∷ []) ∙ ap (λ ys. flat_map run done ++ ys) (append-nil (run x)))
 
 -- nothing is left behind as many as there are
-pub none_left : {X : Type 0} (all front rest : List X) → all ≡ front ++ rest → length all ≡ length front → rest ≡ []
-none_left all front [] is count = refl
-none_left all front (x ∷ rest) is count = absurd (let both = ap length is ∙ length-append front (x ∷ rest) in omega (arith, both, count))
+pub none_left : {X : Type 0} (all prefix rest : List X) → all ≡ prefix ++ rest → length all ≡ length prefix → rest ≡ []
+none_left all prefix [] is count = refl
+none_left all prefix (x ∷ rest) is count = absurd (let both = ap length is ∙ length-append prefix (x ∷ rest) in omega (arith, both, count))
 
 -- how long the runs of values are, the last one apart
 pub run-length : {X Y : Type 0} (run : X → List Y) (xs ys : List X) (x : X) → xs ≡ ys ++ x ∷ [] → length (flat_map run xs) ≡ length (flat_map run ys) + length (run x)

@@ -2,7 +2,7 @@
 //!
 //! `sd_serve` runs the server's workers by it, and `sd_relay` those of a proxy. Each worker is run once, and all have ended when
 //! a call returns. Where the machine gives no thread they run one after another, which no clause tells. It knows nothing of what
-//! they do. What a worker holds while it runs is taken from the front of a list, and goes back there.
+//! they do. What a worker holds while it runs is taken from the start of a list, and goes back there.
 #![tactic(auto)]
 
 mod moving;

@@ -8,7 +8,7 @@
 
 ghost use Rattle.std.specs.Prelude.{◌≡◌, drop, length, IfOk};
 ghost use Rattle.std.specs.Process.{exit_status};
-ghost use Rattle.sd_model_outside.specs.Outside.{Untold, fresh};
+ghost use Rattle.sd_model_outside.specs.Outside.{Unknown, fresh};
 ghost use Rattle.sd_top.specs.Status.{exit_code};
 
 mod adapter;
@@ -126,7 +126,7 @@ fn wires<'a, X>(
     Ok(wires)
 }
 
-/// Carries out what the words ask for.
+/// Executes what the words ask for.
 fn run<'a>(
     threads: &'a (impl Threads + Wait + RandomSource + time::Clock + Sync),
     rt: &'a HostRuntime,

@@ -1,5 +1,5 @@
 use Rattle.std.proofs.Common.{◌<◌, length, arith, sym, subst}
-use Rattle.sd_model_outside.specs.Wires.{HasSent}
+use Rattle.sd_model_outside.specs.Uses.{HasSent}
 use Rattle.sd_repeater.proofs.RepeatLemmas.{HasRepeated-more, drop-next, at_most_one}
 use Rattle.sd_repeater.proofs.repeat.Goals as goal
 

@@ -3,12 +3,13 @@ use Rattle.std.specs.Option.{option_map}
 use Rattle.std.proofs.lemmas.List.{length-map}
 use Rattle.std.proofs.lemmas.Option.{slice_get-map}
 use Rattle.sd_model_text.specs.Names.{Kind}
-use Rattle.sd_model_text.proofs.Places.{get_front, get_behind}
-use Rattle.sd_model_record.specs.Replies.{end_lines, row_line}
+use Rattle.sd_model_text.proofs.Places.{get_prefix, get_behind}
+use Rattle.sd_model_record.specs.Replies.{end_lines}
 use Rattle.sd_key.specs.Kind.{kind_of}
 use Rattle.sd_shard.specs.Dump.{DumpList, dump_row_of, rows_of}
 use Rattle.sd_shard.specs.declared.dump.DumpRow.{DumpRow}
 use Rattle.sd_admin.proofs.reply_lines.rows_line.Goals as goal
+use Rattle.sd_model_record.proofs.Short.{row_line}
 
 -- there is a line for each row
 lines_len : (kind : Kind) (dump : DumpList) → length dump.items ≡ length (map (row_line kind) (rows_of dump))
@@ -20,7 +21,7 @@ returns-then-place-len c =
     let dump = c.args.dump.now in
     let place = c.args.place in
     ap Some c.row_line.ensures ∙ ap (λ (o : Option DumpRow). option_map (row_line kind) (option_map dump_row_of o)) (sym c.get.ensures)
-    ∙ sym (get_front (map (row_line kind) (rows_of dump)) end_lines place (omega (arith, lines_len kind dump)) ∙ slice_get-map (row_line kind) (rows_of dump) place
+    ∙ sym (get_prefix (map (row_line kind) (rows_of dump)) end_lines place (omega (arith, lines_len kind dump)) ∙ slice_get-map (row_line kind) (rows_of dump) place
     ∙ ap (option_map (row_line kind)) (slice_get-map dump_row_of dump.items place))
 
 pub returns-else-place-len : goal.returns-else-place-len

@@ -1,13 +1,14 @@
 use Rattle.std.proofs.Common.{rules, ◌≡◌, ◌∙◌, List, ◌-◌, ◌<◌, ◌≤◌, length, map, slice_get, Some, refl, sym, ap, subst, arith}
 use Rattle.std.proofs.lemmas.Bool.{ltb-true}
 use Rattle.std.proofs.lemmas.Option.{slice_get_read}
-use Rattle.sd_model_record.specs.Totals.{added, known_before_end, total_line, totals_of}
-use Rattle.sd_model_record.specs.Replies.{end_lines, shard_line}
+use Rattle.sd_model_record.specs.Totals.{known_before_end, total_line, totals_of}
+use Rattle.sd_model_record.specs.Replies.{end_lines}
 use Rattle.sd_desk.specs.Facts.{facts_view}
 use Rattle.sd_shard.specs.Shard.{numbers_in}
 use Rattle.sd_shard.specs.declared.shard.ShardBook.{ShardBook}
 use Rattle.sd_admin.proofs.TotalsLines.{total_at, shard_at, end_at}
 use Rattle.sd_admin.proofs.reply_lines.totals_line.Goals as goal
+use Rattle.sd_model_record.proofs.Short.{added, shard_line}
 
 pub returns-then-place-totals : goal.returns-then-place-totals
 returns-then-place-totals c =

@@ -1,7 +1,7 @@
 use Rattle.std.proofs.Common.{◌≡◌, List, [], length, refl, sym, ap, ◌∙◌, arith}
 use Rattle.sd_model_text.specs.Lines.{Sample}
 use Rattle.sd_model_shard.specs.History.{after_all}
-use Rattle.sd_model_shard.specs.Whereabouts.{dropped_in, told_by}
+use Rattle.sd_model_shard.specs.Whereabouts.{dropped_in, summed_by}
 use Rattle.sd_law_shard.specs.Sums.{taken_in}
 use Rattle.sd_shard.specs.Shard.{state_of}
 use Rattle.sd_batch.specs.Runs.{submitted}
@@ -21,11 +21,11 @@ returns c =
       counted = λ who. record {
         taken =
             let taken = inv.taken who in
-            let rest = ap (λ (left : List Sample). told_by taken_in (submitted new.table.limits new.policy (state_of new) who left)) none in
+            let rest = ap (λ (left : List Sample). summed_by taken_in (submitted new.table.limits new.policy (state_of new) who left)) none in
             omega (arith, taken, rest);
         dropped =
             let dropped = inv.dropped who in
-            let rest = ap (λ (left : List Sample). told_by dropped_in (submitted new.table.limits new.policy (state_of new) who left)) none in
+            let rest = ap (λ (left : List Sample). summed_by dropped_in (submitted new.table.limits new.policy (state_of new) who left)) none in
             omega (arith, dropped, rest);
         whole =
             let whole = inv.whole in

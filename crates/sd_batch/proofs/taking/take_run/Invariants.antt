@@ -1,6 +1,6 @@
 use Rattle.std.proofs.Common.{◌≡◌, ℕ, ◌+◌, length}
 use Rattle.sd_model_shard.specs.History.{after_all}
-use Rattle.sd_model_shard.specs.Whereabouts.{dropped_in, told_by}
+use Rattle.sd_model_shard.specs.Whereabouts.{dropped_in, summed_by}
 use Rattle.sd_law_shard.specs.Sums.{taken_in}
 use Rattle.sd_shard.specs.Shard.{state_of}
 use Rattle.sd_batch.specs.Runs.{submitted}
@@ -15,11 +15,11 @@ invariant-loop-sample l = record {
       → after_all l.shard.table.limits l.shard.policy (state_of l.shard) (submitted l.shard.table.limits l.shard.policy (state_of l.shard) who l.left)
       ≡ after_all l.initial.shard.table.limits l.initial.shard.policy (state_of l.initial.shard) (submitted l.initial.shard.table.limits l.initial.shard.policy (state_of l.initial.shard) who l.fn.run);
   taken : (who : ℕ)
-      → l.counts.taken + told_by taken_in (submitted l.shard.table.limits l.shard.policy (state_of l.shard) who l.left)
-      ≡ told_by taken_in (submitted l.initial.shard.table.limits l.initial.shard.policy (state_of l.initial.shard) who l.fn.run);
+      → l.counts.taken + summed_by taken_in (submitted l.shard.table.limits l.shard.policy (state_of l.shard) who l.left)
+      ≡ summed_by taken_in (submitted l.initial.shard.table.limits l.initial.shard.policy (state_of l.initial.shard) who l.fn.run);
   dropped : (who : ℕ)
-      → l.counts.dropped + told_by dropped_in (submitted l.shard.table.limits l.shard.policy (state_of l.shard) who l.left)
-      ≡ told_by dropped_in (submitted l.initial.shard.table.limits l.initial.shard.policy (state_of l.initial.shard) who l.fn.run);
+      → l.counts.dropped + summed_by dropped_in (submitted l.shard.table.limits l.shard.policy (state_of l.shard) who l.left)
+      ≡ summed_by dropped_in (submitted l.initial.shard.table.limits l.initial.shard.policy (state_of l.initial.shard) who l.fn.run);
   whole : l.counts.taken + l.counts.dropped + length l.left ≡ length l.fn.run;
 }
 

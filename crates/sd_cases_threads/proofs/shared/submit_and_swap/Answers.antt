@@ -2,7 +2,7 @@ use Rattle.std.proofs.Common.{rules, ◌∷◌, [], length, sym, ap, subst, ◌�
 use Rattle.std.specs.List.{AllByRecursion}
 use Rattle.std.proofs.lemmas.List.{length-map, length-append, length_push}
 use Rattle.sd_pool.specs.Pool.{IsSeatOf, seats_in, who_is}
-use Rattle.sd_pool.proofs.AlongLemmas.{AllByRecursion-front, AllByRecursion-back, AllByRecursion-append, span_long}
+use Rattle.sd_pool.proofs.AlongLemmas.{AllByRecursion-prefix, AllByRecursion-back, AllByRecursion-append, span_long}
 use Rattle.sd_pool.proofs.DealLemmas.{AllByRecursion-seats}
 use Rattle.sd_cases_threads.proofs.shared.submit_and_swap.Goals as goal
 
@@ -12,9 +12,9 @@ join-one-requires-after_bounds g c κs within =
     let Is = IsSeatOf c.in_ok-pool.pool in
     let all = AllByRecursion-seats c.in_ok-pool.pool (seats_in seats) c.in_ok-pool.ensures.seats in
     let behind = AllByRecursion-back Is seats.receivers.items (seats.flusher ∷ seats.admin ∷ []) all in
-    let both = subst (AllByRecursion Is) c.in-Some.ensures.items (AllByRecursion-front Is seats.receivers.items (seats.flusher ∷ seats.admin ∷ []) all) in
+    let both = subst (AllByRecursion Is) c.in-Some.ensures.items (AllByRecursion-prefix Is seats.receivers.items (seats.flusher ∷ seats.admin ∷ []) all) in
     let two = (AllByRecursion-back Is c.pop.new.self.items (c.in-Some.two ∷ []) both).0 in
-    let first = subst (AllByRecursion Is) c.in-Some-pop.ensures.items (AllByRecursion-front Is c.pop.new.self.items (c.in-Some.two ∷ []) both) in
+    let first = subst (AllByRecursion Is) c.in-Some-pop.ensures.items (AllByRecursion-prefix Is c.pop.new.self.items (c.in-Some.two ∷ []) both) in
     let one = (AllByRecursion-back Is c.pop-2.new.self.items (c.in-Some-pop.one ∷ []) first).0 in
     ((((one, two), search rules), search rules), (behind.0, omega (arith, c.in_ok-pool.ensures.shards), record { limits = c.in_ok-spare.ensures.limits ∙ sym c.in_ok-pool.ensures.limits; no_samples = c.in_ok-spare.ensures.held; no_entries = c.in_ok-spare.ensures.entries }))
 
@@ -35,9 +35,9 @@ close-books-requires-clause-seats g c =
     let Is = IsSeatOf c.in_ok-pool.pool in
     let all = AllByRecursion-seats c.in_ok-pool.pool (seats_in seats) c.in_ok-pool.ensures.seats in
     let behind = AllByRecursion-back Is seats.receivers.items (seats.flusher ∷ seats.admin ∷ []) all in
-    let both = subst (AllByRecursion Is) c.in-Some.ensures.items (AllByRecursion-front Is seats.receivers.items (seats.flusher ∷ seats.admin ∷ []) all) in
-    let first = subst (AllByRecursion Is) c.in-Some-pop.ensures.items (AllByRecursion-front Is c.pop.new.self.items (c.in-Some.two ∷ []) both) in
-    let rest = AllByRecursion-front Is c.pop-2.new.self.items (c.in-Some-pop.one ∷ []) first in
+    let both = subst (AllByRecursion Is) c.in-Some.ensures.items (AllByRecursion-prefix Is seats.receivers.items (seats.flusher ∷ seats.admin ∷ []) all) in
+    let first = subst (AllByRecursion Is) c.in-Some-pop.ensures.items (AllByRecursion-prefix Is c.pop.new.self.items (c.in-Some.two ∷ []) both) in
+    let rest = AllByRecursion-prefix Is c.pop-2.new.self.items (c.in-Some-pop.one ∷ []) first in
     let back = c.join-one.ensures in
     let some = subst (AllByRecursion Is) (sym c.in_ok-push.ensures.items) (AllByRecursion-append Is c.pop-2.new.self.items (c.join-one.result.0.0 ∷ []) rest (back.first.0, tt)) in
     let more = subst (AllByRecursion Is) (sym c.in_ok-push-2.ensures.items) (AllByRecursion-append Is c.push.new.self.items (c.join-one.result.0.1 ∷ []) some (back.first.1, tt)) in

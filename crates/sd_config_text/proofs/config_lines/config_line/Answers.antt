@@ -1,6 +1,6 @@
 use Rattle.std.proofs.Common.{◌≡◌, ◌∙◌, sym, ap, refl, length, map, codes, arith}
 use Rattle.std.proofs.lemmas.List.{length-map}
-use Rattle.sd_model_settings.specs.ConfigText.{front_lines, histogram_line, repeater_line, node_line, back_lines}
+use Rattle.sd_model_settings.specs.ConfigText.{first_lines, histogram_line, repeater_line, node_line, back_lines}
 use Rattle.sd_config_text.proofs.ConfigPlaces.{behind_all}
 use Rattle.sd_config_text.proofs.config_lines.config_line.Goals as goal
 
@@ -14,6 +14,6 @@ returns c =
     let r : length rs ≡ length c.repeater-repeater.result.now = grind (arith, length-map, ap length c.repeater-repeater.ensures.value) in
     let n : length ns ≡ length c.nodes-nodes.result.now = grind (arith, length-map, ap length c.nodes-nodes.ensures.value) in
     c.back_line.ensures
-    ∙ sym (behind_all (front_lines s) hs rs ns (back_lines s) c.args.place
+    ∙ sym (behind_all (first_lines s) hs rs ns (back_lines s) c.args.place
     (length c.histogram-histogram.result.now) (length c.repeater-repeater.result.now) (length c.nodes-nodes.result.now) refl h r n
     (grind arith) (grind arith) (grind arith) (grind arith))

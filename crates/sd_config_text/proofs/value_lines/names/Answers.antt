@@ -1,5 +1,5 @@
 use Rattle.std.proofs.Common.{length, ap, arith, length-append}
-use Rattle.sd_model_settings.specs.ConfigText.{joined}
+use Rattle.sd_model_settings.specs.ConfigText.{with_commas}
 use Rattle.sd_plan.specs.Values.{name_bytes}
 use Rattle.sd_config_text.proofs.value_lines.names.Goals as goal
 
@@ -8,4 +8,4 @@ push_joined-requires c = omega (arith, ap length c.new-value.ensures, c.requires
 
 pub line_of-requires-clause-value : goal.line_of-requires-clause-value
 line_of-requires-clause-value c =
-    omega (arith, ap length c.new-value.ensures, ap length c.push_joined.ensures, ap length c.as_slice.ensures.value, length-append c.new-value.result.items (joined (name_bytes c.args.names.now)), c.requires.short)
+    omega (arith, ap length c.new-value.ensures, ap length c.push_joined.ensures, ap length c.as_slice.ensures.value, length-append c.new-value.result.items (with_commas (name_bytes c.args.names.now)), c.requires.short)

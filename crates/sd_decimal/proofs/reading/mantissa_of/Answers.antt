@@ -20,11 +20,11 @@ pub returns-then-has_point_at-clause-value : goal.returns-then-has_point_at-clau
 returns-then-has_point_at-clause-value c =
     let text = c.args.text.now in
     let n = c.with_run-whole.result.places in
-    let front = digits_value 10 (take n text) in
+    let prefix = digits_value 10 (take n text) in
     let point = c.has_point_at.ensures.0 c.if-has_point_at.true in
     let rest = take_rest text (n + 1) in (
-      digits_value_after 10 front (take c.with_run-fraction.result.places (drop (n + 1) text)),
-      rw rest at (c.with_run-fraction.ensures.digits front (c.with_run-whole.ensures.digits 0 Keeps_none)),
+      digits_value_after 10 prefix (take c.with_run-fraction.result.places (drop (n + 1) text)),
+      rw rest at (c.with_run-fraction.ensures.digits prefix (c.with_run-whole.ensures.digits 0 Keeps_none)),
       point_read text n c.with_run-whole.ensures.places point.0 point.1 _
           (c.with_run-fraction.ensures.places ∙ ap (prefix_len is_ascii_digit) rest) (omega arith),
     )

@@ -14,5 +14,5 @@ returns-then-last-ne48 c =
 
 pub loop-last-preserved : goal.loop-last-preserved
 loop-last-preserved c =
-    sym (trim_end-passed zero_digit c.in-Some.front.now _ (eq-eqb _ 48 c.if-last-ne48.false))
+    sym (trim_end-passed zero_digit c.in-Some.prefix.now _ (eq-eqb _ 48 c.if-last-ne48.false))
     ∙ ap (trim_end zero_digit) (sym c.in-Some.ensures.cases.0) ∙ c.loop-last.invariant

@@ -1,7 +1,7 @@
 use Rattle.std.proofs.Common.{subst}
 use Rattle.sd_model_record.specs.Backends.{console_text}
 use Rattle.sd_model_record.specs.Record.{Record}
-use Rattle.sd_model_outside.specs.Deliveries.{AfterMark}
+use Rattle.sd_model_outside.specs.Uses.{AfterMark}
 use Rattle.sd_desk.specs.Marks.{mark_of}
 use Rattle.sd_delivery.proofs.delivery.deliver.Goals as goal
 

@@ -1,5 +1,5 @@
 use Rattle.std.proofs.Common.{◌≡◌, ℕ, ◌<◌, ◌≤◌, length}
-use Rattle.sd_model_shard.specs.Commands.{is_hit}
+use Rattle.sd_model_shard.specs.Rows.{is_hit}
 use Rattle.sd_key.specs.Kind.{kind_of}
 use Rattle.sd_rows.specs.Rows.{row_at}
 use Rattle.sd_epoch.specs.Places.{left_by}

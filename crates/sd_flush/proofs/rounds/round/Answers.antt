@@ -2,7 +2,7 @@ use Rattle.std.proofs.Common.{◌≡◌, List, map, refl, sym, ap, subst, ◌∙
 use Rattle.std.specs.List.{range_with_len}
 use Rattle.std.proofs.lemmas.List.{length-map}
 use Rattle.sd_model_outside.specs.Outside.{Rose}
-use Rattle.sd_model_outside.specs.Deliveries.{AfterMark, FitsUse, Written}
+use Rattle.sd_model_outside.specs.Uses.{AfterMark, FitsUse, Written}
 use Rattle.sd_model_shard.specs.Shard.{Table}
 use Rattle.sd_model_record.specs.Backends.{Backend, Graphite, Console, mark_of, text_of}
 use Rattle.sd_model_record.specs.Record.{record_of}

@@ -2,13 +2,13 @@ use Rattle.std.proofs.Common.{◌≡◌, ℕ, ◌+◌, ◌∷◌, [], ◌++◌, 
 use Rattle.std.proofs.lemmas.List.{length_push}
 use Rattle.sd_spares.specs.Spares.{Stock}
 use Rattle.sd_model_shard.specs.Shard.{Swap, Swapped}
-use Rattle.sd_model_serve.specs.Rounds.{swap_of}
 use Rattle.sd_epoch.specs.Table.{Listing, table_of}
 use Rattle.sd_pool.specs.Pool.{own_at, shards_of}
 use Rattle.sd_flush.specs.Swapping.{swap_at}
 use Rattle.sd_flush.proofs.HomeLemmas.{AreHome, AreHome-push, disjoint_home}
 use Rattle.sd_flush.proofs.SwapLemmas.{swaps_next}
 use Rattle.sd_flush.proofs.swapping.swap_all.Goals as goal
+use Rattle.sd_model_serve.proofs.Short.{swap_of}
 
 pub loop-i-preserved : goal.loop-i-preserved
 loop-i-preserved g c =

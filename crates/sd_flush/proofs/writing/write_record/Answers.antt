@@ -1,5 +1,5 @@
 use Rattle.std.proofs.Common.{List, ap, subst, ◌∙◌, map}
-use Rattle.sd_model_outside.specs.Deliveries.{AfterMark}
+use Rattle.sd_model_outside.specs.Uses.{AfterMark}
 use Rattle.sd_model_record.specs.Backends.{console_text, graphite_text}
 use Rattle.sd_model_record.specs.Record.{record_of}
 use Rattle.sd_epoch.specs.Table.{Listing, table_of}

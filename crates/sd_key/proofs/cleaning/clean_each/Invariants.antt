@@ -1,4 +1,4 @@
--- The bytes so far are the first of those that the front of the name leaves, and `len` counts these.
+-- The bytes so far are the first of those that the start of the name leaves, and `len` counts these.
 use Rattle.std.proofs.Common.{◌≡◌, ◌≤◌, length, take}
 use Rattle.sd_model_text.specs.Names.{cleaned}
 use Rattle.sd_key.specs.Clean.{ends_blank}

@@ -20,12 +20,12 @@ found key part start begins =
 
 -- and nowhere else
 passed :
-    (key part front back : List ℕ) (start : ℕ) → key ≡ front ++ part ++ back →
-    starts_with nat_eq (drop start key) part ≡ false → start ≢ length front
-passed key part front back start is apart at =
-    let split = is ∙ append_assoc front part back in
+    (key part prefix back : List ℕ) (start : ℕ) → key ≡ prefix ++ part ++ back →
+    starts_with nat_eq (drop start key) part ≡ false → start ≢ length prefix
+passed key part prefix back start is apart at =
+    let split = is ∙ append_assoc prefix part back in
     let begins = (starts_is Decides-eqb (drop start key) part _ refl).1 back
-    (ap (drop start) split ∙ drop_at front (part ++ back) start (sym at)) in
+    (ap (drop start) split ∙ drop_at prefix (part ++ back) start (sym at)) in
     cc
 
 pub returns-then-starts_with : goal.returns-then-starts_with
@@ -34,18 +34,18 @@ returns-then-starts_with c =
     (λ _. found _ _ c.loop-start.start (sym begins ∙ c.if-starts_with.true), λ _. refl)
 
 pub loop-start-preserved : goal.loop-start-preserved
-loop-start-preserved c front back is =
+loop-start-preserved c prefix back is =
     let begins = rw (take_rest, c.as_slice-bytes.ensures.bytes) at c.starts_with.ensures.value in
-    let apart : c.loop-start.start ≢ length front = passed _ _ front back _ is (sym begins ∙ c.if-starts_with.false) in
-    let below : c.loop-start.start ≤ length front = c.loop-start.invariant front back is in omega arith
+    let apart : c.loop-start.start ≢ length prefix = passed _ _ prefix back _ is (sym begins ∙ c.if-starts_with.false) in
+    let below : c.loop-start.start ≤ length prefix = c.loop-start.invariant prefix back is in omega arith
 
 pub returns-else-starts_with : goal.returns-else-starts_with
 returns-else-starts_with c =
     let begins = rw (take_rest, c.as_slice-bytes.ensures.bytes) at c.starts_with.ensures.value in (
       λ no. cc,
-      λ (front, back, is).
-          let apart : c.loop-start.start ≢ length front = passed _ _ front back _ is (sym begins ∙ c.if-starts_with.false) in
-          let below : c.loop-start.start ≤ length front = c.loop-start.invariant front back is in
+      λ (prefix, back, is).
+          let apart : c.loop-start.start ≢ length prefix = passed _ _ prefix back _ is (sym begins ∙ c.if-starts_with.false) in
+          let below : c.loop-start.start ≤ length prefix = c.loop-start.invariant prefix back is in
           let short = simp length-append at (ap length is) in
           absurd (omega (arith, ap length c.as_slice-bytes.ensures.bytes)),
     )

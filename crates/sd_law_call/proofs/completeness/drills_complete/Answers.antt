@@ -1,11 +1,11 @@
 use Rattle.std.proofs.Common.{◌≡◌, ◌⊎◌, List, ℕ, Option, Some, sym, ap, subst, ◌∙◌, inl, inr}
 use Rattle.sd_model_outside.specs.Outside.{Rose, given}
 use Rattle.sd_model_call.specs.Drill.{drill_text}
-use Rattle.sd_model_call.specs.Words.{Form, Drill, form}
+use Rattle.sd_model_call.specs.Call.{Form, Drill, form, Account, Accounts, Answer, Answers, RanDrill, Done, NoMemory, WritesTotals}
 use Rattle.sd_model_call.specs.Opening.{World}
-use Rattle.sd_model_call.specs.Call.{Account, Accounts, Answer, Answers, DoesNothing, OnlyOutput, RanDrill, Done, NoMemory, WritesTotals}
 use Rattle.sd_law_call.specs.Completeness.{IsWhole}
 use Rattle.sd_law_call.proofs.completeness.drills_complete.Goals as goal
+use Rattle.sd_model_call.proofs.Short.{DoesNothing, OnlyOutput}
 
 -- what a drill of n packets answers
 abbrev IsAnswer : ℕ → Answer → Account → World → World → Type 0

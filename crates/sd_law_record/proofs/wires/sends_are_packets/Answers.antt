@@ -1,8 +1,8 @@
-use Rattle.sd_law_record.proofs.SendLemmas.{sends_count, sends_told}
+use Rattle.sd_law_record.proofs.SendLemmas.{sends_count, sends_content}
 use Rattle.sd_law_record.proofs.wires.sends_are_packets.Goals as goal
 
 pub returns-clause-packets : goal.returns-clause-packets
-returns-clause-packets c = sends_told
+returns-clause-packets c = sends_content
 
 pub returns-clause-used : goal.returns-clause-used
 returns-clause-used c sends old new after = (sends_count sends old new after).used

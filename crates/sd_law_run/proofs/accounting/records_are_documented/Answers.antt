@@ -3,8 +3,7 @@ use Rattle.std.proofs.lemmas.List.{get_or-map}
 use Rattle.std.proofs.lemmas.Simd.{map-map}
 use Rattle.sd_model_record.specs.Record.{Record}
 use Rattle.sd_model_serve.specs.Rounds.{round_record}
-use Rattle.sd_model_replay.specs.Settings.{bounds_of}
-use Rattle.sd_model_replay.specs.Replay.{form_of, rounds}
+use Rattle.sd_model_replay.specs.Replay.{bounds_of, form_of, rounds}
 use Rattle.sd_law_record.proofs.AccountingLemmas.{are_accounted}
 use Rattle.sd_law_run.proofs.accounting.records_are_documented.Goals as goal
 

@@ -7,9 +7,9 @@ use Rattle.sd_law_run.proofs.RunAudit.{all_brought}
 use Rattle.sd_law_run.proofs.audit.runs_add_up.Goals as goal
 
 pub returns-clause-samples : goal.returns-clause-samples
-returns-clause-samples c terms course some ran commands =
-    all_brought terms.limits terms.policy terms.form.shards (brought_in course) (rounds_in course) (asked_by course.dialogues) course.histories some ran
-    (λ i. subst AreCommands (sym (events_of_acts (asked_by course.dialogues) i)) commands)
+returns-clause-samples c run_settings trace some ran commands =
+    all_brought run_settings.limits run_settings.policy run_settings.form.shards (brought_in trace) (rounds_in trace) (asked_by trace.dialogues) trace.histories some ran
+    (λ i. subst AreCommands (sym (events_of_acts (asked_by trace.dialogues) i)) commands)
 
 pub returns-clause-taken : goal.returns-clause-taken
-returns-clause-taken c terms course i below h = (h.places i below).sum
+returns-clause-taken c run_settings trace i below h = (h.places i below).sum

@@ -1,6 +1,6 @@
 use Rattle.std.proofs.Common.{arith}
 use Rattle.sd_model_record.specs.Desk.{new_desk}
-use Rattle.sd_model_record.specs.Counts.{place}
+use Rattle.sd_model_record.specs.Totals.{place}
 use Rattle.sd_model_record.proofs.CountLemmas.{starts_at_none}
 use Rattle.sd_shared_desk.proofs.CountLemmas.{new_in_range}
 use Rattle.sd_model_record.proofs.DeskLemmas.{answers_tell}
@@ -10,5 +10,5 @@ use Rattle.sd_law_run.proofs.desk.desk_histories_add_up.Goals as goal
 pub returns-clause-numbers : goal.returns-clause-numbers
 returns-clause-numbers c = λ start acts legal count. omega (arith, acts_grew (new_desk start) acts (new_in_range start) legal count, starts_at_none start (place count))
 
-pub returns-clause-told : goal.returns-clause-told
-returns-clause-told c = λ start acts legal. answers_tell (new_desk start) acts legal
+pub returns-clause-reported : goal.returns-clause-reported
+returns-clause-reported c = λ start acts legal. answers_tell (new_desk start) acts legal

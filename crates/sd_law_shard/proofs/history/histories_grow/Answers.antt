@@ -1,12 +1,12 @@
 -- From any state on.
 use Rattle.sd_model_shard.specs.Shard.{empty_state}
 use Rattle.sd_model_shard.proofs.HistoryLemmas.{LegalFrom-push, LegalFrom-last, LegalFrom-answered}
-use Rattle.sd_law_shard.proofs.HistoryLemmas.{LegalFrom-front, StandsAt-push}
+use Rattle.sd_law_shard.proofs.HistoryLemmas.{LegalFrom-prefix, StandsAt-push}
 use Rattle.sd_model_shard.proofs.AnsweredLemmas.{answered-append, arrivals-answered}
 use Rattle.sd_law_shard.proofs.history.histories_grow.Goals as goal
 
-pub returns-clause-front : goal.returns-clause-front
-returns-clause-front c limits policy front back h = LegalFrom-front limits policy empty_state front back h
+pub returns-clause-prefix : goal.returns-clause-prefix
+returns-clause-prefix c limits policy prefix back h = LegalFrom-prefix limits policy empty_state prefix back h
 
 pub returns-clause-one_more : goal.returns-clause-one_more
 returns-clause-one_more c limits policy acts a h is = LegalFrom-push limits policy empty_state acts a h is

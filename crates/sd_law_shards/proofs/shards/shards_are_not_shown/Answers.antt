@@ -1,5 +1,5 @@
 use Rattle.std.proofs.Common.{[], ◌∷◌, codes, sym, ◌∙◌}
-use Rattle.sd_model_replay.specs.Settings.{bounds_of}
+use Rattle.sd_model_replay.specs.Replay.{bounds_of}
 use Rattle.sd_law_shards.specs.Shards.{with_shards}
 use Rattle.sd_law_shards.proofs.BooksLemmas.{books_summed}
 use Rattle.sd_law_shards.proofs.ShownLemmas.{deliveries_alike, desk_at_end, output_alike, records_alike}

@@ -1,4 +1,4 @@
-use Rattle.sd_model_outside.specs.Deliveries.{missed}
+use Rattle.sd_model_outside.specs.Uses.{missed}
 use Rattle.sd_model_outside.proofs.DeliveryLemmas.{all_counts, none_missed, written_flush}
 use Rattle.sd_model_outside.proofs.deliveries.no_fault_no_failure.Goals as goal
 

@@ -2,7 +2,7 @@ use Rattle.std.proofs.Common.{◌∙◌, map, ap}
 use Rattle.std.proofs.lemmas.List.{map-append}
 use Rattle.sd_model_record.specs.Totals.{number_in}
 use Rattle.sd_model_proxy.specs.Relays.{relay_totals}
-use Rattle.sd_model_proxy.specs.Batches.{sums_of_totals}
+use Rattle.sd_model_proxy.specs.Routes.{sums_of_totals}
 use Rattle.sd_model_proxy.proofs.TotalLemmas.{sums_of_totals-append, sums_of_totals-one}
 use Rattle.sd_model_proxy.proofs.totals.totals_add_up.Goals as goal
 

@@ -1,14 +1,15 @@
 use Rattle.std.proofs.Common.{◌≡◌, ◌⊎◌, ℕ, ◌<◌, ◌≤◌, Bool, true, false, List, ◌∷◌, [], length, map, inl, inr, arith, length-append}
 use Rattle.std.proofs.lemmas.List.{length-map}
-use Rattle.sd_model_outside.specs.Deliveries.{Delivery}
+use Rattle.sd_model_outside.specs.Uses.{Delivery}
 use Rattle.sd_model_serve.specs.Rounds.{round_text}
-use Rattle.sd_model_run.specs.Outlets.{AreChosen, MayBeSkipped, OutletRoom, chosen}
+use Rattle.sd_model_run.specs.Outlets.{AreChosen, OutletRoom, chosen}
 use Rattle.sd_model_run.proofs.outlets.texts_are_queued_or_skipped.Goals as goal
+use Rattle.sd_model_run.proofs.Short.{MayBeSkipped}
 
 pub returns-clause-all : goal.returns-clause-all
-returns-clause-all c room form back course went =
-    let texts = length-map course.ticked (round_text form back) in
-    let rounds = length-append course.ticked (course.last ∷ []) in
+returns-clause-all c room form back trace went =
+    let texts = length-map trace.ticked (round_text form back) in
+    let rounds = length-append trace.ticked (trace.last ∷ []) in
     omega (arith, went.others, texts, rounds)
 
 -- the first text had no reason to be skipped

@@ -10,22 +10,22 @@ use Rattle.sd_model_text.specs.Names.{matches}
 use Rattle.sd_model_text.proofs.names.matches_families.Goals as goal
 
 -- the text up to the last point
-take-family : (front : List ℕ) → take (length (front ++ 46 ∷ 42 ∷ []) - 1) (front ++ 46 ∷ 42 ∷ []) ≡ front ++ 46 ∷ []
-take-family front =
-    rw (← append_assoc front (46 ∷ []) (42 ∷ []))
-    (take_at (front ++ 46 ∷ []) (42 ∷ []) _ (omega (arith, length-append {A = ℕ})))
+take-family : (prefix : List ℕ) → take (length (prefix ++ 46 ∷ 42 ∷ []) - 1) (prefix ++ 46 ∷ 42 ∷ []) ≡ prefix ++ 46 ∷ []
+take-family prefix =
+    rw (← append_assoc prefix (46 ∷ []) (42 ∷ []))
+    (take_at (prefix ++ 46 ∷ []) (42 ∷ []) _ (omega (arith, length-append {A = ℕ})))
 
 -- a pattern of the first kind
-matches-family : (front key : List ℕ) → matches (front ++ 46 ∷ 42 ∷ []) key ≡ starts_with nat_eq key (front ++ 46 ∷ [])
-matches-family front key =
-    let pattern = front ++ 46 ∷ 42 ∷ [] in
-    let ends : ends_with nat_eq pattern (46 ∷ 42 ∷ []) ≡ true = (ends_is Decides-eqb pattern (46 ∷ 42 ∷ []) _ refl).1 front refl in
+matches-family : (prefix key : List ℕ) → matches (prefix ++ 46 ∷ 42 ∷ []) key ≡ starts_with nat_eq key (prefix ++ 46 ∷ [])
+matches-family prefix key =
+    let pattern = prefix ++ 46 ∷ 42 ∷ [] in
+    let ends : ends_with nat_eq pattern (46 ∷ 42 ∷ []) ≡ true = (ends_is Decides-eqb pattern (46 ∷ 42 ∷ []) _ refl).1 prefix refl in
     ap (λ b. cond b (starts_with nat_eq key (take (length pattern - 1) pattern)) (bytes_eq key pattern)) ends
-    ∙ ap (starts_with nat_eq key) (take-family front)
+    ∙ ap (starts_with nat_eq key) (take-family prefix)
 
 -- and one of the second
 matches-alone :
-    (pattern key : List ℕ) → ((front : List ℕ) → pattern ≢ front ++ 46 ∷ 42 ∷ []) → matches pattern key ≡ bytes_eq key pattern
+    (pattern key : List ℕ) → ((prefix : List ℕ) → pattern ≢ prefix ++ 46 ∷ 42 ∷ []) → matches pattern key ≡ bytes_eq key pattern
 matches-alone pattern key other =
     elim (cases_Bool (ends_with nat_eq pattern (46 ∷ 42 ∷ []))) [
       | inl ends ↦ absurd (other _ ((ends_is Decides-eqb pattern (46 ∷ 42 ∷ []) _ refl).0 ends))
@@ -33,10 +33,10 @@ matches-alone pattern key other =
     ]
 
 pub returns-clause-family : goal.returns-clause-family
-returns-clause-family c front key =
-    let starts = starts_is Decides-eqb key (front ++ 46 ∷ []) _ refl in (
-      λ is. (_, starts.0 (sym (matches-family front key) ∙ is) ∙ append_assoc front (46 ∷ []) _),
-      λ (rest, is). matches-family front key ∙ starts.1 rest (is ∙ sym (append_assoc front (46 ∷ []) rest)),
+returns-clause-family c prefix key =
+    let starts = starts_is Decides-eqb key (prefix ++ 46 ∷ []) _ refl in (
+      λ is. (_, starts.0 (sym (matches-family prefix key) ∙ is) ∙ append_assoc prefix (46 ∷ []) _),
+      λ (rest, is). matches-family prefix key ∙ starts.1 rest (is ∙ sym (append_assoc prefix (46 ∷ []) rest)),
     )
 
 pub returns-clause-alone : goal.returns-clause-alone

@@ -3,12 +3,12 @@ use Rattle.std.proofs.lemmas.Bool.{eqb-true, eq-eqb}
 use Rattle.std.proofs.lemmas.List.Sums.{sum_by-append, sum_by-cons}
 use Rattle.sd_model_shard.specs.Shard.{Reply}
 use Rattle.sd_model_shard.specs.History.{Act, History}
-use Rattle.sd_model_shard.specs.Whereabouts.{told_by}
+use Rattle.sd_model_shard.specs.Whereabouts.{summed_by}
 use Rattle.sd_pool.specs.Adding.{one_at}
 use Rattle.sd_pool.specs.Pool.{own_at}
 use Rattle.sd_pool.proofs.shares.shares_grow.Goals as goal
 
-one_more : (weigh : Reply → ℕ) (acts : History) (a : Act) → told_by weigh (acts ++ a ∷ []) ≡ told_by weigh acts + weigh a.reply
+one_more : (weigh : Reply → ℕ) (acts : History) (a : Act) → summed_by weigh (acts ++ a ∷ []) ≡ summed_by weigh acts + weigh a.reply
 one_more weigh acts a = omega (arith, sum_by-append (λ (b : Act). weigh b.reply) acts (a ∷ []), sum_by-cons (λ (b : Act). weigh b.reply) a [])
 
 -- an act at its shard alone
@@ -22,7 +22,7 @@ pub returns-clause-adds : goal.returns-clause-adds
 returns-clause-adds c pool old new i a acts j below = added (own_at old) (own_at new) i a acts.own (λ k other. (acts.others k other).1) j
 
 pub returns-clause-here : goal.returns-clause-here
-returns-clause-here c pool old new i a acts weigh = ap (told_by weigh) acts.own ∙ one_more weigh (own_at old i) a
+returns-clause-here c pool old new i a acts weigh = ap (summed_by weigh) acts.own ∙ one_more weigh (own_at old i) a
 
 pub returns-clause-others : goal.returns-clause-others
-returns-clause-others c pool old new i a acts weigh j other = ap (told_by weigh) (acts.others j other).1
+returns-clause-others c pool old new i a acts weigh j other = ap (summed_by weigh) (acts.others j other).1

@@ -1,11 +1,10 @@
 use Rattle.std.proofs.Common.{◌≡◌, ◌∙◌, true, false, refl, sym, ap, subst}
 use Rattle.sd_model_outside.specs.Outside.{HasFailedBehind, given}
-use Rattle.sd_model_live.specs.Desk.{first_facts}
-use Rattle.sd_model_live.specs.Port.{PortExchange, leaves, port_command, port_reply}
+use Rattle.sd_model_live.specs.Port.{first_facts, PortExchange, leaves, port_command, port_reply}
 use Rattle.sd_proxy_desk.specs.Shared.{events_of}
 use Rattle.sd_proxy_desk.specs.Views.{facts_view}
 use Rattle.sd_port.specs.Commands.{answer_view}
-use Rattle.sd_port.proofs.AnswerSteps.{quits_so, carried_so}
+use Rattle.sd_port.proofs.AnswerSteps.{quits_so, executed_so}
 use Rattle.sd_port.proofs.line.answer_line.Goals as goal
 
 pub returns-then-asks_for_end-clause-answered : goal.returns-then-asks_for_end-clause-answered
@@ -28,7 +27,7 @@ returns-in-Ok-clause-answered g c =
           subst (λ command. g.O.Faulty.seen c.write_port_reply.new.output ≡ given (port_reply c.args.shared.now.settings.now e.facts e.up command) (g.O.Faulty.seen c.args.sink.now)) is c.in-Ok.ensures.ok,
         ),
       ),
-      carried_so e answer c.args.own.now (record { pass = c.look.new.pass; seat = c.say_health.new.seat }) (events_of c.facts-facts.new.own)
+      executed_so e answer c.args.own.now (record { pass = c.look.new.pass; seat = c.say_health.new.seat }) (events_of c.facts-facts.new.own)
           is goes_on c.facts-facts.ensures.did c.say_health.ensures.did (c.say_health.ensures.seat.1 ∙ c.facts-facts.ensures.seat.1) c.look.ensures.pass.1 c.look.ensures.looked,
     )
 
@@ -40,6 +39,6 @@ returns-in-Err-clause-answered g c =
     let goes_on : leaves answer ≡ false = sym c.asks_for_end.ensures ∙ c.if-asks_for_end.false in (
       e,
       (refl, subst (λ command. HasFailedBehind (port_reply c.args.shared.now.settings.now e.facts e.up command) (g.O.Faulty.seen c.args.sink.now) (g.O.Faulty.seen c.write_port_reply.new.output)) is c.in-Err.ensures.failed),
-      carried_so e answer c.args.own.now (record { pass = c.look.new.pass; seat = c.say_health.new.seat }) (events_of c.facts-facts.new.own)
+      executed_so e answer c.args.own.now (record { pass = c.look.new.pass; seat = c.say_health.new.seat }) (events_of c.facts-facts.new.own)
           is goes_on c.facts-facts.ensures.did c.say_health.ensures.did (c.say_health.ensures.seat.1 ∙ c.facts-facts.ensures.seat.1) c.look.ensures.pass.1 c.look.ensures.looked,
     )

@@ -2,9 +2,9 @@ use Rattle.std.proofs.Common.{◌≡◌, ◌∙◌, [], ◌++◌, rules, ap}
 use Rattle.std.specs.List.{concat}
 use Rattle.sd_model_record.specs.Replies.{end_lines}
 use Rattle.sd_model_record.proofs.TotalLemmas.{appended, appended-text}
-use Rattle.sd_model_live.specs.Port.{totals_so_far}
 use Rattle.sd_proxy_desk.specs.Views.{facts_view}
 use Rattle.sd_port.proofs.replies.totals_reply.Goals as goal
+use Rattle.sd_model_live.proofs.Short.{totals_so_far}
 
 pub returns : goal.returns
 returns c =

@@ -1,6 +1,6 @@
 use Rattle.std.proofs.Common.{◌≡◌, ◌∙◌, ℕ, ◌<◌, false, List, [], ◌∷◌, ◌++◌, length, map, refl, sym, ap, subst, arith, get_or, set, eq-eqb, ne_eqb}
 use Rattle.std.proofs.lemmas.List.{map-append}
-use Rattle.sd_model_proxy.specs.Batches.{Batch, add_totals}
+use Rattle.sd_model_proxy.specs.Routes.{Batch, add_totals}
 use Rattle.sd_model_proxy.specs.Routes as model
 use Rattle.sd_proxy.specs.Forwarding.{IsUnderWay, Stands, routes_by}
 use Rattle.sd_proxy_desk.specs.Views.{route_view, totals_of_route, totals_view}

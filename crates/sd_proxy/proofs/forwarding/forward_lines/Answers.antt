@@ -11,7 +11,7 @@ loop-line-init g c = record {
   ring = refl;
   wires = refl;
   waiting = refl;
-  front = [];
+  prefix = [];
   all = c.new-lines.ensures;
   takes = TakesLines-none c.args.ring.now c.args.up c.args.waiting.now (map g.L.Faulty.seen c.args.wires.now)
       (totals_view c.args.totals.now);
@@ -27,10 +27,10 @@ loop-line-preserved g c =
       ring = forward.ring ∙ loop.ring;
       wires = forward.wires ∙ loop.wires;
       waiting = forward.waiting ∙ loop.waiting;
-      front = loop.front ++ line ∷ [];
-      all = append_assoc loop.front (line ∷ []) c.next.new.self
-          ∙ ap (λ (ls : List (List ℕ)). loop.front ++ ls) (sym c.in-Some.ensures.next) ∙ loop.all;
-      takes = TakesLines-next c.args.ring.now c.args.up loop.front (line ∷ []) 0 0 _ _ _ _ _ _ _ _ _ loop.takes
+      prefix = loop.prefix ++ line ∷ [];
+      all = append_assoc loop.prefix (line ∷ []) c.next.new.self
+          ∙ ap (λ (ls : List (List ℕ)). loop.prefix ++ ls) (sym c.in-Some.ensures.next) ∙ loop.all;
+      takes = TakesLines-next c.args.ring.now c.args.up loop.prefix (line ∷ []) 0 0 _ _ _ _ _ _ _ _ _ loop.takes
           (subst (λ (ns : List Node). TakesLines ns c.args.up (line ∷ []) 0 c.loop-line.waiting c.forward_line.new.waiting
           (map seen c.loop-line.wires) (map seen c.forward_line.new.wires) (totals_view c.loop-line.totals)
           (totals_view c.forward_line.new.totals)) loop.ring forward.takes);
@@ -40,8 +40,8 @@ pub returns-clause-takes : goal.returns-clause-takes
 returns-clause-takes g c =
     let seen = g.L.Faulty.seen in
     let loop = c.loop-line.invariant in
-    let all : loop.front ≡ lines c.args.bytes.now = sym (append-nil loop.front)
-    ∙ ap (λ (ls : List (List ℕ)). loop.front ++ ls) (sym (c.in_default.ensures.end refl).0) ∙ loop.all in
+    let all : loop.prefix ≡ lines c.args.bytes.now = sym (append-nil loop.prefix)
+    ∙ ap (λ (ls : List (List ℕ)). loop.prefix ++ ls) (sym (c.in_default.ensures.end refl).0) ∙ loop.all in
     subst (λ (ls : List (List ℕ)). TakesLines c.args.ring.now c.args.up ls 0 c.args.waiting.now c.loop-line.waiting
     (map seen c.args.wires.now) (map seen c.loop-line.wires) (totals_view c.args.totals.now)
     (totals_view c.loop-line.totals)) all loop.takes

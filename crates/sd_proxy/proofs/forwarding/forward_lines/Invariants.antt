@@ -11,9 +11,9 @@ invariant-loop-line g l =
       ring : l.ring ≡ l.fn.ring;
       wires : length l.wires ≡ length l.fn.wires;
       waiting : length l.waiting ≡ length l.fn.waiting;
-      front : List (List ℕ);
-      all : front ++ l.lines ≡ lines l.bytes;
-      takes : TakesLines l.fn.ring l.up front 0 l.fn.waiting l.waiting (map seen l.fn.wires) (map seen l.wires) (totals_view l.fn.totals)
+      prefix : List (List ℕ);
+      all : prefix ++ l.lines ≡ lines l.bytes;
+      takes : TakesLines l.fn.ring l.up prefix 0 l.fn.waiting l.waiting (map seen l.fn.wires) (map seen l.wires) (totals_view l.fn.totals)
           (totals_view l.totals);
     }
 

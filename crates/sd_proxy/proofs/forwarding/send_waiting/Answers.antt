@@ -1,6 +1,6 @@
 use Rattle.std.proofs.Common.{◌∙◌, ◌<◌, ◌+◌, [], length, map, refl, ap, arith, get_or}
 use Rattle.std.proofs.lemmas.List.{length-set}
-use Rattle.sd_model_proxy.specs.Batches.{Batch}
+use Rattle.sd_model_proxy.specs.Routes.{Batch}
 use Rattle.sd_proxy.specs.Forwarding.{IsLeft, routes_by}
 use Rattle.sd_proxy_desk.specs.Views.{totals_view}
 use Rattle.sd_proxy.specs.Waiting.{under_way}

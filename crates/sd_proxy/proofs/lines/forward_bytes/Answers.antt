@@ -3,7 +3,7 @@ use Rattle.std.specs.Prelude.{flat_map}
 use Rattle.std.proofs.lemmas.List.{nil_from_length, take-append-drop, take_rest}
 use Rattle.sd_model_settings.specs.Entries.{Node}
 use Rattle.sd_tcp.specs.Cutting.{CutsOn}
-use Rattle.sd_model_proxy.specs.LineRelays.{lines_of_cut}
+use Rattle.sd_model_proxy.specs.Relays.{lines_of_cut}
 use Rattle.sd_proxy_desk.specs.Views.{totals_view}
 use Rattle.sd_proxy.specs.Streaming.{TakesBytes}
 use Rattle.sd_proxy.proofs.CutLemmas.{TakesBytes-next, TakesBytes-none, bytes_sent}
@@ -16,7 +16,7 @@ loop-rest-init g c = record {
   wires = refl;
   waiting = refl;
   none_ready = c.requires.none_ready;
-  front = [];
+  prefix = [];
   cut = refl;
   takes = TakesBytes-none c.args.ring.now c.args.up _ _ _ _;
 }
@@ -33,10 +33,10 @@ loop-rest-preserved g c =
       wires = line.wires ∙ loop.wires;
       waiting = line.waiting ∙ loop.waiting;
       none_ready = line.none_ready;
-      front = loop.front ++ take n rest;
-      cut = loop.cut ∙ ap (λ (bytes : List ℕ). loop.front ++ bytes) (sym (take-append-drop n rest))
-          ∙ sym (append_assoc loop.front (take n rest) (drop n rest))
-          ∙ ap (λ (bytes : List ℕ). (loop.front ++ take n rest) ++ bytes) (sym (take_rest rest n));
+      prefix = loop.prefix ++ take n rest;
+      cut = loop.cut ∙ ap (λ (bytes : List ℕ). loop.prefix ++ bytes) (sym (take-append-drop n rest))
+          ∙ sym (append_assoc loop.prefix (take n rest) (drop n rest))
+          ∙ ap (λ (bytes : List ℕ). (loop.prefix ++ take n rest) ++ bytes) (sym (take_rest rest n));
       takes = TakesBytes-next c.args.ring.now c.args.up _ _ _ _ _ _ _ _ _ _ _ _ _ _ loop.takes
           (subst (λ (ns : List Node). TakesBytes ns c.args.up
           (take n rest) c.loop-rest.cutter c.take_line-len.new.cutter c.loop-rest.waiting c.take_line-len.new.waiting
@@ -64,7 +64,7 @@ returns-clause-sends g c most none =
     let cuts = loop.takes.cuts in
     let rest = c.loop-rest.rest.now in
     let over : rest ≡ [] = nil_from_length rest (eqb-true (length rest) 0 (sym c.is_empty.ensures ∙ c.loop-rest-test.false)) in
-    let whole : loop.front ≡ c.args.bytes.now = sym (append-nil loop.front) ∙ ap (λ (bytes : List ℕ). loop.front ++ bytes) (sym over)
+    let whole : loop.prefix ≡ c.args.bytes.now = sym (append-nil loop.prefix) ∙ ap (λ (bytes : List ℕ). loop.prefix ++ bytes) (sym over)
     ∙ sym loop.cut in
     bytes_sent most nodes c.args.up c.args.bytes.now _ _ _ _ _ _ _ cuts
     (subst (λ (bytes : List ℕ). CutsOn cuts bytes c.args.cutter.now c.loop-rest.cutter) whole loop.takes.cut)

@@ -12,9 +12,9 @@ invariant-loop-rest g l =
       wires : length l.wires ≡ length l.fn.wires;
       waiting : length l.waiting ≡ length l.fn.waiting;
       none_ready : l.cutter.is_ready ≡ false;
-      front : List ℕ;
-      cut : l.bytes ≡ front ++ l.rest;
-      takes : TakesBytes l.fn.ring l.up front l.fn.cutter l.cutter l.fn.waiting l.waiting (map seen l.fn.wires) (map seen l.wires)
+      prefix : List ℕ;
+      cut : l.bytes ≡ prefix ++ l.rest;
+      takes : TakesBytes l.fn.ring l.up prefix l.fn.cutter l.cutter l.fn.waiting l.waiting (map seen l.fn.wires) (map seen l.wires)
           (totals_view l.fn.totals) (totals_view l.totals);
     }
 

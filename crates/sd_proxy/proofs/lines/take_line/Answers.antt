@@ -8,7 +8,7 @@ pub returns-in-Some-clause-takes : goal.returns-in-Some-clause-takes
 returns-in-Some-clause-takes g c =
     TakesBytes-one c.args.ring.now c.args.up (Line c.in-Some.line.now) _ _ _ _ _ _ _ _ _
     (subst (λ (bytes : List ℕ). CutsOn (Line c.in-Some.line.now ∷ []) bytes c.args.cutter.now c.args.cutter.now)
-    (sym c.in-Some.ensures.front) c.in-Some.ensures.cut)
+    (sym c.in-Some.ensures.prefix) c.in-Some.ensures.cut)
     c.forward_lines.ensures.takes
 
 pub returns-clause-takes : goal.returns-clause-takes

@@ -1,9 +1,9 @@
 use Rattle.std.proofs.Common.{◌∙◌, List, ℕ, [], ◌∷◌, ap, codes, true, false}
-use Rattle.sd_model_outside.specs.Outside.{sent}
-use Rattle.sd_model_proxy.specs.Batches.{add_totals}
+use Rattle.sd_model_proxy.specs.Routes.{add_totals}
 use Rattle.sd_proxy_desk.specs.Views.{totals_view}
 use Rattle.sd_proxy.proofs.WaitingLemmas.{Sends-one}
 use Rattle.sd_proxy.proofs.sending.send_packet.Goals as goal
+use Rattle.sd_model_outside.proofs.Short.{sent}
 
 pub returns-in-Ok : goal.returns-in-Ok
 returns-in-Ok g c lines is count =

@@ -4,7 +4,7 @@ use Rattle.sd_tcp.specs.Cutting.{Cutting}
 use Rattle.sd_proxy.specs.Looking.{pass_seen}
 use Rattle.sd_proxy.specs.Streaming.{SendsRead}
 use Rattle.sd_proxy_desk.specs.Views.{totals_view}
-use Rattle.sd_proxy.proofs.StreamLemmas.{SoFar-ended, SoFar-next, SoFar-none, SoFar-worn}
+use Rattle.sd_proxy.proofs.StreamLemmas.{SoFar-ended, SoFar-next, SoFar-none, SoFar-limit_reached}
 use Rattle.sd_proxy.proofs.streaming.forward_stream.Goals as goal
 
 pub loop-read-init : goal.loop-read-init
@@ -64,5 +64,5 @@ returns-in_default-clause-sends g c most none =
     (search rules) c.in_default.ensures.ends so_far)
 
 pub returns-clause-sends : goal.returns-clause-sends
-returns-clause-sends g c most none = SoFar-worn most c.args.ring.now (pass_seen c.args.own.now) _ _ _ (pass_seen c.loop-read.own) _ _ _ _
+returns-clause-sends g c most none = SoFar-limit_reached most c.args.ring.now (pass_seen c.args.own.now) _ _ _ (pass_seen c.loop-read.own) _ _ _ _
     (search rules) (c.loop-read.invariant.so_far most none)

@@ -11,7 +11,7 @@ loop-rest-init g c = record {
   none_ready = c.requires.none_ready;
   batch = refl;
   room = let none = ap length c.requires.batch.none in let some = c.requires.batch.room in omega (arith, none, some);
-  front = [];
+  prefix = [];
   cut = refl;
   takes = rw (c.none-account.ensures.tally, c.none-account.ensures.taken) (ReadsBytes-none _ _ _);
 }
@@ -28,8 +28,8 @@ loop-rest-preserved g c =
       none_ready = line.none_ready;
       batch = line.batch ∙ ap (λ (w : Waiting). record w { items = c.take_line-taken.new.batch.items }) inv.batch;
       room = line.room;
-      front = inv.front ++ take n rest;
-      cut = inv.cut ∙ ap (λ (bytes : List ℕ). inv.front ++ bytes) (sym (take-append-drop n rest)) ∙ sym (append_assoc inv.front (take n rest) (drop n rest)) ∙ ap (λ (bytes : List ℕ). (inv.front ++ take n rest) ++ bytes) (sym (take_rest rest n));
+      prefix = inv.prefix ++ take n rest;
+      cut = inv.cut ∙ ap (λ (bytes : List ℕ). inv.prefix ++ bytes) (sym (take-append-drop n rest)) ∙ sym (append_assoc inv.prefix (take n rest) (drop n rest)) ∙ ap (λ (bytes : List ℕ). (inv.prefix ++ take n rest) ++ bytes) (sym (take_rest rest n));
       takes = rw (c.and-account.ensures.tally, c.and-account.ensures.taken) (ReadsBytes-next _ _ _ _ _ _ _ _ _ _ _ _ _ _ _ inv.takes line.takes);
     }
 
@@ -38,4 +38,4 @@ returns-clause-takes g c =
     let inv = c.loop-rest.invariant in
     let rest = c.loop-rest.rest.now in
     let none : rest ≡ [] = nil_from_length rest (eqb-true (length rest) 0 (sym c.is_empty.ensures ∙ c.loop-rest-test.false)) in
-    rw (c.and.ensures.tally, c.and.ensures.taken) (TakesBytes-whole _ _ _ _ _ _ _ _ _ _ _ _ _ (inv.cut ∙ ap (λ (bytes : List ℕ). inv.front ++ bytes) none ∙ append-nil inv.front) c.requires.batch.none inv.takes c.submit_rest.ensures.files)
+    rw (c.and.ensures.tally, c.and.ensures.taken) (TakesBytes-whole _ _ _ _ _ _ _ _ _ _ _ _ _ (inv.cut ∙ ap (λ (bytes : List ℕ). inv.prefix ++ bytes) none ∙ append-nil inv.prefix) c.requires.batch.none inv.takes c.submit_rest.ensures.files)

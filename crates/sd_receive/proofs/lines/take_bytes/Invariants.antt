@@ -12,9 +12,9 @@ invariant-loop-rest g l = record {
   none_ready : l.cutter.is_ready ≡ false;
   batch : l.batch ≡ record l.initial.batch { items = l.batch.items };
   room : length l.batch.items < l.batch.room;
-  front : List ℕ;
-  cut : l.bytes ≡ front ++ l.rest;
-  takes : ReadsBytes (shards_of l.group.pool.now) front l.initial.cutter l.cutter l.initial.batch.items l.batch.items (own_at l.initial.seat) (own_at l.seat) (tally_of l.account.tally) l.account.taken;
+  prefix : List ℕ;
+  cut : l.bytes ≡ prefix ++ l.rest;
+  takes : ReadsBytes (shards_of l.group.pool.now) prefix l.initial.cutter l.cutter l.initial.batch.items l.batch.items (own_at l.initial.seat) (own_at l.seat) (tally_of l.account.tally) l.account.taken;
 }
 
 abbrev pub decreases-loop-rest : goal.decreases-loop-rest

@@ -7,7 +7,7 @@ use Rattle.sd_receive.proofs.lines.take_line.Goals as goal
 pub returns-in-Some-clause-takes : goal.returns-in-Some-clause-takes
 returns-in-Some-clause-takes g c = record {
   lines = Line c.in-Some.line.now ∷ [];
-  cut = subst (λ (bytes : List ℕ). CutsOn (Line c.in-Some.line.now ∷ []) bytes c.args.cutter.now c.args.cutter.now) (sym c.in-Some.ensures.front) c.in-Some.ensures.cut;
+  cut = subst (λ (bytes : List ℕ). CutsOn (Line c.in-Some.line.now ∷ []) bytes c.args.cutter.now c.args.cutter.now) (sym c.in-Some.ensures.prefix) c.in-Some.ensures.cut;
   filed = c.read_line.ensures.files;
 }
 

@@ -1,10 +1,10 @@
 use Rattle.std.proofs.Common.{refl, ap, ◌∙◌, rules}
-use Rattle.sd_model_stream.specs.Streams.{WornOut}
+use Rattle.sd_model_stream.specs.Streams.{LimitReached}
 use Rattle.sd_tcp.specs.Cutting.{Cutting}
 use Rattle.sd_pool.specs.Pool.{shards_of}
-use Rattle.sd_model_serve.specs.Ends.{most_turns}
+use Rattle.sd_model_serve.specs.Receiving.{most_turns}
 use Rattle.sd_receive.specs.Streaming.{end_of}
-use Rattle.sd_receive.proofs.StreamLemmas.{SoFar-none, SoFar-next, SoFar-ended, SoFar-worn}
+use Rattle.sd_receive.proofs.StreamLemmas.{SoFar-none, SoFar-next, SoFar-ended, SoFar-limit_reached}
 use Rattle.sd_receive.proofs.streaming.stream.Goals as goal
 
 pub loop-read-init : goal.loop-read-init
@@ -48,7 +48,7 @@ pub returns-clause-streams : goal.returns-clause-streams
 returns-clause-streams g c =
     let so_far = c.loop-read.invariant.so_far in
     rw c.of-2.ensures (record {
-      stream = record { reads = so_far.reads; ended = WornOut most_turns };
+      stream = record { reads = so_far.reads; ended = LimitReached most_turns };
       ended = refl;
-      went = SoFar-worn _ (shards_of c.args.shared.now.pool.now) _ _ _ _ _ _ _ _ _ _ (search rules) so_far;
+      went = SoFar-limit_reached _ (shards_of c.args.shared.now.pool.now) _ _ _ _ _ _ _ _ _ _ (search rules) so_far;
     })

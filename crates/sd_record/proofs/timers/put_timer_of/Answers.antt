@@ -1,7 +1,7 @@
 use Rattle.std.proofs.Common.{length, sym, ap, ◌∙◌}
 use Rattle.std.specs.Prelude.{filter_map}
 use Rattle.std.proofs.lemmas.List.{length-map}
-use Rattle.sd_model_shard.specs.Values.{bins, pct, whole}
+use Rattle.sd_model_shard.specs.Values.{bins, pct, whole_statistics}
 use Rattle.sd_model_record.specs.Record.{limits_for}
 use Rattle.sd_decimal.specs.declared.number.Micro.{Micro}
 use Rattle.sd_plan.specs.Plan.{plan_view}
@@ -20,6 +20,6 @@ returns c =
     (sym c.is_empty.ensures ∙ c.if-is_empty.false)
     (sym (length-map values (λ (m : Micro). m.0)))
     c.per_second-timer.ensures
-    (c.whole.ensures ∙ ap whole timer)
+    (c.whole.ensures ∙ ap whole_statistics timer)
     (c.put_parts.ensures ∙ ap (λ ts. filter_map (λ t. pct t seen.values) ts) c.as_slice.ensures.value ∙ ap (λ s. filter_map (λ t. pct t s.values) plan.thresholds) timer)
     (c.put_bins.ensures ∙ ap (λ ls. bins ls seen.values) (c.limits_for-limits.ensures.limits ∙ ap (limits_for c.args.key.now) c.as_slice-2.ensures.value) ∙ ap (λ s. bins (limits_for c.args.key.now plan.histograms) s.values) timer)

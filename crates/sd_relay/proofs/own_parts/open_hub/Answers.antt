@@ -68,15 +68,15 @@ returns c =
           seats;
       checker = record { pass = first.0.0; seen = first.1; seat = last.0.0; events = last.0.1 };
       port = record { pass = pass.0.0.0; seen = pass.0.1; seat = last.1.0.0; events = last.1.0.1 };
-      liner = fresh_pairs cell desk history lines [] [] (subst (λ l. AllByRecursion Fresh l) (sym (append-nil (map pass_of lines))) pass.1)
+      line_reader = fresh_pairs cell desk history lines [] [] (subst (λ l. AllByRecursion Fresh l) (sym (append-nil (map pass_of lines))) pass.1)
           (subst (λ l. AllByRecursion (IsNewSeatOf desk) l) (sym (append-nil (map seat_of lines))) last.1.1);
       publishes = first.0.1;
       count = own.count;
-      liners = own.lines;
-      numbers = numbers.front ∙ ap (span 0) own.count;
+      line_readers = own.lines;
+      numbers = numbers.prefix ∙ ap (span 0) own.count;
       checker_number = let a = numbers.checker in let b = own.count in omega (arith, a, b);
       port_number = let a = numbers.port in let b = own.count in omega (arith, a, b);
-      liner_number = numbers.behind ∙ ap (λ n. span n (length lines)) from ∙ ap (span (c.args.receivers + 2)) own.lines;
+      line_reader_number = numbers.behind ∙ ap (λ n. span n (length lines)) from ∙ ap (span (c.args.receivers + 2)) own.lines;
       line = subst IsLineRoom (sym own.line) c.in_ok-line.ensures;
       none = own.none;
       pass_room = let a = own.pass_room in omega (arith, a, pass_count, flag);

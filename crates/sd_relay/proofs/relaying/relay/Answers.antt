@@ -6,13 +6,10 @@ use Rattle.std.proofs.lemmas.List.Elements.{All-cons}
 use Rattle.sd_model_outside.specs.Outside.{Object}
 use Rattle.sd_model_settings.specs.Entries.{Node}
 use Rattle.sd_model_settings.specs.Settings.{Settings}
-use Rattle.sd_model_proxy.specs.Batches.{sums_of_totals}
-use Rattle.sd_model_proxy.specs.LineRelays.{AreLineRelays}
-use Rattle.sd_model_proxy.specs.Relays.{AreRelays, relay_totals}
-use Rattle.sd_model_live.specs.Checks.{Check, HasChecked, failed_of}
-use Rattle.sd_model_live.specs.Desk.{CountsCheck, ProxyAct, ProxyEvent, done_by}
-use Rattle.sd_model_live.specs.Port.{HasPort, has_port}
-use Rattle.sd_model_live.specs.Proxy.{all_of, first_history}
+use Rattle.sd_model_proxy.specs.Routes.{sums_of_totals}
+use Rattle.sd_model_proxy.specs.Relays.{relay_totals}
+use Rattle.sd_model_live.specs.Proxy.{Check, HasChecked, all_of}
+use Rattle.sd_model_live.specs.Port.{CountsCheck, ProxyAct, ProxyEvent, done_by, HasPort, has_port}
 use Rattle.sd_live.specs.Looks.{Begins, HaveAnswered}
 use Rattle.sd_live.proofs.LookLemmas.{answered_on}
 use Rattle.sd_plan.specs.Entries.{node_view}
@@ -28,16 +25,18 @@ use Rattle.sd_check.specs.Checking as checking
 use Rattle.sd_proxy.specs.Views.{end_view}
 use Rattle.sd_relay.specs.LinePost.{IsLineFitted, line_owns, line_wires}
 use Rattle.sd_relay.specs.Owns.{IsFreshOwn, IsHubFor, number_of, pass_of, passes_in, seat_of, seats_in}
-use Rattle.sd_relay.specs.Parts.{IsFitted, NoLineWaits, own_in, source_in, wires_in}
+use Rattle.sd_relay.specs.PostRooms.{IsFitted, NoLineWaits, own_in, source_in, wires_in}
 use Rattle.sd_relay.specs.Port.{PortDone}
 use Rattle.sd_relay.specs.Relaying.{ended_in, lines_in, receivers_in}
 use Rattle.sd_relay.specs.Sums.{WasRun, line_totals, totals_in}
 use Rattle.sd_relay.specs.declared.own_parts.HubRoom.{HubRoom}
 use Rattle.sd_relay.specs.declared.port.PortRoom.{PortRoom}
-use Rattle.sd_relay.proofs.LineLemmas.{all_lined, as_many_lines, line_passes, line_ready, line_seats, line_was_run, line_wires_long, lined_acted, lined_count, lined_counted, lined_looked, lined_of, lines_as_many}
+use Rattle.sd_relay.proofs.LineLemmas.{all_line_relays, as_many_lines, line_passes, line_ready, line_seats, line_was_run, line_wires_long, line_relays_acted, line_relays_count, line_relays_counted, line_relays_looked, line_relays_of, lines_as_many}
 use Rattle.sd_relay.proofs.LookLemmas.{all_behind, order_with}
 use Rattle.sd_relay.proofs.PostLemmas.{all_ran, all_relays, all_were_run, by_recursion, fresh_posts, ran_passes, ran_seats, ran_wires, ready_posts, relays_acted, relays_count, relays_counted, relays_ended, relays_looked, relays_of, runs_long, take_run, drop_run}
 use Rattle.sd_relay.proofs.relaying.relay.Goals as goal
+use Rattle.sd_model_live.proofs.Short.{failed_of, first_history}
+use Rattle.sd_model_proxy.proofs.Short.{AreLineRelays, AreRelays}
 
 -- what holds of four lists holds of those that equal them
 along : (P : (sources sources_now wires wires_now : List Object) → Type 0) (a a_is b b_is v v_is w w_is : List Object) → a ≡ a_is → b ≡ b_is
@@ -55,8 +54,8 @@ hub_seen : (nodes : List Node) (receivers lines : ℕ) (room : HubRoom) (hub : P
 hub_seen nodes receivers lines room hub same is = subst (IsHubFor (first_history nodes) (length nodes) receivers lines)
     (λ i. record { cell = sym same.0 i; desk = sym same.1 i; owns = room.owns }) is
 
-pub run_relays-checked-requires-clause-liner : goal.run_relays-checked-requires-clause-liner
-run_relays-checked-requires-clause-liner g c κs within =
+pub run_relays-checked-requires-clause-line_reader : goal.run_relays-checked-requires-clause-line_reader
+run_relays-checked-requires-clause-line_reader g c κs within =
     let live = c.new-live.result.hub in
     let cell = live.cell.now in
     let desk = live.desk.now in
@@ -64,9 +63,9 @@ run_relays-checked-requires-clause-liner g c κs within =
     let hub = hub_seen nodes (receivers_in c.args.room) (lines_in c.args.room) c.args.room.hub live c.new-live.ensures.hub
     c.requires.room.hub in
     let first = first_history nodes in
-    let owns = by_recursion (IsFreshOwn cell desk first) (option_to_list c.args.room.hub.owns.lines) hub.liner in
+    let owns = by_recursion (IsFreshOwn cell desk first) (option_to_list c.args.room.hub.owns.lines) hub.line_reader in
     line_ready cell desk first (map node_view c.nodes-nodes.result.now) c.gather-posts.result.lines
-    (subst (AllByRecursion (IsFreshOwn cell desk first)) c.gather-posts.ensures.liner owns) c.gather-posts.ensures.fitted.1
+    (subst (AllByRecursion (IsFreshOwn cell desk first)) c.gather-posts.ensures.line_reader owns) c.gather-posts.ensures.fitted.1
 
 pub run_relays-checked-requires-clause-receivers : goal.run_relays-checked-requires-clause-receivers
 run_relays-checked-requires-clause-receivers g c κs within =
@@ -173,12 +172,12 @@ close_hub-requires-clause-pass_room g c =
     let hub = c.requires.room.hub in
     let many = ap length back.owns ∙ length-map ys own_in ∙ ran.ensures.receivers.len ∙ sym (length-map xs own_in)
     ∙ sym (ap length gathered.owns) ∙ hub.count in
-    let liners = ap length back.liner ∙ lines_as_many g.L.Faulty.seen cell desk posts.lines ran.new.posts.lines lines lines_now
-    ran.ensures.lines ∙ sym (ap length gathered.liner) ∙ hub.liners in
+    let line_readers = ap length back.line_reader ∙ lines_as_many g.L.Faulty.seen cell desk posts.lines ran.new.posts.lines lines lines_now
+    ran.ensures.lines ∙ sym (ap length gathered.line_reader) ∙ hub.line_readers in
     let same : vec_capacity c.give_back.new.owns.passes
     ≡ vec_capacity c.args.room.hub.owns.passes = ap (λ v. vec_capacity v) (back.services.passes ∙ gathered.services.passes) in
     let room = hub.pass_room in
-    omega (arith, many, liners, same, room)
+    omega (arith, many, line_readers, same, room)
 
 pub close_hub-requires-clause-seat_room : goal.close_hub-requires-clause-seat_room
 close_hub-requires-clause-seat_room g c =
@@ -196,12 +195,12 @@ close_hub-requires-clause-seat_room g c =
     let hub = c.requires.room.hub in
     let many = ap length back.owns ∙ length-map ys own_in ∙ ran.ensures.receivers.len ∙ sym (length-map xs own_in)
     ∙ sym (ap length gathered.owns) ∙ hub.count in
-    let liners = ap length back.liner ∙ lines_as_many g.L.Faulty.seen cell desk posts.lines ran.new.posts.lines lines lines_now
-    ran.ensures.lines ∙ sym (ap length gathered.liner) ∙ hub.liners in
+    let line_readers = ap length back.line_reader ∙ lines_as_many g.L.Faulty.seen cell desk posts.lines ran.new.posts.lines lines lines_now
+    ran.ensures.lines ∙ sym (ap length gathered.line_reader) ∙ hub.line_readers in
     let same : vec_capacity c.give_back.new.owns.seats
     ≡ vec_capacity c.args.room.hub.owns.seats = ap (λ v. vec_capacity v) (back.services.seats ∙ gathered.services.seats) in
     let room = hub.seat_room in
-    omega (arith, many, liners, same, room)
+    omega (arith, many, line_readers, same, room)
 
 pub close_hub-requires-clause-count : goal.close_hub-requires-clause-count
 close_hub-requires-clause-count g c =
@@ -219,10 +218,10 @@ close_hub-requires-clause-count g c =
     let hub = c.requires.room.hub in
     let many = ap length back.owns ∙ length-map ys own_in ∙ ran.ensures.receivers.len ∙ sym (length-map xs own_in)
     ∙ sym (ap length gathered.owns) ∙ hub.count in
-    let liners = ap length back.liner ∙ lines_as_many g.L.Faulty.seen cell desk posts.lines ran.new.posts.lines lines lines_now
-    ran.ensures.lines ∙ sym (ap length gathered.liner) ∙ hub.liners in
+    let line_readers = ap length back.line_reader ∙ lines_as_many g.L.Faulty.seen cell desk posts.lines ran.new.posts.lines lines lines_now
+    ran.ensures.lines ∙ sym (ap length gathered.line_reader) ∙ hub.line_readers in
     let seats = hub.desk in
-    omega (arith, many, liners, seats)
+    omega (arith, many, line_readers, seats)
 
 pub close_hub-requires-clause-passes : goal.close_hub-requires-clause-passes
 close_hub-requires-clause-passes g c =
@@ -242,7 +241,7 @@ close_hub-requires-clause-passes g c =
     let more = All-cons (IsPassOf cell) port (map pass_of line) ran.ensures.port.0
     (line_passes g.L.Faulty.seen cell desk posts.lines ran.new.posts.lines lines lines_now ran.ensures.lines) in
     let are : passes_in c.give_back.new.owns ≡ map pass_of (map own_in ys) ++ port ∷ map pass_of line = λ i. map pass_of (back.owns i)
-    ++ (back.services.port i).own.pass ∷ map pass_of (back.liner i) in
+    ++ (back.services.port i).own.pass ∷ map pass_of (back.line_reader i) in
     subst (λ (l : UpCell). All (IsPassOf l) (passes_in c.give_back.new.owns)) c.new-live.ensures.hub.0
     (subst (All (IsPassOf cell)) (sym are) (ran_passes g.D.Faulty.seen g.L.Faulty.seen cell desk (port ∷ map pass_of line) more xs ys all))
 
@@ -267,7 +266,7 @@ close_hub-requires-clause-seats g c =
     let more = All-cons (IsSeatOf desk) checker (port ∷ map seat_of line) ran.ensures.checker_seat.0 behind in
     let are : seats_in c.give_back.new.owns ≡ map seat_of (map own_in ys)
     ++ checker ∷ port ∷ map seat_of line = λ i. map seat_of (back.owns i)
-    ++ (back.services.checker i).seat ∷ (back.services.port i).own.seat ∷ map seat_of (back.liner i) in
+    ++ (back.services.checker i).seat ∷ (back.services.port i).own.seat ∷ map seat_of (back.line_reader i) in
     subst (λ (d : ProxyDesk). All (IsSeatOf d) (seats_in c.give_back.new.owns)) c.new-live.ensures.hub.1
     (subst (All (IsSeatOf desk)) (sym are) (ran_seats g.D.Faulty.seen g.L.Faulty.seen cell desk (checker ∷ port ∷ map seat_of line) more xs
     ys all))
@@ -299,7 +298,7 @@ returns-clause-relayed g c none =
     let Fresh : ProxyPass → Type 0 = IsFreshOwn cell desk first in
     let fresh = fresh_posts cell desk first xs
     (subst (AllByRecursion Fresh) gathered.owns (by_recursion Fresh c.args.room.hub.owns.receivers.items hub.each)) in
-    let line_fresh = subst (AllByRecursion Fresh) gathered.liner (by_recursion Fresh (option_to_list c.args.room.hub.owns.lines) hub.liner)
+    let line_fresh = subst (AllByRecursion Fresh) gathered.line_reader (by_recursion Fresh (option_to_list c.args.room.hub.owns.lines) hub.line_reader)
     in
     let fitted = subst (λ ns. AllByRecursion (IsFitted ns) xs) c.nodes-nodes.ensures.value
     (by_recursion (IsFitted (map node_view c.nodes-nodes.result.now)) xs gathered.fitted.0) in
@@ -307,7 +306,7 @@ returns-clause-relayed g c none =
     let clear = by_recursion (NoLineWaits most) xs (gathered.clear most none).0 in
     let line_clear = (gathered.clear most none).1 in
     let relays = relays_of g.D.Faulty.seen g.L.Faulty.seen cell desk most xs ys all clear in
-    let lined = lined_of g.L.Faulty.seen cell desk most old_line line lines lines_now read line_clear in
+    let line_relays = line_relays_of g.L.Faulty.seen cell desk most old_line line lines lines_now read line_clear in
     let checker = ran.new.checker in
     let port = ran.new.port.own in
     let history = seen checker.pass in
@@ -333,10 +332,10 @@ returns-clause-relayed g c none =
     let line_passes_now = map pass_of (line_owns line) in
     let line_seats_now = map seat_of (line_owns line) in
     let passes_are : passes_in c.give_back.new.owns ≡ map pass_of (map own_in ys)
-    ++ port.pass ∷ line_passes_now = λ i. map pass_of (back.owns i) ++ (back.services.port i).own.pass ∷ map pass_of (back.liner i) in
+    ++ port.pass ∷ line_passes_now = λ i. map pass_of (back.owns i) ++ (back.services.port i).own.pass ∷ map pass_of (back.line_reader i) in
     let seats_are : seats_in c.give_back.new.owns ≡ map seat_of (map own_in ys)
     ++ checker.seat ∷ port.seat ∷ line_seats_now = λ i. map seat_of (back.owns i)
-    ++ (back.services.checker i).seat ∷ (back.services.port i).own.seat ∷ map seat_of (back.liner i) in
+    ++ (back.services.checker i).seat ∷ (back.services.port i).own.seat ∷ map seat_of (back.line_reader i) in
     let Begun : UpPass → Type 0 = λ p. Begins (seen p) history in
     let closed = subst (λ (h : List ℕ). All (λ (p : UpPass). Begins (seen p) h) (passes_in c.give_back.new.owns))
     (ap (λ (o : ProxyPass). seen o.pass) back.services.checker) c.close_hub.ensures.begins in
@@ -348,12 +347,12 @@ returns-clause-relayed g c none =
     let others = all_behind Did (map seat_of (map own_in ys)) (checker.seat ∷ port.seat ∷ line_seats_now) own in
     let xs_count = sym (length-map xs own_in) ∙ sym (ap length gathered.owns) ∙ hub.count in
     let count = relays_count g.D.Faulty.seen g.L.Faulty.seen cell desk most xs ys all clear ∙ ran.ensures.receivers.len ∙ xs_count in
-    let line_count = sym (ap length gathered.liner) ∙ hub.liners in
-    let one = lined_count g.L.Faulty.seen cell desk most old_line line lines lines_now read line_clear ∙ sym (as_many_lines old_line)
+    let line_count = sym (ap length gathered.line_reader) ∙ hub.line_readers in
+    let one = line_relays_count g.L.Faulty.seen cell desk most old_line line lines lines_now read line_clear ∙ sym (as_many_lines old_line)
     ∙ line_count in
     let numbers = ap (map number_of) (sym gathered.owns) ∙ hub.numbers ∙ ap (span 0) (sym xs_count) in
     let line_numbers : map number_of (line_owns old_line) ≡ span (length relays + 2) (length (line_owns old_line)) =
-    ap (map number_of) (sym gathered.liner) ∙ hub.liner_number ∙ ap (λ n. span (n + 2) (lines_in c.args.room)) (sym count)
+    ap (map number_of) (sym gathered.line_reader) ∙ hub.line_reader_number ∙ ap (λ n. span (n + 2) (lines_in c.args.room)) (sym count)
     ∙ ap (span (length relays + 2)) (sym line_count) in
     let port_looked = answered_on first (seen port.pass) history done.ups begins_behind.0
     (subst (λ h. HaveAnswered h (seen port.pass) done.ups) port_seen done.looked) in
@@ -362,9 +361,9 @@ returns-clause-relayed g c none =
     let pubs = map (λ (k : Check). k.up) checks.made in
     let looked = relays_looked g.D.Faulty.seen g.L.Faulty.seen cell desk most nodes history (port.pass ∷ line_passes_now) xs ys all clear
     fresh begins in
-    let line_looked = lined_looked g.L.Faulty.seen cell desk most nodes history old_line line lines lines_now read line_clear line_fresh
+    let line_looked = line_relays_looked g.L.Faulty.seen cell desk most nodes history old_line line lines lines_now read line_clear line_fresh
     begins_behind.1 in
-    let order = order_with nodes history pubs relays done.ups lined checked.published looked port_looked line_looked in
+    let order = order_with nodes history pubs relays done.ups line_relays checked.published looked port_looked line_looked in
     let counts = map (λ (k : Check). CountsCheck (failed_of k)) checks.made in
     let checker_number = count ∙ sym (ran.ensures.checker_seat.1 ∙ checker_numbered) in
     let port_number = ran.ensures.port.2 ∙ port_numbered ∙ ap (λ n. n + 1) (sym count) in
@@ -387,31 +386,31 @@ returns-clause-relayed g c none =
     let left_now = ap (λ ws. drop all_wires (map g.L.Faulty.seen ws)) wires_back
     ∙ drop_run g.L.Faulty.seen all_wires (flat_map wires_in ys) (line_wires line ++ rest) long_now in
     let summed = relays_counted g.D.Faulty.seen g.L.Faulty.seen cell desk most nodes xs ys all clear fitted in
-    let line_summed = lined_counted g.L.Faulty.seen cell desk most nodes old_line line lines lines_now read line_clear line_fitted in
-    let totals : map totals_in ys ++ line_totals line ≡ map (relay_totals nodes) (relays ++ lined) = (λ i. summed i ++ line_summed i)
-    ∙ sym (map-append (relay_totals nodes) relays lined) in
+    let line_summed = line_relays_counted g.L.Faulty.seen cell desk most nodes old_line line lines lines_now read line_clear line_fitted in
+    let totals : map totals_in ys ++ line_totals line ≡ map (relay_totals nodes) (relays ++ line_relays) = (λ i. summed i ++ line_summed i)
+    ∙ sym (map-append (relay_totals nodes) relays line_relays) in
     record {
       relays = relays;
-      lined = lined;
+      line_relays = line_relays;
       checks = checks.made;
       theorem = record {
         steps = order.steps;
         current = order.current;
-        told = order.told;
-        lines_told = order.lines_told;
+        reported = order.reported;
+        lines_reported = order.lines_reported;
         checked = subst (λ h. HasChecked nodes checks.made (checking.end_view ran.result.ended) first h beat beat_now probe probe_now)
             (checked.published ∙ ap (λ (l : List ℕ). all_of run ∷ l) (sym order.published)) checked;
         are = along (AreRelays most nodes relays) _ _ _ _ _ _ _ _ sources sources_now took took_now
             (all_relays g.D.Faulty.seen g.L.Faulty.seen cell desk most nodes more xs ys all clear fitted);
-        lines = along (λ a b v w. AreLineRelays most nodes lined (lines ∷ []) (lines_now ∷ []) v w) [] [] [] [] _ _ _ _ refl refl left
-            left_now (all_lined g.L.Faulty.seen cell desk most nodes rest old_line line lines lines_now read line_clear line_fitted);
+        lines = along (λ a b v w. AreLineRelays most nodes line_relays (lines ∷ []) (lines_now ∷ []) v w) [] [] [] [] _ _ _ _ refl refl left
+            left_now (all_line_relays g.L.Faulty.seen cell desk most nodes rest old_line line lines lines_now read line_clear line_fitted);
         history = log;
         legal = desk_history.legal;
         whose = subst (λ n. All (λ (a : ProxyAct). a.who < n) log) (c.requires.room.hub.desk ∙ (λ i. sym count i + 2 + sym one i))
             desk_history.inside;
         counted = relays_acted g.D.Faulty.seen g.L.Faulty.seen cell desk most nodes first log (checker.seat ∷ port.seat ∷ line_seats_now) 0
             xs ys all clear fresh fitted numbers own;
-        lines_counted = lined_acted g.L.Faulty.seen cell desk most nodes first log (length relays + 2) old_line line lines lines_now read
+        lines_counted = line_relays_acted g.L.Faulty.seen cell desk most nodes first log (length relays + 2) old_line line lines lines_now read
             line_clear line_fresh line_fitted line_numbers others.1.1;
         checks_counted = ap (λ n. done_by n log) checker_number ∙ sym others.0 ∙ checks.events
             ∙ ap (λ (l : List ProxyEvent). l ++ counts) checker_events;

@@ -1,6 +1,6 @@
 use Rattle.std.proofs.Common.{◌≡◌, ◌∙◌, ◌+◌, ◌++◌, [], ◌∷◌, map, take, sym, ap, subst, arith, rules}
 use Rattle.std.proofs.lemmas.List.{map-append, take_more}
-use Rattle.sd_model_proxy.specs.Batches.{sums_of_totals}
+use Rattle.sd_model_proxy.specs.Routes.{sums_of_totals}
 use Rattle.sd_relay.specs.Sums.{WasRun, totals_in}
 use Rattle.sd_relay.proofs.SumLemmas.{sums-next}
 use Rattle.sd_relay.proofs.sums.add_up.Goals as goal

@@ -1,5 +1,5 @@
 use Rattle.std.proofs.Common.{◌≡◌, ◌≤◌, ◌*◌, ◌^◌, map, take}
-use Rattle.sd_model_proxy.specs.Batches.{sums_of_totals}
+use Rattle.sd_model_proxy.specs.Routes.{sums_of_totals}
 use Rattle.sd_relay.specs.Sums.{sums_view, totals_in}
 use Rattle.sd_relay.proofs.sums.add_up.Given as goal
 

@@ -2,7 +2,7 @@ use Rattle.std.proofs.Common.{◌≡◌, ℕ, List, map, subst, ap, ◌∙◌}
 use Rattle.sd_model_settings.specs.Settings.{Plan}
 use Rattle.sd_model_record.specs.Backends.{console_text, graphite_text}
 use Rattle.sd_model_record.specs.Record.{Record, Tally, record_of}
-use Rattle.sd_model_outside.specs.Deliveries.{AfterMark}
+use Rattle.sd_model_outside.specs.Uses.{AfterMark}
 use Rattle.sd_model_shard.specs.Shard.{Table, table_of}
 use Rattle.sd_plan.specs.Plan.{plan_view}
 use Rattle.sd_desk.specs.Marks.{mark_of}

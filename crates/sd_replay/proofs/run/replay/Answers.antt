@@ -1,7 +1,7 @@
 use Rattle.std.proofs.Common.{◌≡◌, ◌≢◌, ◌<◌, ℕ, ◌^◌, List, [], ◌∷◌, ◌++◌, map, take, drop, length, length-take, length-append, sym, subst, ap, ◌∙◌, refl, arith}
 use Rattle.sd_model_outside.specs.Outside.{Object, Used, Rose, HasFailedBehind, given, put_back}
 use Rattle.sd_repeater.specs.Sent.{AreSent}
-use Rattle.sd_model_outside.specs.Deliveries.{AfterMark, FitsUse}
+use Rattle.sd_model_outside.specs.Uses.{AfterMark, FitsUse, AreRepeated, Sending, failures}
 use Rattle.sd_model_outside.proofs.OutsideLemmas.{Reads-append, Reads-nil}
 use Rattle.sd_model_outside.proofs.WriteLemmas.{given-given}
 use Rattle.std.specs.Prelude.{sum_by, true, false, is_err, Result, Ok, Err, OnOk, OnErr}
@@ -10,13 +10,10 @@ use Rattle.sd_model_record.specs.Backends.{console_text, graphite_text, Backend,
 use Rattle.sd_model_record.specs.Desk.{Desk, Marks, new_desk, with_tally, with_repeater_faults}
 use Rattle.sd_model_record.specs.Admin as admin
 use Rattle.sd_model_settings.specs.Settings.{Plan, plan_of, names_of, Settings}
-use Rattle.sd_model_replay.specs.Settings.{bounds_of, is_used, limits_of, targets_of}
+use Rattle.sd_model_replay.specs.Replay.{bounds_of, is_used, limits_of, targets_of, packet_tally, replies_to, states_after, Played, moment_of, desk_after_line, first_run, run_of}
 use Rattle.sd_model_record.specs.Record.{Record, record_of}
-use Rattle.sd_model_record.specs.WireSends.{AreRepeated, Sending, failures}
-use Rattle.sd_model_replay.specs.Replay.{packet_tally, replies_to, states_after, Played, moment_of, desk_after_line, first_run, run_of}
 use Rattle.sd_model_replay.specs.Script.{Packet, Flush, Admin, IsLegal, end_word, Faulty, Begins, IsUndecided}
-use Rattle.sd_model_replay.specs.Asked.{output_in, output_of}
-use Rattle.sd_model_replay.specs.AccountingTheorem.{Seen, seen_at}
+use Rattle.sd_model_replay.specs.AccountingTheorem.{output_in, output_of, Seen, seen_at}
 use Rattle.sd_replay.specs.Replayed.{Replayed}
 use Rattle.sd_shards.specs.Shards.{Group, AreAlike, group_bounds, numbers, state_at}
 use Rattle.sd_model_shard.specs.Whereabouts.{dropped_in}
@@ -109,12 +106,12 @@ returns-in-End-clause-end g c =
     let new = seen c.next.new.script c.finish.new.output c.loop-turn.backs c.loop-turn.wires in
     let now = shown c.next.new.script c.finish.new.output c.loop-turn.backs c.loop-turn.wires in
     let pending = c.next.new.self.pending in
-    let told = new.script.told in
+    let content = new.script.content in
     let desk = c.begin.new.desk in
     let b = subst (λ item. IsBegun c.loop-turn.turn item c.loop-turn.desk desk) c.in-End.is (record { first = c.begin.ensures.first; later = c.begin.ensures.later }) in
     let same_desk = desk_at_end settings stands.progress.played c.loop-turn.desk desk stands.progress.same_desk (λ none. b.first (sym stands.progress.turns ∙ none)) (λ some. b.later (λ none. some (stands.progress.turns ∙ none))) in
-    let reads = subst (λ item. ReadsItem item c.loop-turn.reader (g.R.Faulty.seen c.loop-turn.script).told c.next.new.self told) c.in-End.is c.in-Ok.ensures.item in
-    let behind = Reads-append _ (put_back pending told) told end_word pending reads.stands.reads refl in
+    let reads = subst (λ item. ReadsItem item c.loop-turn.reader (g.R.Faulty.seen c.loop-turn.script).content c.next.new.self content) c.in-End.is c.in-Ok.ensures.item in
+    let behind = Reads-append _ (put_back pending content) content end_word pending reads.stands.reads refl in
     let used = used_since old.script (g.R.Faulty.seen c.loop-turn.script) new.script stands.faults stands.place c.in-Ok.ensures.used in
     let faults : new.script.faults ≡ old.script.faults = c.in-Ok.ensures.steady ∙ stands.faults in
     let output = g.O.Faulty.seen c.loop-turn.output in
@@ -135,10 +132,10 @@ returns-then-is_err-clause-end g c =
     let shown : _ → _ → _ → _ → _ = back_seen g.R.Faulty.seen g.O.Faulty.seen g.B.Faulty.seen g.L.Faulty.seen in
     let old = seen c.args.script.now c.args.output.now c.args.backs.now c.args.wires.now in
     let before = shown c.args.script.now c.args.output.now c.args.backs.now c.args.wires.now in
-    let new = seen c.next.new.script c.carry_out-told.new.output c.loop-turn.backs c.loop-turn.wires in
-    let now = shown c.next.new.script c.carry_out-told.new.output c.loop-turn.backs c.loop-turn.wires in
-    let had = (g.R.Faulty.seen c.loop-turn.script).told in
-    let has = new.script.told in
+    let new = seen c.next.new.script c.execute-replied.new.output c.loop-turn.backs c.loop-turn.wires in
+    let now = shown c.next.new.script c.execute-replied.new.output c.loop-turn.backs c.loop-turn.wires in
+    let had = (g.R.Faulty.seen c.loop-turn.script).content in
+    let has = new.script.content in
     let pending = c.next.new.self.pending in
     let moment = c.in-Admin.moment in
     let line = c.next.new.self.body in
@@ -147,14 +144,14 @@ returns-then-is_err-clause-end g c =
     let desk = c.begin.new.desk in
     let same_desk = before_record settings stands.progress.played p c.loop-turn.turn c.in-Ok.item c.loop-turn.desk desk stands.progress.turns (ap start_in c.in-Admin.is) (record { first = c.begin.ensures.first; later = c.begin.ensures.later }) stands.progress.same_desk in
     let group = c.loop-turn.shards in
-    let more = line_more settings stands.some _ _ (left c.next.new.self has) _ _ (back_of g.B.Faulty.seen c.loop-turn.backs) _ _ (map g.L.Faulty.seen c.loop-turn.wires) group c.carry_out-told.new.shards _ desk c.carry_out-told.new.desk _ c.next.new.self.at _ stands.progress stands.by c.carry_out-told.ensures.alike
+    let more = line_more settings stands.some _ _ (left c.next.new.self has) _ _ (back_of g.B.Faulty.seen c.loop-turn.backs) _ _ (map g.L.Faulty.seen c.loop-turn.wires) group c.execute-replied.new.shards _ desk c.execute-replied.new.desk _ c.next.new.self.at _ stands.progress stands.by c.execute-replied.ensures.alike
     moment line read.stands.reads (subst (λ k. IsLegal k (Admin moment line)) stands.receivers read.stands.begins.0) same_desk
-    (λ i. c.carry_out-told.ensures.states i ∙ ap (λ bytes. states_after (group_bounds group) (state_at group) (Admin moment bytes) i) c.body-in-Admin.ensures)
-    (c.carry_out-told.ensures.desk ∙ ap (λ bytes. desk_after_line desk (admin.command bytes)) c.body-in-Admin.ensures)
+    (λ i. c.execute-replied.ensures.states i ∙ ap (λ bytes. states_after (group_bounds group) (state_at group) (Admin moment bytes) i) c.body-in-Admin.ensures)
+    (c.execute-replied.ensures.desk ∙ ap (λ bytes. desk_after_line desk (admin.command bytes)) c.body-in-Admin.ensures)
     read.at refl refl in
-    let replied = line_replied settings stands.some _ _ (left c.next.new.self has) _ _ (back_of g.B.Faulty.seen c.loop-turn.backs) _ _ (map g.L.Faulty.seen c.loop-turn.wires) group c.carry_out-told.new.shards _ desk c.carry_out-told.new.desk _ c.next.new.self.at _ stands.progress stands.by c.carry_out-told.ensures.alike moment line same_desk in
-    let failed = failed_of c.carry_out-told.result (sym c.is_err.ensures.value ∙ c.if-is_err.true) c.carry_out-told.ensures.failed in
-    replies_part settings old new _ c.carry_out-told.new.shards _ _ _ _ _ before now more.0 pending refl
+    let replied = line_replied settings stands.some _ _ (left c.next.new.self has) _ _ (back_of g.B.Faulty.seen c.loop-turn.backs) _ _ (map g.L.Faulty.seen c.loop-turn.wires) group c.execute-replied.new.shards _ desk c.execute-replied.new.desk _ c.next.new.self.at _ stands.progress stands.by c.execute-replied.ensures.alike moment line same_desk in
+    let failed = failed_of c.execute-replied.result (sym c.is_err.ensures.value ∙ c.if-is_err.true) c.execute-replied.ensures.failed in
+    replies_part settings old new _ c.execute-replied.new.shards _ _ _ _ _ before now more.0 pending refl
     (used_since old.script (g.R.Faulty.seen c.loop-turn.script) new.script stands.faults stands.place c.in-Ok.ensures.used)
     (c.in-Ok.ensures.steady ∙ stands.faults) stands.progress.played p (g.O.Faulty.seen c.loop-turn.output) more.1 (omega (arith, c.loop-turn-test.true, stands.progress.turns)) stands.written
     (subst (λ text. HasFailedBehind text (g.O.Faulty.seen c.loop-turn.output) new.output) (ap (λ bytes. output_in settings (record { shards = state_at group; desk = desk }) (Admin moment bytes)) c.body-in-Admin.ensures ∙ replied) failed)
@@ -170,15 +167,15 @@ returns-in-Fault-clause-end g c =
     let new = seen c.next.new.script c.loop-turn.output c.loop-turn.backs c.loop-turn.wires in
     let now = shown c.next.new.script c.loop-turn.output c.loop-turn.backs c.loop-turn.wires in
     let pending = c.next.new.self.pending in
-    let told = new.script.told in
-    let read = subst (λ item. ReadsItem item c.loop-turn.reader (g.R.Faulty.seen c.loop-turn.script).told c.next.new.self told) c.in-Fault.is c.in-Ok.ensures.item in
-    let behind = read.stands.reads ∙ sym (Reads-nil (put_back pending told)) in
+    let content = new.script.content in
+    let read = subst (λ item. ReadsItem item c.loop-turn.reader (g.R.Faulty.seen c.loop-turn.script).content c.next.new.self content) c.in-Fault.is c.in-Ok.ensures.item in
+    let behind = read.stands.reads ∙ sym (Reads-nil (put_back pending content)) in
     let flaw = flaw_of c.in-Fault.flaw in
     subst (λ end. Replayed settings end old new) (sym c.fault_at.ensures)
     (finds_flaw settings old new _ c.loop-turn.shards _ _ _ _ _ before now stands.progress pending behind
     (used_since old.script (g.R.Faulty.seen c.loop-turn.script) new.script stands.faults stands.place c.in-Ok.ensures.used)
     (c.in-Ok.ensures.steady ∙ stands.faults) flaw c.at.result (c.at.ensures ∙ read.at) c.loop-turn-test.true
-    (subst (λ n. Begins n (Faulty flaw) pending told) stands.receivers read.stands.begins) stands.written)
+    (subst (λ n. Begins n (Faulty flaw) pending content) stands.receivers read.stands.begins) stands.written)
 
 pub returns-clause-end : goal.returns-clause-end
 returns-clause-end g c =
@@ -201,13 +198,13 @@ loop-turn-init g c =
     let opened : sizing_in c.room.inside ≡ sizing_of settings = c.room.view_is ∙ c.requires.room in
     let limits = ap (λ (s : Sizing). s.bounds.limits) opened in
     let shards = ap (λ (s : Sizing). s.bounds.shards) opened in
-    let told = (g.R.Faulty.seen c.args.script.now).told in
+    let content = (g.R.Faulty.seen c.args.script.now).content in
     let backs = back_of g.B.Faulty.seen c.args.backs.now in
     let wires = map g.L.Faulty.seen c.args.wires.now in
     let group = c.room.inside.shards in
     let at = c.room.inside.reader.at in (
       record {
-        progress = nothing_played settings told (left c.room.inside.reader told) backs wires (state_at group) c.new-desk.result at (Reads-nil told ∙ ap (put_back []) (Reads-nil told ∙ ap (λ pending. put_back pending told) (sym fresh.pending))) (λ t i. fresh.states i t) c.new-desk.ensures fresh.start;
+        progress = nothing_played settings content (left c.room.inside.reader content) backs wires (state_at group) c.new-desk.result at (Reads-nil content ∙ ap (put_back []) (Reads-nil content ∙ ap (λ pending. put_back pending content) (sym fresh.pending))) (λ t i. fresh.states i t) c.new-desk.ensures fresh.start;
         written = sym (given-nil (g.O.Faulty.seen c.args.output.now) (g.met.O.Sink.number_fits c.args.output.now));
         some = subst (λ n. 0 < n) shards fresh.some;
         by = ap (λ (s : Sizing). s.bounds) opened;
@@ -231,8 +228,8 @@ loop-turn-preserved g c =
     let settings = c.args.settings.now in
     let stands = c.loop-turn.invariant.0 in
     let group = c.loop-turn.shards in
-    let had = (g.R.Faulty.seen c.loop-turn.script).told in
-    let has = (g.R.Faulty.seen c.next.new.script).told in
+    let had = (g.R.Faulty.seen c.loop-turn.script).content in
+    let has = (g.R.Faulty.seen c.next.new.script).content in
     let reads : Item → Type 0 = λ item. ReadsItem item c.loop-turn.reader had c.next.new.self has in
     let faults = c.in-Ok.ensures.steady ∙ stands.faults in
     let place = c.in-Ok.ensures.used.opened_at ∙ stands.place in
@@ -327,27 +324,27 @@ loop-turn-preserved g c =
           let line = c.next.new.self.body in
           let p = line_played moment line in
           let same_desk = before_record settings played p c.loop-turn.turn c.in-Ok.item c.loop-turn.desk begun_desk stands.progress.turns (ap start_in w.in-Admin.is) b stands.progress.same_desk in
-          let alike = subst (AreAlike group) (sym w.shards-is) w.carry_out-told.ensures.alike in
+          let alike = subst (AreAlike group) (sym w.shards-is) w.execute-replied.ensures.alike in
           let more = line_more settings stands.some _ _ (left c.next.new.self has) _ _ (back_of g.B.Faulty.seen c.match-item.backs) _ _ (map g.L.Faulty.seen c.match-item.wires) group c.match-item.shards _ begun_desk c.match-item.desk _ c.next.new.self.at _ stands.progress stands.by alike
           moment line read.stands.reads (subst (λ k. IsLegal k (Admin moment line)) stands.receivers read.stands.begins.0) same_desk
-          (λ i. ap (λ (gr : Group). state_at gr i) w.shards-is ∙ w.carry_out-told.ensures.states i ∙ ap (λ bytes. states_after (group_bounds group) (state_at group) (Admin moment bytes) i) w.body-in-Admin.ensures)
-          (w.desk-is ∙ w.carry_out-told.ensures.desk ∙ ap (λ bytes. desk_after_line begun_desk (admin.command bytes)) w.body-in-Admin.ensures)
+          (λ i. ap (λ (gr : Group). state_at gr i) w.shards-is ∙ w.execute-replied.ensures.states i ∙ ap (λ bytes. states_after (group_bounds group) (state_at group) (Admin moment bytes) i) w.body-in-Admin.ensures)
+          (w.desk-is ∙ w.execute-replied.ensures.desk ∙ ap (λ bytes. desk_after_line begun_desk (admin.command bytes)) w.body-in-Admin.ensures)
           read.at (ap (back_of g.B.Faulty.seen) w.backs-is) (ap (map g.L.Faulty.seen) w.wires-is) in
           let replied = line_replied settings stands.some _ _ (left c.next.new.self has) _ _ (back_of g.B.Faulty.seen c.match-item.backs) _ _ (map g.L.Faulty.seen c.match-item.wires) group c.match-item.shards _ begun_desk c.match-item.desk _ c.next.new.self.at _ stands.progress stands.by alike moment line same_desk in
-          let told = written_of w.carry_out-told.result (sym w.is_err.ensures.value ∙ w.if-is_err.false) w.carry_out-told.ensures.written in
+          let content = written_of w.execute-replied.result (sym w.is_err.ensures.value ∙ w.if-is_err.false) w.execute-replied.ensures.written in
           let output = g.O.Faulty.seen c.loop-turn.output in
           let text = output_in settings (run_before (bounds_of settings) played p) (Admin moment line) in (
             record {
               progress = more.0;
-              written = ap g.O.Faulty.seen w.output-is ∙ told
+              written = ap g.O.Faulty.seen w.output-is ∙ content
                   ∙ ap (λ bytes. given (output_in settings (record { shards = state_at group; desk = begun_desk }) (Admin moment bytes)) output) w.body-in-Admin.ensures
                   ∙ ap (λ t. given t output) replied ∙ ap (given text) stands.written ∙ given-given (output_of settings played) text first
                   ∙ ap (λ t. given t first) (sym (ap (output_of settings) more.1 ∙ output_of-push settings played p));
               some = stands.some;
               by = still_go settings group c.match-item.shards stands.by alike;
               room = subst (λ s. HasRoom settings.sizes.shards (limits_of settings) s.room) (sym w.scratch-is) stands.room;
-              keys = subst (HoldsRows settings.sizes.shards (limits_of settings)) (sym (ap (λ (s : KeyList). s.room) w.keys-is ∙ w.carry_out-told.ensures.keys)) stands.keys;
-              dump = subst (HoldsRows settings.sizes.shards (limits_of settings)) (sym (ap (λ (s : DumpList). s.room) w.dump-is ∙ w.carry_out-told.ensures.dump)) stands.dump;
+              keys = subst (HoldsRows settings.sizes.shards (limits_of settings)) (sym (ap (λ (s : KeyList). s.room) w.keys-is ∙ w.execute-replied.ensures.keys)) stands.keys;
+              dump = subst (HoldsRows settings.sizes.shards (limits_of settings)) (sym (ap (λ (s : DumpList). s.room) w.dump-is ∙ w.execute-replied.ensures.dump)) stands.dump;
               receivers = read.receivers ∙ stands.receivers;
               faults = faults;
               place = place;

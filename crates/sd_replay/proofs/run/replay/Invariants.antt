@@ -2,9 +2,9 @@ use Rattle.std.proofs.Common.{◌≡◌, ◌<◌, ℕ, List, length, map}
 use Rattle.sd_model_outside.specs.Outside.{Object, given}
 use Rattle.sd_model_settings.specs.Settings as file
 use Rattle.sd_model_record.specs.Desk.{Desk}
-use Rattle.sd_model_replay.specs.Settings.{limits_of}
+use Rattle.sd_model_replay.specs.Replay.{limits_of}
 use Rattle.sd_model_record.specs.Backends.{Backend}
-use Rattle.sd_model_replay.specs.Asked.{output_of}
+use Rattle.sd_model_replay.specs.AccountingTheorem.{output_of}
 use Rattle.sd_shards.specs.Shards.{Group, state_at}
 use Rattle.sd_script.specs.Reading.{Reading, left}
 use Rattle.sd_record.specs.Rows.{Room}
@@ -15,7 +15,7 @@ use Rattle.sd_replay.proofs.run.replay.Given as goal
 
 -- what stands after so many turns
 pub record Stands (settings : file.Settings) (script now : Object) (old new : Backend → Object) (had has : List Object) (given_first given_now : Object) (group : Group) (desk : Desk) (scratch_room : Room) (keys_room dump_room : ℕ) (reader : Reading) (turn : ℕ) : Type 0 where
-  pub progress : Progress settings script.told (left reader now.told) old new had has (state_at group) desk reader.at turn
+  pub progress : Progress settings script.content (left reader now.content) old new had has (state_at group) desk reader.at turn
   pub written : given_now ≡ given (output_of settings progress.played) given_first
   pub some : 0 < settings.sizes.shards
   pub by : GoBy settings group

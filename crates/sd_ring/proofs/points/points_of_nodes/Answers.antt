@@ -1,9 +1,9 @@
 use Rattle.std.proofs.Common.{◌≡◌, ◌+◌, ◌++◌, ◌∙◌, [], ◌∷◌, ap, sym, arith, take, map, length}
 use Rattle.std.proofs.lemmas.List.{map-append, length-map, take_more, length-take}
 use Rattle.sd_plan.specs.Entries.{node_view}
-use Rattle.sd_model_ring.specs.Ring.{points, points_of}
 use Rattle.sd_model_ring.proofs.Points.{points_from-more}
 use Rattle.sd_ring.proofs.points.points_of_nodes.Goals as goal
+use Rattle.sd_model_ring.proofs.Short.{points_of, points}
 
 pub loop-place-preserved : goal.loop-place-preserved
 loop-place-preserved c =

@@ -1,10 +1,10 @@
 use Rattle.std.proofs.Common.{◌≡◌, ◌++◌, ◌∙◌, ap, sym, arith, append_assoc}
 use Rattle.std.proofs.lemmas.List.{map-append}
 use Rattle.sd_plan.specs.Entries.{node_view}
-use Rattle.sd_model_ring.specs.Ring.{points_at, numbers_of, node_text, numbers_of_texts}
 use Rattle.sd_model_ring.proofs.Points.{numbers_of_texts-more, points_of-is}
 use Rattle.sd_ring.specs.Points.{words_of}
 use Rattle.sd_ring.proofs.points.push_node.Goals as goal
+use Rattle.sd_model_ring.proofs.Short.{numbers_of, numbers_of_texts, points_at, node_text}
 
 pub loop-i-preserved : goal.loop-i-preserved
 loop-i-preserved c =

@@ -6,7 +6,7 @@ use Rattle.sd_model_serve.specs.Sessions.{Exchange, is_quit}
 use Rattle.sd_desk.specs.Facts.{facts_view}
 use Rattle.sd_pool.specs.Pool.{own_at, shards_of}
 use Rattle.sd_shared_desk.specs.Shared.{part_of}
-use Rattle.sd_session.proofs.CarryLemmas.{Broadcasts-none}
+use Rattle.sd_session.proofs.ExecutionLemmas.{Broadcasts-none}
 use Rattle.sd_session.proofs.LineLemmas.{line_called, no_facts, quit_called}
 use Rattle.sd_session.proofs.line.answer_line.Goals as goal
 
@@ -27,14 +27,14 @@ returns-then-asks_for_end-clause-answered g c =
 
 pub returns-in-Ok-clause-answered : goal.returns-in-Ok-clause-answered
 returns-in-Ok-clause-answered g c =
-    let h = c.in-Ok.ensures.carried in
+    let h = c.in-Ok.ensures.executed in
     let e : Exchange = record { line = c.args.line.now; now = c.now.result; facts = facts_view c.facts-facts.result; asked = h.broadcasts } in
     let goes_on : is_quit (command e.line) ≡ false = sym c.asks_for_end.ensures ∙ c.if-asks_for_end.false in
     let part = part_of c.args.own.now in
     let heard = part_of c.facts-facts.new.own in
     let now = part_of c.set_health.new.own in (
       e,
-      (refl, (record { all = h.carried.all; goes_on = goes_on; now = c.now.ensures }, h.carried.written)),
+      (refl, (record { all = h.executed.all; goes_on = goes_on; now = c.now.ensures }, h.executed.written)),
       record {
         asked = h.asked;
         called = line_called e part heard now goes_on c.facts-facts.ensures.calls.own c.set_health.ensures.called;
@@ -45,14 +45,14 @@ returns-in-Ok-clause-answered g c =
 
 pub returns-in-Err-clause-answered : goal.returns-in-Err-clause-answered
 returns-in-Err-clause-answered g c =
-    let h = c.in-Err.ensures.carried in
+    let h = c.in-Err.ensures.executed in
     let e : Exchange = record { line = c.args.line.now; now = c.now.result; facts = facts_view c.facts-facts.result; asked = h.broadcasts } in
     let goes_on : is_quit (command e.line) ≡ false = sym c.asks_for_end.ensures ∙ c.if-asks_for_end.false in
     let part = part_of c.args.own.now in
     let heard = part_of c.facts-facts.new.own in
     let now = part_of c.set_health.new.own in (
       e,
-      (refl, (h.carried, c.now.ensures)),
+      (refl, (h.executed, c.now.ensures)),
       record {
         asked = h.asked;
         called = line_called e part heard now goes_on c.facts-facts.ensures.calls.own c.set_health.ensures.called;

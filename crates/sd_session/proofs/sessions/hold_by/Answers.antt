@@ -1,6 +1,6 @@
 use Rattle.sd_session.proofs.CommandLemmas.{talked_commands}
 use Rattle.sd_pool.specs.Pool.{shards_of}
-use Rattle.sd_model_serve.specs.Talks.{lines_in}
+use Rattle.sd_model_serve.specs.Sessions.{lines_in}
 use Rattle.sd_session.proofs.DoneLemmas.{answered_all}
 use Rattle.sd_session.proofs.sessions.hold_by.Goals as goal
 

@@ -29,14 +29,14 @@ loop-i-preserved g c =
     let i = c.loop-i.i in
     let event = shard.Delete kind name in
     let found = found_by pool c.loop-i.seat c.delete.new.seat i (act_by c.loop-i.seat event d.0) inv.seat.0.sits.pool_is (search rules) d.1 in
-    let told = subst (λ r. IsDeletion r c.loop-i.keys.items c.delete.new.out.items c.delete.result) found.replied d.2 in
+    let reported = subst (λ r. IsDeletion r c.loop-i.keys.items c.delete.new.out.items c.delete.result) found.replied d.2 in
     record {
       seat = (c.delete.ensures.seat, d.1.who ∙ inv.seat.1);
       found = inv.found ++ found.state ∷ [];
       asked =
           Asked-next (shards_of pool) event (deletion_of kind name) i inv.found (own_at c.args.seat.now) (own_at c.loop-i.seat) (own_at c.delete.new.seat) found.state inv.asked found.home
           (d.1.own ∙ (λ j. own_at c.loop-i.seat i ++ record { who = inv.seat.1 j; event = event; reply = found.replied j } ∷ [])) (λ j other. (d.1.others j other).1);
-      keys = Appends-more (λ s. keys_in (deletion_of kind name s)) inv.found found.state [] c.loop-i.keys.items c.delete.new.out.items inv.keys told.0;
+      keys = Appends-more (λ s. keys_in (deletion_of kind name s)) inv.found found.state [] c.loop-i.keys.items c.delete.new.out.items inv.keys reported.0;
       few = omega (arith, inv.few, c.delete.ensures.few);
       room = c.delete.ensures.room ∙ inv.room;
     }
@@ -53,5 +53,5 @@ returns-clause-deletes g c =
       broadcast = broadcast_of shards (shard.Delete kind name) (deletion_of kind name) inv.found;
       event = refl;
       asked = asked_all shards (shard.Delete kind name) (deletion_of kind name) (own_at c.args.seat.now) (own_at c.loop-i.seat) inv.found asked;
-      told = keys_are shards kind inv.found asked.home asked.count name c.loop-i.keys.items c.sort.new.self.items inv.keys c.sort.ensures.permutation c.sort.ensures.sorted;
+      reported = keys_are shards kind inv.found asked.home asked.count name c.loop-i.keys.items c.sort.new.self.items inv.keys c.sort.ensures.permutation c.sort.ensures.sorted;
     }

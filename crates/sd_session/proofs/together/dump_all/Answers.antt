@@ -1,5 +1,5 @@
 use Rattle.std.proofs.Common.{rules, ◌≡◌, [], ◌∷◌, ◌++◌, refl, subst, ◌∙◌, arith}
-use Rattle.sd_model_shard.specs.Commands.{dump_of}
+use Rattle.sd_model_shard.specs.Rows.{dump_of}
 use Rattle.sd_model_shard.specs.Shard as shard
 use Rattle.sd_model_shard.specs.Shard.{State}
 use Rattle.sd_key.specs.Kind.{kind_of}
@@ -55,5 +55,5 @@ returns-clause-dumps g c =
       broadcast = broadcast_of shards (shard.Dump kind) reply inv.found;
       event = refl;
       asked = asked_all shards (shard.Dump kind) reply (own_at c.args.seat.now) (own_at c.loop-i.seat) inv.found asked;
-      told = rows_are shards kind inv.found asked.home asked.count (rows_of c.loop-i.dump) (rows_of c.sort.new.self) inv.rows c.sort.ensures.permutation c.sort.ensures.sorted;
+      reported = rows_are shards kind inv.found asked.home asked.count (rows_of c.loop-i.dump) (rows_of c.sort.new.self) inv.rows c.sort.ensures.permutation c.sort.ensures.sorted;
     }

@@ -1,6 +1,6 @@
 use Rattle.std.proofs.Common.{◌≡◌, ◌*◌, ◌≤◌, [], List, length}
 use Rattle.std.specs.Prelude.{flat_map}
-use Rattle.sd_model_shard.specs.Commands.{dump_of}
+use Rattle.sd_model_shard.specs.Rows.{dump_of}
 use Rattle.sd_model_shard.specs.Shard.{State, Dump, Dumped}
 use Rattle.sd_model_serve.specs.Receiving.{administrator}
 use Rattle.sd_key.specs.Kind.{kind_of}

@@ -15,7 +15,7 @@ loop-i-init g c =
       found = [];
       asked = Asked-none (shards_of c.args.pool.now) Look (λ s. Looked (numbers_of s)) (own_at c.args.seat.now);
       count = ap length c.new-books.ensures;
-      told = ap (map numbers_in) c.new-books.ensures;
+      reported = ap (map numbers_in) c.new-books.ensures;
     }
 
 pub push-requires : goal.push-requires
@@ -28,8 +28,8 @@ loop-i-preserved g c =
     let pool = c.args.pool.now in
     let i = c.loop-i.i in
     let book = c.look.result in
-    let told = Looked (numbers_in book) in
-    let found = found_by pool c.loop-i.seat c.look.new.seat i (act_by c.loop-i.seat Look told) inv.seat.0.sits.pool_is (search rules) made in
+    let reported = Looked (numbers_in book) in
+    let found = found_by pool c.loop-i.seat c.look.new.seat i (act_by c.loop-i.seat Look reported) inv.seat.0.sits.pool_is (search rules) made in
     let same : numbers_in book ≡ numbers_of found.state = ap (looked (numbers_in book)) found.replied in
     record {
       seat = (c.look.ensures.seat, made.who ∙ inv.seat.1);
@@ -38,9 +38,9 @@ loop-i-preserved g c =
           Asked-next (shards_of pool) Look (λ s. Looked (numbers_of s)) i inv.found (own_at c.args.seat.now) (own_at c.loop-i.seat) (own_at c.look.new.seat) found.state inv.asked found.home
           (made.own ∙ (λ j. own_at c.loop-i.seat i ++ record { who = inv.seat.1 j; event = Look; reply = found.replied j } ∷ [])) (λ j other. (made.others j other).1);
       count = omega (arith, c.push.ensures.len, inv.count);
-      told =
+      reported =
           ap (map numbers_in) c.push.ensures.items ∙ map-append numbers_in c.loop-i.books.items (book ∷ [])
-          ∙ (λ j. inv.told j ++ same j ∷ [])
+          ∙ (λ j. inv.reported j ++ same j ∷ [])
           ∙ sym (flat_map-append (λ (s : State). numbers_of s ∷ []) inv.found (found.state ∷ []));
     }
 
@@ -54,5 +54,5 @@ returns-clause-looks g c =
       broadcast = broadcast_of shards Look (λ s. Looked (numbers_of s)) inv.found;
       event = refl;
       asked = asked_all shards Look (λ s. Looked (numbers_of s)) (own_at c.args.seat.now) (own_at c.loop-i.seat) inv.found asked;
-      told = inv.told ∙ numbers_are shards inv.found asked.count;
+      reported = inv.reported ∙ numbers_are shards inv.found asked.count;
     }

@@ -13,5 +13,5 @@ invariant-loop-i g l = record {
   found : List State;
   asked : Asked (shards_of l.pool) Look (λ s. Looked (numbers_of s)) l.i found (own_at l.initial.seat) (own_at l.seat);
   count : length l.books.items ≡ l.i;
-  told : map numbers_in l.books.items ≡ flat_map (λ s. numbers_of s ∷ []) found;
+  reported : map numbers_in l.books.items ≡ flat_map (λ s. numbers_of s ∷ []) found;
 }

@@ -1,12 +1,11 @@
 use Rattle.std.proofs.Common.{rules, ◌≡◌, ℕ, Bool, List, [], ◌∷◌, ◌++◌, length, filter, map, take, sym, ap, subst, ◌∙◌, Option, length-append, arith}
 use Rattle.std.specs.Prelude.{IfSome}
 use Rattle.sd_key.specs.Kind.{kind_of}
-use Rattle.sd_model_shard.specs.Rows.{RowId, Kept}
-use Rattle.sd_model_shard.specs.Commands.{is_hit}
+use Rattle.sd_model_shard.specs.Rows.{RowId, Kept, is_hit}
 use Rattle.sd_rows.specs.Rows.{row_seen}
 use Rattle.sd_epoch.specs.Table.{fresh, row_view}
 use Rattle.sd_shard.specs.Keys.{KeyList}
-use Rattle.sd_shard.proofs.CommandLemmas.{filter-hit, filter-miss, there, told-push}
+use Rattle.sd_shard.proofs.CommandLemmas.{filter-hit, filter-miss, there, reported-push}
 use Rattle.sd_shard.proofs.commands.push_keys.Goals as goal
 use Rattle.sd_shard.proofs.commands.push_keys.Goals.{then-is_hit, else-is_hit}
 
@@ -30,7 +29,7 @@ loop-i-preserved c =
           let copied : w.unwrap.result ≡ key row = same ∙ sym (ap (λ (r : RowId). r.key) id) in
           record {
             keys = ap (λ (o : KeyList). o.items) w.out-is ∙ w.push.ensures.items ∙ (λ j. (inv.keys j) ++ (copied j) ∷ [])
-                ∙ told-push key old (filter p (take i listed)) row ∙ ap (λ (rows : List (RowId × Kept)). old ++ map key rows) (sym more);
+                ∙ reported-push key old (filter p (take i listed)) row ∙ ap (λ (rows : List (RowId × Kept)). old ++ map key rows) (sym more);
             count = omega (arith, w.rows-is, inv.count, ap length more, length-append (filter p (take i listed)) (row ∷ []));
             few = omega (arith, w.rows-is, inv.few);
             all = inv.all;

@@ -1,5 +1,5 @@
 use Rattle.std.proofs.Common.{◌≡◌, ◌≤◌, ◌++◌, filter, length, map, take}
-use Rattle.sd_model_shard.specs.Commands.{is_hit}
+use Rattle.sd_model_shard.specs.Rows.{is_hit}
 use Rattle.sd_key.specs.Kind.{kind_of}
 use Rattle.sd_shard.proofs.commands.push_keys.Given as goal
 

@@ -2,12 +2,11 @@ use Rattle.std.proofs.Common.{◌≡◌, Bool, List, [], ◌∷◌, ◌++◌, le
 use Rattle.std.specs.Prelude.{IfSome}
 use Rattle.std.proofs.lemmas.List.{map-append}
 use Rattle.sd_key.specs.Kind.{kind_of}
-use Rattle.sd_model_shard.specs.Rows.{RowId, Kept}
-use Rattle.sd_model_shard.specs.Commands.{DumpRow, is_of_kind, dump_row}
+use Rattle.sd_model_shard.specs.Rows.{RowId, Kept, DumpRow, is_of_kind, dump_row}
 use Rattle.sd_rows.specs.Rows.{row_seen}
 use Rattle.sd_epoch.specs.Table.{fresh, row_view}
 use Rattle.sd_shard.specs.Dump.{DumpList, dump_row_of, rows_of}
-use Rattle.sd_shard.proofs.CommandLemmas.{filter-hit, filter-miss, there, told-push}
+use Rattle.sd_shard.proofs.CommandLemmas.{filter-hit, filter-miss, there, reported-push}
 use Rattle.sd_shard.proofs.commands.push_rows.Goals as goal
 use Rattle.sd_shard.proofs.commands.push_rows.Goals.{then-is_of_kind, else-is_of_kind}
 
@@ -26,10 +25,10 @@ loop-i-preserved c =
     elim c.if-is_of_kind.branch [
       | then-is_of_kind w ↦
           let more = filter-hit p listed i row here.1 (test ∙ w.if-is_of_kind.true) in
-          let told : dump_row_of w.dump_row.result ≡ dump_row row = subst (λ (o : Option (RowId × Kept)). IfSome o (λ r. dump_row_of w.dump_row.result ≡ dump_row r)) here.1 w.dump_row.ensures in
+          let reported : dump_row_of w.dump_row.result ≡ dump_row row = subst (λ (o : Option (RowId × Kept)). IfSome o (λ r. dump_row_of w.dump_row.result ≡ dump_row r)) here.1 w.dump_row.ensures in
           record {
-            rows = ap rows_of w.out-is ∙ ap (map dump_row_of) w.push.ensures.items ∙ map-append dump_row_of c.loop-i.out.items (w.dump_row.result ∷ []) ∙ ap (λ (r : DumpRow). rows_of c.loop-i.out ++ r ∷ []) told ∙ ap (λ (rs : List DumpRow). rs ++ dump_row row ∷ []) inv.rows
-                ∙ told-push dump_row old (filter p (take i listed)) row ∙ ap (λ (rows : List (RowId × Kept)). old ++ map dump_row rows) (sym more);
+            rows = ap rows_of w.out-is ∙ ap (map dump_row_of) w.push.ensures.items ∙ map-append dump_row_of c.loop-i.out.items (w.dump_row.result ∷ []) ∙ ap (λ (r : DumpRow). rows_of c.loop-i.out ++ r ∷ []) reported ∙ ap (λ (rs : List DumpRow). rs ++ dump_row row ∷ []) inv.rows
+                ∙ reported-push dump_row old (filter p (take i listed)) row ∙ ap (λ (rows : List (RowId × Kept)). old ++ map dump_row rows) (sym more);
             few = omega (arith, inv.few, ap length more, length-append (filter p (take i listed)) (row ∷ []));
             all = inv.all;
             room = ap (λ (o : DumpList). o.room) w.out-is ∙ w.push.ensures.room ∙ inv.room;

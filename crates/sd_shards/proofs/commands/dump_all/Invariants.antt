@@ -1,6 +1,6 @@
 use Rattle.std.proofs.Common.{◌≡◌, ◌+◌, ◌*◌, ◌≤◌, length, take}
 use Rattle.std.specs.Prelude.{flat_map}
-use Rattle.sd_model_shard.specs.Commands.{dump_of}
+use Rattle.sd_model_shard.specs.Rows.{dump_of}
 use Rattle.sd_key.specs.Kind.{kind_of}
 use Rattle.sd_shard.specs.Dump.{rows_of}
 use Rattle.sd_shard.specs.Shard.{state_of, Appends}

@@ -1,5 +1,5 @@
 use Rattle.std.proofs.Common.{◌≤◌, [], take}
-use Rattle.sd_model_serve.specs.Talks.{too_many}
+use Rattle.sd_model_serve.specs.Sessions.{too_many}
 use Rattle.sd_talk.specs.Reading.{Listens}
 use Rattle.sd_talk.specs.Room.{IsLineRoom}
 use Rattle.sd_talk.proofs.sessions.session.Given as goal

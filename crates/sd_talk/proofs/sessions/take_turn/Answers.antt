@@ -1,6 +1,6 @@
 use Rattle.std.proofs.Common.{◌+◌, ◌++◌, ◌∷◌, take, drop, ap, sym, subst, ◌∙◌, arith}
 use Rattle.std.proofs.lemmas.List.{with_items_is, length-take-le}
-use Rattle.sd_model_serve.specs.Talks.{HasNoNewline}
+use Rattle.sd_model_serve.specs.Sessions.{HasNoNewline}
 use Rattle.sd_talk.proofs.SessionLemmas.{Listens-read, Listens-line, Stops-cut, Stops-long, Stops-quit, Stops-read}
 use Rattle.sd_talk.proofs.TurnLemmas.{fits_line, none_of, some_of}
 use Rattle.sd_talk.proofs.sessions.take_turn.Goals as goal

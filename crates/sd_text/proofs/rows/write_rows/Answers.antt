@@ -5,7 +5,7 @@ use Rattle.sd_record.specs.Record.{record_view}
 use Rattle.sd_record.specs.Row.{row_view}
 use Rattle.sd_text.specs.Rows.{rows_text}
 use Rattle.sd_text.proofs.RowLemmas.{rows_text-more, rows_text-split}
-use Rattle.sd_text.proofs.WriteSteps.{next_part, next_front, front_front}
+use Rattle.sd_text.proofs.WriteSteps.{next_part, next_prefix, prefix_prefix}
 use Rattle.sd_text.proofs.rows.write_rows.Goals as goal
 
 pub returns-in_err-write_row_through-clause-failed : goal.returns-in_err-write_row_through-clause-failed
@@ -15,8 +15,8 @@ returns-in_err-write_row_through-clause-failed g c =
     let failed = err_from_is_err_and c.from_residual.result c.from_residual.ensures.1 in
     let there = subst (λ (s : Record). slice_get s.rows c.loop-i.i ≡ Some (row_view c.put_row.new.row)) c.loop-i.invariant.same c.put_row.ensures.row in
     let more = rows_text-more lines r.rows c.loop-i.i _ there in
-    let front = next_front _ _ _ (rows_text lines (take c.loop-i.i r.rows)) _ _ c.loop-i.invariant.written more c.in_err-write_row_through.ensures.failed in
-    rw failed.1 (front_front _ _ _ _ _ (rows_text-split lines r.rows (c.loop-i.i + 1)) front)
+    let prefix = next_prefix _ _ _ (rows_text lines (take c.loop-i.i r.rows)) _ _ c.loop-i.invariant.written more c.in_err-write_row_through.ensures.failed in
+    rw failed.1 (prefix_prefix _ _ _ _ _ (rows_text-split lines r.rows (c.loop-i.i + 1)) prefix)
 
 pub loop-i-preserved : goal.loop-i-preserved
 loop-i-preserved g c =

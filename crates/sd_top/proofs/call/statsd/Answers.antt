@@ -1,5 +1,5 @@
 use Rattle.std.proofs.Common.{◌≡◌, Option, Some, map, string_bytes, refl, sym, ap, ◌∙◌, option_map}
-use Rattle.sd_model_call.specs.Words as model
+use Rattle.sd_model_call.specs.Call as model
 use Rattle.sd_model_call.proofs.WordsLemmas.{drill_read}
 use Rattle.sd_top.specs.Words.{form_view}
 use Rattle.sd_top.specs.declared.words.Form.{Form}
@@ -7,8 +7,8 @@ use Rattle.sd_top.proofs.CallLemmas.{by_words, by_files, by_own, by_drill}
 use Rattle.sd_top.proofs.call.statsd.Goals as goal
 
 -- what the words ask for, where it was told as this form
-asked : (form : Option model.Form) (told : Option Form) (f g : Form) → option_map form_view told ≡ form → told ≡ Some f → f ≡ g → form ≡ Some (form_view g)
-asked form told f g views some same = sym views ∙ ap (option_map form_view) some ∙ ap (λ h. Some (form_view h)) same
+asked : (form : Option model.Form) (reported : Option Form) (f g : Form) → option_map form_view reported ≡ form → reported ≡ Some f → f ≡ g → form ≡ Some (form_view g)
+asked form reported f g views some same = sym views ∙ ap (option_map form_view) some ∙ ap (λ h. Some (form_view h)) same
 
 pub returns-in-None : goal.returns-in-None
 returns-in-None g c =

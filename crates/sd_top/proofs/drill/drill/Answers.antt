@@ -1,7 +1,7 @@
 use Rattle.std.proofs.Common.{◌≡◌, ℕ, length, [], refl, sym, ap, subst, ◌∙◌, codes, arith}
 use Rattle.sd_model_outside.specs.Outside.{HasFailedBehind, given}
 use Rattle.sd_model_settings.specs.Settings as file
-use Rattle.sd_model_replay.specs.Settings.{names_backend, targets_of}
+use Rattle.sd_model_replay.specs.Replay.{names_backend, targets_of}
 use Rattle.sd_model_record.specs.Totals.{total_line}
 use Rattle.sd_replay.specs.Ends.{end_of}
 use Rattle.sd_totals.specs.Totals.{totals_view}

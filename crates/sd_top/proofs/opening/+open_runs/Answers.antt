@@ -12,7 +12,7 @@ pub returns-in_err-open_wires-clause-refused : goal.returns-in_err-open_wires-cl
 returns-in_err-open_wires-clause-refused g t c =
     let ps = map g.N.Peer.place c.args.peers.now in
     let see = g.L.Faulty.seen in
-    let front = c.split_at_mut-run.result.0.now in
+    let prefix = c.split_at_mut-run.result.0.now in
     let back = c.split_at_mut-run.result.1.now in
     let answer = answer_of c.in_err-open_wires.field-0.0 in
     let now = map see (c.open_wires.new.wires ++ back) in
@@ -20,22 +20,22 @@ returns-in_err-open_wires-clause-refused g t c =
     rw (p.1, p.2) (subst (λ (places : List Place). EachStops OfWire c.args.first places answer (map see c.args.wires.now) now)
     (sym (repeated_more c.args.runs ps (search rules)))
     (subst (λ olds. EachStops OfWire c.args.first (ps ++ repeated (c.args.runs - 1) ps) answer (map see olds) now) (sym c.split_at_mut-run.ensures.value)
-    (subst (λ olds. EachStops OfWire c.args.first (ps ++ repeated (c.args.runs - 1) ps) answer olds now) (sym (map-append see front back))
-    (subst (λ news. EachStops OfWire c.args.first (ps ++ repeated (c.args.runs - 1) ps) answer (map see front ++ map see back) news) (sym (map-append see c.open_wires.new.wires back))
-    (first_stops OfWire answer c.args.first ps (repeated (c.args.runs - 1) ps) (map see front) (map see c.open_wires.new.wires) (map see back) c.in_err-open_wires.ensures.refused)))))
+    (subst (λ olds. EachStops OfWire c.args.first (ps ++ repeated (c.args.runs - 1) ps) answer olds now) (sym (map-append see prefix back))
+    (subst (λ news. EachStops OfWire c.args.first (ps ++ repeated (c.args.runs - 1) ps) answer (map see prefix ++ map see back) news) (sym (map-append see c.open_wires.new.wires back))
+    (first_stops OfWire answer c.args.first ps (repeated (c.args.runs - 1) ps) (map see prefix) (map see c.open_wires.new.wires) (map see back) c.in_err-open_wires.ensures.refused)))))
 
 pub returns-clause-ok : goal.returns-clause-ok
 returns-clause-ok g t c =
     let ps = map g.N.Peer.place c.args.peers.now in
     let see = g.L.Faulty.seen in
-    let front = c.split_at_mut-run.result.0.now in
+    let prefix = c.split_at_mut-run.result.0.now in
     let back = c.split_at_mut-run.result.1.now in
-    let same = length-map front see ∙ c.split_at_mut-run.ensures.front_len ∙ sym (length-map c.args.peers.now g.N.Peer.place) in
+    let same = length-map prefix see ∙ c.split_at_mut-run.ensures.front_len ∙ sym (length-map c.args.peers.now g.N.Peer.place) in
     on_ok_weaker c.open_runs.result
     (λ rest. map-append see c.open_wires.new.wires c.open_runs.new.wires
     ∙ (λ i. c.in_ok-open_wires.ensures.ok i ++ rest i)
-    ∙ sym (opened_both ps (repeated (c.args.runs - 1) ps) (map see front) (map see back) same)
-    ∙ ap (opened_each (ps ++ repeated (c.args.runs - 1) ps)) (sym (map-append see front back))
+    ∙ sym (opened_both ps (repeated (c.args.runs - 1) ps) (map see prefix) (map see back) same)
+    ∙ ap (opened_each (ps ++ repeated (c.args.runs - 1) ps)) (sym (map-append see prefix back))
     ∙ ap (λ olds. opened_each (ps ++ repeated (c.args.runs - 1) ps) (map see olds)) (sym c.split_at_mut-run.ensures.value)
     ∙ ap (λ places. opened_each places (map see c.args.wires.now)) (sym (repeated_more c.args.runs ps (search rules))))
     c.open_runs.ensures.ok
@@ -44,17 +44,17 @@ pub returns-clause-refused : goal.returns-clause-refused
 returns-clause-refused g t c =
     let ps = map g.N.Peer.place c.args.peers.now in
     let see = g.L.Faulty.seen in
-    let front = c.split_at_mut-run.result.0.now in
+    let prefix = c.split_at_mut-run.result.0.now in
     let back = c.split_at_mut-run.result.1.now in
     let count = length-map c.args.peers.now g.N.Peer.place in
-    let same = length-map front see ∙ c.split_at_mut-run.ensures.front_len ∙ sym count in
+    let same = length-map prefix see ∙ c.split_at_mut-run.ensures.front_len ∙ sym count in
     let now = map see (c.open_wires.new.wires ++ c.open_runs.new.wires) in
     IfErr-weaker c.open_runs.result _ _
     (λ status h. subst (λ (places : List Place). EachStops OfWire c.args.first places (answer_of status) (map see c.args.wires.now) now)
     (sym (repeated_more c.args.runs ps (search rules)))
     (subst (λ olds. EachStops OfWire c.args.first (ps ++ repeated (c.args.runs - 1) ps) (answer_of status) (map see olds) now) (sym c.split_at_mut-run.ensures.value)
-    (subst (λ olds. EachStops OfWire c.args.first (ps ++ repeated (c.args.runs - 1) ps) (answer_of status) olds now) (sym (map-append see front back))
-    (subst (λ news. EachStops OfWire c.args.first (ps ++ repeated (c.args.runs - 1) ps) (answer_of status) (map see front ++ map see back) news) (sym (map-append see c.open_wires.new.wires c.open_runs.new.wires))
-    (second_stops OfWire (answer_of status) c.args.first ps (repeated (c.args.runs - 1) ps) (map see front) (map see c.open_wires.new.wires) (map see back) (map see c.open_runs.new.wires) same c.in_ok-open_wires.ensures.ok
+    (subst (λ olds. EachStops OfWire c.args.first (ps ++ repeated (c.args.runs - 1) ps) (answer_of status) olds now) (sym (map-append see prefix back))
+    (subst (λ news. EachStops OfWire c.args.first (ps ++ repeated (c.args.runs - 1) ps) (answer_of status) (map see prefix ++ map see back) news) (sym (map-append see c.open_wires.new.wires c.open_runs.new.wires))
+    (second_stops OfWire (answer_of status) c.args.first ps (repeated (c.args.runs - 1) ps) (map see prefix) (map see c.open_wires.new.wires) (map see back) (map see c.open_runs.new.wires) same c.in_ok-open_wires.ensures.ok
     (subst (λ k. EachStops OfWire k (repeated (c.args.runs - 1) ps) (answer_of status) (map see back) (map see c.open_runs.new.wires)) (search rules) h))))))
     c.open_runs.ensures.refused

@@ -3,11 +3,12 @@ use Rattle.std.proofs.Math.Nat.{mul-le-mul_right}
 use Rattle.std.proofs.lemmas.Simd.{map-map}
 use Rattle.std.proofs.lemmas.Result.{IfErr-weaker, on_ok_weaker}
 use Rattle.sd_model_call.specs.Call.{StopsAmong}
-use Rattle.sd_model_call.specs.Opening.{OfWire, numbered, opened_all, repeated, target_place}
+use Rattle.sd_model_call.specs.Opening.{OfWire, numbered, opened_all, repeated}
 use Rattle.sd_plan.specs.Entries.{target_view}
 use Rattle.sd_top.specs.Answers.{answer_of}
 use Rattle.sd_top.specs.World.{world_of}
 use Rattle.sd_top.proofs.opening.open_repeater.Goals as goal
+use Rattle.sd_model_call.proofs.Short.{target_place}
 
 pub open_peers-requires-clause-few : goal.open_peers-requires-clause-few
 open_peers-requires-clause-few g c =

@@ -5,14 +5,15 @@ use Rattle.std.proofs.lemmas.Result.{err_from_is_err_and, IfErr-weaker, on_ok_we
 use Rattle.sd_model_outside.specs.Outside.{Place}
 use Rattle.sd_model_call.specs.Call.{StopsAmong}
 use Rattle.sd_model_call.specs.Opening.{OfWire, Opening, numbered, opened_all, repeated}
-use Rattle.sd_model_call.specs.Proxy.{line_readers, node_place}
+use Rattle.sd_model_call.specs.Proxy.{line_readers}
 use Rattle.sd_model_call.specs.Server.{source_openings}
 use Rattle.sd_plan.specs.Entries.{node_view}
 use Rattle.sd_top.specs.Answers.{answer_of}
 use Rattle.sd_top.specs.World.{world_of}
-use Rattle.sd_top.proofs.OpeningLemmas.{opened_behind, stops_behind, stops_in_front}
+use Rattle.sd_top.proofs.OpeningLemmas.{opened_behind, stops_behind, stops_before}
 use Rattle.sd_top.proofs.ProxyLemmas.{few_wires}
 use Rattle.sd_top.proofs.proxy.open_relays.Goals as goal
+use Rattle.sd_model_call.proofs.Short.{node_place}
 
 pub open_peers-requires-clause-few : goal.open_peers-requires-clause-few
 open_peers-requires-clause-few g c =
@@ -29,7 +30,7 @@ returns-in_err-open_packets-clause-refused g c =
     let old = world_of g.K.R.Faulty.seen g.K.O.Faulty.seen g.K.B.Faulty.seen g.K.D.Faulty.seen g.K.L.Faulty.seen g.K.E.Faulty.seen g.K.P.Faulty.seen g.K.Q.Faulty.seen g.K.S.Faulty.seen c.args.world.now in
     let first = world_of g.K.R.Faulty.seen g.K.O.Faulty.seen g.K.B.Faulty.seen g.K.D.Faulty.seen g.K.L.Faulty.seen g.K.E.Faulty.seen g.K.P.Faulty.seen g.K.Q.Faulty.seen g.K.S.Faulty.seen c.open_packets.new.world in
     let p = err_from_is_err_and c.from_residual.result c.from_residual.ensures.1 in
-    rw (p.1, p.2) (stops_in_front (source_openings s) (numbered OfWire 0 (repeated (s.sizes.receivers + line_readers s) (map node_place s.lists.nodes))) (answer_of c.in_err-open_packets.field-0.0) old first c.in_err-open_packets.ensures.refused)
+    rw (p.1, p.2) (stops_before (source_openings s) (numbered OfWire 0 (repeated (s.sizes.receivers + line_readers s) (map node_place s.lists.nodes))) (answer_of c.in_err-open_packets.field-0.0) old first c.in_err-open_packets.ensures.refused)
 
 pub returns-clause-opened : goal.returns-clause-opened
 returns-clause-opened g c =

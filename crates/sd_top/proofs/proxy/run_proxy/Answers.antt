@@ -2,10 +2,9 @@ use Rattle.std.proofs.Common.{◌≡◌, ◌+◌, ◌*◌, false, [], arith, len
 use Rattle.std.specs.Prelude.{if◌then◌else◌}
 use Rattle.std.proofs.lemmas.List.{length-map}
 use Rattle.sd_model_outside.specs.Outside.{Host}
-use Rattle.sd_model_outside.specs.Turns.{with_interval}
 use Rattle.sd_model_live.specs.Port.{has_port}
 use Rattle.sd_model_live.specs.Proxy.{ProxyObjects}
-use Rattle.sd_model_call.specs.Proxy.{check_interval, line_readers, proxy_begun, proxy_objects, proxy_openings}
+use Rattle.sd_model_call.specs.Proxy.{line_readers, proxy_objects, proxy_openings}
 use Rattle.sd_model_call.specs.Server.{has_streams}
 use Rattle.sd_plan.specs.Entries.{node_view}
 use Rattle.sd_proxy.specs.Views.{end_view}
@@ -16,6 +15,8 @@ use Rattle.sd_top.specs.World.{world_of}
 use Rattle.sd_top.proofs.OpeningLemmas.{where_kept}
 use Rattle.sd_top.proofs.ProxyLemmas.{few_wires}
 use Rattle.sd_top.proofs.proxy.run_proxy.Goals as goal
+use Rattle.sd_model_call.proofs.Short.{check_interval, proxy_begun}
+use Rattle.sd_model_outside.proofs.Short.{with_interval}
 
 pub returns-in_default-clause-refused : goal.returns-in_default-clause-refused
 returns-in_default-clause-refused g c = inl (refl, record { before = []; behind = proxy_openings c.args.settings.now; order = refl; opened = refl })
@@ -26,14 +27,14 @@ relay-requires-clause-room g c κs within =
     let is = c.in-Ok.ensures.room in
     let nodes = map node_view c.nodes.result.now in
     subst (λ ns. IsRoomFor ns (receivers_in room) (lines_in room) room) c.nodes.ensures.value
-    (subst (λ n. IsRoomFor nodes n (lines_in room) room) (sym is.postings.places) (subst (λ n. IsRoomFor nodes c.unwrap-receivers.result n room) (sym is.postings.liners) is))
+    (subst (λ n. IsRoomFor nodes n (lines_in room) room) (sym is.postings.places) (subst (λ n. IsRoomFor nodes c.unwrap-receivers.result n room) (sym is.postings.line_readers) is))
 
 pub relay-requires-clause-wires : goal.relay-requires-clause-wires
 relay-requires-clause-wires g c κs within =
     let s = c.args.settings.now in
     let receivers : c.unwrap-receivers.result ≡ s.sizes.receivers = search rules in
     let is = c.in-Ok.ensures.room.postings in
-    let lines : lines_in c.in-Ok.room ≡ line_readers s = is.liners ∙ ap (λ used. if used then 1 else 0) c.reads_streams.ensures in
+    let lines : lines_in c.in-Ok.room ≡ line_readers s = is.line_readers ∙ ap (λ used. if used then 1 else 0) c.reads_streams.ensures in
     let product : (receivers_in c.in-Ok.room + lines_in c.in-Ok.room) * length s.lists.nodes ≡ (s.sizes.receivers + line_readers s) * length s.lists.nodes =
     (λ i. ((is.places ∙ receivers) i + lines i) * length s.lists.nodes) in
     let few = few_wires s c.requires.fits in
@@ -71,7 +72,7 @@ returns-clause-relayed g c =
     (λ i. record { sources = map g.K.D.Faulty.seen mid.packets.items; wires = map g.K.L.Faulty.seen mid.wires.items; lines = g.K.S.Faulty.seen mid.streams; beat = beat i; probe = g.K.Q.Faulty.seen mid.probe; door = g.K.E.Faulty.seen mid.door }) ∙ ap proxy_objects begun_is in
     let clear : IsClearRoom s.transport.batch_bytes c.in-Ok.room = subst (λ m. IsClearRoom m c.in-Ok.room) c.batch_bytes.ensures.value c.in-Ok.ensures.clear in
     let is = c.in-Ok.ensures.room.postings in
-    let lines : lines_in c.in-Ok.room ≡ line_readers s = is.liners ∙ ap (λ used. if used then 1 else 0) c.reads_streams.ensures in
+    let lines : lines_in c.in-Ok.room ≡ line_readers s = is.line_readers ∙ ap (λ used. if used then 1 else 0) c.reads_streams.ensures in
     let ran : relaying.HasRelayed s (receivers_in c.in-Ok.room) (lines_in c.in-Ok.room) first (proxy_objects new) r = c.relay.ensures.relayed clear in
     record {
       relayed = subst (λ (o : ProxyObjects). relaying.HasRelayed s s.sizes.receivers (line_readers s) o (proxy_objects new) r) before

@@ -1,19 +1,20 @@
 use Rattle.std.proofs.Common.{◌≡◌, [], length, map, refl, sym, ap, subst, ◌∙◌, arith, inl}
 use Rattle.std.proofs.lemmas.List.{length-map}
 use Rattle.sd_model_outside.specs.Outside.{Host, Object}
-use Rattle.sd_model_outside.specs.Turns.{with_interval}
-use Rattle.sd_model_replay.specs.Settings.{is_used}
+use Rattle.sd_model_replay.specs.Replay.{is_used}
 use Rattle.sd_model_record.specs.Backends.{Backend, Graphite, Console}
-use Rattle.sd_model_run.specs.Run.{Terms, Objects}
+use Rattle.sd_model_run.specs.Run.{RunSettings, Objects}
 use Rattle.sd_model_call.specs.Opening.{Flags, World}
-use Rattle.sd_model_call.specs.Server.{back_in, begun, flush_interval, has_streams, objects_in, server_openings, serves_by}
+use Rattle.sd_model_call.specs.Server.{back_in, has_streams, objects_in, server_openings, run_settings_of}
 use Rattle.sd_flush.specs.Flushing.{back_of, uses_by}
 use Rattle.sd_outside.specs.declared.backend.Backs.{Backs}
 use Rattle.sd_serve.specs.Room.{outlets_of, sizing_in, start_in}
-use Rattle.sd_serve.specs.Serving.{HasServed, end_of, objects_of, terms_of}
+use Rattle.sd_serve.specs.Serving.{HasServed, end_of, objects_of, run_settings_in}
 use Rattle.sd_top.specs.World.{world_of}
 use Rattle.sd_top.proofs.OpeningLemmas.{where_kept}
 use Rattle.sd_top.proofs.server.run_server.Goals as goal
+use Rattle.sd_model_call.proofs.Short.{flush_interval, server_begun}
+use Rattle.sd_model_outside.proofs.Short.{with_interval}
 
 pub returns-in_default-clause-refused : goal.returns-in_default-clause-refused
 returns-in_default-clause-refused g c = inl (refl, record { before = []; behind = server_openings c.args.settings.now; order = refl; opened = refl })
@@ -54,11 +55,11 @@ pub returns-clause-few : goal.returns-clause-few
 returns-clause-few g c =
     let h = c.serve.ensures.served in
     let received = length-map c.serve.result.received.items end_of in
-    let receptions = length-map h.course.receptions (λ r. r.ended) in
+    let receiver_traces = length-map h.trace.receiver_traces (λ r. r.ended) in
     let same = ap length h.received in
     let count = h.theorem.run.count in
     let few = (c.in-Ok.ensures.room).sizes_are.few_receivers in
-    omega (arith, received, receptions, same, count, few)
+    omega (arith, received, receiver_traces, same, count, few)
 
 pub returns-clause-served : goal.returns-clause-served
 returns-clause-served g c =
@@ -71,7 +72,7 @@ returns-clause-served g c =
     let flags = c.in_ok-open_server.ensures.flags ∙ c.requires.flags in
     let used = used_as s mid.backs.graphite_used mid.backs.console_used (ap (λ (f : Flags). f.graphite) flags) (ap (λ (f : Flags). f.console) flags) in
     let flushes = c.from.ensures ∙ c.run_flushes.ensures.value in
-    let terms : terms_of (sizing_in c.in-Ok.room) c.plan.result.now c.of-names.result s mid.backs c.from.result ≡ serves_by s = (λ i. record {
+    let run_settings : run_settings_in (sizing_in c.in-Ok.room) c.plan.result.now c.of-names.result s mid.backs c.from.result ≡ run_settings_of s = (λ i. record {
       limits = (sizes i).limits;
       policy = (sizes i).policy;
       form = record { shards = (sizes i).shards; plan = c.plan.ensures i; names = c.of-names.ensures i };
@@ -83,7 +84,7 @@ returns-clause-served g c =
       streams = (sizes i).streams;
       run_flushes = flushes i;
     }) in
-    let begun_is : record seen_mid { served = record seen_mid.served { beat = with_interval (flush_interval s) seen_mid.served.beat } } ≡ begun s old =
+    let begun_is : record seen_mid { served = record seen_mid.served { beat = with_interval (flush_interval s) seen_mid.served.beat } } ≡ server_begun s old =
     (λ i. record (opened i) { served = record (opened i).served { beat = with_interval (flush_interval s) (opened i).served.beat } }) in
     let beat = c.start.ensures ∙ (λ i. with_interval (record { ms = c.flush_interval.ensures.value i; is_aligned = c.align_flushes.ensures i }) (g.K.P.Faulty.seen mid.beat)) in
     let before : objects_of g.K.D.Faulty.seen g.K.L.Faulty.seen g.K.P.Faulty.seen g.K.B.Faulty.seen g.K.E.Faulty.seen g.K.S.Faulty.seen mid.packets.items mid.wires.items c.start.new.self mid.backs mid.door mid.streams
@@ -106,8 +107,8 @@ returns-clause-served g c =
       door = g.K.E.Faulty.seen c.serve.new.objects.door.now;
       streams = g.K.S.Faulty.seen c.serve.new.objects.streams.now;
     }) in
-    subst (λ (t : Terms). HasServed t (g.K.T.Clock.may_say c.args.world.now.clock) (objects_in (begun s old)) (objects_in new) c.serve.result) terms
-    (subst (λ k. HasServed (terms_of (sizing_in c.in-Ok.room) c.plan.result.now c.of-names.result s mid.backs c.from.result) (g.K.T.Clock.may_say k) (objects_in (begun s old)) (objects_in new) c.serve.result) c.open_server.ensures.rest.clock
-    (subst (λ (o : Objects). HasServed (terms_of (sizing_in c.in-Ok.room) c.plan.result.now c.of-names.result s mid.backs c.from.result) (g.K.T.Clock.may_say mid.clock) o (objects_in new) c.serve.result) (before ∙ ap objects_in begun_is)
-    (subst (λ (o : Objects). HasServed (terms_of (sizing_in c.in-Ok.room) c.plan.result.now c.of-names.result s mid.backs c.from.result) (g.K.T.Clock.may_say mid.clock) (objects_of g.K.D.Faulty.seen g.K.L.Faulty.seen g.K.P.Faulty.seen g.K.B.Faulty.seen g.K.E.Faulty.seen g.K.S.Faulty.seen mid.packets.items mid.wires.items c.start.new.self mid.backs mid.door mid.streams) o c.serve.result) after
+    subst (λ (t : RunSettings). HasServed t (g.K.T.Clock.may_say c.args.world.now.clock) (objects_in (server_begun s old)) (objects_in new) c.serve.result) run_settings
+    (subst (λ k. HasServed (run_settings_in (sizing_in c.in-Ok.room) c.plan.result.now c.of-names.result s mid.backs c.from.result) (g.K.T.Clock.may_say k) (objects_in (server_begun s old)) (objects_in new) c.serve.result) c.open_server.ensures.rest.clock
+    (subst (λ (o : Objects). HasServed (run_settings_in (sizing_in c.in-Ok.room) c.plan.result.now c.of-names.result s mid.backs c.from.result) (g.K.T.Clock.may_say mid.clock) o (objects_in new) c.serve.result) (before ∙ ap objects_in begun_is)
+    (subst (λ (o : Objects). HasServed (run_settings_in (sizing_in c.in-Ok.room) c.plan.result.now c.of-names.result s mid.backs c.from.result) (g.K.T.Clock.may_say mid.clock) (objects_of g.K.D.Faulty.seen g.K.L.Faulty.seen g.K.P.Faulty.seen g.K.B.Faulty.seen g.K.E.Faulty.seen g.K.S.Faulty.seen mid.packets.items mid.wires.items c.start.new.self mid.backs mid.door mid.streams) o c.serve.result) after
     c.serve.ensures.served)))

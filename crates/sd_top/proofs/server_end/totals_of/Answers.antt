@@ -1,9 +1,10 @@
 -- Where there were no outlets, nothing is added.
 use Rattle.std.proofs.Common.{◌≡◌, ◌∙◌, ℕ, ◌+◌, map, ap, sym, arith}
-use Rattle.sd_model_record.specs.Totals.{added, totals_of}
+use Rattle.sd_model_record.specs.Totals.{totals_of}
 use Rattle.sd_shard.specs.Shard.{numbers_in}
 use Rattle.sd_top.specs.Serving.{totals_in}
 use Rattle.sd_top.proofs.server_end.totals_of.Goals as goal
+use Rattle.sd_model_record.proofs.Short.{added}
 
 none_more : (n : ℕ) → n ≡ n + 0
 none_more n = omega arith

@@ -1,11 +1,12 @@
 use Rattle.std.proofs.Common.{◌+◌, length, map, sym, ap, ◌∙◌}
-use Rattle.sd_model_record.specs.Totals.{added, known_before_end, totals_of}
+use Rattle.sd_model_record.specs.Totals.{known_before_end, totals_of}
 use Rattle.sd_model_record.specs.Replies.{reply_lines}
 use Rattle.sd_shard.specs.Shard.{numbers_in}
 use Rattle.sd_desk.specs.Facts.{facts_view}
 use Rattle.sd_admin.specs.Reply.{reply_view}
 use Rattle.sd_admin.proofs.TotalsLines.{totals-count}
 use Rattle.sd_admin.proofs.reply.ReplyLineText.line_count.Goals as goal
+use Rattle.sd_model_record.proofs.Short.{added}
 
 pub returns-in-Totals : goal.returns-in-Totals
 returns-in-Totals c =

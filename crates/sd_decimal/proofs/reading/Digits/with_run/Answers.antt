@@ -14,9 +14,9 @@ loop-i-preserved c =
     let before = c.loop-i.invariant in (
       grind (arith, prefix_len-drop_yes),
       λ n keeps.
-          let front = digits_value_after 10 n (take i text) in
-          let value : front * 10 + c.in-Some.digit ≡ digits_value_after 10 n (take (i + 1) text) =
-          ap (λ d. front * 10 + d) c.in-Some.ensures.number ∙ sym (digits_value_after_more n text i inside) in
-          subst (λ m. Keeps m next.result.kept next.result.more) value (next.ensures.digits front (before.1 n keeps)),
+          let prefix = digits_value_after 10 n (take i text) in
+          let value : prefix * 10 + c.in-Some.digit ≡ digits_value_after 10 n (take (i + 1) text) =
+          ap (λ d. prefix * 10 + d) c.in-Some.ensures.number ∙ sym (digits_value_after_more n text i inside) in
+          subst (λ m. Keeps m next.result.kept next.result.more) value (next.ensures.digits prefix (before.1 n keeps)),
       omega (arith, before.2, next.ensures.more),
     )

@@ -1,12 +1,12 @@
 use Rattle.std.proofs.Common.{◌≤◌, subst}
-use Rattle.sd_model_record.specs.Desk.{last_counted}
-use Rattle.sd_model_record.specs.Counts.{Count, TotalPackets, TotalLines, TotalBad, TotalDropped, TakenPackets, TakenLines, TakenBad, TakenDropped, RoundsMade, GraphiteFaults, ConsoleFaults, RepeaterFaults, AdminFaults, number_of}
+use Rattle.sd_model_record.specs.Totals.{Count, TotalPackets, TotalLines, TotalBad, TotalDropped, TakenPackets, TakenLines, TakenBad, TakenDropped, RoundsMade, GraphiteFaults, ConsoleFaults, RepeaterFaults, AdminFaults, number_of}
 use Rattle.sd_desk.specs.Sums.{IsInRange}
 use Rattle.sd_desk.specs.Desk.{IsDesk, desk_of}
 use Rattle.sd_desk.specs.declared.desk.Desk.TheInside.{Inside}
 use Rattle.sd_desk.proofs.desk.Desk.facts.Goals as goal
+use Rattle.sd_model_shard.specs.Shard.{last_number}
 
-numbers : (d : Inside) → IsDesk d → (count : Count) → number_of (desk_of d) count ≤ last_counted
+numbers : (d : Inside) → IsDesk d → (count : Count) → number_of (desk_of d) count ≤ last_number
 numbers d h TotalPackets = d.totals.few_packets
 numbers d h TotalLines = d.totals.few_lines
 numbers d h TotalBad = d.totals.few_bad

@@ -4,17 +4,17 @@ use Rattle.std.specs.Cmp.Lexicographic.{slice_cmp}
 use Rattle.std.proofs.lemmas.List.{length-map, map-append}
 use Rattle.sd_epoch.specs.Chain.{up_to}
 use Rattle.sd_epoch.specs.Members.{member_places, members_before}
-use Rattle.sd_epoch.specs.Since.{members_at, told_members}
+use Rattle.sd_epoch.specs.Since.{members_at, reported_members}
 use Rattle.sd_epoch.specs.declared.members.SetMember.{SetMember}
 use Rattle.sd_epoch.proofs.ChainLemmas.{IsOfRow, element, goes_on, any-push}
 use Rattle.sd_epoch.proofs.MemberLemmas.{among}
 use Rattle.sd_epoch.proofs.members.Members.stands_before.Goals as goal
 
 -- a member is among those of entries and one more where it is among them, or that of the one more
-among-more : (m : List ℕ) (own : List SetMember) (e : SetMember) → among m (told_members (own ++ e ∷ [])) ≡ (among m (told_members own) || is_eq (slice_cmp nat_cmp m e.member.items))
+among-more : (m : List ℕ) (own : List SetMember) (e : SetMember) → among m (reported_members (own ++ e ∷ [])) ≡ (among m (reported_members own) || is_eq (slice_cmp nat_cmp m e.member.items))
 among-more m own e =
     ap (among m) (map-append (λ (x : SetMember). x.member.items) own (e ∷ []))
-    ∙ any-push (λ other. is_eq (slice_cmp nat_cmp m other)) (told_members own) e.member.items
+    ∙ any-push (λ other. is_eq (slice_cmp nat_cmp m other)) (reported_members own) e.member.items
 
 or_true : (b : Bool) → (b || true) ≡ true
 or_true true = refl
@@ -42,10 +42,10 @@ loop-next-preserved c =
     let on = goes_on (λ (m : SetMember). m.place) entries _ _ c.args.place c.in-Some.other c.before-next-in-Some.result c.requires.members.chain here c.before-next-in-Some.ensures in
     let own = members_at c.args.place (take (up_to c.before-next-in-Some.result) entries) in record {
       of_row = on.of_row;
-      among = inv.among ∙ ap (λ (next : Option ℕ). among m (told_members (members_at c.args.place (take (up_to next) entries)))) c.in-Some.is
+      among = inv.among ∙ ap (λ (next : Option ℕ). among m (reported_members (members_at c.args.place (take (up_to next) entries)))) c.in-Some.is
           ∙ ap (λ (es : List SetMember). among m (map (λ (x : SetMember). x.member.items) es)) (on.more d)
-          ∙ among-more m own e ∙ ap (λ b. among m (told_members own) || b) (sym test ∙ c.if-is_member.false)
-          ∙ or_false (among m (told_members own));
+          ∙ among-more m own e ∙ ap (λ b. among m (reported_members own) || b) (sym test ∙ c.if-is_member.false)
+          ∙ or_false (among m (reported_members own));
     }
 
 pub returns-then-is_member : goal.returns-then-is_member
@@ -61,8 +61,8 @@ returns-then-is_member c x =
     let on = goes_on (λ (m : SetMember). m.place) entries _ _ c.args.place c.in-Some.other (get_or (members_before c.args.self.now.items.items) c.in-Some.other None) c.requires.members.chain here refl in
     let own = members_at c.args.place (take (up_to (get_or (members_before c.args.self.now.items.items) c.in-Some.other None)) entries) in
     let is_m : m ≡ (get_or entries c.args.at x).member.items = c.member-member.ensures.bytes x in
-    sym (ap (λ (k : List ℕ). among k (told_members (members_at c.args.place (take c.args.at entries)))) (sym is_m)
-    ∙ inv.among ∙ ap (λ (next : Option ℕ). among m (told_members (members_at c.args.place (take (up_to next) entries)))) c.in-Some.is
+    sym (ap (λ (k : List ℕ). among k (reported_members (members_at c.args.place (take c.args.at entries)))) (sym is_m)
+    ∙ inv.among ∙ ap (λ (next : Option ℕ). among m (reported_members (members_at c.args.place (take (up_to next) entries)))) c.in-Some.is
     ∙ ap (λ (es : List SetMember). among m (map (λ (x : SetMember). x.member.items) es)) (on.more d)
-    ∙ among-more m own e ∙ ap (λ b. among m (told_members own) || b) (sym test ∙ c.if-is_member.true)
-    ∙ or_true (among m (told_members own)))
+    ∙ among-more m own e ∙ ap (λ b. among m (reported_members own) || b) (sym test ∙ c.if-is_member.true)
+    ∙ or_true (among m (reported_members own)))

@@ -2,7 +2,7 @@ use Rattle.std.proofs.Common.{◌≡◌, ℕ, List, [], ◌∷◌, ◌++◌, map
 use Rattle.std.proofs.lemmas.List.{map-append, reverse-append, reverse-reverse}
 use Rattle.arrayvec.specs.ArrayVec.{ArrayVec}
 use Rattle.sd_epoch.specs.Scratch.{texts}
-use Rattle.sd_epoch.specs.Since.{members_at, told_members}
+use Rattle.sd_epoch.specs.Since.{members_at, reported_members}
 use Rattle.sd_epoch.proofs.scratch.Scratch.put_members.Goals as goal
 
 map-reverse : {A B : Type 0} (f : A → B) (xs : List A) → map f (reverse xs) ≡ reverse (map f xs)
@@ -14,4 +14,4 @@ map-reverse f (x ∷ xs) =
 pub returns-clause-members : goal.returns-clause-members
 returns-clause-members c =
     ap texts c.reverse.ensures.items ∙ map-reverse (λ (m : ArrayVec ℕ). m.items) c.push_to.new.out.items
-    ∙ ap reverse c.push_to.ensures.members ∙ reverse-reverse (told_members (members_at c.args.place c.args.members.now.items.items))
+    ∙ ap reverse c.push_to.ensures.members ∙ reverse-reverse (reported_members (members_at c.args.place c.args.members.now.items.items))

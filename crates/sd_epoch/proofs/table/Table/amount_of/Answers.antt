@@ -1,8 +1,7 @@
 use Rattle.std.proofs.Common.{◌≡◌, ℤ, get_or, Option, sym, ap, subst, ◌∙◌, arith}
 use Rattle.std.specs.Prelude.{IfSome}
 use Rattle.std.specs.List.{slice_get}
-use Rattle.sd_model_shard.specs.Rows.{RowId, Kept}
-use Rattle.sd_model_shard.specs.Summaries.{amount_by}
+use Rattle.sd_model_shard.specs.Rows.{RowId, Kept, amount_by}
 use Rattle.sd_key.specs.Kind.{kind_of}
 use Rattle.sd_key.specs.declared.kind.Kind.{Kind}
 use Rattle.sd_rows.specs.Rows.{row_seen}
@@ -50,21 +49,21 @@ tally : (c : After-live_row) → c.tally-tally.result ≡ get_or c.self.inside.r
 tally c = c.tally-tally.ensures
 
 -- what its kind makes of what came to it is its amount
-told : (c : After-live_row) (kind : Kind) (amount : ℤ) → c.live_row.result.kind ≡ kind → amount ≡ amount_by (kind_of kind) (since_in c.self.inside c.index-place.result.now)
+reported : (c : After-live_row) (kind : Kind) (amount : ℤ) → c.live_row.result.kind ≡ kind → amount ≡ amount_by (kind_of kind) (since_in c.self.inside c.index-place.result.now)
     → IfSome (slice_get c.args.self.now.listed c.args.i) (λ r. amount ≡ amount_by r.0.kind r.1.since)
-told c kind amount is are =
+reported c kind amount is are =
     let all : amount ≡ amount_by (kind_of c.live_row.result.kind) (since_in c.self.inside c.index-place.result.now) = are ∙ ap (λ (kind : Kind). amount_by (kind_of kind) (since_in c.self.inside c.index-place.result.now)) (sym is) in
     subst (λ (s : Listing). IfSome (slice_get s.listed c.args.i) (λ r. amount ≡ amount_by r.0.kind r.1.since)) c.self.view_is
     (subst (λ (o : Option (RowId × Kept)). IfSome o (λ r. amount ≡ amount_by r.0.kind r.1.since)) (sym (at c).listed) all)
 
 pub returns-in-Counter : goal.returns-in-Counter
-returns-in-Counter c = let row = (goal.at.returns-in-Counter c).After-live_row in told row _ _ c.in-Counter.is (ap (λ (x : Tally). x.weight.0) (tally row))
+returns-in-Counter c = let row = (goal.at.returns-in-Counter c).After-live_row in reported row _ _ c.in-Counter.is (ap (λ (x : Tally). x.weight.0) (tally row))
 
 pub returns-in-Timer : goal.returns-in-Timer
-returns-in-Timer c = let row = (goal.at.returns-in-Timer c).After-live_row in told row _ _ c.in-Timer.is c.sum_at.ensures
+returns-in-Timer c = let row = (goal.at.returns-in-Timer c).After-live_row in reported row _ _ c.in-Timer.is c.sum_at.ensures
 
 pub returns-in-Gauge : goal.returns-in-Gauge
-returns-in-Gauge c = let row = (goal.at.returns-in-Gauge c).After-live_row in told row _ _ c.in-Gauge.is (c.gauge_sum.ensures ∙ ap (λ (x : Tally). x.gauge.0) (tally row))
+returns-in-Gauge c = let row = (goal.at.returns-in-Gauge c).After-live_row in reported row _ _ c.in-Gauge.is (c.gauge_sum.ensures ∙ ap (λ (x : Tally). x.gauge.0) (tally row))
 
 pub returns-in-Set : goal.returns-in-Set
-returns-in-Set c = let row = (goal.at.returns-in-Set c).After-live_row in told row _ _ c.in-Set.is c.distinct_sum.ensures
+returns-in-Set c = let row = (goal.at.returns-in-Set c).After-live_row in reported row _ _ c.in-Set.is c.distinct_sum.ensures

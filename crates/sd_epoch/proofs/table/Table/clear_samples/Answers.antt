@@ -9,7 +9,7 @@ use Rattle.sd_epoch.specs.Values.{value_places}
 use Rattle.sd_epoch.specs.declared.members.SetMember.{SetMember}
 use Rattle.sd_epoch.specs.declared.values.TimerValue.{TimerValue}
 use Rattle.sd_epoch.proofs.FreshLemmas.{all_fresh, fresh_since, fresh_samples, freshened_are}
-use Rattle.sd_epoch.proofs.SumLemmas.{none_told}
+use Rattle.sd_epoch.proofs.SumLemmas.{none_reported}
 use Rattle.sd_epoch.proofs.table.Table.clear_samples.Goals as goal
 
 pub invariant_of-self : goal.invariant_of-self
@@ -21,15 +21,15 @@ invariant_of-self c =
     let members = c.clear-2.new.self in
     let since : ℕ → Summary = since_at tallies values.items.items members.items.items in
     let none = all_fresh t.rows.rows tallies values.items.items members.items.items c.clear.ensures.items c.clear-2.ensures.items c.clear_tallies.ensures.tallies in
-    let told_now : c.clear_tallies.new.rows ≡ record { rows = t.rows.rows; tallies = tallies; used = c.clear_tallies.new.rows.used } =
+    let reported_now : c.clear_tallies.new.rows ≡ record { rows = t.rows.rows; tallies = tallies; used = c.clear_tallies.new.rows.used } =
     λ i. record { rows = c.clear_tallies.ensures.rows i; tallies = tallies; used = c.clear_tallies.new.rows.used } in
-    rw told_now record {
+    rw reported_now record {
       limits = w.limits;
       rows = w.rows;
       ranked = w.ranked;
       ranks = w.ranks;
       since = fresh_since t.rows.rows since none;
-      held = sym (none_told (λ id. true) t.rows.rows since t.order.places.items w.rows (fresh_samples t.rows.rows since none));
+      held = sym (none_reported (λ id. true) t.rows.rows since t.order.places.items w.rows (fresh_samples t.rows.rows since none));
       few_held = omega arith;
       values = c.clear.ensures.values;
       owned_values = subst (λ (vs : List TimerValue). AllLive t.rows.rows (value_places vs)) (sym c.clear.ensures.items) tt;

@@ -10,7 +10,7 @@ use Rattle.sd_epoch.specs.Values.{value_places}
 use Rattle.sd_epoch.specs.declared.members.SetMember.{SetMember}
 use Rattle.sd_epoch.specs.declared.values.TimerValue.{TimerValue}
 use Rattle.sd_epoch.proofs.FreshLemmas.{no_row_samples, no_values, no_members, since_emptied, still_live}
-use Rattle.sd_epoch.proofs.SumLemmas.{none_told}
+use Rattle.sd_epoch.proofs.SumLemmas.{none_reported}
 use Rattle.sd_epoch.proofs.TurnLemmas.{has_places}
 use Rattle.sd_epoch.proofs.table.Table.drop_place.Goals as goal
 
@@ -22,15 +22,15 @@ invariant_of-self c =
     let order = c.empty_at.new.order.places.items in
     let are = c.empty_at.ensures.places in
     let none = ap (λ (s : Listing). s.held) c.self.view_is ∙ c.requires.no_samples in
-    let told_now : c.empty_at.new.rows ≡ record { rows = rows; tallies = t.rows.tallies; used = c.empty_at.new.rows.used } =
+    let reported_now : c.empty_at.new.rows ≡ record { rows = rows; tallies = t.rows.tallies; used = c.empty_at.new.rows.used } =
     λ i. record { rows = rows; tallies = c.empty_at.ensures.tallies i; used = c.empty_at.new.rows.used } in
-    rw told_now record {
+    rw reported_now record {
       limits = w.limits;
       rows = c.empty_at.ensures.rows;
       ranked = c.empty_at.ensures.ranked;
       ranks = c.empty_at.ensures.ranks ∙ w.ranks;
       since = subst (λ (xs : List (Option Row)). AreSince xs (since_in t)) (sym are) (since_emptied t.rows.rows c.args.at (since_in t) w.since);
-      held = none ∙ sym (none_told (λ id. true) rows (since_in t) order c.empty_at.ensures.rows (λ p l. no_row_samples t w none p (still_live t.rows.rows c.args.at p (λ gone. l (ap (λ (xs : List (Option Row)). row_at xs p) are ∙ gone)))));
+      held = none ∙ sym (none_reported (λ id. true) rows (since_in t) order c.empty_at.ensures.rows (λ p l. no_row_samples t w none p (still_live t.rows.rows c.args.at p (λ gone. l (ap (λ (xs : List (Option Row)). row_at xs p) are ∙ gone)))));
       few_held = w.few_held;
       values = w.values;
       owned_values = subst (λ (vs : List TimerValue). AllLive rows (value_places vs)) (sym (no_values t w none)) tt;

@@ -1,5 +1,5 @@
 use Rattle.std.proofs.Common.{◌≡◌, ap, subst, sym, arith}
-use Rattle.sd_model_shard.specs.Summaries.{listed_in as samples_listed}
+use Rattle.sd_model_shard.specs.Rows.{listed_in as samples_listed}
 use Rattle.sd_epoch.specs.Table.{Listing, live_of}
 use Rattle.sd_epoch.proofs.OrderLemmas.{ranked_different}
 use Rattle.sd_epoch.proofs.SumLemmas.{entries_are}

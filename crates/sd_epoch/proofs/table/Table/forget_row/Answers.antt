@@ -1,8 +1,7 @@
 use Rattle.std.proofs.Common.{◌≡◌, ap, ◌∙◌, arith}
 use Rattle.std.specs.FinMap.{remove}
-use Rattle.sd_model_shard.specs.Rows.{is_same_row}
-use Rattle.sd_model_shard.specs.Summaries.{row_in, samples_in}
-use Rattle.sd_epoch.specs.Places.{told_live}
+use Rattle.sd_model_shard.specs.Rows.{is_same_row, row_in, samples_in}
+use Rattle.sd_epoch.specs.Places.{reported_live}
 use Rattle.sd_epoch.specs.Table.{Listing, live_of, id_of}
 use Rattle.sd_epoch.specs.TableInside.{since_in}
 use Rattle.sd_epoch.proofs.ForgetLemmas.{without_id}
@@ -20,17 +19,17 @@ overflow_sub-result c =
 
 pub invariant_of-self : goal.invariant_of-self
 invariant_of-self c =
-    let told_now : c.drop_row.new.rows ≡ record { rows = c.drop_row.new.rows.rows; tallies = c.self.inside.rows.tallies; used = c.drop_row.new.rows.used } =
+    let reported_now : c.drop_row.new.rows ≡ record { rows = c.drop_row.new.rows.rows; tallies = c.self.inside.rows.tallies; used = c.drop_row.new.rows.used } =
     λ i. record { rows = c.drop_row.new.rows.rows; tallies = c.drop_row.ensures.tallies i; used = c.drop_row.new.rows.used } in
-    rw told_now (table_now c.self.inside c.self.invariant (is_same_row (id_of c.args.kind c.args.key.now)) _ _ _ _ c.drop_row.ensures.left c.close_up.ensures c.drop_row.new.rows.used c.samples_at-self-inside.result c.drop_row.ensures.len
+    rw reported_now (table_now c.self.inside c.self.invariant (is_same_row (id_of c.args.kind c.args.key.now)) _ _ _ _ c.drop_row.ensures.left c.close_up.ensures c.drop_row.new.rows.used c.samples_at-self-inside.result c.drop_row.ensures.len
     (held_is c.self.inside c.self.invariant (is_same_row (id_of c.args.kind c.args.key.now)) _ _ _ _ c.drop_row.ensures.left c.close_up.ensures _ _ _ c.deref.ensures.value c.drop_row.ensures.tallies c.samples_at-self-inside.ensures))
 
 pub returns-clause-live : goal.returns-clause-live
 returns-clause-live c =
-    let told_now : c.drop_row.new.rows ≡ record { rows = c.drop_row.new.rows.rows; tallies = c.self.inside.rows.tallies; used = c.drop_row.new.rows.used } =
+    let reported_now : c.drop_row.new.rows ≡ record { rows = c.drop_row.new.rows.rows; tallies = c.self.inside.rows.tallies; used = c.drop_row.new.rows.used } =
     λ i. record { rows = c.drop_row.new.rows.rows; tallies = c.drop_row.ensures.tallies i; used = c.drop_row.new.rows.used } in
-    rw told_now (live_now c.self.inside c.self.invariant (is_same_row (id_of c.args.kind c.args.key.now)) _ _ _ _ c.drop_row.ensures.left c.close_up.ensures
-    ∙ without_id (told_live c.self.inside.rows.rows (since_in c.self.inside) c.self.inside.order.places.items) (id_of c.args.kind c.args.key.now)
+    rw reported_now (live_now c.self.inside c.self.invariant (is_same_row (id_of c.args.kind c.args.key.now)) _ _ _ _ c.drop_row.ensures.left c.close_up.ensures
+    ∙ without_id (reported_live c.self.inside.rows.rows (since_in c.self.inside) c.self.inside.order.places.items) (id_of c.args.kind c.args.key.now)
     ∙ ap (λ (s : Listing). remove (live_of s) (id_of c.args.kind c.args.key.now)) c.self.view_is)
 
 pub returns-clause-samples : goal.returns-clause-samples
@@ -41,9 +40,9 @@ returns-clause-samples c =
     omega (
       arith,
       is,
-      ap samples_in (live_now c.self.inside c.self.invariant (is_same_row (id_of c.args.kind c.args.key.now)) _ _ _ _ c.drop_row.ensures.left c.close_up.ensures ∙ without_id (told_live t.rows.rows (since_in t) t.order.places.items) id),
+      ap samples_in (live_now c.self.inside c.self.invariant (is_same_row (id_of c.args.kind c.args.key.now)) _ _ _ _ c.drop_row.ensures.left c.close_up.ensures ∙ without_id (reported_live t.rows.rows (since_in t) t.order.places.items) id),
       c.self.invariant.held,
-      samples_removed (told_live t.rows.rows (since_in t) t.order.places.items) id,
+      samples_removed (reported_live t.rows.rows (since_in t) t.order.places.items) id,
       ap (λ (s : Listing). (row_in (live_of s) id).since.samples) c.self.view_is,
     )
 

@@ -1,6 +1,5 @@
 use Rattle.std.proofs.Common.{◌≡◌, ap, ◌∙◌, arith}
-use Rattle.sd_model_shard.specs.Commands.{is_hit, rows_left, rows_taken_out}
-use Rattle.sd_model_shard.specs.Summaries.{samples_in, listed_in}
+use Rattle.sd_model_shard.specs.Rows.{is_hit, rows_left, rows_taken_out, samples_in, listed_in}
 use Rattle.sd_key.specs.Kind.{kind_of}
 use Rattle.sd_epoch.specs.Table.{Listing, live_of}
 use Rattle.sd_epoch.proofs.ForgottenLemmas.{entries_parted, few_left, held_is, live_now, samples_parted, table_now}
@@ -16,16 +15,16 @@ overflow_sub-result c =
 
 pub invariant_of-self : goal.invariant_of-self
 invariant_of-self c =
-    let told_now : c.drop_hits.new.rows ≡ record { rows = c.drop_hits.new.rows.rows; tallies = c.self.inside.rows.tallies; used = c.drop_hits.new.rows.used } =
+    let reported_now : c.drop_hits.new.rows ≡ record { rows = c.drop_hits.new.rows.rows; tallies = c.self.inside.rows.tallies; used = c.drop_hits.new.rows.used } =
     λ i. record { rows = c.drop_hits.new.rows.rows; tallies = c.drop_hits.ensures.tallies i; used = c.drop_hits.new.rows.used } in
-    rw told_now (table_now c.self.inside c.self.invariant (is_hit (kind_of c.args.kind) c.args.pattern.now) _ _ _ _ c.drop_hits.ensures.left c.close_up.ensures c.drop_hits.new.rows.used c.samples_at-self-inside.result c.drop_hits.ensures.len
+    rw reported_now (table_now c.self.inside c.self.invariant (is_hit (kind_of c.args.kind) c.args.pattern.now) _ _ _ _ c.drop_hits.ensures.left c.close_up.ensures c.drop_hits.new.rows.used c.samples_at-self-inside.result c.drop_hits.ensures.len
     (held_is c.self.inside c.self.invariant (is_hit (kind_of c.args.kind) c.args.pattern.now) _ _ _ _ c.drop_hits.ensures.left c.close_up.ensures _ _ _ c.deref.ensures.value c.drop_hits.ensures.tallies c.samples_at-self-inside.ensures))
 
 pub returns-clause-live : goal.returns-clause-live
 returns-clause-live c =
-    let told_now : c.drop_hits.new.rows ≡ record { rows = c.drop_hits.new.rows.rows; tallies = c.self.inside.rows.tallies; used = c.drop_hits.new.rows.used } =
+    let reported_now : c.drop_hits.new.rows ≡ record { rows = c.drop_hits.new.rows.rows; tallies = c.self.inside.rows.tallies; used = c.drop_hits.new.rows.used } =
     λ i. record { rows = c.drop_hits.new.rows.rows; tallies = c.drop_hits.ensures.tallies i; used = c.drop_hits.new.rows.used } in
-    rw told_now (live_now c.self.inside c.self.invariant (is_hit (kind_of c.args.kind) c.args.pattern.now) _ _ _ _ c.drop_hits.ensures.left c.close_up.ensures
+    rw reported_now (live_now c.self.inside c.self.invariant (is_hit (kind_of c.args.kind) c.args.pattern.now) _ _ _ _ c.drop_hits.ensures.left c.close_up.ensures
     ∙ ap (λ (s : Listing). rows_left (kind_of c.args.kind) c.args.pattern.now (live_of s)) c.self.view_is)
 
 pub returns-clause-samples : goal.returns-clause-samples

@@ -1,5 +1,5 @@
 use Rattle.std.proofs.Common.{◌≡◌, subst, arith}
-use Rattle.sd_model_shard.specs.Summaries.{samples_in}
+use Rattle.sd_model_shard.specs.Rows.{samples_in}
 use Rattle.sd_epoch.specs.Table.{Listing, live_of}
 use Rattle.sd_epoch.proofs.table.Table.held.Goals as goal
 

@@ -1,12 +1,11 @@
 use Rattle.std.proofs.Common.{◌≡◌, ◌≢◌, ℕ, Bool, true, false, [], ◌∷◌, ◌++◌, get_or, length, Some, None, sym, ap, subst, ◌∙◌, arith}
 use Rattle.std.proofs.lemmas.List.{length-map}
 use Rattle.std.specs.FinMap.{contains_key, insert}
-use Rattle.sd_model_shard.specs.Rows.{RowId, Kept, Summary}
-use Rattle.sd_model_shard.specs.Summaries.{no_samples, samples_in}
+use Rattle.sd_model_shard.specs.Rows.{RowId, Kept, Summary, samples_in}
 use Rattle.sd_rows.specs.Rows.{row_at}
 use Rattle.sd_rows.specs.declared.row.Row.{Row}
 use Rattle.sd_epoch.specs.Members.{member_places}
-use Rattle.sd_epoch.specs.Places.{id_in, kept_as, kept_in, told_live, AreRows}
+use Rattle.sd_epoch.specs.Places.{id_in, kept_as, kept_in, reported_live, AreRows}
 use Rattle.sd_epoch.specs.Since.{no_tally, since_of, since_at, values_at, members_at}
 use Rattle.sd_epoch.specs.Table.{Listing, live_of, id_of}
 use Rattle.sd_epoch.specs.TableInside.{since_in}
@@ -14,11 +13,12 @@ use Rattle.sd_epoch.specs.Values.{value_places}
 use Rattle.sd_rows.specs.declared.tally.Tally.{Tally}
 use Rattle.sd_epoch.proofs.OwnLemmas.{no_since, since_added}
 use Rattle.sd_epoch.proofs.PlaceLemmas.{AllLive-stays, id_here}
-use Rattle.sd_epoch.proofs.SumLemmas.{added_told}
+use Rattle.sd_epoch.proofs.SumLemmas.{added_reported}
 use Rattle.sd_epoch.proofs.TableLemmas.{find_tells}
-use Rattle.sd_epoch.proofs.ToldLemmas.{told_add}
+use Rattle.sd_epoch.proofs.ReportedLemmas.{reported_add}
 use Rattle.sd_epoch.proofs.table.Table.keep_row.Goals as goal
 use Rattle.sd_epoch.proofs.table.Table.keep_row.Goals.{After-add_row}
+use Rattle.sd_model_shard.proofs.Short.{no_samples}
 
 both : (b : Bool) → b ≡ true → b ≡ false → ⊥
 both true t f = absurd (cc)
@@ -69,8 +69,8 @@ invariant_of-self c =
       ranked = c.add_row.ensures.ranked;
       ranks = c.add_row.ensures.ranks ∙ w.ranks;
       since = since_added t.rows.rows rows at row (since_in t) (since_now after) w.since c.add_row.ensures.row c.add_row.ensures.others (same after) (none after);
-      held = w.held ∙ sym (added_told t.rows.rows rows (since_in t) (since_now after) order at w.rows (rows_now after) stays (ap (λ (x : Summary). x.samples) (none after)))
-          ∙ sym (ap (λ ps. samples_in (told_live rows (since_now after) ps)) c.add_row.ensures.order);
+      held = w.held ∙ sym (added_reported t.rows.rows rows (since_in t) (since_now after) order at w.rows (rows_now after) stays (ap (λ (x : Summary). x.samples) (none after)))
+          ∙ sym (ap (λ ps. samples_in (reported_live rows (since_now after) ps)) c.add_row.ensures.order);
       few_held = w.few_held;
       values = w.values;
       owned_values = AllLive-stays t.rows.rows rows (value_places t.values.items.items) c.add_row.ensures.stay w.owned_values;
@@ -95,10 +95,10 @@ returns-clause-live c =
     let at = c.add_row.result in
     let row : Row = record { kind = c.args.kind; key = c.args.key.now; base = c.args.base; swaps = c.args.swaps } in
     let order = t.order.places.items in
-    let m = told_live t.rows.rows (since_in t) order in
+    let m = reported_live t.rows.rows (since_in t) order in
     let here : row_at rows at ≢ None = λ gone. absurd (cc (c.add_row.ensures.row, gone)) in
     let id = id_here rows at row c.add_row.ensures.row in
-    ap (λ ps. told_live rows (since_now after) ps) c.add_row.ensures.order
-    ∙ told_add t.rows.rows rows order (since_in t) (since_now after) at c.self.invariant.rows (rows_now after) c.add_row.ensures.stay c.add_row.ensures.empty here c.add_row.ensures.others (same after)
+    ap (λ ps. reported_live rows (since_now after) ps) c.add_row.ensures.order
+    ∙ reported_add t.rows.rows rows order (since_in t) (since_now after) at c.self.invariant.rows (rows_now after) c.add_row.ensures.stay c.add_row.ensures.empty here c.add_row.ensures.others (same after)
     ∙ (λ i. insert m (id i) (kept_as (c.add_row.ensures.row i) (none after i)))
     ∙ ap (λ (s : Listing). insert (live_of s) (id_of c.args.kind c.args.key.now) (kept_as (Some row) (no_samples c.args.base.0))) c.self.view_is

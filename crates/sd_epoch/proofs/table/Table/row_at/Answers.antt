@@ -11,8 +11,8 @@ use Rattle.sd_rows.specs.declared.tally.Tally.{Tally}
 use Rattle.sd_epoch.proofs.TableLemmas.{facts_tell, few_samples, found_here}
 use Rattle.sd_epoch.proofs.table.Table.row_at.Goals as goal
 
-pub returns-in-Some-clause-told : goal.returns-in-Some-clause-told
-returns-in-Some-clause-told c =
+pub returns-in-Some-clause-reported : goal.returns-in-Some-clause-reported
+returns-in-Some-clause-reported c =
     let t = c.self.inside in
     let w = c.self.invariant in
     let row = row_seen c.in-Some.row in

@@ -3,16 +3,14 @@ use Rattle.std.proofs.lemmas.List.{get_or-set_same, length-set}
 use Rattle.std.specs.Prelude.{unsigned_abs}
 use Rattle.std.specs.FinMap.{contains_key, insert, len}
 use Rattle.sd_model_text.specs.Lines.{Sample}
-use Rattle.sd_model_shard.specs.Rows.{RowId, Summary, row_of}
-use Rattle.sd_model_shard.specs.Statistics.{sample_weight}
-use Rattle.sd_model_shard.specs.Summaries.{is_listed, row_in, samples_in, touched}
+use Rattle.sd_model_shard.specs.Rows.{RowId, Summary, row_of, sample_weight, is_listed, row_in, samples_in, touched}
 use Rattle.sd_model_shard.proofs.SumLemmas.{samples-touched}
 use Rattle.sd_key.specs.Kind.{kind_of}
 use Rattle.sd_rows.specs.Rows.{row_at}
 use Rattle.sd_rows.specs.declared.row.Row.{Row}
 use Rattle.sd_rows.proofs.IndexLemmas.{present_within, some_of}
 use Rattle.sd_epoch.specs.Members.{member_places}
-use Rattle.sd_epoch.specs.Places.{told_live, AreSince}
+use Rattle.sd_epoch.specs.Places.{reported_live, AreSince}
 use Rattle.sd_epoch.specs.Since.{gauge_by, no_tally, since_at, without_swaps}
 use Rattle.sd_epoch.specs.Table.{Listing, live_of, id_of}
 use Rattle.sd_epoch.specs.TableInside.{since_in}
@@ -20,7 +18,7 @@ use Rattle.sd_epoch.specs.Values.{value_places}
 use Rattle.sd_rows.specs.declared.tally.Tally.{Tally}
 use Rattle.sd_epoch.proofs.PlaceLemmas.{AllLive-stays, holds_id, id_here}
 use Rattle.sd_epoch.proofs.SampleLemmas.{live_after, here_after, others_after, since_after, kept_few}
-use Rattle.sd_epoch.proofs.TableLemmas.{holds_live, find_tells, told_count}
+use Rattle.sd_epoch.proofs.TableLemmas.{holds_live, find_tells, reported_count}
 use Rattle.sd_epoch.proofs.table.Table.sample.Goals as goal
 use Rattle.sd_epoch.proofs.table.Table.sample.Goals.{After-touch-place}
 
@@ -31,7 +29,7 @@ touch-place-requires-clause-room c = λ absent.
     let self = c.args.self.now in
     let room = subst (λ (s : Sample). contains_key (live_of self) (row_of s) ≡ false → len (live_of self) < self.limits.rows) (sym c.s.view_is) c.requires.row_room in
     let none = sym (find_tells t.rows.rows (since_in t) t.order.places.items c.s.inside.kind c.s.inside.key None w.rows absent ∙ ap (λ (s : Listing). contains_key (live_of s) (id_of c.s.inside.kind c.s.inside.key)) c.self.view_is) in
-    omega (arith, room none, told_count t.rows.rows (since_in t) t.order.places.items w.rows, ap (λ (s : Listing). len (live_of s)) c.self.view_is, ap (λ (s : Listing). s.limits.rows) c.self.view_is, w.places, t.order.places.ok.0)
+    omega (arith, room none, reported_count t.rows.rows (since_in t) t.order.places.items w.rows, ap (λ (s : Listing). len (live_of s)) c.self.view_is, ap (λ (s : Listing). s.limits.rows) c.self.view_is, w.places, t.order.places.ok.0)
 
 -- what came to rows before the sample, in the places that they have now
 abbrev since_before : After-touch-place → ℕ → Summary
@@ -45,8 +43,8 @@ within c =
     let w = c.self.invariant in
     omega (arith, present_within c.touch-place.new.rows.rows c.touch-place.result (live_here c), c.touch-place.ensures.places, c.touch-place.ensures.tally_places, w.places, w.tally_places)
 
-told : (c : After-touch-place) → AreSince c.touch-place.new.rows.rows (since_before c)
-told c =
+reported : (c : After-touch-place) → AreSince c.touch-place.new.rows.rows (since_before c)
+reported c =
     let t = c.self.inside in
     let w = c.self.invariant in
     c.touch-place.ensures.since t.values.items.items t.members.items.items w.owned_values w.owned_members w.since
@@ -57,7 +55,7 @@ few c =
     let t = c.self.inside in
     let w = c.self.invariant in
     let order = c.touch-place.new.order.places.items in
-    let m = told_live t.rows.rows (since_in t) t.order.places.items in
+    let m = reported_live t.rows.rows (since_in t) t.order.places.items in
     let id = holds_id c.touch-place.new.rows.rows c.touch-place.result c.s.inside.kind c.s.inside.key c.touch-place.ensures.row in
     omega (
       arith,
@@ -83,7 +81,7 @@ pub with_sample-tally-requires-clause-bound : goal.with_sample-tally-requires-cl
 with_sample-tally-requires-clause-bound c =
     let after = (goal.at.with_sample-tally-requires-clause-bound c).After-touch-place in
     let row = row_there after in
-    omega (arith, ap (λ (x : Tally). x.samples) c.tally.ensures, ap (λ (x : Tally). unsigned_abs x.weight.0) c.tally.ensures, (told after c.touch-place.result row.0 row.1).bound)
+    omega (arith, ap (λ (x : Tally). x.samples) c.tally.ensures, ap (λ (x : Tally). unsigned_abs x.weight.0) c.tally.ensures, (reported after c.touch-place.result row.0 row.1).bound)
 
 pub set_tally-requires : goal.set_tally-requires
 set_tally-requires c = record { live = live_here (goal.at.set_tally-requires c).After-touch-place }
@@ -109,12 +107,12 @@ invariant_of-self c =
     let samples = c.with_sample-tally.ensures.samples ∙ ap (λ (x : Tally). x.samples + 1) tally in
     let gauge = c.with_sample-tally.ensures.gauge ∙ ap (λ (x : Tally). gauge_by s.kind x.gauge.0 s) tally in
     let weight = c.with_sample-tally.ensures.weight ∙ ap (λ (x : Tally). x.weight.0 +ℤ sample_weight s.kind s) tally in
-    let m = told_live t.rows.rows (since_in t) t.order.places.items in
+    let m = reported_live t.rows.rows (since_in t) t.order.places.items in
     let same : id_of c.s.inside.kind c.s.inside.key ≡ row_of s = ap row_of c.s.view_is in
     let id = holds_id rows place c.s.inside.kind c.s.inside.key c.touch-place.ensures.row ∙ same in
-    let noted : told_live rows before order ≡ insert m (row_of s) (without_swaps (row_in m (row_of s))) =
+    let noted : reported_live rows before order ≡ insert m (row_of s) (without_swaps (row_in m (row_of s))) =
     c.touch-place.ensures.live t.values.items.items t.members.items.items w.owned_values w.owned_members ∙ (λ i. insert m (same i) (without_swaps (row_in m (same i)))) in
-    let live : told_live rows since order ≡ touched m s =
+    let live : reported_live rows since order ≡ touched m s =
     live_after tallies t.values.items.items c.list.new.values.items.items t.members.items.items c.list.new.members.items.items place c.with_sample-tally.result s (within after) samples gauge weight c.list.ensures.values c.list.ensures.members
     rows order m c.touch-place.ensures.rows (live_here after) id noted in
     let row = row_there after in
@@ -122,14 +120,14 @@ invariant_of-self c =
     let here = here_after tallies t.values.items.items c.list.new.values.items.items t.members.items.items c.list.new.members.items.items place c.with_sample-tally.result s (within after) samples gauge weight c.list.ensures.values c.list.ensures.members in
     let others = others_after tallies t.values.items.items c.list.new.values.items.items t.members.items.items c.list.new.members.items.items place c.with_sample-tally.result s (within after) samples gauge weight c.list.ensures.values c.list.ensures.members in
     let bound : unsigned_abs (since place).weight ≤ ((before place).samples + 1) * 10 ^ 24 = omega (arith, c.with_sample-tally.ensures.bound, samples, ap (λ (x : Tally). unsigned_abs x.weight.0) (get_or-set_same tallies place c.with_sample-tally.result no_tally (within after))) in
-    let told_now : c.set_tally.new.self ≡ record { rows = rows; tallies = set tallies place c.with_sample-tally.result; used = c.touch-place.new.rows.used } =
+    let reported_now : c.set_tally.new.self ≡ record { rows = rows; tallies = set tallies place c.with_sample-tally.result; used = c.touch-place.new.rows.used } =
     λ i. record { rows = c.set_tally.ensures.rows i; tallies = c.set_tally.ensures.tallies i; used = c.set_tally.ensures.used i } in
-    rw told_now record {
+    rw reported_now record {
       limits = w.limits;
       rows = c.touch-place.ensures.rows;
       ranked = c.touch-place.ensures.ranked;
       ranks = c.touch-place.ensures.ranks ∙ w.ranks;
-      since = since_after rows before since place s row.0 (told after) row.1 kind here others bound;
+      since = since_after rows before since place s row.0 (reported after) row.1 kind here others bound;
       held = omega (arith, w.held, ap samples_in live, samples-touched (λ id. true) m s);
       few_held = omega (arith, c.requires.room, ap (λ (l : Listing). l.held) c.self.view_is);
       values = c.list.ensures.are_values;
@@ -163,14 +161,14 @@ returns-clause-live c =
     let samples = c.with_sample-tally.ensures.samples ∙ ap (λ (x : Tally). x.samples + 1) tally in
     let gauge = c.with_sample-tally.ensures.gauge ∙ ap (λ (x : Tally). gauge_by s.kind x.gauge.0 s) tally in
     let weight = c.with_sample-tally.ensures.weight ∙ ap (λ (x : Tally). x.weight.0 +ℤ sample_weight s.kind s) tally in
-    let m = told_live t.rows.rows (since_in t) t.order.places.items in
+    let m = reported_live t.rows.rows (since_in t) t.order.places.items in
     let same : id_of c.s.inside.kind c.s.inside.key ≡ row_of s = ap row_of c.s.view_is in
     let id = holds_id rows place c.s.inside.kind c.s.inside.key c.touch-place.ensures.row ∙ same in
-    let noted : told_live rows before order ≡ insert m (row_of s) (without_swaps (row_in m (row_of s))) =
+    let noted : reported_live rows before order ≡ insert m (row_of s) (without_swaps (row_in m (row_of s))) =
     c.touch-place.ensures.live t.values.items.items t.members.items.items w.owned_values w.owned_members ∙ (λ i. insert m (same i) (without_swaps (row_in m (same i)))) in
-    let live : told_live rows since order ≡ touched m s =
+    let live : reported_live rows since order ≡ touched m s =
     live_after tallies t.values.items.items c.list.new.values.items.items t.members.items.items c.list.new.members.items.items place c.with_sample-tally.result s (within after) samples gauge weight c.list.ensures.values c.list.ensures.members
     rows order m c.touch-place.ensures.rows (live_here after) id noted in
-    let told_now : c.set_tally.new.self ≡ record { rows = rows; tallies = set tallies place c.with_sample-tally.result; used = c.touch-place.new.rows.used } =
+    let reported_now : c.set_tally.new.self ≡ record { rows = rows; tallies = set tallies place c.with_sample-tally.result; used = c.touch-place.new.rows.used } =
     λ i. record { rows = c.set_tally.ensures.rows i; tallies = c.set_tally.ensures.tallies i; used = c.set_tally.ensures.used i } in
-    rw told_now (live ∙ ap (λ (l : Listing). touched (live_of l) s) c.self.view_is)
+    rw reported_now (live ∙ ap (λ (l : Listing). touched (live_of l) s) c.self.view_is)

@@ -3,7 +3,7 @@ use Rattle.std.proofs.lemmas.Int.{ints}
 use Rattle.std.proofs.lemmas.List.{length-map}
 use Rattle.sd_model_shard.specs.Values.{total}
 use Rattle.sd_epoch.specs.Chain.{up_to}
-use Rattle.sd_epoch.specs.Since.{values_at, told_values}
+use Rattle.sd_epoch.specs.Since.{values_at, reported_values}
 use Rattle.sd_epoch.specs.Values.{value_places, IsTimed}
 use Rattle.sd_epoch.specs.declared.values.TimerValue.{TimerValue}
 use Rattle.sd_epoch.proofs.ChainLemmas.{IsOfRow, begins, goes_on}
@@ -15,7 +15,7 @@ pub loop-next-init : goal.loop-next-init
 loop-next-init c =
     let at = begins (λ (v : TimerValue). v.place) c.args.self.now.items.items _ _ c.args.place c.last_at-next.result c.requires.values.chain c.last_at-next.ensures in record {
       of_row = at.of_row;
-      so_far = omega (arith, ints, ap (λ (es : List TimerValue). total (told_values es)) at.all);
+      so_far = omega (arith, ints, ap (λ (es : List TimerValue). total (reported_values es)) at.all);
       few = at.few;
       bound = omega (arith, at.few);
     }
@@ -47,10 +47,10 @@ loop-next-preserved c =
     let on = goes_on (λ (v : TimerValue). v.place) items _ _ c.args.place c.in-Some.at next c.requires.values.chain of_row c.before-next.ensures in
     let own = values_at c.args.place (take (up_to next) items) in
     let v = c.index.result.now in
-    let so_far : c.loop-next.sum.0 +ℤ total (told_values (own ++ v ∷ [])) ≡ total (told_values (values_at c.args.place items)) =
-    ap (λ (x : TimerValue). c.loop-next.sum.0 +ℤ total (told_values (own ++ x ∷ []))) c.index.ensures
-    ∙ ap (λ (es : List TimerValue). c.loop-next.sum.0 +ℤ total (told_values es)) (sym (on.more v))
-    ∙ ap (λ (n : Option ℕ). c.loop-next.sum.0 +ℤ total (told_values (values_at c.args.place (take (up_to n) items)))) (sym c.in-Some.is)
+    let so_far : c.loop-next.sum.0 +ℤ total (reported_values (own ++ v ∷ [])) ≡ total (reported_values (values_at c.args.place items)) =
+    ap (λ (x : TimerValue). c.loop-next.sum.0 +ℤ total (reported_values (own ++ x ∷ []))) c.index.ensures
+    ∙ ap (λ (es : List TimerValue). c.loop-next.sum.0 +ℤ total (reported_values es)) (sym (on.more v))
+    ∙ ap (λ (n : Option ℕ). c.loop-next.sum.0 +ℤ total (reported_values (values_at c.args.place (take (up_to n) items)))) (sym c.in-Some.is)
     ∙ inv.so_far in
     let more = total_more own v in
     let is = timed after in record {
@@ -63,4 +63,4 @@ loop-next-preserved c =
 pub returns : goal.returns
 returns c =
     let inv = c.loop-next.invariant in
-    omega (arith, ints, inv.so_far, ap (λ (n : Option ℕ). total (told_values (values_at c.args.place (take (up_to n) c.args.self.now.items.items)))) c.in_default.is)
+    omega (arith, ints, inv.so_far, ap (λ (n : Option ℕ). total (reported_values (values_at c.args.place (take (up_to n) c.args.self.now.items.items)))) c.in_default.is)

@@ -2,7 +2,7 @@ use Rattle.std.proofs.Common.{◌≡◌, ◌+◌, ◌*◌, ◌^◌, ◌≤◌, �
 use Rattle.std.specs.Prelude.{unsigned_abs}
 use Rattle.sd_model_shard.specs.Values.{total}
 use Rattle.sd_epoch.specs.Chain.{up_to}
-use Rattle.sd_epoch.specs.Since.{values_at, told_values}
+use Rattle.sd_epoch.specs.Since.{values_at, reported_values}
 use Rattle.sd_epoch.specs.Values.{value_places}
 use Rattle.sd_epoch.proofs.ChainLemmas.{IsOfRow}
 use Rattle.sd_epoch.proofs.values.Values.sum_at.Given as goal
@@ -11,7 +11,7 @@ use Rattle.sd_epoch.proofs.values.Values.sum_at.Given as goal
 abbrev pub invariant-loop-next : goal.invariant-loop-next
 invariant-loop-next l = record {
   of_row : IsOfRow (value_places l.self.items.items) l.place l.next;
-  so_far : l.sum.0 +ℤ total (told_values (values_at l.place (take (up_to l.next) l.self.items.items))) ≡ total (told_values (values_at l.place l.self.items.items));
+  so_far : l.sum.0 +ℤ total (reported_values (values_at l.place (take (up_to l.next) l.self.items.items))) ≡ total (reported_values (values_at l.place l.self.items.items));
   few : up_to l.next ≤ length l.self.items.items;
   bound : unsigned_abs l.sum.0 + up_to l.next * 10 ^ 16 ≤ length l.self.items.items * 10 ^ 16;
 }

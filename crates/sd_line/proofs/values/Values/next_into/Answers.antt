@@ -13,11 +13,11 @@ returns-clause-next c =
     let value = c.first_part-part.result.text.now in
     let behind : List (List ℕ) = parts_in 58 (option_map (λ b. b.now) c.first_part-part.result.behind) in
     let before : List ℕ → List ℕ = λ part. name ++ 58 ∷ part in
-    let front : c.args.self.now ≡ before value ∷ map before behind =
+    let prefix : c.args.self.now ≡ before value ∷ map before behind =
     sym c.self.view_is ∙ ap (λ left. map before (parts_in 58 (option_map (λ b. b.now) left))) c.in_ok-self.was ∙ ap (map before) c.first_part-part.ensures in
     let P : Option (Result ⊤ Bad) → Type 0 = λ answer. IfSome answer (λ a. (x : List ℕ) × (c.args.self.now ≡ x ∷ map before behind) × Answers x (filled c.match-read_value.sample a)) in
     let answered = value-answers name value behind c.in_ok-self.field-0.now in
     elim c.match-read_value.branch [
-      | in-Ok w ↦ subst P (sym w.result-is) (before value, front, answered (Ok c.match-read_value.sample) c.self.invariant.first c.first_part-part.ensures (w.in-Ok.ensures ∙ ap Ok (sym w.fill.ensures ∙ sym w.sample-is)))
-      | in-Err w ↦ subst P (sym w.result-is) (before value, front, answered (Err w.in-Err.bad) c.self.invariant.first c.first_part-part.ensures w.in-Err.ensures)
+      | in-Ok w ↦ subst P (sym w.result-is) (before value, prefix, answered (Ok c.match-read_value.sample) c.self.invariant.first c.first_part-part.ensures (w.in-Ok.ensures ∙ ap Ok (sym w.fill.ensures ∙ sym w.sample-is)))
+      | in-Err w ↦ subst P (sym w.result-is) (before value, prefix, answered (Err w.in-Err.bad) c.self.invariant.first c.first_part-part.ensures w.in-Err.ensures)
     ]

@@ -1,5 +1,5 @@
 use Rattle.std.proofs.Common.{arith}
-use Rattle.sd_model_outside.specs.Deliveries.{Written, Fault}
+use Rattle.sd_model_outside.specs.Uses.{Written, Fault}
 use Rattle.sd_outlet.proofs.WorkedLemmas.{one_more, written_used, fault_used}
 use Rattle.sd_outlet.proofs.worked.Worked.write.Goals as goal
 

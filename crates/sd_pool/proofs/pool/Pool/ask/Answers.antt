@@ -44,15 +44,15 @@ returns-clause-acts g c =
     let t_is = c.index-own.ensures ∙ ap (λ n. get_or pool.turns.items n t) c.from.ensures in
     let s_is = c.index_mut-mine.ensures.value ∙ ap (λ n. get_or seat.seats.items n s) c.from-2.ensures in
     let items = ap (λ n. set seat.seats.items n c.with_turn.new.seat) c.from-2.ensures in
-    let told : Setup → List Noted = λ f. g.Q.Change.entries c.args.ask.now c.with_turn.new.change c.with_turn.result f (number_of s) in
+    let promised : Setup → List Noted = λ f. g.Q.Change.entries c.args.ask.now c.with_turn.new.change c.with_turn.result f (number_of s) in
     let e = c.with_turn.ensures in (
       number_of s,
       caller_is pool seat c.requires.seat.sits i c.requires.shard t t_is s s_is,
-      acts_at pool seat c.requires.seat.sits i c.requires.shard t t_is s s_is _ c.with_turn.new.seat refl items (told (setup_of (opened_with t.turn))) e.seen e.legal e.own e.all told refl,
+      acts_at pool seat c.requires.seat.sits i c.requires.shard t t_is s s_is _ c.with_turn.new.seat refl items (promised (setup_of (opened_with t.turn))) e.seen e.legal e.own e.all promised refl,
     )
 
-pub returns-clause-told : goal.returns-clause-told
-returns-clause-told g c =
+pub returns-clause-promised : goal.returns-clause-promised
+returns-clause-promised g c =
     let t = c.index-own.result.now in
     let t_is = c.index-own.ensures ∙ ap (λ n. get_or c.args.self.now.turns.items n t) c.from.ensures in
-    subst (λ (f : Setup). g.Q.Change.told c.args.ask.now c.with_turn.new.change c.with_turn.result f) (setup_is c.args.self.now c.args.seat.now c.requires.seat.sits c.args.i c.requires.shard t t_is) c.with_turn.ensures.told
+    subst (λ (f : Setup). g.Q.Change.promised c.args.ask.now c.with_turn.new.change c.with_turn.result f) (setup_is c.args.self.now c.args.seat.now c.requires.seat.sits c.args.i c.requires.shard t t_is) c.with_turn.ensures.promised

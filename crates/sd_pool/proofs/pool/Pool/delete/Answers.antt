@@ -12,5 +12,5 @@ returns-clause-act g c =
     let gone = gone_of c.args.out.now.items c.ask.new.ask.out.now.items c.ask.result in (
       gone,
       one_act c.args.self.now c.args.seat.now c.ask.new.seat c.args.i (setup_at c.args.self.now c.args.i) made.0 (Delete (kind_of c.args.kind) c.args.pattern.now) gone made.1 made.2,
-      (let told = c.ask.ensures.told.0.told in let same = c.ask.ensures.told.1 in grind (arith, told, same)),
+      (let promised = c.ask.ensures.promised.0.promised in let same = c.ask.ensures.promised.1 in grind (arith, promised, same)),
     )

@@ -13,5 +13,5 @@ returns-clause-act g c =
     let shown = shown_of (rows_of c.args.out.now) (rows_of c.ask.new.ask.out.now) in (
       shown,
       one_act c.args.self.now c.args.seat.now c.ask.new.seat c.args.i (setup_at c.args.self.now c.args.i) made.0 (Dump (kind_of c.args.kind)) shown made.1 made.2,
-      (let told = c.ask.ensures.told.0.told in let same = c.ask.ensures.told.1 in grind (arith, told, same)),
+      (let promised = c.ask.ensures.promised.0.promised in let same = c.ask.ensures.promised.1 in grind (arith, promised, same)),
     )

@@ -13,7 +13,7 @@ use Rattle.sd_pool.specs.declared.pool.ShardTurn.{ShardTurn}
 use Rattle.sd_pool.specs.declared.seat.Seat.{Seat}
 use Rattle.sd_pool.proofs.StandsLemmas.{All-push}
 use Rattle.sd_pool.proofs.AlongLemmas.{Along-long, span_long}
-use Rattle.sd_pool.proofs.DealLemmas.{deal_more, AreSetUp-push, who_flusher, who_admin, dealt_receivers, dealt_back, dealt_front, new_seats, room_is}
+use Rattle.sd_pool.proofs.DealLemmas.{deal_more, AreSetUp-push, who_flusher, who_admin, dealt_receivers, dealt_back, dealt_prefix, new_seats, room_is}
 use Rattle.sd_pool.proofs.pool.Pool.open.Goals as goal
 
 pub deal-requires : goal.deal-requires
@@ -64,7 +64,7 @@ returns-clause-callers c =
     let count = ap length whole ∙ length-append recs (flusher ∷ admin ∷ []) in
     let dealt = subst (AreDealt turns r 0) whole inv.dealt in
     let behind = dealt_back turns r 0 r recs (flusher ∷ admin ∷ []) dealt (omega (arith, count, inv.len)) in (
-      dealt_receivers turns r 0 r recs (dealt_front turns r 0 recs (flusher ∷ admin ∷ []) dealt) (omega (arith, count, inv.len)) (omega arith),
+      dealt_receivers turns r 0 r recs (dealt_prefix turns r 0 recs (flusher ∷ admin ∷ []) dealt) (omega (arith, count, inv.len)) (omega arith),
       behind.0.who ∙ who_flusher r,
       behind.1.0.who ∙ who_admin r,
     )

@@ -25,7 +25,7 @@ returns-clause-submits g c =
     let some : 0 < length (waiting_at setup.shards setup.shard batch) =
     subst (λ (samples : List Sample). 0 < length samples) (run ∙ sym is) (c.is_empty.ensures.some c.if-is_empty.false) in
     subst (λ (samples : List Sample). SubmitsRun pool old new i samples counts) is
-    (some_run pool old i (waiting_at setup.shards setup.shard batch) new setup made.0 c.ask.result.before.value counts some made.1 made.2 c.ask.ensures.told)
+    (some_run pool old i (waiting_at setup.shards setup.shard batch) new setup made.0 c.ask.result.before.value counts some made.1 made.2 c.ask.ensures.promised)
 
 pub returns-then-is_empty-clause-submits : goal.returns-then-is_empty-clause-submits
 returns-then-is_empty-clause-submits g c =
@@ -45,7 +45,7 @@ returns-clause-few g c =
     let here = c.requires.seat.sits.pool_is.setups i c.requires.shard in
     let run = is_run batch i (shards_of pool) i c.run.result c.run.ensures.run refl c.requires.batch in
     let is = run ∙ sym (ap (λ (f : Setup). waiting_at f.shards f.shard batch) here) in
-    let whole = (c.ask.ensures.told 0).whole in
+    let whole = (c.ask.ensures.promised 0).whole in
     let long = submitted_long setup.limits setup.policy 0 (state_of c.ask.result.before.value.shard) (waiting_at setup.shards setup.shard batch) in
     let same = ap (λ (xs : List Sample). length xs) is in
     omega (arith, whole, long, same, c.run.ensures.few)

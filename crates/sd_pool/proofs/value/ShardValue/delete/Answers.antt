@@ -7,7 +7,7 @@ use Rattle.sd_pool.specs.Behind.{Behind, setup_of, Steps}
 use Rattle.sd_pool.specs.BehindInside.{behind_in}
 use Rattle.sd_pool.specs.Asks.{gone_of, KeysGoOn}
 use Rattle.sd_pool.proofs.OwnLemmas.{OnlyOf-step}
-use Rattle.sd_pool.proofs.ToldLemmas.{gone_told, keys_go_on}
+use Rattle.sd_pool.proofs.ReportedLemmas.{gone_reported, keys_go_on}
 use Rattle.sd_pool.proofs.value.ShardValue.delete.Goals as goal
 
 pub invariant_of-self : goal.invariant_of-self
@@ -24,7 +24,7 @@ returns-clause-step c =
     (record {
       setup = λ i. record { limits = c.delete.ensures.limits i; policy = c.delete.ensures.policy i; shard = v.number; shards = v.shards; receivers = v.receivers };
       state = c.delete.ensures.state;
-      reply = gone_told (behind_in v) (kind_of c.args.kind) c.args.pattern.now c.args.out.now c.delete.new.out c.delete.result c.delete.ensures.answer;
+      reply = gone_reported (behind_in v) (kind_of c.args.kind) c.args.pattern.now c.args.out.now c.delete.new.out c.delete.result c.delete.ensures.answer;
     })
 
 pub returns-clause-out : goal.returns-clause-out

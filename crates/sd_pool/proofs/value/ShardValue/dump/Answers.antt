@@ -5,7 +5,7 @@ use Rattle.sd_shard.specs.Dump.{rows_of}
 use Rattle.sd_pool.specs.Behind.{Behind, setup_of, Steps}
 use Rattle.sd_pool.specs.BehindInside.{behind_in}
 use Rattle.sd_pool.specs.Asks.{shown_of, RowsGoOn}
-use Rattle.sd_pool.proofs.ToldLemmas.{shown_told, rows_go_on}
+use Rattle.sd_pool.proofs.ReportedLemmas.{shown_reported, rows_go_on}
 use Rattle.sd_pool.proofs.value.ShardValue.dump.Goals as goal
 
 pub returns-clause-step : goal.returns-clause-step
@@ -15,7 +15,7 @@ returns-clause-step c =
     (record {
       setup = refl;
       state = c.dump.ensures.state;
-      reply = shown_told (behind_in v) (kind_of c.args.kind) c.args.out.now c.dump.new.out c.dump.ensures.answer;
+      reply = shown_reported (behind_in v) (kind_of c.args.kind) c.args.out.now c.dump.new.out c.dump.ensures.answer;
     })
 
 pub returns-clause-out : goal.returns-clause-out

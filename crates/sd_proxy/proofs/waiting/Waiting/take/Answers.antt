@@ -1,9 +1,9 @@
 use Rattle.std.proofs.Common.{◌≡◌, ◌∙◌, [], ◌∷◌, ◌++◌, refl, sym, false}
-use Rattle.sd_model_proxy.specs.Batches.{fits}
 use Rattle.sd_proxy_desk.specs.Views.{totals_view}
 use Rattle.sd_proxy.specs.Waiting.{under_way}
 use Rattle.sd_proxy.proofs.WaitingLemmas.{Sends-next, Sends-none, cut-long, cut-new, cut-room}
 use Rattle.sd_proxy.proofs.waiting.Waiting.take.Goals as goal
+use Rattle.sd_model_proxy.proofs.Short.{fits}
 
 pub returns-then-has_room : goal.returns-then-has_room
 returns-then-has_room g c most begun holds = record {

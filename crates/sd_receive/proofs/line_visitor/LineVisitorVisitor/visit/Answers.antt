@@ -17,13 +17,13 @@ returns-clause-visited g c =
         stream = read.stream;
         tally = tally_of got.tally;
         taken = got.taken;
-        went = record { read = read.went.read; fault = c.is_failure.ensures ∙ sym (ap ends_by_failure read.ended); untold = refl };
+        went = record { read = read.went.read; fault = c.is_failure.ensures ∙ sym (ap ends_by_failure read.ended); unanswered = refl };
         filed = read.went.filed;
         counts = refl;
         called = read.went.called.are_so;
         tally_is = c.and-self.ensures.tally;
         taken_is = c.and-self.ensures.taken;
-        worn_is = search rules;
+        limit_is = search rules;
       };
       counted = read.went.counted;
     }

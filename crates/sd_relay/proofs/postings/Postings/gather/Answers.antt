@@ -2,7 +2,7 @@ use Rattle.std.proofs.Common.{◌≡◌, ◌∙◌, ℕ, ◌+◌, ◌*◌, ap, a
 use Rattle.std.specs.Prelude.{option_to_list}
 use Rattle.std.proofs.lemmas.List.{length-map}
 use Rattle.sd_plan.specs.Entries.{node_view}
-use Rattle.sd_relay.specs.Parts.{IsFitted, wires_in}
+use Rattle.sd_relay.specs.PostRooms.{IsFitted, wires_in}
 use Rattle.sd_relay.proofs.PostLemmas.{by_recursion, runs_long}
 use Rattle.sd_relay.proofs.postings.Postings.gather.Goals as goal
 
@@ -24,8 +24,8 @@ take_line_post-lines-requires-clause-wires g c =
     let split = ap length c.gather.ensures.wires ∙ length-append (flat_map wires_in posts) c.gather.new.wires.items in
     let enough = c.requires.wires in
     let both = both_runs receivers lines run in
-    let liners : length (option_to_list c.args.self.lines) * run ≡ lines * run = ap (λ n. n * run) c.requires.postings.liners in
-    omega (arith, long, split, enough, both, liners)
+    let line_readers : length (option_to_list c.args.self.lines) * run ≡ lines * run = ap (λ n. n * run) c.requires.postings.line_readers in
+    omega (arith, long, split, enough, both, line_readers)
 
 pub returns-clause-clear : goal.returns-clause-clear
 returns-clause-clear g c most clear = (c.gather.ensures.clear most clear.0, c.take_line_post-lines.ensures.clear most clear.1)

@@ -1,8 +1,9 @@
 use Rattle.std.proofs.Common.{◌≡◌, ◌∙◌, ap, sym, option_map}
-use Rattle.sd_model_ring.specs.Ring.{owner, points_up, next_point, number_of_key}
+use Rattle.sd_model_ring.specs.Ring.{owner, next_point}
 use Rattle.sd_ring.specs.RingInside.{nodes_in}
 use Rattle.sd_ring.proofs.Permuted.{owner-permuted}
 use Rattle.sd_ring.proofs.ring.Ring.find_owner.Goals as goal
+use Rattle.sd_model_ring.proofs.Short.{points_up, number_of_key}
 
 pub returns : goal.returns
 returns c =

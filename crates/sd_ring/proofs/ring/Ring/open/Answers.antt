@@ -1,10 +1,10 @@
 use Rattle.std.proofs.Common.{◌≡◌, ◌∙◌, map, Contains, ap, sym, subst}
 use Rattle.std.specs.List.Sorted.{IsPermutation}
 use Rattle.sd_plan.specs.Entries.{node_view}
-use Rattle.sd_model_ring.specs.Ring.{points}
 use Rattle.sd_model_ring.proofs.Least.{Contains-none}
 use Rattle.sd_ring.proofs.Ascending.{Ascends-from_sorted, compared}
 use Rattle.sd_ring.proofs.ring.Ring.open.Goals as goal
+use Rattle.sd_model_ring.proofs.Short.{points}
 
 pub invariant_of-result : goal.invariant_of-result
 invariant_of-result c =

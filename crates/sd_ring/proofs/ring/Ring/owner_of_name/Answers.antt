@@ -1,7 +1,7 @@
 use Rattle.std.proofs.Common.{◌∙◌, ap, sym}
 use Rattle.sd_model_ring.specs.Ring.{owner}
 use Rattle.sd_ring.specs.RingInside.{all_up}
-use Rattle.sd_ring.proofs.OwnerFacts.{node_told, up_told, none_told, node_of_name, up_of_name, none_of_name}
+use Rattle.sd_ring.proofs.OwnerFacts.{node_reported, up_reported, none_reported, node_of_name, up_of_name, none_of_name}
 use Rattle.sd_ring.proofs.ring.Ring.owner_of_name.Goals as goal
 
 pub owner_from-requires : goal.owner_from-requires
@@ -15,13 +15,13 @@ returns-in-Some-clause-ok c =
     (c.args.name.now, known.0, c.owner_from.ensures)
 
 pub returns-in-Some-clause-none : goal.returns-in-Some-clause-none
-returns-in-Some-clause-none c = none_told c.args.name.now c.args.self.now c.args.up c.owner_from.result c.owner_from.ensures
+returns-in-Some-clause-none c = none_reported c.args.name.now c.args.self.now c.args.up c.owner_from.result c.owner_from.ensures
 
 pub returns-in-Some-clause-up : goal.returns-in-Some-clause-up
-returns-in-Some-clause-up c = up_told c.args.name.now c.args.self.now c.args.up c.owner_from.result c.owner_from.ensures
+returns-in-Some-clause-up c = up_reported c.args.name.now c.args.self.now c.args.up c.owner_from.result c.owner_from.ensures
 
 pub returns-in-Some-clause-node : goal.returns-in-Some-clause-node
-returns-in-Some-clause-node c = node_told c.args.name.now c.args.self.now c.args.up c.owner_from.result c.owner_from.ensures
+returns-in-Some-clause-node c = node_reported c.args.name.now c.args.self.now c.args.up c.owner_from.result c.owner_from.ensures
 
 pub returns-in-None-clause-none : goal.returns-in-None-clause-none
 returns-in-None-clause-none c = none_of_name c.args.name.now c.args.self.now c.args.up c.owner_of_new.result c.owner_of_new.ensures.ok

@@ -6,7 +6,7 @@ use Rattle.sd_rows.proofs.HeadLemmas.{seen_used, seen_tally}
 use Rattle.sd_rows.proofs.rows.Rows.tally.Goals as goal
 
 pub returns-then-at-used : goal.returns-then-at-used
-returns-then-at-used c = sym (c.used.ensures.untold c.args.at (omega (arith, c.used.ensures.used, c.if-at-used.true)))
+returns-then-at-used c = sym (c.used.ensures.unknown c.args.at (omega (arith, c.used.ensures.used, c.if-at-used.true)))
 
 pub returns : goal.returns
 returns c =

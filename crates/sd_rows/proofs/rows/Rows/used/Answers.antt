@@ -21,8 +21,8 @@ returns-clause-empty c p le =
     let behind : length (rows_in x) ≤ p = omega (arith, le, seen_used x c.args.self.now c.self.view_is, length-rows_with x.heads.items x.keys.items) in
     seen_row x c.args.self.now c.self.view_is p ∙ get_or_past (rows_in x) p None behind
 
-pub returns-clause-untold : goal.returns-clause-untold
-returns-clause-untold c p le =
+pub returns-clause-unknown : goal.returns-clause-unknown
+returns-clause-unknown c p le =
     let x = c.self.inside in
     seen_tally x c.args.self.now c.self.view_is p
     ∙ ap (λ (h : Head). h.tally) (get_or_past x.heads.items p no_head (omega (arith, le, seen_used x c.args.self.now c.self.view_is)))

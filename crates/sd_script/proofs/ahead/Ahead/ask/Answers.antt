@@ -11,7 +11,7 @@ returns-in_err-count-clause-left_stays g c =
     let xs = c.deref_mut.result.now in
     let inside : a.end ≤ length xs = omega (arith, c.deref_mut.ensures.len, a.full, c.requires) in
     let kept = ahead-kept a.room xs c.read.new.buf a.start a.end c.deref_mut.ensures.value c.deref_mut.ensures.len a.ordered inside c.read.auto.buf in
-    ap (put_back _) (ap (λ (o : Object). o.told) c.in_err-count.ensures.failed.same) ∙ ap (λ (held : List ℕ). put_back held (g.R.Faulty.seen c.args.script.now).told) kept
+    ap (put_back _) (ap (λ (o : Object). o.content) c.in_err-count.ensures.failed.same) ∙ ap (λ (held : List ℕ). put_back held (g.R.Faulty.seen c.args.script.now).content) kept
 
 pub returns-in_err-count-clause-kept : goal.returns-in_err-count-clause-kept
 returns-in_err-count-clause-kept g c =
@@ -35,5 +35,5 @@ returns-clause-grows g c =
 pub returns-clause-left_stays : goal.returns-clause-left_stays
 unfolding returns-clause-grows
 returns-clause-left_stays g c =
-    ap (λ (held : List ℕ). put_back held (g.R.Faulty.seen c.read.new.self).told) (returns-clause-grows g c).2
-    ∙ left-reads _ (take c.in_ok-count.count c.read.new.buf) _ _ (ap (λ (o : Object). o.told) c.in_ok-count.ensures.next)
+    ap (λ (held : List ℕ). put_back held (g.R.Faulty.seen c.read.new.self).content) (returns-clause-grows g c).2
+    ∙ left-reads _ (take c.in_ok-count.count c.read.new.buf) _ _ (ap (λ (o : Object). o.content) c.in_ok-count.ensures.next)

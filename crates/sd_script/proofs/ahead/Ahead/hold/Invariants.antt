@@ -6,7 +6,7 @@ use Rattle.sd_script.proofs.ahead.Ahead.hold.Given as goal
 abbrev pub invariant-loop-self : goal.invariant-loop-self
 invariant-loop-self g l = record {
   grows : Grows (held_in l.initial.self) (held_in l.self);
-  left : put_back (held_in l.self) (g.R.Faulty.seen l.script).told ≡ put_back (held_in l.initial.self) (g.R.Faulty.seen l.initial.script).told;
+  left : put_back (held_in l.self) (g.R.Faulty.seen l.script).content ≡ put_back (held_in l.initial.self) (g.R.Faulty.seen l.initial.script).content;
   faults : (g.R.Faulty.seen l.script).faults ≡ (g.R.Faulty.seen l.initial.script).faults;
   place : (g.R.Faulty.seen l.script).opened_at ≡ (g.R.Faulty.seen l.initial.script).opened_at;
 }

@@ -42,10 +42,10 @@ pub returns-clause-item : goal.returns-clause-item
 returns-clause-item g c =
     let ahead = is_ahead g (goal.at.returns-clause-item g c).After-next_record in
     let held = held_in c.next_record.new.ahead in
-    let had = (g.R.Faulty.seen c.args.script.now).told in
-    let begins = subst (λ (n : ℕ). BeginsWith n c.in-Ok.found held) ahead.receivers (rw c.in-Ok.is at c.in_ok-found.ensures.front) in
+    let had = (g.R.Faulty.seen c.args.script.now).content in
+    let begins = subst (λ (n : ℕ). BeginsWith n c.in-Ok.found held) ahead.receivers (rw c.in-Ok.is at c.in_ok-found.ensures.prefix) in
     rw c.item_of.ensures
-    (reads_record c.in-Ok.found held c.args.self.now _ had (g.R.Faulty.seen c.next_record.new.script).told c.pass-self-inside.result begins
+    (reads_record c.in-Ok.found held c.args.self.now _ had (g.R.Faulty.seen c.next_record.new.script).content c.pass-self-inside.result begins
     (c.in_ok-found.ensures.left_stays ∙ ap (λ (xs : List ℕ). put_back xs had) ahead.pending)
     c.pass-self-inside.ensures.body
     (ap (lent_of c.pass-self-inside.result) c.pass-self-inside.ensures.held)

@@ -9,14 +9,9 @@ returns-clause-room g c =
     let many = c.submitters-submitters.ensures in
     let pool = c.in_ok-pool.ensures in
     let desk = c.in_ok-desk.ensures in
-    let benches = c.in_ok-benches.ensures in
-    let postings = c.in_ok-postings.ensures in
     record {
       sizes_are = c.requires;
-      shards = pool.shards;
-      limits = pool.limits;
-      policy = pool.policy;
-      receivers = pool.receivers ∙ many;
+      pool = record { shards = pool.shards; limits = pool.limits; policy = pool.policy; receivers = pool.receivers ∙ many };
       callers = pool.callers.0 ∙ ap (span 0) many;
       flushes = pool.callers.1;
       commands = pool.callers.2;
@@ -26,17 +21,8 @@ returns-clause-room g c =
       desk_seats = desk.desk.1 ∙ ap (λ n. n + 2) many;
       numbers = desk.numbers ∙ ap (λ n. span 0 (n + 2)) many;
       owns = desk.seats;
-      tables = benches.tables;
-      space = benches.space;
-      places = postings.places;
-      place_each = postings.place_each;
-      batches = postings.batches;
-      lines = benches.lines;
-      outs = benches.outs;
-      no_post = postings.no_post;
-      post_room = postings.post_room;
-      no_end = postings.no_end;
-      end_room = postings.end_room;
+      benches = c.in_ok-benches.ensures;
+      postings = c.in_ok-postings.ensures;
     }
 
 pub returns-clause-start : goal.returns-clause-start

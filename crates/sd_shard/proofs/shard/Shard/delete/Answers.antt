@@ -2,10 +2,9 @@ use Rattle.std.proofs.Common.{◌≡◌, ℕ, List, [], length, filter, map, sym
 use Rattle.std.proofs.lemmas.List.{length-map}
 use Rattle.std.proofs.lemmas.List.Sorted.{IsPermutation-refl, length_permutation}
 use Rattle.sd_key.specs.Kind.{kind_of}
-use Rattle.sd_model_shard.specs.Rows.{RowId, Kept}
-use Rattle.sd_model_shard.specs.Commands.{is_hit, keys_of, rows_taken_out}
+use Rattle.sd_model_shard.specs.Rows.{RowId, Kept, is_hit, keys_of, rows_taken_out}
 use Rattle.sd_model_shard.specs.Shard.{after_delete, deletion_of}
-use Rattle.sd_model_shard.proofs.ListedLemmas.{told_permutes}
+use Rattle.sd_model_shard.proofs.ListedLemmas.{reported_permutes}
 use Rattle.sd_epoch.specs.Table.{live_of}
 use Rattle.sd_epoch.proofs.ForgetLemmas.{StandApart-rows}
 use Rattle.sd_shard.specs.ShardInside.{standing_of}
@@ -30,12 +29,12 @@ returns-clause-answer c =
     let t = c.self.inside.table in
     let key : RowId × Kept → List ℕ = λ row. row.0.key in
     let hits = filter (λ (row : RowId × Kept). is_hit kind pattern row.0) t.listed in
-    let told : IsPermutation (map key hits) (keys_of (rows_taken_out kind pattern (live_of t))) =
-    told_permutes key (is_hit kind pattern) t.listed (StandApart-rows t.listed c.push_keys-rows.ensures.apart) in
+    let reported : IsPermutation (map key hits) (keys_of (rows_taken_out kind pattern (live_of t))) =
+    reported_permutes key (is_hit kind pattern) t.listed (StandApart-rows t.listed c.push_keys-rows.ensures.apart) in
     let count : c.push_keys-rows.result ≡ length (keys_of (rows_taken_out kind pattern (live_of t))) =
-    omega (arith, c.push_keys-rows.ensures.count, length-map hits key, length_permutation (map key hits) (keys_of (rows_taken_out kind pattern (live_of t))) told) in
+    omega (arith, c.push_keys-rows.ensures.count, length-map hits key, length_permutation (map key hits) (keys_of (rows_taken_out kind pattern (live_of t))) reported) in
     subst (λ (s : Standing). IsDeletion (deletion_of kind pattern (state_of s)) c.args.out.now.items c.push_keys-rows.new.out.items (record { rows = c.push_keys-rows.result; samples = c.forget_rows-samples.result }))
-    c.self.view_is ((map key hits, c.push_keys-rows.ensures.keys, told), count, c.forget_rows-samples.ensures.samples)
+    c.self.view_is ((map key hits, c.push_keys-rows.ensures.keys, reported), count, c.forget_rows-samples.ensures.samples)
 
 pub returns-then-names_no_row-clause-state : goal.returns-then-names_no_row-clause-state
 returns-then-names_no_row-clause-state c =
@@ -69,9 +68,9 @@ returns-then-rows-eq0-clause-answer c =
     let t = c.self.inside.table in
     let key : RowId × Kept → List ℕ = λ row. row.0.key in
     let hits = filter (λ (row : RowId × Kept). is_hit kind pattern row.0) t.listed in
-    let told : IsPermutation (map key hits) (keys_of (rows_taken_out kind pattern (live_of t))) =
-    told_permutes key (is_hit kind pattern) t.listed (StandApart-rows t.listed c.push_keys-rows.ensures.apart) in
+    let reported : IsPermutation (map key hits) (keys_of (rows_taken_out kind pattern (live_of t))) =
+    reported_permutes key (is_hit kind pattern) t.listed (StandApart-rows t.listed c.push_keys-rows.ensures.apart) in
     let state = state_of (standing_of c.self.inside) in
     let none = none_hit kind pattern t.listed (sym c.push_keys-rows.ensures.count ∙ c.if-rows-eq0.true) in
     subst (λ (s : Standing). IsDeletion (deletion_of kind pattern (state_of s)) c.args.out.now.items c.push_keys-rows.new.out.items (record { rows = 0; samples = 0 })) c.self.view_is
-    ((map key hits, c.push_keys-rows.ensures.keys, told), sym (ap length (no_keys kind pattern state none)), sym (no_samples kind pattern state none))
+    ((map key hits, c.push_keys-rows.ensures.keys, reported), sym (ap length (no_keys kind pattern state none)), sym (no_samples kind pattern state none))

@@ -1,9 +1,8 @@
 use Rattle.std.proofs.Common.{filter, map, subst}
 use Rattle.sd_key.specs.Kind.{kind_of}
-use Rattle.sd_model_shard.specs.Rows.{RowId, Kept}
-use Rattle.sd_model_shard.specs.Commands.{is_of_kind, dump_row, dump_of}
+use Rattle.sd_model_shard.specs.Rows.{RowId, Kept, is_of_kind, dump_row, dump_of}
 use Rattle.sd_model_shard.specs.Shard.{Dumped}
-use Rattle.sd_model_shard.proofs.ListedLemmas.{told_permutes}
+use Rattle.sd_model_shard.proofs.ListedLemmas.{reported_permutes}
 use Rattle.sd_epoch.specs.Table.{live_of}
 use Rattle.sd_epoch.proofs.ForgetLemmas.{StandApart-rows}
 use Rattle.sd_shard.specs.Dump.{rows_of}
@@ -18,5 +17,5 @@ returns-clause-answer c =
     subst (λ (s : Standing). IsDump (Dumped (dump_of kind (live_of s.table))) (rows_of c.args.out.now) (rows_of c.push_rows.new.out)) c.self.view_is (
       map dump_row rows,
       c.push_rows.ensures.rows,
-      told_permutes dump_row (is_of_kind kind) t.listed (StandApart-rows t.listed c.push_rows.ensures.apart),
+      reported_permutes dump_row (is_of_kind kind) t.listed (StandApart-rows t.listed c.push_rows.ensures.apart),
     )

@@ -1,7 +1,7 @@
 use Rattle.std.proofs.Common.{◌≡◌, ◌≤◌, sym, subst}
 use Rattle.std.specs.Prelude.{None}
 use Rattle.sd_model_shard.specs.Shard.{refusal}
-use Rattle.sd_model_shard.specs.Summaries.{is_listed}
+use Rattle.sd_model_shard.specs.Rows.{is_listed}
 use Rattle.sd_epoch.specs.Limits.{AreLimits}
 use Rattle.sd_shard.specs.Shard.{Standing, state_of}
 use Rattle.sd_shard.specs.ShardInside.{standing_of}

@@ -1,6 +1,6 @@
 use Rattle.std.proofs.Common.{refl, sym, ap, subst, ◌∙◌}
 use Rattle.sd_model_record.specs.Desk.{taken}
-use Rattle.sd_shared_desk.specs.declared.ask.DeskReply.TheVariants.{Took, Told}
+use Rattle.sd_shared_desk.specs.declared.ask.DeskReply.TheVariants.{Took, Reported}
 use Rattle.sd_shared_desk.specs.Asks.{Does}
 use Rattle.sd_shared_desk.proofs.value.DeskValue.act.Goals as goal
 
@@ -17,7 +17,7 @@ pub returns-in-Facts-clause-does : goal.returns-in-Facts-clause-does
 returns-in-Facts-clause-does c =
     let f = c.facts.result in
     let desk = ap (λ b. b.desk) c.self.view_is in
-    subst (λ ask. Does c.args.self.now.desk ask c.args.self.now.desk (Told f)) (sym c.in-Facts.is) (record {
+    subst (λ ask. Does c.args.self.now.desk ask c.args.self.now.desk (Reported f)) (sym c.in-Facts.is) (record {
       changed = refl;
       answered = (f, refl, c.facts.ensures.facts ∙ ap (λ d. d.facts) desk);
     })

@@ -2,7 +2,7 @@ use Rattle.std.proofs.Common.{ℕ, true, false, List, [], ◌+◌, length, take,
 use Rattle.std.proofs.lemmas.List.{length-take-le, take_all}
 use Rattle.sd_tcp.specs.Cutting.{Cutting, CutsOn, longer, through_newline}
 use Rattle.sd_tcp.proofs.CutLemmas.{CutsOn-line, CutsOn-part, through_none, through_part}
-use Rattle.sd_tcp.proofs.LineLemmas.{front_ended, has_newline, lacks_newline}
+use Rattle.sd_tcp.proofs.LineLemmas.{prefix_ended, has_newline, lacks_newline}
 use Rattle.sd_tcp.proofs.cutter.Cutter.push.Goals as goal
 
 pub returns-in-Some-clause-count : goal.returns-in-Some-clause-count
@@ -21,7 +21,7 @@ returns-in-Some-clause-cut c =
     let n = c.in-Some.len in
     let line = c.in-Some.ensures in
     subst (λ (s : Cutting). CutsOn [] (take (n + 1) bytes) c.args.self.now s) (sym c.grow.ensures)
-    (subst (λ (bs : List ℕ). CutsOn [] bs c.args.self.now (record { line = longer c.args.self.now.line (take n bytes); is_ready = true })) (sym (front_ended bytes n _ line.0 line.2))
+    (subst (λ (bs : List ℕ). CutsOn [] bs c.args.self.now (record { line = longer c.args.self.now.line (take n bytes); is_ready = true })) (sym (prefix_ended bytes n _ line.0 line.2))
     (CutsOn-line c.args.self.now (take n bytes) c.requires (lacks_newline (take n bytes) line.1)))
 
 pub returns-in-None-clause-count : goal.returns-in-None-clause-count

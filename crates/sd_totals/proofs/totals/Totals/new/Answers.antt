@@ -13,12 +13,12 @@ pub returns : goal.returns
 returns c =
     let books = c.args.books.now in
     let sums = c.add_up.ensures in
-    let told : (number : Numbers → ℕ) (n : ℕ) → n ≡ sum_by (λ (b : ShardBook). number (numbers_in b)) books → n ≡ sum_by number (map numbers_in books) =
+    let reported : (number : Numbers → ℕ) (n : ℕ) → n ≡ sum_by (λ (b : ShardBook). number (numbers_in b)) books → n ≡ sum_by number (map numbers_in books) =
     λ number n is. is ∙ sym (sum_by-map number numbers_in books) in
-    let taken = told (λ n. n.taken) _ sums.taken in
-    let flushed = told (λ n. n.flushed) _ sums.flushed in
-    let deleted = told (λ n. n.deleted) _ sums.deleted in
-    let dropped = told (λ n. n.dropped) _ sums.dropped in
-    let held = told (λ n. n.held) _ sums.held in
+    let taken = reported (λ n. n.taken) _ sums.taken in
+    let flushed = reported (λ n. n.flushed) _ sums.flushed in
+    let deleted = reported (λ n. n.deleted) _ sums.deleted in
+    let dropped = reported (λ n. n.dropped) _ sums.dropped in
+    let held = reported (λ n. n.held) _ sums.held in
     c.of.ensures
     ∙ (λ i. totals_by (record { taken = taken i; flushed = flushed i; deleted = deleted i; dropped = dropped i; held = held i }) (facts_view c.args.facts.now))

@@ -5,7 +5,7 @@ use Rattle.sd_turn.proofs.turn_table.TurnTable.give_away.Goals as goal
 pub split_seat-requires : goal.split_seat-requires
 split_seat-requires g c =
     let s = c.requires.spare in
-    (c.requires.seat, search rules, gives_away g.B.Behind.terms _ _ g.B.Behind.laws _ c.args.last c.args.number _ (ap (λ m. m.0) s.1) s.0)
+    (c.requires.seat, search rules, gives_away g.B.Behind.protocol _ _ g.B.Behind.laws _ c.args.last c.args.number _ (ap (λ m. m.0) s.1) s.0)
 
 pub returns-clause-seat : goal.returns-clause-seat
 returns-clause-seat g c =

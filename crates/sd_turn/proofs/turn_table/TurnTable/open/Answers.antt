@@ -7,7 +7,7 @@ use Rattle.sd_turn.proofs.turn_table.TurnTable.open.Goals as goal
 
 pub new-requires : goal.new-requires
 new-requires g c =
-    let b = g.B.Behind.terms in
+    let b = g.B.Behind.protocol in
     let count : c.args.seats ≡ c.from.result = search rules in
     let items : c.push.new.self.items ≡ c.args.value ∷ [] = search rules in
     subst (λ (z : List g.row.S.Denot). Kept b (b.fixed c.of.result.value) c.from.result (opening c.args.words.now z (first_view (b.fixed c.of.result.value) c.from.result))) (sym items)

@@ -1,6 +1,0 @@
-use Rattle.std.proofs.Common.{All}
-use Rattle.sd_memory.specs.MemSessions.{HasNoFaults}
-use Rattle.sd_cases_session.proofs.held.sessions_of.Given as goal
-
-abbrev pub invariant-loop-session : goal.invariant-loop-session
-invariant-loop-session l = All HasNoFaults l.sessions.items

@@ -1,2 +1,0 @@
-pub mod Pausing
-pub mod Server

@@ -1,9 +1,0 @@
--- One reply more.
-use Rattle.std.proofs.Common.{◌≡◌, ℕ, ◌+◌, [], ◌∷◌, ◌++◌, arith}
-use Rattle.std.proofs.lemmas.List.Sums.{sum_by-append, sum_by-cons}
-use Rattle.sd_model_shard.specs.Shard.{Reply}
-use Rattle.sd_model_shard.specs.History.{Act, History}
-use Rattle.sd_model_shard.specs.Whereabouts.{told_by}
-
-pub told_by-push : (weigh : Reply → ℕ) (acts : History) (a : Act) → told_by weigh (acts ++ a ∷ []) ≡ told_by weigh acts + weigh a.reply
-told_by-push weigh acts a = omega (arith, sum_by-append (λ (b : Act). weigh b.reply) acts (a ∷ []), sum_by-cons (λ (b : Act). weigh b.reply) a [])

@@ -1,0 +1,27 @@
+use Rattle.std.proofs.Common.{◌≡◌, ℕ, ◌+◌, ◌*◌, ◌≤◌, ◌++◌, All, flat_map, length, map, vec_capacity}
+use Rattle.sd_serve.specs.PostRooms.{HasBatch, HasPlace, IsBatched, IsFitted, own_in, seat_in, source_in, wires_in}
+use Rattle.sd_serve.proofs.post_rooms.gather.Given as goal
+
+abbrev pub invariant-loop-room : goal.invariant-loop-room
+invariant-loop-room g l = record {
+  len : length l.posts.items + length l.rooms.items ≡ length l.initial.rooms.items;
+  room : length l.posts.items + length l.rooms.items ≤ vec_capacity l.posts;
+  rooms : All (HasPlace l.run) l.rooms.items;
+  fitted : All (IsFitted l.run) l.posts.items;
+  batches : (shards : ℕ) → All (HasBatch shards) l.initial.rooms.items → All (HasBatch shards) l.rooms.items × All (IsBatched shards) l.posts.items;
+  packets : l.initial.packets.items ≡ map source_in l.posts.items ++ l.packets.items;
+  wires : l.initial.wires.items ≡ flat_map wires_in l.posts.items ++ l.wires.items;
+  seats : l.initial.seats.items ≡ map seat_in l.posts.items ++ l.seats.items;
+  owns : l.initial.owns.items ≡ map own_in l.posts.items ++ l.owns.items;
+  sources : length l.rooms.items ≤ length l.packets.items;
+  runs : length l.rooms.items * l.run ≤ length l.wires.items;
+  seats_left : length l.rooms.items ≤ length l.seats.items;
+  owns_left : length l.rooms.items ≤ length l.owns.items;
+  packets_room : vec_capacity l.packets ≡ vec_capacity l.initial.packets;
+  wires_room : vec_capacity l.wires ≡ vec_capacity l.initial.wires;
+  seats_room : vec_capacity l.seats ≡ vec_capacity l.initial.seats;
+  owns_room : vec_capacity l.owns ≡ vec_capacity l.initial.owns;
+}
+
+abbrev pub decreases-loop-room : goal.decreases-loop-room
+decreases-loop-room g l = length l.rooms.items
